@@ -1,0 +1,29 @@
+# The program is proved, then built by the toolchain's command `rt`.
+SCENARIO ?= examples/count.toml
+PREFIX ?= /usr/local
+PROGRAM := crates/mailrun/out/mailrun
+SOURCES := crates.txt HANDLES $(shell find crates -path '*/out' -prune -o \( -name '*.rt' -o -name '*.antt' \) -print)
+
+.PHONY: run test check install
+.DEFAULT_GOAL := run
+
+# Runs a scenario and prints its report: make run [SCENARIO=path]
+run: $(PROGRAM)
+	@$(PROGRAM) < $(SCENARIO)
+
+# The gate: every proof from nothing, the must-fail edits, the tests, the program by two compilers.
+test:
+	rt ci
+
+# Proves what changed since the last check, lowest crate first.
+check:
+	rt all check
+
+# Installs the one binary: make install [PREFIX=path]
+install: $(PROGRAM)
+	install -D -m 755 $(PROGRAM) $(DESTDIR)$(PREFIX)/bin/mailrun
+
+$(PROGRAM): $(SOURCES)
+	@echo "proving and building $(PROGRAM): a few minutes the first time" >&2
+	@cd crates/mailrun && mkdir -p out && rt run < stdin > out/make.log 2>&1 || { cat out/make.log >&2; exit 1; }
+	@touch $(PROGRAM)

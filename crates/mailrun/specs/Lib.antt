@@ -1,0 +1,3 @@
+pub mod Answer
+pub mod Line
+pub mod Sent

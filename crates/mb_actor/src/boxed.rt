@@ -1,0 +1,36 @@
+ghost use Rattle.std.specs.Prelude.{◌≡◌};
+
+use crate::actor::Actor;
+use crate::answer::Answer;
+use crate::message::Message;
+use crate::outbox::Outbox;
+use mb_msg::Cause;
+
+/// A box of any kind of actor is an actor: that of the object in it.
+impl Actor for Box<dyn Actor + Send> {
+    ghost after = { λ b. (Actor-box b).after b.value };
+
+    ghost content = { λ b. (Actor-box b).content b.value };
+
+    ghost gives = { λ b. (Actor-box b).gives b.value };
+
+    fn start(&mut self, out: &mut Outbox) -> Answer {
+        (**self).start(out)
+    }
+
+    fn receive(&mut self, message: &Message, out: &mut Outbox) -> Answer {
+        (**self).receive(message, out)
+    }
+
+    fn restart(&mut self, cause: Cause, out: &mut Outbox) -> Answer {
+        (**self).restart(cause, out)
+    }
+
+    fn stop(&mut self, out: &mut Outbox) {
+        (**self).stop(out);
+    }
+
+    fn state(&self) -> i64 {
+        (**self).state()
+    }
+}

@@ -1,0 +1,17 @@
+use mb_msg::ActorId;
+
+/// What an actor asks for while it is called. It is carried out after the call (this project's own profile: Akka
+/// carries it out at once).
+#[derive(Clone, Copy, Debug, PartialEq, Eq, PartialOrd, Ord, Hash)]
+pub enum Effect {
+    /// Send a message of this kind and value to this actor.
+    Tell { to: ActorId, kind: u32, value: i64 },
+    /// Be told when this actor stops (`ActorContext.watch`).
+    Watch(ActorId),
+    /// No longer be told (`ActorContext.unwatch`).
+    Unwatch(ActorId),
+    /// Stop this actor (`ActorContext.stop`).
+    Stop(ActorId),
+    /// Start this prepared child (`ActorContext.actorOf`).
+    Spawn(ActorId),
+}

@@ -1,0 +1,10 @@
+use mb_msg::ActorId;
+
+/// What an actor is asked to handle.
+#[derive(Clone, Copy, Debug, PartialEq, Eq, PartialOrd, Ord, Hash)]
+pub enum Message {
+    /// A message of some sender: a kind, by which the actor tells messages apart, and a value.
+    User { kind: u32, value: i64 },
+    /// The actor of this number, which this one watches, has stopped (`akka.actor.Terminated`).
+    Terminated(ActorId),
+}

@@ -1,0 +1,14 @@
+/// Where an actor stands in its life (Akka's actor life cycle).
+#[derive(Clone, Copy, Debug, PartialEq, Eq, PartialOrd, Ord, Hash)]
+pub enum Phase {
+    /// Not started yet.
+    Fresh,
+    /// Started, and handling messages.
+    Live,
+    /// Its last start or restart failed.
+    Broken,
+    /// It was told to end, and its children have not all ended yet.
+    Ending,
+    /// It has ended.
+    Ended,
+}

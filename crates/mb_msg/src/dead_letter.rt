@@ -1,0 +1,23 @@
+use crate::envelope::Envelope;
+
+/// Why an envelope was not queued, or was taken from its queue unhandled.
+#[derive(Clone, Copy, Debug, PartialEq, Eq, PartialOrd, Ord, Hash)]
+pub enum Why {
+    /// The receiver's mailbox was closed.
+    Closed,
+    /// The receiver's bounded mailbox was full.
+    Full,
+    /// There was no memory to queue it.
+    NoMemory,
+    /// It was still queued when the receiver ended.
+    Cleaned,
+}
+
+/// An envelope that no actor handles (Akka's `DeadLetter`, with the reason that Akka does not give).
+#[derive(Clone, Copy, Debug, PartialEq, Eq, PartialOrd, Ord, Hash)]
+pub struct DeadLetter {
+    /// What was sent.
+    pub envelope: Envelope,
+    /// What became of it.
+    pub why: Why,
+}

@@ -1,0 +1,27 @@
+use crate::id::{ActorId, SenderId};
+
+/// What an envelope carries (the messages that Akka's `ActorCell.receiveMessage` and `autoReceiveMessage` tell apart).
+#[derive(Clone, Copy, Debug, PartialEq, Eq, PartialOrd, Ord, Hash)]
+pub enum Body {
+    /// A message for the actor itself: a kind, by which the actor tells messages apart, and a value.
+    User { kind: u32, value: i64 },
+    /// Stops the actor once the messages before it are handled.
+    PoisonPill,
+    /// Makes the actor fail.
+    Kill,
+    /// The actor of this number, which the receiver watches, has stopped.
+    Terminated(ActorId),
+}
+
+/// A message on its way, with what names it: of all envelopes of one sender each has a number of its own.
+#[derive(Clone, Copy, Debug, PartialEq, Eq, PartialOrd, Ord, Hash)]
+pub struct Envelope {
+    /// Who sent it.
+    pub by: SenderId,
+    /// The sender's running number, from 0, over all receivers.
+    pub number: u64,
+    /// Who is to handle it.
+    pub to: ActorId,
+    /// What it carries.
+    pub body: Body,
+}

@@ -1,0 +1,254 @@
+ghost use Rattle.std.specs.Prelude.{◌≡◌, ◌↔◌, ◌<◌, ◌≤◌, not, IsTrue, IsSome, IfSome};
+ghost use Rattle.mb_status.specs.Mailbox.{word_of, mailbox_of, is_valid, is_possible, most_suspensions, suspended, should_process, with_scheduled, idle, suspend, resume, the_closed, can_schedule};
+
+use std::marker::Model;
+
+/// Set for good when the mailbox is closed.
+const CLOSED: u64 = 1;
+
+/// Set while a worker holds the actor.
+const SCHEDULED: u64 = 2;
+
+/// One suspension: the count stands above the two bits.
+const SUSPENSION: u64 = 4;
+
+/// How many bits stand below the count.
+const COUNT_AT: u32 = 2;
+
+/// The most suspensions that a mailbox counts (this project's own profile).
+pub const MOST_SUSPENSIONS: u64 = 1 << 32;
+
+/// The status of a mailbox: a word that is 1 if the mailbox is closed, else four times its suspend count,
+/// and 2 more if it is scheduled.
+#[derive(Clone, Copy, Debug, PartialEq, Eq)]
+pub struct Status {
+    word: u64,
+}
+
+impl Model for Status {
+    ghost use Rattle.std.specs.Prelude.{◌≡◌, true};
+    ghost use Rattle.mb_status.specs.Mailbox.{Mailbox, mailbox_of, is_valid, word_of};
+
+    ghost Value = { Mailbox };
+
+    ghost view = { λ s. mailbox_of s.word };
+
+    ghost invariant = { λ s. is_valid s.word ≡ true };
+
+    ghost inverse = { λ m. record { word = word_of m } };
+
+    ghost use Rattle.std.proofs.Common.{ap};
+    ghost use Rattle.mb_status.specs.WordLemmas.{word_of-mailbox_of};
+    ghost use Rattle.mb_status.specs.declared.status.Status.TheInside.{Inside};
+
+    ghost inverse_ok = { λ s valid. ap {B = Inside} (λ w. record { word = w }) (word_of-mailbox_of s.word valid) };
+}
+
+impl Status {
+    /// The status that this word is, or `None` for a word that no mailbox has: not 1, and odd or with a count
+    /// above 2^32 (which words there are is Akka's; the limit of the count is this project's own profile).
+    pub fn of(word: u64) -> Option<Status>
+        ensures valid { IsSome result ↔ IsTrue (is_valid word) }
+        ensures value { IfSome result (λ s. s ≡ mailbox_of word) }
+        ensures same_word { IfSome result (λ s. word_of s ≡ word) }
+    {
+        if word == CLOSED || (word & CLOSED == 0 && word >> COUNT_AT <= MOST_SUSPENSIONS) {
+            Some(Status { word })
+        } else {
+            None
+        }
+    }
+
+    /// The word: 1 if the mailbox is closed, else four times the count, and 2 more if it is scheduled.
+    pub fn word(self) -> u64
+        ensures word { result ≡ word_of self }
+        ensures possible { IsTrue (is_possible self) }
+    {
+        let Status { word } = self;
+        word
+    }
+
+    /// Whether the mailbox is closed (`isClosed`).
+    pub fn closed(self) -> bool
+        ensures { result ≡ self.closed }
+    {
+        self.word == CLOSED
+    }
+
+    /// Whether a worker holds the actor (`isScheduled`).
+    #[tactic(auto, using(crate::proofs::ScheduledBit::bit_rules))]
+    pub fn scheduled(self) -> bool
+        ensures { result ≡ self.scheduled }
+    {
+        self.word & SCHEDULED != 0
+    }
+
+    /// How often the mailbox is suspended (`suspendCount`), at most 2^32.
+    pub fn count(self) -> u64
+        ensures count { result ≡ self.count }
+        ensures limit { result ≤ most_suspensions }
+    {
+        self.word >> COUNT_AT
+    }
+
+    /// Whether the count is not 0 (`isSuspended`).
+    pub fn suspended(self) -> bool
+        ensures { result ≡ suspended self }
+    {
+        self.count() != 0
+    }
+
+    /// Whether an envelope may be handled: the mailbox is neither closed nor suspended (`shouldProcessMessage`).
+    pub fn should_process(self) -> bool
+        ensures { result ≡ should_process self }
+    {
+        self.word == 0 || self.word == SCHEDULED
+    }
+
+    /// The status once scheduled, or `None` if it is closed or scheduled already (`setAsScheduled`).
+    pub fn with_scheduled(self) -> Option<Status>
+        ensures { result ≡ with_scheduled self }
+    {
+        if self.word & (CLOSED | SCHEDULED) == 0 {
+            Some(Status {
+                word: self.word + SCHEDULED,
+            })
+        } else {
+            None
+        }
+    }
+
+    /// The status once no longer scheduled; the rest stays (`setAsIdle`).
+    #[tactic(auto, using(crate::proofs::ScheduledBit::bit_rules))]
+    pub fn idle(self) -> Status
+        ensures { result ≡ idle self }
+    {
+        Status {
+            word: self.word - (self.word & SCHEDULED),
+        }
+    }
+
+    /// Suspends once more, and answers whether it was not suspended before (`suspend`).
+    /// A closed mailbox stays as it is, with the answer `false`.
+    pub fn suspend(&mut self) -> bool
+        requires { self.old.count < most_suspensions }
+        ensures after { self.new ≡ suspend self.old }
+        ensures first { result ≡ should_process self.old }
+    {
+        let first = self.should_process();
+        if self.word != CLOSED {
+            self.word += SUSPENSION;
+        }
+        first
+    }
+
+    /// Undoes one suspension where there is one, and answers whether none is left (`resume`).
+    /// A closed mailbox stays as it is, with the answer `false`.
+    pub fn resume(&mut self) -> bool
+        ensures after { self.new ≡ resume self.old }
+        ensures last { result ≡ should_process self.new }
+    {
+        if self.word >= SUSPENSION {
+            self.word -= SUSPENSION;
+        }
+        self.should_process()
+    }
+
+    /// Closes the mailbox for good, and answers `false` if it was closed already (`becomeClosed`).
+    pub fn close(&mut self) -> bool
+        ensures after { self.new ≡ the_closed }
+        ensures first { result ≡ not self.old.closed }
+    {
+        let first = self.word != CLOSED;
+        self.word = CLOSED;
+        first
+    }
+
+    /// Whether it is worth scheduling the actor (`canBeScheduledForExecution`): with system messages unless it is
+    /// closed, with envelopes if they may be handled. A mailbox that may handle envelopes can have either hint.
+    pub fn can_schedule(self, messages: bool, system: bool) -> bool
+        ensures { result ≡ can_schedule self messages system }
+    {
+        if self.should_process() {
+            messages || system
+        } else {
+            system && self.word != CLOSED
+        }
+    }
+}
+
+#[cfg(test)]
+mod tests {
+    use super::*;
+
+    /// A word, and what each call gives on it.
+    struct Row {
+        word: u64,
+        with_scheduled: Option<u64>,
+        idle: u64,
+        suspend: (u64, bool),
+        resume: (u64, bool),
+        close: bool,
+        should_process: bool,
+        by_messages: bool,
+        by_system: bool,
+    }
+
+    #[rattlefmt::skip]
+    const ROWS: [Row; 5] = [
+        Row { word: 0, with_scheduled: Some(2), idle: 0, suspend: (4, true), resume: (0, true), close: true, should_process: true, by_messages: true, by_system: true },
+        Row { word: 1, with_scheduled: None, idle: 1, suspend: (1, false), resume: (1, false), close: false, should_process: false, by_messages: false, by_system: false },
+        Row { word: 2, with_scheduled: None, idle: 0, suspend: (6, true), resume: (2, true), close: true, should_process: true, by_messages: true, by_system: true },
+        Row { word: 4, with_scheduled: Some(6), idle: 4, suspend: (8, false), resume: (0, true), close: true, should_process: false, by_messages: false, by_system: true },
+        Row { word: 6, with_scheduled: None, idle: 4, suspend: (10, false), resume: (2, true), close: true, should_process: false, by_messages: false, by_system: true },
+    ];
+
+    #[test]
+    fn transitions(rt: HostRuntime) {
+        for row in ROWS.iter() {
+            let word = row.word;
+            let status = Status::of(word).expect(&rt, "a valid word");
+            assert_eq!(rt;
+                status.with_scheduled().map(|s| s.word()),
+                row.with_scheduled,
+                "at {word}"
+            );
+            assert_eq!(rt; status.idle().word(), row.idle, "at {word}");
+            let mut suspended = status;
+            assert!(rt; suspended.count() < 2);
+            let first = suspended.suspend();
+            assert_eq!(rt; (suspended.word(), first), row.suspend, "at {word}");
+            let mut resumed = status;
+            let last = resumed.resume();
+            assert_eq!(rt; (resumed.word(), last), row.resume, "at {word}");
+            let mut closed = status;
+            let closes = closed.close();
+            assert_eq!(rt; (closed.word(), closes), (1, row.close), "at {word}");
+            assert_eq!(rt; status.should_process(), row.should_process, "at {word}");
+            assert_eq!(rt;
+                status.can_schedule(true, false),
+                row.by_messages,
+                "at {word}"
+            );
+            assert_eq!(rt;
+                status.can_schedule(false, true),
+                row.by_system,
+                "at {word}"
+            );
+        }
+    }
+
+    #[test]
+    fn a_second_suspension_stays(rt: HostRuntime) {
+        let mut status = Status::of(8).expect(&rt, "a valid word");
+        let last = status.resume();
+        assert_eq!(rt; (status.word(), last), (4, false));
+    }
+
+    #[test]
+    fn not_a_word(rt: HostRuntime) {
+        assert_eq!(rt; Status::of(3), None);
+        assert_eq!(rt; Status::of((1 << 34) + 4), None);
+        assert!(rt; Status::of(1 << 34).is_some());
+    }
+}
