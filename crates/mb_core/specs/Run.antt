@@ -1,0 +1,126 @@
+-- The runs of the machine: where each event is allowed, what it changes, and what a list of events leads to.
+use Rattle.std.specs.Prelude.{◌≡◌, ℕ, ◌+◌, ◌-◌, ◌%◌, ◌^◌, ◌<◌, Bool, true, false, not, ◌&&◌, ◌||◌, ◌==◌, if◌then◌else◌, IsTrue, IsFalse, List, [], ◌∷◌, ◌++◌, All, map, length, remove, slice_get, slice_set, Option, Some, None, IsSome, option_map}
+use Rattle.mb_status.specs.Mailbox.{Mailbox, mailbox_of, is_valid, most_suspensions, suspended, idle, suspend, resume, the_closed}
+use Rattle.mb_msg.specs.declared.system.SysMsg.{SysMsg}
+use Rattle.mb_core.specs.declared.debt.Debt.{Debt}
+use Rattle.mb_core.specs.declared.event.Event.{Event}
+use Rattle.mb_core.specs.declared.event.Event.TheVariants.{Read, Schedule, Idle, Suspend, Resume, Close, Sent, Unsent, Taken, Count, Push, Take, SysAdd, SysRead, SysDrain, SysEnd}
+use Rattle.mb_core.specs.Actor.{Actor, nothing, debt_of, owing, has_work, at_start}
+use Rattle.mb_core.specs.Event.{party_of, actor_of}
+
+-- What a party still owes once it has read this status: nothing where a worker holds the actor or it is closed; no
+-- wake-up for envelopes where it is suspended; else what was being sent, is sent (this project's own profile).
+abbrev pub after_reading : Mailbox → Debt → Debt
+after_reading m debt =
+    if m.closed || m.scheduled then nothing
+    else (if suspended m then record debt { message = false; sending = false }
+    else record debt { message = debt.message || debt.sending; sending = false })
+
+-- the waiting number with one more counted, and with one less (this project's own profile)
+abbrev pub one_more : ℕ → ℕ
+one_more waiting = (waiting + 1) % 2 ^ 64
+
+abbrev pub one_less : ℕ → ℕ
+one_less waiting = (waiting + (2 ^ 64 - 1)) % 2 ^ 64
+
+-- System work with a message at its end, with some in front, and with none left, unless it is gone: `systemEnqueue` of
+-- `akka.dispatch.Mailbox`, what this project's own profile adds to it, and `systemDrain`.
+abbrev pub with_last : Option (List SysMsg) → SysMsg → Option (List SysMsg)
+with_last system message = option_map (λ listed. listed ++ message ∷ []) system
+
+abbrev pub with_first : Option (List SysMsg) → List SysMsg → Option (List SysMsg)
+with_first system rest = option_map (λ listed. rest ++ listed) system
+
+abbrev pub drained : Option (List SysMsg) → Option (List SysMsg)
+drained system = option_map (λ listed. []) system
+
+-- the actor that its holder gives back, with system messages that it did not apply
+abbrev pub given_back : Actor → List SysMsg → Actor
+given_back x rest = record x { mailbox = idle x.mailbox; system = with_first x.system rest; holder = None }
+
+-- One step, seen from its actor: where the event is allowed, and what the actor is after it. The transitions of the
+-- mailbox are those of `akka.dispatch.Mailbox`; who owes what is this project's own profile.
+abbrev pub Change : Actor → Event → Actor → Type 0
+-- always
+Change x (Read party _) y = y ≡ owing x party (after_reading x.mailbox (debt_of x party))
+-- where the mailbox is neither closed nor scheduled: the party holds the actor from now on, and owes it nothing
+Change x (Schedule party _) y =
+    IsFalse x.mailbox.closed × IsFalse x.mailbox.scheduled ×
+    (y ≡ owing (record x { mailbox = record x.mailbox { scheduled = true }; holder = Some party }) party nothing)
+-- by the holder: the rest goes in front of the system work, and the party owes the actor a look at both queues
+Change x (Idle party _ rest) y =
+    (x.holder ≡ Some party) ×
+    (y ≡ owing (given_back x rest) party (record (debt_of x party) { system = true; message = true }))
+-- by the holder, where the count is below the limit
+Change x (Suspend party _) y =
+    (x.holder ≡ Some party) × (x.mailbox.count < most_suspensions) × (y ≡ record x { mailbox = suspend x.mailbox })
+-- by the holder
+Change x (Resume party _) y = (x.holder ≡ Some party) × (y ≡ record x { mailbox = resume x.mailbox })
+-- by the holder
+Change x (Close party _) y = (x.holder ≡ Some party) × (y ≡ record x { mailbox = the_closed })
+-- always
+Change x (Sent party _) y =
+    y ≡ owing (record x { waiting = one_more x.waiting }) party (record (debt_of x party) { sending = true })
+-- by a party that is sending: it owes a look instead
+Change x (Unsent party _) y =
+    IsTrue (debt_of x party).sending ×
+    (y ≡
+    owing (record x { waiting = one_less x.waiting }) party (record (debt_of x party) { message = true; sending = false }))
+-- by the holder
+Change x (Taken party _) y = (x.holder ≡ Some party) × (y ≡ record x { waiting = one_less x.waiting })
+-- always: where nothing waits, no look at the envelopes is owed
+Change x (Count party _) y =
+    y ≡ (if x.waiting == 0 then owing x party (record (debt_of x party) { message = false }) else x)
+-- always
+Change x (Push party _ envelope) y = y ≡ record x { envelopes = x.envelopes ++ envelope ∷ [] }
+-- by the holder, where an envelope is at the place
+Change x (Take party _ place) y =
+    (x.holder ≡ Some party) × (place < length x.envelopes) × (y ≡ record x { envelopes = remove x.envelopes place })
+-- where the system work is not gone
+Change x (SysAdd party _ message) y =
+    IsSome x.system ×
+    (y ≡ owing (record x { system = with_last x.system message }) party (record (debt_of x party) { system = true }))
+-- always: where nothing is listed, no look at it is owed
+Change x (SysRead party _) y =
+    y ≡ (if has_work x.system then x else owing x party (record (debt_of x party) { system = false }))
+-- by the holder
+Change x (SysDrain party _) y = (x.holder ≡ Some party) × (y ≡ record x { system = drained x.system })
+-- by the holder of a closed actor: the system work is gone for good
+Change x (SysEnd party _) y = (x.holder ≡ Some party) × IsTrue x.mailbox.closed × (y ≡ record x { system = None })
+
+-- From old, the event leads to new: its actor and its party are there, it is allowed, and no other actor changes.
+pub record Step (old : List Actor) (event : Event) (new : List Actor) : Type 0 where
+  pub before : Actor
+  pub after : Actor
+  pub actor_there : slice_get old (actor_of event) ≡ Some before
+  pub party_there : party_of event < length before.owed
+  pub change : Change before event after
+  pub others_stay : new ≡ slice_set old (actor_of event) after
+
+-- From old, the events lead to new: they are a run, each allowed where it stands.
+abbrev pub Run : List Actor → List Event → List Actor → Type 0
+Run old [] new = new ≡ old
+Run old (event ∷ events) new = (next : List Actor) × Step old event next × Run next events new
+
+-- a run may begin with an actor of this word: one that a mailbox has, and not scheduled
+abbrev pub can_start : ℕ → Bool
+can_start word = is_valid word && not (mailbox_of word).scheduled
+
+-- the actors of these words as a run begins, among so many parties
+abbrev pub start : List ℕ → ℕ → List Actor
+start words parties = map (at_start parties) words
+
+-- the events are a run from actors of these words among so many parties, and lead to this state
+pub record LeadsTo (words : List ℕ) (parties : ℕ) (events : List Event) (state : List Actor) : Type 0 where
+  pub can_start : All (λ word. IsTrue (can_start word)) words
+  pub run : Run (start words parties) events state
+
+-- the answer to an event: it was carried out, or no step of it is allowed
+abbrev pub IsCarriedOut : Actor → Event → Actor → Bool → Type 0
+IsCarriedOut x event y true = Change x event y
+IsCarriedOut x event y false = (z : Actor) → Change x event z → ⊥
+
+-- the same of a whole state
+abbrev pub IsStepped : List Actor → Event → List Actor → Bool → Type 0
+IsStepped old event new true = Step old event new
+IsStepped old event new false = (other : List Actor) → Step old event other → ⊥

@@ -1,0 +1,184 @@
+ghost use Rattle.std.specs.Prelude.{◌≡◌, ◌↔◌, ◌<◌, length, IsTrue, IfOk, option_map};
+ghost use Rattle.mb_core.specs.Actor.{at_start, debt_of, has_work, owing};
+ghost use Rattle.mb_core.specs.Event.{party_of};
+ghost use Rattle.mb_core.specs.Run.{IsCarriedOut};
+ghost use Rattle.mb_core.specs.Settled.{is_runnable};
+
+mod envelope_events;
+mod status_events;
+mod system_events;
+
+use crate::debt::Debt;
+use crate::event::Event;
+use mb_msg::{Envelope, SysMsg};
+use mb_status::Status;
+use std::alloc::{AllocError, Global};
+use std::marker::Model;
+
+/// The state of one actor in the machine.
+#[derive(Debug, Drop)]
+pub struct ActorState {
+    status: Status,
+    envelopes: Vec<Envelope>,
+    waiting: u64,
+    system: Option<Vec<SysMsg>>,
+    holder: Option<usize>,
+    owed: Vec<Debt>,
+}
+
+impl Model for ActorState {
+    ghost use Rattle.std.specs.Prelude.{option_map};
+    ghost use Rattle.mb_core.specs.Actor.{Actor};
+
+    ghost Value = { Actor };
+
+    ghost view = { λ x. record {
+      mailbox = x.status;
+      envelopes = x.envelopes.items;
+      waiting = x.waiting;
+      system = option_map (λ listed. listed.items) x.system;
+      holder = x.holder;
+      owed = x.owed.items;
+    } };
+}
+
+/// What others see of an actor.
+impl ActorState {
+    /// Its mailbox's status.
+    pub fn status(&self) -> Status
+        ensures { result ≡ self.now.mailbox }
+    {
+        self.status
+    }
+
+    /// Its envelopes, in the order of their pushes.
+    pub fn envelopes(&self) -> &[Envelope]
+        ensures { result.now ≡ self.now.envelopes }
+    {
+        self.envelopes.as_slice()
+    }
+
+    /// The number counted as waiting, modulo 2^64.
+    pub fn waiting(&self) -> u64
+        ensures { result ≡ self.now.waiting }
+    {
+        self.waiting
+    }
+
+    /// Its system work, the earliest first; `None` once that is gone for good.
+    pub fn system(&self) -> Option<&[SysMsg]>
+        ensures { option_map (λ listed. listed.now) result ≡ self.now.system }
+    {
+        match &self.system {
+            Some(listed) => Some(listed.as_slice()),
+            None => None,
+        }
+    }
+
+    /// The number of the party that holds it, if one does.
+    pub fn holder(&self) -> Option<usize>
+        ensures { result ≡ self.now.holder }
+    {
+        self.holder
+    }
+
+    /// What each party owes it, by the party's number.
+    pub fn owed(&self) -> &[Debt]
+        ensures { result.now ≡ self.now.owed }
+    {
+        self.owed.as_slice()
+    }
+
+    /// Whether a worker should take it: nobody holds it, it is not closed, and there is system work, or an envelope is
+    /// counted as waiting and no suspension stands.
+    pub fn is_runnable(&self) -> bool
+        ensures { result ≡ is_runnable self.now }
+    {
+        !self.status.scheduled() && self.status.can_schedule(self.waiting > 0, self.has_work())
+    }
+}
+
+/// What the machine does to an actor.
+impl ActorState {
+    /// The actor of this status as a run begins, among so many parties: its lists empty, held by nobody, owed nothing.
+    pub(crate) fn start(
+        alloc: Global,
+        parties: usize,
+        status: Status,
+    ) -> Result<ActorState, AllocError>
+        ensures { IfOk result (λ x. x ≡ record (at_start parties 0) { mailbox = status }) }
+    {
+        Ok(ActorState {
+            status,
+            envelopes: Vec::new(alloc),
+            waiting: 0,
+            system: Some(Vec::new(alloc)),
+            holder: None,
+            owed: vec![in alloc; Debt::NOTHING; parties]?,
+        })
+    }
+
+    /// Carries out an event of a party that is there, or answers `false` where the event is not allowed; the actor is
+    /// then in any state.
+    pub(crate) fn carry_out(&mut self, alloc: Global, event: &Event) -> Result<bool, AllocError>
+        requires { party_of event.now < length self.old.owed }
+        ensures { IfOk result (IsCarriedOut self.old event.now self.new) }
+    {
+        match event {
+            Event::Read { party, .. } => self.read(*party),
+            Event::Schedule { party, .. } => return Ok(self.schedule(*party)),
+            Event::Idle { party, rest, .. } => return self.give_back(
+                alloc,
+                *party,
+                rest.as_slice(),
+            ),
+            Event::Suspend { party, .. } => return Ok(self.suspend(*party)),
+            Event::Resume { party, .. } => return Ok(self.resume(*party)),
+            Event::Close { party, .. } => return Ok(self.close(*party)),
+            Event::Sent { party, .. } => self.count_sent(*party),
+            Event::Unsent { party, .. } => return Ok(self.count_unsent(*party)),
+            Event::Taken { party, .. } => return Ok(self.count_taken(*party)),
+            Event::Count { party, .. } => self.read_count(*party),
+            Event::Push { envelope, .. } => self.push(*envelope)?,
+            Event::Take { party, place, .. } => return Ok(self.take(*party, *place)),
+            Event::SysAdd { party, message, .. } => return self.add_system(*party, *message),
+            Event::SysRead { party, .. } => self.read_system(*party),
+            Event::SysDrain { party, .. } => return Ok(self.drain_system(*party)),
+            Event::SysEnd { party, .. } => return Ok(self.end_system(*party)),
+        }
+        Ok(true)
+    }
+
+    /// Whether something is on the system list.
+    fn has_work(&self) -> bool
+        ensures { result ≡ has_work self.now.system }
+    {
+        match &self.system {
+            Some(listed) => !listed.is_empty(),
+            None => false,
+        }
+    }
+
+    /// Whether this party holds the actor.
+    fn is_held_by(&self, party: usize) -> bool
+        ensures { IsTrue result ↔ (self.now.holder ≡ Some party) }
+    {
+        self.holder == Some(party)
+    }
+
+    /// What the party owes the actor.
+    fn debt(&self, party: usize) -> Debt
+        requires { party < length self.now.owed }
+        ensures { result ≡ debt_of self.now party }
+    {
+        self.owed[party]
+    }
+
+    /// From now on the party owes the actor this.
+    fn owe(&mut self, party: usize, debt: Debt)
+        requires { party < length self.old.owed }
+        ensures { self.new ≡ owing self.old party debt }
+    {
+        self.owed[party] = debt;
+    }
+}

@@ -1,0 +1,123 @@
+ghost use Rattle.std.specs.Prelude.{◌≡◌, ◌<◌, ◌++◌, length, IfOk};
+ghost use Rattle.mb_msg.specs.declared.id.ActorId.{ActorId};
+ghost use Rattle.mb_core.specs.declared.event.Event.TheVariants.{Read, Schedule, Idle, Suspend, Resume, Close};
+ghost use Rattle.mb_core.specs.Run.{Change, IsCarriedOut, after_reading};
+
+use crate::actor::ActorState;
+use crate::debt::Debt;
+use mb_msg::SysMsg;
+use mb_status::{MOST_SUSPENSIONS, Status};
+use std::alloc::{AllocError, Global};
+
+/// The steps on the status word.
+impl ActorState {
+    pub(super) fn read(&mut self, party: usize)
+        requires { party < length self.old.owed }
+        ensures { (actor : ActorId) → Change self.old (Read party actor) self.new }
+    {
+        let debt = after_reading(self.status, self.debt(party));
+        self.owe(party, debt);
+    }
+
+    pub(super) fn schedule(&mut self, party: usize) -> bool
+        requires { party < length self.old.owed }
+        ensures { (actor : ActorId) → IsCarriedOut self.old (Schedule party actor) self.new result }
+    {
+        let Some(status) = self.status.with_scheduled() else {
+            return false;
+        };
+        self.status = status;
+        self.holder = Some(party);
+        self.owe(party, Debt::NOTHING);
+        true
+    }
+
+    pub(super) fn give_back(
+        &mut self,
+        alloc: Global,
+        party: usize,
+        rest: &[SysMsg],
+    ) -> Result<bool, AllocError>
+        requires { party < length self.old.owed }
+        ensures { IfOk result (λ done. (actor : ActorId) → IsCarriedOut self.old (Idle party actor rest.now) self.new done) }
+    {
+        if !self.is_held_by(party) {
+            return Ok(false);
+        }
+        if let Some(listed) = &self.system {
+            self.system = Some(in_front(alloc, rest, listed.as_slice())?);
+        }
+        self.status = self.status.idle();
+        self.holder = None;
+        let debt = self.debt(party);
+        self.owe(
+            party,
+            Debt {
+                system: true,
+                message: true,
+                ..debt
+            },
+        );
+        Ok(true)
+    }
+
+    pub(super) fn suspend(&mut self, party: usize) -> bool
+        ensures { (actor : ActorId) → IsCarriedOut self.old (Suspend party actor) self.new result }
+    {
+        if !self.is_held_by(party) || self.status.count() >= MOST_SUSPENSIONS {
+            return false;
+        }
+        self.status.suspend();
+        true
+    }
+
+    pub(super) fn resume(&mut self, party: usize) -> bool
+        ensures { (actor : ActorId) → IsCarriedOut self.old (Resume party actor) self.new result }
+    {
+        if !self.is_held_by(party) {
+            return false;
+        }
+        self.status.resume();
+        true
+    }
+
+    pub(super) fn close(&mut self, party: usize) -> bool
+        ensures { (actor : ActorId) → IsCarriedOut self.old (Close party actor) self.new result }
+    {
+        if !self.is_held_by(party) {
+            return false;
+        }
+        self.status.close();
+        true
+    }
+}
+
+/// What a party still owes once it has read this status.
+fn after_reading(status: Status, debt: Debt) -> Debt
+    ensures { result ≡ after_reading status debt }
+{
+    if status.closed() || status.scheduled() {
+        Debt::NOTHING
+    } else if status.suspended() {
+        Debt {
+            message: false,
+            sending: false,
+            ..debt
+        }
+    } else {
+        Debt {
+            message: debt.message || debt.sending,
+            sending: false,
+            ..debt
+        }
+    }
+}
+
+/// The messages of one list, and then those of another.
+fn in_front(alloc: Global, rest: &[SysMsg], listed: &[SysMsg]) -> Result<Vec<SysMsg>, AllocError>
+    ensures { IfOk result (λ all. all.items ≡ rest.now ++ listed.now) }
+{
+    let mut all = Vec::from_slice(alloc, rest)?;
+    all.extend_from_slice(listed)?;
+    Ok(all)
+}

@@ -1,0 +1,69 @@
+ghost use Rattle.std.specs.Prelude.{◌≡◌, ◌<◌, length, IfOk};
+ghost use Rattle.mb_msg.specs.declared.id.ActorId.{ActorId};
+ghost use Rattle.mb_core.specs.declared.event.Event.TheVariants.{SysAdd, SysRead, SysDrain, SysEnd};
+ghost use Rattle.mb_core.specs.Run.{Change, IsCarriedOut};
+
+use crate::actor::ActorState;
+use crate::debt::Debt;
+use mb_msg::SysMsg;
+use std::alloc::AllocError;
+
+/// The steps on the system list.
+impl ActorState {
+    pub(super) fn add_system(&mut self, party: usize, message: SysMsg) -> Result<bool, AllocError>
+        requires { party < length self.old.owed }
+        ensures { IfOk result (λ done. (actor : ActorId) → IsCarriedOut self.old (SysAdd party actor message) self.new done) }
+    {
+        let Some(listed) = &mut self.system else {
+            return Ok(false);
+        };
+        listed.push(message)?;
+        let debt = self.debt(party);
+        self.owe(
+            party,
+            Debt {
+                system: true,
+                ..debt
+            },
+        );
+        Ok(true)
+    }
+
+    pub(super) fn read_system(&mut self, party: usize)
+        requires { party < length self.old.owed }
+        ensures { (actor : ActorId) → Change self.old (SysRead party actor) self.new }
+    {
+        if !self.has_work() {
+            let debt = self.debt(party);
+            self.owe(
+                party,
+                Debt {
+                    system: false,
+                    ..debt
+                },
+            );
+        }
+    }
+
+    pub(super) fn drain_system(&mut self, party: usize) -> bool
+        ensures { (actor : ActorId) → IsCarriedOut self.old (SysDrain party actor) self.new result }
+    {
+        if !self.is_held_by(party) {
+            return false;
+        }
+        if let Some(listed) = &mut self.system {
+            listed.clear();
+        }
+        true
+    }
+
+    pub(super) fn end_system(&mut self, party: usize) -> bool
+        ensures { (actor : ActorId) → IsCarriedOut self.old (SysEnd party actor) self.new result }
+    {
+        if !self.is_held_by(party) || !self.status.closed() {
+            return false;
+        }
+        self.system = None;
+        true
+    }
+}

@@ -1,0 +1,27 @@
+//! The abstract machine below every mailbox: what one atomic step may do to an actor, and what every run of such
+//! steps keeps.
+//!
+//! A state is a list of actors, and an event is one step of one party on one of them. `replay` carries events out and
+//! refuses what is no run. The laws say, for every run, who holds an actor and that no wake-up is lost.
+#![tactic(auto)]
+
+mod actor;
+mod debt;
+mod event;
+mod laws;
+mod messages;
+mod model;
+mod run;
+#[cfg(test)]
+mod tests;
+
+pub use actor::ActorState;
+pub use debt::Debt;
+pub use event::Event;
+pub use laws::{
+    every_run_keeps_debts, every_run_keeps_holders, every_run_keeps_mailboxes, runnable_is_owed,
+    step_keeps_debts, step_keeps_holders, step_keeps_mailboxes,
+};
+pub use messages::Messages;
+pub use model::Model;
+pub use run::replay;

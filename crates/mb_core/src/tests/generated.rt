@@ -1,0 +1,137 @@
+ghost use Rattle.std.specs.Prelude.{◌<◌};
+
+use crate::{ActorState, Event, Messages, replay};
+use mb_msg::{ActorId, Body, Envelope, SenderId, SysMsg};
+use std::alloc::{AllocError, Global};
+use std::test::Fail;
+
+const ACTORS: [u64; 3] = [0, 4, 1];
+
+const PARTIES: usize = 3;
+
+/// A small fixed generator of numbers.
+#[derive(Drop)]
+struct Numbers {
+    state: u64,
+}
+
+impl Numbers {
+    /// A number below the limit.
+    fn below(&mut self, limit: u64) -> u64
+        requires { 0 < limit }
+        ensures { result < limit }
+    {
+        self.state = self
+            .state
+            .wrapping_mul(6364136223846793005)
+            .wrapping_add(1442695040888963407);
+        (self.state >> 33) % limit
+    }
+
+    fn message(&mut self) -> SysMsg {
+        if self.below(2) == 0 {
+            SysMsg::Suspend
+        } else {
+            SysMsg::Terminate
+        }
+    }
+
+    fn event(&mut self, alloc: Global) -> Result<Event, AllocError> {
+        let party = self.below(3) as usize;
+        let actor = ActorId(self.below(3) as u32);
+        Ok(match self.below(24) {
+            0 => Event::Read { party, actor },
+            1..=4 => Event::Schedule { party, actor },
+            5 => {
+                let rest = if self.below(2) == 0 {
+                    Vec::new(alloc)
+                } else {
+                    vec![in alloc; self.message()]?
+                };
+                Event::Idle {
+                    party,
+                    actor,
+                    rest: Messages::new(rest),
+                }
+            }
+            6 => Event::Suspend { party, actor },
+            7..=8 => Event::Resume { party, actor },
+            9 => Event::Close { party, actor },
+            10..=11 => Event::Sent { party, actor },
+            12 => Event::Unsent { party, actor },
+            13 => Event::Taken { party, actor },
+            14..=15 => Event::Count { party, actor },
+            16 => {
+                let envelope = Envelope {
+                    by: SenderId(64),
+                    number: self.below(100),
+                    to: actor,
+                    body: Body::PoisonPill,
+                };
+                Event::Push {
+                    party,
+                    actor,
+                    envelope,
+                }
+            }
+            17 => Event::Take {
+                party,
+                actor,
+                place: self.below(2) as usize,
+            },
+            18..=19 => Event::SysAdd {
+                party,
+                actor,
+                message: self.message(),
+            },
+            20..=21 => Event::SysRead { party, actor },
+            22 => Event::SysDrain { party, actor },
+            _ => Event::SysEnd { party, actor },
+        })
+    }
+}
+
+/// Who holds the actor, and whether nothing is stranded, by the laws in plain words.
+fn is_lawful(actor: &ActorState) -> bool {
+    let status = actor.status();
+    if status.scheduled() {
+        return actor.holder().is_some();
+    }
+    if status.closed() {
+        return true;
+    }
+    let system = actor.system().is_some_and(|listed| !listed.is_empty());
+    let waits = status.count() == 0 && actor.waiting() > 0;
+    actor.holder().is_none()
+        && (!system || actor.owed().iter().any(|debt| debt.system))
+        && (!waits || actor.owed().iter().any(|debt| debt.message || debt.sending))
+}
+
+#[test]
+fn every_generated_run_is_lawful(rt: HostRuntime) -> Result<(), Fail> {
+    let alloc = rt.alloc();
+    let mut numbers = Numbers { state: 1 };
+    let mut runs: u64 = 0;
+    let mut held: u64 = 0;
+    let mut runnable: u64 = 0;
+    for _ in 0..100u64 {
+        let mut events = Vec::new(alloc);
+        for _ in 0..60u64 {
+            events.push(numbers.event(alloc)?)?;
+            let Some(model) = replay(alloc, &ACTORS, PARTIES, &events)? else {
+                let _ = events.pop();
+                continue;
+            };
+            runs = runs.wrapping_add(1);
+            for actor in model.actors() {
+                assert!(rt; is_lawful(actor), "in {actor:?} after {events:?}");
+                held = held.wrapping_add(u64::from(actor.holder().is_some()));
+                runnable = runnable.wrapping_add(u64::from(actor.is_runnable()));
+            }
+        }
+    }
+    assert!(rt; runs > 2000, "{runs} runs");
+    assert!(rt; held > 500, "{held} held");
+    assert!(rt; runnable > 500, "{runnable} runnable");
+    Ok(())
+}
