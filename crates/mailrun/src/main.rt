@@ -10,6 +10,7 @@ mod tests;
 
 use mb_scenario::{Fault, Place, Reason};
 use std::env;
+use std::io::ErrorKind;
 use std::process::ExitCode;
 
 /// The program takes no arguments: any is refused before anything is read.
@@ -24,6 +25,9 @@ fn main(rt: HostRuntime) -> ExitCode {
             )
         }
         Ok(_) => drive::refuse(&mut rt.stderr(), &TOO_MANY_ARGUMENTS),
+        Err(error) if error.kind() == ErrorKind::OutOfMemory => {
+            drive::refuse(&mut rt.stderr(), &Fault::NoMemory)
+        }
         Err(_) => drive::refuse(&mut rt.stderr(), &Fault::Os),
     };
     ExitCode::from(status)
