@@ -1,3 +1,9 @@
+pub mod Counted
+pub mod EnvelopeStep
 pub mod InputLemmas
 pub mod Lines
 pub mod Refusals
+pub mod RunSteps
+pub mod SentLemmas
+pub mod Starts
+pub mod SystemStep

@@ -1,5 +1,6 @@
 ghost use Rattle.std.specs.Prelude.{◌≡◌, [], ◌∷◌, IfOk, IfErr, string_bytes};
 ghost use Rattle.mb_scenario.specs.Outcome.{report_of, guardian_line};
+ghost use Rattle.mb_scenario.specs.Fault.{status_of};
 ghost use Rattle.mb_scenario.specs.Reading.{IsReadAs, Refuses};
 ghost use Rattle.mb_scenario.specs.Report.{line_data, text_of as report_of_lines};
 ghost use Rattle.mb_scenario.specs.Scenario.{ScenarioData};
@@ -7,15 +8,16 @@ ghost use Rattle.mailrun.specs.Line.{line_of};
 
 use crate::run::{Outcome, run};
 use mb_actor::Phase;
+use mb_cell::CellFault;
 use mb_scenario::{Fault, Report, ReportLine, Scenario, Script, ScriptedActor, read, report_text};
 use std::alloc::{AllocError, Global};
 use std::marker::Brand;
 
-/// The report of a scenario's text. Its faults are those of reading the text, and `NoMemory`.
+/// The report of a scenario's text. Its faults are those of reading the text, and `NoMemory` and `JournalFull` of the run.
 pub fn answer(alloc: Global, text: &[u8]) -> Result<String, Fault>
     ensures report { IfOk result (λ report. (scenario : ScenarioData) × IsReadAs text.now scenario
         × (string_bytes report ≡ report_of scenario)) }
-    ensures refused { IfErr result (Refuses text.now) }
+    ensures refused { IfErr result (λ fault. status_of fault ≡ 2 → Refuses text.now fault) }
 {
     let scenario = read(alloc, text)?;
     let Scenario { actor, sends } = scenario;
@@ -24,7 +26,11 @@ pub fn answer(alloc: Global, text: &[u8]) -> Result<String, Fault>
         initial,
         rows,
     } = actor;
-    let outcome = run::<Script, Brand>(alloc, Script::new(initial, rows), &sends);
+    let outcome = match run::<Script, Brand>(alloc, Script::new(initial, rows), &sends) {
+        Ok(outcome) => outcome,
+        Err(CellFault::JournalFull) => return Err(Fault::JournalFull),
+        Err(CellFault::NoMemory) => return Err(Fault::NoMemory),
+    };
     Ok(text_of(alloc, name, &outcome)?)
 }
 
@@ -63,7 +69,7 @@ fn line(name: String, outcome: &Outcome) -> ReportLine
         phase: outcome.phase,
         state: Some(outcome.state),
         suspended: outcome.suspended,
-        handled: u64::from(outcome.handled),
+        handled: outcome.handled as u64,
         left: 0,
         dead: 0,
         restarts: 0,

@@ -4,6 +4,8 @@
 mod answer;
 mod drive;
 mod input;
+mod mailbox;
+mod post;
 mod run;
 #[cfg(test)]
 mod tests;

@@ -1,21 +1,38 @@
-ghost use Rattle.std.specs.Prelude.{◌≡◌, ◌+◌, ◌<◌, ◌^◌, [], length, map};
+ghost use Rattle.std.specs.Prelude.{◌≡◌, ◌+◌, [], ◌∷◌, length, count_by, IfOk, IfErr};
 ghost use Rattle.mb_actor.specs.Behaviour.{AllowsSame};
-ghost use Rattle.mb_actor.specs.declared.phase.Phase.TheVariants.{Live};
-ghost use Rattle.mb_msg.specs.declared.envelope.Body.TheVariants.{User};
-ghost use Rattle.mailrun.specs.Sent.{message_of, carried_out};
+ghost use Rattle.mb_msg.specs.declared.system.SysMsg.TheVariants.{Create};
+ghost use Rattle.mb_journal.specs.Log.{entry_of};
+ghost use Rattle.mailrun.specs.Fates.{envelopes_of, is_of_envelope};
+ghost use Rattle.mailrun.specs.Post.{world};
+ghost use Rattle.mailrun.specs.Rest.{IsAtRest};
+ghost use Rattle.mailrun.specs.Sent.{sent, envelope_for};
+ghost use Rattle.mailrun.specs.Told.{IsTold, the_actor};
 
+use crate::mailbox::run_mailbox;
+use crate::post::Post;
 use mb_actor::{Actor, Behaviours, Phase};
-use mb_cell::{Act, Cell};
+use mb_cell::{Cell, CellFault};
+use mb_journal::{Event, Journal, Record};
 use mb_msg::{ActorId, Body, Envelope, SenderId, SysMsg, limits};
 use mb_scenario::Sending;
 use mb_status::Status;
-use std::alloc::Global;
+use std::alloc::{AllocError, Global};
+use std::collections::VecDeque;
 
 /// The number of the one actor.
 const ACTOR: ActorId = ActorId(1);
 
 /// The number of the one sender.
 const SENDER: SenderId = SenderId(limits::ACTORS);
+
+/// How many entries the actor's journal may have.
+const JOURNAL_LIMIT: u32 = u32::MAX;
+
+/// The word of a mailbox that is suspended once, since its actor is not started yet.
+const NOT_STARTED: u64 = 4;
+
+/// How many envelopes one run of the mailbox handles at most (the default of Akka's `throughput`).
+const THROUGHPUT: u32 = 5;
 
 /// What became of the actor.
 #[derive(Drop)]
@@ -27,55 +44,98 @@ pub struct Outcome {
     /// How often its mailbox is suspended.
     pub suspended: u64,
     /// How many envelopes came to it.
-    pub handled: u32,
+    pub handled: usize,
 }
 
-/// Starts an actor and gives it these messages in order.
-pub fn run<A: Actor, K: Behaviours>(alloc: Global, actor: A, sends: &[Sending]) -> Outcome
+/// An actor with its mailbox and what waits for it.
+#[derive(Drop)]
+pub struct Running<A: Actor, K: Behaviours> {
+    /// The actor's cell.
+    pub cell: Cell<A, K>,
+    /// The status of its mailbox.
+    pub status: Status,
+    /// What waits for it.
+    pub post: Post,
+}
+
+/// Starts an actor and gives it these sends in order, one run of its mailbox after another, until nothing waits.
+///
+/// The faults are `NoMemory`, and `JournalFull` once the journal has as many entries as it may have.
+pub fn run<A: Actor, K: Behaviours>(
+    alloc: Global,
+    actor: A,
+    sends: &[Sending],
+) -> Result<Outcome, CellFault>
     requires unused { A.content actor ≡ A.after actor [] }
     requires behaves { A.after actor ≡ K.after 1 }
     requires allows { AllowsSame (A.gives actor) (K.gives 1) }
-    requires few { length sends.now < 4294967295 }
-    ensures state { result.state ≡ K.after 1 (map message_of sends.now) }
-    ensures handled { result.handled ≡ length sends.now }
-    ensures live { result.phase ≡ Live }
-    ensures open { result.suspended ≡ 0 }
+    ensures { IfOk result (IsTold (K.after 1) (K.gives 1) sends.now) }
 {
-    let mut cell = Cell::<A, K>::new(alloc, ACTOR, actor, u32::MAX);
-    let mut status = Status::of(cell.count() << 2).unwrap();
-    cell.ready().unwrap();
-    cell.apply_system(0, SysMsg::Create);
-    carry_out(&mut cell, &mut status);
-    for (number, send) in sends.iter().enumerate() {
-        cell.ready().unwrap();
-        cell.apply_envelope(status, envelope_of(number as u64, send));
-        carry_out(&mut cell, &mut status);
+    let Running {
+        mut cell,
+        mut status,
+        mut post,
+    } = match begin::<A, K>(alloc, actor, JOURNAL_LIMIT, sends) {
+        Ok(running) => running,
+        Err(_) => return Err(CellFault::NoMemory),
+    };
+    run_mailbox(&mut cell, &mut status, &mut post, THROUGHPUT)?;
+    while !post.envelopes.is_empty() {
+        run_mailbox(&mut cell, &mut status, &mut post, THROUGHPUT)?;
     }
-    Outcome {
+    Ok(Outcome {
         phase: cell.phase(),
         state: cell.state(),
         suspended: cell.count(),
-        handled: cell.handled(),
-    }
+        handled: handled_in(cell.journal()),
+    })
 }
 
-/// Carries out what the cell asks for.
-fn carry_out<A: Actor, K: Behaviours>(cell: &mut Cell<A, K>, status: &mut Status)
-    ensures done { cell.new ≡ record cell.old { acts = [] } }
-    ensures status { status.new ≡ carried_out cell.old.acts status.old }
+/// The actor before its first run: nothing came to it, and its Create and the sends wait.
+pub fn begin<A: Actor, K: Behaviours>(
+    alloc: Global,
+    actor: A,
+    journal_limit: u32,
+    sends: &[Sending],
+) -> Result<Running<A, K>, AllocError>
+    requires unused { A.content actor ≡ A.after actor [] }
+    requires behaves { A.after actor ≡ K.after 1 }
+    requires allows { AllowsSame (A.gives actor) (K.gives 1) }
+    ensures rest { IfOk result (λ begun. IsAtRest (world begun.cell begun.status begun.post)) }
+    ensures who { IfOk result (λ begun. begun.cell.who ≡ the_actor journal_limit) }
+    ensures nothing { IfOk result (λ begun. begun.cell.journal ≡ []) }
+    ensures sent { IfOk result (λ begun. begun.post.envelopes.items ≡ sent 0 sends.now) }
 {
-    while let Some(act) = cell.next_act() {
-        match act {
-            Act::ResumeSelf => {
-                let _ = status.resume();
-            }
-        }
+    let post = post_of(alloc, sends)?;
+    Ok(Running {
+        cell: Cell::new(alloc, ACTOR, actor, journal_limit),
+        status: Status::of(NOT_STARTED).unwrap(),
+        post,
+    })
+}
+
+/// What waits for the actor before its first run: its Create, and an envelope for each send.
+fn post_of(alloc: Global, sends: &[Sending]) -> Result<Post, AllocError>
+    ensures next { IfOk result (λ post. post.next ≡ 0) }
+    ensures create { IfOk result (λ post. post.systems.items ≡ Create ∷ []) }
+    ensures sent { IfOk result (λ post. post.envelopes.items ≡ sent 0 sends.now) }
+{
+    let mut systems = VecDeque::new(alloc);
+    systems.push_back(SysMsg::Create)?;
+    let mut envelopes = VecDeque::with_capacity(alloc, sends.len())?;
+    for (number, send) in sends.iter().enumerate() {
+        envelopes.push_back(envelope_of(number as u64, send))?;
     }
+    Ok(Post {
+        next: 0,
+        systems,
+        envelopes,
+    })
 }
 
 /// The envelope that the sender sends with this number.
 fn envelope_of(number: u64, send: &Sending) -> Envelope
-    ensures { result.body ≡ User send.now.kind send.now.value }
+    ensures { result ≡ envelope_for number send.now }
 {
     let Sending { kind, value } = *send;
     Envelope {
@@ -83,5 +143,28 @@ fn envelope_of(number: u64, send: &Sending) -> Envelope
         number,
         to: ACTOR,
         body: Body::User { kind, value },
+    }
+}
+
+/// How many envelopes a journal tells of.
+fn handled_in(journal: &Journal) -> usize
+    ensures { result ≡ length (envelopes_of journal.now.entries) }
+{
+    let mut handled = 0;
+    for index in 0..journal.len() {
+        if tells_of_envelope(&journal.get(index)) {
+            handled += 1;
+        }
+    }
+    handled
+}
+
+/// Whether what a journal has is an envelope, handled or dropped.
+fn tells_of_envelope(record: &Record<'_>) -> bool
+    ensures { result ≡ is_of_envelope (entry_of record.now) }
+{
+    match record.event {
+        Event::Handled { .. } | Event::Dropped { .. } => true,
+        Event::System { .. } | Event::SetAside { .. } => false,
     }
 }

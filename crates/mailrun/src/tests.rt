@@ -1,12 +1,18 @@
 //! Whole runs, from bytes to bytes, and what failing streams lead to.
 
-ghost use Rattle.std.specs.Prelude.{◌≡◌, ◌+◌, ◌<◌, ◌≤◌};
+ghost use Rattle.std.specs.Prelude.{◌≡◌, []};
+ghost use Rattle.mb_actor.specs.Behaviour.{AllowsSame};
 
 use crate::drive::{drive, refuse};
-use mb_scenario::{Fault, Place, Reason};
+use crate::mailbox::{Turn, run_mailbox};
+use crate::run::{Running, begin};
+use mb_actor::{Actor, Behaviours};
+use mb_cell::CellFault;
+use mb_scenario::{Fault, Operation, Place, Reason, Row, Script, Sending};
 use std::alloc::Global;
 use std::io;
 use std::io::{Read, Write};
+use std::marker::Brand;
 use std::process::Abort;
 use std::test::Fail;
 
@@ -197,4 +203,115 @@ fn each_prefix(rt: HostRuntime) {
         assert_eq!(rt; written.is_empty(), status == 2);
         assert_eq!(rt; errors.is_empty(), status == 0);
     }
+}
+
+/// What came of runs of a mailbox: what each did, the fault that ended them, and the actor's content.
+#[derive(Drop)]
+struct Runs {
+    turns: Vec<Turn>,
+    fault: Option<CellFault>,
+    state: i64,
+}
+
+/// Runs the mailbox of an actor until nothing waits or a run ends in a fault.
+fn runs_of<A: Actor, K: Behaviours>(
+    alloc: Global,
+    actor: A,
+    throughput: u32,
+    journal_limit: u32,
+    sends: &[Sending],
+) -> Result<Runs, Fail>
+    requires unused { A.content actor ≡ A.after actor [] }
+    requires behaves { A.after actor ≡ K.after 1 }
+    requires allows { AllowsSame (A.gives actor) (K.gives 1) }
+{
+    let Running {
+        mut cell,
+        mut status,
+        mut post,
+    } = begin::<A, K>(alloc, actor, journal_limit, sends)?;
+    let mut turns = Vec::new(alloc);
+    let mut fault = None;
+    for _ in 0..20 {
+        if post.systems.is_empty() && post.envelopes.is_empty() {
+            break;
+        }
+        match run_mailbox(&mut cell, &mut status, &mut post, throughput) {
+            Ok(turn) => turns.push(turn)?,
+            Err(found) => {
+                fault = Some(found);
+                break;
+            }
+        }
+    }
+    Ok(Runs {
+        turns,
+        fault,
+        state: cell.state(),
+    })
+}
+
+/// The same of an actor whose behaviour is its own.
+fn runs_alone<A: Actor>(
+    alloc: Global,
+    actor: A,
+    throughput: u32,
+    journal_limit: u32,
+    sends: &[Sending],
+) -> Result<Runs, Fail>
+    requires { A.content actor ≡ A.after actor [] }
+{
+    runs_of::<A, Brand>(alloc, actor, throughput, journal_limit, sends)
+}
+
+/// The runs of an actor that adds up, and is sent 1, 2, and so on up to `last`.
+fn added(alloc: Global, throughput: u32, journal_limit: u32, last: i64) -> Result<Runs, Fail> {
+    let mut rows = Vec::new(alloc);
+    let operations = vec![in alloc; Operation::Add]?;
+    rows.push(Row {
+        kind: 1,
+        operations,
+    })?;
+    let mut sends = Vec::new(alloc);
+    for value in 1..=last {
+        sends.push(Sending { kind: 1, value })?;
+    }
+    runs_alone(
+        alloc,
+        Script::new(0, rows),
+        throughput,
+        journal_limit,
+        &sends,
+    )
+}
+
+/// A run of so many system messages and envelopes.
+const fn turn(systems: usize, envelopes: usize) -> Turn {
+    Turn { systems, envelopes }
+}
+
+#[test]
+fn runs_by_throughput(rt: HostRuntime) -> Result<(), Fail> {
+    let runs = added(rt.alloc(), 2, 100, 5)?;
+    assert_eq!(rt;
+        runs.turns.as_slice(),
+        [turn(1, 2), turn(0, 2), turn(0, 1)].as_slice()
+    );
+    assert_eq!(rt; runs.state, 15);
+    let runs = added(rt.alloc(), 0, 100, 5)?;
+    let once = [turn(1, 1), turn(0, 1), turn(0, 1), turn(0, 1), turn(0, 1)];
+    assert_eq!(rt; runs.turns.as_slice(), once.as_slice());
+    assert_eq!(rt; runs.fault, None);
+    Ok(())
+}
+
+#[test]
+fn a_full_journal_ends_a_run(rt: HostRuntime) -> Result<(), Fail> {
+    let runs = added(rt.alloc(), 5, 2, 2)?;
+    assert_eq!(rt; runs.fault, Some(CellFault::JournalFull));
+    assert_eq!(rt; runs.state, 1);
+    let runs = added(rt.alloc(), 5, 1, 2)?;
+    assert_eq!(rt; runs.fault, Some(CellFault::JournalFull));
+    assert_eq!(rt; runs.state, 0);
+    Ok(())
 }

@@ -1,203 +1,151 @@
-ghost use Rattle.std.specs.Prelude.{◌≡◌, ◌↔◌, ◌+◌, ◌<◌, ◌≢◌, List, [], ◌∷◌, ◌++◌, true, false, IsTrue, IsOk, OnOk, OnErr, IfNone, Some, option_to_list};
-ghost use Rattle.mb_status.specs.Mailbox.{should_process};
+ghost use Rattle.std.specs.Prelude.{◌≡◌, ◌≢◌, ◌↔◌, ◌≤◌, [], ◌++◌, length, map, option_to_list, false, true, IsTrue, IsOk, IsErrOf, OnOk, OnErr, IfNone};
 ghost use Rattle.mb_actor.specs.Behaviour.{AllowsSame};
-ghost use Rattle.mb_actor.specs.declared.message.Message.{Message};
-ghost use Rattle.mb_actor.specs.declared.phase.Phase.TheVariants.{Fresh, Live};
-ghost use Rattle.mb_cell.specs.declared.act.Act.TheVariants.{ResumeSelf};
-ghost use Rattle.mb_cell.specs.Message.{message_of, IsUser};
-ghost use Rattle.mb_cell.specs.Seen.{entries, count_of};
+ghost use Rattle.mb_journal.specs.Incarnation.{messages};
+ghost use Rattle.mb_journal.specs.Lawful.{IsLawful};
+ghost use Rattle.mb_journal.specs.Life.{phase as phase_of};
+ghost use Rattle.mb_journal.specs.Suspension.{count as count_of};
+ghost use Rattle.mb_actor.specs.declared.phase.Phase.TheVariants.{Fresh};
+ghost use Rattle.mb_cell.specs.Identity.{childless};
+ghost use Rattle.mb_cell.specs.NextAct.{act_of};
+ghost use Rattle.mb_cell.specs.Recorded.{recorded};
+
+mod apply;
 
 use crate::act::Act;
-use mb_actor::{Actor, Behaviours, Message, Outbox, Phase};
-use mb_msg::{ActorId, Body, Envelope, SysMsg};
-use mb_status::Status;
+use crate::fault::CellFault;
+use mb_actor::{Actor, Behaviours, Outbox, Phase};
+use mb_journal::{Journal, JournalError};
+use mb_msg::ActorId;
 use std::alloc::Global;
 use std::marker::{Model, PhantomData};
 
-/// A cell's journal is at its limit: no message more is taken.
-#[derive(Clone, Copy, Debug, PartialEq, Eq)]
-pub struct JournalFull;
-
-/// An actor with what is kept of its life.
+/// An actor with its journal.
+///
+/// The fields beside the journal are what it says, changed in place.
 #[derive(Drop)]
 pub struct Cell<A: Actor, K: Behaviours> {
     this: ActorId,
-    limit: u32,
     actor: A,
     outbox: Outbox,
+    journal: Journal,
     phase: Phase,
-    systems: u32,
-    handled: u32,
+    count: u64,
     act: Option<Act>,
-    is_ready: bool,
     behaviours: PhantomData<K>,
 }
 
 impl<A: Actor, K: Behaviours> Model for Cell<A, K> {
-    ghost use Rattle.std.specs.Prelude.{◌≡◌, ◌+◌, ◌<◌, ◌≤◌, [], true, option_to_list};
+    ghost use Rattle.std.specs.Prelude.{◌≡◌, map, option_to_list};
     ghost use Rattle.mb_actor.specs.Behaviour.{AllowsSame};
     ghost use Rattle.mb_cell.specs.Seen.{Seen};
 
     ghost Value = { Seen };
 
+    ghost use Rattle.mb_cell.specs.Agrees.{Agrees};
+    ghost use Rattle.mb_cell.specs.Identity.{childless};
+    ghost use Rattle.mb_cell.specs.NextAct.{act_of};
+
     ghost view = { λ c. record {
-      this = c.this.0;
-      limit = c.limit;
-      phase = c.phase;
-      content = A.content c.actor;
-      systems = c.systems;
-      handled = c.handled;
-      acts = option_to_list c.act;
-      is_ready = c.is_ready;
+      who = childless c.this c.journal.limit;
+      journal = c.journal.entries;
+      acts = map act_of (option_to_list c.act);
+      is_ready = c.journal.is_ready;
     } };
 
     ghost invariant = { λ c.
         (A.after c.actor ≡ K.after c.this.0)
         × AllowsSame (A.gives c.actor) (K.gives c.this.0)
-        × (c.outbox.effects ≡ [])
-        × (c.systems + c.handled ≤ c.limit)
-        × (c.is_ready ≡ true → c.systems + c.handled < c.limit) };
+        × Agrees (childless c.this c.journal.limit) c.journal.entries (K.after c.this.0) (K.gives c.this.0)
+        c.phase c.count (A.content c.actor) c.outbox };
 }
 
 impl<A: Actor, K: Behaviours> Cell<A, K> {
-    /// The cell of an actor that is not started yet, which takes at most so many messages.
+    /// The cell of an actor that is not started yet, whose journal may have so many entries. It takes no memory yet.
+    ///
+    /// The actor is a child of the guardian, which has no cell.
     pub fn new(alloc: Global, this: ActorId, actor: A, journal_limit: u32) -> Self
+        requires not_guardian { this.0 ≢ 0 }
         requires unused { A.content actor ≡ A.after actor [] }
         requires behaves { A.after actor ≡ K.after this.0 }
         requires allows { AllowsSame (A.gives actor) (K.gives this.0) }
         ensures fresh { result ≡ record {
-          this = this.0;
-          limit = journal_limit;
-          phase = Fresh;
-          content = K.after this.0 [];
-          systems = 0;
-          handled = 0;
+          who = childless this journal_limit;
+          journal = [];
           acts = [];
           is_ready = false;
         } }
+        ensures not_started { phase_of result.who result.journal ≡ Fresh }
+        ensures suspended { count_of result.who result.journal ≡ 1 }
+        ensures lawful { IsLawful result.who (recorded (K.gives result.who.this.0)) result.journal }
     {
         Cell {
             this,
-            limit: journal_limit,
             actor,
             outbox: Outbox::new(0, Vec::new(alloc)),
+            journal: Journal::new(alloc, journal_limit),
             phase: Phase::Fresh,
-            systems: 0,
-            handled: 0,
+            count: 1,
             act: None,
-            is_ready: false,
             behaviours: PhantomData,
         }
     }
 
-    /// Makes room for one message. `JournalFull` comes exactly if as many came as the limit says, and changes nothing.
-    pub fn ready(&mut self) -> Result<(), JournalFull>
-        ensures full { IsOk result ↔ (entries self.old < self.old.limit) }
+    /// Makes room for one message: for its entry, its effects and its acts.
+    ///
+    /// It answers `JournalFull` if the journal has as many entries as it may have, and else `NoMemory` if memory was
+    /// refused. Nothing has changed then.
+    pub fn ready(&mut self) -> Result<(), CellFault>
+        ensures full { IsErrOf result CellFault.JournalFull ↔ (self.old.who.limit ≤ length self.old.journal) }
         ensures ok { OnOk result (self.new ≡ record self.old { is_ready = true }) }
         ensures err { OnErr result (self.new ≡ self.old) }
+        ensures again { IsTrue self.old.is_ready → IsOk result }
     {
-        let entries = self.systems + self.handled;
-        if entries < self.limit {
-            self.is_ready = true;
-            Ok(())
-        } else {
-            Err(JournalFull)
-        }
-    }
-
-    /// Takes a system message, the next by number. The first `Create` starts the actor, whatever the actor answers,
-    /// and asks for the mailbox to be resumed; a later one does nothing.
-    pub fn apply_system(&mut self, number: u64, message: SysMsg)
-        requires ready { self.old.is_ready ≡ true }
-        requires carried_out { self.old.acts ≡ [] }
-        requires next { number ≡ self.old.systems }
-        requires create { message ≡ SysMsg.Create }
-        ensures starts { self.old.phase ≡ Fresh → self.new ≡ record self.old {
-          phase = Live;
-          content = K.after self.old.this [];
-          systems = self.old.systems + 1;
-          acts = ResumeSelf ∷ [];
-          is_ready = false;
-        } }
-        ensures once { self.old.phase ≢ Fresh → self.new ≡ record self.old {
-          systems = self.old.systems + 1;
-          is_ready = false;
-        } }
-    {
-        let _ = (number, message);
-        self.is_ready = false;
-        self.systems += 1;
-        if self.phase == Phase::Fresh {
-            let _answer = self.actor.start(&mut self.outbox);
-            self.outbox.clear();
-            self.phase = Phase::Live;
-            self.act = Some(Act::ResumeSelf);
-        }
-    }
-
-    /// Takes an envelope: the actor is called with its message, and handles it whatever it answers.
-    /// `reading` is the status word by which the caller knows that envelopes may be handled.
-    pub fn apply_envelope(&mut self, reading: Status, envelope: Envelope)
-        requires ready { self.old.is_ready ≡ true }
-        requires carried_out { self.old.acts ≡ [] }
-        requires live { self.old.phase ≡ Live }
-        requires open { IsTrue (should_process reading) }
-        requires user { IsUser envelope.body }
-        ensures handles { self.new ≡ record self.old {
-          content = self.new.content;
-          handled = self.old.handled + 1;
-          is_ready = false;
-        } }
-        ensures content { (l : List Message) (m : Message) → message_of envelope.body ≡ Some m →
-            self.old.content ≡ K.after self.old.this l → self.new.content ≡ K.after self.old.this (l ++ m ∷ []) }
-    {
-        let _ = reading;
-        self.is_ready = false;
-        self.handled += 1;
-        if let Body::User { kind, value } = envelope.body {
-            let message = Message::User { kind, value };
-            let _answer = self.actor.receive(&message, &mut self.outbox);
-            self.outbox.clear();
+        match self.journal.ready() {
+            Ok(()) => Ok(()),
+            Err(JournalError::JournalFull) => Err(CellFault::JournalFull),
+            Err(JournalError::NoMemory) => Err(CellFault::NoMemory),
         }
     }
 
     /// Takes out the next act that is to be carried out, the earliest first; `None` if none is left.
     pub fn next_act(&mut self) -> Option<Act>
-        ensures taken { self.old.acts ≡ option_to_list result ++ self.new.acts }
+        ensures taken { self.old.acts ≡ map act_of (option_to_list result) ++ self.new.acts }
         ensures none { IfNone result (self.old.acts ≡ []) }
         ensures rest { self.new ≡ record self.old { acts = self.new.acts } }
     {
         self.act.take()
     }
 
+    /// What came to the actor, and what became of it.
+    pub fn journal(&self) -> &Journal
+        ensures shown { result.now ≡ record {
+          entries = self.now.journal;
+          limit = self.now.who.limit;
+          is_ready = self.now.is_ready;
+        } }
+        ensures lawful { IsLawful self.now.who (recorded (K.gives self.now.who.this.0)) self.now.journal }
+    {
+        &self.journal
+    }
+
     /// Where the actor stands in its life.
     pub fn phase(&self) -> Phase
-        ensures { result ≡ self.now.phase }
+        ensures { result ≡ phase_of self.now.who self.now.journal }
     {
         self.phase
     }
 
     /// The actor's content as one number.
     pub fn state(&self) -> i64
-        ensures { result ≡ self.now.content }
+        ensures { result ≡ K.after self.now.who.this.0 (messages self.now.who self.now.journal) }
     {
         self.actor.state()
     }
 
     /// How often the actor's mailbox is suspended: once until it is started.
     pub fn count(&self) -> u64
-        ensures { result ≡ count_of self.now.phase }
+        ensures { result ≡ count_of self.now.who self.now.journal }
     {
-        match self.phase {
-            Phase::Fresh => 1,
-            _ => 0,
-        }
-    }
-
-    /// How many envelopes came to the actor.
-    pub fn handled(&self) -> u32
-        ensures { result ≡ self.now.handled }
-    {
-        self.handled
+        self.count
     }
 }

@@ -1,10 +1,11 @@
 //! Boxes of mixed kinds of actor, driven by one generic function.
 
-ghost use Rattle.std.specs.Prelude.{◌≡◌, ◌+◌, ◌<◌, ◌^◌, [], length};
+ghost use Rattle.std.specs.Prelude.{◌≡◌, [], true, IsTrue, pos};
 ghost use Rattle.mb_actor.specs.Behaviour.{AllowsSame};
 
-use crate::{Act, Cell};
+use crate::{Act, Cell, CellFault};
 use mb_actor::{Actor, Answer, Behaviours, Message, Outbox, Phase};
+use mb_journal::Event;
 use mb_msg::{ActorId, Body, Cause, Envelope, SenderId, SysMsg};
 use mb_status::Status;
 use std::alloc::Global;
@@ -92,15 +93,56 @@ impl Actor for Doubling {
 
 const OPEN: u64 = 0;
 
-/// Starts the actor and gives it messages of these kinds, as far as its journal takes them; answers its content and how
-/// many it was given.
+/// Makes room for a message, and answers whether there is. Where memory is refused, nothing has changed, and the same
+/// call succeeds when there is memory.
+fn make_ready<A: Actor, K: Behaviours>(rt: &impl Abort, cell: &mut Cell<A, K>) -> bool
+    ensures ready { IsTrue result → cell.new.is_ready ≡ true }
+    ensures same { cell.new ≡ record cell.old { is_ready = cell.new.is_ready } }
+{
+    let before = (
+        cell.journal().len(),
+        cell.phase(),
+        cell.count(),
+        cell.state(),
+    );
+    match cell.ready() {
+        Ok(()) => true,
+        Err(CellFault::JournalFull) => false,
+        Err(CellFault::NoMemory) => {
+            let after = (
+                cell.journal().len(),
+                cell.phase(),
+                cell.count(),
+                cell.state(),
+            );
+            assert_eq!(rt; before, after);
+            cell.ready().is_ok()
+        }
+    }
+}
+
+/// The envelope of this number, which carries a message of this kind.
+fn user(number: u64, kind: u32) -> Envelope
+    ensures { result ≡ record { by = record { 0 = 64 }; number = number; to = record { 0 = 1 }; body = Body.User kind (pos 7) } }
+{
+    Envelope {
+        by: SenderId(64),
+        number,
+        to: ActorId(1),
+        body: Body::User { kind, value: 7 },
+    }
+}
+
+/// Starts the actor and gives it messages of these kinds, as far as its journal takes them; compares the journal with
+/// what is expected, and answers the actor's content.
 fn handle_all<A: Actor, K: Behaviours>(
     rt: &impl Abort,
     alloc: Global,
     actor: A,
     limit: u32,
     kinds: &[u32],
-) -> (i64, u32)
+    expected: &[Event],
+) -> i64
     requires unused { A.content actor ≡ A.after actor [] }
     requires behaves { A.after actor ≡ K.after 1 }
     requires allows { AllowsSame (A.gives actor) (K.gives 1) }
@@ -108,31 +150,26 @@ fn handle_all<A: Actor, K: Behaviours>(
     let mut cell = Cell::<A, K>::new(alloc, ActorId(1), actor, limit);
     assert_eq!(rt; cell.phase(), Phase::Fresh);
     assert_eq!(rt; cell.count(), 1);
-    cell.ready().expect(rt, "room for the first message");
+    assert!(rt; make_ready(rt, &mut cell));
     cell.apply_system(0, SysMsg::Create);
     assert_eq!(rt; cell.next_act(), Some(Act::ResumeSelf));
     assert_eq!(rt; cell.next_act(), None);
     let reading = Status::of(OPEN).expect(rt, "a valid word");
     for (number, kind) in kinds.iter().enumerate() {
-        if cell.ready().is_err() {
+        if !make_ready(rt, &mut cell) {
             break;
         }
-        let body = Body::User {
-            kind: *kind,
-            value: 7,
-        };
-        let envelope = Envelope {
-            by: SenderId(64),
-            number: number as u64,
-            to: ActorId(1),
-            body,
-        };
-        cell.apply_envelope(reading, envelope);
+        cell.apply_envelope(reading, user(number as u64, *kind));
         assert_eq!(rt; cell.next_act(), None);
     }
     assert_eq!(rt; cell.phase(), Phase::Live);
     assert_eq!(rt; cell.count(), 0);
-    (cell.state(), cell.handled())
+    let journal = cell.journal();
+    assert_eq!(rt; journal.len(), expected.len());
+    for (index, event) in expected.iter().enumerate() {
+        assert_eq!(rt; journal.get(index).event, *event);
+    }
+    cell.state()
 }
 
 /// The same of an actor whose behaviour is its own, once it has no content.
@@ -142,31 +179,105 @@ fn handle_all_alone<A: Actor>(
     mut actor: A,
     limit: u32,
     kinds: &[u32],
-) -> (i64, u32) {
+    expected: &[Event],
+) -> i64 {
     let _answer = actor.restart(Cause::Init, &mut Outbox::new(0, Vec::new(alloc)));
-    handle_all::<A, Brand>(rt, alloc, actor, limit, kinds)
+    handle_all::<A, Brand>(rt, alloc, actor, limit, kinds, expected)
+}
+
+/// The entry of the start.
+const STARTED: Event = Event::System {
+    number: 0,
+    message: SysMsg::Create,
+    answer: Some(Answer::Handled),
+};
+
+/// The entry of a message that was answered so.
+fn handled(number: u64, kind: u32, answer: Answer) -> Event {
+    Event::Handled {
+        envelope: user(number, kind),
+        reading: OPEN,
+        answer: Some(answer),
+    }
 }
 
 #[test]
 fn boxes_of_two_kinds(rt: HostRuntime) -> Result<(), Fail> {
     let counter: Box<dyn Actor + Send> = Box::new(rt.alloc(), Counter { count: 0 })?;
     let doubling: Box<dyn Actor + Send> = Box::new(rt.alloc(), Doubling { count: 0 })?;
+    let expected = [
+        STARTED,
+        handled(0, 1, Answer::Handled),
+        handled(1, 2, Answer::Handled),
+        handled(2, 3, Answer::Handled),
+    ];
     assert_eq!(rt;
-        handle_all_alone(&rt, rt.alloc(), counter, 100, &[1, 2, 3]),
-        (3, 3)
+        handle_all_alone(&rt, rt.alloc(), counter, 100, &[1, 2, 3], &expected),
+        3
     );
+    let expected = [
+        STARTED,
+        handled(0, 1, Answer::Handled),
+        handled(1, 2, Answer::Unhandled),
+        handled(2, 3, Answer::Handled),
+    ];
     assert_eq!(rt;
-        handle_all_alone(&rt, rt.alloc(), doubling, 100, &[1, 2, 3]),
-        (6, 3)
+        handle_all_alone(&rt, rt.alloc(), doubling, 100, &[1, 2, 3], &expected),
+        6
     );
     Ok(())
 }
 
 #[test]
-fn a_full_journal_takes_nothing(rt: HostRuntime) {
-    let counter = Counter { count: 0 };
+fn a_longer_journal(rt: HostRuntime) {
+    let expected = [
+        STARTED,
+        handled(0, 1, Answer::Handled),
+        handled(1, 2, Answer::Handled),
+        handled(2, 1, Answer::Handled),
+        handled(3, 2, Answer::Handled),
+        handled(4, 1, Answer::Handled),
+    ];
     assert_eq!(rt;
-        handle_all_alone(&rt, rt.alloc(), counter, 2, &[1, 2, 3]),
-        (1, 1)
+        handle_all_alone(
+            &rt,
+            rt.alloc(),
+            Counter { count: 0 },
+            6,
+            &[1, 2, 1, 2, 1, 2],
+            &expected
+        ),
+        5
+    );
+}
+
+#[test]
+fn a_limit_of_two(rt: HostRuntime) {
+    let expected = [STARTED, handled(0, 1, Answer::Handled)];
+    assert_eq!(rt;
+        handle_all_alone(
+            &rt,
+            rt.alloc(),
+            Counter { count: 0 },
+            2,
+            &[1, 2, 3],
+            &expected
+        ),
+        1
+    );
+}
+
+#[test]
+fn a_limit_of_one(rt: HostRuntime) {
+    assert_eq!(rt;
+        handle_all_alone(
+            &rt,
+            rt.alloc(),
+            Counter { count: 0 },
+            1,
+            &[1, 2, 3],
+            &[STARTED]
+        ),
+        0
     );
 }

@@ -1,0 +1,54 @@
+-- Runs of a mailbox, put together from their steps.
+use Rattle.std.proofs.Common.{◌≡◌, ℕ, suc, ◌+◌, ◌<◌, ◌≤◌, List, [], length, None, refl, sym, subst, ◌∙◌}
+use Rattle.mb_journal.specs.Aside.{next_front}
+use Rattle.mb_journal.specs.Entry.{Entry}
+use Rattle.mb_journal.specs.Identity.{Identity}
+use Rattle.mb_journal.specs.Run.{IsBlock, IsTurns, IsReason, Stopped, most_envelopes}
+use Rattle.mb_journal.specs.Run.Stopped.{NoRoom}
+use Rattle.mb_journal.proofs.LawfulLemmas.{next_front-none}
+use Rattle.mailrun.proofs.EnvelopeStep.{turns_after}
+use Rattle.mailrun.proofs.SystemStep.{none_aside}
+use Rattle.mailrun.specs.Post.{World}
+use Rattle.mailrun.specs.Rest.{IsAtRest, IsKept, IsRunOf, IsWholeRun, IsEnd}
+
+-- what is kept twice is kept
+pub kept_after : (first middle last : World) → IsKept first middle → IsKept middle last → IsKept first last
+kept_after first middle last a b = record { same_who = b.same_who ∙ a.same_who; envelopes = b.envelopes ∙ a.envelopes }
+
+-- nothing is put in front while at rest
+pub rest_no_front : (who : Identity) (w : World) → w.cell.who ≡ who → IsAtRest w → next_front who w.cell.journal ≡ None
+rest_no_front who w same rest = next_front-none who w.cell.journal (none_aside w rest.standing)
+
+-- a run for which there was no room
+pub no_room : (throughput : ℕ) (old new : World) (n : ℕ) → IsTurns old.cell.who old.cell.journal n new.cell.journal → n ≤ most_envelopes throughput →
+    IsAtRest new → IsKept old new → IsRunOf throughput old new NoRoom
+no_room throughput old new n turns at_most rest kept =
+    record { run = record { envelopes = n; turns = turns; at_most = at_most; reason = tt }; rest = rest; kept = kept }
+
+-- a run that ended by itself
+pub whole_run : (throughput : ℕ) (old new : World) (systems n : ℕ) (stopped : Stopped) → IsEnd stopped new →
+    IsReason old.cell.who throughput n new.cell.journal stopped → IsTurns old.cell.who old.cell.journal n new.cell.journal → n ≤ most_envelopes throughput →
+    IsAtRest new → IsKept old new → new.systems ≡ [] → systems ≡ length old.systems → n + length new.envelopes ≡ length old.envelopes →
+    (0 < length old.envelopes → 0 < n) → IsWholeRun throughput old new systems n
+whole_run throughput old new systems n stopped is_end reason turns at_most rest kept none all taken progress = record {
+  stopped = stopped;
+  is_end = is_end;
+  run_of = record { run = record { envelopes = n; turns = turns; at_most = at_most; reason = reason }; rest = rest; kept = kept };
+  all_systems = (none, all);
+  taken = taken;
+  counted = refl;
+  progress = progress;
+}
+
+-- one envelope more, and the system messages after it
+pub turn_more : (first old middle new : World) (n : ℕ) → IsKept first old → IsKept first middle →
+    ((from : List Entry) (k : ℕ) → IsTurns old.cell.who from k old.cell.journal → IsTurns old.cell.who from (suc k) middle.cell.journal) →
+    IsBlock middle.cell.who middle.cell.journal new.cell.journal → IsTurns first.cell.who first.cell.journal n old.cell.journal →
+    IsTurns first.cell.who first.cell.journal (suc n) new.cell.journal
+turn_more first old middle new n to_old to_middle turn block turns =
+    let journal = first.cell.journal in
+    let there = subst (λ (who : Identity). IsTurns who journal n old.cell.journal) (sym to_old.same_who) turns in
+    let one : IsTurns first.cell.who journal (suc n) middle.cell.journal =
+    subst (λ (who : Identity). IsTurns who journal (suc n) middle.cell.journal) to_old.same_who (turn journal n there) in
+    turns_after first.cell.who journal (suc n) middle.cell.journal new.cell.journal one
+    (subst (λ (who : Identity). IsBlock who middle.cell.journal new.cell.journal) to_middle.same_who block)

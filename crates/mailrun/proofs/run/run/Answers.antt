@@ -1,0 +1,53 @@
+use Rattle.std.proofs.Common.{◌≡◌, ◌++◌, [], List, length, sym, ap, subst, ◌∙◌, append-nil, arith, rules, to_z, of_z, w64}
+use Rattle.std.proofs.lemmas.Grind.{common_steps}
+use Rattle.mb_msg.specs.declared.envelope.Envelope.{Envelope}
+use Rattle.mb_journal.specs.Identity.{Identity}
+use Rattle.mb_journal.specs.Incarnation.{messages}
+use Rattle.mb_journal.specs.Lawful.{IsLawful}
+use Rattle.mb_journal.specs.Life.{phase}
+use Rattle.mb_journal.specs.Suspension.{count}
+use Rattle.mb_journal.specs.Log.{Log}
+use Rattle.mb_cell.specs.Recorded.{recorded}
+use Rattle.mailrun.specs.Fates.{envelopes_of, messages_in}
+use Rattle.mailrun.specs.Post.{world}
+use Rattle.mailrun.specs.Sent.{sent}
+use Rattle.mailrun.proofs.EnvelopeStep.{is_running, rest_open}
+use Rattle.mb_journal.specs.Entry.{Entry}
+use Rattle.mailrun.proofs.Starts.{no_envelopes}
+use Rattle.mailrun.proofs.SentLemmas.{messages_in-sent}
+use Rattle.mailrun.proofs.run.run.Goals as goal
+
+pub loop-status-init : goal.loop-status-init
+loop-status-init g c =
+    let whole = c.in_ok-run_mailbox.ensures.whole in
+    record {
+      rest = whole.run_of.rest;
+      who = whole.run_of.kept.same_who ∙ c.in-Ok.ensures.who;
+      no_systems = whole.all_systems.0;
+      kept = whole.run_of.kept.envelopes
+          ∙ ap (λ (j : List Entry). envelopes_of j ++ c.in-Ok.running.post.envelopes.items) c.in-Ok.ensures.nothing
+          ∙ ap (λ l. l ++ c.in-Ok.running.post.envelopes.items) no_envelopes ∙ c.in-Ok.ensures.sent;
+    }
+
+pub returns : goal.returns
+returns g c =
+    let cell = c.loop-status.cell in
+    let who = c.loop-status.invariant.who in
+    let none : c.loop-status.post.envelopes.items ≡ [] = grind (arith, common_steps) in
+    let told : envelopes_of cell.journal ≡ sent 0 c.args.sends.now =
+    sym (append-nil (envelopes_of cell.journal)) ∙ sym (ap (λ (l : List Envelope). envelopes_of cell.journal ++ l) none) ∙ c.loop-status.invariant.kept in
+    let running = is_running (world cell c.loop-status.status c.loop-status.post) c.loop-status.invariant.rest
+    (rest_open (world cell c.loop-status.status c.loop-status.post) c.loop-status.invariant.rest c.loop-status.invariant.no_systems) in
+    record {
+      journal = cell.journal;
+      lawful = subst (λ (w : Identity). IsLawful w (recorded (g.K.Behaviours.gives w.this.0)) cell.journal) who c.journal.ensures.lawful;
+      told = told;
+      heard = sym (ap (λ w. messages w cell.journal) who) ∙ c.loop-status.invariant.rest.heard ∙ ap messages_in told ∙ messages_in-sent 0 c.args.sends.now;
+      state = let kept : to_z w64 (of_z w64 c.state.result) ≡ c.state.result = search rules in
+          kept ∙ c.state.ensures ∙ ap (λ (w : Identity). g.K.Behaviours.after w.this.0 (messages w cell.journal)) who;
+      phase_is = c.phase.ensures ∙ ap (λ w. phase w cell.journal) who;
+      suspended_is = c.count.ensures ∙ ap (λ w. count w cell.journal) who;
+      handled = c.handled_in.ensures ∙ ap (λ (l : Log). length (envelopes_of l.entries)) c.journal.ensures.shown;
+      live = c.phase.ensures ∙ running.live;
+      unsuspended = c.count.ensures ∙ running.unsuspended;
+    }

@@ -1,0 +1,39 @@
+-- What a whole run leaves: a journal, and what it tells of the actor.
+use Rattle.std.specs.Prelude.{◌≡◌, ℕ, ℤ, List, length, map}
+use Rattle.mb_actor.specs.Behaviour.{Moment, Reply}
+use Rattle.mb_actor.specs.declared.message.Message.{Message}
+use Rattle.mb_actor.specs.declared.phase.Phase.TheVariants.{Live}
+use Rattle.mb_journal.specs.Entry.{Entry}
+use Rattle.mb_journal.specs.Identity.{Identity}
+use Rattle.mb_journal.specs.Incarnation.{messages}
+use Rattle.mb_journal.specs.Lawful.{IsLawful}
+use Rattle.mb_journal.specs.Life.{phase}
+use Rattle.mb_journal.specs.Suspension.{count}
+use Rattle.mb_cell.specs.Identity.{childless}
+use Rattle.mb_cell.specs.Recorded.{recorded}
+use Rattle.mb_scenario.specs.declared.scenario.Sending.{Sending}
+use Rattle.mailrun.specs.Fates.{envelopes_of}
+use Rattle.mailrun.specs.Sent.{sent, message_of}
+use Rattle.mailrun.specs.declared.run.Outcome.{Outcome}
+
+-- the one actor, with the limit of its journal
+abbrev pub the_actor : ℕ → Identity
+the_actor limit = childless (record { 0 = 1 }) limit
+
+-- with the limit that a scenario's actor has
+abbrev pub scripted : Identity
+scripted = the_actor 4294967295
+
+-- There is a journal that the actor can have, in which the sends were handled, each once and in order; and the outcome
+-- is what it says: the actor is Live and not suspended, and its state is its own function of the messages.
+pub record IsTold (after : List Message → ℤ) (gives : Moment → Reply → Type 0) (sends : List Sending) (outcome : Outcome) : Type 0 where
+  pub journal : List Entry
+  pub lawful : IsLawful scripted (recorded gives) journal
+  pub told : envelopes_of journal ≡ sent 0 sends
+  pub heard : messages scripted journal ≡ map message_of sends
+  pub state : outcome.state ≡ after (messages scripted journal)
+  pub phase_is : outcome.phase ≡ phase scripted journal
+  pub suspended_is : outcome.suspended ≡ count scripted journal
+  pub handled : outcome.handled ≡ length (envelopes_of journal)
+  pub live : outcome.phase ≡ Live
+  pub unsuspended : outcome.suspended ≡ 0

@@ -1,0 +1,16 @@
+use Rattle.std.proofs.Common.{refl, arith}
+use Rattle.mb_journal.specs.Kept.{listed, StandInOrder}
+use Rattle.mb_journal.proofs.journal.Journal.new.Goals as goal
+
+pub invariant_of-result : goal.invariant_of-result
+unfolding StandInOrder
+invariant_of-result c = record {
+  in_order = rw (c.new.ensures.items, c.new-2.ensures.items) refl;
+  within = omega arith;
+  row_room = λ e. cc;
+  effect_room = λ e. cc;
+}
+
+pub returns : goal.returns
+unfolding listed
+returns c = rw c.new.ensures.items refl

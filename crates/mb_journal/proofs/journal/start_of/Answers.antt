@@ -1,0 +1,17 @@
+use Rattle.std.proofs.Common.{◌≡◌, refl, ap, sym, ◌∙◌, arith, ℕ}
+use Rattle.std.proofs.Common.{suc, ◌-◌}
+use Rattle.mb_journal.proofs.KeptLemmas.{start_of-suc}
+use Rattle.mb_journal.specs.Kept.{start_of}
+use Rattle.mb_journal.proofs.journal.start_of.Goals as goal
+
+pub returns-then-index-eq0 : goal.returns-then-index-eq0
+unfolding start_of
+returns-then-index-eq0 c = rw c.if-index-eq0.true refl
+
+one_before : (i : ℕ) → (i ≡ 0 → ⊥) → i ≡ suc (i - 1)
+one_before i h = omega arith
+
+pub returns-else-index-eq0 : goal.returns-else-index-eq0
+returns-else-index-eq0 c =
+    sym (ap (λ n. start_of 0 c.args.rows.now n) (one_before c.args.index c.if-index-eq0.false)
+    ∙ start_of-suc 0 c.args.rows.now (c.args.index - 1) _ (omega arith))

@@ -1,0 +1,50 @@
+-- What a journal lists. In the specification a journal is a list of entries with the NEWEST FIRST: what stands behind
+-- an entry is what came before it. (Akka keeps no journal: this project's own profile.)
+use Rattle.std.specs.Prelude.{ℕ, Bool, true, false, List, [], Option, None}
+use Rattle.mb_msg.specs.declared.envelope.Envelope.{Envelope}
+use Rattle.mb_msg.specs.declared.system.SysMsg.{SysMsg}
+use Rattle.mb_actor.specs.declared.answer.Answer.{Answer}
+use Rattle.mb_actor.specs.declared.answer.Answer.TheVariants as answer
+use Rattle.mb_actor.specs.declared.effect.Effect.{Effect}
+
+-- what became of a message: it was applied, with what the actor's call answered (if one was made that answers) and
+-- which effects it asked for; or it was set aside
+pub data Outcome : Type 0 where
+  Applied : Option Answer → List Effect → Outcome
+  SetAside : Outcome
+
+-- an entry: an envelope that the actor handled, with the status word that was read before it; a system message, with
+-- its number; or an envelope that was dropped, since it tells of an end that the actor no longer waits for
+pub data Entry : Type 0 where
+  Handled : Envelope → ℕ → Outcome → Entry
+  System : ℕ → SysMsg → Outcome → Entry
+  Dropped : Envelope → Entry
+
+-- the message was applied, and not set aside
+abbrev pub is_applied : Outcome → Bool
+is_applied (Applied answer effects) = true
+is_applied SetAside = false
+
+-- what the actor's call answered
+abbrev pub answer_of : Outcome → Option Answer
+answer_of (Applied answer effects) = answer
+answer_of SetAside = None
+
+-- which effects it asked for
+abbrev pub effects_of : Outcome → List Effect
+effects_of (Applied answer effects) = effects
+effects_of SetAside = []
+
+abbrev pub is_failed : Option Answer → Bool
+is_failed (Option.Some (answer.Failed n)) = true
+is_failed _ = false
+
+-- the outcome of an entry
+abbrev pub outcome_of : Entry → Outcome
+outcome_of (Handled envelope reading outcome) = outcome
+outcome_of (System number message outcome) = outcome
+outcome_of (Dropped envelope) = Applied None []
+
+-- the actor answered that it failed
+abbrev pub answered_failed : Entry → Bool
+answered_failed e = is_failed (answer_of (outcome_of e))

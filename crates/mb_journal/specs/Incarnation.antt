@@ -1,0 +1,26 @@
+-- What the actor was given to handle since it last began.
+use Rattle.std.specs.Prelude.{if◌then◌else◌, List, [], ◌∷◌, ◌++◌}
+use Rattle.mb_msg.specs.declared.envelope.Body.{Body}
+use Rattle.mb_msg.specs.declared.envelope.Body.TheVariants as body
+use Rattle.mb_actor.specs.declared.message.Message.{Message}
+use Rattle.mb_actor.specs.declared.message.Message.TheVariants as message
+use Rattle.mb_journal.specs.Entry.{Entry}
+use Rattle.mb_journal.specs.Entry.Entry.{Handled}
+use Rattle.mb_journal.specs.Identity.{Identity}
+use Rattle.mb_journal.specs.Life.{is_beginning}
+
+-- what an envelope gives the actor to handle: the others are handled by its cell (`ActorCell.autoReceiveMessage`)
+abbrev pub message_of : Body → List Message
+message_of (body.User kind value) = message.User kind value ∷ []
+message_of (body.Terminated x) = message.Terminated x ∷ []
+message_of _ = []
+
+abbrev pub messages_in : Entry → List Message
+messages_in (Handled envelope reading outcome) = message_of envelope.body
+messages_in _ = []
+
+-- the incarnation's messages, the earliest first: those of the handled envelopes after the newest start or restart
+-- (an incarnation is Akka's word for an actor between two restarts)
+unfoldable pub messages : Identity → List Entry → List Message
+messages who [] = []
+messages who (e ∷ before) = if is_beginning who e before then [] else messages who before ++ messages_in e

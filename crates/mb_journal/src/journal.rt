@@ -1,0 +1,230 @@
+ghost use Rattle.std.specs.Prelude.{◌≡◌, ◌↔◌, ◌<◌, ◌≤◌, [], ◌∷◌, false, true, length, reverse, slice_get, slice_range, Some, IsTrue, IsErrOf, IsOk, OnOk, OnErr};
+ghost use Rattle.mb_journal.specs.Entry.Entry.{Handled, System, Dropped};
+ghost use Rattle.mb_journal.specs.Entry.Outcome.{Applied, SetAside};
+ghost use Rattle.mb_journal.specs.Kept as kept;
+ghost use Rattle.mb_journal.specs.Log.{entry_of, entry_with, event_of};
+
+use crate::entry::Record;
+use crate::error::JournalError;
+use crate::row::{Kept, Row};
+use mb_actor::{Answer, Effect};
+use mb_msg::limits::EFFECTS;
+use mb_msg::{Envelope, SysMsg};
+use std::alloc::Global;
+use std::marker::Model;
+
+/// What came to an actor and what became of it (this project's own profile: Akka keeps no journal).
+///
+/// Room for an entry is made beforehand, by `ready`: to add the entry takes no memory.
+#[derive(Debug, Drop)]
+pub struct Journal {
+    rows: Vec<Row>,
+    effects: Vec<Effect>,
+    limit: u32,
+    ready: bool,
+}
+
+impl Model for Journal {
+    ghost use Rattle.std.specs.Prelude.{reverse};
+    ghost use Rattle.mb_journal.specs.Kept as kept;
+    ghost use Rattle.mb_journal.specs.Log.{Log};
+
+    ghost Value = { Log };
+
+    ghost use Rattle.mb_journal.specs.Kept.{listed, IsKept};
+
+    ghost view = { λ j. record { entries = reverse (listed 0 j.rows.items j.effects.items); limit = j.limit; is_ready = j.ready } };
+
+    ghost invariant = { IsKept };
+}
+
+impl Journal {
+    /// An empty journal that may have so many entries. It takes no memory yet.
+    pub fn new(alloc: Global, limit: u32) -> Self
+        ensures { result ≡ record { entries = []; limit = limit; is_ready = false } }
+    {
+        Journal {
+            rows: Vec::new(alloc),
+            effects: Vec::new(alloc),
+            limit,
+            ready: false,
+        }
+    }
+
+    /// How many entries it has.
+    pub fn len(&self) -> usize
+        ensures value { result ≡ length self.now.entries }
+        ensures within { result ≤ self.now.limit }
+    {
+        self.rows.len()
+    }
+
+    /// Whether it has no entry.
+    pub fn is_empty(&self) -> bool
+        ensures { IsTrue result ↔ (self.now.entries ≡ []) }
+    {
+        self.rows.is_empty()
+    }
+
+    /// Whether it has as many entries as it may have.
+    pub fn is_full(&self) -> bool
+        ensures { IsTrue result ↔ (self.now.limit ≤ length self.now.entries) }
+    {
+        self.len() >= self.limit as usize
+    }
+
+    /// Makes room for another entry and its effects, if it is not there.
+    ///
+    /// It answers `JournalFull` if the journal has as many entries as it may have, and else `NoMemory` if the memory for
+    /// the room was refused. Nothing has changed then.
+    pub fn ready(&mut self) -> Result<(), JournalError>
+        ensures full { IsErrOf result JournalError.JournalFull ↔ (self.old.limit ≤ length self.old.entries) }
+        ensures ok { OnOk result (self.new ≡ record self.old { is_ready = true }) }
+        ensures err { OnErr result (self.new ≡ self.old) }
+        ensures again { IsTrue self.old.is_ready → IsOk result }
+    {
+        if self.is_full() {
+            return Err(JournalError::JournalFull);
+        }
+        if self.rows.reserve(1).is_err() {
+            return Err(JournalError::NoMemory);
+        }
+        if self.effects.reserve(EFFECTS).is_err() {
+            return Err(JournalError::NoMemory);
+        }
+        self.ready = true;
+        Ok(())
+    }
+
+    /// Adds an envelope that was handled, with the status word that was read before it, what the actor answered, if it
+    /// was called, and the effects that it asked for.
+    pub fn push_handled(
+        &mut self,
+        envelope: Envelope,
+        reading: u64,
+        answer: Option<Answer>,
+        effects: &[Effect],
+    )
+        requires ready { IsTrue self.old.is_ready }
+        requires few { length effects.now ≤ EFFECTS }
+        ensures added { self.new ≡ record self.old { entries = Handled envelope reading (Applied answer effects.now) ∷ self.old.entries; is_ready = false } }
+        ensures within { length self.new.entries ≤ self.new.limit }
+    {
+        let Envelope {
+            by,
+            number,
+            to,
+            body,
+        } = envelope;
+        self.push(
+            Kept::Handled {
+                by,
+                to,
+                answer,
+                number,
+                body,
+                reading,
+            },
+            effects,
+        );
+    }
+
+    /// Adds a system message that was applied, with its number, what the actor answered, if it was called, and the
+    /// effects that it asked for.
+    pub fn push_system(
+        &mut self,
+        number: u64,
+        message: SysMsg,
+        answer: Option<Answer>,
+        effects: &[Effect],
+    )
+        requires ready { IsTrue self.old.is_ready }
+        requires few { length effects.now ≤ EFFECTS }
+        ensures added { self.new ≡ record self.old { entries = System number message (Applied answer effects.now) ∷ self.old.entries; is_ready = false } }
+        ensures within { length self.new.entries ≤ self.new.limit }
+    {
+        self.push(
+            Kept::System {
+                answer,
+                number,
+                message,
+            },
+            effects,
+        );
+    }
+
+    /// Adds a system message that was set aside, with its number.
+    pub fn push_set_aside(&mut self, number: u64, message: SysMsg)
+        requires ready { IsTrue self.old.is_ready }
+        ensures added { self.new ≡ record self.old { entries = System number message SetAside ∷ self.old.entries; is_ready = false } }
+        ensures within { length self.new.entries ≤ self.new.limit }
+    {
+        self.push(Kept::SetAside { number, message }, &[]);
+    }
+
+    /// Adds an envelope that was dropped.
+    pub fn push_dropped(&mut self, envelope: Envelope)
+        requires ready { IsTrue self.old.is_ready }
+        ensures added { self.new ≡ record self.old { entries = Dropped envelope ∷ self.old.entries; is_ready = false } }
+        ensures within { length self.new.entries ≤ self.new.limit }
+    {
+        let Envelope {
+            by,
+            number,
+            to,
+            body,
+        } = envelope;
+        self.push(
+            Kept::Dropped {
+                by,
+                to,
+                number,
+                body,
+            },
+            &[],
+        );
+    }
+
+    /// Adds an entry and its effects where there is room.
+    fn push(&mut self, kept: Kept, effects: &[Effect])
+        requires ready { IsTrue self.old.is_ready }
+        requires few { length effects.now ≤ EFFECTS }
+        ensures added { self.new ≡ record self.old { entries = entry_with (event_of kept) effects.now ∷ self.old.entries; is_ready = false } }
+        ensures within { length self.new.entries ≤ self.new.limit }
+    {
+        self.ready = false;
+        self.effects.extend_from_slice(effects).unwrap();
+        let end = self.effects.len();
+        self.rows.push(Row { kept, end }).unwrap();
+    }
+
+    /// The entry of this place, the first entry's being 0.
+    pub fn get(&self, index: usize) -> Record<'_>
+        requires { index < length self.now.entries }
+        ensures { slice_get (reverse self.now.entries) index ≡ Some (entry_of result) }
+    {
+        let from = start_of(&self.rows, index);
+        let row = self.rows[index];
+        Record {
+            event: row.event(),
+            effects: part(&self.effects, from, row.end),
+        }
+    }
+}
+
+/// Where the effects of the row of this place begin.
+fn start_of(rows: &[Row], index: usize) -> usize
+    requires { index < length rows.now }
+    ensures { result ≡ kept.start_of 0 rows.now index }
+{
+    if index == 0 { 0 } else { rows[index - 1].end }
+}
+
+/// The effects from one place up to another.
+fn part(effects: &[Effect], from: usize, to: usize) -> &[Effect]
+    requires ordered { from ≤ to }
+    requires within { to ≤ length effects.now }
+    ensures { result.now ≡ slice_range effects.now from to }
+{
+    &effects[from..to]
+}

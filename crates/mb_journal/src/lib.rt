@@ -1,0 +1,18 @@
+//! What came to an actor and what became of it, as a list that grows by one entry at a time: the journal.
+//!
+//! Everything else that is said of an actor is a query of its journal, and the queries stand in `specs/`.
+#![tactic(auto)]
+
+mod entry;
+mod error;
+mod journal;
+mod row;
+mod strategy;
+
+pub use entry::{Event, Record};
+pub use error::JournalError;
+pub use journal::Journal;
+pub use strategy::{Pattern, Strategy};
+
+#[cfg(test)]
+mod tests;
