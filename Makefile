@@ -4,7 +4,7 @@ PREFIX ?= /usr/local
 PROGRAM := crates/mailrun/out/mailrun
 SOURCES := crates.txt HANDLES $(shell find crates -path '*/out' -prune -o \( -name '*.rt' -o -name '*.antt' \) -print)
 
-.PHONY: run test check install
+.PHONY: run test check bench install
 .DEFAULT_GOAL := run
 
 # Runs a scenario and prints its report: make run [SCENARIO=path]
@@ -18,6 +18,10 @@ test:
 # Proves what changed since the last check, lowest crate first.
 check:
 	rt all check
+
+# What a handled message costs: a million messages through a cell and its journal.
+bench:
+	cd crates/bench && rt run
 
 # Installs the one binary: make install [PREFIX=path]
 install: $(PROGRAM)

@@ -1,0 +1,57 @@
+//! The actor that is measured.
+
+ghost use Rattle.std.specs.Prelude.{◌≡◌, pos};
+
+use mb_actor::{Actor, Answer, Message, Outbox};
+use mb_msg::Cause;
+
+/// Adds up the values that it gets, held at the ends of 64 bits.
+#[derive(Drop)]
+pub struct Adder {
+    sum: i64,
+}
+
+impl Adder {
+    /// An actor that got nothing yet.
+    pub fn new() -> Self
+        ensures { result.sum ≡ pos 0 }
+    {
+        Adder { sum: 0 }
+    }
+}
+
+impl Actor for Adder {
+    ghost use Rattle.bench.specs.Sum.{sum_of};
+
+    ghost after = { λ _. sum_of };
+
+    ghost content = { λ adder. adder.sum };
+
+    ghost gives = { λ _ _ _. Unit {0} };
+
+    fn start(&mut self, _out: &mut Outbox) -> Answer {
+        self.sum = 0;
+        Answer::Handled
+    }
+
+    fn receive(&mut self, message: &Message, _out: &mut Outbox) -> Answer {
+        match *message {
+            Message::User { value, .. } => {
+                self.sum = self.sum.saturating_add(value);
+                Answer::Handled
+            }
+            Message::Terminated(_) => Answer::Unhandled,
+        }
+    }
+
+    fn restart(&mut self, _cause: Cause, _out: &mut Outbox) -> Answer {
+        self.sum = 0;
+        Answer::Handled
+    }
+
+    fn stop(&mut self, _out: &mut Outbox) {}
+
+    fn state(&self) -> i64 {
+        self.sum
+    }
+}

@@ -1,0 +1,125 @@
+//! The run that is measured.
+
+ghost use Rattle.std.specs.Prelude.{◌≡◌, ◌+◌, [], ◌++◌, length, false, pos, IfOk};
+ghost use Rattle.mb_actor.specs.Behaviour.{AllowsSame};
+ghost use Rattle.mb_journal.specs.Identity.{is_guardian};
+ghost use Rattle.mb_journal.specs.Incarnation.{messages};
+ghost use Rattle.bench.specs.Idle.{IsIdle};
+ghost use Rattle.bench.specs.Sum.{sends};
+
+use crate::memory::Memory;
+use mb_actor::{Actor, Behaviours};
+use mb_cell::{Cell, CellFault};
+use mb_msg::{ActorId, Body, Envelope, SenderId, SysMsg, limits};
+use mb_status::Status;
+use std::alloc::AllocGlobal;
+use std::rt::Files;
+use std::time::{Clock, Duration, Instant};
+
+/// The number of the actor.
+const ACTOR: ActorId = ActorId(1);
+
+/// The number of the sender.
+const SENDER: SenderId = SenderId(limits::ACTORS);
+
+/// The status word of a mailbox that is open and scheduled.
+const OPEN: u64 = 2;
+
+/// What a run came to, and what it took. A figure is `None` where the system does not give it.
+#[derive(Clone, Copy)]
+pub struct Measured {
+    /// How many messages the journal has as handled.
+    pub handled: usize,
+    /// The actor's content after them.
+    pub state: i64,
+    /// The time that handling all of them took.
+    pub time: Option<Duration>,
+    /// By how much the memory grew meanwhile.
+    pub memory: Option<Memory>,
+}
+
+/// Starts the actor, gives it so many messages, and measures how these are handled.
+///
+/// The faults are `NoMemory`, and `JournalFull` where the messages and the start are more than 2^32 - 1 entries.
+pub fn measure<R: Clock + Files + AllocGlobal, A: Actor, K: Behaviours>(
+    rt: &R,
+    actor: A,
+    count: u32,
+) -> Result<Measured, CellFault>
+    requires unused { A.content actor ≡ A.after actor [] }
+    requires behaves { A.after actor ≡ K.after 1 }
+    requires allows { AllowsSame (A.gives actor) (K.gives 1) }
+    ensures handled { IfOk result (λ measured. measured.handled ≡ count) }
+    ensures state { IfOk result (λ measured. measured.state ≡ K.after 1 (sends count)) }
+{
+    let mut cell = Cell::<A, K>::new(rt.alloc(), ACTOR, actor, u32::MAX);
+    start(&mut cell)?;
+    let entries = cell.journal().len();
+    let memory_before = Memory::read(rt);
+    let begin = Instant::now(rt);
+    handle_all(&mut cell, count)?;
+    let time = match begin {
+        Ok(begin) => begin.elapsed(rt).ok(),
+        Err(_) => None,
+    };
+    let memory = match (memory_before, Memory::read(rt)) {
+        (Some(before), Some(after)) => Some(after.since(before)),
+        _ => None,
+    };
+    Ok(Measured {
+        handled: cell.journal().len() - entries,
+        state: cell.state(),
+        time,
+        memory,
+    })
+}
+
+/// Starts the actor of a cell to which nothing came yet.
+fn start<A: Actor, K: Behaviours>(cell: &mut Cell<A, K>) -> Result<(), CellFault>
+    requires an_actor { is_guardian cell.old.who ≡ false }
+    requires nothing { cell.old.journal ≡ [] }
+    requires no_acts { cell.old.acts ≡ [] }
+    ensures same_who { cell.new.who ≡ cell.old.who }
+    ensures idle { IfOk result (λ _. IsIdle cell.new) }
+    ensures no_message { IfOk result (λ _. messages cell.new.who cell.new.journal ≡ []) }
+{
+    cell.ready()?;
+    cell.apply_system(0, SysMsg::Create);
+    take_acts(cell);
+    Ok(())
+}
+
+/// The loop that is measured: so many messages, each with room made for it, handled, and its acts taken.
+fn handle_all<A: Actor, K: Behaviours>(cell: &mut Cell<A, K>, count: u32) -> Result<(), CellFault>
+    requires idle { IsIdle cell.old }
+    ensures same_who { cell.new.who ≡ cell.old.who }
+    ensures entries { IfOk result (λ _. length cell.new.journal ≡ length cell.old.journal + count) }
+    ensures heard { IfOk result (λ _. messages cell.new.who cell.new.journal ≡ messages cell.old.who cell.old.journal ++ sends count) }
+{
+    let reading = Status::of(OPEN).unwrap();
+    for number in 0..count {
+        cell.ready()?;
+        cell.apply_envelope(reading, envelope(number));
+        take_acts(cell);
+    }
+    Ok(())
+}
+
+/// Takes the acts that the cell asks for.
+fn take_acts<A: Actor, K: Behaviours>(cell: &mut Cell<A, K>)
+    ensures { cell.new ≡ record cell.old { acts = [] } }
+{
+    while cell.next_act().is_some() {}
+}
+
+/// The envelope of this number.
+fn envelope(number: u32) -> Envelope
+    ensures { result ≡ record { by = record { 0 = 64 }; number = number; to = record { 0 = 1 }; body = Body.User 1 (pos 7) } }
+{
+    Envelope {
+        by: SENDER,
+        number: u64::from(number),
+        to: ACTOR,
+        body: Body::User { kind: 1, value: 7 },
+    }
+}
