@@ -136,6 +136,7 @@ handled_step w ready cell envelope envelopes rest is_ready open_ some handles =
         same_who = after.same_who;
         envelopes = ap (λ l. l ++ envelopes) tells ∙ append_assoc (envelopes_of w.cell.journal) (envelope ∷ []) envelopes
             ∙ sym (ap (λ l. envelopes_of w.cell.journal ++ l) some);
+        in_all = let longer = ap length after.entry in let fewer = ap (λ (l : List Envelope). length l) some in omega (arith, longer, fewer);
       };
       turn = λ from n turns. turn-more from n there cell envelope (word_of w.status) from_there runs.none_aside turns;
     }

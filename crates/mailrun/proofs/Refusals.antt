@@ -4,7 +4,7 @@ use Rattle.mb_scenario.specs.Scenario.{ScenarioData}
 use Rattle.mb_scenario.specs.Reading.{IsReadAs, Refuses}
 use Rattle.mb_scenario.specs.Fault.{status_of}
 use Rattle.mb_scenario.specs.declared.fault.Fault.{Fault}
-use Rattle.mb_scenario.specs.declared.fault.Fault.TheVariants.{NoMemory, Os, JournalFull, NotToml, BadScenario}
+use Rattle.mb_scenario.specs.declared.fault.Fault.TheVariants.{NoMemory, Os, NotToml, BadScenario}
 use Rattle.mb_scenario.specs.declared.fault.Place.TheVariants.{Input, Arguments, Top}
 use Rattle.mb_scenario.specs.declared.fault.Reason.TheVariants.{TooMany, NotYet}
 use Rattle.mailrun.specs.Answer.{IsReport, IsRefused}
@@ -13,7 +13,6 @@ pub read_not_refused : (text : List ℕ) (scenario : ScenarioData) (fault : Faul
     IsReadAs text scenario → Refuses text fault → status_of fault ≡ 2 → ⊥
 read_not_refused text scenario NoMemory read refused status = cc
 read_not_refused text scenario Os read refused status = refused
-read_not_refused text scenario JournalFull read refused status = refused
 read_not_refused text scenario NotToml read refused status = let none = refused.1 read.1.utf8 in let some = read.1.parsed in cc
 read_not_refused text scenario (BadScenario Input TooMany) read refused status = let short = read.1.short in omega arith
 read_not_refused text scenario (BadScenario Input NotYet) read refused status = refused

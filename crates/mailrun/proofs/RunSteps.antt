@@ -1,5 +1,5 @@
 -- Runs of a mailbox, put together from their steps.
-use Rattle.std.proofs.Common.{◌≡◌, ℕ, suc, ◌+◌, ◌<◌, ◌≤◌, List, [], length, None, refl, sym, subst, ◌∙◌}
+use Rattle.std.proofs.Common.{◌≡◌, ℕ, suc, ◌+◌, ◌<◌, ◌≤◌, List, [], length, None, refl, sym, ap, arith, subst, ◌∙◌}
 use Rattle.mb_journal.specs.Aside.{next_front}
 use Rattle.mb_journal.specs.Entry.{Entry}
 use Rattle.mb_journal.specs.Identity.{Identity}
@@ -9,11 +9,11 @@ use Rattle.mb_journal.proofs.LawfulLemmas.{next_front-none}
 use Rattle.mailrun.proofs.EnvelopeStep.{turns_after}
 use Rattle.mailrun.proofs.SystemStep.{none_aside}
 use Rattle.mailrun.specs.Post.{World}
-use Rattle.mailrun.specs.Rest.{IsAtRest, IsKept, IsRunOf, IsWholeRun, IsEnd}
+use Rattle.mailrun.specs.Rest.{IsAtRest, IsKept, IsRunOf, IsWholeRun, IsEnd, messages_in_all}
 
 -- what is kept twice is kept
 pub kept_after : (first middle last : World) → IsKept first middle → IsKept middle last → IsKept first last
-kept_after first middle last a b = record { same_who = b.same_who ∙ a.same_who; envelopes = b.envelopes ∙ a.envelopes }
+kept_after first middle last a b = record { same_who = b.same_who ∙ a.same_who; envelopes = b.envelopes ∙ a.envelopes; in_all = b.in_all ∙ a.in_all }
 
 -- nothing is put in front while at rest
 pub rest_no_front : (who : Identity) (w : World) → w.cell.who ≡ who → IsAtRest w → next_front who w.cell.journal ≡ None
@@ -52,3 +52,11 @@ turn_more first old middle new n to_old to_middle turn block turns =
     subst (λ (who : Identity). IsTurns who journal (suc n) middle.cell.journal) to_old.same_who (turn journal n there) in
     turns_after first.cell.who journal (suc n) middle.cell.journal new.cell.journal one
     (subst (λ (who : Identity). IsBlock who middle.cell.journal new.cell.journal) to_middle.same_who block)
+
+-- a journal that is full has an entry for each message that ever came
+pub full_needs : (old new : World) (limit sends : ℕ) → IsKept old new → old.cell.who.limit ≡ limit → messages_in_all old ≡ sends + 1 →
+    new.cell.who.limit ≤ length new.cell.journal → limit ≤ sends + 1
+full_needs old new limit sends kept who in_all full =
+    let same = ap (λ (w : Identity). w.limit) kept.same_who in
+    let as_many = kept.in_all in
+    omega (arith, same, as_many)

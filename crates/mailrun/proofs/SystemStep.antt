@@ -76,7 +76,7 @@ first_step gives w cell systems rest some applied lawful nothing =
         users = rest.users;
         heard = after.no_message ∙ sym (ap messages_in (told ∙ ap envelopes_of nothing));
       };
-      kept = record { same_who = after.same_who; envelopes = ap (λ l. l ++ w.envelopes) told };
+      kept = record { same_who = after.same_who; envelopes = ap (λ l. l ++ w.envelopes) told; in_all = let longer = ap length after.entry in omega (arith, longer, many) };
       block = λ from so_far. block-more from w.cell cell w.next Create applied (none_aside w rest.standing) so_far;
     }
 
@@ -105,7 +105,7 @@ next_step gives w cell systems rest some applied lawful live unsuspended aside =
         users = rest.users;
         heard = after.same_messages ∙ rest.heard ∙ sym (ap messages_in told);
       };
-      kept = record { same_who = after.same_who; envelopes = ap (λ l. l ++ w.envelopes) told };
+      kept = record { same_who = after.same_who; envelopes = ap (λ l. l ++ w.envelopes) told; in_all = let longer = ap length entry in omega (arith, longer, many) };
       block = λ from so_far. block-more from w.cell cell w.next Create applied aside so_far;
     }
 

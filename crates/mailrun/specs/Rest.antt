@@ -33,10 +33,15 @@ pub record IsAtRest (w : World) : Type 0 where
   pub users : AllByRecursion (λ (e : Envelope). IsUser e.body) w.envelopes
   pub heard : messages w.cell.who w.cell.journal ≡ messages_in (envelopes_of w.cell.journal)
 
+-- how many messages there are in all: those that have an entry, and those that wait
+abbrev pub messages_in_all : World → ℕ
+messages_in_all w = length w.cell.journal + (length w.systems + length w.envelopes)
+
 -- nothing is lost or made: what the journal tells of and what waits is together what it was
 pub record IsKept (old new : World) : Type 0 where
   pub same_who : new.cell.who ≡ old.cell.who
   pub envelopes : envelopes_of new.cell.journal ++ new.envelopes ≡ envelopes_of old.cell.journal ++ old.envelopes
+  pub in_all : messages_in_all new ≡ messages_in_all old
 
 -- what the reason says beyond the journal: no envelope was left, and there was room for each message that came up
 abbrev pub IsEnd : Stopped → World → Type 0

@@ -1,6 +1,5 @@
 ghost use Rattle.std.specs.Prelude.{◌≡◌, [], ◌∷◌, IfOk, IfErr, string_bytes};
 ghost use Rattle.mb_scenario.specs.Outcome.{report_of, guardian_line};
-ghost use Rattle.mb_scenario.specs.Fault.{status_of};
 ghost use Rattle.mb_scenario.specs.Reading.{IsReadAs, Refuses};
 ghost use Rattle.mb_scenario.specs.Report.{line_data, text_of as report_of_lines};
 ghost use Rattle.mb_scenario.specs.Scenario.{ScenarioData};
@@ -13,11 +12,11 @@ use mb_scenario::{Fault, Report, ReportLine, Scenario, Script, ScriptedActor, re
 use std::alloc::{AllocError, Global};
 use std::marker::Brand;
 
-/// The report of a scenario's text. Its faults are those of reading the text, and `NoMemory` and `JournalFull` of the run.
+/// The report of a scenario's text. Its faults are those of reading the text, and `NoMemory`.
 pub fn answer(alloc: Global, text: &[u8]) -> Result<String, Fault>
     ensures report { IfOk result (λ report. (scenario : ScenarioData) × IsReadAs text.now scenario
         × (string_bytes report ≡ report_of scenario)) }
-    ensures refused { IfErr result (λ fault. status_of fault ≡ 2 → Refuses text.now fault) }
+    ensures refused { IfErr result (Refuses text.now) }
 {
     let scenario = read(alloc, text)?;
     let Scenario { actor, sends } = scenario;
@@ -28,7 +27,8 @@ pub fn answer(alloc: Global, text: &[u8]) -> Result<String, Fault>
     } = actor;
     let outcome = match run::<Script, Brand>(alloc, Script::new(initial, rows), &sends) {
         Ok(outcome) => outcome,
-        Err(CellFault::JournalFull) => return Err(Fault::JournalFull),
+        // The journal has room for more entries than a scenario has sends.
+        Err(CellFault::JournalFull) => unreachable!(),
         Err(CellFault::NoMemory) => return Err(Fault::NoMemory),
     };
     Ok(text_of(alloc, name, &outcome)?)

@@ -1,4 +1,4 @@
-ghost use Rattle.std.specs.Prelude.{◌≡◌, ◌+◌, [], ◌∷◌, length, count_by, IfOk, IfErr};
+ghost use Rattle.std.specs.Prelude.{◌≡◌, ◌+◌, ◌≤◌, [], ◌∷◌, length, IfOk};
 ghost use Rattle.mb_actor.specs.Behaviour.{AllowsSame};
 ghost use Rattle.mb_msg.specs.declared.system.SysMsg.TheVariants.{Create};
 ghost use Rattle.mb_journal.specs.Log.{entry_of};
@@ -60,7 +60,8 @@ pub struct Running<A: Actor, K: Behaviours> {
 
 /// Starts an actor and gives it these sends in order, one run of its mailbox after another, until nothing waits.
 ///
-/// The faults are `NoMemory`, and `JournalFull` once the journal has as many entries as it may have.
+/// The faults are `NoMemory`, and `JournalFull` once the journal has as many entries as it may have: the sends and the
+/// start are then 2^32 - 1 at least.
 pub fn run<A: Actor, K: Behaviours>(
     alloc: Global,
     actor: A,
@@ -69,7 +70,8 @@ pub fn run<A: Actor, K: Behaviours>(
     requires unused { A.content actor ≡ A.after actor [] }
     requires behaves { A.after actor ≡ K.after 1 }
     requires allows { AllowsSame (A.gives actor) (K.gives 1) }
-    ensures { IfOk result (IsTold (K.after 1) (K.gives 1) sends.now) }
+    ensures told { IfOk result (IsTold (K.after 1) (K.gives 1) sends.now) }
+    ensures full { result ≡ Err CellFault.JournalFull → 4294967295 ≤ length sends.now + 1 }
 {
     let Running {
         mut cell,
@@ -104,6 +106,7 @@ pub fn begin<A: Actor, K: Behaviours>(
     ensures rest { IfOk result (λ begun. IsAtRest (world begun.cell begun.status begun.post)) }
     ensures who { IfOk result (λ begun. begun.cell.who ≡ the_actor journal_limit) }
     ensures nothing { IfOk result (λ begun. begun.cell.journal ≡ []) }
+    ensures create { IfOk result (λ begun. begun.post.systems.items ≡ Create ∷ []) }
     ensures sent { IfOk result (λ begun. begun.post.envelopes.items ≡ sent 0 sends.now) }
 {
     let post = post_of(alloc, sends)?;
@@ -160,10 +163,10 @@ fn handled_in(journal: &Journal) -> usize
 }
 
 /// Whether what a journal has is an envelope, handled or dropped.
-fn tells_of_envelope(record: &Record<'_>) -> bool
-    ensures { result ≡ is_of_envelope (entry_of record.now) }
+fn tells_of_envelope(entry: &Record<'_>) -> bool
+    ensures { result ≡ is_of_envelope (entry_of entry.now) }
 {
-    match record.event {
+    match entry.event {
         Event::Handled { .. } | Event::Dropped { .. } => true,
         Event::System { .. } | Event::SetAside { .. } => false,
     }

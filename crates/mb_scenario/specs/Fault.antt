@@ -1,7 +1,7 @@
 -- The words and numbers of the faults (this project's own profile: Akka has no such program).
 use Rattle.std.specs.Prelude.{ℕ, List, ◌++◌, codes}
 use Rattle.mb_scenario.specs.declared.fault.Fault.{Fault}
-use Rattle.mb_scenario.specs.declared.fault.Fault.TheVariants.{NoMemory, Os, JournalFull, NotToml, BadScenario}
+use Rattle.mb_scenario.specs.declared.fault.Fault.TheVariants.{NoMemory, Os, NotToml, BadScenario}
 use Rattle.mb_scenario.specs.declared.fault.Place.{Place}
 use Rattle.mb_scenario.specs.declared.fault.Place.TheVariants.{Input, Arguments, Top}
 use Rattle.mb_scenario.specs.declared.fault.Reason.{Reason}
@@ -22,7 +22,6 @@ reason_text NotYet = codes "not yet"
 abbrev pub fault_text : Fault → List ℕ
 fault_text NoMemory = codes "1 NoMemory"
 fault_text Os = codes "2 Os"
-fault_text JournalFull = codes "6 JournalFull"
 fault_text NotToml = codes "11 NotToml"
 fault_text (BadScenario place reason) = codes "12 BadScenario " ++ place_text place ++ codes ": " ++ reason_text reason
 
@@ -30,7 +29,6 @@ fault_text (BadScenario place reason) = codes "12 BadScenario " ++ place_text pl
 abbrev pub status_of : Fault → ℕ
 status_of NoMemory = 1
 status_of Os = 1
-status_of JournalFull = 1
 status_of NotToml = 2
 status_of (BadScenario place reason) = 2
 

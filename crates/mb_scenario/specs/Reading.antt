@@ -5,7 +5,7 @@ use Rattle.toml.specs.Parse.{parse_document}
 use Rattle.mb_scenario.specs.Scenario.{RowData, ActorData, ScenarioData, scenario_of}
 use Rattle.mb_scenario.specs.declared.limits.TheConstants.{SCENARIO_BYTES}
 use Rattle.mb_scenario.specs.declared.fault.Fault.{Fault}
-use Rattle.mb_scenario.specs.declared.fault.Fault.TheVariants.{NoMemory, Os, JournalFull, NotToml, BadScenario}
+use Rattle.mb_scenario.specs.declared.fault.Fault.TheVariants.{NoMemory, Os, NotToml, BadScenario}
 use Rattle.mb_scenario.specs.declared.fault.Place.TheVariants.{Input, Arguments, Top}
 use Rattle.mb_scenario.specs.declared.fault.Reason.TheVariants.{TooMany, NotYet}
 use Rattle.mb_scenario.specs.declared.scenario.Row.{Row}
@@ -28,7 +28,6 @@ data_of scenario = record { actor = actor_data scenario.actor; sends = scenario.
 abbrev pub Misses : {Y : Type 0} → Fault → Option Y → Type 0
 Misses NoMemory read = Unit {0}
 Misses Os read = ⊥
-Misses JournalFull read = ⊥
 Misses NotToml read = ⊥
 Misses (BadScenario Input reason) read = ⊥
 Misses (BadScenario Arguments reason) read = ⊥
@@ -58,7 +57,6 @@ Refuses text (BadScenario Input TooMany) = SCENARIO_BYTES < length text
 Refuses text (BadScenario Top NotYet) = (document : Members) × IsText text document × (scenario_of document ≡ None)
 -- no other fault comes
 Refuses text Os = ⊥
-Refuses text JournalFull = ⊥
 Refuses text (BadScenario Input NotYet) = ⊥
 Refuses text (BadScenario Arguments reason) = ⊥
 Refuses text (BadScenario Top TooMany) = ⊥

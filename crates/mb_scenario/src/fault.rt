@@ -34,8 +34,6 @@ pub enum Fault {
     NoMemory,
     /// The system failed at reading the input or at writing the output.
     Os,
-    /// A journal has as many entries as it may have.
-    JournalFull,
     /// The input is not UTF-8, or not a TOML document.
     NotToml,
     /// The input is no scenario that can be run.
@@ -48,7 +46,7 @@ impl Fault {
         ensures { result ≡ status_of self.now }
     {
         match self {
-            Fault::NoMemory | Fault::Os | Fault::JournalFull => 1,
+            Fault::NoMemory | Fault::Os => 1,
             Fault::NotToml | Fault::BadScenario { .. } => 2,
         }
     }
@@ -84,7 +82,6 @@ impl fmt::Display for Fault {
         match self {
             Fault::NoMemory => f.write_str("1 NoMemory"),
             Fault::Os => f.write_str("2 Os"),
-            Fault::JournalFull => f.write_str("6 JournalFull"),
             Fault::NotToml => f.write_str("11 NotToml"),
             Fault::BadScenario { place, reason } => {
                 write!(f, "12 BadScenario {place}: {reason}")

@@ -1,5 +1,6 @@
-use Rattle.std.proofs.Common.{◌≡◌, ◌++◌, [], List, length, sym, ap, subst, ◌∙◌, append-nil, arith, rules, to_z, of_z, w64}
+use Rattle.std.proofs.Common.{Err, ◌≡◌, ◌++◌, [], List, length, sym, ap, subst, ◌∙◌, append-nil, arith, rules, to_z, of_z, w64}
 use Rattle.std.proofs.lemmas.Grind.{common_steps}
+use Rattle.mb_msg.specs.declared.system.SysMsg.{SysMsg}
 use Rattle.mb_msg.specs.declared.envelope.Envelope.{Envelope}
 use Rattle.mb_journal.specs.Identity.{Identity}
 use Rattle.mb_journal.specs.Incarnation.{messages}
@@ -8,13 +9,17 @@ use Rattle.mb_journal.specs.Life.{phase}
 use Rattle.mb_journal.specs.Suspension.{count}
 use Rattle.mb_journal.specs.Log.{Log}
 use Rattle.mb_cell.specs.Recorded.{recorded}
+use Rattle.mb_cell.specs.declared.fault.CellFault.{CellFault}
+use Rattle.mb_cell.specs.declared.fault.CellFault.TheVariants.{JournalFull}
 use Rattle.mailrun.specs.Fates.{envelopes_of, messages_in}
 use Rattle.mailrun.specs.Post.{world}
 use Rattle.mailrun.specs.Sent.{sent}
 use Rattle.mailrun.proofs.EnvelopeStep.{is_running, rest_open}
 use Rattle.mb_journal.specs.Entry.{Entry}
 use Rattle.mailrun.proofs.Starts.{no_envelopes}
-use Rattle.mailrun.proofs.SentLemmas.{messages_in-sent}
+use Rattle.mailrun.proofs.SentLemmas.{messages_in-sent, length-sent}
+use Rattle.std.proofs.lemmas.Result.{err_from_is_err_and}
+use Rattle.mailrun.proofs.RunSteps.{full_needs}
 use Rattle.mailrun.proofs.run.run.Goals as goal
 
 pub loop-status-init : goal.loop-status-init
@@ -27,10 +32,16 @@ loop-status-init g c =
       kept = whole.run_of.kept.envelopes
           ∙ ap (λ (j : List Entry). envelopes_of j ++ c.in-Ok.running.post.envelopes.items) c.in-Ok.ensures.nothing
           ∙ ap (λ l. l ++ c.in-Ok.running.post.envelopes.items) no_envelopes ∙ c.in-Ok.ensures.sent;
+      in_all =
+          let begun = ap (λ (j : List Entry). length j) c.in-Ok.ensures.nothing in
+          let one = ap (λ (l : List SysMsg). length l) c.in-Ok.ensures.create in
+          let sends = ap (λ (l : List Envelope). length l) c.in-Ok.ensures.sent ∙ length-sent 0 c.args.sends.now in
+          let kept = whole.run_of.kept.in_all in
+          omega (arith, begun, one, sends, kept);
     }
 
-pub returns : goal.returns
-returns g c =
+pub returns-clause-told : goal.returns-clause-told
+returns-clause-told g c =
     let cell = c.loop-status.cell in
     let who = c.loop-status.invariant.who in
     let none : c.loop-status.post.envelopes.items ≡ [] = grind (arith, common_steps) in
@@ -51,3 +62,19 @@ returns g c =
       live = c.phase.ensures ∙ running.live;
       unsuspended = c.count.ensures ∙ running.unsuspended;
     }
+
+pub returns-in_err-run_mailbox-clause-full : goal.returns-in_err-run_mailbox-clause-full
+returns-in_err-run_mailbox-clause-full g c = λ is_full.
+    let p = err_from_is_err_and c.from_residual.result c.from_residual.ensures.1 in
+    let fault : c.in_err-run_mailbox.field-0.0 ≡ JournalFull = let from : p.0 ≡ c.in_err-run_mailbox.field-0.0 = p.2 in
+    let same : c.from_residual.result ≡ Err p.0 = p.1 in
+    let given : c.from_residual.result ≡ Err JournalFull = is_full in
+    cc (from, same, given) in
+    let full = c.in_err-run_mailbox.ensures.full (ap (λ (e : CellFault). Err e) fault) in
+    let old = world c.in-Ok.running.cell c.in-Ok.running.status c.in-Ok.running.post in
+    let begun = ap (λ (j : List Entry). length j) c.in-Ok.ensures.nothing in
+    let one = ap (λ (l : List SysMsg). length l) c.in-Ok.ensures.create in
+    let sends = ap (λ (l : List Envelope). length l) c.in-Ok.ensures.sent ∙ length-sent 0 c.args.sends.now in
+    let limit = ap (λ (w : Identity). w.limit) c.in-Ok.ensures.who in
+    full_needs old (world c.run_mailbox.new.cell c.run_mailbox.new.status c.run_mailbox.new.post) 4294967295 (length c.args.sends.now)
+    c.in_err-run_mailbox.ensures.stopped.kept limit (omega (arith, begun, one, sends)) full

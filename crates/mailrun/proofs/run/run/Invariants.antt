@@ -1,7 +1,7 @@
-use Rattle.std.proofs.Common.{◌≡◌, ◌++◌, [], length}
+use Rattle.std.proofs.Common.{◌≡◌, ◌+◌, ◌++◌, [], length}
 use Rattle.mailrun.specs.Fates.{envelopes_of}
 use Rattle.mailrun.specs.Post.{world}
-use Rattle.mailrun.specs.Rest.{IsAtRest}
+use Rattle.mailrun.specs.Rest.{IsAtRest, messages_in_all}
 use Rattle.mailrun.specs.Sent.{sent}
 use Rattle.mailrun.specs.Told.{scripted}
 use Rattle.mailrun.proofs.run.run.Given as goal
@@ -12,6 +12,7 @@ invariant-loop-status g l = record {
   who : l.cell.who ≡ scripted;
   no_systems : l.post.systems.items ≡ [];
   kept : envelopes_of l.cell.journal ++ l.post.envelopes.items ≡ sent 0 l.sends;
+  in_all : messages_in_all (world l.cell l.status l.post) ≡ length l.sends + 1;
 }
 
 abbrev pub decreases-loop-status : goal.decreases-loop-status
