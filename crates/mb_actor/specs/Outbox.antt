@@ -1,9 +1,10 @@
 -- How an outbox keeps which children may still be spawned.
 use Rattle.std.specs.Prelude.{◌≡◌, ◌≤◌, true, length}
 use Rattle.mb_msg.specs.declared.id.ActorId.{ActorId}
+use Rattle.mb_msg.specs.Limits.{most_effects}
 use Rattle.mb_actor.specs.ActorList.{has}
 use Rattle.mb_actor.specs.ActorSet.{contains}
-use Rattle.mb_actor.specs.Tray.{spawns_of, most_effects}
+use Rattle.mb_actor.specs.Tray.{spawns_of}
 use Rattle.mb_actor.specs.declared.outbox.Outbox.TheInside.{Inside}
 
 -- the children that may be spawned are prepared ones, the set of those that were asked for is that of the spawns among the
