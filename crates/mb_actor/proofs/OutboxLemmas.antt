@@ -81,7 +81,7 @@ filter_own p (x ∷ list) h =
 pub same_tray : (a b : Tray) → a.effects ≡ b.effects → a.actors ≡ b.actors → a.unspawned ≡ b.unspawned → a ≡ b
 same_tray a b e n u = λ i. record { effects = e i; actors = n i; unspawned = u i }
 
-both_true : (a b : Bool) → (a && b) ≡ true → a ≡ true
+pub both_true : (a b : Bool) → (a && b) ≡ true → a ≡ true
 both_true a b h = grind rules
 
 pub small : (set : ActorSet) → set.bits < 2 ^ 64 → (x : ActorId) → contains set x ≡ true → x.0 < 64

@@ -132,8 +132,7 @@ impl Outbox {
         ensures { self.new ≡ settled self.old }
     {
         self.unspawned.remove_all(self.asked);
-        self.asked = ActorSet::new();
-        self.effects.clear();
+        self.clear();
     }
 
     /// Makes it ready for the next call, where the effects are let go: it is empty, and nothing else has changed.
