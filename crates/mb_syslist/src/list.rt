@@ -1,4 +1,4 @@
-ghost use Rattle.std.specs.Prelude.{◌≡◌, ◌↔◌, [], false, true, Ok, Err, IsTrue, if◌then◌else◌};
+ghost use Rattle.std.specs.Prelude.{◌≡◌, ◌↔◌, [], ◌∷◌, ◌++◌, false, true, Ok, Err, IfOk, IsTrue, if◌then◌else◌};
 ghost use Rattle.mb_syslist.specs.MessageList.{drained, ended, listed, pushed, with_last};
 
 use crate::chain::Chain;
@@ -53,6 +53,7 @@ impl SysList {
     pub fn push(&mut self, node: Node) -> Result<u64, ListClosed>
         ensures answer { result ≡ (if self.old.closed then Err (record { 0 = node }) else Ok (pushed self.old)) }
         ensures list { self.new ≡ (if self.old.closed then self.old else with_last self.old node) }
+        ensures last { IfOk result (λ number. listed self.new ≡ listed self.old ++ (number, node) ∷ []) }
     {
         if self.closed {
             return Err(ListClosed(node));
