@@ -1,5 +1,5 @@
 -- How the numbers of a list's messages go on.
-use Rattle.std.proofs.Common.{ℕ, ◌≡◌, ◌+◌, ◌%◌, ◌^◌, ◌<◌, List, [], ◌∷◌, ◌++◌, length, ap, sym, ◌∙◌, refl, arith, lit<, add-zero, reverse, suc}
+use Rattle.std.proofs.Common.{ℕ, ◌≡◌, ◌+◌, ◌%◌, ◌^◌, ◌<◌, List, [], ◌∷◌, ◌++◌, length, ap, sym, ◌∙◌, arith, lit<, add-zero, reverse, suc}
 use Rattle.std.proofs.Math.Nat.{mod-lt, mod-eq_of_lt, mod-add-mod}
 use Rattle.std.proofs.lemmas.List.{length-reverse}
 use Rattle.std.proofs.lemmas.Grind.{reverse_onto}
@@ -20,15 +20,15 @@ numbered-last number [] message fits =
     ap (λ k. (k, message) ∷ []) (sym alone)
 numbered-last number (first ∷ later) message fits =
     ap (λ l. (number, first) ∷ l)
-      (numbered-last ((number + 1) % 2 ^ 64) later message (mod-lt (number + 1) (lit< tt))
-        ∙ ap (λ k. numbered ((number + 1) % 2 ^ 64) later ++ (k, message) ∷ []) (number-next number (length later)))
+    (numbered-last ((number + 1) % 2 ^ 64) later message (mod-lt (number + 1) (lit< tt))
+    ∙ ap (λ k. numbered ((number + 1) % 2 ^ 64) later ++ (k, message) ∷ []) (number-next number (length later)))
 
 -- the same of a list that is kept the latest first
-pub numbered-latest : (number pushed : ℕ) (latest : List SysMsg) (message : SysMsg) → number < 2 ^ 64 →
+pub numbered_latest : (number pushed : ℕ) (latest : List SysMsg) (message : SysMsg) → number < 2 ^ 64 →
     pushed ≡ (number + length latest) % 2 ^ 64 →
     numbered number (reverse (message ∷ latest)) ≡ numbered number (reverse latest) ++ (pushed, message) ∷ []
-numbered-latest number pushed latest message fits counted =
+numbered_latest number pushed latest message fits counted =
     ap (numbered number) (reverse_onto latest message [])
-      ∙ numbered-last number (reverse latest) message fits
-      ∙ ap (λ n. numbered number (reverse latest) ++ ((number + n) % 2 ^ 64, message) ∷ []) (length-reverse latest)
-      ∙ ap (λ n. numbered number (reverse latest) ++ (n, message) ∷ []) (sym counted)
+    ∙ numbered-last number (reverse latest) message fits
+    ∙ ap (λ n. numbered number (reverse latest) ++ ((number + n) % 2 ^ 64, message) ∷ []) (length-reverse latest)
+    ∙ ap (λ n. numbered number (reverse latest) ++ (n, message) ∷ []) (sym counted)

@@ -5,7 +5,7 @@ ghost use Rattle.mb_syslist.specs.MessageList.{numbered};
 use crate::link::Link;
 use crate::node::Node;
 use std::marker::Model;
-use std::mem;
+use std::{fmt, mem};
 
 /// Messages that a list gave, the earliest first, each with its number.
 #[derive(Drop)]
@@ -61,5 +61,14 @@ impl Chain {
         ensures { result ≡ numbered number (boxed first) }
     {
         Chain { first, number }
+    }
+}
+
+// the next number alone, since a chain may be long
+impl fmt::Debug for Chain {
+    fn fmt<W: fmt::Write>(&self, f: &mut fmt::Formatter<W>) -> fmt::Result {
+        f.debug_struct("Chain")
+            .field("number", &self.number)
+            .finish_non_exhaustive()
     }
 }

@@ -5,10 +5,10 @@ use crate::chain::Chain;
 use crate::link::Link;
 use crate::node::Node;
 use std::marker::Model;
-use std::mem;
+use std::{fmt, mem};
 
 /// The list is closed: the same node comes back.
-#[derive(Drop)]
+#[derive(Debug, Drop)]
 pub struct ListClosed(pub Node);
 
 /// The system messages of one actor that no run has drained yet, and how many were drained before
@@ -50,6 +50,7 @@ impl SysList {
     /// Puts a node last, and answers its number: how many were pushed before, modulo 2^64. It takes no memory.
     ///
     /// It answers `ListClosed` with the same node if the list is closed. Nothing has changed then.
+    #[tactic(auto, using(crate::proofs::NumberedLemmas::numbered_latest))]
     pub fn push(&mut self, node: Node) -> Result<u64, ListClosed>
         ensures answer { result ≡ (if self.old.closed then Err (record { 0 = node }) else Ok (pushed self.old)) }
         ensures list { self.new ≡ (if self.old.closed then self.old else with_last self.old node) }
@@ -99,5 +100,16 @@ impl SysList {
         ensures { result ≡ self.now.given }
     {
         self.given
+    }
+}
+
+// the counts alone, since a list may be long
+impl fmt::Debug for SysList {
+    fn fmt<W: fmt::Write>(&self, f: &mut fmt::Formatter<W>) -> fmt::Result {
+        f.debug_struct("SysList")
+            .field("given", &self.given)
+            .field("pushed", &self.pushed)
+            .field("closed", &self.closed)
+            .finish_non_exhaustive()
     }
 }

@@ -4,6 +4,7 @@ ghost use Rattle.mb_syslist.specs.declared.link.Link.{End};
 use crate::link::{Entry, Link};
 use mb_msg::SysMsg;
 use std::alloc::{AllocError, Global};
+use std::fmt;
 use std::marker::Model;
 
 /// A system message in memory of its own, on its way to a list or back from one.
@@ -69,5 +70,11 @@ impl Node {
         ensures { result ≡ entry.value.message }
     {
         Node { entry }
+    }
+}
+
+impl fmt::Debug for Node {
+    fn fmt<W: fmt::Write>(&self, f: &mut fmt::Formatter<W>) -> fmt::Result {
+        f.debug_tuple("Node").field(&self.msg()).finish()
     }
 }
