@@ -32,3 +32,13 @@ numbered_latest number pushed latest message fits counted =
     ∙ numbered-last number (reverse latest) message fits
     ∙ ap (λ n. numbered number (reverse latest) ++ ((number + n) % 2 ^ 64, message) ∷ []) (length-reverse latest)
     ∙ ap (λ n. numbered number (reverse latest) ++ (n, message) ∷ []) (sym counted)
+
+-- with one more listed, one more was pushed
+pub pushed_more : (given pushed : ℕ) (latest : List SysMsg) (message : SysMsg) → pushed ≡ (given + length latest) % 2 ^ 64 →
+    (given + length (reverse (message ∷ latest))) % 2 ^ 64 ≡ (pushed + 1) % 2 ^ 64
+pushed_more given pushed latest message counted =
+    let step : given + suc (length latest) ≡ given + length latest + 1 = omega arith in
+    ap (λ n. (given + n) % 2 ^ 64) (length-reverse (message ∷ latest))
+    ∙ ap (λ n. n % 2 ^ 64) step
+    ∙ sym (mod-add-mod (given + length latest) (2 ^ 64) 1)
+    ∙ ap (λ n. (n + 1) % 2 ^ 64) (sym counted)

@@ -1,4 +1,4 @@
-ghost use Rattle.std.specs.Prelude.{◌≡◌, ◌↔◌, [], ◌∷◌, ◌++◌, false, true, Ok, Err, IfOk, IsTrue, if◌then◌else◌};
+ghost use Rattle.std.specs.Prelude.{◌≡◌, ◌↔◌, ◌+◌, ◌%◌, ◌^◌, [], ◌∷◌, ◌++◌, false, true, Ok, Err, IfOk, IsTrue, if◌then◌else◌};
 ghost use Rattle.mb_syslist.specs.MessageList.{drained, ended, listed, pushed, with_last};
 
 use crate::chain::Chain;
@@ -50,11 +50,12 @@ impl SysList {
     /// Puts a node last, and answers its number: how many were pushed before, modulo 2^64. It takes no memory.
     ///
     /// It answers `ListClosed` with the same node if the list is closed. Nothing has changed then.
-    #[tactic(auto, using(crate::proofs::NumberedLemmas::numbered_latest))]
+    #[tactic(auto, using(crate::proofs::NumberedLemmas::numbered_latest, crate::proofs::NumberedLemmas::pushed_more))]
     pub fn push(&mut self, node: Node) -> Result<u64, ListClosed>
         ensures answer { result ≡ (if self.old.closed then Err (record { 0 = node }) else Ok (pushed self.old)) }
         ensures list { self.new ≡ (if self.old.closed then self.old else with_last self.old node) }
         ensures last { IfOk result (λ number. listed self.new ≡ listed self.old ++ (number, node) ∷ []) }
+        ensures counted { IfOk result (λ number. pushed self.new ≡ (number + 1) % 2 ^ 64) }
     {
         if self.closed {
             return Err(ListClosed(node));
@@ -71,6 +72,7 @@ impl SysList {
     pub fn drain(&mut self) -> Chain
         ensures chain { result ≡ listed self.old }
         ensures list { self.new ≡ drained self.old }
+        ensures counted { pushed self.new ≡ pushed self.old }
         ensures closed { IsTrue self.old.closed → result ≡ [] }
     {
         let latest = mem::replace(&mut self.latest, Link::End);
@@ -82,6 +84,7 @@ impl SysList {
     pub fn close(&mut self) -> Chain
         ensures chain { result ≡ listed self.old }
         ensures list { self.new ≡ ended self.old }
+        ensures counted { pushed self.new ≡ pushed self.old }
     {
         let rest = self.drain();
         self.closed = true;
