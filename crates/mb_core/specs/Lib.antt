@@ -1,5 +1,4 @@
 pub mod Actor
-pub mod Event
 pub mod Held
 pub mod Settled
 pub mod Run

@@ -32,8 +32,8 @@ pub fn step_keeps_debts()
     ensures of_all { StepsKeepWith IsHeldRightly IsSettled }
 {}
 
-/// A law: after every run nothing is stranded. An actor that nobody holds is owed a look at its system work where it
-/// has some, and a wake-up for its envelopes where some are counted and it may handle them.
+/// A law: after every run nothing is stranded. An actor that is not closed and that nobody holds is owed a look at its
+/// system work where it has some, and a wake-up for its envelopes where some are counted and it may handle them.
 pub fn every_run_keeps_debts()
     ensures { EveryRunHas IsSettled }
 {}
