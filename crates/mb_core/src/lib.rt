@@ -17,7 +17,7 @@ mod tests;
 
 pub use actor::ActorState;
 pub use debt::Debt;
-pub use event::Event;
+pub use event::{Event, Step};
 pub use laws::{
     every_run_keeps_debts, every_run_keeps_holders, every_run_keeps_mailboxes, runnable_is_owed,
     step_keeps_debts, step_keeps_holders, step_keeps_mailboxes,
