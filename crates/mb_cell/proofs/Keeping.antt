@@ -5,8 +5,9 @@ use Rattle.mb_msg.specs.declared.envelope.Body.TheVariants as body
 use Rattle.mb_msg.specs.declared.envelope.Envelope.{Envelope}
 use Rattle.mb_msg.specs.declared.id.ActorId.{ActorId}
 use Rattle.mb_msg.specs.declared.system.SysMsg.TheVariants as system
-use Rattle.mb_actor.specs.Behaviour.{Moment, Reply, Call, AllowsSame}
-use Rattle.mb_actor.specs.Behaviour.Call.{Start, Receive}
+use Rattle.mb_actor.specs.Behaviour.{Moment, Reply, AllowsSame}
+use Rattle.mb_actor.specs.declared.call.Call.{Call}
+use Rattle.mb_actor.specs.declared.call.Call.TheVariants.{Start, Receive}
 use Rattle.mb_actor.specs.Tray.{Tray}
 use Rattle.mb_actor.specs.declared.answer.Answer.{Answer}
 use Rattle.mb_actor.specs.declared.effect.Effect.{Effect}
@@ -21,7 +22,7 @@ use Rattle.mb_journal.specs.Entry.Outcome.{Applied}
 use Rattle.mb_journal.specs.Failure.{failure_of}
 use Rattle.mb_journal.specs.Identity.{Identity, is_guardian}
 use Rattle.mb_journal.specs.Incarnation.{messages, body_messages}
-use Rattle.mb_journal.specs.Lawful.{IsLawful, IsLawfulEntry, AreLawful, unspawned, moment}
+use Rattle.mb_journal.specs.Lawful.{IsLawful, IsLawfulEntry, AreLawful, calls, envelope_call, unspawned, moment}
 use Rattle.mb_journal.specs.Life.{phase, closed, has_start}
 use Rattle.mb_journal.specs.Log.{Log}
 use Rattle.mb_journal.specs.Phase.{phase_is}
@@ -33,10 +34,12 @@ use Rattle.mb_journal.proofs.TestLemmas.{none_excepted, if_false}
 use Rattle.mb_journal.proofs.CreateLemmas.{acts-create-well, acts-create_again, phase-create, messages-create, count-create}
 use Rattle.mb_journal.proofs.CreateLemmas.{phase-create_again, messages-create_again, count-create_again}
 use Rattle.mb_journal.proofs.EnvelopeLemmas.{acts-user-well, phase-handled, messages-handled, count-handled, failure_of-user}
+use Rattle.mb_journal.proofs.CreateLemmas.{call_of-create, call_of-create_again}
+use Rattle.mb_journal.proofs.LawfulLemmas.{calls-called, calls-silent}
 use Rattle.mb_journal.proofs.LawfulLemmas.{can_hold-none, lawful-create, lawful-create_again, lawful-user}
 use Rattle.mb_cell.specs.Agrees.{Agrees}
 use Rattle.mb_cell.specs.Identity.{childless}
-use Rattle.mb_cell.specs.Recorded.{recorded}
+use Rattle.mb_cell.specs.Recorded.{recorded, IsSilent}
 use Rattle.mb_cell.specs.Seen.{Seen, with_entry, AppliesSystem, HandlesEnvelope}
 
 -- an entry without effects spawns no child
@@ -69,6 +72,11 @@ lawful-more who gives before e lawful here within = record { entries = (here, la
 lawful-none : (who : Identity) (gives : Moment → Reply → Type 0) → IsLawful who gives []
 unfolding AreLawful
 lawful-none who gives = record { entries = tt; within_limit = omega arith }
+
+-- an actor that asks for no effects asks for none in what is recorded
+pub silent-recorded : (gives : Moment → Reply → Type 0) (m : Moment) (a : Option Answer) (effects : List Effect) → IsSilent gives →
+    recorded gives m (record { answer = a; effects = effects }) → effects ≡ []
+silent-recorded gives m a effects silent (given, gives_it, r_is) = ap (λ (r : Reply). r.effects) r_is ∙ silent m given gives_it
 
 -- what is recorded of a call is what the actor of this number may give
 pub recorded-along : (new theirs : Moment → Reply → Type 0) (m : Moment) (r : Reply) → AllowsSame new theirs → recorded new m r → recorded theirs m r
@@ -313,3 +321,38 @@ module _ (this : ActorId) (old new : Log) (envelope : Envelope) (word reading : 
         (no_acts ∙ sym (acts-user-well (childless this old.limit) old.entries envelope reading (Some a) kind value is_user well))
         ∙ ap (λ (s : Seen). with_entry s (Handled envelope reading (Applied (Some a) []))) seen_is;
   }
+
+-- ---- the calls that were made
+
+-- the first Create calls the actor's start
+pub calls-start : (this : ActorId) (old new : Log) (number : ℕ) (a : Answer) (effects : List Effect) (was now : List Call) →
+    new ≡ record old { entries = System number system.Create (Applied (Some a) effects) ∷ old.entries; is_ready = false } →
+    phase (childless this old.limit) old.entries ≡ Fresh → was ≡ calls (childless this old.limit) old.entries → now ≡ Start ∷ was →
+    now ≡ calls (childless this new.limit) new.entries
+calls-start this old new number a effects was now added fresh was_is now_is =
+    now_is ∙ (ap (λ cs. Start ∷ cs) was_is
+    ∙ (sym (calls-called (childless this old.limit) old.entries (System number system.Create (Applied (Some a) effects)) Start
+    (call_of-create (childless this old.limit) old.entries number a effects fresh refl))
+    ∙ ap (λ (l : Log). calls (childless this l.limit) l.entries) (sym added)))
+
+-- another Create calls nothing
+pub calls-again : (this : ActorId) (old new : Log) (number : ℕ) (was : List Call) →
+    new ≡ record old { entries = System number system.Create (Applied None []) ∷ old.entries; is_ready = false } →
+    has_start old.entries ≡ true → was ≡ calls (childless this old.limit) old.entries → was ≡ calls (childless this new.limit) new.entries
+calls-again this old new number was added started was_is =
+    was_is
+    ∙ (sym (calls-silent (childless this old.limit) old.entries (System number system.Create (Applied None []))
+    (call_of-create_again (childless this old.limit) old.entries number started))
+    ∙ ap (λ (l : Log). calls (childless this l.limit) l.entries) (sym added))
+
+-- a message of a sender's calls the actor's receive
+pub calls-user : (this : ActorId) (old new : Log) (envelope : Envelope) (word : ℕ) (a : Answer) (effects : List Effect) (kind : ℕ) (value : ℤ)
+    (was now : List Call) →
+    new ≡ record old { entries = Handled envelope word (Applied (Some a) effects) ∷ old.entries; is_ready = false } →
+    envelope.body ≡ body.User kind value → was ≡ calls (childless this old.limit) old.entries →
+    now ≡ Receive (message.User kind value) ∷ was → now ≡ calls (childless this new.limit) new.entries
+calls-user this old new envelope word a effects kind value was now added is_user was_is now_is =
+    now_is ∙ (ap (λ cs. Receive (message.User kind value) ∷ cs) was_is
+    ∙ (sym (calls-called (childless this old.limit) old.entries (Handled envelope word (Applied (Some a) effects))
+    (Receive (message.User kind value)) (ap envelope_call is_user))
+    ∙ ap (λ (l : Log). calls (childless this l.limit) l.entries) (sym added)))

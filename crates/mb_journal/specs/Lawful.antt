@@ -10,14 +10,16 @@ use Rattle.mb_msg.specs.declared.supervision.Cause.{Cause}
 use Rattle.mb_msg.specs.declared.supervision.Cause.TheVariants as cause
 use Rattle.mb_msg.specs.declared.system.SysMsg.{SysMsg}
 use Rattle.mb_msg.specs.declared.system.SysMsg.TheVariants as system
-use Rattle.mb_actor.specs.Behaviour.{Moment, Reply, Call}
-use Rattle.mb_actor.specs.Behaviour.Call.{Start, Receive, Restart, Stop}
+use Rattle.mb_actor.specs.Behaviour.{Moment, Reply}
+use Rattle.mb_actor.specs.declared.call.Call.{Call}
+use Rattle.mb_actor.specs.declared.call.Call.TheVariants.{Start, Receive, Restart, Stop}
 use Rattle.mb_actor.specs.declared.answer.Answer.{Answer}
 use Rattle.mb_actor.specs.declared.effect.Effect.{Effect}
 use Rattle.mb_actor.specs.declared.message.Message.TheVariants as message
-use Rattle.mb_journal.specs.ActorList.{has}
+use Rattle.mb_actor.specs.ActorList.{has}
 use Rattle.mb_journal.specs.Aside.{sets_aside, next_front, next_number}
-use Rattle.mb_journal.specs.Effects.{lasting_effects, spawns_of}
+use Rattle.mb_actor.specs.Tray.{spawns_of}
+use Rattle.mb_journal.specs.Effects.{lasting_effects}
 use Rattle.mb_journal.specs.Entry.{Entry, Outcome, is_applied}
 use Rattle.mb_journal.specs.Entry.Entry.{Handled, System, Dropped}
 use Rattle.mb_journal.specs.Entry.Outcome.{Applied, SetAside}
