@@ -1,6 +1,9 @@
 -- Each rule keeps the fields of a cell and the queries of its journal together, and adds an entry that may come.
 use Rattle.std.proofs.Common.{◌≡◌, ℕ, ℤ, ◌-◌, ◌≤◌, List, [], ◌∷◌, ◌++◌, length, true, false, refl, ap, sym, ◌∙◌, subst, arith}
-use Rattle.std.specs.Prelude.{not, is_some, Option, Some, None}
+use Rattle.std.specs.Prelude.{not, nat_lt, ◌&&◌, is_some, Bool, Option, Some, None}
+use Rattle.std.specs.List.{list_all}
+use Rattle.std.proofs.lemmas.Bool.Decides.{nat_tests}
+use Rattle.mb_actor.specs.Held.{CanHold}
 use Rattle.mb_msg.specs.declared.envelope.Body.TheVariants as body
 use Rattle.mb_msg.specs.declared.envelope.Envelope.{Envelope}
 use Rattle.mb_msg.specs.declared.id.ActorId.{ActorId}
@@ -8,7 +11,7 @@ use Rattle.mb_msg.specs.declared.system.SysMsg.TheVariants as system
 use Rattle.mb_actor.specs.Behaviour.{Moment, Reply, AllowsSame}
 use Rattle.mb_actor.specs.declared.call.Call.{Call}
 use Rattle.mb_actor.specs.declared.call.Call.TheVariants.{Start, Receive}
-use Rattle.mb_actor.specs.Tray.{Tray}
+use Rattle.mb_actor.specs.Tray.{Tray, actor_of, is_actor}
 use Rattle.mb_actor.specs.declared.answer.Answer.{Answer}
 use Rattle.mb_actor.specs.declared.effect.Effect.{Effect}
 use Rattle.mb_actor.specs.declared.message.Message.{Message}
@@ -35,11 +38,12 @@ use Rattle.mb_journal.proofs.CreateLemmas.{acts-create-well, acts-create_again, 
 use Rattle.mb_journal.proofs.CreateLemmas.{phase-create_again, messages-create_again, count-create_again}
 use Rattle.mb_journal.proofs.EnvelopeLemmas.{acts-user-well, phase-handled, messages-handled, count-handled, failure_of-user}
 use Rattle.mb_journal.proofs.CreateLemmas.{call_of-create, call_of-create_again}
+use Rattle.mb_actor.proofs.HeldLemmas.{can_hold-none}
 use Rattle.mb_journal.proofs.LawfulLemmas.{calls-called, calls-silent}
-use Rattle.mb_journal.proofs.LawfulLemmas.{can_hold-none, lawful-create, lawful-create_again, lawful-user}
+use Rattle.mb_journal.proofs.LawfulLemmas.{lawful-create, lawful-create_again, lawful-user}
 use Rattle.mb_cell.specs.Agrees.{Agrees}
 use Rattle.mb_cell.specs.Identity.{childless}
-use Rattle.mb_cell.specs.Recorded.{recorded, IsSilent}
+use Rattle.mb_cell.specs.Recorded.{recorded}
 use Rattle.mb_cell.specs.Seen.{Seen, with_entry, AppliesSystem, HandlesEnvelope}
 
 -- an entry without effects spawns no child
@@ -73,10 +77,18 @@ lawful-none : (who : Identity) (gives : Moment → Reply → Type 0) → IsLawfu
 unfolding AreLawful
 lawful-none who gives = record { entries = tt; within_limit = omega arith }
 
--- an actor that asks for no effects asks for none in what is recorded
-pub silent-recorded : (gives : Moment → Reply → Type 0) (m : Moment) (a : Option Answer) (effects : List Effect) → IsSilent gives →
-    recorded gives m (record { answer = a; effects = effects }) → effects ≡ []
-silent-recorded gives m a effects silent (given, gives_it, r_is) = ap (λ (r : Reply). r.effects) r_is ∙ silent m given gives_it
+-- where no actor is there, an outbox can hold nothing
+pub nothing_held : (tray : Tray) → tray.actors ≡ 0 → CanHold tray → tray.effects ≡ []
+nothing_held tray nobody held = by_first tray.effects tray.actors tray.unspawned nobody held.there
+  where
+    not_below : (x actors : ℕ) → actors ≡ 0 → (some rest : Bool) → ((some && nat_lt x actors) && rest) ≡ true → ⊥
+    not_below x actors none some rest h = grind (arith, nat_tests)
+
+    by_first : (effects : List Effect) (actors : ℕ) (unspawned : List ActorId) → actors ≡ 0 →
+        list_all (λ e. is_actor (record { effects = effects; actors = actors; unspawned = unspawned }) (actor_of e)) effects ≡ true →
+        effects ≡ []
+    by_first [] actors unspawned none there = refl
+    by_first (e ∷ effects) actors unspawned none there = absurd (not_below (actor_of e).0 actors none _ _ there)
 
 -- what is recorded of a call is what the actor of this number may give
 pub recorded-along : (new theirs : Moment → Reply → Type 0) (m : Moment) (r : Reply) → AllowsSame new theirs → recorded new m r → recorded theirs m r
@@ -112,7 +124,7 @@ module _ (who : Identity) (before : List Entry) (after : List Message → ℤ) (
       let fresh : phase who before ≡ Fresh = sym kept.same_phase ∙ is_fresh in
       record {
         lawful = lawful-more who (recorded gives) before _ kept.lawful
-            (lawful-create who (recorded gives) before number a [] fresh an_actor next given (can_hold-none _ _)) within;
+            (lawful-create who (recorded gives) before number a [] fresh an_actor next given (can_hold-none _ refl)) within;
         same_phase = sym (phase-create who before number a [] fresh ∙ if_false _ _ _ well);
         started = has_start-create before number (Some a);
         same_count = ap (λ k. k - 1) kept.same_count ∙ sym (count-create who before number a [] fresh ∙ if_false _ _ _ well);
@@ -152,7 +164,7 @@ module _ (who : Identity) (before : List Entry) (after : List Message → ℤ) (
       record {
         lawful = lawful-more who (recorded gives) before _ kept.lawful
             (lawful-user who (recorded gives) before envelope reading a [] kind value is_user an_actor addressed live open_reading
-            given (can_hold-none _ _)) within;
+            given (can_hold-none _ refl)) within;
         same_phase = kept.same_phase ∙ sym (phase-handled who before envelope reading (Some a) []);
         started = has_start-handled before envelope reading (Some a) ∙ kept.started;
         same_count = kept.same_count ∙ sym (count-handled who before envelope reading (Some a) [] (ap (λ q. phase_is q Ended) live)

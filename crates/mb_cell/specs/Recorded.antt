@@ -1,5 +1,5 @@
 -- What a cell records of what its actor's calls give.
-use Rattle.std.specs.Prelude.{◌≡◌, ℤ, List, [], Option, Some, None}
+use Rattle.std.specs.Prelude.{◌≡◌, ℤ, List, Option, Some, None}
 use Rattle.mb_actor.specs.Behaviour.{Moment, Reply, IsAllowed}
 use Rattle.mb_actor.specs.Tray.{Tray}
 use Rattle.mb_actor.specs.declared.call.Call.{Call}
@@ -25,7 +25,3 @@ recorded gives m r = (given : Reply) × gives m given × (r ≡ record { answer 
 -- what is recorded of a call, after each list of messages that leads to the content before it
 abbrev pub IsRecorded : ℤ → (List Message → ℤ) → (Moment → Reply → Type 0) → Call → Option Answer → Tray → Tray → Type 0
 IsRecorded content after gives call answer old new = IsAllowed content after (recorded gives) call answer old new
-
--- the actor asks for no effects (this project's own profile, until effects are carried out)
-abbrev pub IsSilent : (Moment → Reply → Type 0) → Type 0
-IsSilent gives = (m : Moment) (r : Reply) → gives m r → r.effects ≡ []

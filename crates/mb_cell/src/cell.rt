@@ -7,7 +7,7 @@ ghost use Rattle.mb_journal.specs.Suspension.{count as count_of};
 ghost use Rattle.mb_actor.specs.declared.phase.Phase.TheVariants.{Fresh};
 ghost use Rattle.mb_cell.specs.Identity.{childless};
 ghost use Rattle.mb_cell.specs.NextAct.{act_of};
-ghost use Rattle.mb_cell.specs.Recorded.{recorded, IsSilent};
+ghost use Rattle.mb_cell.specs.Recorded.{recorded};
 
 mod apply;
 
@@ -44,7 +44,6 @@ impl<A: Actor, K: Behaviours> Model for Cell<A, K> {
     ghost use Rattle.mb_cell.specs.Agrees.{Agrees};
     ghost use Rattle.mb_cell.specs.Identity.{childless};
     ghost use Rattle.mb_cell.specs.NextAct.{act_of};
-    ghost use Rattle.mb_cell.specs.Recorded.{IsSilent};
 
     ghost view = { λ c. record {
       who = childless c.this c.journal.limit;
@@ -56,7 +55,6 @@ impl<A: Actor, K: Behaviours> Model for Cell<A, K> {
     ghost invariant = { λ c.
         (A.after c.actor.actor ≡ K.after c.this.0)
         × AllowsSame (A.gives c.actor.actor) (K.gives c.this.0)
-        × IsSilent (K.gives c.this.0)
         × (c.actor.calls ≡ calls (childless c.this c.journal.limit) c.journal.entries)
         × Agrees (childless c.this c.journal.limit) c.journal.entries (K.after c.this.0) (K.gives c.this.0)
         c.phase c.count (A.content c.actor.actor) c.outbox };
@@ -65,14 +63,13 @@ impl<A: Actor, K: Behaviours> Model for Cell<A, K> {
 impl<A: Actor, K: Behaviours> Cell<A, K> {
     /// The cell of an actor that is not started yet, whose journal may have so many entries. It takes no memory yet.
     ///
-    /// The actor is a child of the guardian, which has no cell, and one that asks for no effects: they are not carried out
-    /// yet.
+    /// The actor is a child of the guardian, which has no cell, and is told of no other actor, so that each effect that it
+    /// asks for is refused.
     pub fn new(alloc: Global, this: ActorId, actor: A, journal_limit: u32) -> Self
         requires not_guardian { this.0 ≢ 0 }
         requires unused { A.content actor ≡ A.after actor [] }
         requires behaves { A.after actor ≡ K.after this.0 }
         requires allows { AllowsSame (A.gives actor) (K.gives this.0) }
-        requires silent { IsSilent (K.gives this.0) }
         ensures fresh { result ≡ record {
           who = childless this journal_limit;
           journal = [];

@@ -2,7 +2,6 @@
 
 ghost use Rattle.std.specs.Prelude.{◌≡◌, [], true, IsTrue, pos};
 ghost use Rattle.mb_actor.specs.Behaviour.{AllowsSame};
-ghost use Rattle.mb_cell.specs.Recorded.{IsSilent};
 
 use crate::{Act, Cell};
 use mb_actor::{Actor, Answer, Behaviours, Message, Outbox, Phase};
@@ -21,13 +20,13 @@ struct Counter {
 }
 
 impl Actor for Counter {
-    ghost use Rattle.std.specs.Prelude.{◌≡◌, [], pos, length, ◌%◌, ◌^◌};
+    ghost use Rattle.std.specs.Prelude.{pos, length, ◌%◌, ◌^◌};
 
     ghost after = { λ _ messages. pos (length messages % 2 ^ 32) };
 
     ghost content = { λ counter. pos counter.count };
 
-    ghost gives = { λ _ _ reply. reply.effects ≡ [] };
+    ghost gives = { λ _ _ _. Unit {0} };
 
     fn start(&mut self, _out: &mut Outbox) -> Answer {
         self.count = 0;
@@ -58,13 +57,13 @@ struct Doubling {
 }
 
 impl Actor for Doubling {
-    ghost use Rattle.std.specs.Prelude.{◌≡◌, [], pos, length, ◌%◌, ◌^◌, ◌*◌};
+    ghost use Rattle.std.specs.Prelude.{pos, length, ◌%◌, ◌^◌, ◌*◌};
 
     ghost after = { λ _ messages. pos (2 * (length messages % 2 ^ 32)) };
 
     ghost content = { λ doubling. pos (2 * doubling.count) };
 
-    ghost gives = { λ _ _ reply. reply.effects ≡ [] };
+    ghost gives = { λ _ _ _. Unit {0} };
 
     fn start(&mut self, _out: &mut Outbox) -> Answer {
         self.count = 0;
@@ -147,7 +146,6 @@ fn handle_all<A: Actor, K: Behaviours>(
     requires unused { A.content actor ≡ A.after actor [] }
     requires behaves { A.after actor ≡ K.after 1 }
     requires allows { AllowsSame (A.gives actor) (K.gives 1) }
-    requires silent { IsSilent (K.gives 1) }
 {
     let mut cell = Cell::<A, K>::new(alloc, ActorId(1), actor, limit);
     assert_eq!(rt; cell.phase(), Phase::Fresh);
@@ -182,9 +180,7 @@ fn handle_all_alone<A: Actor>(
     limit: u32,
     kinds: &[u32],
     expected: &[Arrival],
-) -> i64
-    requires silent { IsSilent (A.gives actor) }
-{
+) -> i64 {
     let nobody: Vec<ActorId> = Vec::new(alloc);
     let _answer = actor.restart(Cause::Init, &mut Outbox::new(0, &nobody));
     handle_all::<A, Brand>(rt, alloc, actor, limit, kinds, expected)

@@ -19,7 +19,7 @@ use Rattle.mb_journal.specs.Effects.{lasting_effects}
 use Rattle.mb_journal.specs.Entry.{Entry, Outcome}
 use Rattle.mb_journal.specs.Entry.Entry.{Handled, System}
 use Rattle.mb_journal.specs.Entry.Outcome.{Applied}
-use Rattle.mb_journal.specs.Held.{CanHold}
+use Rattle.mb_actor.specs.Held.{CanHold}
 use Rattle.mb_journal.specs.Identity.{Identity, is_guardian}
 use Rattle.mb_journal.specs.Lawful.{IsLawful, AreLawful, calls, call_of, unspawned, IsLawfulEntry, IsGiven, IsExpected, envelope_call, moment}
 use Rattle.mb_journal.specs.Life.{phase, closed, has_start}
@@ -30,14 +30,10 @@ use Rattle.mb_actor.specs.declared.phase.Phase.TheVariants.{Fresh, Live, Ending,
 use Rattle.mb_journal.proofs.CreateLemmas.{sets_aside-create, call_of-create, call_of-create_again}
 use Rattle.mb_journal.proofs.TestLemmas.{none_excepted, if_true, if_same}
 
--- an outbox can hold no effects
-pub can_hold-none : (actors : ℕ) (prepared : List ActorId) → CanHold actors prepared []
-can_hold-none actors prepared = record { few = omega arith; there = refl; prepared = refl; once = refl }
-
 -- the first Create of an actor that is not the guardian may come, with an answer and effects that its start may give
 pub lawful-create : (who : Identity) (gives : Moment → Reply → Type 0) (before : List Entry) (number : ℕ) (a : Answer) (effects : List Effect) →
     phase who before ≡ Fresh → is_guardian who ≡ false → number ≡ next_number before →
-    gives (moment who before Start) (record { answer = Some a; effects = effects }) → CanHold who.actors (unspawned who before) effects →
+    gives (moment who before Start) (record { answer = Some a; effects = effects }) → CanHold (record { effects = effects; actors = who.actors; unspawned = unspawned who before }) →
     IsLawfulEntry who gives before (System number system.Create (Applied (Some a) effects))
 lawful-create who gives before number a effects fresh an_actor next given held = (
   record {
@@ -70,7 +66,7 @@ pub lawful-user : (who : Identity) (gives : Moment → Reply → Type 0) (before
     envelope.body ≡ body.User kind value → is_guardian who ≡ false → envelope.to ≡ who.this → phase who before ≡ Live →
     IsOpen who before reading →
     gives (moment who before (Receive (message.User kind value))) (record { answer = Some a; effects = effects }) →
-    CanHold who.actors (unspawned who before) effects →
+    CanHold (record { effects = effects; actors = who.actors; unspawned = unspawned who before }) →
     IsLawfulEntry who gives before (Handled envelope reading (Applied (Some a) effects))
 lawful-user who gives before envelope reading a effects kind value is_user an_actor addressed live open_reading given held = record {
   an_actor = an_actor;

@@ -45,7 +45,7 @@ same_message g c = ap (λ z. message.User c.args.kind z) (search rules)
 content_before : (g : given.Over) (c : goal.After-clear g) →
     g.A.Actor.content c.self.inside.actor.actor ≡ g.A.Actor.after c.self.inside.actor.actor (messages_before g c)
 content_before g c =
-    c.self.invariant.4.same_content ∙ ap (λ f. f (messages_before g c)) (sym c.self.invariant.0)
+    c.self.invariant.3.same_content ∙ ap (λ f. f (messages_before g c)) (sym c.self.invariant.0)
 
 -- what the call gave, and that it asked for no effects
 given_then : (g : given.Over) (c : goal.After-clear g) →
@@ -62,7 +62,9 @@ given_then g c =
     (same_gives g c) (c.call_receive-answer.ensures.given (messages_before g c) (content_before g c))
 
 none : (g : given.Over) (c : goal.After-clear g) → c.call_receive-answer.new.out.effects ≡ []
-none g c = keep.silent-recorded (g.K.Behaviours.gives c.self.inside.this.0) _ _ _ c.self.invariant.2 (given_then g c)
+none g c =
+    keep.nothing_held c.call_receive-answer.new.out
+    (c.call_receive-answer.ensures.kept.actors_kept ∙ ap (λ (t : Tray). t.actors) c.self.invariant.3.empty_outbox) c.effects-effects.ensures.held
 
 given_now : (g : given.Over) (c : goal.After-clear g) →
     recorded (g.K.Behaviours.gives c.self.inside.this.0)
@@ -74,7 +76,7 @@ given_now g c =
     (same_message g c)
     (keep.moment-now (who g c) c.self.inside.journal.entries (recorded (g.K.Behaviours.gives c.self.inside.this.0))
     c.self.inside.outbox (Receive (message.User c.args.kind (to_z w64 (of_z w64 c.args.value)))) c.call_receive-answer.result
-    c.call_receive-answer.new.out.effects c.self.invariant.4.empty_outbox (none g c) (given_then g c))
+    c.call_receive-answer.new.out.effects c.self.invariant.3.empty_outbox (none g c) (given_then g c))
 
 kept : (g : given.Over) (c : goal.After-clear g) →
     Agrees (childless c.self.inside.this c.push_handled.new.self.limit) c.push_handled.new.self.entries
@@ -87,7 +89,7 @@ kept g c =
     (c.effects-effects.ensures.value ∙ none g c) c.requires.user
     (g.K.Behaviours.after c.self.inside.this.0) (g.K.Behaviours.gives c.self.inside.this.0) c.self.inside.phase c.self.inside.count
     (g.A.Actor.content c.self.inside.actor.actor) (g.A.Actor.content c.call_receive-answer.new.actor.actor) c.self.inside.outbox c.clear.new.self
-    c.self.invariant.4
+    c.self.invariant.3
     (c.requires.addressed ∙ ap (λ (s : Seen). s.who.this) (sym c.self.view_is))
     (subst (λ (s : Seen). phase s.who s.journal ≡ Live) (sym c.self.view_is) c.requires.live)
     (subst (λ (s : Seen). IsOpen s.who s.journal (word_of c.args.reading)) (sym c.self.view_is) c.requires.open)
@@ -97,17 +99,16 @@ kept g c =
     ∙ (λ i. (same_after g c) i (messages_before g c ++ (same_message g c) i ∷ [])))
     (keep.cleared c.self.inside.outbox c.call_receive-answer.new.out c.clear.new.self c.clear.ensures
     c.call_receive-answer.ensures.kept.actors_kept c.call_receive-answer.ensures.kept.unspawned_kept
-    (ap (λ (t : Tray). t.effects) c.self.invariant.4.empty_outbox))
+    (ap (λ (t : Tray). t.effects) c.self.invariant.3.empty_outbox))
 
 pub invariant_of-self : goal.invariant_of-self
 invariant_of-self g c = (
   same_after g c,
   same_gives g c,
-  c.self.invariant.2,
   keep.calls-user c.self.inside.this c.self.inside.journal c.push_handled.new.self c.args.envelope c.word.result
-  c.call_receive-answer.result c.effects-effects.result.now c.args.kind c.args.value c.self.inside.actor.calls
-  c.call_receive-answer.new.actor.calls c.push_handled.ensures.added c.requires.user c.self.invariant.3
-  (c.call_receive-answer.ensures.called ∙ ap (λ m. Receive m ∷ c.self.inside.actor.calls) (same_message g c)),
+      c.call_receive-answer.result c.effects-effects.result.now c.args.kind c.args.value c.self.inside.actor.calls
+      c.call_receive-answer.new.actor.calls c.push_handled.ensures.added c.requires.user c.self.invariant.2
+      (c.call_receive-answer.ensures.called ∙ ap (λ m. Receive m ∷ c.self.inside.actor.calls) (same_message g c)),
   kept g c,
 )
 

@@ -32,10 +32,9 @@ pub invariant_of-result : goal.invariant_of-result
 invariant_of-result g c = (
   ap g.A.Actor.after (handed g c) ∙ c.requires.behaves,
   subst (λ a. AllowsSame (g.A.Actor.gives a) (g.K.Behaviours.gives c.args.this.0)) (sym (handed g c)) c.requires.allows,
-  c.requires.silent,
   ap (λ (a : Called (g.row.A.Denot)). a.calls) c.new.ensures
-  ∙ (sym (calls-none (childless c.args.this c.args.journal_limit))
-  ∙ ap (λ (j : Log). calls (childless c.args.this j.limit) j.entries) (sym c.new-3.ensures)),
+      ∙ (sym (calls-none (childless c.args.this c.args.journal_limit))
+      ∙ ap (λ (j : Log). calls (childless c.args.this j.limit) j.entries) (sym c.new-3.ensures)),
   kept g c,
 )
 
