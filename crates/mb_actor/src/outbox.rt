@@ -1,6 +1,7 @@
 ghost use Rattle.std.specs.Prelude.{◌≡◌, ◌<◌, ◌≤◌, [], length};
 ghost use Rattle.std.specs.List.{All};
 ghost use Rattle.mb_msg.specs.Limits.{most_actors, most_effects};
+ghost use Rattle.mb_actor.specs.Held.{CanHold};
 ghost use Rattle.mb_actor.specs.Tray.{added, answer_of, may_spawn, refusal, settled};
 
 use crate::actor_set::ActorSet;
@@ -122,6 +123,7 @@ impl Outbox {
     pub fn effects(&self) -> &[Effect]
         ensures value { result.now ≡ self.now.effects }
         ensures few { length self.now.effects ≤ most_effects }
+        ensures held { CanHold self.now }
     {
         self.effects.as_slice()
     }
@@ -131,8 +133,9 @@ impl Outbox {
     pub fn settle(&mut self)
         ensures { self.new ≡ settled self.old }
     {
-        self.unspawned.remove_all(self.asked);
+        let spawned = self.asked;
         self.clear();
+        self.unspawned.remove_all(spawned);
     }
 
     /// Makes it ready for the next call, where the effects are let go: it is empty, and nothing else has changed.
