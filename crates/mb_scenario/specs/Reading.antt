@@ -5,8 +5,8 @@ use Rattle.toml.specs.Parse.{parse_document}
 use Rattle.mb_scenario.specs.Scenario.{RowData, ActorData, ScenarioData, scenario_of}
 use Rattle.mb_scenario.specs.Limits.{most_bytes}
 use Rattle.mb_scenario.specs.declared.fault.Fault.{Fault}
-use Rattle.mb_scenario.specs.declared.fault.Fault.TheVariants.{NoMemory, Os, NotToml, BadScenario}
-use Rattle.mb_scenario.specs.declared.fault.Place.TheVariants.{Input, Arguments, Top}
+use Rattle.mb_scenario.specs.declared.fault.Fault.TheVariants.{NoMemory, NotToml, BadScenario}
+use Rattle.mb_scenario.specs.declared.fault.Place.TheVariants.{Input, Top}
 use Rattle.mb_scenario.specs.declared.fault.Reason.TheVariants.{TooMany, NotYet}
 use Rattle.mb_scenario.specs.declared.scenario.Row.{Row}
 use Rattle.mb_scenario.specs.declared.scenario.Scenario.{Scenario}
@@ -27,10 +27,8 @@ data_of scenario = record { actor = actor_data scenario.actor; sends = scenario.
 -- memory ran out, or there is nothing to be read
 abbrev pub Misses : {Y : Type 0} → Fault → Option Y → Type 0
 Misses NoMemory read = Unit {0}
-Misses Os read = ⊥
 Misses NotToml read = ⊥
 Misses (BadScenario Input reason) read = ⊥
-Misses (BadScenario Arguments reason) read = ⊥
 Misses (BadScenario Top TooMany) read = ⊥
 Misses (BadScenario Top NotYet) read = read ≡ None
 
@@ -56,7 +54,5 @@ Refuses text NotToml = (length text ≤ most_bytes) × (IsUtf8 text → parse_do
 Refuses text (BadScenario Input TooMany) = most_bytes < length text
 Refuses text (BadScenario Top NotYet) = (document : Members) × IsText text document × (scenario_of document ≡ None)
 -- no other fault comes
-Refuses text Os = ⊥
 Refuses text (BadScenario Input NotYet) = ⊥
-Refuses text (BadScenario Arguments reason) = ⊥
 Refuses text (BadScenario Top TooMany) = ⊥
