@@ -6,6 +6,8 @@ use mb_msg::ActorId;
 pub enum Effect {
     /// Send a message of this kind and value to this actor.
     Tell { to: ActorId, kind: u32, value: i64 },
+    /// Send a control message of this kind and value to this actor.
+    Control { to: ActorId, kind: u32, value: i64 },
     /// Be told when this actor stops (`ActorContext.watch`).
     Watch(ActorId),
     /// No longer be told (`ActorContext.unwatch`).
