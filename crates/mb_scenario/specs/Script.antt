@@ -5,7 +5,7 @@ use Rattle.mb_actor.specs.Behaviour.{Call, Start, Receive, Restart, Stop, Moment
 use Rattle.mb_actor.specs.declared.answer.Answer.{Answer}
 use Rattle.mb_actor.specs.declared.answer.Answer.TheVariants.{Handled, Unhandled}
 use Rattle.mb_actor.specs.declared.message.Message.{Message}
-use Rattle.mb_actor.specs.declared.message.Message.TheVariants.{User, Terminated}
+use Rattle.mb_actor.specs.declared.message.Message.TheVariants.{User, Control, Terminated}
 use Rattle.mb_scenario.specs.Scenario.{RowData}
 use Rattle.mb_scenario.specs.declared.scenario.Operation.{Operation}
 use Rattle.mb_scenario.specs.declared.scenario.Operation.TheVariants.{Add}
@@ -34,9 +34,10 @@ abbrev pub after_row : ℤ → ℤ → Option RowData → ℤ
 after_row value state None = state
 after_row value state (Some row) = grown value state row.operations
 
--- the state after one message
+-- the state after one message: a control message is treated as any other of its kind
 abbrev pub after_message : List RowData → ℤ → Message → ℤ
 after_message rows state (User kind value) = after_row value state (row_for kind rows)
+after_message rows state (Control kind value) = after_row value state (row_for kind rows)
 after_message rows state (Terminated who) = state
 
 -- the state after these messages, in order, since it was last `initial`
@@ -50,6 +51,7 @@ answer_by_row (Some row) = Handled
 
 abbrev pub answer_to_message : List RowData → Message → Answer
 answer_to_message rows (User kind value) = answer_by_row (row_for kind rows)
+answer_to_message rows (Control kind value) = answer_by_row (row_for kind rows)
 answer_to_message rows (Terminated who) = Unhandled
 
 -- the answer to each call

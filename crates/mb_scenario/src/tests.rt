@@ -280,6 +280,12 @@ fn does_the_first_row_of_a_kind(rt: HostRuntime) -> Result<(), Fail> {
     assert_eq!(rt; script.state(), 16);
     out.clear();
     assert_eq!(rt;
+        script.receive(&Message::Control { kind: 2, value: 1 }, &mut out),
+        Answer::Handled
+    );
+    assert_eq!(rt; script.state(), 18);
+    out.clear();
+    assert_eq!(rt;
         script.receive(&Message::Terminated(ActorId(1)), &mut out),
         Answer::Unhandled
     );
