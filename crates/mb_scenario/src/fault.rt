@@ -1,6 +1,6 @@
 ghost use Rattle.std.specs.Prelude.{◌≡◌, Some};
 ghost use Rattle.mb_scenario.specs.declared.fault.Fault.TheVariants.{NoMemory};
-ghost use Rattle.mb_scenario.specs.Fault.{place_text, reason_text, fault_text, status_of};
+ghost use Rattle.mb_scenario.specs.Fault.{place_text, reason_text, fault_text};
 
 use std::alloc::{AllocError, AllocFailed};
 use std::fmt;
@@ -11,8 +11,6 @@ use thiserror::Error;
 pub enum Place {
     /// The input as a whole.
     Input,
-    /// The arguments of the command line.
-    Arguments,
     /// The top of the document.
     Top,
 }
@@ -26,30 +24,16 @@ pub enum Reason {
     NotYet,
 }
 
-/// Why the program stops without a report. Its `Display` is the number, the name and what is wrong where,
+/// Why a text is not read as a scenario. Its `Display` is the number, the name and what is wrong where,
 /// as `12 BadScenario top: not yet`.
 #[derive(Clone, Copy, Debug, PartialEq, Eq, Error)]
 pub enum Fault {
     /// The memory was refused that the call needs.
     NoMemory,
-    /// The system failed at reading the input or at writing the output.
-    Os,
     /// The input is not UTF-8, or not a TOML document.
     NotToml,
     /// The input is no scenario that can be run.
     BadScenario { place: Place, reason: Reason },
-}
-
-impl Fault {
-    /// The exit status of the program: 1 if the machine failed it, 2 if the input is at fault.
-    pub fn status(&self) -> u8
-        ensures { result ≡ status_of self.now }
-    {
-        match self {
-            Fault::NoMemory | Fault::Os => 1,
-            Fault::NotToml | Fault::BadScenario { .. } => 2,
-        }
-    }
 }
 
 impl fmt::Display for Place {
@@ -58,7 +42,6 @@ impl fmt::Display for Place {
     fn fmt<W: fmt::Write>(&self, f: &mut fmt::Formatter<W>) -> fmt::Result {
         match self {
             Place::Input => f.write_str("input"),
-            Place::Arguments => f.write_str("arguments"),
             Place::Top => f.write_str("top"),
         }
     }
@@ -81,7 +64,6 @@ impl fmt::Display for Fault {
     fn fmt<W: fmt::Write>(&self, f: &mut fmt::Formatter<W>) -> fmt::Result {
         match self {
             Fault::NoMemory => f.write_str("1 NoMemory"),
-            Fault::Os => f.write_str("2 Os"),
             Fault::NotToml => f.write_str("11 NotToml"),
             Fault::BadScenario { place, reason } => {
                 write!(f, "12 BadScenario {place}: {reason}")
