@@ -28,3 +28,6 @@ returns-clause-failed g c = λ other.
 
 pub returns-clause-silent : goal.returns-clause-silent
 returns-clause-silent g c = nothing_for_refused _ _
+
+pub returns-in-Ok-clause-silent : goal.returns-in-Ok-clause-silent
+returns-in-Ok-clause-silent g c = answered_not_refused _ _ _ c.in-Ok.ensures.report.1
