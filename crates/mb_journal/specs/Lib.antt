@@ -6,13 +6,14 @@ pub mod Entry
 pub mod Failure
 pub mod Identity
 pub mod Incarnation
-pub mod Kept
 pub mod Lawful
 pub mod Life
 pub mod Log
 pub mod Phase
 pub mod Reading
+pub mod Retries
 pub mod Run
+pub mod Stored
 pub mod Supervision
 pub mod Suspension
 pub mod Watching

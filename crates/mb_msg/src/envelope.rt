@@ -5,6 +5,9 @@ use crate::id::{ActorId, SenderId};
 pub enum Body {
     /// A message for the actor itself: a kind, by which the actor tells messages apart, and a value.
     User { kind: u32, value: i64 },
+    /// A message that a control-aware mailbox gives before all others (`akka.dispatch.ControlMessage`); elsewhere it
+    /// is one like any other.
+    Control { kind: u32, value: i64 },
     /// Stops the actor once the messages before it are handled.
     PoisonPill,
     /// Makes the actor fail.
@@ -14,14 +17,18 @@ pub enum Body {
 }
 
 /// A message on its way, with what names it: of all envelopes of one sender each has a number of its own.
+///
+/// The fields lie in an order that takes 32 bytes. Envelopes compare by them in this order, which no rule rests on.
 #[derive(Clone, Copy, Debug, PartialEq, Eq, PartialOrd, Ord, Hash)]
 pub struct Envelope {
     /// Who sent it.
     pub by: SenderId,
-    /// The sender's running number, from 0, over all receivers.
-    pub number: u64,
     /// Who is to handle it.
     pub to: ActorId,
+    /// The sender's running number, from 0, over all receivers.
+    pub number: u64,
     /// What it carries.
     pub body: Body,
 }
+
+const _: () = prove!(size_of::<Envelope>() == 32);
