@@ -4,10 +4,12 @@ use Rattle.std.proofs.lemmas.Bool.{leb-true, le-leb, eqb-true}
 use Rattle.std.proofs.lemmas.Option.{same_Some}
 use Rattle.toml.specs.Data.{Data, integer, array, Items, no_items, item, Members, get_member}
 use Rattle.mb_scenario.proofs.Parts.{bind_some, only_if_some, each_parts, length_each, only_parts, only_from}
-use Rattle.mb_scenario.proofs.Tables.{integer_there, items_there, each_parts_or_none, each_whole_or_none, actor_parts, actor_whole, send_parts, send_whole}
+use Rattle.mb_scenario.proofs.Tables.{integer_there, items_there, each_parts_or_none, each_whole_or_none, actor_parts, actor_whole, send_parts}
+use Rattle.mb_scenario.proofs.Tables.{send_whole}
 use Rattle.mb_scenario.specs.Document.{AreEach, MayHoldEach, IsTable, IsActor, IsSend, IsScenario}
-use Rattle.mb_scenario.specs.Scenario.{ActorData, ScenarioData, only_if, has_only, each, only_item, item_count, integer_in, items_in, items_or_none, is_zero, actor_of, send_of, sends_of, scenario_of}
-use Rattle.mb_scenario.specs.declared.limits.TheConstants.{SCENARIO_SENDS}
+use Rattle.mb_scenario.specs.Scenario.{ActorData, ScenarioData, only_if, has_only, each, only_item, item_count, integer_in, items_in}
+use Rattle.mb_scenario.specs.Scenario.{items_or_none, is_zero, actor_of, send_of, sends_of, scenario_of}
+use Rattle.mb_scenario.specs.Limits.{most_sends}
 use Rattle.mb_scenario.specs.declared.scenario.Sending.{Sending}
 
 abbrev top_keys : List (List ℕ)
@@ -28,21 +30,27 @@ alone R x no_items h = absurd h
 alone R x (item d no_items) h = (d, refl, h.0)
 alone R x (item d (item e ds)) h = absurd h.1
 
-sends_parts : (name : List ℕ) (ms : Members) (sends : List Sending) → sends_of name (get_member (codes "send") ms) ≡ Some sends → MayHoldEach ms (codes "send") (IsTable (IsSend name)) sends × (length sends ≤ SCENARIO_SENDS)
+sends_parts : (name : List ℕ) (ms : Members) (sends : List Sending) → sends_of name (get_member (codes "send") ms) ≡ Some sends
+    → MayHoldEach ms (codes "send") (IsTable (IsSend name)) sends × (length sends ≤ most_sends)
 unfolding sends_of
 sends_parts name ms sends h =
     let (ds, there, a) = bind_some (items_or_none (get_member (codes "send") ms)) _ sends h in
-    let (few, each_one) = only_if_some (nat_le (item_count ds) SCENARIO_SENDS) (each (send_of name) ds) sends a in
-    let count = length_each (IsTable (IsSend name)) ds sends (each_parts (send_of name) (IsTable (IsSend name)) (send_parts name) ds sends each_one) in
-    let small : item_count ds ≤ SCENARIO_SENDS = leb-true (item_count ds) SCENARIO_SENDS few in
-    (each_parts_or_none (send_of name) (IsTable (IsSend name)) (send_parts name) ms (codes "send") (get_member (codes "send") ms) ds sends refl there each_one, rw (← count) small)
+    let (few, each_one) = only_if_some (nat_le (item_count ds) most_sends) (each (send_of name) ds) sends a in
+    let count = length_each (IsTable (IsSend name)) ds sends (each_parts (send_of name) (IsTable (IsSend name))
+    (send_parts name) ds sends each_one) in
+    let small : item_count ds ≤ most_sends = leb-true (item_count ds) most_sends few in (
+      each_parts_or_none (send_of name) (IsTable (IsSend name)) (send_parts name) ms (codes "send") (get_member
+          (codes "send") ms) ds sends refl there each_one,
+      rw (← count) small,
+    )
 
-sends_whole : (name : List ℕ) (ms : Members) (sends : List Sending) → MayHoldEach ms (codes "send") (IsTable (IsSend name)) sends → length sends ≤ SCENARIO_SENDS → sends_of name (get_member (codes "send") ms) ≡ Some sends
+sends_whole : (name : List ℕ) (ms : Members) (sends : List Sending) → MayHoldEach ms (codes "send") (IsTable (IsSend name)) sends
+    → length sends ≤ most_sends → sends_of name (get_member (codes "send") ms) ≡ Some sends
 unfolding sends_of
 sends_whole name ms sends h few =
     let (ds, there, each_one, count) = each_whole_or_none (send_of name) (IsTable (IsSend name)) (send_whole name) ms (codes "send") sends h in
-    let small : item_count ds ≤ SCENARIO_SENDS = rw count few in
-    rw (there, le-leb (item_count ds) SCENARIO_SENDS small, each_one) refl
+    let small : item_count ds ≤ most_sends = rw count few in
+    rw (there, le-leb (item_count ds) most_sends small, each_one) refl
 
 scenario_parts : (ms : Members) (scenario : ScenarioData) → scenario_of ms ≡ Some scenario → IsScenario scenario ms
 unfolding scenario_of
@@ -57,7 +65,8 @@ scenario_parts ms scenario h =
     let same : record { actor = actor; sends = sends } ≡ scenario = same_Some _ scenario whole in
     let actor_is : actor ≡ scenario.actor = ap (λ (s : ScenarioData). s.actor) same in
     let sends_are = sends_parts scenario.actor.name ms scenario.sends
-    (ap (λ (a : ActorData). sends_of a.name (get_member (codes "send") ms)) (sym actor_is) ∙ (sent ∙ ap (λ (s : ScenarioData). Some s.sends) same)) in
+    (ap (λ (a : ActorData). sends_of a.name (get_member (codes "send") ms)) (sym actor_is) ∙ (sent
+    ∙ ap (λ (s : ScenarioData). Some s.sends) same)) in
     record {
       keys = only_parts top_keys ms only;
       workers = integer_there ms (codes "workers") workers w' ∙ ap (λ z. Some (integer z)) (zero_parts workers none);
@@ -74,7 +83,14 @@ scenario_whole : (ms : Members) (scenario : ScenarioData) → IsScenario scenari
 unfolding scenario_of
 scenario_whole ms scenario h =
     let (one, single, is) = alone (IsTable IsActor) scenario.actor h.actor.0 h.actor.2 in
-    rw (only_from top_keys ms h.keys, h.workers, h.actor.1, single, actor_whole scenario.actor one is, sends_whole scenario.actor.name ms scenario.sends h.sends h.few) refl
+    rw (
+      only_from top_keys ms h.keys,
+      h.workers,
+      h.actor.1,
+      single,
+      actor_whole scenario.actor one is,
+      sends_whole scenario.actor.name ms scenario.sends h.sends h.few,
+    ) refl
 
 -- the two say the same
 pub scenario_of_iff : (ms : Members) (scenario : ScenarioData) → (scenario_of ms ≡ Some scenario) ↔ IsScenario scenario ms

@@ -1,5 +1,6 @@
 -- What the readers of single values find, said of the values.
-use Rattle.std.proofs.Common.{◌≡◌, ℕ, ℤ, List, [], ◌∷◌, length, Bool, true, false, Option, Some, None, IsSome, Ordering, Less, Equal, Greater, nat_cmp, refl, ap, ◌∙◌, arith}
+use Rattle.std.proofs.Common.{◌≡◌, ℕ, ℤ, List, [], ◌∷◌, length, Bool, true, false, Option, Some, None, IsSome, Ordering, Less, Equal, Greater}
+use Rattle.std.proofs.Common.{nat_cmp, refl, ap, ◌∙◌, arith}
 use Rattle.std.proofs.lemmas.Bool.{and_parts, false≢true}
 use Rattle.std.proofs.lemmas.Cmp.{nat_list_cmp_total}
 use Rattle.std.proofs.lemmas.Map.Lookups.{exact_bytes}
@@ -9,7 +10,8 @@ use Rattle.std.specs.Cmp.Lexicographic.{slice_cmp}
 use Rattle.std.specs.List.{list_any}
 use Rattle.std.specs.Ordering.{match_ordering}
 use Rattle.std.specs.Str.{bytes_eq}
-use Rattle.toml.specs.Data.{Data, string, integer, float, boolean, datetime, array, table, Items, no_items, item, Members, no_members, member, get_member, as_str, as_integer, as_array, as_table}
+use Rattle.toml.specs.Data.{Data, string, integer, float, boolean, datetime, array, table, Items, no_items, item, Members, no_members, member}
+use Rattle.toml.specs.Data.{get_member, as_str, as_integer, as_array, as_table}
 use Rattle.mb_scenario.specs.Document.{AreEach, HoldsOnly}
 use Rattle.mb_scenario.specs.Scenario.{◌>>=◌, only_if, has_only, each, item_count}
 
@@ -66,7 +68,8 @@ integer_from (array es) z h = cc
 integer_from (table ns) z h = cc
 
 -- items that are all read are these, one by one
-pub each_parts : {A : Type 0} (f : Data → Option A) (R : A → Data → Type 0) → ((x : A) (d : Data) → f d ≡ Some x → R x d) → (ds : Items) (xs : List A) → each f ds ≡ Some xs → AreEach R xs ds
+pub each_parts : {A : Type 0} (f : Data → Option A) (R : A → Data → Type 0) → ((x : A) (d : Data) → f d ≡ Some x → R x d)
+    → (ds : Items) (xs : List A) → each f ds ≡ Some xs → AreEach R xs ds
 each_parts f R part no_items [] h = tt
 each_parts f R part no_items (x ∷ xs) h = cc
 each_parts f R part (item d ds) [] h = absurd (let (x, a, b) = bind_some (f d) _ [] h in let (ys, e, g) = bind_some (each f ds) _ [] b in cc)
@@ -77,7 +80,8 @@ each_parts f R part (item d ds) (x ∷ xs) h =
     let tail : ys ≡ xs = cc in
     (part x d (first ∙ ap Some head), each_parts f R part ds xs (rest ∙ ap Some tail))
 
-pub each_from : {A : Type 0} (f : Data → Option A) (R : A → Data → Type 0) → ((x : A) (d : Data) → R x d → f d ≡ Some x) → (ds : Items) (xs : List A) → AreEach R xs ds → each f ds ≡ Some xs
+pub each_from : {A : Type 0} (f : Data → Option A) (R : A → Data → Type 0) → ((x : A) (d : Data) → R x d → f d ≡ Some x)
+    → (ds : Items) (xs : List A) → AreEach R xs ds → each f ds ≡ Some xs
 each_from f R whole no_items [] h = refl
 each_from f R whole no_items (x ∷ xs) h = absurd h
 each_from f R whole (item d ds) [] h = absurd h
@@ -90,8 +94,10 @@ length_each R no_items (x ∷ xs) h = absurd h
 length_each R (item d ds) [] h = absurd h
 length_each R (item d ds) (x ∷ xs) h = rw (length_each R ds xs h.1) (omega arith)
 
-known_at : (keys : List (List ℕ)) (key l : List ℕ) (d : Data) (found : Option Data) (o : Ordering) → slice_cmp nat_cmp key l ≡ o → list_any (λ k. bytes_eq k l) keys ≡ true
-    → (IsSome found → list_any (λ k. bytes_eq k key) keys ≡ true) → IsSome (match_ordering o found (Some d) found) → list_any (λ k. bytes_eq k key) keys ≡ true
+known_at : (keys : List (List ℕ)) (key l : List ℕ) (d : Data) (found : Option Data) (o : Ordering) → slice_cmp nat_cmp key l ≡ o
+    → list_any (λ k. bytes_eq k l) keys ≡ true
+    → (IsSome found → list_any (λ k. bytes_eq k key) keys ≡ true) → IsSome (match_ordering o found (Some d) found)
+    → list_any (λ k. bytes_eq k key) keys ≡ true
 known_at keys key l d found Less e here more s = more s
 known_at keys key l d found Equal e here more s = rw (exact_bytes key l e) here
 known_at keys key l d found Greater e here more s = more s

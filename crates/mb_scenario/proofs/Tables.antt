@@ -1,13 +1,16 @@
 -- A table that is read is what it is said to be, and what is said to be so is read.
-use Rattle.std.proofs.Common.{◌≡◌, ℕ, ℤ, pos, negsuc, List, [], ◌∷◌, length, codes, true, ◌<◌, ◌^◌, inl, inr, nat_lt, Option, Some, None, refl, sym, ap, ◌∙◌, arith}
+use Rattle.std.proofs.Common.{◌≡◌, ℕ, ℤ, pos, negsuc, List, [], ◌∷◌, length, codes, true, ◌<◌, ◌^◌, inl, inr, nat_lt, Option, Some, None, refl}
+use Rattle.std.proofs.Common.{sym, ap, ◌∙◌, arith}
 use Rattle.std.proofs.lemmas.Bool.{ltb-true, lt-ltb}
 use Rattle.std.proofs.lemmas.Option.{same_Some}
 use Rattle.std.proofs.lemmas.Slice.Eq.{bytes_eq-Decides}
 use Rattle.std.specs.Str.{bytes_eq}
 use Rattle.toml.specs.Data.{Data, string, integer, array, Items, no_items, item, Members, get_member, as_str, as_integer, as_array, as_table}
-use Rattle.mb_scenario.proofs.Parts.{bind_some, only_if_some, table_from, array_from, string_from, integer_from, each_parts, each_from, length_each, only_parts, only_from}
+use Rattle.mb_scenario.proofs.Parts.{bind_some, only_if_some, table_from, array_from, string_from, integer_from, each_parts, each_from}
+use Rattle.mb_scenario.proofs.Parts.{length_each, only_parts, only_from}
 use Rattle.mb_scenario.specs.Document.{Holds, HoldsInteger, HoldsKind, MayHoldEach, IsTable, IsOperation, IsRow, IsActor, IsSend}
-use Rattle.mb_scenario.specs.Scenario.{RowData, ActorData, only_if, has_only, each, item_count, integer_in, text_in, items_in, integer_or_zero, items_or_none, kind_number, kind_in, is_name, operation_of, row_of, actor_of, send_of}
+use Rattle.mb_scenario.specs.Scenario.{RowData, ActorData, only_if, has_only, each, item_count, integer_in, text_in, items_in, integer_or_zero}
+use Rattle.mb_scenario.specs.Scenario.{items_or_none, kind_number, kind_in, is_name, operation_of, row_of, actor_of, send_of}
 use Rattle.mb_scenario.specs.declared.scenario.Operation.{Operation}
 use Rattle.mb_scenario.specs.declared.scenario.Operation.TheVariants.{Add}
 use Rattle.mb_scenario.specs.declared.scenario.Sending.{Sending}
@@ -23,7 +26,8 @@ pub items_there : (ms : Members) (key : List ℕ) (ds : Items) → items_in (get
 items_there ms key ds h = let (d, at, is) = bind_some (get_member key ms) as_array ds h in at ∙ ap Some (array_from d ds is)
 
 -- an integer that may be absent
-integer_parts : (ms : Members) (key : List ℕ) (found : Option Data) (z : ℤ) → get_member key ms ≡ found → integer_or_zero found ≡ Some z → HoldsInteger ms key z
+integer_parts : (ms : Members) (key : List ℕ) (found : Option Data) (z : ℤ) → get_member key ms ≡ found → integer_or_zero found ≡ Some z
+    → HoldsInteger ms key z
 integer_parts ms key None z at h = inr (at, sym (same_Some (pos 0) z h))
 integer_parts ms key (Some d) z at h = inl (at ∙ ap Some (integer_from d z h))
 
@@ -50,7 +54,8 @@ kind_whole : (ms : Members) (n : ℕ) → HoldsKind ms n → kind_in (get_member
 kind_whole ms n h = rw (h.0, lt-ltb n (2 ^ 32) h.1) refl
 
 -- an array that may be absent
-pub each_parts_or_none : {A : Type 0} (f : Data → Option A) (R : A → Data → Type 0) → ((x : A) (d : Data) → f d ≡ Some x → R x d) → (ms : Members) (key : List ℕ) (found : Option Data) (ds : Items) (xs : List A)
+pub each_parts_or_none : {A : Type 0} (f : Data → Option A) (R : A → Data → Type 0) → ((x : A) (d : Data) → f d ≡ Some x → R x d)
+    → (ms : Members) (key : List ℕ) (found : Option Data) (ds : Items) (xs : List A)
     → get_member key ms ≡ found → items_or_none found ≡ Some ds → each f ds ≡ Some xs → MayHoldEach ms key R xs
 each_parts_or_none f R part ms key None no_items xs at h e = inr (at, sym (same_Some [] xs e))
 each_parts_or_none f R part ms key None (item d ds) xs at h e = cc
@@ -88,7 +93,12 @@ row_parts row d h =
       record {
         keys = only_parts (codes "do" ∷ codes "kind" ∷ []) ms only;
         kind = kind_parts ms row.kind (k' ∙ ap (λ (r : RowData). Some r.kind) same);
-        operations = (ds, items_there ms (codes "do") ds there, each_parts operation_of IsOperation operation_parts ds row.operations (each_one ∙ ap (λ (r : RowData). Some r.operations) same));
+        operations = (
+          ds,
+          items_there ms (codes "do") ds there,
+          each_parts operation_of IsOperation operation_parts ds row.operations
+              (each_one ∙ ap (λ (r : RowData). Some r.operations) same),
+        );
       },
     )
 
@@ -97,10 +107,17 @@ unfolding row_of
 row_whole row d h =
     let ms = h.0 in
     let t = h.2 in
-    rw (h.1, only_from (codes "do" ∷ codes "kind" ∷ []) ms t.keys, kind_whole ms row.kind t.kind, t.operations.1, each_from operation_of IsOperation operation_whole t.operations.0 row.operations t.operations.2) refl
+    rw (
+      h.1,
+      only_from (codes "do" ∷ codes "kind" ∷ []) ms t.keys,
+      kind_whole ms row.kind t.kind,
+      t.operations.1,
+      each_from operation_of IsOperation operation_whole t.operations.0 row.operations t.operations.2,
+    ) refl
 
 -- an array that may be absent, the other way round
-pub each_whole_or_none : {A : Type 0} (f : Data → Option A) (R : A → Data → Type 0) → ((x : A) (d : Data) → R x d → f d ≡ Some x) → (ms : Members) (key : List ℕ) (xs : List A)
+pub each_whole_or_none : {A : Type 0} (f : Data → Option A) (R : A → Data → Type 0) → ((x : A) (d : Data) → R x d → f d ≡ Some x)
+    → (ms : Members) (key : List ℕ) (xs : List A)
     → MayHoldEach ms key R xs → (ds : Items) × (items_or_none (get_member key ms) ≡ Some ds) × (each f ds ≡ Some xs) × (item_count ds ≡ length xs)
 each_whole_or_none f R whole ms key xs (inl h) = (h.0, rw h.1 refl, each_from f R whole h.0 xs h.2, length_each R h.0 xs h.2)
 each_whole_or_none f R whole ms key xs (inr h) = (no_items, rw h.0 refl, ap Some (sym h.1), ap length (sym h.1))
@@ -126,8 +143,10 @@ actor_parts actor d h =
         keys = only_parts actor_keys ms only;
         name = text_there ms (codes "name") actor.name (n' ∙ ap (λ (r : ActorData). Some r.name) same);
         well_named = sym (ap (λ (r : ActorData). is_name r.name) same) ∙ named;
-        initial = integer_parts ms (codes "initial") (get_member (codes "initial") ms) actor.initial refl (i' ∙ ap (λ (r : ActorData). Some r.initial) same);
-        rows = each_parts_or_none row_of (IsTable IsRow) row_parts ms (codes "on") (get_member (codes "on") ms) ds actor.rows refl there (each_one ∙ ap (λ (r : ActorData). Some r.rows) same);
+        initial = integer_parts ms (codes "initial") (get_member (codes "initial") ms) actor.initial refl (i'
+            ∙ ap (λ (r : ActorData). Some r.initial) same);
+        rows = each_parts_or_none row_of (IsTable IsRow) row_parts ms (codes "on") (get_member (codes "on") ms) ds actor.rows refl there
+            (each_one ∙ ap (λ (r : ActorData). Some r.rows) same);
       },
     )
 
@@ -137,7 +156,15 @@ actor_whole actor d h =
     let ms = h.0 in
     let t = h.2 in
     let (ds, there, each_one, count) = each_whole_or_none row_of (IsTable IsRow) row_whole ms (codes "on") actor.rows t.rows in
-    rw (h.1, only_from actor_keys ms t.keys, t.name, t.well_named, integer_whole ms (codes "initial") actor.initial t.initial, there, each_one) refl
+    rw (
+      h.1,
+      only_from actor_keys ms t.keys,
+      t.name,
+      t.well_named,
+      integer_whole ms (codes "initial") actor.initial t.initial,
+      there,
+      each_one,
+    ) refl
 
 -- a message that is sent
 abbrev send_keys : List (List ℕ)
@@ -168,4 +195,12 @@ unfolding send_of
 send_whole name sending d h =
     let ms = h.0 in
     let t = h.2 in
-    rw (h.1, only_from send_keys ms t.keys, t.receiver, text_itself name, kind_whole ms sending.kind t.kind, integer_whole ms (codes "value") sending.value t.value) refl
+    rw (
+      h.1,
+      only_from send_keys ms t.keys,
+      t.receiver,
+      text_itself name,
+      kind_whole ms sending.kind t.kind,
+      integer_whole ms
+          (codes "value") sending.value t.value,
+    ) refl

@@ -4,7 +4,7 @@ use Rattle.std.specs.List.{list_any}
 use Rattle.std.specs.Str.{bytes_eq}
 use Rattle.toml.specs.Data.{Data, string, integer, array, table, Items, no_items, item, Members, get_member}
 use Rattle.mb_scenario.specs.Scenario.{RowData, ActorData, ScenarioData, is_name}
-use Rattle.mb_scenario.specs.declared.limits.TheConstants.{SCENARIO_SENDS}
+use Rattle.mb_scenario.specs.Limits.{most_sends}
 use Rattle.mb_scenario.specs.declared.scenario.Operation.{Operation}
 use Rattle.mb_scenario.specs.declared.scenario.Operation.TheVariants.{Add}
 use Rattle.mb_scenario.specs.declared.scenario.Sending.{Sending}
@@ -79,4 +79,4 @@ pub record IsScenario (scenario : ScenarioData) (ms : Members) : Type 0 where
   pub workers : Holds ms (codes "workers") (integer (pos 0))
   pub actor : HoldsEach ms (codes "actor") (IsTable IsActor) (scenario.actor ∷ [])
   pub sends : MayHoldEach ms (codes "send") (IsTable (IsSend scenario.actor.name)) scenario.sends
-  pub few : length scenario.sends ≤ SCENARIO_SENDS
+  pub few : length scenario.sends ≤ most_sends

@@ -1,5 +1,6 @@
 pub mod Document
 pub mod Fault
+pub mod Limits
 pub mod Outcome
 pub mod Reading
 pub mod Report

@@ -3,7 +3,7 @@ use Rattle.std.specs.Prelude.{◌≡◌, ℕ, ◌<◌, ◌≤◌, List, length, 
 use Rattle.toml.specs.Data.{Members}
 use Rattle.toml.specs.Parse.{parse_document}
 use Rattle.mb_scenario.specs.Scenario.{RowData, ActorData, ScenarioData, scenario_of}
-use Rattle.mb_scenario.specs.declared.limits.TheConstants.{SCENARIO_BYTES}
+use Rattle.mb_scenario.specs.Limits.{most_bytes}
 use Rattle.mb_scenario.specs.declared.fault.Fault.{Fault}
 use Rattle.mb_scenario.specs.declared.fault.Fault.TheVariants.{NoMemory, NotToml, BadScenario}
 use Rattle.mb_scenario.specs.declared.fault.Place.TheVariants.{Input, Top}
@@ -39,7 +39,7 @@ Gives view (Err fault) read = Misses fault read
 
 -- the text is within the limit, and this document
 pub record IsText (text : List ℕ) (document : Members) : Type 0 where
-  pub short : length text ≤ SCENARIO_BYTES
+  pub short : length text ≤ most_bytes
   pub utf8 : IsUtf8 text
   pub parsed : parse_document text ≡ Some document
 
@@ -49,9 +49,9 @@ IsReadAs text scenario = (document : Members) × IsText text document × (scenar
 
 -- what is so of a text where its reading ends in a fault
 abbrev pub Refuses : List ℕ → Fault → Type 0
-Refuses text NoMemory = length text ≤ SCENARIO_BYTES
-Refuses text NotToml = (length text ≤ SCENARIO_BYTES) × (IsUtf8 text → parse_document text ≡ None)
-Refuses text (BadScenario Input TooMany) = SCENARIO_BYTES < length text
+Refuses text NoMemory = length text ≤ most_bytes
+Refuses text NotToml = (length text ≤ most_bytes) × (IsUtf8 text → parse_document text ≡ None)
+Refuses text (BadScenario Input TooMany) = most_bytes < length text
 Refuses text (BadScenario Top NotYet) = (document : Members) × IsText text document × (scenario_of document ≡ None)
 -- no other fault comes
 Refuses text (BadScenario Input NotYet) = ⊥

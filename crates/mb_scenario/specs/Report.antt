@@ -59,8 +59,8 @@ unfoldable pub restarts_text : ℕ → List ℕ
 restarts_text restarts = codes " restarts " ++ decimal restarts ++ codes "\n"
 
 -- the line of one actor
-abbrev pub line_of : LineData → List ℕ
-line_of line = standing_text line.name line.phase line.state ++ suspended_text line.suspended
+abbrev pub line_text : LineData → List ℕ
+line_text line = standing_text line.name line.phase line.state ++ suspended_text line.suspended
     ++ counts_text line.handled line.left line.dead ++ restarts_text line.restarts
 
 -- the line of totals: handled, left and dead are sums over the actors, and sent is the sum of the three
@@ -68,8 +68,9 @@ abbrev pub totals_text : ℕ → ℕ → ℕ → List ℕ
 totals_text handled left dead = codes "sent " ++ decimal (handled + left + dead) ++ counts_text handled left dead ++ codes "\n"
 
 abbrev pub totals_of : List LineData → List ℕ
-totals_of lines = totals_text (sum_by (λ (line : LineData). line.handled) lines) (sum_by (λ (line : LineData). line.left) lines) (sum_by (λ (line : LineData). line.dead) lines)
+totals_of lines = totals_text (sum_by (λ (line : LineData). line.handled) lines) (sum_by (λ (line : LineData). line.left) lines) (sum_by (λ
+    (line : LineData). line.dead) lines)
 
 -- the whole report: a line for each actor, in order, and then the totals
 abbrev pub text_of : List LineData → List ℕ
-text_of lines = flat_map line_of lines ++ totals_of lines
+text_of lines = flat_map line_text lines ++ totals_of lines

@@ -1,10 +1,11 @@
 -- What a scenario says, and which documents are scenarios (this project's own profile). Today a scenario has
 -- one actor and no workers.
-use Rattle.std.specs.Prelude.{ℕ, ℤ, pos, negsuc, List, [], ◌∷◌, length, codes, Bool, true, false, not, ◌&&◌, ◌||◌, ◌==◌, ◌+◌, ◌^◌, nat_le, nat_lt, Option, Some, None, option_and_then}
+use Rattle.std.specs.Prelude.{ℕ, ℤ, pos, negsuc, List, [], ◌∷◌, length, codes, Bool, true, false, not, ◌&&◌, ◌||◌, ◌==◌, ◌+◌, ◌^◌, nat_le, nat_lt}
+use Rattle.std.specs.Prelude.{Option, Some, None, option_and_then}
 use Rattle.std.specs.List.{list_all, list_any}
 use Rattle.std.specs.Str.{bytes_eq}
 use Rattle.toml.specs.Data.{Data, Items, no_items, item, Members, no_members, member, get_member, as_str, as_integer, as_array, as_table}
-use Rattle.mb_scenario.specs.declared.limits.TheConstants.{SCENARIO_SENDS}
+use Rattle.mb_scenario.specs.Limits.{most_sends}
 use Rattle.mb_scenario.specs.declared.scenario.Operation.{Operation}
 use Rattle.mb_scenario.specs.declared.scenario.Operation.TheVariants.{Add}
 use Rattle.mb_scenario.specs.declared.scenario.Sending.{Sending}
@@ -143,7 +144,7 @@ send_of name d = do
 unfoldable pub sends_of : List ℕ → Option Data → Option (List Sending)
 sends_of name found = do
   list ← items_or_none found
-  only_if (nat_le (item_count list) SCENARIO_SENDS) (each (send_of name) list)
+  only_if (nat_le (item_count list) most_sends) (each (send_of name) list)
 
 -- the scenario that a document is: no workers, one actor, and what it is sent
 unfoldable pub scenario_of : Members → Option ScenarioData

@@ -5,7 +5,7 @@ use Rattle.mb_actor.specs.Behaviour.{Call, Start, Receive, Restart, Stop, Moment
 use Rattle.mb_actor.specs.declared.answer.Answer.{Answer}
 use Rattle.mb_actor.specs.declared.answer.Answer.TheVariants.{Handled, Unhandled}
 use Rattle.mb_actor.specs.declared.message.Message.{Message}
-use Rattle.mb_actor.specs.declared.message.Message.TheVariants.{User, Terminated}
+use Rattle.mb_actor.specs.declared.message.Message.TheVariants.{User, Control, Terminated}
 use Rattle.mb_scenario.specs.Scenario.{RowData}
 use Rattle.mb_scenario.specs.declared.scenario.Operation.{Operation}
 use Rattle.mb_scenario.specs.declared.scenario.Operation.TheVariants.{Add}
@@ -34,9 +34,10 @@ abbrev pub after_row : ℤ → ℤ → Option RowData → ℤ
 after_row value state None = state
 after_row value state (Some row) = grown value state row.operations
 
--- the state after one message
+-- the state after one message: a control message is treated as any other of its kind
 abbrev pub after_message : List RowData → ℤ → Message → ℤ
 after_message rows state (User kind value) = after_row value state (row_for kind rows)
+after_message rows state (Control kind value) = after_row value state (row_for kind rows)
 after_message rows state (Terminated who) = state
 
 -- the state after these messages, in order, since it was last `initial`
@@ -44,21 +45,22 @@ abbrev pub after_of : ℤ → List RowData → List Message → ℤ
 after_of initial rows messages = fold (after_message rows) initial messages
 
 -- whether there is a row for the message
-abbrev pub answer_of_row : Option RowData → Answer
-answer_of_row None = Unhandled
-answer_of_row (Some row) = Handled
+abbrev pub answer_by_row : Option RowData → Answer
+answer_by_row None = Unhandled
+answer_by_row (Some row) = Handled
 
-abbrev pub answer_of_message : List RowData → Message → Answer
-answer_of_message rows (User kind value) = answer_of_row (row_for kind rows)
-answer_of_message rows (Terminated who) = Unhandled
+abbrev pub answer_to_message : List RowData → Message → Answer
+answer_to_message rows (User kind value) = answer_by_row (row_for kind rows)
+answer_to_message rows (Control kind value) = answer_by_row (row_for kind rows)
+answer_to_message rows (Terminated who) = Unhandled
 
 -- the answer to each call
-abbrev pub answer_of : List RowData → Call → Option Answer
-answer_of rows Start = Some Handled
-answer_of rows (Receive message) = Some (answer_of_message rows message)
-answer_of rows (Restart cause) = Some Handled
-answer_of rows Stop = None
+abbrev pub answer_to : List RowData → Call → Option Answer
+answer_to rows Start = Some Handled
+answer_to rows (Receive message) = Some (answer_to_message rows message)
+answer_to rows (Restart cause) = Some Handled
+answer_to rows Stop = None
 
 -- a call gives exactly that answer, and asks for no effects
 abbrev pub gives_of : List RowData → Moment → Reply → Type 0
-gives_of rows moment reply = (reply.answer ≡ answer_of rows moment.call) × (reply.effects ≡ [])
+gives_of rows moment reply = (reply.answer ≡ answer_to rows moment.call) × (reply.effects ≡ [])

@@ -2,7 +2,7 @@
 
 ghost use Rattle.std.specs.Prelude.{◌≡◌, ℤ, map, fold, option_map};
 ghost use Rattle.mb_scenario.specs.Reading.{row_data};
-ghost use Rattle.mb_scenario.specs.Script.{after_operation, grown, row_for};
+ghost use Rattle.mb_scenario.specs.Script.{after_operation, after_row, answer_by_row, grown, row_for};
 
 use crate::scenario::{Operation, Row};
 use mb_actor::{Actor, Answer, Message, Outbox};
@@ -40,6 +40,20 @@ impl Script {
             state: initial,
         }
     }
+
+    /// Does what the first row of the kind says.
+    fn do_kind(&mut self, kind: u32, value: i64) -> Answer
+        ensures state { self.new ≡ record self.old { state = after_row value self.old.state (row_for kind self.old.rows) } }
+        ensures answer { result ≡ answer_by_row (row_for kind self.old.rows) }
+    {
+        match first_of_kind(&self.rows, kind) {
+            Some(row) => {
+                self.state = grown(self.state, &row.operations, value);
+                Answer::Handled
+            }
+            None => Answer::Unhandled,
+        }
+    }
 }
 
 impl Actor for Script {
@@ -58,13 +72,8 @@ impl Actor for Script {
 
     fn receive(&mut self, message: &Message, _out: &mut Outbox) -> Answer {
         match *message {
-            Message::User { kind, value } => match first_of_kind(&self.rows, kind) {
-                Some(row) => {
-                    self.state = grown(self.state, &row.operations, value);
-                    Answer::Handled
-                }
-                None => Answer::Unhandled,
-            },
+            Message::User { kind, value } => self.do_kind(kind, value),
+            Message::Control { kind, value } => self.do_kind(kind, value),
             Message::Terminated(_) => Answer::Unhandled,
         }
     }

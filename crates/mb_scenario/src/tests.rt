@@ -1,7 +1,7 @@
 use super::*;
 use mb_actor::{Actor, Answer, Message, Outbox, Phase};
 use mb_msg::{ActorId, Cause};
-use std::alloc::Global;
+use std::alloc::{AllocError, Global};
 use std::test::Fail;
 
 const COUNT: &str = "workers = 0
@@ -126,6 +126,50 @@ fn refuses_long_texts(rt: HostRuntime) -> Result<(), Fail> {
     Ok(())
 }
 
+/// A scenario with so many sends.
+fn with_sends(alloc: Global, count: usize) -> Result<String, Fail> {
+    let mut text = String::from_str(alloc, "workers = 0\nactor = [{ name = \"a\" }]\nsend = [\n")?;
+    for _ in 0..count {
+        text.push_str("{ to = \"a\", kind = 1 },\n")?;
+    }
+    text.push_str("]\n")?;
+    Ok(text)
+}
+
+#[test]
+fn takes_as_many_sends_as_there_may_be(rt: HostRuntime) -> Result<(), Fail> {
+    let alloc = rt.alloc();
+    let most = with_sends(alloc, 10_000)?;
+    let scenario = read(alloc, most.as_bytes())?;
+    assert_eq!(rt; scenario.sends.len(), 10_000);
+    let more = with_sends(alloc, 10_001)?;
+    assert_eq!(rt; fault_of(alloc, more.as_bytes()), Some(NOT_YET));
+    Ok(())
+}
+
+/// A scenario whose actor has the name, and of which one kind of message is sent.
+fn with_name_and_kind(alloc: Global, name: &str, kind: &str) -> Result<String, AllocError> {
+    format!(in alloc;
+        "workers = 0\nactor = [{{ name = \"{name}\" }}]\nsend = [{{ to = \"{name}\", kind = {kind} }}]\n"
+    )
+}
+
+#[test]
+fn takes_names_and_kinds_to_their_ends(rt: HostRuntime) -> Result<(), Fail> {
+    let alloc = rt.alloc();
+    let of_32 = "abcdefghijklmnopqrstuvwxyz_01234";
+    let of_33 = "abcdefghijklmnopqrstuvwxyz_012345";
+    let longest = with_name_and_kind(alloc, of_32, "4294967295")?;
+    assert_eq!(rt; fault_of(alloc, longest.as_bytes()), None);
+    let longer = with_name_and_kind(alloc, of_33, "0")?;
+    assert_eq!(rt; fault_of(alloc, longer.as_bytes()), Some(NOT_YET));
+    let greater = with_name_and_kind(alloc, "a", "4294967296")?;
+    assert_eq!(rt; fault_of(alloc, greater.as_bytes()), Some(NOT_YET));
+    let less = with_name_and_kind(alloc, "a", "-1")?;
+    assert_eq!(rt; fault_of(alloc, less.as_bytes()), Some(NOT_YET));
+    Ok(())
+}
+
 #[test]
 fn prints_faults(rt: HostRuntime) -> Result<(), Fail> {
     let alloc = rt.alloc();
@@ -234,6 +278,12 @@ fn does_the_first_row_of_a_kind(rt: HostRuntime) -> Result<(), Fail> {
         Answer::Unhandled
     );
     assert_eq!(rt; script.state(), 16);
+    out.clear();
+    assert_eq!(rt;
+        script.receive(&Message::Control { kind: 2, value: 1 }, &mut out),
+        Answer::Handled
+    );
+    assert_eq!(rt; script.state(), 18);
     out.clear();
     assert_eq!(rt;
         script.receive(&Message::Terminated(ActorId(1)), &mut out),

@@ -3,6 +3,7 @@
 ghost use Rattle.std.specs.Prelude.{◌≡◌, nat_le, option_map};
 ghost use Rattle.toml.specs.View.{view, items_view};
 ghost use Rattle.mb_scenario.specs.Reading.{Gives};
+ghost use Rattle.mb_scenario.specs.Limits.{most_sends};
 ghost use Rattle.mb_scenario.specs.Scenario.{each, item_count, send_of, sends_of};
 
 use super::NOT_YET;
@@ -33,7 +34,7 @@ pub(super) fn sends_of(
 /// Whether there are no more than the limit allows.
 #[tactic(auto, using(crate::proofs::Arrays::item_count_view))]
 fn are_few(values: &[Value]) -> bool
-    ensures { result ≡ nat_le (item_count (items_view values.now)) SCENARIO_SENDS }
+    ensures { result ≡ nat_le (item_count (items_view values.now)) most_sends }
 {
     values.len() <= SCENARIO_SENDS
 }

@@ -1,6 +1,6 @@
 ghost use Rattle.std.specs.Prelude.{◌≡◌, Some};
 ghost use Rattle.std.specs.Fmt.{WritesOnOk};
-ghost use Rattle.mb_scenario.specs.Report.{phase_text, standing_text, suspended_text, counts_text, restarts_text, line_of, line_data};
+ghost use Rattle.mb_scenario.specs.Report.{phase_text, standing_text, suspended_text, counts_text, restarts_text, line_text, line_data};
 
 use mb_actor::Phase;
 use std::fmt;
@@ -27,7 +27,7 @@ pub struct ReportLine {
 }
 
 impl fmt::Display for ReportLine {
-    ghost output = { λ line. Some (line_of (line_data line)) };
+    ghost output = { λ line. Some (line_text (line_data line)) };
 
     fn fmt<W: fmt::Write>(&self, f: &mut fmt::Formatter<W>) -> fmt::Result {
         write_standing(f, self.name.as_str(), self.phase, self.state)?;

@@ -14,12 +14,17 @@ returns-then-not-is_among c =
     let e : Entry = (c.in-Some.key.now, c.in-Some._value.now) in
     let iter : c.loop-key.key-iterator ≡ e ∷ c.next.new.self = grind (arith, common_steps) in
     let bad : list_any (λ (k : Bor (List ℕ)). bytes_eq k.now (string_bytes e.0)) c.args.keys.now ≡ false = grind (arith, common_steps) in
-    sym (has_only-unknown c.args.keys.now e c.next.new.self bad) ∙ (ap (λ es. has_only (texts c.args.keys.now) (members_view es)) (sym iter) ∙ same)
+    sym (has_only-unknown c.args.keys.now e c.next.new.self bad)
+    ∙ (ap (λ es. has_only (texts c.args.keys.now) (members_view es)) (sym iter) ∙ same)
 
 pub loop-key-preserved : goal.loop-key-preserved
 loop-key-preserved c =
     let (can, finite, same) = c.loop-key.invariant in
     let e : Entry = (c.in-Some.key.now, c.in-Some._value.now) in
     let iter : c.loop-key.key-iterator ≡ e ∷ c.next.new.self = grind (arith, common_steps) in
-    let good : list_any (λ (k : Bor (List ℕ)). bytes_eq k.now (string_bytes e.0)) c.args.keys.now ≡ true = grind (arith, common_steps) in
-    (tt, tt, sym (has_only-known c.args.keys.now e c.next.new.self good) ∙ (ap (λ es. has_only (texts c.args.keys.now) (members_view es)) (sym iter) ∙ same))
+    let good : list_any (λ (k : Bor (List ℕ)). bytes_eq k.now (string_bytes e.0)) c.args.keys.now ≡ true = grind (arith, common_steps) in (
+      tt,
+      tt,
+      sym (has_only-known c.args.keys.now e c.next.new.self good)
+          ∙ (ap (λ es. has_only (texts c.args.keys.now) (members_view es)) (sym iter) ∙ same),
+    )

@@ -10,5 +10,6 @@ loop-line-preserved g c = λ plain.
 
 pub returns-clause-writes : goal.returns-clause-writes
 returns-clause-writes g c = λ plain ok.
-    has_written_of_eq _ _ _ _ _ (lines_all _ c.args.self.now.lines.items c.loop-line.line-index c.deref-line-items.ensures.value c.loop-line-test.false)
+    has_written_of_eq _ _ _ _ _
+    (lines_all _ c.args.self.now.lines.items c.loop-line.line-index c.deref-line-items.ensures.value c.loop-line-test.false)
     (has_written_append _ _ _ _ _ _ (c.loop-line.invariant plain) (search rules))

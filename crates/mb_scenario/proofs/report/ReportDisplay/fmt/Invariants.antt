@@ -1,10 +1,11 @@
 use Rattle.std.proofs.Common.{take}
 use Rattle.std.specs.Fmt.{HasWritten, IsPlainFormatter}
 use Rattle.std.specs.List.{flat_map}
-use Rattle.mb_scenario.specs.Report.{line_of, line_data}
+use Rattle.mb_scenario.specs.Report.{line_text, line_data}
 use Rattle.mb_scenario.proofs.report.ReportDisplay.fmt.Given as goal
 
 -- the lines so far are written
 abbrev pub invariant-loop-line : goal.invariant-loop-line
 invariant-loop-line g l =
-    IsPlainFormatter l.initial.f → HasWritten g.W.Write.write_str_gives l.initial.f (flat_map (λ line. line_of (line_data line)) (take l.line-index l.line-items)) l.f
+    IsPlainFormatter l.initial.f → HasWritten g.W.Write.write_str_gives l.initial.f (flat_map (λ line. line_text (line_data line))
+    (take l.line-index l.line-items)) l.f

@@ -10,9 +10,12 @@ loop-line-preserved c =
     let line = c.line-item.result in
     let lt = c.loop-line-test.true in
     record {
-      handled = rw (sum_by_more (λ (line : ReportLine). line.handled) lines i line lt, ← c.line-item.is) (c.plus.ensures.value ∙ ap (λ n. n + line.handled) c.loop-line.invariant.handled);
-      left = rw (sum_by_more (λ (line : ReportLine). line.left) lines i line lt, ← c.line-item.is) (c.plus-in-loop-line.ensures.value ∙ ap (λ n. n + line.left) c.loop-line.invariant.left);
-      dead = rw (sum_by_more (λ (line : ReportLine). line.dead) lines i line lt, ← c.line-item.is) (c.plus-in-loop-line-2.ensures.value ∙ ap (λ n. n + line.dead) c.loop-line.invariant.dead);
+      handled = rw (sum_by_more (λ (line : ReportLine). line.handled) lines i line lt, ← c.line-item.is) (c.plus.ensures.value
+          ∙ ap (λ n. n + line.handled) c.loop-line.invariant.handled);
+      left = rw (sum_by_more (λ (line : ReportLine). line.left) lines i line lt, ← c.line-item.is) (c.plus-in-loop-line.ensures.value
+          ∙ ap (λ n. n + line.left) c.loop-line.invariant.left);
+      dead = rw (sum_by_more (λ (line : ReportLine). line.dead) lines i line lt, ← c.line-item.is) (c.plus-in-loop-line-2.ensures.value
+          ∙ ap (λ n. n + line.dead) c.loop-line.invariant.dead);
       handled_fits = omega (arith, c.plus.ensures.grows);
       left_fits = omega (arith, c.plus-in-loop-line.ensures.grows);
       dead_fits = omega (arith, c.plus-in-loop-line-2.ensures.grows);
