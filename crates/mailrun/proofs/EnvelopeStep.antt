@@ -123,6 +123,7 @@ handled_step w ready cell envelope envelopes rest is_ready open_ some handles =
         no_acts = refl;
         an_actor = ap is_guardian after.same_who ∙ rest.an_actor;
         not_closed = ap (λ (m : Mailbox). m.closed) status ∙ rest.not_closed;
+        not_scheduled = ap (λ (m : Mailbox). m.scheduled) status ∙ rest.not_scheduled;
         same_count = ap (λ (m : Mailbox). m.count) status ∙ rest.same_count ∙ sym after.same_count;
         standing = running (after.same_phase ∙ runs.live) (after.same_count ∙ runs.unsuspended) (after.same_aside ∙ runs.none_aside);
         numbered = rest.numbered ∙ sym after.same_next;

@@ -1,4 +1,5 @@
 pub mod Counted
+pub mod Endings
 pub mod EnvelopeStep
 pub mod InputLemmas
 pub mod Lines
@@ -7,3 +8,4 @@ pub mod RunSteps
 pub mod SentLemmas
 pub mod Starts
 pub mod SystemStep
+pub mod WrittenLemmas

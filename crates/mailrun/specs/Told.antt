@@ -24,6 +24,10 @@ the_actor limit = childless (record { 0 = 1 }) limit
 abbrev pub scripted : Identity
 scripted = the_actor 4294967295
 
+-- how many envelopes the program's runs of a mailbox handle at most (the default of Akka's `throughput`)
+abbrev pub default_throughput : ℕ
+default_throughput = 5
+
 -- There is a journal that the actor can have, in which the sends were handled, each once and in order; and the outcome
 -- is what it says: the actor is Live and not suspended, and its state is its own function of the messages.
 pub record IsTold (after : List Message → ℤ) (gives : Moment → Reply → Type 0) (sends : List Sending) (outcome : Outcome) : Type 0 where

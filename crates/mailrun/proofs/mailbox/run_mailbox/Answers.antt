@@ -6,9 +6,11 @@ use Rattle.mb_journal.specs.Run.{IsTurns, most_envelopes}
 use Rattle.mb_journal.specs.Run.IsTurns.{a_block}
 use Rattle.mb_journal.specs.Run.Stopped.{UsedUp, NoEnvelope}
 use Rattle.mailrun.proofs.EnvelopeStep.{rest_open}
-use Rattle.mailrun.proofs.RunSteps.{kept_after, rest_no_front, no_room, whole_run, turn_more}
+use Rattle.mailrun.proofs.RunSteps.{full_by_systems, kept_after, rest_no_front, no_room, whole_run, turn_more}
+use Rattle.std.proofs.lemmas.Result.{err_from_is_err_and}
+use Rattle.mb_cell.specs.declared.fault.CellFault.{CellFault}
 use Rattle.mailrun.specs.Post.{world}
-use Rattle.std.specs.Prelude.{Result, Ok, Err, OnErr}
+use Rattle.std.specs.Prelude.{Result, Ok, Err, OnErr, ℕ}
 use Rattle.mailrun.specs.Next.{IsNext}
 use Rattle.mailrun.specs.declared.mailbox.Next.{Next}
 use Rattle.mailrun.proofs.mailbox.run_mailbox.Goals as goal
@@ -101,3 +103,23 @@ returns-clause-whole g c =
     whole_run c.args.throughput (world c.args.cell.now c.args.status.now c.args.post.now) (world c.loop.cell c.loop.status c.loop.post)
     c.loop.turn.systems c.loop.turn.envelopes UsedUp tt (most, rest_no_front _ (world c.loop.cell c.loop.status c.loop.post) c.loop.invariant.kept.same_who c.loop.invariant.rest)
     c.loop.invariant.turns (omega (arith, most)) c.loop.invariant.rest c.loop.invariant.kept c.loop.invariant.no_systems c.loop.invariant.all_systems c.loop.invariant.taken (λ some. omega (arith, most))
+
+pub returns-in_err-apply_systems-clause-full : goal.returns-in_err-apply_systems-clause-full
+returns-in_err-apply_systems-clause-full g c =
+    let p = err_from_is_err_and c.from_residual.result c.from_residual.ensures.1 in
+    let same : p.0 ≡ c.in_err-apply_systems.field-0.0 = p.2 in
+    let first : Result ℕ CellFault = Err c.in_err-apply_systems.field-0.0 in
+    full_by_systems first c.from_residual.result c.in_err-apply_systems.field-0.0 p.0 refl p.1 same c.args.throughput
+    (world c.args.cell.now c.args.status.now c.args.post.now)
+    (world c.apply_systems.new.cell c.apply_systems.new.status c.apply_systems.new.post)
+    c.in_err-apply_systems.ensures.left c.in_err-apply_systems.ensures.full
+
+pub returns-in_err-turn-clause-full : goal.returns-in_err-turn-clause-full
+returns-in_err-turn-clause-full g c =
+    let p = err_from_is_err_and c.from_residual-in_err-turn.result c.from_residual-in_err-turn.ensures.1 in
+    let same : p.0 ≡ c.in_err-turn.field-0.0 = p.2 in
+    let first : Result ℕ CellFault = Err c.in_err-turn.field-0.0 in
+    full_by_systems first c.from_residual-in_err-turn.result c.in_err-turn.field-0.0 p.0 refl p.1 same c.args.throughput
+    (world c.args.cell.now c.args.status.now c.args.post.now)
+    (world c.apply_systems-in-loop.new.cell c.apply_systems-in-loop.new.status c.apply_systems-in-loop.new.post)
+    c.in_err-turn.ensures.left c.in_err-turn.ensures.full

@@ -24,7 +24,7 @@ use Rattle.mailrun.proofs.run.run.Goals as goal
 
 pub loop-status-init : goal.loop-status-init
 loop-status-init g c =
-    let whole = c.in_ok-run_mailbox.ensures.whole in
+    let whole = c.in_ok-run_once.ensures.whole in
     record {
       rest = whole.run_of.rest;
       who = whole.run_of.kept.same_who ∙ c.in-Ok.ensures.who;
@@ -63,18 +63,18 @@ returns-clause-told g c =
       unsuspended = c.count.ensures ∙ running.unsuspended;
     }
 
-pub returns-in_err-run_mailbox-clause-full : goal.returns-in_err-run_mailbox-clause-full
-returns-in_err-run_mailbox-clause-full g c = λ is_full.
+pub returns-in_err-run_once-clause-full : goal.returns-in_err-run_once-clause-full
+returns-in_err-run_once-clause-full g c = λ is_full.
     let p = err_from_is_err_and c.from_residual.result c.from_residual.ensures.1 in
-    let fault : c.in_err-run_mailbox.field-0.0 ≡ JournalFull = let from : p.0 ≡ c.in_err-run_mailbox.field-0.0 = p.2 in
+    let fault : c.in_err-run_once.field-0.0 ≡ JournalFull = let from : p.0 ≡ c.in_err-run_once.field-0.0 = p.2 in
     let same : c.from_residual.result ≡ Err p.0 = p.1 in
     let given : c.from_residual.result ≡ Err JournalFull = is_full in
     cc (from, same, given) in
-    let full = c.in_err-run_mailbox.ensures.full (ap (λ (e : CellFault). Err e) fault) in
+    let full = (c.in_err-run_once.ensures.full.0 (ap (λ (e : CellFault). Err e) fault)).0 in
     let old = world c.in-Ok.running.cell c.in-Ok.running.status c.in-Ok.running.post in
     let begun = ap (λ (j : List Entry). length j) c.in-Ok.ensures.nothing in
     let one = ap (λ (l : List SysMsg). length l) c.in-Ok.ensures.create in
     let sends = ap (λ (l : List Envelope). length l) c.in-Ok.ensures.sent ∙ length-sent 0 c.args.sends.now in
     let limit = ap (λ (w : Identity). w.limit) c.in-Ok.ensures.who in
-    full_needs old (world c.run_mailbox.new.cell c.run_mailbox.new.status c.run_mailbox.new.post) 4294967295 (length c.args.sends.now)
-    c.in_err-run_mailbox.ensures.stopped.kept limit (omega (arith, begun, one, sends)) full
+    full_needs old (world c.run_once.new.cell c.run_once.new.status c.run_once.new.post) 4294967295 (length c.args.sends.now)
+    c.in_err-run_once.ensures.stopped.kept limit (omega (arith, begun, one, sends)) full
