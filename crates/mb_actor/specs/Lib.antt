@@ -1,2 +1,7 @@
+pub mod ActorList
+pub mod ActorSet
 pub mod Behaviour
+pub mod Called
+pub mod Outbox
+pub mod Past
 pub mod Tray

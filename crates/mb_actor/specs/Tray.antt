@@ -1,10 +1,74 @@
--- What an outbox holds.
-use Rattle.std.specs.Prelude.{ℕ, List}
+-- What an outbox holds, what an actor may ask for in it, and what it holds after.
+use Rattle.std.specs.Prelude.{ℕ, ◌==◌, Bool, true, not, ◌&&◌, if◌then◌else◌, List, [], ◌∷◌, ◌++◌, length, filter, nat_lt, nat_le, Option, Some, None, Result, Ok, Err}
+use Rattle.std.specs.List.{filter_map}
 use Rattle.mb_msg.specs.declared.id.ActorId.{ActorId}
+use Rattle.mb_actor.specs.ActorList.{has}
 use Rattle.mb_actor.specs.declared.effect.Effect.{Effect}
+use Rattle.mb_actor.specs.declared.effect.Effect.TheVariants as effect
+use Rattle.mb_actor.specs.declared.fault.OutboxError.{OutboxError}
+use Rattle.mb_actor.specs.declared.fault.OutboxError.TheVariants.{OutboxFull, NoSuchActor}
 
 -- the effects that were asked for, in order; how many actors there are; which children may still be spawned
 pub record Tray : Type 0 where
   pub effects : List Effect
   pub actors : ℕ
   pub unspawned : List ActorId
+
+-- how many effects a call may ask for (this project's own profile: Akka carries them out at once, and has no limit)
+abbrev pub most_effects : ℕ
+most_effects = 16
+
+-- the actor that an effect names
+abbrev pub actor_of : Effect → ActorId
+actor_of (effect.Tell to kind value) = to
+actor_of (effect.Control to kind value) = to
+actor_of (effect.Watch x) = x
+actor_of (effect.Unwatch x) = x
+actor_of (effect.Stop x) = x
+actor_of (effect.Spawn x) = x
+
+-- the child that an effect starts
+abbrev pub spawn_of : Effect → Option ActorId
+spawn_of (effect.Spawn x) = Some x
+spawn_of _ = None
+
+-- the children that the effects start, in order
+abbrev pub spawns_of : List Effect → List ActorId
+spawns_of effects = filter_map spawn_of effects
+
+-- an actor's number, and not that of the guardian, which takes no messages (this project's own profile: in Akka an actor is
+-- named by a reference, which cannot be wrong)
+abbrev pub is_actor : Tray → ActorId → Bool
+is_actor tray x = not (x.0 == 0) && nat_lt x.0 tray.actors
+
+-- a child may be spawned if it was prepared and not spawned yet, nor asked for in this very call (`ActorContext.actorOf`;
+-- that children are prepared is this project's own profile)
+abbrev pub may_spawn : Tray → Effect → Bool
+may_spawn tray (effect.Spawn x) = has tray.unspawned x && not (has (spawns_of tray.effects) x)
+may_spawn tray _ = true
+
+-- why the effect is refused, if it is (this project's own profile)
+abbrev pub refusal : Tray → Effect → Option OutboxError
+refusal tray e =
+    if nat_le most_effects (length tray.effects) then Some OutboxFull
+    else (if is_actor tray (actor_of e) && may_spawn tray e then None
+    else Some NoSuchActor)
+
+-- what is answered
+abbrev pub answer_of : Option OutboxError → Result (Unit {0}) OutboxError
+answer_of None = Ok tt
+answer_of (Some fault) = Err fault
+
+-- the effects after a call: the new one is the last, and one that is refused is not there
+abbrev pub effects_with : Option OutboxError → Effect → List Effect → List Effect
+effects_with None e effects = effects ++ e ∷ []
+effects_with (Some fault) e effects = effects
+
+-- the outbox after a call: nothing but the effects changes
+abbrev pub added : Option OutboxError → Effect → Tray → Tray
+added refused e tray = record tray { effects = effects_with refused e tray.effects }
+
+-- the outbox that the next call finds, where the effects are carried out: empty, without the children that they start
+abbrev pub settled : Tray → Tray
+settled tray =
+    record tray { effects = []; unspawned = filter (λ x. not (has (spawns_of tray.effects) x)) tray.unspawned }

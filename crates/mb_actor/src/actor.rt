@@ -1,6 +1,6 @@
-ghost use Rattle.std.specs.Prelude.{◌≡◌, ℕ, ℤ, List, [], ◌∷◌, ◌++◌, Some, None};
-ghost use Rattle.mb_actor.specs.Behaviour.{Moment, Reply, AllowsSame};
-ghost use Rattle.mb_actor.specs.Behaviour.Call.{Start, Receive, Restart, Stop};
+ghost use Rattle.std.specs.Prelude.{◌≡◌, ℤ, List, [], ◌∷◌, ◌++◌, Some, None};
+ghost use Rattle.mb_actor.specs.Behaviour.{Moment, Reply, IsAllowed, Keeps};
+ghost use Rattle.mb_actor.specs.declared.call.Call.{Call};
 ghost use Rattle.mb_actor.specs.declared.message.Message.{Message};
 
 use crate::answer::Answer;
@@ -23,50 +23,30 @@ pub trait Actor: Drop {
     fn start(&mut self, out: &mut Outbox) -> Answer
         requires empty { out.old.effects ≡ [] }
         ensures begins { content self.new ≡ after self.new [] }
-        ensures given { (l : List Message) → content self.old ≡ after self.old l →
-            gives self.new (record { messages = l; call = Start; actors = out.old.actors; unspawned = out.old.unspawned })
-            (record { answer = Some result; effects = out.new.effects }) }
-        ensures after_kept { after self.new ≡ after self.old }
-        ensures gives_kept { AllowsSame (gives self.old) (gives self.new) }
-        ensures actors_kept { out.new.actors ≡ out.old.actors }
-        ensures unspawned_kept { out.new.unspawned ≡ out.old.unspawned };
+        ensures given { IsAllowed (content self.old) (after self.old) (gives self.new) Call.Start (Some result) out.old out.new }
+        ensures kept { Keeps (after self.old) (gives self.old) out.old (after self.new) (gives self.new) out.new };
 
     /// Handles a message (`receive`). Whatever it answers, the content is that of one message more.
     fn receive(&mut self, message: &Message, out: &mut Outbox) -> Answer
         requires empty { out.old.effects ≡ [] }
         ensures goes_on { (l : List Message) → content self.old ≡ after self.old l →
             content self.new ≡ after self.new (l ++ message.now ∷ []) }
-        ensures given { (l : List Message) → content self.old ≡ after self.old l →
-            gives self.new (record { messages = l; call = Receive message.now; actors = out.old.actors; unspawned = out.old.unspawned })
-            (record { answer = Some result; effects = out.new.effects }) }
-        ensures after_kept { after self.new ≡ after self.old }
-        ensures gives_kept { AllowsSame (gives self.old) (gives self.new) }
-        ensures actors_kept { out.new.actors ≡ out.old.actors }
-        ensures unspawned_kept { out.new.unspawned ≡ out.old.unspawned };
+        ensures given { IsAllowed (content self.old) (after self.old) (gives self.new) (Call.Receive message.now) (Some result) out.old out.new }
+        ensures kept { Keeps (after self.old) (gives self.old) out.old (after self.new) (gives self.new) out.new };
 
     /// Begins again after a failure (`preRestart` and `postRestart`): the content is that of no message.
     fn restart(&mut self, cause: Cause, out: &mut Outbox) -> Answer
         requires empty { out.old.effects ≡ [] }
         ensures begins { content self.new ≡ after self.new [] }
-        ensures given { (l : List Message) → content self.old ≡ after self.old l →
-            gives self.new (record { messages = l; call = Restart cause; actors = out.old.actors; unspawned = out.old.unspawned })
-            (record { answer = Some result; effects = out.new.effects }) }
-        ensures after_kept { after self.new ≡ after self.old }
-        ensures gives_kept { AllowsSame (gives self.old) (gives self.new) }
-        ensures actors_kept { out.new.actors ≡ out.old.actors }
-        ensures unspawned_kept { out.new.unspawned ≡ out.old.unspawned };
+        ensures given { IsAllowed (content self.old) (after self.old) (gives self.new) (Call.Restart cause) (Some result) out.old out.new }
+        ensures kept { Keeps (after self.old) (gives self.old) out.old (after self.new) (gives self.new) out.new };
 
     /// Ends (`postStop`). It changes no content.
     fn stop(&mut self, out: &mut Outbox)
         requires empty { out.old.effects ≡ [] }
         ensures stays { content self.new ≡ content self.old }
-        ensures given { (l : List Message) → content self.old ≡ after self.old l →
-            gives self.new (record { messages = l; call = Stop; actors = out.old.actors; unspawned = out.old.unspawned })
-            (record { answer = None; effects = out.new.effects }) }
-        ensures after_kept { after self.new ≡ after self.old }
-        ensures gives_kept { AllowsSame (gives self.old) (gives self.new) }
-        ensures actors_kept { out.new.actors ≡ out.old.actors }
-        ensures unspawned_kept { out.new.unspawned ≡ out.old.unspawned };
+        ensures given { IsAllowed (content self.old) (after self.old) (gives self.new) Call.Stop None out.old out.new }
+        ensures kept { Keeps (after self.old) (gives self.old) out.old (after self.new) (gives self.new) out.new };
 
     /// The content as one number, for the report.
     fn state(&self) -> i64

@@ -1,3 +1,6 @@
+ghost use Rattle.std.specs.Prelude.{◌≡◌};
+ghost use Rattle.mb_actor.specs.Tray.{actor_of};
+
 use mb_msg::ActorId;
 
 /// What an actor asks for while it is called. It is carried out after the call (this project's own profile: Akka
@@ -16,4 +19,23 @@ pub enum Effect {
     Stop(ActorId),
     /// Start this prepared child (`ActorContext.actorOf`).
     Spawn(ActorId),
+}
+
+impl Effect {
+    /// The actor that it names.
+    pub fn actor(&self) -> ActorId
+        ensures { result ≡ actor_of self.now }
+    {
+        match *self {
+            Effect::Tell { to, .. } | Effect::Control { to, .. } => to,
+            Effect::Watch(id) | Effect::Unwatch(id) | Effect::Stop(id) | Effect::Spawn(id) => id,
+        }
+    }
+}
+
+/// What fills the places of an outbox that hold no effect.
+impl Default for Effect {
+    fn default() -> Self {
+        Effect::Stop(ActorId(0))
+    }
 }

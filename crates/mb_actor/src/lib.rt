@@ -5,10 +5,15 @@
 #![tactic(auto)]
 
 mod actor;
+mod actor_set;
 mod answer;
 mod behaviours;
 mod boxed;
+mod call;
+mod called;
 mod effect;
+mod fault;
+mod history;
 mod message;
 mod outbox;
 mod phase;
@@ -16,7 +21,10 @@ mod phase;
 pub use actor::Actor;
 pub use answer::Answer;
 pub use behaviours::Behaviours;
+pub use call::Call;
+pub use called::Called;
 pub use effect::Effect;
+pub use fault::OutboxError;
 pub use message::Message;
 pub use outbox::Outbox;
 pub use phase::Phase;

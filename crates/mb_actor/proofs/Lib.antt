@@ -1,0 +1,2 @@
+pub mod ActorSetLemmas
+pub mod OutboxLemmas
