@@ -20,7 +20,7 @@ use Rattle.mb_journal.specs.Entry.Entry.{Handled, System}
 use Rattle.mb_journal.specs.Entry.Outcome.{Applied}
 use Rattle.mb_journal.specs.Failure.{failure_of}
 use Rattle.mb_journal.specs.Identity.{Identity, is_guardian}
-use Rattle.mb_journal.specs.Incarnation.{messages, message_of}
+use Rattle.mb_journal.specs.Incarnation.{messages, body_messages}
 use Rattle.mb_journal.specs.Lawful.{IsLawful, IsLawfulEntry, AreLawful, unspawned, moment}
 use Rattle.mb_journal.specs.Life.{phase, closed, has_start}
 use Rattle.mb_journal.specs.Log.{Log}
@@ -30,9 +30,10 @@ use Rattle.mb_journal.specs.Suspension.{count, marks, pluses, minuses, greatest_
 use Rattle.mb_actor.specs.declared.phase.Phase.{Phase}
 use Rattle.mb_actor.specs.declared.phase.Phase.TheVariants.{Fresh, Live, Broken, Ending, Ended}
 use Rattle.mb_journal.proofs.TestLemmas.{none_excepted, if_false}
-use Rattle.mb_journal.proofs.CreateLemmas.{acts-create-well, acts-create_again, phase-create, messages-create, count-create, phase-create_again, messages-create_again, count-create_again}
+use Rattle.mb_journal.proofs.CreateLemmas.{acts-create-well, acts-create_again, phase-create, messages-create, count-create}
+use Rattle.mb_journal.proofs.CreateLemmas.{phase-create_again, messages-create_again, count-create_again}
 use Rattle.mb_journal.proofs.EnvelopeLemmas.{acts-user-well, phase-handled, messages-handled, count-handled, failure_of-user}
-use Rattle.mb_journal.proofs.LawfulLemmas.{lawful-create, lawful-create_again, lawful-user}
+use Rattle.mb_journal.proofs.LawfulLemmas.{can_hold-none, lawful-create, lawful-create_again, lawful-user}
 use Rattle.mb_cell.specs.Agrees.{Agrees}
 use Rattle.mb_cell.specs.Identity.{childless}
 use Rattle.mb_cell.specs.Recorded.{recorded}
@@ -103,7 +104,7 @@ module _ (who : Identity) (before : List Entry) (after : List Message → ℤ) (
       let fresh : phase who before ≡ Fresh = sym kept.same_phase ∙ is_fresh in
       record {
         lawful = lawful-more who (recorded gives) before _ kept.lawful
-            (lawful-create who (recorded gives) before number a [] fresh an_actor next given) within;
+            (lawful-create who (recorded gives) before number a [] fresh an_actor next given (can_hold-none _ _)) within;
         same_phase = sym (phase-create who before number a [] fresh ∙ if_false _ _ _ well);
         started = has_start-create before number (Some a);
         same_count = ap (λ k. k - 1) kept.same_count ∙ sym (count-create who before number a [] fresh ∙ if_false _ _ _ well);
@@ -131,23 +132,24 @@ module _ (who : Identity) (before : List Entry) (after : List Message → ℤ) (
 
   -- a message of a sender's
   pub agrees-user : (envelope : Envelope) (reading : ℕ) (a : Answer) (kind : ℕ) (value : ℤ) (new_content : ℤ) → is_failed (Some a) ≡ false →
-      envelope.body ≡ body.User kind value → is_guardian who ≡ false → phase who before ≡ Live → IsOpen who before reading →
+      envelope.body ≡ body.User kind value → is_guardian who ≡ false → envelope.to ≡ who.this → phase who before ≡ Live →
+      IsOpen who before reading →
       recorded gives (moment who before (Receive (message.User kind value))) (record { answer = Some a; effects = [] }) →
       length (Handled envelope reading (Applied (Some a) []) ∷ before) ≤ who.limit →
       new_content ≡ after (messages who before ++ message.User kind value ∷ []) →
       Agrees who (Handled envelope reading (Applied (Some a) []) ∷ before) after gives p n new_content tray
-  agrees-user envelope reading a kind value new_content well is_user an_actor live open_reading given within content_is =
+  agrees-user envelope reading a kind value new_content well is_user an_actor addressed live open_reading given within content_is =
       let no_failure : failure_of envelope.body (Some a) ≡ None =
       ap (λ b. failure_of b (Some a)) is_user ∙ failure_of-user kind value (Some a) well in
       record {
         lawful = lawful-more who (recorded gives) before _ kept.lawful
-            (lawful-user who (recorded gives) before envelope reading a [] kind value is_user an_actor live open_reading
-            given) within;
+            (lawful-user who (recorded gives) before envelope reading a [] kind value is_user an_actor addressed live open_reading
+            given (can_hold-none _ _)) within;
         same_phase = kept.same_phase ∙ sym (phase-handled who before envelope reading (Some a) []);
         started = has_start-handled before envelope reading (Some a) ∙ kept.started;
         same_count = kept.same_count ∙ sym (count-handled who before envelope reading (Some a) [] (ap (λ q. phase_is q Ended) live)
             (ap is_some no_failure));
-        same_content = content_is ∙ ap after (ap (λ b. messages who before ++ message_of b) (sym is_user) ∙ sym
+        same_content = content_is ∙ ap after (ap (λ b. messages who before ++ body_messages b) (sym is_user) ∙ sym
             (messages-handled who before envelope reading (Some a) []));
         empty_outbox = kept.empty_outbox ∙ ap (λ u. record { effects = []; actors = who.actors; unspawned = u }) (sym
             (unspawned-handled who before envelope reading (Some a)));
@@ -285,18 +287,18 @@ module _ (this : ActorId) (old new : Log) (envelope : Envelope) (word reading : 
 
   pub user-agrees : (after : List Message → ℤ) (gives : Moment → Reply → Type 0) (p : Phase) (n : ℕ) (content new_content : ℤ)
       (tray new_tray : Tray) →
-      Agrees (childless this old.limit) old.entries after gives p n content tray → phase (childless this old.limit) old.entries ≡ Live →
-      IsOpen (childless this old.limit) old.entries reading →
+      Agrees (childless this old.limit) old.entries after gives p n content tray → envelope.to ≡ this →
+      phase (childless this old.limit) old.entries ≡ Live → IsOpen (childless this old.limit) old.entries reading →
       recorded gives (moment (childless this old.limit) old.entries (Receive (message.User kind value))) (record { answer = Some a; effects = [] }) →
       length new.entries ≤ new.limit → new_content ≡ after (messages
       (childless this old.limit) old.entries ++ message.User kind value ∷ []) → new_tray ≡ tray →
       Agrees (childless this new.limit) new.entries after gives p n new_content new_tray
-  user-agrees after gives p n content new_content tray new_tray kept live open_reading given within content_is tray_is =
+  user-agrees after gives p n content new_content tray new_tray kept addressed live open_reading given within content_is tray_is =
       agrees-added this old new (Handled envelope reading (Applied (Some a) [])) after gives p n new_content new_tray added_user
       (agrees-fields (childless this old.limit) (Handled envelope reading (Applied
       (Some a) []) ∷ old.entries) after gives p n n new_content tray new_tray refl tray_is
       (agrees-user
-      (childless this old.limit) old.entries after gives p n content tray kept envelope reading a kind value new_content well is_user refl live open_reading given
+      (childless this old.limit) old.entries after gives p n content tray kept envelope reading a kind value new_content well is_user refl addressed live open_reading given
       (length-added old new (Handled envelope reading (Applied (Some a) [])) added_user within) content_is))
 
   pub user-handled : (now : Seen) (old_acts : List Act) →

@@ -18,7 +18,7 @@ use Rattle.mb_journal.specs.Entry.Entry.{Handled, System}
 use Rattle.mb_journal.specs.Entry.Outcome.{Applied}
 use Rattle.mb_journal.specs.Failure.{failure_of}
 use Rattle.mb_journal.specs.Identity.{Identity, is_guardian}
-use Rattle.mb_journal.specs.Incarnation.{messages, message_of}
+use Rattle.mb_journal.specs.Incarnation.{messages, body_messages}
 use Rattle.mb_journal.specs.Lawful.{IsLawful, AreLawful, IsGiven, call_of, was_live}
 use Rattle.mb_journal.specs.Life.{phase, closed, has_start}
 use Rattle.mb_journal.specs.Phase.{phase_is}
@@ -27,8 +27,10 @@ use Rattle.mb_journal.specs.Suspension.{count, marks, pluses, minuses, greatest_
 use Rattle.mb_actor.specs.declared.phase.Phase.TheVariants.{Fresh, Live, Ending, Ended}
 use Rattle.mb_journal.proofs.TestLemmas.{and-false, if_true, if_false, if_same}
 use Rattle.mb_journal.proofs.PhaseLemmas.{started-live, not_started}
-use Rattle.mb_journal.proofs.CreateLemmas.{phase-create, messages-create, count-create, acts-create-well, phase-create_again, messages-create_again, count-create_again, acts-create_again}
-use Rattle.mb_journal.proofs.EnvelopeLemmas.{phase-handled, messages-handled, count-handled, failure_of-user, acts-user-well, ever_aside-handled, next_number-handled}
+use Rattle.mb_journal.proofs.CreateLemmas.{phase-create, messages-create, count-create, acts-create-well, phase-create_again}
+use Rattle.mb_journal.proofs.CreateLemmas.{messages-create_again, count-create_again, acts-create_again}
+use Rattle.mb_journal.proofs.EnvelopeLemmas.{phase-handled, messages-handled, count-handled, failure_of-user, acts-user-well}
+use Rattle.mb_journal.proofs.EnvelopeLemmas.{ever_aside-handled, next_number-handled}
 use Rattle.mb_journal.proofs.LawfulLemmas.{ever_aside-applied, next_front-none, next_number-new}
 use Rattle.mb_cell.specs.Message.{IsUser}
 use Rattle.mb_cell.specs.Seen.{Seen, with_entry, AppliesSystem, HandlesEnvelope}
@@ -89,7 +91,7 @@ answered who gives before number None fresh an_actor lawful =
     if_false _ _ _ an_actor ∙ if_true _ _ _ (ap not (not_started who before fresh)) in
     let P : Option Call → Type 0 = λ call. IsGiven who gives before call None [] in
     let none : Option Answer = None in
-    let no_answer : IsSome none = (subst P is_called lawful.entries.0.1).0 in
+    let no_answer : IsSome none = (subst P is_called lawful.entries.0.1).answered in
     cc
 
 -- ---- the first Create
@@ -194,7 +196,7 @@ pub record IsHandledBy (old new : Seen) (envelope : Envelope) (reading : ℕ) : 
   pub same_who : new.who ≡ old.who
   pub same_phase : phase new.who new.journal ≡ phase old.who old.journal
   pub same_count : count new.who new.journal ≡ count old.who old.journal
-  pub one_message : messages new.who new.journal ≡ messages old.who old.journal ++ message_of envelope.body
+  pub one_message : messages new.who new.journal ≡ messages old.who old.journal ++ body_messages envelope.body
   pub no_acts : new.acts ≡ []
   pub not_ready : new.is_ready ≡ false
   pub same_next : next_number new.journal ≡ next_number old.journal
@@ -202,6 +204,7 @@ pub record IsHandledBy (old new : Seen) (envelope : Envelope) (reading : ℕ) : 
 
 user_no_failure : (b : Body) (a : Option Answer) → IsUser b → is_failed a ≡ false → failure_of b a ≡ None
 user_no_failure (body.User kind value) a is_user well = failure_of-user kind value a well
+user_no_failure (body.Control kind value) a is_user well = absurd is_user
 user_no_failure body.PoisonPill a is_user well = absurd is_user
 user_no_failure body.Kill a is_user well = absurd is_user
 user_no_failure (body.Terminated x) a is_user well = absurd is_user
@@ -210,6 +213,7 @@ user_no_acts : (who : Identity) (before : List Entry) (envelope : Envelope) (rea
     IsUser b → is_failed a ≡ false → acts who before (Handled envelope reading (Applied a [])) ≡ []
 user_no_acts who before envelope reading a
     (body.User kind value) is_body is_user well = acts-user-well who before envelope reading a kind value is_body well
+user_no_acts who before envelope reading a (body.Control kind value) is_body is_user well = absurd is_user
 user_no_acts who before envelope reading a body.PoisonPill is_body is_user well = absurd is_user
 user_no_acts who before envelope reading a body.Kill is_body is_user well = absurd is_user
 user_no_acts who before envelope reading a (body.Terminated x) is_body is_user well = absurd is_user

@@ -1,5 +1,5 @@
 -- Who the actor of a cell is, as far as a cell is told today.
-use Rattle.std.specs.Prelude.{ℕ, [], Some}
+use Rattle.std.specs.Prelude.{ℕ, negsuc, false, [], Some}
 use Rattle.mb_msg.specs.declared.id.ActorId.{ActorId}
 use Rattle.mb_journal.specs.Identity.{Identity}
 
@@ -11,4 +11,13 @@ the_guardian = record { 0 = 0 }
 -- profile, until cells are told of other actors)
 abbrev pub childless : ActorId → ℕ → Identity
 childless this limit =
-    record { this = this; parent = Some the_guardian; actors = 0; prepared = []; strategy = []; limit = limit }
+    record {
+      this = this;
+      parent = Some the_guardian;
+      actors = 0;
+      prepared = [];
+      strategy = [];
+      retries = negsuc 0;
+      all_for_one = false;
+      limit = limit;
+    }

@@ -12,9 +12,8 @@ ghost use Rattle.mb_cell.specs.Recorded.{recorded};
 mod apply;
 
 use crate::act::Act;
-use crate::fault::CellFault;
 use mb_actor::{Actor, Behaviours, Outbox, Phase};
-use mb_journal::{Journal, JournalError};
+use mb_journal::{Journal, ReadyError};
 use mb_msg::ActorId;
 use std::alloc::Global;
 use std::marker::{Model, PhantomData};
@@ -94,17 +93,13 @@ impl<A: Actor, K: Behaviours> Cell<A, K> {
     ///
     /// It answers `JournalFull` if the journal has as many entries as it may have, and else `NoMemory` if memory was
     /// refused. Nothing has changed then.
-    pub fn ready(&mut self) -> Result<(), CellFault>
-        ensures full { IsErrOf result CellFault.JournalFull ↔ (self.old.who.limit ≤ length self.old.journal) }
+    pub fn ready(&mut self) -> Result<(), ReadyError>
+        ensures full { IsErrOf result ReadyError.JournalFull ↔ (self.old.who.limit ≤ length self.old.journal) }
         ensures ok { OnOk result (self.new ≡ record self.old { is_ready = true }) }
         ensures err { OnErr result (self.new ≡ self.old) }
         ensures again { IsTrue self.old.is_ready → IsOk result }
     {
-        match self.journal.ready() {
-            Ok(()) => Ok(()),
-            Err(JournalError::JournalFull) => Err(CellFault::JournalFull),
-            Err(JournalError::NoMemory) => Err(CellFault::NoMemory),
-        }
+        self.journal.ready()
     }
 
     /// Takes out the next act that is to be carried out, the earliest first; `None` if none is left.

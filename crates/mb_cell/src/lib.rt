@@ -8,10 +8,8 @@
 mod act;
 mod call;
 mod cell;
-mod fault;
 #[cfg(test)]
 mod tests;
 
 pub use act::Act;
 pub use cell::Cell;
-pub use fault::CellFault;

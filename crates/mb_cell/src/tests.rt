@@ -3,9 +3,9 @@
 ghost use Rattle.std.specs.Prelude.{◌≡◌, [], true, IsTrue, pos};
 ghost use Rattle.mb_actor.specs.Behaviour.{AllowsSame};
 
-use crate::{Act, Cell, CellFault};
+use crate::{Act, Cell};
 use mb_actor::{Actor, Answer, Behaviours, Message, Outbox, Phase};
-use mb_journal::Event;
+use mb_journal::{Arrival, ReadyError};
 use mb_msg::{ActorId, Body, Cause, Envelope, SenderId, SysMsg};
 use mb_status::Status;
 use std::alloc::Global;
@@ -75,7 +75,7 @@ impl Actor for Doubling {
         match message {
             Message::User { kind: 2, .. } => Answer::Failed(1),
             Message::User { .. } => Answer::Handled,
-            Message::Terminated(_) => Answer::Unhandled,
+            Message::Control { .. } | Message::Terminated(_) => Answer::Unhandled,
         }
     }
 
@@ -107,8 +107,8 @@ fn make_ready<A: Actor, K: Behaviours>(rt: &impl Abort, cell: &mut Cell<A, K>) -
     );
     match cell.ready() {
         Ok(()) => true,
-        Err(CellFault::JournalFull) => false,
-        Err(CellFault::NoMemory) => {
+        Err(ReadyError::JournalFull) => false,
+        Err(ReadyError::NoMemory) => {
             let after = (
                 cell.journal().len(),
                 cell.phase(),
@@ -141,7 +141,7 @@ fn handle_all<A: Actor, K: Behaviours>(
     actor: A,
     limit: u32,
     kinds: &[u32],
-    expected: &[Event],
+    expected: &[Arrival],
 ) -> i64
     requires unused { A.content actor ≡ A.after actor [] }
     requires behaves { A.after actor ≡ K.after 1 }
@@ -167,7 +167,7 @@ fn handle_all<A: Actor, K: Behaviours>(
     let journal = cell.journal();
     assert_eq!(rt; journal.len(), expected.len());
     for (index, event) in expected.iter().enumerate() {
-        assert_eq!(rt; journal.get(index).event, *event);
+        assert_eq!(rt; journal.get(index).arrival, *event);
     }
     cell.state()
 }
@@ -179,22 +179,22 @@ fn handle_all_alone<A: Actor>(
     mut actor: A,
     limit: u32,
     kinds: &[u32],
-    expected: &[Event],
+    expected: &[Arrival],
 ) -> i64 {
     let _answer = actor.restart(Cause::Init, &mut Outbox::new(0, Vec::new(alloc)));
     handle_all::<A, Brand>(rt, alloc, actor, limit, kinds, expected)
 }
 
 /// The entry of the start.
-const STARTED: Event = Event::System {
+const STARTED: Arrival = Arrival::System {
     number: 0,
     message: SysMsg::Create,
     answer: Some(Answer::Handled),
 };
 
 /// The entry of a message that was answered so.
-fn handled(number: u64, kind: u32, answer: Answer) -> Event {
-    Event::Handled {
+fn handled(number: u64, kind: u32, answer: Answer) -> Arrival {
+    Arrival::Handled {
         envelope: user(number, kind),
         reading: OPEN,
         answer: Some(answer),

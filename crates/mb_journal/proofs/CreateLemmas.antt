@@ -28,7 +28,8 @@ use Rattle.mb_actor.specs.declared.phase.Phase.{Phase}
 use Rattle.mb_actor.specs.declared.phase.Phase.TheVariants.{Fresh, Live, Broken, Ending, Ended}
 use Rattle.mb_journal.proofs.TestLemmas.{and-false, or-false, if_true, if_false, if_same, none_excepted}
 use Rattle.mb_journal.proofs.PhaseLemmas.{phase_by, not_started}
-use Rattle.mb_journal.proofs.QueryLemmas.{count-same, count-minus, count-minus-plus, failed-failure, failed-same, messages-beginning, messages-more, children-more, marks-by}
+use Rattle.mb_journal.proofs.QueryLemmas.{count-same, count-minus, count-minus-plus, failed-failure, failed-same, messages-beginning}
+use Rattle.mb_journal.proofs.QueryLemmas.{messages-more, children-more, marks-by}
 
 -- ---- the first Create, of an actor that is not the guardian
 
@@ -42,7 +43,8 @@ module _ (who : Identity) (before : List Entry) (number : ℕ) (a : Answer) (eff
   pub phase-create : phase who (the_start ∷ before) ≡ (if is_failed (Some a) then Broken else Live)
   unfolding phase
   phase-create =
-      λ i. phase_by (fresh i) (not_started who before fresh i) (has_ending before) true false (is_failed (Some a)) (is_empty (children who before)) false false (is_guardian who)
+      λ i. phase_by (fresh i) (not_started who before fresh i) (has_ending before) true false (is_failed (Some a))
+      (is_empty (children who before)) false false (is_guardian who)
 
   begins : is_beginning who the_start before ≡ true
   begins = ap (λ s. s || is_restart who the_start before) starts
@@ -139,7 +141,8 @@ module _ (who : Identity) (before : List Entry) (number : ℕ) (started : has_st
   pub phase-create_again : phase who (the_other ∷ before) ≡ phase who before
   unfolding phase
   phase-create_again =
-      (λ i. phase_by (phase who before) (started i) (has_ending before) true false false (is_empty (children who before)) false false (is_guardian who))
+      (λ i. phase_by (phase who before) (started i) (has_ending before) true false false
+      (is_empty (children who before)) false false (is_guardian who))
       ∙ by_phase (phase who before) (has_ending before) (is_empty (children who before)) (is_guardian who)
     where
       by_phase : (p : Phase) (ended childless guardian : Bool) → phase_by p true ended true false false childless false false guardian ≡ p
@@ -188,7 +191,8 @@ module _ (who : Identity) (before : List Entry) (number : ℕ) (started : has_st
   pub call_of-create_again : call_of who before the_other ≡ None
   call_of-create_again =
       ap (λ call. if is_guardian who then None else call)
-      (if_false _ _ _ starts_no_more ∙ if_false _ _ _ (ap (λ b. b && was_live who (the_other ∷ before)) (and-false (phase_is (phase who before) Ending))))
+      (if_false _ _ _ starts_no_more
+      ∙ if_false _ _ _ (ap (λ b. b && was_live who (the_other ∷ before)) (and-false (phase_is (phase who before) Ending))))
       ∙ if_same (is_guardian who) None
 
 -- ---- both

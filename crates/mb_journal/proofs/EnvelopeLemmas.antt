@@ -19,7 +19,7 @@ use Rattle.mb_journal.specs.Entry.Outcome.{Applied}
 use Rattle.mb_journal.specs.Failure.{failed, is_failure, is_nobody, failure_of}
 use Rattle.mb_journal.specs.Failure.FailedBy.{Nobody, Itself}
 use Rattle.mb_journal.specs.Identity.{Identity, is_guardian}
-use Rattle.mb_journal.specs.Incarnation.{messages, message_of}
+use Rattle.mb_journal.specs.Incarnation.{messages, body_messages}
 use Rattle.mb_journal.specs.Life.{children, phase, closed, has_start, has_ending, is_empty}
 use Rattle.mb_journal.specs.Phase.{phase_is}
 use Rattle.mb_journal.specs.Suspension.{count}
@@ -53,7 +53,7 @@ module _ (who : Identity) (before : List Entry) (envelope : Envelope) (reading :
       by_phase Ending started ended badly childless guardian = refl
       by_phase Ended started ended badly childless guardian = refl
 
-  pub messages-handled : messages who (the_entry ∷ before) ≡ messages who before ++ message_of envelope.body
+  pub messages-handled : messages who (the_entry ∷ before) ≡ messages who before ++ body_messages envelope.body
   messages-handled = messages-more who the_entry before refl
 
   fails_by_it : is_failure who the_entry before ≡ (is_nobody (failed who before) && is_some (failure_of envelope.body a))

@@ -1,5 +1,5 @@
 -- Small journals whose phase, count, messages and acts were worked out by hand.
-use Rattle.std.specs.Prelude.{false, ◌≡◌, refl, pos, ℕ, true, List, [], ◌∷◌, Option, Some, None}
+use Rattle.std.specs.Prelude.{Bool, false, ◌≡◌, refl, ℤ, pos, negsuc, ℕ, true, List, [], ◌∷◌, Option, Some, None}
 use Rattle.mb_msg.specs.declared.envelope.Body.{Body}
 use Rattle.mb_msg.specs.declared.envelope.Body.TheVariants as body
 use Rattle.mb_msg.specs.declared.id.ActorId.{ActorId}
@@ -8,6 +8,7 @@ use Rattle.mb_msg.specs.declared.supervision.Directive.{Directive}
 use Rattle.mb_msg.specs.declared.supervision.Directive.TheVariants as directive
 use Rattle.mb_msg.specs.declared.system.SysMsg.{SysMsg}
 use Rattle.mb_msg.specs.declared.system.SysMsg.TheVariants as system
+use Rattle.mb_actor.specs.Behaviour.Call.{Start, Receive, Restart, Stop}
 use Rattle.mb_actor.specs.declared.answer.Answer.{Answer}
 use Rattle.mb_actor.specs.declared.answer.Answer.TheVariants as answer
 use Rattle.mb_actor.specs.declared.effect.Effect.{Effect}
@@ -24,7 +25,9 @@ use Rattle.mb_journal.specs.Failure.{failed}
 use Rattle.mb_journal.specs.Failure.FailedBy.{Nobody, Itself, Child}
 use Rattle.mb_journal.specs.Identity.{Identity}
 use Rattle.mb_journal.specs.Incarnation.{messages}
+use Rattle.mb_journal.specs.Lawful.{calls, was_live}
 use Rattle.mb_journal.specs.Life.{children, phase, has_start, has_ending}
+use Rattle.mb_journal.specs.Retries.{requests, retry_count}
 use Rattle.mb_journal.specs.Suspension.{count, marks, pluses, minuses, greatest_net}
 use Rattle.mb_journal.specs.Watching.{watchers, watching, due}
 use Rattle.mb_actor.specs.declared.phase.Phase.{Phase}
@@ -35,10 +38,24 @@ use Rattle.mb_journal.specs.declared.strategy.Pattern.TheVariants as cases
 abbrev the : ℕ → ActorId
 the n = record { 0 = n }
 
+abbrev no_limit : ℤ
+no_limit = negsuc 0
+
 -- an actor whose parent is the guardian, and which has children 2 and 3 and this strategy
+abbrev supervising : List (Pattern × Directive) → ℤ → Bool → Identity
+supervising rows retries all_for_one = record {
+  this = the 1;
+  parent = Some (the 0);
+  actors = 4;
+  prepared = the 2 ∷ the 3 ∷ [];
+  strategy = rows;
+  retries = retries;
+  all_for_one = all_for_one;
+  limit = 100;
+}
+
 abbrev an_actor : List (Pattern × Directive) → Identity
-an_actor rows =
-    record { this = the 1; parent = Some (the 0); actors = 4; prepared = the 2 ∷ the 3 ∷ []; strategy = rows; limit = 100 }
+an_actor rows = supervising rows no_limit false
 
 abbrev plain : Identity
 plain = an_actor []
@@ -98,10 +115,20 @@ unwatches_2 = asked (body.User 4 (pos 0)) (Some answer.Handled) (effect.Unwatch 
 
 abbrev watches_spawns_fails : Entry
 watches_spawns_fails =
-    asked (body.User 3 (pos 0)) (Some (answer.Failed 1)) (effect.Watch (the 2) ∷ effect.Watch (the 2) ∷ effect.Watch (the 1) ∷ effect.Spawn (the 3) ∷ [])
+    asked (body.User 3 (pos 0)) (Some (answer.Failed 1))
+    (effect.Watch (the 2) ∷ effect.Watch (the 2) ∷ effect.Watch (the 1) ∷ effect.Spawn (the 3) ∷ [])
 
 abbrev the_guardian : Identity
-the_guardian = record { this = the 0; parent = None; actors = 3; prepared = the 1 ∷ the 2 ∷ []; strategy = []; limit = 100 }
+the_guardian = record {
+  this = the 0;
+  parent = None;
+  actors = 3;
+  prepared = the 1 ∷ the 2 ∷ [];
+  strategy = [];
+  retries = no_limit;
+  all_for_one = false;
+  limit = 100;
+}
 
 -- what the actor was given to handle
 abbrev added : ℕ → Message
@@ -132,7 +159,7 @@ unfolding phase children has_start has_ending failed marks pluses minuses greate
 after_a_failure = refl
 
 acts_of_a_failure : acts plain (created ∷ []) fail ≡ SuspendSelf ∷ Sys (the 0) (system.Failed (the 1) (cause.Error 1)) ∷ []
-unfolding acts effect_acts phase children has_start has_ending failed watching watchers
+unfolding acts effect_acts requests phase children has_start has_ending failed watching watchers
 acts_of_a_failure = refl
 
 -- a restart takes the suspension away and forgets what was handled
@@ -178,47 +205,47 @@ unfolding phase children has_start has_ending failed marks pluses minuses greate
 poisoned = refl
 
 acts_of_poison : acts plain (add 1 ∷ created ∷ []) poison ≡ Sys (the 1) system.Terminate ∷ []
-unfolding acts effect_acts phase children has_start has_ending failed watching watchers
+unfolding acts effect_acts requests phase children has_start has_ending failed watching watchers
 acts_of_poison = refl
 
 acts_of_the_end :
     acts plain (poison ∷ add 1 ∷ created ∷ []) (silent 1 system.Terminate)
     ≡ CloseSelf ∷ Sys (the 0) (system.Died (the 1)) ∷ []
-unfolding acts effect_acts phase children has_start has_ending failed watching watchers
+unfolding acts effect_acts requests phase children has_start has_ending failed watching watchers
 acts_of_the_end = refl
 
 -- a parent starts one child, or two
 acts_of_a_parent :
     acts plain [] (parent_of (the 2 ∷ the 3 ∷ []))
     ≡ ResumeSelf ∷ Sys (the 2) system.Create ∷ Sys (the 3) system.Create ∷ []
-unfolding acts effect_acts phase children has_start has_ending failed watching watchers
+unfolding acts effect_acts requests phase children has_start has_ending failed watching watchers
 acts_of_a_parent = refl
 
 -- by default a child that failed with an error is restarted
 restarting_a_child :
     acts plain (parent_of (the 2 ∷ []) ∷ []) child_failed
     ≡ Sys (the 2) (system.Recreate (cause.Error 1)) ∷ []
-unfolding acts effect_acts phase children has_start has_ending failed watching watchers
+unfolding acts effect_acts requests phase children has_start has_ending failed watching watchers
 restarting_a_child = refl
 
 -- a strategy that resumes or stops
 resuming_a_child :
     acts (an_actor ((cases.AnyError, directive.Resume) ∷ [])) (parent_of (the 2 ∷ []) ∷ []) child_failed
     ≡ Sys (the 2) (system.Resume true) ∷ []
-unfolding acts effect_acts phase children has_start has_ending failed watching watchers
+unfolding acts effect_acts requests phase children has_start has_ending failed watching watchers
 resuming_a_child = refl
 
 stopping_a_child :
     acts (an_actor ((cases.AnyError, directive.Stop) ∷ [])) (parent_of (the 2 ∷ []) ∷ []) child_failed
     ≡ Sys (the 2) system.Terminate ∷ []
-unfolding acts effect_acts phase children has_start has_ending failed watching watchers
+unfolding acts effect_acts requests phase children has_start has_ending failed watching watchers
 stopping_a_child = refl
 
 -- a parent that passes up the failure of child 2: child 3 alone is suspended
 escalation :
     acts escalating (parent_of (the 2 ∷ the 3 ∷ []) ∷ []) child_failed
     ≡ SuspendSelf ∷ Sys (the 3) system.Suspend ∷ Sys (the 0) (system.Failed (the 1) (cause.Error 1)) ∷ []
-unfolding acts effect_acts phase children has_start has_ending failed watching watchers
+unfolding acts effect_acts requests phase children has_start has_ending failed watching watchers
 escalation = refl
 
 failed_by_the_child : failed escalating (child_failed ∷ parent_of (the 2 ∷ the 3 ∷ []) ∷ []) ≡ Child (the 2)
@@ -233,7 +260,7 @@ escalated = refl
 restart_of_a_parent :
     acts escalating (child_failed ∷ parent_of (the 2 ∷ the 3 ∷ []) ∷ []) (restarted 2)
     ≡ ResumeSelf ∷ Sys (the 2) (system.Recreate (cause.Error 1)) ∷ Sys (the 3) (system.Recreate (cause.Error 1)) ∷ []
-unfolding acts effect_acts phase children has_start has_ending failed watching watchers
+unfolding acts effect_acts requests phase children has_start has_ending failed watching watchers
 restart_of_a_parent = refl
 
 restarted_parent : shown escalating (restarted 2 ∷ child_failed ∷ parent_of (the 2 ∷ the 3 ∷ []) ∷ []) ≡ (Live, 0, [])
@@ -272,15 +299,16 @@ ended_parent = refl
 -- a call that watches an actor twice sends one Watch, and fails with the children that it spawned
 effects_see_one_another :
     acts plain (created ∷ []) watches_spawns_fails
-    ≡ Sys (the 2) (system.Watch (the 1)) ∷ Sys (the 3) system.Create ∷ SuspendSelf ∷ Sys (the 3) system.Suspend ∷ Sys (the 0) (system.Failed (the 1) (cause.Error 1)) ∷ []
-unfolding acts effect_acts phase children has_start has_ending failed watching watchers
+    ≡ Sys (the 2) (system.Watch (the 1)) ∷ Sys (the 3) system.Create ∷ SuspendSelf ∷ Sys (the 3) system.Suspend
+    ∷ Sys (the 0) (system.Failed (the 1) (cause.Error 1)) ∷ []
+unfolding acts effect_acts requests phase children has_start has_ending failed watching watchers
 effects_see_one_another = refl
 
 -- the end of a watched actor is told, and handled once
 told_of_an_end :
     acts plain (watches_2 ∷ created ∷ []) (silent 1 (system.Died (the 2)))
     ≡ Tell (the 1) (body.Terminated (the 2)) ∷ []
-unfolding acts effect_acts phase children has_start has_ending failed watching watchers
+unfolding acts effect_acts requests phase children has_start has_ending failed watching watchers
 told_of_an_end = refl
 
 due_of_an_end : due plain (silent 1 (system.Died (the 2)) ∷ watches_2 ∷ created ∷ []) ≡ the 2 ∷ []
@@ -297,14 +325,14 @@ told_end = refl
 death_pact :
     acts plain (silent 1 (system.Died (the 2)) ∷ watches_2 ∷ created ∷ []) (handled (body.Terminated (the 2)) (Some answer.Unhandled))
     ≡ SuspendSelf ∷ Sys (the 0) (system.Failed (the 1) cause.DeathPact) ∷ []
-unfolding acts effect_acts phase children has_start has_ending failed watching watchers
+unfolding acts effect_acts requests phase children has_start has_ending failed watching watchers
 death_pact = refl
 
 -- the guardian starts its children
 guardian_start :
     acts the_guardian [] (silent 0 system.Create)
     ≡ ResumeSelf ∷ Sys (the 1) system.Create ∷ Sys (the 2) system.Create ∷ []
-unfolding acts effect_acts phase children has_start has_ending failed watching watchers
+unfolding acts effect_acts requests phase children has_start has_ending failed watching watchers
 guardian_start = refl
 
 guardian_children : children the_guardian (silent 0 system.Create ∷ []) ≡ the 1 ∷ the 2 ∷ []
@@ -317,16 +345,17 @@ unfolding has_ending watching due
 unwatched = refl
 
 acts_of_a_drop :
-    acts plain (unwatches_2 ∷ silent 1 (system.Died (the 2)) ∷ watches_2 ∷ created ∷ []) (Dropped (record { by = record { 0 = 1 }; number = 0; to = the 1; body = body.Terminated (the 2) }))
+    acts plain (unwatches_2 ∷ silent 1 (system.Died (the 2)) ∷ watches_2 ∷ created ∷ [])
+    (Dropped (record { by = record { 0 = 1 }; number = 0; to = the 1; body = body.Terminated (the 2) }))
     ≡ []
-unfolding acts effect_acts phase children has_start has_ending failed watching watchers
+unfolding acts effect_acts requests phase children has_start has_ending failed watching watchers
 acts_of_a_drop = refl
 
 -- a killed actor is suspended once, and its parent is told
 killed :
     acts plain (created ∷ []) (handled body.Kill None)
     ≡ SuspendSelf ∷ Sys (the 0) (system.Failed (the 1) cause.Killed) ∷ []
-unfolding acts effect_acts phase children has_start has_ending failed watching watchers
+unfolding acts effect_acts requests phase children has_start has_ending failed watching watchers
 killed = refl
 
 count_of_a_kill : shown plain (handled body.Kill None ∷ created ∷ []) ≡ (Live, 1, [])
@@ -337,20 +366,20 @@ count_of_a_kill = refl
 told_watchers :
     acts plain (silent 2 (system.Watch (the 0)) ∷ silent 1 (system.Watch (the 2)) ∷ created ∷ []) (silent 3 system.Terminate)
     ≡ CloseSelf ∷ Sys (the 0) (system.Died (the 1)) ∷ Sys (the 2) (system.Died (the 1)) ∷ []
-unfolding acts effect_acts phase children has_start has_ending failed watching watchers
+unfolding acts effect_acts requests phase children has_start has_ending failed watching watchers
 told_watchers = refl
 
 -- a parent of two that is stopped while one has failed: the failure is set aside, and both are stopped
 stopped_parent :
     acts plain (parent_of (the 2 ∷ the 3 ∷ []) ∷ []) (silent 1 system.Terminate)
     ≡ Sys (the 2) system.Terminate ∷ Sys (the 3) system.Terminate ∷ SuspendSelf ∷ []
-unfolding acts effect_acts phase children has_start has_ending failed watching watchers
+unfolding acts effect_acts requests phase children has_start has_ending failed watching watchers
 stopped_parent = refl
 
 last_child :
     acts plain (silent 2 (system.Died (the 2)) ∷ silent 1 system.Terminate ∷ parent_of (the 2 ∷ the 3 ∷ []) ∷ []) (silent 3 (system.Died (the 3)))
     ≡ CloseSelf ∷ Sys (the 0) (system.Died (the 1)) ∷ []
-unfolding acts effect_acts phase children has_start has_ending failed watching watchers
+unfolding acts effect_acts requests phase children has_start has_ending failed watching watchers
 last_child = refl
 
 -- a start that fails: suspended once again, and broken
@@ -361,7 +390,7 @@ broken = refl
 acts_of_a_broken_start :
     acts plain [] (System 0 system.Create (Applied (Some (answer.Failed 1)) []))
     ≡ ResumeSelf ∷ SuspendSelf ∷ Sys (the 0) (system.Failed (the 1) cause.Init) ∷ []
-unfolding acts effect_acts phase children has_start has_ending failed watching watchers
+unfolding acts effect_acts requests phase children has_start has_ending failed watching watchers
 acts_of_a_broken_start = refl
 
 -- a Resume restarts it
@@ -383,7 +412,140 @@ unfolding phase children has_start has_ending failed marks pluses minuses greate
 behind = refl
 
 numbers :
-    next_number (silent 2 (system.Failed (the 2) (cause.Error 1)) ∷ silent 3 (system.Resume false) ∷ set_aside_failure ∷ silent 1 system.Suspend ∷ parent_of (the 2 ∷ []) ∷ [])
+    next_number (silent 2 (system.Failed (the 2) (cause.Error 1)) ∷ silent 3 (system.Resume false) ∷ set_aside_failure
+    ∷ silent 1 system.Suspend ∷ parent_of (the 2 ∷ []) ∷ [])
     ≡ 4
 unfolding next_number
 numbers = refl
+
+-- ---- retries, and all for one
+
+-- the failure of a child, as the message of this number
+abbrev failed_child : ℕ → ℕ → Entry
+failed_child number child = silent number (system.Failed (the child) (cause.Error 1))
+
+-- with 2 retries a child is started afresh twice, and then stopped
+abbrev with_2_retries : Identity
+with_2_retries = supervising [] (pos 2) false
+
+restarted_once :
+    acts with_2_retries (parent_of (the 2 ∷ []) ∷ []) (failed_child 1 2)
+    ≡ Sys (the 2) (system.Recreate (cause.Error 1)) ∷ []
+unfolding acts effect_acts requests phase children has_start has_ending failed watching watchers
+restarted_once = refl
+
+restarted_twice :
+    acts with_2_retries (failed_child 1 2 ∷ parent_of (the 2 ∷ []) ∷ []) (failed_child 2 2)
+    ≡ Sys (the 2) (system.Recreate (cause.Error 1)) ∷ []
+unfolding acts effect_acts requests phase children has_start has_ending failed watching watchers
+restarted_twice = refl
+
+stopped_at_last :
+    acts with_2_retries (failed_child 2 2 ∷ failed_child 1 2 ∷ parent_of (the 2 ∷ []) ∷ []) (failed_child 3 2)
+    ≡ Sys (the 2) system.Terminate ∷ []
+unfolding acts effect_acts requests phase children has_start has_ending failed watching watchers
+stopped_at_last = refl
+
+counted_thrice :
+    retry_count with_2_retries (failed_child 3 2 ∷ failed_child 2 2 ∷ failed_child 1 2 ∷ parent_of (the 2 ∷ []) ∷ []) (the 2)
+    ≡ 3
+unfolding requests children has_start
+counted_thrice = refl
+
+-- with none it is stopped at once, and not counted
+stopped_at_once :
+    acts (supervising [] (pos 0) false) (parent_of (the 2 ∷ []) ∷ []) (failed_child 1 2)
+    ≡ Sys (the 2) system.Terminate ∷ []
+unfolding acts effect_acts requests phase children has_start has_ending failed watching watchers
+stopped_at_once = refl
+
+not_counted : retry_count (supervising [] (pos 0) false) (failed_child 1 2 ∷ parent_of (the 2 ∷ []) ∷ []) (the 2) ≡ 0
+unfolding requests children has_start
+not_counted = refl
+
+-- without a limit it is always started afresh, and not counted
+restarted_thrice :
+    acts plain (failed_child 2 2 ∷ failed_child 1 2 ∷ parent_of (the 2 ∷ []) ∷ []) (failed_child 3 2)
+    ≡ Sys (the 2) (system.Recreate (cause.Error 1)) ∷ []
+unfolding acts effect_acts requests phase children has_start has_ending failed watching watchers
+restarted_thrice = refl
+
+unlimited : retry_count plain (failed_child 2 2 ∷ failed_child 1 2 ∷ parent_of (the 2 ∷ []) ∷ []) (the 2) ≡ 0
+unfolding requests children has_start
+unlimited = refl
+
+-- all for one: the sister of the child that failed is suspended, and both are started afresh
+all_restarted :
+    acts (supervising [] no_limit true) (parent_of (the 2 ∷ the 3 ∷ []) ∷ []) (failed_child 1 2)
+    ≡ Sys (the 2) (system.Recreate (cause.Error 1)) ∷ Sys (the 3) system.Suspend ∷ Sys (the 3) (system.Recreate (cause.Error 1)) ∷ []
+unfolding acts effect_acts requests phase children has_start has_ending failed watching watchers
+all_restarted = refl
+
+-- or, without permission, both are stopped
+all_stopped :
+    acts (supervising [] (pos 0) true) (parent_of (the 2 ∷ the 3 ∷ []) ∷ []) (failed_child 1 2)
+    ≡ Sys (the 2) system.Terminate ∷ Sys (the 3) system.Terminate ∷ []
+unfolding acts effect_acts requests phase children has_start has_ending failed watching watchers
+all_stopped = refl
+
+-- a Stop is for all, a Resume for the one
+all_told_to_stop :
+    acts (supervising ((cases.AnyError, directive.Stop) ∷ []) no_limit true) (parent_of (the 2 ∷ the 3 ∷ []) ∷ []) (failed_child 1 3)
+    ≡ Sys (the 2) system.Terminate ∷ Sys (the 3) system.Terminate ∷ []
+unfolding acts effect_acts requests phase children has_start has_ending failed watching watchers
+all_told_to_stop = refl
+
+one_resumed :
+    acts (supervising ((cases.AnyError, directive.Resume) ∷ []) no_limit true) (parent_of (the 2 ∷ the 3 ∷ []) ∷ []) (failed_child 1 3)
+    ≡ Sys (the 3) (system.Resume true) ∷ []
+unfolding acts effect_acts requests phase children has_start has_ending failed watching watchers
+one_resumed = refl
+
+-- the first refusal ends the asking: child 2 had its one retry before child 3 was there, so that 3 is never asked for
+abbrev spawns_3 : Entry
+spawns_3 = asked (body.User 3 (pos 0)) (Some answer.Handled) (effect.Spawn (the 3) ∷ [])
+
+abbrev one_retry_for_all : Identity
+one_retry_for_all = supervising [] (pos 1) true
+
+asked_for :
+    requests one_retry_for_all (failed_child 2 3 ∷ spawns_3 ∷ failed_child 1 2 ∷ parent_of (the 2 ∷ []) ∷ [])
+    ≡ the 2 ∷ the 2 ∷ []
+unfolding requests children has_start
+asked_for = refl
+
+one_refusal_stops_all :
+    acts one_retry_for_all (spawns_3 ∷ failed_child 1 2 ∷ parent_of (the 2 ∷ []) ∷ []) (failed_child 2 3)
+    ≡ Sys (the 2) system.Terminate ∷ Sys (the 3) system.Terminate ∷ []
+unfolding acts effect_acts requests phase children has_start has_ending failed watching watchers
+one_refusal_stops_all = refl
+
+-- ---- control messages
+
+-- the actor handles one like any other message, and sends one that stays one
+handled_control :
+    shown plain (handled (body.Control 1 (pos 7)) (Some answer.Handled) ∷ created ∷ [])
+    ≡ (Live, 0, message.Control 1 (pos 7) ∷ [])
+unfolding phase children has_start has_ending failed marks pluses minuses greatest_net count messages
+handled_control = refl
+
+sends_control :
+    acts plain (created ∷ []) (asked (body.User 3 (pos 0)) (Some answer.Handled) (effect.Control (the 2) 1 (pos 7) ∷ []))
+    ≡ Tell (the 2) (body.Control 1 (pos 7)) ∷ []
+unfolding acts effect_acts requests phase children has_start has_ending failed watching watchers
+sends_control = refl
+
+failed_control :
+    acts plain (created ∷ []) (handled (body.Control 2 (pos 0)) (Some (answer.Failed 1)))
+    ≡ SuspendSelf ∷ Sys (the 0) (system.Failed (the 1) (cause.Error 1)) ∷ []
+unfolding acts effect_acts requests phase children has_start has_ending failed watching watchers
+failed_control = refl
+
+-- ---- the calls that a journal records
+
+-- a start, two messages and a restart; a poison pill reaches the actor's cell alone, and its end is the actor's `stop`
+calls_of_a_life :
+    calls plain (silent 2 system.Terminate ∷ poison ∷ restarted 1 ∷ fail ∷ add 5 ∷ created ∷ [])
+    ≡ Stop ∷ Restart (cause.Error 1) ∷ Receive told_to_fail ∷ Receive (added 5) ∷ Start ∷ []
+unfolding phase children has_start has_ending calls was_live
+calls_of_a_life = refl

@@ -3,6 +3,7 @@ use Rattle.std.proofs.Common.{◌≤◌, length, arith, ◌≡◌, ℕ, ℤ, ◌
 use Rattle.std.specs.Prelude.{filter, not, ◌&&◌, if◌then◌else◌, Option, Some, None, ◌==◌}
 use Rattle.mb_msg.specs.declared.envelope.Body.TheVariants as body
 use Rattle.mb_msg.specs.declared.envelope.Envelope.{Envelope}
+use Rattle.mb_msg.specs.declared.id.ActorId.{ActorId}
 use Rattle.mb_msg.specs.declared.system.SysMsg.{SysMsg}
 use Rattle.mb_msg.specs.declared.system.SysMsg.TheVariants as system
 use Rattle.mb_actor.specs.Behaviour.{Moment, Reply, Call}
@@ -16,6 +17,7 @@ use Rattle.mb_journal.specs.Effects.{lasting_effects, spawns_of}
 use Rattle.mb_journal.specs.Entry.{Entry, Outcome}
 use Rattle.mb_journal.specs.Entry.Entry.{Handled, System}
 use Rattle.mb_journal.specs.Entry.Outcome.{Applied}
+use Rattle.mb_journal.specs.Held.{CanHold}
 use Rattle.mb_journal.specs.Identity.{Identity, is_guardian}
 use Rattle.mb_journal.specs.Lawful.{IsLawful, AreLawful, unspawned, IsLawfulEntry, IsGiven, IsExpected, envelope_call, moment}
 use Rattle.mb_journal.specs.Life.{phase, closed, has_start}
@@ -26,18 +28,24 @@ use Rattle.mb_actor.specs.declared.phase.Phase.TheVariants.{Fresh, Live, Ending,
 use Rattle.mb_journal.proofs.CreateLemmas.{sets_aside-create, call_of-create, call_of-create_again}
 use Rattle.mb_journal.proofs.TestLemmas.{none_excepted, if_true, if_same}
 
+-- an outbox can hold no effects
+pub can_hold-none : (actors : ℕ) (prepared : List ActorId) → CanHold actors prepared []
+can_hold-none actors prepared = record { few = omega arith; there = refl; prepared = refl; once = refl }
+
 -- the first Create of an actor that is not the guardian may come, with an answer and effects that its start may give
 pub lawful-create : (who : Identity) (gives : Moment → Reply → Type 0) (before : List Entry) (number : ℕ) (a : Answer) (effects : List Effect) →
     phase who before ≡ Fresh → is_guardian who ≡ false → number ≡ next_number before →
-    gives (moment who before Start) (record { answer = Some a; effects = effects }) →
+    gives (moment who before Start) (record { answer = Some a; effects = effects }) → CanHold who.actors (unspawned who before) effects →
     IsLawfulEntry who gives before (System number system.Create (Applied (Some a) effects))
-lawful-create who gives before number a effects fresh an_actor next given = (
+lawful-create who gives before number a effects fresh an_actor next given held = (
   record {
     not_ended = ap (λ p. phase_is p Ended) fresh;
     numbered = inl next;
     by_rule = sym (ap not (sets_aside-create who before));
   },
-  subst (λ (call : Option Call). IsGiven who gives before call (Some a) effects) (sym (call_of-create who before number a effects fresh an_actor)) (refl, given),
+  subst (λ (call : Option Call). IsGiven who gives before call (Some a) effects)
+      (sym (call_of-create who before number a effects fresh an_actor))
+      (record { answered = refl; allowed = given; held = held }),
 )
 
 -- another Create may come, and does nothing
@@ -50,21 +58,27 @@ lawful-create_again who gives before number started not_ended next = (
     numbered = inl next;
     by_rule = sym (ap not (sets_aside-create who before));
   },
-  subst (λ (call : Option Call). IsGiven who gives before call None []) (sym (call_of-create_again who before number started)) (refl, refl),
+  subst (λ (call : Option Call). IsGiven who gives before call None [])
+      (sym (call_of-create_again who before number started)) (refl, refl),
 )
 
 -- a message of the user's may be handled by a Live actor at an open reading, with what its `receive` may give
 pub lawful-user : (who : Identity) (gives : Moment → Reply → Type 0) (before : List Entry) (envelope : Envelope) (reading : ℕ) (a : Answer)
     (effects : List Effect) (kind : ℕ) (value : ℤ) →
-    envelope.body ≡ body.User kind value → is_guardian who ≡ false → phase who before ≡ Live → IsOpen who before reading →
+    envelope.body ≡ body.User kind value → is_guardian who ≡ false → envelope.to ≡ who.this → phase who before ≡ Live →
+    IsOpen who before reading →
     gives (moment who before (Receive (message.User kind value))) (record { answer = Some a; effects = effects }) →
+    CanHold who.actors (unspawned who before) effects →
     IsLawfulEntry who gives before (Handled envelope reading (Applied (Some a) effects))
-lawful-user who gives before envelope reading a effects kind value is_user an_actor live open_reading given = record {
+lawful-user who gives before envelope reading a effects kind value is_user an_actor addressed live open_reading given held = record {
   an_actor = an_actor;
+  addressed = addressed;
   live = live;
   open_reading = open_reading;
   expected = subst (λ b. IsExpected who before b) (sym is_user) tt;
-  given = subst (λ b. IsGiven who gives before (envelope_call b) (Some a) effects) (sym is_user) (refl, given);
+  given =
+      subst (λ b. IsGiven who gives before (envelope_call b) (Some a) effects) (sym is_user)
+      (record { answered = refl; allowed = given; held = held });
 }
 
 -- a message with the next number leaves the one after it
@@ -87,7 +101,8 @@ aside-none who journal none = ap (λ list. if closed who journal then [] else li
 pub next_front-none : (who : Identity) (journal : List Entry) → ever_aside journal ≡ [] → next_front who journal ≡ None
 unfolding next_front
 next_front-none who journal none =
-    ap (λ list. if count who journal == 0 && not (phase_is (phase who journal) Ending) then first_of_list list else None) (aside-none who journal none)
+    ap (λ list. if count who journal == 0 && not (phase_is (phase who journal) Ending) then first_of_list list else None)
+    (aside-none who journal none)
     ∙ if_same _ None
 
 -- a lawful journal with one more lawful entry, within the limit, is lawful

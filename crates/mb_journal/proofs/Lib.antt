@@ -2,7 +2,7 @@ pub mod CountLemmas
 pub mod CreateLemmas
 pub mod EnvelopeLemmas
 mod Examples
-pub mod KeptLemmas
+pub mod StoredLemmas
 pub mod LawfulLemmas
 mod PhaseLaw
 pub mod PhaseLemmas

@@ -5,7 +5,8 @@ use Rattle.std.specs.Prelude.{not, ◌&&◌, ◌||◌, if◌then◌else◌}
 use Rattle.mb_journal.specs.Effects.{applies}
 use Rattle.mb_journal.specs.Entry.{Entry, answered_failed}
 use Rattle.mb_journal.specs.Identity.{Identity, is_guardian}
-use Rattle.mb_journal.specs.Life.{children, phase, has_start, has_ending, is_last, is_beginning, is_create, is_terminate, is_recreate, is_resume, is_empty, ends_last_child}
+use Rattle.mb_journal.specs.Life.{children, phase, has_start, has_ending, is_last, is_beginning, is_create, is_terminate, is_recreate}
+use Rattle.mb_journal.specs.Life.{is_resume, is_empty, ends_last_child}
 use Rattle.mb_journal.specs.Phase.{phase_is}
 use Rattle.mb_actor.specs.declared.phase.Phase.{Phase}
 use Rattle.mb_actor.specs.declared.phase.Phase.TheVariants.{Fresh, Live, Broken, Ending, Ended}
@@ -22,7 +23,8 @@ newest_failed who [] = false
 newest_failed who (e ∷ before) = if is_beginning who e before then answered_failed e else newest_failed who before
 
 abbrev phase_of : (last ending start failed : Bool) → Phase
-phase_of last ending start failed = if last then Ended else (if ending then Ending else (if not start then Fresh else (if failed then Broken else Live)))
+phase_of last ending start failed =
+    if last then Ended else (if ending then Ending else (if not start then Fresh else (if failed then Broken else Live)))
 
 step : (last ending start failed t c n l r g a : Bool) →
     phase_by (phase_of last ending start failed) start ending c t a n l r g
@@ -76,6 +78,8 @@ phase-by_kinds who (e ∷ before) =
     (has_last who before || ((terminates && not (has_ending before) && childless) || (phase_is p Ending && last_child)))
     (terminates || has_ending before)
     (creates || has_start before)
-    (if (creates && not (has_start before)) || (restarts p && not (phase_is p Fresh) && not (is_guardian who)) then failed else newest_failed who before) in
+    (if (creates && not (has_start before)) || (restarts p && not (phase_is p Fresh) && not (is_guardian who))
+    then failed else newest_failed who before) in
     subst Holds (sym (phase-by_kinds who before))
-    (step (has_last who before) (has_ending before) (has_start before) (newest_failed who before) terminates creates childless last_child (restarts now) (is_guardian who) failed)
+    (step (has_last who before) (has_ending before) (has_start before) (newest_failed who before) terminates creates
+    childless last_child (restarts now) (is_guardian who) failed)

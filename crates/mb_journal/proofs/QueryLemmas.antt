@@ -7,7 +7,7 @@ use Rattle.mb_journal.specs.Entry.{Entry}
 use Rattle.mb_journal.specs.Failure.{failed, is_failure, culprit_of, is_resume_of_failure}
 use Rattle.mb_journal.specs.Failure.FailedBy.{Nobody, Itself}
 use Rattle.mb_journal.specs.Identity.{Identity, is_guardian}
-use Rattle.mb_journal.specs.Incarnation.{messages, messages_in}
+use Rattle.mb_journal.specs.Incarnation.{messages, entry_messages}
 use Rattle.mb_journal.specs.Life.{children, phase, closed, is_start, is_restart, is_ending, is_last, is_beginning, is_resume, after_death}
 use Rattle.mb_journal.specs.Phase.{phase_is}
 use Rattle.mb_journal.specs.Suspension.{Mark, mark_if, marks, marks_of, count, count_after, applies_off_fresh, is_suspend}
@@ -63,7 +63,8 @@ module _ (who : Identity) (e : Entry) (before : List Entry) (was_open : closed w
 pub marks-by : (who : Identity) (e : Entry) (before : List Entry) (starts suspends resumes restarts fails waits : Bool) →
     is_start e before ≡ starts → applies_off_fresh is_suspend who e before ≡ suspends → applies_off_fresh is_resume who e before ≡ resumes →
     is_restart who e before ≡ restarts → is_failure who e before ≡ fails → (is_ending e before && not (is_last who e before)) ≡ waits →
-    marks_of who e before ≡ mark_if starts Minus ++ mark_if suspends Plus ++ mark_if (resumes || restarts) Minus ++ mark_if fails Plus ++ mark_if waits Plus
+    marks_of who e before
+    ≡ mark_if starts Minus ++ mark_if suspends Plus ++ mark_if (resumes || restarts) Minus ++ mark_if fails Plus ++ mark_if waits Plus
 marks-by who e before starts suspends resumes restarts fails waits a b c d f w =
     λ i. mark_if (a i) Minus ++ mark_if (b i) Plus ++ mark_if (c i || d i) Minus ++ mark_if (f i) Plus ++ mark_if (w i) Plus
 
@@ -107,16 +108,17 @@ module _ (who : Identity) (e : Entry) (before : List Entry) where
   -- a start or a restart forgets them
   pub messages-beginning : is_beginning who e before ≡ true → messages who (e ∷ before) ≡ []
   unfolding messages
-  messages-beginning begins = λ i. if begins i then [] else messages who before ++ messages_in e
+  messages-beginning begins = λ i. if begins i then [] else messages who before ++ entry_messages e
 
   -- any other entry adds what it gave the actor to handle
-  pub messages-more : is_beginning who e before ≡ false → messages who (e ∷ before) ≡ messages who before ++ messages_in e
+  pub messages-more : is_beginning who e before ≡ false → messages who (e ∷ before) ≡ messages who before ++ entry_messages e
   unfolding messages
-  messages-more begins = λ i. if begins i then [] else messages who before ++ messages_in e
+  messages-more begins = λ i. if begins i then [] else messages who before ++ entry_messages e
 
   -- ---- the children of an actor that is not the guardian
 
   pub children-more : is_guardian who ≡ false → children who (e ∷ before) ≡ after_death e (children who before) ++ spawns_of (lasting_effects e)
   unfolding children
   children-more an_actor =
-      λ i. after_death e (children who before) ++ (if an_actor i then (if is_start e before then who.prepared else []) else spawns_of (lasting_effects e))
+      λ i. after_death e (children who before)
+      ++ (if an_actor i then (if is_start e before then who.prepared else []) else spawns_of (lasting_effects e))

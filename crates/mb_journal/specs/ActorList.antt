@@ -1,5 +1,5 @@
 -- Lists of actors in which none stands twice.
-use Rattle.std.specs.Prelude.{◌==◌, Bool, not, if◌then◌else◌, List, [], ◌∷◌, ◌++◌, filter}
+use Rattle.std.specs.Prelude.{◌==◌, Bool, true, not, ◌&&◌, if◌then◌else◌, List, [], ◌∷◌, ◌++◌, filter}
 use Rattle.std.specs.List.{list_any}
 use Rattle.mb_msg.specs.declared.id.ActorId.{ActorId}
 
@@ -18,3 +18,8 @@ without list a = filter (λ b. not (is_same a b)) list
 -- the list with the actor, which joins at the end unless it is there
 abbrev pub joined : List ActorId → ActorId → List ActorId
 joined list a = if has list a then list else list ++ a ∷ []
+
+-- none stands twice
+abbrev pub is_distinct : List ActorId → Bool
+is_distinct [] = true
+is_distinct (a ∷ list) = not (has list a) && is_distinct list

@@ -2,6 +2,7 @@
 -- (`akka.actor.ActorCell`, `akka.actor.dungeon.FaultHandling`, `Children`, `DeathWatch`; the order of the acts of one
 -- message is this project's own profile). In each definition `before` is what came before the entry.
 use Rattle.std.specs.Prelude.{Bool, true, not, ◌&&◌, ◌||◌, if◌then◌else◌, List, [], ◌∷◌, ◌++◌, map, filter, Option, Some, None}
+use Rattle.std.specs.List.{flat_map}
 use Rattle.mb_msg.specs.declared.envelope.Body.{Body}
 use Rattle.mb_msg.specs.declared.envelope.Body.TheVariants as body
 use Rattle.mb_msg.specs.declared.id.ActorId.{ActorId}
@@ -16,7 +17,7 @@ use Rattle.mb_actor.specs.declared.effect.Effect.{Effect}
 use Rattle.mb_actor.specs.declared.effect.Effect.TheVariants as effect
 use Rattle.mb_journal.specs.ActorList.{is_same, has, without}
 use Rattle.mb_journal.specs.Effects.{spawns_of}
-use Rattle.mb_journal.specs.Entry.{Entry, answer_of, effects_of, is_failed}
+use Rattle.mb_journal.specs.Entry.{Entry, outcome_answer, outcome_effects, is_failed}
 use Rattle.mb_journal.specs.Entry.Entry.{Handled, System, Dropped}
 use Rattle.mb_journal.specs.Entry.Outcome.{Applied, SetAside}
 use Rattle.mb_journal.specs.Failure.{FailedBy, is_nobody, is_child, failed, failure_of}
@@ -24,7 +25,7 @@ use Rattle.mb_journal.specs.Failure.FailedBy.{Nobody}
 use Rattle.mb_journal.specs.Identity.{Identity, is_guardian}
 use Rattle.mb_journal.specs.Life.{children, phase, is_empty, is_alone}
 use Rattle.mb_journal.specs.Phase.{phase_is}
-use Rattle.mb_journal.specs.Supervision.{directive_of}
+use Rattle.mb_journal.specs.Retries.{meant_by, carried_out}
 use Rattle.mb_journal.specs.Watching.{watchers, watching}
 use Rattle.mb_actor.specs.declared.phase.Phase.TheVariants.{Fresh, Live, Broken, Ending}
 
@@ -46,6 +47,7 @@ to_each message list = map (λ x. Sys x message) list
 unfoldable pub effect_acts : ActorId → List ActorId → List Effect → List Act
 effect_acts this watched [] = []
 effect_acts this watched (effect.Tell to kind value ∷ effects) = Tell to (body.User kind value) ∷ effect_acts this watched effects
+effect_acts this watched (effect.Control to kind value ∷ effects) = Tell to (body.Control kind value) ∷ effect_acts this watched effects
 effect_acts this watched (effect.Watch x ∷ effects) =
     if is_same this x || has watched x then effect_acts this watched effects
     else Sys x (system.Watch this) ∷ effect_acts this (watched ++ x ∷ []) effects
@@ -55,10 +57,11 @@ effect_acts this watched (effect.Unwatch x ∷ effects) =
 effect_acts this watched (effect.Stop x ∷ effects) = Sys x system.Terminate ∷ effect_acts this watched effects
 effect_acts this watched (effect.Spawn x ∷ effects) = Sys x system.Create ∷ effect_acts this watched effects
 
--- the acts of the effects of an actor's `stop`: its tells
+-- the acts of the effects of an actor's `stop`: its tells, control messages too
 abbrev pub stop_acts : List Effect → List Act
 stop_acts [] = []
 stop_acts (effect.Tell to kind value ∷ effects) = Tell to (body.User kind value) ∷ stop_acts effects
+stop_acts (effect.Control to kind value ∷ effects) = Tell to (body.Control kind value) ∷ stop_acts effects
 stop_acts (_ ∷ effects) = stop_acts effects
 
 -- the parent is told; the guardian, which has none, ends
@@ -103,11 +106,17 @@ restart_acts who before c a effects =
     then fail_acts who Nobody (children who before ++ spawns_of effects) cause.Init (children who before)
     else to_each (system.Recreate c) (children who before))
 
--- the acts of what is decided about a child that failed (`SupervisorStrategy.handleFailure`, `FaultHandling.handleFailure`)
+-- a child is started afresh for the failure of one of them: another than that one is suspended first, as that one is
+-- already (`SupervisorStrategy.restartChild`)
+abbrev pub restart_for : ActorId → Cause → ActorId → List Act
+restart_for failing c y = if is_same y failing then Sys y (system.Recreate c) ∷ [] else Sys y system.Suspend ∷ Sys y (system.Recreate c) ∷ []
+
+-- the acts of what is carried out about a child that failed, for all whom it is meant for: a Resume is for that child
+-- alone (`SupervisorStrategy.handleFailure` and `processFailure`, `FaultHandling.handleFailure`)
 abbrev pub supervision_acts : Identity → List Entry → ActorId → Cause → Directive → List Act
 supervision_acts who before x c directive.Resume = Sys x (system.Resume true) ∷ []
-supervision_acts who before x c directive.Restart = Sys x (system.Recreate c) ∷ []
-supervision_acts who before x c directive.Stop = Sys x system.Terminate ∷ []
+supervision_acts who before x c directive.Restart = flat_map (restart_for x c) (meant_by who before x)
+supervision_acts who before x c directive.Stop = to_each system.Terminate (meant_by who before x)
 supervision_acts who before x c directive.Escalate = fail_acts who (failed who before) (children who before) c (x ∷ [])
 
 -- the acts of the end (`FaultHandling.finishTerminate`): the mailbox is closed, and the parent and the others that watch
@@ -143,7 +152,7 @@ system_acts who before (system.Resume of_failure) a effects =
     else (if phase_is (phase who before) Broken && not (is_guardian who) then restart_acts who before cause.Init a effects else [])
 system_acts who before (system.Recreate c) a effects = if is_guardian who then [] else restart_acts who before c a effects
 system_acts who before (system.Failed x c) a effects =
-    if has (children who before) x then supervision_acts who before x c (directive_of who c) else []
+    if has (children who before) x then supervision_acts who before x c (carried_out who before x c) else []
 system_acts who before system.Terminate a effects =
     if phase_is (phase who before) Ending then [] else terminate_acts who before effects
 system_acts who before (system.Watch w) a effects = []
@@ -170,7 +179,7 @@ envelope_acts who before b a effects =
 
 -- the acts of an entry after these; what is set aside or dropped has none
 unfoldable pub acts : Identity → List Entry → Entry → List Act
-acts who before (Handled envelope reading outcome) = envelope_acts who before envelope.body (answer_of outcome) (effects_of outcome)
+acts who before (Handled envelope reading outcome) = envelope_acts who before envelope.body (outcome_answer outcome) (outcome_effects outcome)
 acts who before (System number message (Applied a effects)) =
     if phase_is (phase who before) Fresh then fresh_acts who before message a effects else system_acts who before message a effects
 acts who before (System number message SetAside) = []

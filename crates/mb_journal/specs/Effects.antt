@@ -6,7 +6,7 @@ use Rattle.mb_msg.specs.declared.system.SysMsg.{SysMsg}
 use Rattle.mb_msg.specs.declared.system.SysMsg.TheVariants as system
 use Rattle.mb_actor.specs.declared.effect.Effect.{Effect}
 use Rattle.mb_actor.specs.declared.effect.Effect.TheVariants as effect
-use Rattle.mb_journal.specs.Entry.{Entry, is_applied, effects_of, outcome_of}
+use Rattle.mb_journal.specs.Entry.{Entry, is_applied, outcome_effects, outcome_of}
 use Rattle.mb_journal.specs.Entry.Entry.{Handled, System, Dropped}
 
 -- the entry applies a system message that passes the test
@@ -20,7 +20,7 @@ applies test (Dropped envelope) = false
 abbrev pub lasting_effects : Entry → List Effect
 lasting_effects (System number system.Terminate outcome) = []
 lasting_effects (System number (system.Died x) outcome) = []
-lasting_effects e = effects_of (outcome_of e)
+lasting_effects e = outcome_effects (outcome_of e)
 
 abbrev pub spawn_of : Effect → Option ActorId
 spawn_of (effect.Spawn x) = Some x

@@ -26,14 +26,14 @@ is_applied (Applied answer effects) = true
 is_applied SetAside = false
 
 -- what the actor's call answered
-abbrev pub answer_of : Outcome → Option Answer
-answer_of (Applied answer effects) = answer
-answer_of SetAside = None
+abbrev pub outcome_answer : Outcome → Option Answer
+outcome_answer (Applied answer effects) = answer
+outcome_answer SetAside = None
 
 -- which effects it asked for
-abbrev pub effects_of : Outcome → List Effect
-effects_of (Applied answer effects) = effects
-effects_of SetAside = []
+abbrev pub outcome_effects : Outcome → List Effect
+outcome_effects (Applied answer effects) = effects
+outcome_effects SetAside = []
 
 abbrev pub is_failed : Option Answer → Bool
 is_failed (Option.Some (answer.Failed n)) = true
@@ -47,4 +47,4 @@ outcome_of (Dropped envelope) = Applied None []
 
 -- the actor answered that it failed
 abbrev pub answered_failed : Entry → Bool
-answered_failed e = is_failed (answer_of (outcome_of e))
+answered_failed e = is_failed (outcome_answer (outcome_of e))

@@ -14,7 +14,7 @@ use Rattle.mb_actor.specs.declared.answer.Answer.{Answer}
 use Rattle.mb_actor.specs.declared.answer.Answer.TheVariants as answer
 use Rattle.mb_journal.specs.ActorList.{is_same, has}
 use Rattle.mb_journal.specs.Effects.{applies}
-use Rattle.mb_journal.specs.Entry.{Entry, answer_of, answered_failed}
+use Rattle.mb_journal.specs.Entry.{Entry, outcome_answer, answered_failed}
 use Rattle.mb_journal.specs.Entry.Entry.{Handled, System}
 use Rattle.mb_journal.specs.Entry.Outcome.{Applied}
 use Rattle.mb_journal.specs.Identity.{Identity}
@@ -48,7 +48,7 @@ failure_of _ _ = None
 
 -- the actor fails by an envelope
 abbrev pub fails_by_envelope : Entry → Bool
-fails_by_envelope (Handled envelope reading outcome) = is_some (failure_of envelope.body (answer_of outcome))
+fails_by_envelope (Handled envelope reading outcome) = is_some (failure_of envelope.body (outcome_answer outcome))
 fails_by_envelope _ = false
 
 abbrev pub is_escalate : Directive → Bool
@@ -57,7 +57,8 @@ is_escalate _ = false
 
 -- the actor passes the failure of a child of its up
 abbrev pub is_escalation : Identity → Entry → List Entry → Bool
-is_escalation who (System number (system.Failed x c) (Applied answer effects)) before = has (children who before) x && is_escalate (directive_of who c)
+is_escalation who (System number (system.Failed x c) (Applied answer effects)) before =
+    has (children who before) x && is_escalate (directive_of who c)
 is_escalation who _ before = false
 
 -- a failure: a start or restart that answers so; or, where nobody made the actor fail before, a Kill, an envelope that

@@ -1,17 +1,21 @@
 -- Who an actor is, which never changes.
-use Rattle.std.specs.Prelude.{ℕ, Bool, is_none, List, Option}
+use Rattle.std.specs.Prelude.{ℕ, ℤ, Bool, is_none, List, Option}
 use Rattle.mb_msg.specs.declared.id.ActorId.{ActorId}
 use Rattle.mb_msg.specs.declared.supervision.Directive.{Directive}
 use Rattle.mb_journal.specs.declared.strategy.Pattern.{Pattern}
 
 -- its number; its parent, which the guardian alone has not (Akka's `ActorContext.parent`); how many actors there are;
--- the children that it may start, in order; what it does about those that fail; and how many entries its journal may have
+-- the children that it may start, in order; what it does about those that fail, and how often it starts each afresh and
+-- whether all of them for one (Akka's `OneForOneStrategy` and `AllForOneStrategy` with `maxNrOfRetries`); and how many
+-- entries its journal may have
 pub record Identity : Type 0 where
   pub this : ActorId
   pub parent : Option ActorId
   pub actors : ℕ
   pub prepared : List ActorId
   pub strategy : List (Pattern × Directive)
+  pub retries : ℤ
+  pub all_for_one : Bool
   pub limit : ℕ
 
 -- the actor is the guardian (Akka's user guardian), which stands above all others and is no object of the user's

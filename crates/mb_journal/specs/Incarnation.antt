@@ -10,17 +10,18 @@ use Rattle.mb_journal.specs.Identity.{Identity}
 use Rattle.mb_journal.specs.Life.{is_beginning}
 
 -- what an envelope gives the actor to handle: the others are handled by its cell (`ActorCell.autoReceiveMessage`)
-abbrev pub message_of : Body → List Message
-message_of (body.User kind value) = message.User kind value ∷ []
-message_of (body.Terminated x) = message.Terminated x ∷ []
-message_of _ = []
+abbrev pub body_messages : Body → List Message
+body_messages (body.User kind value) = message.User kind value ∷ []
+body_messages (body.Control kind value) = message.Control kind value ∷ []
+body_messages (body.Terminated x) = message.Terminated x ∷ []
+body_messages _ = []
 
-abbrev pub messages_in : Entry → List Message
-messages_in (Handled envelope reading outcome) = message_of envelope.body
-messages_in _ = []
+abbrev pub entry_messages : Entry → List Message
+entry_messages (Handled envelope reading outcome) = body_messages envelope.body
+entry_messages _ = []
 
 -- the incarnation's messages, the earliest first: those of the handled envelopes after the newest start or restart
 -- (an incarnation is Akka's word for an actor between two restarts)
 unfoldable pub messages : Identity → List Entry → List Message
 messages who [] = []
-messages who (e ∷ before) = if is_beginning who e before then [] else messages who before ++ messages_in e
+messages who (e ∷ before) = if is_beginning who e before then [] else messages who before ++ entry_messages e

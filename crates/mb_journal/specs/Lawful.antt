@@ -1,6 +1,7 @@
 -- Which journals an actor can have.
 -- In each definition `before` is what came before the entry.
-use Rattle.std.specs.Prelude.{◌≡◌, ◌⊎◌, ℕ, ◌≤◌, Bool, false, not, ◌&&◌, if◌then◌else◌, IsTrue, IsSome, length, List, [], ◌∷◌, filter, Option, Some, None, ⊤}
+use Rattle.std.specs.Prelude.{◌≡◌, ◌⊎◌, ℕ, ◌≤◌, Bool, false, not, ◌&&◌, if◌then◌else◌, IsTrue, IsSome, length, List, [], ◌∷◌, ◌++◌}
+use Rattle.std.specs.Prelude.{filter, option_to_list, Option, Some, None, ⊤}
 use Rattle.mb_msg.specs.declared.envelope.Body.{Body}
 use Rattle.mb_msg.specs.declared.envelope.Body.TheVariants as body
 use Rattle.mb_msg.specs.declared.envelope.Envelope.{Envelope}
@@ -20,6 +21,7 @@ use Rattle.mb_journal.specs.Effects.{lasting_effects, spawns_of}
 use Rattle.mb_journal.specs.Entry.{Entry, Outcome, is_applied}
 use Rattle.mb_journal.specs.Entry.Entry.{Handled, System, Dropped}
 use Rattle.mb_journal.specs.Entry.Outcome.{Applied, SetAside}
+use Rattle.mb_journal.specs.Held.{CanHold}
 use Rattle.mb_journal.specs.Identity.{Identity, is_guardian}
 use Rattle.mb_journal.specs.Incarnation.{messages}
 use Rattle.mb_journal.specs.Life.{phase, closed, is_start, is_restart, is_ending, is_last}
@@ -47,6 +49,7 @@ restart_cause _ = cause.Init
 -- which call of the actor an envelope leads to
 abbrev pub envelope_call : Body → Option Call
 envelope_call (body.User kind value) = Some (Receive (message.User kind value))
+envelope_call (body.Control kind value) = Some (Receive (message.Control kind value))
 envelope_call (body.Terminated x) = Some (Receive (message.Terminated x))
 envelope_call _ = None
 
@@ -62,6 +65,11 @@ call_of who before (System number m outcome) =
     else None)))
 call_of who before (Dropped envelope) = None
 
+-- the calls of the actor that a journal records, the newest first
+unfoldable pub calls : Identity → List Entry → List Call
+calls who [] = []
+calls who (e ∷ before) = option_to_list (call_of who before e) ++ calls who before
+
 -- the moment of a call after these entries
 abbrev pub moment : Identity → List Entry → Call → Moment
 moment who before call =
@@ -72,10 +80,17 @@ abbrev pub IsAnswered : Call → Option Answer → Type 0
 IsAnswered Stop a = a ≡ None
 IsAnswered _ a = IsSome a
 
--- what is recorded is what the call may give after these entries, and nothing where none is made
+-- what is recorded of a call is what it may give after these entries, and its effects are such as an outbox can hold
+pub record IsGivenBy (who : Identity) (gives : Moment → Reply → Type 0) (before : List Entry) (call : Call) (a : Option Answer)
+    (effects : List Effect) : Type 0 where
+  pub answered : IsAnswered call a
+  pub allowed : gives (moment who before call) (record { answer = a; effects = effects })
+  pub held : CanHold who.actors (unspawned who before) effects
+
+-- nothing is recorded where no call is made
 abbrev pub IsGiven : Identity → (Moment → Reply → Type 0) → List Entry → Option Call → Option Answer → List Effect → Type 0
 IsGiven who gives before None a effects = (a ≡ None) × (effects ≡ [])
-IsGiven who gives before (Some call) a effects = IsAnswered call a × gives (moment who before call) (record { answer = a; effects = effects })
+IsGiven who gives before (Some call) a effects = IsGivenBy who gives before call a effects
 
 -- a Terminated is handled if the actor is still to be told so
 abbrev pub IsExpected : Identity → List Entry → Body → Type 0
@@ -91,17 +106,20 @@ IsUnexpected who before _ = ⊥
 abbrev pub IsNumbered : Identity → List Entry → ℕ → SysMsg → Type 0
 IsNumbered who before number m = (number ≡ next_number before) ⊎ (next_front who before ≡ Some (number, m))
 
--- an envelope is handled by a Live actor, at an open reading
-pub record IsHandled (who : Identity) (gives : Moment → Reply → Type 0) (before : List Entry) (envelope : Envelope) (reading : ℕ) (a : Option Answer) (effects : List Effect) : Type 0 where
+-- an envelope is handled by the Live actor that it is addressed to, at an open reading
+pub record IsHandled (who : Identity) (gives : Moment → Reply → Type 0) (before : List Entry) (envelope : Envelope) (reading : ℕ)
+    (a : Option Answer) (effects : List Effect) : Type 0 where
   pub an_actor : is_guardian who ≡ false
+  pub addressed : envelope.to ≡ who.this
   pub live : phase who before ≡ Live
   pub open_reading : IsOpen who before reading
   pub expected : IsExpected who before envelope.body
   pub given : IsGiven who gives before (envelope_call envelope.body) a effects
 
--- an envelope is dropped while envelopes are handled
+-- an envelope is dropped while envelopes are handled, by the actor that it is addressed to
 pub record IsDropped (who : Identity) (before : List Entry) (envelope : Envelope) : Type 0 where
   pub an_actor : is_guardian who ≡ false
+  pub addressed : envelope.to ≡ who.this
   pub live : phase who before ≡ Live
   pub not_suspended : count who before ≡ 0
   pub unexpected : IsUnexpected who before envelope.body

@@ -1,12 +1,13 @@
 -- One run of an actor's mailbox (`akka.dispatch.Mailbox.run`, `processAllSystemMessages` and `processMailbox`).
-use Rattle.std.specs.Prelude.{◌≡◌, ℕ, ◌<◌, ◌≤◌, max, suc, IsFalse, IfSome, true, List, ◌∷◌, None}
+use Rattle.std.specs.Prelude.{◌≡◌, ℕ, ◌<◌, ◌≤◌, max, suc, IsFalse, IsTrue, IfSome, true, List, ◌∷◌, None}
 use Rattle.mb_msg.specs.declared.system.SysMsg.{SysMsg}
-use Rattle.mb_status.specs.Mailbox.{mailbox_of, should_process}
+use Rattle.mb_status.specs.Mailbox.{mailbox_of, is_valid, should_process}
 use Rattle.mb_journal.specs.Aside.{next_front}
 use Rattle.mb_journal.specs.Entry.{Entry, Outcome}
 use Rattle.mb_journal.specs.Entry.Entry.{Handled, System, Dropped}
 use Rattle.mb_journal.specs.Identity.{Identity}
 use Rattle.mb_journal.specs.Life.{closed}
+use Rattle.mb_journal.specs.Reading.{IsOpen}
 use Rattle.mb_journal.specs.Suspension.{count}
 
 -- the second journal is the first with system messages added. Where a message is put in front, it is the next
@@ -29,17 +30,19 @@ pub data IsTurns (who : Identity) (from : List Entry) : ℕ → List Entry → T
   a_turn : (n : ℕ) (middle to : List Entry) (e : Entry) →
       IsTurns who from n middle → next_front who middle ≡ None → IsOfEnvelope e → IsBlock who (e ∷ middle) to → IsTurns who from (suc n) to
 
--- why a run stopped: the throughput was used up; the status word that was read, this one, was not open; no envelope was
--- there; the mailbox was closed; or there was no room for a message, in the journal or in memory, when it was asked for
+-- why a run stopped: the throughput was used up; the status word that was read, this one, was not open; the word that was
+-- read, this one, was open, but no envelope was there; the mailbox was closed; or there was no room for a message, in the
+-- journal or in memory, when it was asked for
 pub data Stopped : Type 0 where
   UsedUp : Stopped
   NotOpen : ℕ → Stopped
-  NoEnvelope : Stopped
+  NoEnvelope : ℕ → Stopped
   AtClosing : Stopped
   NoRoom : Stopped
 
--- the word was not open, closed or suspended, and it is the one of the journal
+-- the word is a valid one that was not open, but closed or suspended, and it is the one of the journal
 pub record IsShut (who : Identity) (journal : List Entry) (word : ℕ) : Type 0 where
+  pub valid : IsTrue (is_valid word)
   pub not_open : IsFalse (should_process (mailbox_of word))
   pub same_count : (mailbox_of word).count ≡ count who journal
   pub same_closing : (mailbox_of word).closed ≡ closed who journal
@@ -53,7 +56,7 @@ most_envelopes throughput = max throughput 1
 abbrev pub IsReason : Identity → ℕ → ℕ → List Entry → Stopped → Type 0
 IsReason who throughput n to UsedUp = (n ≡ most_envelopes throughput) × (next_front who to ≡ None)
 IsReason who throughput n to (NotOpen word) = (n < most_envelopes throughput) × IsShut who to word × (next_front who to ≡ None)
-IsReason who throughput n to NoEnvelope = (n < most_envelopes throughput) × (next_front who to ≡ None)
+IsReason who throughput n to (NoEnvelope word) = (n < most_envelopes throughput) × IsOpen who to word × (next_front who to ≡ None)
 IsReason who throughput n to AtClosing = closed who to ≡ true
 IsReason who throughput n to NoRoom = Unit {0}
 

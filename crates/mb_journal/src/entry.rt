@@ -1,21 +1,21 @@
 use mb_actor::{Answer, Effect};
 use mb_msg::{Envelope, SysMsg};
 
-/// What came, and what became of it, without the effects.
+/// What came to an actor, and what became of it, without the effects. The fields lie in an order that takes 56 bytes.
 #[derive(Clone, Copy, Debug, PartialEq, Eq, PartialOrd, Ord, Hash)]
-pub enum Event {
-    /// An envelope that was handled, the status word that was read before it, and what the actor answered, if it was
-    /// called.
+pub enum Arrival {
+    /// An envelope that was handled: what the actor answered, if it was called, and the status word that was read
+    /// before.
     Handled {
+        answer: Option<Answer>,
         envelope: Envelope,
         reading: u64,
-        answer: Option<Answer>,
     },
-    /// A system message that was applied, its number, and what the actor answered, if it was called.
+    /// A system message that was applied: what the actor answered, if it was called, and the message's number.
     System {
+        answer: Option<Answer>,
         number: u64,
         message: SysMsg,
-        answer: Option<Answer>,
     },
     /// A system message that was set aside, and its number.
     SetAside {
@@ -32,7 +32,7 @@ pub enum Event {
 #[derive(Clone, Copy, Debug)]
 pub struct Record<'a> {
     /// What came, and what became of it.
-    pub event: Event,
+    pub arrival: Arrival,
     /// The effects that the actor asked for, in order.
     pub effects: &'a [Effect],
 }

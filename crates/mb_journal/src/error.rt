@@ -1,8 +1,8 @@
-/// Why a journal cannot take another entry.
+/// Why there is no room for another message: what `ready` of a journal and of a cell answers.
 #[derive(Clone, Copy, Debug, PartialEq, Eq, PartialOrd, Ord, Hash)]
-pub enum JournalError {
-    /// It has as many entries as it may have.
+pub enum ReadyError {
+    /// The journal has as many entries as it may have.
     JournalFull,
-    /// There was no memory for another one.
+    /// Memory for the room was refused.
     NoMemory,
 }

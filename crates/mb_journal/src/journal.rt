@@ -1,12 +1,12 @@
 ghost use Rattle.std.specs.Prelude.{◌≡◌, ◌↔◌, ◌<◌, ◌≤◌, [], ◌∷◌, false, true, length, reverse, slice_get, slice_range, Some, IsTrue, IsErrOf, IsOk, OnOk, OnErr};
 ghost use Rattle.mb_journal.specs.Entry.Entry.{Handled, System, Dropped};
 ghost use Rattle.mb_journal.specs.Entry.Outcome.{Applied, SetAside};
-ghost use Rattle.mb_journal.specs.Kept as kept;
-ghost use Rattle.mb_journal.specs.Log.{entry_of, entry_with, event_of};
+ghost use Rattle.mb_journal.specs.Stored as stored;
+ghost use Rattle.mb_journal.specs.Log.{entry_of, entry_with};
 
-use crate::entry::Record;
-use crate::error::JournalError;
-use crate::row::{Kept, Row};
+use crate::entry::{Arrival, Record};
+use crate::error::ReadyError;
+use crate::row::Row;
 use mb_actor::{Answer, Effect};
 use mb_msg::limits::EFFECTS;
 use mb_msg::{Envelope, SysMsg};
@@ -26,16 +26,15 @@ pub struct Journal {
 
 impl Model for Journal {
     ghost use Rattle.std.specs.Prelude.{reverse};
-    ghost use Rattle.mb_journal.specs.Kept as kept;
     ghost use Rattle.mb_journal.specs.Log.{Log};
 
     ghost Value = { Log };
 
-    ghost use Rattle.mb_journal.specs.Kept.{listed, IsKept};
+    ghost use Rattle.mb_journal.specs.Stored.{listed, IsStored};
 
     ghost view = { λ j. record { entries = reverse (listed 0 j.rows.items j.effects.items); limit = j.limit; is_ready = j.ready } };
 
-    ghost invariant = { IsKept };
+    ghost invariant = { IsStored };
 }
 
 impl Journal {
@@ -77,20 +76,20 @@ impl Journal {
     ///
     /// It answers `JournalFull` if the journal has as many entries as it may have, and else `NoMemory` if the memory for
     /// the room was refused. Nothing has changed then.
-    pub fn ready(&mut self) -> Result<(), JournalError>
-        ensures full { IsErrOf result JournalError.JournalFull ↔ (self.old.limit ≤ length self.old.entries) }
+    pub fn ready(&mut self) -> Result<(), ReadyError>
+        ensures full { IsErrOf result ReadyError.JournalFull ↔ (self.old.limit ≤ length self.old.entries) }
         ensures ok { OnOk result (self.new ≡ record self.old { is_ready = true }) }
         ensures err { OnErr result (self.new ≡ self.old) }
         ensures again { IsTrue self.old.is_ready → IsOk result }
     {
         if self.is_full() {
-            return Err(JournalError::JournalFull);
+            return Err(ReadyError::JournalFull);
         }
         if self.rows.reserve(1).is_err() {
-            return Err(JournalError::NoMemory);
+            return Err(ReadyError::NoMemory);
         }
         if self.effects.reserve(EFFECTS).is_err() {
-            return Err(JournalError::NoMemory);
+            return Err(ReadyError::NoMemory);
         }
         self.ready = true;
         Ok(())
@@ -106,23 +105,14 @@ impl Journal {
         effects: &[Effect],
     )
         requires ready { IsTrue self.old.is_ready }
-        requires few { length effects.now ≤ EFFECTS }
+        requires few { length effects.now ≤ 16 }
         ensures added { self.new ≡ record self.old { entries = Handled envelope reading (Applied answer effects.now) ∷ self.old.entries; is_ready = false } }
         ensures within { length self.new.entries ≤ self.new.limit }
     {
-        let Envelope {
-            by,
-            number,
-            to,
-            body,
-        } = envelope;
         self.push(
-            Kept::Handled {
-                by,
-                to,
+            Arrival::Handled {
                 answer,
-                number,
-                body,
+                envelope,
                 reading,
             },
             effects,
@@ -139,12 +129,12 @@ impl Journal {
         effects: &[Effect],
     )
         requires ready { IsTrue self.old.is_ready }
-        requires few { length effects.now ≤ EFFECTS }
+        requires few { length effects.now ≤ 16 }
         ensures added { self.new ≡ record self.old { entries = System number message (Applied answer effects.now) ∷ self.old.entries; is_ready = false } }
         ensures within { length self.new.entries ≤ self.new.limit }
     {
         self.push(
-            Kept::System {
+            Arrival::System {
                 answer,
                 number,
                 message,
@@ -159,7 +149,7 @@ impl Journal {
         ensures added { self.new ≡ record self.old { entries = System number message SetAside ∷ self.old.entries; is_ready = false } }
         ensures within { length self.new.entries ≤ self.new.limit }
     {
-        self.push(Kept::SetAside { number, message }, &[]);
+        self.push(Arrival::SetAside { number, message }, &[]);
     }
 
     /// Adds an envelope that was dropped.
@@ -168,34 +158,20 @@ impl Journal {
         ensures added { self.new ≡ record self.old { entries = Dropped envelope ∷ self.old.entries; is_ready = false } }
         ensures within { length self.new.entries ≤ self.new.limit }
     {
-        let Envelope {
-            by,
-            number,
-            to,
-            body,
-        } = envelope;
-        self.push(
-            Kept::Dropped {
-                by,
-                to,
-                number,
-                body,
-            },
-            &[],
-        );
+        self.push(Arrival::Dropped { envelope }, &[]);
     }
 
     /// Adds an entry and its effects where there is room.
-    fn push(&mut self, kept: Kept, effects: &[Effect])
+    fn push(&mut self, arrival: Arrival, effects: &[Effect])
         requires ready { IsTrue self.old.is_ready }
-        requires few { length effects.now ≤ EFFECTS }
-        ensures added { self.new ≡ record self.old { entries = entry_with (event_of kept) effects.now ∷ self.old.entries; is_ready = false } }
+        requires few { length effects.now ≤ 16 }
+        ensures added { self.new ≡ record self.old { entries = entry_with arrival effects.now ∷ self.old.entries; is_ready = false } }
         ensures within { length self.new.entries ≤ self.new.limit }
     {
         self.ready = false;
         self.effects.extend_from_slice(effects).unwrap();
         let end = self.effects.len();
-        self.rows.push(Row { kept, end }).unwrap();
+        self.rows.push(Row { arrival, end }).unwrap();
     }
 
     /// The entry of this place, the first entry's being 0.
@@ -206,7 +182,7 @@ impl Journal {
         let from = start_of(&self.rows, index);
         let row = self.rows[index];
         Record {
-            event: row.event(),
+            arrival: row.arrival,
             effects: part(&self.effects, from, row.end),
         }
     }
@@ -215,7 +191,7 @@ impl Journal {
 /// Where the effects of the row of this place begin.
 fn start_of(rows: &[Row], index: usize) -> usize
     requires { index < length rows.now }
-    ensures { result ≡ kept.start_of 0 rows.now index }
+    ensures { result ≡ stored.start_of 0 rows.now index }
 {
     if index == 0 { 0 } else { rows[index - 1].end }
 }

@@ -9,8 +9,8 @@ mod journal;
 mod row;
 mod strategy;
 
-pub use entry::{Event, Record};
-pub use error::JournalError;
+pub use entry::{Arrival, Record};
+pub use error::ReadyError;
 pub use journal::Journal;
 pub use strategy::{Pattern, Strategy};
 

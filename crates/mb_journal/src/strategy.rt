@@ -20,11 +20,16 @@ pub enum Pattern {
     DeathPact,
 }
 
-/// What an actor does about children that fail (Akka's `OneForOneStrategy`): the first row that matches decides.
+/// What an actor does about children that fail (Akka's `OneForOneStrategy` and `AllForOneStrategy`): the first row that
+/// matches decides.
 #[derive(Debug, Drop)]
 pub struct Strategy {
     /// Which cause, and what to do about it.
     pub rows: Vec<(Pattern, Directive)>,
+    /// How often a child is started afresh; a negative number is no limit (`maxNrOfRetries`, without a time window).
+    pub retries: i64,
+    /// Whether a restart or a stop that is decided about one child is for all of them (`AllForOneStrategy`).
+    pub all_for_one: bool,
 }
 
 impl Pattern {

@@ -21,7 +21,7 @@ fn make_ready(rt: &impl Abort, journal: &mut Journal)
 {
     let before = journal.len();
     if let Err(error) = journal.ready() {
-        assert_eq!(rt; error, JournalError::NoMemory);
+        assert_eq!(rt; error, ReadyError::NoMemory);
         assert_eq!(rt; journal.len(), before);
         journal.ready().expect(rt, "there is memory again");
     }
@@ -55,8 +55,8 @@ fn entries_are_read_back(rt: HostRuntime) {
 
     let first = journal.get(0);
     assert_eq!(rt;
-        first.event,
-        Event::System {
+        first.arrival,
+        Arrival::System {
             number: 0,
             message: SysMsg::Create,
             answer: Some(Answer::Handled)
@@ -68,8 +68,8 @@ fn entries_are_read_back(rt: HostRuntime) {
     );
     let second = journal.get(1);
     assert_eq!(rt;
-        second.event,
-        Event::Handled {
+        second.arrival,
+        Arrival::Handled {
             envelope: add(0, 7),
             reading: 2,
             answer: Some(Answer::Failed(3))
@@ -78,8 +78,8 @@ fn entries_are_read_back(rt: HostRuntime) {
     assert!(rt; second.effects.is_empty());
     let third = journal.get(2);
     assert_eq!(rt;
-        third.event,
-        Event::SetAside {
+        third.arrival,
+        Arrival::SetAside {
             number: 1,
             message: SysMsg::Failed(ActorId(2), Cause::Error(1))
         }
@@ -87,8 +87,8 @@ fn entries_are_read_back(rt: HostRuntime) {
     assert!(rt; third.effects.is_empty());
     let fourth = journal.get(3);
     assert_eq!(rt;
-        fourth.event,
-        Event::Handled {
+        fourth.arrival,
+        Arrival::Handled {
             envelope: add(1, 8),
             reading: 0,
             answer: Some(Answer::Unhandled)
@@ -97,8 +97,8 @@ fn entries_are_read_back(rt: HostRuntime) {
     assert_eq!(rt; fourth.effects, [Effect::Stop(ActorId(3))].as_slice());
     let fifth = journal.get(4);
     assert_eq!(rt;
-        fifth.event,
-        Event::Dropped {
+        fifth.arrival,
+        Arrival::Dropped {
             envelope: add(2, 9)
         }
     );
@@ -114,13 +114,13 @@ fn the_limit_is_kept(rt: HostRuntime) {
         journal.push_handled(add(number, 1), 2, Some(Answer::Handled), &[]);
     }
     assert!(rt; journal.is_full());
-    assert_eq!(rt; journal.ready(), Err(JournalError::JournalFull));
+    assert_eq!(rt; journal.ready(), Err(ReadyError::JournalFull));
     assert_eq!(rt; journal.len(), 2);
 
     let mut one = Journal::new(rt.alloc(), 1);
     make_ready(&rt, &mut one);
     one.push_system(0, SysMsg::Create, Some(Answer::Handled), &[]);
-    assert_eq!(rt; one.ready(), Err(JournalError::JournalFull));
+    assert_eq!(rt; one.ready(), Err(ReadyError::JournalFull));
 }
 
 #[test]
@@ -143,8 +143,8 @@ fn a_long_journal_keeps_its_entries(rt: HostRuntime) {
     for index in 0..journal.len() {
         let record = journal.get(index);
         assert_eq!(rt;
-            record.event,
-            Event::Handled {
+            record.arrival,
+            Arrival::Handled {
                 envelope: add(index as u64, 5),
                 reading: 2,
                 answer: Some(Answer::Handled)
@@ -173,7 +173,11 @@ fn the_first_row_that_matches_decides(rt: HostRuntime) -> Result<(), Fail> {
     if kept.is_err() {
         kept = rows.to_vec(rt.alloc());
     }
-    let strategy = Strategy { rows: kept? };
+    let strategy = Strategy {
+        rows: kept?,
+        retries: -1,
+        all_for_one: false,
+    };
     assert_eq!(rt; strategy.decide(Cause::Error(3)), Directive::Resume);
     assert_eq!(rt; strategy.decide(Cause::Error(4)), Directive::Stop);
     assert_eq!(rt; strategy.decide(Cause::Killed), Directive::Escalate);
@@ -181,6 +185,8 @@ fn the_first_row_that_matches_decides(rt: HostRuntime) -> Result<(), Fail> {
     assert_eq!(rt; strategy.decide(Cause::DeathPact), Directive::Stop);
     let none = Strategy {
         rows: Vec::new(rt.alloc()),
+        retries: -1,
+        all_for_one: false,
     };
     assert_eq!(rt; none.decide(Cause::Error(3)), Directive::Restart);
     assert_eq!(rt; none.decide(Cause::Killed), Directive::Stop);

@@ -43,6 +43,7 @@ impl<A: Actor, K: Behaviours> Cell<A, K> {
     pub fn apply_envelope(&mut self, reading: Status, envelope: Envelope)
         requires ready { IsTrue self.old.is_ready }
         requires carried_out { self.old.acts ≡ [] }
+        requires addressed { envelope.to ≡ self.old.who.this }
         requires live { phase_of self.old.who self.old.journal ≡ Live }
         requires open { IsOpen self.old.who self.old.journal (word_of reading) }
         requires user { IsUser envelope.body }
@@ -84,6 +85,7 @@ impl<A: Actor, K: Behaviours> Cell<A, K> {
     fn apply_user(&mut self, reading: Status, envelope: Envelope, kind: u32, value: i64)
         requires ready { IsTrue self.old.is_ready }
         requires carried_out { self.old.acts ≡ [] }
+        requires addressed { envelope.to ≡ self.old.who.this }
         requires live { phase_of self.old.who self.old.journal ≡ Live }
         requires open { IsOpen self.old.who self.old.journal (word_of reading) }
         requires user { envelope.body ≡ Body.User kind value }

@@ -1,7 +1,7 @@
 use Rattle.std.proofs.Common.{◌≡◌, refl, ap, sym, ◌∙◌, arith, ℕ}
 use Rattle.std.proofs.Common.{suc, ◌-◌}
-use Rattle.mb_journal.proofs.KeptLemmas.{start_of-suc}
-use Rattle.mb_journal.specs.Kept.{start_of}
+use Rattle.mb_journal.proofs.StoredLemmas.{start_of-suc}
+use Rattle.mb_journal.specs.Stored.{start_of}
 use Rattle.mb_journal.proofs.journal.start_of.Goals as goal
 
 pub returns-then-index-eq0 : goal.returns-then-index-eq0

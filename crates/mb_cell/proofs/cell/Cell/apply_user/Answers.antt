@@ -74,6 +74,7 @@ kept g c =
     (g.K.Behaviours.after c.self.inside.this.0) (g.K.Behaviours.gives c.self.inside.this.0) c.self.inside.phase c.self.inside.count
     (g.A.Actor.content c.self.inside.actor) (g.A.Actor.content c.call_receive-answer.new.actor) c.self.inside.outbox c.clear.new.self
     c.self.invariant.2
+    (c.requires.addressed ∙ ap (λ (s : Seen). s.who.this) (sym c.self.view_is))
     (subst (λ (s : Seen). phase s.who s.journal ≡ Live) (sym c.self.view_is) c.requires.live)
     (subst (λ (s : Seen). IsOpen s.who s.journal (word_of c.args.reading)) (sym c.self.view_is) c.requires.open)
     (given_now g c)

@@ -1,5 +1,5 @@
 use Rattle.std.proofs.Common.{◌≡◌, List, [], ◌∷◌, length, refl, ap, arith}
-use Rattle.mb_journal.proofs.KeptLemmas.{length-entries}
+use Rattle.mb_journal.proofs.StoredLemmas.{length-entries}
 use Rattle.std.proofs.lemmas.Bool.Decides.{nat_tests}
 use Rattle.mb_journal.specs.Entry.{Entry}
 use Rattle.mb_journal.proofs.journal.Journal.is_empty.Goals as goal

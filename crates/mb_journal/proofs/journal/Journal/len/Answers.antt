@@ -1,5 +1,5 @@
 use Rattle.std.proofs.Common.{arith}
-use Rattle.mb_journal.proofs.KeptLemmas.{length-entries}
+use Rattle.mb_journal.proofs.StoredLemmas.{length-entries}
 use Rattle.mb_journal.proofs.journal.Journal.len.Goals as goal
 
 pub returns-clause-value : goal.returns-clause-value

@@ -1,5 +1,5 @@
 use Rattle.std.proofs.Common.{refl, arith}
-use Rattle.mb_journal.specs.Kept.{listed, StandInOrder}
+use Rattle.mb_journal.specs.Stored.{listed, StandInOrder}
 use Rattle.mb_journal.proofs.journal.Journal.new.Goals as goal
 
 pub invariant_of-result : goal.invariant_of-result

@@ -1,5 +1,5 @@
 use Rattle.std.proofs.Common.{false, ap, ◌∙◌, arith}
-use Rattle.mb_journal.proofs.KeptLemmas.{length-entries, order-pushed, entries-pushed}
+use Rattle.mb_journal.proofs.StoredLemmas.{length-entries, order-pushed, entries-pushed}
 use Rattle.mb_journal.specs.Log.{Log}
 use Rattle.mb_journal.proofs.journal.Journal.push.Goals as goal
 

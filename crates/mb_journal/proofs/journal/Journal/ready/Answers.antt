@@ -1,5 +1,5 @@
 use Rattle.std.proofs.Common.{◌≡◌, ◌≤◌, false, length, ap, sym, ◌∙◌, arith}
-use Rattle.mb_journal.proofs.KeptLemmas.{length-entries}
+use Rattle.mb_journal.proofs.StoredLemmas.{length-entries}
 use Rattle.std.specs.Prelude.{Result, Ok, Err, is_err, OnOk}
 use Rattle.mb_journal.specs.Log.{Log}
 use Rattle.mb_journal.proofs.journal.Journal.ready.Goals as goal
@@ -26,6 +26,8 @@ invariant_of-self-2 c =
     record {
       in_order = rw (c.reserve.ensures.items, c.reserve-2.ensures.items) c.self.invariant.in_order;
       within = omega arith;
-      row_room = λ e. let room = on_ok _ _ (sym c.if-is_err.false ∙ c.is_err.ensures.value) c.reserve.ensures.ok in (omega (arith, c.self.inside.rows.ok.0), omega arith);
+      row_room = λ e.
+          let room = on_ok _ _ (sym c.if-is_err.false ∙ c.is_err.ensures.value) c.reserve.ensures.ok in
+          (omega (arith, c.self.inside.rows.ok.0), omega arith);
       effect_room = λ e. on_ok _ _ (sym c.if-is_err-2.false ∙ c.is_err-2.ensures.value) c.reserve-2.ensures.ok;
     }

@@ -1,12 +1,13 @@
 -- The rows of a journal and its entries: what a row more adds, and what each row keeps.
-use Rattle.std.proofs.Common.{◌≡◌, ℕ, ◌+◌, ◌-◌, ◌<◌, ◌≤◌, List, [], ◌∷◌, ◌++◌, length, take, drop, get_or, reverse, refl, ap, sym, ◌∙◌, arith, zero, suc, length-append, length-drop}
+use Rattle.std.proofs.Common.{◌≡◌, ℕ, ◌+◌, ◌-◌, ◌<◌, ◌≤◌, List, [], ◌∷◌, ◌++◌, length, take, drop, get_or, reverse, refl, ap, sym, ◌∙◌}
+use Rattle.std.proofs.Common.{arith, zero, suc, length-append, length-drop}
 use Rattle.std.specs.Prelude.{slice_range, slice_get, Some}
 use Rattle.std.proofs.lemmas.List.{length-reverse, reverse-append, take-append-le, drop-append-le}
 use Rattle.std.proofs.Math.Seq.{drop-append_seam, take-length}
 use Rattle.mb_actor.specs.declared.effect.Effect.{Effect}
-use Rattle.mb_journal.specs.Kept.{listed, StandInOrder, start_of}
-use Rattle.mb_journal.specs.Log.{entry_with, event_of}
-use Rattle.mb_journal.specs.declared.row.Kept.{Kept}
+use Rattle.mb_journal.specs.Stored.{listed, StandInOrder, start_of}
+use Rattle.mb_journal.specs.Log.{entry_with}
+use Rattle.mb_journal.specs.declared.entry.Arrival.{Arrival}
 use Rattle.mb_journal.specs.declared.row.Row.{Row}
 
 pub length-listed : (from : ℕ) (rows : List Row) (effects : List Effect) → length (listed from rows effects) ≡ length rows
@@ -45,50 +46,51 @@ range-seam effects more to e =
     ∙ (ap (λ n. take n more) (omega (arith, e)) ∙ take-length more)
 
 -- a row more, with its effects at the end, adds its entry at the end
-pub listed-push : (from : ℕ) (rows : List Row) (effects more : List Effect) (kept : Kept) (end : ℕ) →
+pub listed-push : (from : ℕ) (rows : List Row) (effects more : List Effect) (arrival : Arrival) (end : ℕ) →
     StandInOrder from rows (length effects) → end ≡ length effects + length more →
-    listed from (rows ++ record { kept = kept; end = end } ∷ []) (effects ++ more)
-    ≡ listed from rows effects ++ entry_with (event_of kept) more ∷ []
+    listed from (rows ++ record { arrival = arrival; end = end } ∷ []) (effects ++ more)
+    ≡ listed from rows effects ++ entry_with arrival more ∷ []
 unfolding listed StandInOrder
-listed-push from [] effects more kept end e at =
-    ap (λ es. entry_with (event_of kept) es ∷ []) (ap (λ n. slice_range (effects ++ more) n end) e ∙ range-seam effects more end at)
-listed-push from (row ∷ rows) effects more kept end (a, b, rest) at =
-    ap (λ es. entry_with (event_of row.kept) es ∷ listed row.end (rows ++ record { kept = kept; end = end } ∷ []) (effects ++ more)) (range-append effects more from row.end a b)
-    ∙ ap (λ es. entry_with (event_of row.kept) (slice_range effects from row.end) ∷ es) (listed-push row.end rows effects more kept end rest at)
+listed-push from [] effects more arrival end e at =
+    ap (λ es. entry_with arrival es ∷ []) (ap (λ n. slice_range (effects ++ more) n end) e ∙ range-seam effects more end at)
+listed-push from (row ∷ rows) effects more arrival end (a, b, rest) at =
+    ap (λ es. entry_with row.arrival es ∷ listed row.end (rows ++ record { arrival = arrival; end = end } ∷ []) (effects ++ more))
+    (range-append effects more from row.end a b)
+    ∙ ap (λ es. entry_with row.arrival (slice_range effects from row.end) ∷ es) (listed-push row.end rows effects more arrival end rest at)
 
 -- a row more adds its entry, the newest first
-pub entries-push : (rows : List Row) (effects more : List Effect) (kept : Kept) (end : ℕ) →
+pub entries-push : (rows : List Row) (effects more : List Effect) (arrival : Arrival) (end : ℕ) →
     StandInOrder 0 rows (length effects) → end ≡ length effects + length more →
-    reverse (listed 0 (rows ++ record { kept = kept; end = end } ∷ []) (effects ++ more))
-    ≡ entry_with (event_of kept) more ∷ reverse (listed 0 rows effects)
-entries-push rows effects more kept end order at =
-    ap reverse (listed-push 0 rows effects more kept end order at) ∙ reverse-append (listed 0 rows effects) (entry_with (event_of kept) more ∷ [])
+    reverse (listed 0 (rows ++ record { arrival = arrival; end = end } ∷ []) (effects ++ more))
+    ≡ entry_with arrival more ∷ reverse (listed 0 rows effects)
+entries-push rows effects more arrival end order at =
+    ap reverse (listed-push 0 rows effects more arrival end order at) ∙ reverse-append (listed 0 rows effects) (entry_with arrival more ∷ [])
 
 -- the entry at a place
 pub listed-get : (from : ℕ) (rows : List Row) (effects : List Effect) (i : ℕ) (d : Row) → i < length rows →
     slice_get (listed from rows effects) i
-    ≡ Some (entry_with (event_of (get_or rows i d).kept) (slice_range effects (start_of from rows i) (get_or rows i d).end))
+    ≡ Some (entry_with (get_or rows i d).arrival (slice_range effects (start_of from rows i) (get_or rows i d).end))
 unfolding listed start_of
 listed-get from [] effects i d lt = absurd (omega (arith, lt))
 listed-get from (row ∷ rows) effects zero d lt = refl
 listed-get from (row ∷ rows) effects (suc i) d lt = listed-get row.end rows effects i d (omega (arith, lt))
 
 -- the order after a push, by what the two lists become
-pub order-pushed : (rows new_rows : List Row) (effects new_effects more : List Effect) (kept : Kept) (end : ℕ) →
-    StandInOrder 0 rows (length effects) → new_rows ≡ rows ++ record { kept = kept; end = end } ∷ [] → new_effects ≡ effects ++ more →
+pub order-pushed : (rows new_rows : List Row) (effects new_effects more : List Effect) (arrival : Arrival) (end : ℕ) →
+    StandInOrder 0 rows (length effects) → new_rows ≡ rows ++ record { arrival = arrival; end = end } ∷ [] → new_effects ≡ effects ++ more →
     end ≡ length new_effects → StandInOrder 0 new_rows (length new_effects)
-order-pushed rows new_rows effects new_effects more kept end order by_rows by_effects at =
+order-pushed rows new_rows effects new_effects more arrival end order by_rows by_effects at =
     let longer : length new_effects ≡ length effects + length more = ap length by_effects ∙ length-append effects more in
-    rw (by_rows, ← at) (StandInOrder-push 0 rows (length effects) (record { kept = kept; end = end }) order (omega arith))
+    rw (by_rows, ← at) (StandInOrder-push 0 rows (length effects) (record { arrival = arrival; end = end }) order (omega arith))
 
 -- the entries after a push, by what the two lists become
-pub entries-pushed : (rows new_rows : List Row) (effects new_effects more : List Effect) (kept : Kept) (end : ℕ) →
-    StandInOrder 0 rows (length effects) → new_rows ≡ rows ++ record { kept = kept; end = end } ∷ [] → new_effects ≡ effects ++ more →
+pub entries-pushed : (rows new_rows : List Row) (effects new_effects more : List Effect) (arrival : Arrival) (end : ℕ) →
+    StandInOrder 0 rows (length effects) → new_rows ≡ rows ++ record { arrival = arrival; end = end } ∷ [] → new_effects ≡ effects ++ more →
     end ≡ length new_effects →
-    reverse (listed 0 new_rows new_effects) ≡ entry_with (event_of kept) more ∷ reverse (listed 0 rows effects)
-entries-pushed rows new_rows effects new_effects more kept end order by_rows by_effects at =
+    reverse (listed 0 new_rows new_effects) ≡ entry_with arrival more ∷ reverse (listed 0 rows effects)
+entries-pushed rows new_rows effects new_effects more arrival end order by_rows by_effects at =
     let longer : length new_effects ≡ length effects + length more = ap length by_effects ∙ length-append effects more in
-    rw (by_rows, by_effects) (entries-push rows effects more kept end order (at ∙ longer))
+    rw (by_rows, by_effects) (entries-push rows effects more arrival end order (at ∙ longer))
 
 -- the effects of the row at a place stand within those of all rows
 pub range-within : (from : ℕ) (rows : List Row) (to i : ℕ) (d : Row) → StandInOrder from rows to → i < length rows →
@@ -117,8 +119,8 @@ range-of-row rows effects i from row order lt read at =
 -- a row that was read at a place, with its effects, is the entry at that place
 pub entry-of-row : (rows : List Row) (effects : List Effect) (i from : ℕ) (row : Row) → i < length rows →
     row ≡ get_or rows i row → from ≡ start_of 0 rows i →
-    slice_get (listed 0 rows effects) i ≡ Some (entry_with (event_of row.kept) (slice_range effects from row.end))
+    slice_get (listed 0 rows effects) i ≡ Some (entry_with row.arrival (slice_range effects from row.end))
 entry-of-row rows effects i from row lt read at =
     listed-get 0 rows effects i row lt
-    ∙ (ap (λ (n : ℕ). Some (entry_with (event_of (get_or rows i row).kept) (slice_range effects n (get_or rows i row).end))) (sym at)
-    ∙ ap (λ (r : Row). Some (entry_with (event_of r.kept) (slice_range effects from r.end))) (sym read))
+    ∙ (ap (λ (n : ℕ). Some (entry_with (get_or rows i row).arrival (slice_range effects n (get_or rows i row).end))) (sym at)
+    ∙ ap (λ (r : Row). Some (entry_with r.arrival (slice_range effects from r.end))) (sym read))

@@ -2,14 +2,14 @@
 use Rattle.std.specs.Prelude.{◌≡◌, ℕ, zero, suc, ◌+◌, ◌<◌, ◌≤◌, true, List, [], ◌∷◌, length, slice_range, vec_len, vec_capacity}
 use Rattle.mb_actor.specs.declared.effect.Effect.{Effect}
 use Rattle.mb_journal.specs.Entry.{Entry}
-use Rattle.mb_journal.specs.Log.{entry_with, event_of}
+use Rattle.mb_journal.specs.Log.{entry_with}
 use Rattle.mb_journal.specs.declared.row.Row.{Row}
 use Rattle.mb_journal.specs.declared.journal.Journal.TheInside.{Inside}
 
 -- the entries of rows, the earliest first: each with its effects, which begin at this place
 unfoldable pub listed : ℕ → List Row → List Effect → List Entry
 listed from [] effects = []
-listed from (row ∷ rows) effects = entry_with (event_of row.kept) (slice_range effects from row.end) ∷ listed row.end rows effects
+listed from (row ∷ rows) effects = entry_with row.arrival (slice_range effects from row.end) ∷ listed row.end rows effects
 
 -- the rows' effects stand one after another, from this place to that one
 unfoldable pub StandInOrder : ℕ → List Row → ℕ → Type 0
@@ -26,9 +26,9 @@ start_of from (row ∷ rows) (suc i) = start_of row.end rows i
 abbrev pub most_effects : ℕ
 most_effects = 16
 
--- the rows and effects of a journal: the effects of the rows are those of the list, there are no more rows than there may
+-- what holds of the rows and effects of a journal at rest: the effects of the rows are those of the list, there are no more rows than there may
 -- be, and a journal that is ready has room for a row and all the effects of a call
-pub record IsKept (j : Inside) : Type 0 where
+pub record IsStored (j : Inside) : Type 0 where
   pub in_order : StandInOrder 0 j.rows.items (length j.effects.items)
   pub within : vec_len j.rows ≤ j.limit
   pub row_room : j.ready ≡ true → (vec_len j.rows < j.limit) × (vec_len j.rows < vec_capacity j.rows)
