@@ -10,7 +10,8 @@ ghost use Rattle.bench.specs.Sum.{sends};
 
 use crate::memory::Memory;
 use mb_actor::{Actor, Behaviours};
-use mb_cell::{Cell, CellFault};
+use mb_cell::Cell;
+use mb_journal::ReadyError;
 use mb_msg::{ActorId, Body, Envelope, SenderId, SysMsg, limits};
 use mb_status::Status;
 use std::alloc::AllocGlobal;
@@ -44,14 +45,14 @@ pub fn measure<R: Clock + Files + AllocGlobal, A: Actor, K: Behaviours>(
     rt: &R,
     actor: A,
     count: u32,
-) -> Result<Measured, CellFault>
+) -> Result<Measured, ReadyError>
     requires unused { A.content actor ≡ A.after actor [] }
     requires behaves { A.after actor ≡ K.after 1 }
     requires allows { AllowsSame (A.gives actor) (K.gives 1) }
     ensures handled { IfOk result (λ measured. measured.handled ≡ count) }
     ensures state { IfOk result (λ measured. measured.state ≡ K.after 1 (sends count)) }
     ensures room { OnOk result (count + 1 ≤ 4294967295) }
-    ensures full { IsErrOf result CellFault.JournalFull → 4294967295 < count + 1 }
+    ensures full { IsErrOf result ReadyError.JournalFull → 4294967295 < count + 1 }
 {
     let mut cell = Cell::<A, K>::new(rt.alloc(), ACTOR, actor, u32::MAX);
     start(&mut cell)?;
@@ -76,7 +77,7 @@ pub fn measure<R: Clock + Files + AllocGlobal, A: Actor, K: Behaviours>(
 }
 
 /// Starts the actor of a cell to which nothing came yet.
-fn start<A: Actor, K: Behaviours>(cell: &mut Cell<A, K>) -> Result<(), CellFault>
+fn start<A: Actor, K: Behaviours>(cell: &mut Cell<A, K>) -> Result<(), ReadyError>
     requires an_actor { is_guardian cell.old.who ≡ false }
     requires nothing { cell.old.journal ≡ [] }
     requires no_acts { cell.old.acts ≡ [] }
@@ -84,7 +85,7 @@ fn start<A: Actor, K: Behaviours>(cell: &mut Cell<A, K>) -> Result<(), CellFault
     ensures idle { IfOk result (λ _. IsIdle cell.new) }
     ensures entry { OnOk result (length cell.new.journal ≡ 1) }
     ensures room { OnOk result (1 ≤ cell.old.who.limit) }
-    ensures full { IsErrOf result CellFault.JournalFull ↔ (cell.old.who.limit ≤ 0) }
+    ensures full { IsErrOf result ReadyError.JournalFull ↔ (cell.old.who.limit ≤ 0) }
     ensures no_message { IfOk result (λ _. messages cell.new.who cell.new.journal ≡ []) }
 {
     cell.ready()?;
@@ -94,12 +95,13 @@ fn start<A: Actor, K: Behaviours>(cell: &mut Cell<A, K>) -> Result<(), CellFault
 }
 
 /// The loop that is measured: so many messages, each with room made for it, handled, and its acts taken.
-fn handle_all<A: Actor, K: Behaviours>(cell: &mut Cell<A, K>, count: u32) -> Result<(), CellFault>
+fn handle_all<A: Actor, K: Behaviours>(cell: &mut Cell<A, K>, count: u32) -> Result<(), ReadyError>
     requires idle { IsIdle cell.old }
+    requires the_actor { cell.old.who.this ≡ record { 0 = 1 } }
     ensures same_who { cell.new.who ≡ cell.old.who }
     ensures entries { IfOk result (λ _. length cell.new.journal ≡ length cell.old.journal + count) }
     ensures room { OnOk result (0 < count → length cell.old.journal + count ≤ cell.old.who.limit) }
-    ensures full { IsErrOf result CellFault.JournalFull → cell.old.who.limit < length cell.old.journal + count }
+    ensures full { IsErrOf result ReadyError.JournalFull → cell.old.who.limit < length cell.old.journal + count }
     ensures heard { IfOk result (λ _. messages cell.new.who cell.new.journal ≡ messages cell.old.who cell.old.journal ++ sends count) }
 {
     let reading = open();

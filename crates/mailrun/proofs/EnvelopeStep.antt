@@ -10,7 +10,7 @@ use Rattle.mb_journal.specs.Entry.{Entry}
 use Rattle.mb_journal.specs.Entry.Entry.{Handled}
 use Rattle.mb_journal.specs.Entry.Outcome.{Applied}
 use Rattle.mb_journal.specs.Identity.{Identity, is_guardian}
-use Rattle.mb_journal.specs.Incarnation.{message_of}
+use Rattle.mb_journal.specs.Incarnation.{body_messages}
 use Rattle.mb_journal.specs.Reading.{IsOpen}
 use Rattle.mb_journal.specs.Run.{IsBlock, IsTurns}
 use Rattle.mb_journal.specs.Run.IsBlock.{no_more, one_more}
@@ -20,6 +20,7 @@ use Rattle.mb_cell.specs.Message.{IsUser}
 use Rattle.mb_cell.specs.Seen.{Seen, HandlesEnvelope}
 use Rattle.mb_cell.proofs.Laws.{IsRunning, handled, running-not_closed, running-open, count-none}
 use Rattle.mb_cell.proofs.RunLaws.{turn-more}
+use Rattle.mailrun.proofs.SystemStep.{still_addressed}
 use Rattle.mailrun.specs.Fates.{envelopes_of, messages_in}
 use Rattle.mailrun.specs.Post.{World}
 use Rattle.mailrun.specs.Rest.{IsStanding, IsAtRest, IsKept}
@@ -95,10 +96,10 @@ unfolding envelopes_of
 told before envelope reading a = refl
 
 -- the messages in envelopes with one more
-one_more_message : (list : List Envelope) (envelope : Envelope) → messages_in (list ++ envelope ∷ []) ≡ messages_in list ++ message_of envelope.body
-one_more_message [] envelope = append-nil (message_of envelope.body)
+one_more_message : (list : List Envelope) (envelope : Envelope) → messages_in (list ++ envelope ∷ []) ≡ messages_in list ++ body_messages envelope.body
+one_more_message [] envelope = append-nil (body_messages envelope.body)
 one_more_message (e ∷ list) envelope =
-    ap (λ l. message_of e.body ++ l) (one_more_message list envelope) ∙ sym (append_assoc (message_of e.body) (messages_in list) (message_of envelope.body))
+    ap (λ l. body_messages e.body ++ l) (one_more_message list envelope) ∙ sym (append_assoc (body_messages e.body) (messages_in list) (body_messages envelope.body))
 
 after_envelope : World → Seen → List Envelope → World
 after_envelope w cell envelopes =
@@ -113,6 +114,7 @@ handled_step w ready cell envelope envelopes rest is_ready open_ some handles =
     let from_there : HandlesEnvelope there cell envelope (word_of w.status) =
     subst (λ (s : Seen). HandlesEnvelope s cell envelope (word_of w.status)) is_ready handles in
     let runs = is_running w rest open_ in
+    let mine = subst (AllByRecursion (λ (e : Envelope). e.to ≡ w.cell.who.this)) some rest.addressed in
     let users = subst (AllByRecursion (λ (e : Envelope). IsUser e.body)) some rest.users in
     let after = handled there cell envelope (word_of w.status) from_there users.0 (running-not_closed w.cell.who w.cell.journal runs) in
     let status : carried_out cell.acts w.status ≡ w.status = ap (λ l. carried_out l w.status) after.no_acts in
@@ -129,8 +131,9 @@ handled_step w ready cell envelope envelopes rest is_ready open_ some handles =
         numbered = rest.numbered ∙ sym after.same_next;
         numbers_fit = rest.numbers_fit;
         creates = rest.creates;
+        addressed = still_addressed w cell envelopes after.same_who mine.1;
         users = users.1;
-        heard = after.one_message ∙ ap (λ l. l ++ message_of envelope.body) rest.heard
+        heard = after.one_message ∙ ap (λ l. l ++ body_messages envelope.body) rest.heard
             ∙ sym (ap messages_in tells ∙ one_more_message (envelopes_of w.cell.journal) envelope);
       };
       kept = record {

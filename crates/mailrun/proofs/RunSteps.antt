@@ -6,8 +6,8 @@ use Rattle.mb_journal.specs.Identity.{Identity}
 use Rattle.mb_journal.specs.Run.{IsBlock, IsTurns, IsReason, Stopped, most_envelopes}
 use Rattle.mb_journal.specs.Run.Stopped.{NoRoom}
 use Rattle.mb_journal.proofs.LawfulLemmas.{next_front-none}
-use Rattle.mb_cell.specs.declared.fault.CellFault.{CellFault}
-use Rattle.mb_cell.specs.declared.fault.CellFault.TheVariants.{JournalFull}
+use Rattle.mb_journal.specs.declared.error.ReadyError.{ReadyError}
+use Rattle.mb_journal.specs.declared.error.ReadyError.TheVariants.{JournalFull}
 use Rattle.mailrun.proofs.EnvelopeStep.{turns_after}
 use Rattle.mailrun.proofs.SystemStep.{none_aside}
 use Rattle.mailrun.specs.Post.{World}
@@ -65,7 +65,7 @@ full_needs old new limit sends kept who in_all full =
 
 -- a run that ends with the fault of its system messages, some of which are left, ends with a full journal exactly where
 -- they did
-pub full_by_systems : {T U : Type 0} → (first : Result T CellFault) (last : Result U CellFault) (fault other : CellFault) → first ≡ Err fault →
+pub full_by_systems : {T U : Type 0} → (first : Result T ReadyError) (last : Result U ReadyError) (fault other : ReadyError) → first ≡ Err fault →
     last ≡ Err other → other ≡ fault → (throughput : ℕ) (old new : World) → 0 < length new.systems →
     (IsErrOf first JournalFull ↔ (new.cell.who.limit ≤ length new.cell.journal) × (0 < length new.systems)) →
     (IsErrOf last JournalFull ↔ (new.cell.who.limit ≤ length new.cell.journal) × IsUnended throughput old new)

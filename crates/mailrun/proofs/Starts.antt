@@ -14,7 +14,7 @@ use Rattle.mailrun.specs.Rest.{IsAtRest}
 use Rattle.mailrun.specs.Rest.IsStanding.{untouched}
 use Rattle.mailrun.specs.Sent.{sent}
 use Rattle.mailrun.specs.Told.{the_actor}
-use Rattle.mailrun.proofs.SentLemmas.{users-sent}
+use Rattle.mailrun.proofs.SentLemmas.{addressed-sent, users-sent}
 
 -- a cell to which nothing came
 abbrev pub new_cell : ℕ → Seen
@@ -40,6 +40,7 @@ at_start limit sends = record {
   numbered = sym next_number-none;
   numbers_fit = omega arith;
   creates = (refl, tt);
+  addressed = addressed-sent 0 sends;
   users = users-sent 0 sends;
   heard = no_message (the_actor limit) ∙ sym (ap messages_in no_envelopes);
 }

@@ -11,7 +11,7 @@ use Rattle.mb_journal.specs.Aside.{ever_aside, next_number}
 use Rattle.mb_journal.specs.Entry.{Entry}
 use Rattle.mb_journal.specs.Entry.Entry.{System}
 use Rattle.mb_journal.specs.Entry.Outcome.{Applied}
-use Rattle.mb_journal.specs.Identity.{is_guardian}
+use Rattle.mb_journal.specs.Identity.{Identity, is_guardian}
 use Rattle.mb_journal.specs.Lawful.{IsLawful}
 use Rattle.mb_journal.specs.Life.{phase, closed}
 use Rattle.mb_journal.specs.Phase.{phase_is}
@@ -44,6 +44,12 @@ after_system : World → Seen → List SysMsg → World
 after_system w cell systems =
     record { cell = record cell { acts = [] }; status = carried_out cell.acts w.status; next = w.next + 1; systems = systems; envelopes = w.envelopes }
 
+-- envelopes are addressed to the actor as long as it is the same
+pub still_addressed : (w : World) (cell : Seen) (envelopes : List Envelope) → cell.who ≡ w.cell.who →
+    AllByRecursion (λ (e : Envelope). e.to ≡ w.cell.who.this) envelopes → AllByRecursion (λ (e : Envelope). e.to ≡ cell.who.this) envelopes
+still_addressed w cell envelopes same addressed =
+    subst (λ (who : Identity). AllByRecursion (λ (e : Envelope). e.to ≡ who.this) envelopes) (sym same) addressed
+
 -- an entry of a system message tells of no envelope
 pub no_envelope : (number : ℕ) (m : SysMsg) (a : Option Answer) (before : List Entry) →
     envelopes_of (System number m (Applied a []) ∷ before) ≡ envelopes_of before
@@ -74,6 +80,7 @@ first_step gives w cell systems rest some applied lawful nothing =
         numbered = sym after.next;
         numbers_fit = omega arith;
         creates = (subst (AllByRecursion (λ m. m ≡ Create)) some rest.creates).1;
+        addressed = still_addressed w cell w.envelopes after.same_who rest.addressed;
         users = rest.users;
         heard = after.no_message ∙ sym (ap messages_in (told ∙ ap envelopes_of nothing));
       };
@@ -104,6 +111,7 @@ next_step gives w cell systems rest some applied lawful live unsuspended aside =
         numbered = sym (ap next_number entry ∙ next_number-new w.cell.journal w.next Create (Applied applied.answer []) rest.numbered);
         numbers_fit = omega arith;
         creates = (subst (AllByRecursion (λ m. m ≡ Create)) some rest.creates).1;
+        addressed = still_addressed w cell w.envelopes after.same_who rest.addressed;
         users = rest.users;
         heard = after.same_messages ∙ rest.heard ∙ sym (ap messages_in told);
       };

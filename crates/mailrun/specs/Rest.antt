@@ -32,6 +32,7 @@ pub record IsAtRest (w : World) : Type 0 where
   pub numbered : w.next ≡ next_number w.cell.journal
   pub numbers_fit : w.next + length w.systems < 2 ^ 64
   pub creates : AllByRecursion (λ m. m ≡ Create) w.systems
+  pub addressed : AllByRecursion (λ (e : Envelope). e.to ≡ w.cell.who.this) w.envelopes
   pub users : AllByRecursion (λ (e : Envelope). IsUser e.body) w.envelopes
   pub heard : messages w.cell.who w.cell.journal ≡ messages_in (envelopes_of w.cell.journal)
 
@@ -48,7 +49,7 @@ pub record IsKept (old new : World) : Type 0 where
 -- what the reason says beyond the journal: no envelope was left, and there was room for each message that came up
 abbrev pub IsEnd : Stopped → World → Type 0
 IsEnd NoRoom w = ⊥
-IsEnd NoEnvelope w = w.envelopes ≡ []
+IsEnd (NoEnvelope word) w = w.envelopes ≡ []
 IsEnd UsedUp w = Unit {0}
 IsEnd (NotOpen word) w = Unit {0}
 IsEnd AtClosing w = Unit {0}

@@ -14,7 +14,7 @@ use Rattle.mb_cell.specs.Recorded.{recorded}
 use Rattle.mb_scenario.specs.declared.scenario.Sending.{Sending}
 use Rattle.mailrun.specs.Fates.{envelopes_of}
 use Rattle.mailrun.specs.Sent.{sent, message_of}
-use Rattle.mailrun.specs.declared.run.Outcome.{Outcome}
+use Rattle.mailrun.specs.declared.run.Finished.{Finished}
 
 -- the one actor, with the limit of its journal
 abbrev pub the_actor : ℕ → Identity
@@ -28,16 +28,16 @@ scripted = the_actor 4294967295
 abbrev pub default_throughput : ℕ
 default_throughput = 5
 
--- There is a journal that the actor can have, in which the sends were handled, each once and in order; and the outcome
--- is what it says: the actor is Live and not suspended, and its state is its own function of the messages.
-pub record IsTold (after : List Message → ℤ) (gives : Moment → Reply → Type 0) (sends : List Sending) (outcome : Outcome) : Type 0 where
+-- There is a journal that the actor can have, in which the sends were handled, each once and in order; and the actor
+-- that has finished is what it says: it is Live and not suspended, and its state is its own function of the messages.
+pub record IsTold (after : List Message → ℤ) (gives : Moment → Reply → Type 0) (sends : List Sending) (finished : Finished) : Type 0 where
   pub journal : List Entry
   pub lawful : IsLawful scripted (recorded gives) journal
   pub told : envelopes_of journal ≡ sent 0 sends
   pub heard : messages scripted journal ≡ map message_of sends
-  pub state : outcome.state ≡ after (messages scripted journal)
-  pub phase_is : outcome.phase ≡ phase scripted journal
-  pub suspended_is : outcome.suspended ≡ count scripted journal
-  pub handled : outcome.handled ≡ length (envelopes_of journal)
-  pub live : outcome.phase ≡ Live
-  pub unsuspended : outcome.suspended ≡ 0
+  pub state : finished.state ≡ after (messages scripted journal)
+  pub phase_is : finished.phase ≡ phase scripted journal
+  pub suspended_is : finished.suspended ≡ count scripted journal
+  pub handled : finished.handled ≡ length (envelopes_of journal)
+  pub live : finished.phase ≡ Live
+  pub unsuspended : finished.suspended ≡ 0

@@ -10,7 +10,8 @@ ghost use Rattle.mailrun.specs.Sent.{carried_out};
 
 use crate::post::Post;
 use mb_actor::{Actor, Behaviours};
-use mb_cell::{Act, Cell, CellFault};
+use mb_cell::{Act, Cell};
+use mb_journal::ReadyError;
 use mb_status::Status;
 
 /// What a run of a mailbox did.
@@ -44,12 +45,12 @@ pub fn run_mailbox<A: Actor, K: Behaviours>(
     status: &mut Status,
     post: &mut Post,
     throughput: u32,
-) -> Result<Turn, CellFault>
+) -> Result<Turn, ReadyError>
     requires rest { IsAtRest (world cell.old status.old post.old) }
     ensures whole { IfOk result (λ turn.
         IsWholeRun throughput (world cell.old status.old post.old) (world cell.new status.new post.new) turn.systems turn.envelopes) }
     ensures stopped { OnErr result (IsRunOf throughput (world cell.old status.old post.old) (world cell.new status.new post.new) NoRoom) }
-    ensures full { IsErrOf result CellFault.JournalFull ↔ (cell.new.who.limit ≤ length cell.new.journal)
+    ensures full { IsErrOf result ReadyError.JournalFull ↔ (cell.new.who.limit ≤ length cell.new.journal)
         × IsUnended throughput (world cell.old status.old post.old) (world cell.new status.new post.new) }
 {
     let mut turn = Turn {
@@ -72,7 +73,7 @@ fn apply_next_envelope<A: Actor, K: Behaviours>(
     cell: &mut Cell<A, K>,
     status: &mut Status,
     post: &mut Post,
-) -> Result<Next, CellFault>
+) -> Result<Next, ReadyError>
     requires rest { IsAtRest (world cell.old status.old post.old) }
     ensures rest { IsAtRest (world cell.new status.new post.new) }
     ensures kept { IsKept (world cell.old status.old post.old) (world cell.new status.new post.new) }
@@ -80,7 +81,7 @@ fn apply_next_envelope<A: Actor, K: Behaviours>(
     ensures next { MatchResult result
         (λ next. IsNext next (world cell.old status.old post.old) (world cell.new status.new post.new))
         (λ _. cell.new.journal ≡ cell.old.journal) }
-    ensures full { IsErrOf result CellFault.JournalFull ↔ (cell.old.who.limit ≤ length cell.old.journal) × IsTrue (should_process status.old) }
+    ensures full { IsErrOf result ReadyError.JournalFull ↔ (cell.old.who.limit ≤ length cell.old.journal) × IsTrue (should_process status.old) }
 {
     let reading = *status;
     if !reading.should_process() {
@@ -115,7 +116,7 @@ fn apply_systems<A: Actor, K: Behaviours>(
     cell: &mut Cell<A, K>,
     status: &mut Status,
     post: &mut Post,
-) -> Result<usize, CellFault>
+) -> Result<usize, ReadyError>
     requires rest { IsAtRest (world cell.old status.old post.old) }
     ensures rest { IsAtRest (world cell.new status.new post.new) }
     ensures kept { IsKept (world cell.old status.old post.old) (world cell.new status.new post.new) }
@@ -123,7 +124,7 @@ fn apply_systems<A: Actor, K: Behaviours>(
     ensures same_envelopes { post.new.envelopes.items ≡ post.old.envelopes.items }
     ensures left { OnErr result (0 < length post.new.systems.items) }
     ensures all { IfOk result (λ count. (post.new.systems.items ≡ []) × (count ≡ length post.old.systems.items)) }
-    ensures full { IsErrOf result CellFault.JournalFull ↔ (cell.new.who.limit ≤ length cell.new.journal) × (0 < length post.new.systems.items) }
+    ensures full { IsErrOf result ReadyError.JournalFull ↔ (cell.new.who.limit ≤ length cell.new.journal) × (0 < length post.new.systems.items) }
 {
     let mut count = 0;
     while !post.systems.is_empty() {

@@ -12,8 +12,8 @@ ghost use Rattle.mailrun.specs.Told.{IsTold, default_throughput, the_actor};
 use crate::mailbox::{Turn, run_mailbox};
 use crate::post::Post;
 use mb_actor::{Actor, Behaviours, Phase};
-use mb_cell::{Cell, CellFault};
-use mb_journal::{Event, Journal, Record};
+use mb_cell::Cell;
+use mb_journal::{Arrival, Journal, ReadyError, Record};
 use mb_msg::{ActorId, Body, Envelope, SenderId, SysMsg, limits};
 use mb_scenario::Sending;
 use mb_status::Status;
@@ -32,9 +32,9 @@ const JOURNAL_LIMIT: u32 = u32::MAX;
 /// How many envelopes one run of the mailbox handles at most (the default of Akka's `throughput`).
 const THROUGHPUT: u32 = 5;
 
-/// What became of the actor.
+/// An actor that has handled all that it was sent.
 #[derive(Drop)]
-pub struct Outcome {
+pub struct Finished {
     /// Where it stands in its life.
     pub phase: Phase,
     /// Its content.
@@ -64,12 +64,12 @@ pub fn run<A: Actor, K: Behaviours>(
     alloc: Global,
     actor: A,
     sends: &[Sending],
-) -> Result<Outcome, CellFault>
+) -> Result<Finished, ReadyError>
     requires unused { A.content actor ≡ A.after actor [] }
     requires behaves { A.after actor ≡ K.after 1 }
     requires allows { AllowsSame (A.gives actor) (K.gives 1) }
     ensures told { IfOk result (IsTold (K.after 1) (K.gives 1) sends.now) }
-    ensures full { result ≡ Err CellFault.JournalFull → 4294967295 ≤ length sends.now + 1 }
+    ensures full { result ≡ Err ReadyError.JournalFull → 4294967295 ≤ length sends.now + 1 }
 {
     let Running {
         mut cell,
@@ -77,13 +77,13 @@ pub fn run<A: Actor, K: Behaviours>(
         mut post,
     } = match begin::<A, K>(alloc, actor, JOURNAL_LIMIT, sends) {
         Ok(running) => running,
-        Err(_) => return Err(CellFault::NoMemory),
+        Err(_) => return Err(ReadyError::NoMemory),
     };
     run_once(&mut cell, &mut status, &mut post)?;
     while !post.envelopes.is_empty() {
         run_once(&mut cell, &mut status, &mut post)?;
     }
-    Ok(Outcome {
+    Ok(Finished {
         phase: cell.phase(),
         state: cell.state(),
         suspended: cell.count(),
@@ -96,13 +96,13 @@ fn run_once<A: Actor, K: Behaviours>(
     cell: &mut Cell<A, K>,
     status: &mut Status,
     post: &mut Post,
-) -> Result<Turn, CellFault>
+) -> Result<Turn, ReadyError>
     requires rest { IsAtRest (world cell.old status.old post.old) }
     ensures whole { IfOk result (λ turn. IsWholeRun default_throughput
         (world cell.old status.old post.old) (world cell.new status.new post.new) turn.systems turn.envelopes) }
     ensures stopped { OnErr result (IsRunOf default_throughput
         (world cell.old status.old post.old) (world cell.new status.new post.new) NoRoom) }
-    ensures full { IsErrOf result CellFault.JournalFull ↔ (cell.new.who.limit ≤ length cell.new.journal)
+    ensures full { IsErrOf result ReadyError.JournalFull ↔ (cell.new.who.limit ≤ length cell.new.journal)
         × IsUnended default_throughput (world cell.old status.old post.old) (world cell.new status.new post.new) }
 {
     run_mailbox(cell, status, post, THROUGHPUT)
@@ -181,8 +181,8 @@ fn handled_in(journal: &Journal) -> usize
 fn tells_of_envelope(entry: &Record<'_>) -> bool
     ensures { result ≡ is_of_envelope (entry_of entry.now) }
 {
-    match entry.event {
-        Event::Handled { .. } | Event::Dropped { .. } => true,
-        Event::System { .. } | Event::SetAside { .. } => false,
+    match entry.arrival {
+        Arrival::Handled { .. } | Arrival::Dropped { .. } => true,
+        Arrival::System { .. } | Arrival::SetAside { .. } => false,
     }
 }

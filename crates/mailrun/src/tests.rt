@@ -9,7 +9,7 @@ use crate::mailbox::{Turn, run_mailbox};
 use crate::run::{Running, begin};
 use crate::watched::Watched;
 use mb_actor::{Actor, Behaviours};
-use mb_cell::CellFault;
+use mb_journal::ReadyError;
 use mb_scenario::{Operation, Row, Script, Sending};
 use std::alloc::Global;
 use std::env::{Env, FillError};
@@ -355,7 +355,7 @@ fn each_prefix(rt: HostRuntime) {
 #[derive(Drop)]
 struct Runs {
     turns: Vec<Turn>,
-    fault: Option<CellFault>,
+    fault: Option<ReadyError>,
     state: i64,
 }
 
@@ -454,10 +454,10 @@ fn runs_by_throughput(rt: HostRuntime) -> Result<(), Fail> {
 #[test]
 fn a_full_journal_ends_a_run(rt: HostRuntime) -> Result<(), Fail> {
     let runs = added(rt.alloc(), 5, 2, 2)?;
-    assert_eq!(rt; runs.fault, Some(CellFault::JournalFull));
+    assert_eq!(rt; runs.fault, Some(ReadyError::JournalFull));
     assert_eq!(rt; runs.state, 1);
     let runs = added(rt.alloc(), 5, 1, 2)?;
-    assert_eq!(rt; runs.fault, Some(CellFault::JournalFull));
+    assert_eq!(rt; runs.fault, Some(ReadyError::JournalFull));
     assert_eq!(rt; runs.state, 0);
     Ok(())
 }

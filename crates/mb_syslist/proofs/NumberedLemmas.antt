@@ -1,5 +1,5 @@
 -- How the numbers of a list's messages go on.
-use Rattle.std.proofs.Common.{ℕ, ◌≡◌, ◌+◌, ◌%◌, ◌^◌, ◌<◌, List, [], ◌∷◌, ◌++◌, length, ap, sym, ◌∙◌, arith, lit<, add-zero, reverse, suc}
+use Rattle.std.proofs.Common.{ℕ, ◌≡◌, ◌+◌, ◌%◌, ◌^◌, ◌<◌, List, [], ◌∷◌, ◌++◌, length, ap, sym, ◌∙◌, arith, lit<, add-zero, map, refl, reverse, suc}
 use Rattle.std.proofs.Math.Nat.{mod-lt, mod-eq_of_lt, mod-add-mod}
 use Rattle.std.proofs.lemmas.List.{length-reverse}
 use Rattle.std.proofs.lemmas.Grind.{reverse_onto}
@@ -42,3 +42,12 @@ pushed_more given pushed latest message counted =
     ∙ ap (λ n. n % 2 ^ 64) step
     ∙ sym (mod-add-mod (given + length latest) (2 ^ 64) 1)
     ∙ ap (λ n. (n + 1) % 2 ^ 64) (sym counted)
+
+-- for callers: numbers leave the messages as they are, and as many
+pub messages-numbered : (number : ℕ) (messages : List SysMsg) → map (λ m. m.1) (numbered number messages) ≡ messages
+messages-numbered number [] = refl
+messages-numbered number (message ∷ later) = ap (λ l. message ∷ l) (messages-numbered ((number + 1) % 2 ^ 64) later)
+
+pub length-numbered : (number : ℕ) (messages : List SysMsg) → length (numbered number messages) ≡ length messages
+length-numbered number [] = refl
+length-numbered number (message ∷ later) = ap suc (length-numbered ((number + 1) % 2 ^ 64) later)

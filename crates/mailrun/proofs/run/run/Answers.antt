@@ -9,8 +9,8 @@ use Rattle.mb_journal.specs.Life.{phase}
 use Rattle.mb_journal.specs.Suspension.{count}
 use Rattle.mb_journal.specs.Log.{Log}
 use Rattle.mb_cell.specs.Recorded.{recorded}
-use Rattle.mb_cell.specs.declared.fault.CellFault.{CellFault}
-use Rattle.mb_cell.specs.declared.fault.CellFault.TheVariants.{JournalFull}
+use Rattle.mb_journal.specs.declared.error.ReadyError.{ReadyError}
+use Rattle.mb_journal.specs.declared.error.ReadyError.TheVariants.{JournalFull}
 use Rattle.mailrun.specs.Fates.{envelopes_of, messages_in}
 use Rattle.mailrun.specs.Post.{world}
 use Rattle.mailrun.specs.Sent.{sent}
@@ -70,7 +70,7 @@ returns-in_err-run_once-clause-full g c = λ is_full.
     let same : c.from_residual.result ≡ Err p.0 = p.1 in
     let given : c.from_residual.result ≡ Err JournalFull = is_full in
     cc (from, same, given) in
-    let full = (c.in_err-run_once.ensures.full.0 (ap (λ (e : CellFault). Err e) fault)).0 in
+    let full = (c.in_err-run_once.ensures.full.0 (ap (λ (e : ReadyError). Err e) fault)).0 in
     let old = world c.in-Ok.running.cell c.in-Ok.running.status c.in-Ok.running.post in
     let begun = ap (λ (j : List Entry). length j) c.in-Ok.ensures.nothing in
     let one = ap (λ (l : List SysMsg). length l) c.in-Ok.ensures.create in
