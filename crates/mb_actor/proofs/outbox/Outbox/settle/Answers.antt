@@ -1,4 +1,4 @@
-use Rattle.std.proofs.Common.{◌≡◌, ◌∙◌, ap, refl, sym, [], not, filter}
+use Rattle.std.proofs.Common.{◌≡◌, ◌∙◌, ap, sym, [], not, filter}
 use Rattle.mb_actor.specs.ActorList.{has}
 use Rattle.mb_actor.specs.Outbox.{tray_of}
 use Rattle.mb_actor.specs.Tray.{Tray, spawns_of}
