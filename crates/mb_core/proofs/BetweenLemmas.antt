@@ -12,7 +12,7 @@ use Rattle.mb_core.specs.Actor.{Actor}
 use Rattle.mb_core.specs.Held.{IsHeldRightly}
 use Rattle.mb_core.specs.Run.{Change, Transition, Run}
 use Rattle.mb_core.specs.Between.{HasSameCount, IsSetByHolder, IsGivenBack, StaysEnded}
-use Rattle.mb_core.specs.Between.{StaysWithHolder, StaysWithHolderOver, IsSetByHolderAlone, IsSetByHoldersAloneOver, StretchesLink}
+use Rattle.mb_core.specs.Between.{StaysWithHolder, StaysWithHolderOver, IsSetByHolderAlone, IsSetByHolderAloneOver, StretchesLink}
 use Rattle.mb_core.proofs.HeldLemmas.{held_step, held_run}
 
 -- an element that is written to, and one that is not
@@ -46,7 +46,11 @@ at_number old event new step number x found =
         ((event.actor.0 ≡ number) × ((y : Actor) × (slice_get new number ≡ Some y) × Change x event.party event.step y))
 
     other : (number ≡ event.actor.0 → ⊥) → Result
-    other apart = inl (ap (λ (s : List Actor). slice_get s number) step.others_stay ∙ get_set_other old event.actor.0 number x step.after apart found)
+    other apart =
+        inl (
+        ap (λ (s : List Actor). slice_get s number) step.others_stay ∙
+        get_set_other old event.actor.0 number x step.after apart found
+        )
 
     here : event.actor.0 ≡ number → Result
     here same =
@@ -169,10 +173,10 @@ set_later old event next events number made set_ = record {
 
 alone_later :
     (old : List Actor) (event : Event) (next : List Actor) (events : List Event) (number : ℕ) (x y : Actor) →
-    Transition old event next → IsSetByHoldersAloneOver next number events x y →
-    IsSetByHoldersAloneOver old number (event ∷ events) x y
+    Transition old event next → IsSetByHolderAloneOver next number events x y →
+    IsSetByHolderAloneOver old number (event ∷ events) x y
 alone_later old event next events number x y made rest =
-    elim rest as (λ _. IsSetByHoldersAloneOver old number (event ∷ events) x y) [
+    elim rest as (λ _. IsSetByHolderAloneOver old number (event ∷ events) x y) [
       | inl same ↦ inl same
       | inr some ↦ inr (set_later old event next events number made some)
     ]
@@ -183,11 +187,11 @@ same_count x y z one two = record { count = two.count ∙ one.count; closed = tw
 alone_made :
     (old : List Actor) (event : Event) (next : List Actor) (events : List Event) (number : ℕ) (x y z : Actor) →
     Transition old event next → event.actor.0 ≡ number → slice_get old number ≡ Some x → IsHeldRightly x →
-    Change x event.party event.step y → IsSetByHoldersAloneOver next number events y z →
-    IsSetByHoldersAloneOver old number (event ∷ events) x z
+    Change x event.party event.step y → IsSetByHolderAloneOver next number events y z →
+    IsSetByHolderAloneOver old number (event ∷ events) x z
 alone_made old event next events number x y z made here found held change rest =
-    elim (alone_change x event.party event.step y change) as (λ _. IsSetByHoldersAloneOver old number (event ∷ events) x z) [
-      | inl same ↦ elim rest as (λ _. IsSetByHoldersAloneOver old number (event ∷ events) x z) [
+    elim (alone_change x event.party event.step y change) as (λ _. IsSetByHolderAloneOver old number (event ∷ events) x z) [
+      | inl same ↦ elim rest as (λ _. IsSetByHolderAloneOver old number (event ∷ events) x z) [
         | inl later ↦ inl (same_count x y z same later)
         | inr some ↦ inr (set_later old event next events number made some)
       ]
@@ -206,9 +210,9 @@ alone_made old event next events number x y z made here found held change rest =
       })
     ]
 
-pub alone_over : StretchesLink IsSetByHoldersAloneOver
+pub alone_over : StretchesLink IsSetByHolderAloneOver
 alone_over words parties before old leads events new run number x found =
-    over_stretch IsSetByHoldersAloneOver (λ old number x. inl (record { count = refl; closed = refl })) alone_later alone_made
+    over_stretch IsSetByHolderAloneOver (λ old number x. inl (record { count = refl; closed = refl })) alone_later alone_made
     old events new (held_run words parties before old leads) run number x found
 
 -- what is closed or gone stays so

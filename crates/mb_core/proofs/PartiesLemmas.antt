@@ -85,7 +85,9 @@ joined_any cause none owed into from debt two there sum =
     (apart cause none owed into)
     (apart cause none owed from)
     (subst
-    (λ d. (list_any cause (set (set (set owed into debt) from nothing) into nothing) || cause d) ≡ list_any cause (set (set owed into debt) from nothing))
+    (λ d.
+    (list_any cause (set (set (set owed into debt) from nothing) into nothing) || cause d) ≡
+    list_any cause (set (set owed into debt) from nothing))
     (get_or-set_other (set owed into debt) from into nothing nothing two ∙ get_or-set_same owed into debt nothing there)
     (apart cause none (set (set owed into debt) from nothing) into))
 

@@ -61,8 +61,8 @@ StaysWithHolderOver old number events x y =
 abbrev pub IsSetByHolderAlone : ℕ → Step → Actor → Actor → Type 0
 IsSetByHolderAlone party step x y = HasSameCount x y ⊎ ((x.holder ≡ Some party) × IsTrue (sets_count step))
 
-abbrev pub IsSetByHoldersAloneOver : List Actor → ℕ → List Event → Actor → Actor → Type 0
-IsSetByHoldersAloneOver old number events x y = HasSameCount x y ⊎ IsSetByHolder old number events
+abbrev pub IsSetByHolderAloneOver : List Actor → ℕ → List Event → Actor → Actor → Type 0
+IsSetByHolderAloneOver old number events x y = HasSameCount x y ⊎ IsSetByHolder old number events
 
 -- What is closed stays closed, and system work that is gone for good stays gone.
 pub record StaysEnded (x y : Actor) : Type 0 where

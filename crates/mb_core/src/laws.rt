@@ -1,7 +1,7 @@
 ghost use Rattle.std.specs.Prelude.{◌≢◌, ◌⊎◌, ℕ, ◌<◌, length, IsTrue, IsFalse};
 ghost use Rattle.mb_core.specs.Actor.{Actor};
 ghost use Rattle.mb_core.specs.Between.{ChangesLink, StretchesLink, StaysWithHolder, StaysWithHolderOver};
-ghost use Rattle.mb_core.specs.Between.{IsSetByHolderAlone, IsSetByHoldersAloneOver, StaysEnded};
+ghost use Rattle.mb_core.specs.Between.{IsSetByHolderAlone, IsSetByHolderAloneOver, StaysEnded};
 ghost use Rattle.mb_core.specs.Held.{HasPossibleMailbox, IsHeldRightly};
 ghost use Rattle.mb_core.specs.Laws.{ChangesKeep, ChangesKeepWith, EveryRunHas, StepsKeep, StepsKeepWith};
 ghost use Rattle.mb_core.specs.Parties.{IsOwedTheSame, SplitsKeep, JoinsKeep, copied, moved, joined};
@@ -67,7 +67,7 @@ pub fn step_counts_by_the_holder()
 /// A law: where a suspend count, or whether a mailbox is closed, differs between two moments of a run, between them the
 /// party that then held the actor made a step that changes it.
 pub fn every_run_counts_by_the_holder()
-    ensures { StretchesLink IsSetByHoldersAloneOver }
+    ensures { StretchesLink IsSetByHolderAloneOver }
 {}
 
 /// A law: a step leaves closed what is closed, and system work gone that is gone.
