@@ -1,5 +1,5 @@
 -- From what one step does to an actor to what a stretch of a run does to it.
-use Rattle.std.proofs.Common.{◌≡◌, ◌⊎◌, inl, inr, ℕ, suc, ◌<◌, List, [], ◌∷◌, Any, All, Some, slice_get, length}
+use Rattle.std.proofs.Common.{◌≡◌, ◌⊎◌, inl, inr, ℕ, suc, ◌<◌, List, [], ◌∷◌, Any, All, Some, IsTrue, ◌||◌, slice_get, length}
 use Rattle.std.proofs.Common.{sym, ap, subst, refl, ◌∙◌, arith}
 use Rattle.std.proofs.lemmas.Bool.{cases_lt}
 use Rattle.std.proofs.lemmas.Grind.{common_steps}
@@ -11,7 +11,9 @@ use Rattle.mb_core.specs.declared.event.Step.{Step}
 use Rattle.mb_core.specs.Actor.{Actor}
 use Rattle.mb_core.specs.Held.{IsHeldRightly}
 use Rattle.mb_core.specs.Run.{Change, Transition, Run}
-use Rattle.mb_core.specs.Between.{HasSameCount, IsSetByHolder, IsGivenBack, StaysEnded}
+use Rattle.mb_core.specs.Between.{HasSameCount, IsSetByHolder, IsGivenBack, IsOwnChange, StaysEnded, is_idle, sets_count}
+use Rattle.mb_core.specs.Between.{StaysKnownToHolderOver}
+use Rattle.mb_core.specs.Between.{IsHeldBySchedule, IsHeldByScheduleOver, IsScheduledBy}
 use Rattle.mb_core.specs.Between.{StaysWithHolder, StaysWithHolderOver, IsSetByHolderAlone, IsSetByHolderAloneOver, StretchesLink}
 use Rattle.mb_core.proofs.HeldLemmas.{held_step, held_run}
 
@@ -149,6 +151,44 @@ stays_over words parties before old leads events new run number x found =
     (λ old event next events number x y made rest. stays_later old next event events number x y rest)
     stays_made old events new (held_run words parties before old leads) run number x found
 
+-- who comes to hold an actor has scheduled it
+pub begins_change :
+    (x : Actor) (party : ℕ) (step : Step) (y : Actor) → Change x party step y → IsHeldBySchedule party step x y
+begins_change x party step y change = grind (arith, common_steps)
+
+begins_later :
+    (old next : List Actor) (event : Event) (events : List Event) (number : ℕ) (x y : Actor) →
+    IsHeldByScheduleOver next number events x y → IsHeldByScheduleOver old number (event ∷ events) x y
+begins_later old next event events number x y rest holder is =
+    elim (rest holder is) as (λ _. (x.holder ≡ Some holder) ⊎ Any (IsScheduledBy holder number) (event ∷ events)) [
+      | inl same ↦ inl same
+      | inr some ↦ inr (any_later (IsScheduledBy holder number) event events some)
+    ]
+
+begins_made :
+    (old : List Actor) (event : Event) (next : List Actor) (events : List Event) (number : ℕ) (x y z : Actor) →
+    Transition old event next → event.actor.0 ≡ number → slice_get old number ≡ Some x → IsHeldRightly x →
+    Change x event.party event.step y → IsHeldByScheduleOver next number events y z →
+    IsHeldByScheduleOver old number (event ∷ events) x z
+begins_made old event next events number x y z made here found held change rest holder is =
+    elim (rest holder is) as (λ _. (x.holder ≡ Some holder) ⊎ Any (IsScheduledBy holder number) (event ∷ events)) [
+      | inl before ↦ elim (begins_change x event.party event.step y change holder before)
+          as (λ _. (x.holder ≡ Some holder) ⊎ Any (IsScheduledBy holder number) (event ∷ events)) [
+            | inl same ↦ inl same
+            | inr took ↦ inr (
+                any_first (IsScheduledBy holder number) event events
+                (record { same_party = took.0; same_actor = here; schedule = took.1 })
+                )
+          ]
+      | inr some ↦ inr (any_later (IsScheduledBy holder number) event events some)
+    ]
+
+pub begins_over : StretchesLink IsHeldByScheduleOver
+begins_over words parties before old leads events new run number x found =
+    over_stretch IsHeldByScheduleOver (λ old number x holder is. inl is)
+    (λ old event next events number x y made rest. begins_later old next event events number x y rest)
+    begins_made old events new (held_run words parties before old leads) run number x found
+
 -- only the holder changes the count or closes
 pub alone_change :
     (x : Actor) (party : ℕ) (step : Step) (y : Actor) → Change x party step y → IsSetByHolderAlone party step x y
@@ -214,6 +254,53 @@ pub alone_over : StretchesLink IsSetByHolderAloneOver
 alone_over words parties before old leads events new run number x found =
     over_stretch IsSetByHolderAloneOver (λ old number x. inl (record { count = refl; closed = refl })) alone_later alone_made
     old events new (held_run words parties before old leads) run number x found
+
+-- what a holder knows stays so until it changes it or gives the actor back
+sets_own : (step : Step) → IsTrue (sets_count step) → IsTrue (sets_count step || is_idle step)
+sets_own step sets = grind arith
+
+idle_own : (step : Step) → IsTrue (is_idle step) → IsTrue (sets_count step || is_idle step)
+idle_own step idle = grind arith
+
+known_later :
+    (old next : List Actor) (event : Event) (events : List Event) (number : ℕ) (x y : Actor) →
+    StaysKnownToHolderOver next number events x y → StaysKnownToHolderOver old number (event ∷ events) x y
+known_later old next event events number x y rest holder is =
+    elim (rest holder is) as (λ _. HasSameCount x y ⊎ Any (IsOwnChange holder number) (event ∷ events)) [
+      | inl same ↦ inl same
+      | inr some ↦ inr (any_later (IsOwnChange holder number) event events some)
+    ]
+
+known_made :
+    (old : List Actor) (event : Event) (next : List Actor) (events : List Event) (number : ℕ) (x y z : Actor) →
+    Transition old event next → event.actor.0 ≡ number → slice_get old number ≡ Some x → IsHeldRightly x →
+    Change x event.party event.step y → StaysKnownToHolderOver next number events y z →
+    StaysKnownToHolderOver old number (event ∷ events) x z
+known_made old event next events number x y z made here found held change rest holder is =
+    elim (alone_change x event.party event.step y change) as (λ _. Result) [
+      | inl same ↦ elim (stays_change x event.party event.step y change held holder is) as (λ _. Result) [
+        | inl kept ↦ elim (rest holder kept) as (λ _. Result) [
+          | inl later ↦ inl (same_count x y z same later)
+          | inr some ↦ inr (any_later (IsOwnChange holder number) event events some)
+        ]
+        | inr gave ↦ own gave.0 (idle_own event.step gave.1)
+      ]
+      | inr now ↦ own (same_Some event.party holder (sym now.0 ∙ is)) (sets_own event.step now.1)
+    ]
+  where
+    Result : Type 0
+    Result = HasSameCount x z ⊎ Any (IsOwnChange holder number) (event ∷ events)
+
+    own : event.party ≡ holder → IsTrue (sets_count event.step || is_idle event.step) → Result
+    own same changes = inr (
+        any_first (IsOwnChange holder number) event events (record { same_party = same; same_actor = here; change = changes })
+        )
+
+pub known_over : StretchesLink StaysKnownToHolderOver
+known_over words parties before old leads events new run number x found =
+    over_stretch StaysKnownToHolderOver (λ old number x holder is. inl (record { count = refl; closed = refl }))
+    (λ old event next events number x y made rest. known_later old next event events number x y rest)
+    known_made old events new (held_run words parties before old leads) run number x found
 
 -- what is closed or gone stays so
 pub ended_change : (x : Actor) (party : ℕ) (step : Step) (y : Actor) → Change x party step y → StaysEnded x y
