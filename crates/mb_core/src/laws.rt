@@ -5,7 +5,7 @@ ghost use Rattle.mb_core.specs.Between.{StaysWithHolder, StaysWithHolderOver, Is
 ghost use Rattle.mb_core.specs.Between.{IsSetByHolderAlone, IsSetByHolderAloneOver, StaysKnownToHolderOver, StaysEnded};
 ghost use Rattle.mb_core.specs.Held.{HasPossibleMailbox, IsHeldRightly};
 ghost use Rattle.mb_core.specs.Laws.{ChangesKeep, ChangesKeepWith, EveryRunHas, StepsKeep, StepsKeepWith};
-ghost use Rattle.mb_core.specs.Parties.{IsOwedTheSame, SplitsKeep, JoinsKeep, copied, moved, joined};
+ghost use Rattle.mb_core.specs.Parties.{IsOwedTheSame, SplitsKeep, JoinsKeep, copied, moved, absorbed};
 ghost use Rattle.mb_core.specs.Settled.{IsOwedMessage, IsOwedNothing, IsOwedSystem, IsSettled, is_runnable};
 
 /// A law: each event keeps that a scheduled actor has exactly one holder, a closed one at most one, every other none.
@@ -99,7 +99,7 @@ pub fn split_keeps_debts()
 /// A law, of no event but of the state: a party that takes over what another one owes and holds leaves each actor owed
 /// what it was owed, so that all other laws go on.
 pub fn join_keeps_debts()
-    ensures joined { (x : Actor) (into from : ℕ) → into ≢ from → into < length x.owed → IsOwedTheSame x (joined x into from) }
+    ensures absorbed { (x : Actor) (into from : ℕ) → into ≢ from → into < length x.owed → IsOwedTheSame x (absorbed x into from) }
     ensures held { JoinsKeep IsHeldRightly }
     ensures possible { JoinsKeep HasPossibleMailbox }
     ensures settled { JoinsKeep IsSettled }
