@@ -1,4 +1,4 @@
--- A party that is split off or absorbed leaves each actor owed what it was owed.
+-- A party that is split off another one, or joins one, leaves each actor owed what it was owed.
 use Rattle.std.proofs.Common.{◌≡◌, ◌≢◌, ◌↔◌, inl, inr, ℕ, zero, suc, ◌<◌, Bool, true, false, ◌||◌, List, [], ◌∷◌, ◌++◌}
 use Rattle.std.proofs.Common.{All, Any, length, get_or, sym, ap, subst, refl, ◌∙◌, arith}
 use Rattle.std.specs.List.{list_any}

@@ -1,5 +1,5 @@
--- Parties that are split off and absorbed. That is no event: no word and no list changes, only who owes and who holds
--- (this project's own profile).
+-- Parties that are split off one another, and that join one another. That is no event: no word and no list changes, only
+-- who owes and who holds (this project's own profile).
 use Rattle.std.specs.Prelude.{◌≡◌, ◌≢◌, ◌↔◌, ◌⊎◌, ℕ, ◌<◌, ◌==◌, ◌||◌, if◌then◌else◌, List, [], ◌∷◌, ◌++◌, All, map, length}
 use Rattle.std.specs.Prelude.{slice_get, slice_set, Some, option_map}
 use Rattle.mb_core.specs.declared.debt.Debt.{Debt}
