@@ -1,5 +1,5 @@
 -- From what one step does to an actor to what a stretch of a run does to it.
-use Rattle.std.proofs.Common.{◌≡◌, ◌⊎◌, inl, inr, ℕ, suc, ◌<◌, List, [], ◌∷◌, Any, All, Some, slice_get, length}
+use Rattle.std.proofs.Common.{◌≡◌, ◌⊎◌, inl, inr, ℕ, suc, ◌<◌, List, [], ◌∷◌, Any, All, Some, IsTrue, ◌||◌, slice_get, length}
 use Rattle.std.proofs.Common.{sym, ap, subst, refl, ◌∙◌, arith}
 use Rattle.std.proofs.lemmas.Bool.{cases_lt}
 use Rattle.std.proofs.lemmas.Grind.{common_steps}
@@ -11,8 +11,10 @@ use Rattle.mb_core.specs.declared.event.Step.{Step}
 use Rattle.mb_core.specs.Actor.{Actor}
 use Rattle.mb_core.specs.Held.{IsHeldRightly}
 use Rattle.mb_core.specs.Run.{Change, Transition, Run}
-use Rattle.mb_core.specs.Between.{HasSameCount, IsSetByHolder, IsGivenBack, StaysEnded}
-use Rattle.mb_core.specs.Between.{StaysWithHolder, StaysWithHolderOver, IsSetByHolderAlone, IsSetByHoldersAloneOver, StretchesLink}
+use Rattle.mb_core.specs.Between.{HasSameCount, IsSetByHolder, IsGivenBack, IsOwnChange, StaysEnded, is_idle, sets_count}
+use Rattle.mb_core.specs.Between.{StaysKnownToHolderOver}
+use Rattle.mb_core.specs.Between.{IsHeldBySchedule, IsHeldByScheduleOver, IsScheduledBy}
+use Rattle.mb_core.specs.Between.{StaysWithHolder, StaysWithHolderOver, IsSetByHolderAlone, IsSetByHolderAloneOver, StretchesLink}
 use Rattle.mb_core.proofs.HeldLemmas.{held_step, held_run}
 
 -- an element that is written to, and one that is not
@@ -46,7 +48,11 @@ at_number old event new step number x found =
         ((event.actor.0 ≡ number) × ((y : Actor) × (slice_get new number ≡ Some y) × Change x event.party event.step y))
 
     other : (number ≡ event.actor.0 → ⊥) → Result
-    other apart = inl (ap (λ (s : List Actor). slice_get s number) step.others_stay ∙ get_set_other old event.actor.0 number x step.after apart found)
+    other apart =
+        inl (
+        ap (λ (s : List Actor). slice_get s number) step.others_stay ∙
+        get_set_other old event.actor.0 number x step.after apart found
+        )
 
     here : event.actor.0 ≡ number → Result
     here same =
@@ -145,6 +151,44 @@ stays_over words parties before old leads events new run number x found =
     (λ old event next events number x y made rest. stays_later old next event events number x y rest)
     stays_made old events new (held_run words parties before old leads) run number x found
 
+-- who comes to hold an actor has scheduled it
+pub begins_change :
+    (x : Actor) (party : ℕ) (step : Step) (y : Actor) → Change x party step y → IsHeldBySchedule party step x y
+begins_change x party step y change = grind (arith, common_steps)
+
+begins_later :
+    (old next : List Actor) (event : Event) (events : List Event) (number : ℕ) (x y : Actor) →
+    IsHeldByScheduleOver next number events x y → IsHeldByScheduleOver old number (event ∷ events) x y
+begins_later old next event events number x y rest holder is =
+    elim (rest holder is) as (λ _. (x.holder ≡ Some holder) ⊎ Any (IsScheduledBy holder number) (event ∷ events)) [
+      | inl same ↦ inl same
+      | inr some ↦ inr (any_later (IsScheduledBy holder number) event events some)
+    ]
+
+begins_made :
+    (old : List Actor) (event : Event) (next : List Actor) (events : List Event) (number : ℕ) (x y z : Actor) →
+    Transition old event next → event.actor.0 ≡ number → slice_get old number ≡ Some x → IsHeldRightly x →
+    Change x event.party event.step y → IsHeldByScheduleOver next number events y z →
+    IsHeldByScheduleOver old number (event ∷ events) x z
+begins_made old event next events number x y z made here found held change rest holder is =
+    elim (rest holder is) as (λ _. (x.holder ≡ Some holder) ⊎ Any (IsScheduledBy holder number) (event ∷ events)) [
+      | inl before ↦ elim (begins_change x event.party event.step y change holder before)
+          as (λ _. (x.holder ≡ Some holder) ⊎ Any (IsScheduledBy holder number) (event ∷ events)) [
+            | inl same ↦ inl same
+            | inr took ↦ inr (
+                any_first (IsScheduledBy holder number) event events
+                (record { same_party = took.0; same_actor = here; schedule = took.1 })
+                )
+          ]
+      | inr some ↦ inr (any_later (IsScheduledBy holder number) event events some)
+    ]
+
+pub begins_over : StretchesLink IsHeldByScheduleOver
+begins_over words parties before old leads events new run number x found =
+    over_stretch IsHeldByScheduleOver (λ old number x holder is. inl is)
+    (λ old event next events number x y made rest. begins_later old next event events number x y rest)
+    begins_made old events new (held_run words parties before old leads) run number x found
+
 -- only the holder changes the count or closes
 pub alone_change :
     (x : Actor) (party : ℕ) (step : Step) (y : Actor) → Change x party step y → IsSetByHolderAlone party step x y
@@ -169,10 +213,10 @@ set_later old event next events number made set_ = record {
 
 alone_later :
     (old : List Actor) (event : Event) (next : List Actor) (events : List Event) (number : ℕ) (x y : Actor) →
-    Transition old event next → IsSetByHoldersAloneOver next number events x y →
-    IsSetByHoldersAloneOver old number (event ∷ events) x y
+    Transition old event next → IsSetByHolderAloneOver next number events x y →
+    IsSetByHolderAloneOver old number (event ∷ events) x y
 alone_later old event next events number x y made rest =
-    elim rest as (λ _. IsSetByHoldersAloneOver old number (event ∷ events) x y) [
+    elim rest as (λ _. IsSetByHolderAloneOver old number (event ∷ events) x y) [
       | inl same ↦ inl same
       | inr some ↦ inr (set_later old event next events number made some)
     ]
@@ -183,11 +227,11 @@ same_count x y z one two = record { count = two.count ∙ one.count; closed = tw
 alone_made :
     (old : List Actor) (event : Event) (next : List Actor) (events : List Event) (number : ℕ) (x y z : Actor) →
     Transition old event next → event.actor.0 ≡ number → slice_get old number ≡ Some x → IsHeldRightly x →
-    Change x event.party event.step y → IsSetByHoldersAloneOver next number events y z →
-    IsSetByHoldersAloneOver old number (event ∷ events) x z
+    Change x event.party event.step y → IsSetByHolderAloneOver next number events y z →
+    IsSetByHolderAloneOver old number (event ∷ events) x z
 alone_made old event next events number x y z made here found held change rest =
-    elim (alone_change x event.party event.step y change) as (λ _. IsSetByHoldersAloneOver old number (event ∷ events) x z) [
-      | inl same ↦ elim rest as (λ _. IsSetByHoldersAloneOver old number (event ∷ events) x z) [
+    elim (alone_change x event.party event.step y change) as (λ _. IsSetByHolderAloneOver old number (event ∷ events) x z) [
+      | inl same ↦ elim rest as (λ _. IsSetByHolderAloneOver old number (event ∷ events) x z) [
         | inl later ↦ inl (same_count x y z same later)
         | inr some ↦ inr (set_later old event next events number made some)
       ]
@@ -206,10 +250,57 @@ alone_made old event next events number x y z made here found held change rest =
       })
     ]
 
-pub alone_over : StretchesLink IsSetByHoldersAloneOver
+pub alone_over : StretchesLink IsSetByHolderAloneOver
 alone_over words parties before old leads events new run number x found =
-    over_stretch IsSetByHoldersAloneOver (λ old number x. inl (record { count = refl; closed = refl })) alone_later alone_made
+    over_stretch IsSetByHolderAloneOver (λ old number x. inl (record { count = refl; closed = refl })) alone_later alone_made
     old events new (held_run words parties before old leads) run number x found
+
+-- what a holder knows stays so until it changes it or gives the actor back
+sets_own : (step : Step) → IsTrue (sets_count step) → IsTrue (sets_count step || is_idle step)
+sets_own step sets = grind arith
+
+idle_own : (step : Step) → IsTrue (is_idle step) → IsTrue (sets_count step || is_idle step)
+idle_own step idle = grind arith
+
+known_later :
+    (old next : List Actor) (event : Event) (events : List Event) (number : ℕ) (x y : Actor) →
+    StaysKnownToHolderOver next number events x y → StaysKnownToHolderOver old number (event ∷ events) x y
+known_later old next event events number x y rest holder is =
+    elim (rest holder is) as (λ _. HasSameCount x y ⊎ Any (IsOwnChange holder number) (event ∷ events)) [
+      | inl same ↦ inl same
+      | inr some ↦ inr (any_later (IsOwnChange holder number) event events some)
+    ]
+
+known_made :
+    (old : List Actor) (event : Event) (next : List Actor) (events : List Event) (number : ℕ) (x y z : Actor) →
+    Transition old event next → event.actor.0 ≡ number → slice_get old number ≡ Some x → IsHeldRightly x →
+    Change x event.party event.step y → StaysKnownToHolderOver next number events y z →
+    StaysKnownToHolderOver old number (event ∷ events) x z
+known_made old event next events number x y z made here found held change rest holder is =
+    elim (alone_change x event.party event.step y change) as (λ _. Result) [
+      | inl same ↦ elim (stays_change x event.party event.step y change held holder is) as (λ _. Result) [
+        | inl kept ↦ elim (rest holder kept) as (λ _. Result) [
+          | inl later ↦ inl (same_count x y z same later)
+          | inr some ↦ inr (any_later (IsOwnChange holder number) event events some)
+        ]
+        | inr gave ↦ own gave.0 (idle_own event.step gave.1)
+      ]
+      | inr now ↦ own (same_Some event.party holder (sym now.0 ∙ is)) (sets_own event.step now.1)
+    ]
+  where
+    Result : Type 0
+    Result = HasSameCount x z ⊎ Any (IsOwnChange holder number) (event ∷ events)
+
+    own : event.party ≡ holder → IsTrue (sets_count event.step || is_idle event.step) → Result
+    own same changes = inr (
+        any_first (IsOwnChange holder number) event events (record { same_party = same; same_actor = here; change = changes })
+        )
+
+pub known_over : StretchesLink StaysKnownToHolderOver
+known_over words parties before old leads events new run number x found =
+    over_stretch StaysKnownToHolderOver (λ old number x holder is. inl (record { count = refl; closed = refl }))
+    (λ old event next events number x y made rest. known_later old next event events number x y rest)
+    known_made old events new (held_run words parties before old leads) run number x found
 
 -- what is closed or gone stays so
 pub ended_change : (x : Actor) (party : ℕ) (step : Step) (y : Actor) → Change x party step y → StaysEnded x y

@@ -1,4 +1,4 @@
--- A party that is split off or joined leaves each actor owed what it was owed.
+-- A party that is split off another one, or joins one, leaves each actor owed what it was owed.
 use Rattle.std.proofs.Common.{◌≡◌, ◌≢◌, ◌↔◌, inl, inr, ℕ, zero, suc, ◌<◌, Bool, true, false, ◌||◌, List, [], ◌∷◌, ◌++◌}
 use Rattle.std.proofs.Common.{All, Any, length, get_or, sym, ap, subst, refl, ◌∙◌, arith}
 use Rattle.std.specs.List.{list_any}
@@ -12,7 +12,7 @@ use Rattle.mb_core.specs.declared.debt.Debt.{Debt}
 use Rattle.mb_core.specs.Actor.{Actor, nothing, debt_of}
 use Rattle.mb_core.specs.Held.{IsHeldRightly}
 use Rattle.mb_core.specs.Settled.{IsOwedSystem, IsOwedMessage}
-use Rattle.mb_core.specs.Parties.{copied, moved, both, joined, IsOwedTheSame, SplitsKeep, JoinsKeep}
+use Rattle.mb_core.specs.Parties.{copied, moved, both, absorbed, IsOwedTheSame, SplitsKeep, JoinsKeep}
 
 or_swap : (rest one none : Bool) → none ≡ false → ((none || rest) || one) ≡ (one || rest)
 or_swap rest one none is = grind arith
@@ -69,11 +69,11 @@ or_joined :
     (without_two || both_) ≡ new → new ≡ whole
 or_joined whole both_ last new without_into without_from without_two a b = grind arith
 
-joined_any :
+absorbed_any :
     (cause : Debt → Bool) → cause nothing ≡ false → (owed : List Debt) (into from : ℕ) (debt : Debt) → into ≢ from →
     into < length owed → cause debt ≡ (cause (get_or owed into nothing) || cause (get_or owed from nothing)) →
     list_any cause (set (set owed into debt) from nothing) ≡ list_any cause owed
-joined_any cause none owed into from debt two there sum =
+absorbed_any cause none owed into from debt two there sum =
     or_joined (list_any cause owed) (cause debt) (list_any cause (set owed into debt))
     (list_any cause (set (set owed into debt) from nothing)) (list_any cause (set owed into nothing))
     (list_any cause (set owed from nothing)) (list_any cause (set (set (set owed into debt) from nothing) into nothing))
@@ -85,7 +85,9 @@ joined_any cause none owed into from debt two there sum =
     (apart cause none owed into)
     (apart cause none owed from)
     (subst
-    (λ d. (list_any cause (set (set (set owed into debt) from nothing) into nothing) || cause d) ≡ list_any cause (set (set owed into debt) from nothing))
+    (λ d.
+    (list_any cause (set (set (set owed into debt) from nothing) into nothing) || cause d) ≡
+    list_any cause (set (set owed into debt) from nothing))
     (get_or-set_other (set owed into debt) from into nothing nothing two ∙ get_or-set_same owed into debt nothing there)
     (apart cause none (set (set owed into debt) from nothing) into))
 
@@ -145,20 +147,20 @@ moved_owed x party =
           let inside = held.there holder is in omega (arith, length-append {A = Debt}, length-set {A = Debt});
     })
 
-joined_held : (x : Actor) (into from : ℕ) → into < length x.owed → IsHeldRightly x → IsHeldRightly (joined x into from)
-joined_held x into from there held = grind (arith, common_steps)
+absorbed_held : (x : Actor) (into from : ℕ) → into < length x.owed → IsHeldRightly x → IsHeldRightly (absorbed x into from)
+absorbed_held x into from there held = grind (arith, common_steps)
 
 both_message :
     (a b : Debt) → ((both a b).message || (both a b).sending) ≡ ((a.message || a.sending) || (b.message || b.sending))
 both_message a b = grind arith
 
-pub joined_owed : (x : Actor) (into from : ℕ) → into ≢ from → into < length x.owed → IsOwedTheSame x (joined x into from)
-joined_owed x into from two there =
-    same_owed x (joined x into from) refl refl refl
-    (joined_any (λ debt. debt.system) refl x.owed into from (both (debt_of x into) (debt_of x from)) two there refl)
-    (joined_any (λ debt. debt.message || debt.sending) refl x.owed into from (both (debt_of x into) (debt_of x from)) two there
+pub absorbed_owed : (x : Actor) (into from : ℕ) → into ≢ from → into < length x.owed → IsOwedTheSame x (absorbed x into from)
+absorbed_owed x into from two there =
+    same_owed x (absorbed x into from) refl refl refl
+    (absorbed_any (λ debt. debt.system) refl x.owed into from (both (debt_of x into) (debt_of x from)) two there refl)
+    (absorbed_any (λ debt. debt.message || debt.sending) refl x.owed into from (both (debt_of x into) (debt_of x from)) two there
     (both_message (debt_of x into) (debt_of x from)))
-    (joined_held x into from there)
+    (absorbed_held x into from there)
 
 -- what a split of one actor keeps, it keeps of all
 pub split_keeps :
@@ -175,8 +177,8 @@ split_keeps P by_copy by_move party old new split all number d inside =
 
 pub join_keeps :
     (P : Actor → Type 0) →
-    ((x : Actor) (into from : ℕ) → into ≢ from → into < length x.owed → P x → P (joined x into from)) → JoinsKeep P
+    ((x : Actor) (into from : ℕ) → into ≢ from → into < length x.owed → P x → P (absorbed x into from)) → JoinsKeep P
 join_keeps P keeps into from old new join all =
     subst (All P) (sym join.each)
-    (All-map P (λ x. joined x into from) old
+    (All-map P (λ x. absorbed x into from) old
     (λ k d inside. keeps (get_or old k d) into from join.two (join.there k d inside) (all k d inside)))

@@ -1,5 +1,5 @@
--- Parties that are split off and joined. That is no event: no word and no list changes, only who owes and who holds
--- (this project's own profile).
+-- Parties that are split off one another, and that join one another. That is no event: no word and no list changes, only
+-- who owes and who holds (this project's own profile).
 use Rattle.std.specs.Prelude.{◌≡◌, ◌≢◌, ◌↔◌, ◌⊎◌, ℕ, ◌<◌, ◌==◌, ◌||◌, if◌then◌else◌, List, [], ◌∷◌, ◌++◌, All, map, length}
 use Rattle.std.specs.Prelude.{slice_get, slice_set, Some, option_map}
 use Rattle.mb_core.specs.declared.debt.Debt.{Debt}
@@ -25,8 +25,8 @@ both a b =
     }
 
 -- one party takes over what another one owes and holds, which owes and holds nothing from then on
-abbrev pub joined : Actor → ℕ → ℕ → Actor
-joined x into from =
+abbrev pub absorbed : Actor → ℕ → ℕ → Actor
+absorbed x into from =
     record x {
       holder = option_map (λ party. if party == from then into else party) x.holder;
       owed = slice_set (slice_set x.owed into (both (debt_of x into) (debt_of x from))) from nothing;
@@ -44,7 +44,7 @@ pub record IsSplit (party : ℕ) (old new : List Actor) : Type 0 where
 pub record IsJoined (into from : ℕ) (old new : List Actor) : Type 0 where
   pub two : into ≢ from
   pub there : All (λ x. into < length x.owed) old
-  pub each : new ≡ map (λ x. joined x into from) old
+  pub each : new ≡ map (λ x. absorbed x into from) old
 
 -- y is owed what x is owed, no less and no more, and what the laws say of x they say of y
 pub record IsOwedTheSame (x y : Actor) : Type 0 where

@@ -1,10 +1,11 @@
 ghost use Rattle.std.specs.Prelude.{◌≢◌, ◌⊎◌, ℕ, ◌<◌, length, IsTrue, IsFalse};
 ghost use Rattle.mb_core.specs.Actor.{Actor};
-ghost use Rattle.mb_core.specs.Between.{ChangesLink, StretchesLink, StaysWithHolder, StaysWithHolderOver};
-ghost use Rattle.mb_core.specs.Between.{IsSetByHolderAlone, IsSetByHoldersAloneOver, StaysEnded};
+ghost use Rattle.mb_core.specs.Between.{ChangesLink, ChangesLinkWhereHeld, StretchesLink};
+ghost use Rattle.mb_core.specs.Between.{StaysWithHolder, StaysWithHolderOver, IsHeldBySchedule, IsHeldByScheduleOver};
+ghost use Rattle.mb_core.specs.Between.{IsSetByHolderAlone, IsSetByHolderAloneOver, StaysKnownToHolderOver, StaysEnded};
 ghost use Rattle.mb_core.specs.Held.{HasPossibleMailbox, IsHeldRightly};
 ghost use Rattle.mb_core.specs.Laws.{ChangesKeep, ChangesKeepWith, EveryRunHas, StepsKeep, StepsKeepWith};
-ghost use Rattle.mb_core.specs.Parties.{IsOwedTheSame, SplitsKeep, JoinsKeep, copied, moved, joined};
+ghost use Rattle.mb_core.specs.Parties.{IsOwedTheSame, SplitsKeep, JoinsKeep, copied, moved, absorbed};
 ghost use Rattle.mb_core.specs.Settled.{IsOwedMessage, IsOwedNothing, IsOwedSystem, IsSettled, is_runnable};
 
 /// A law: each event keeps that a scheduled actor has exactly one holder, a closed one at most one, every other none.
@@ -49,14 +50,17 @@ pub fn runnable_is_owed()
 {}
 
 /// A law: nobody takes an actor from its holder. A step leaves the actor to the party that holds it, or is that party's
-/// own step of giving it back.
+/// own step of giving it back; and who comes to hold it has scheduled it by that step.
 pub fn step_leaves_actors_to_their_holders()
-    ensures { ChangesLink StaysWithHolder }
+    ensures stays { ChangesLinkWhereHeld StaysWithHolder }
+    ensures begins { ChangesLink IsHeldBySchedule }
 {}
 
-/// A law: over any stretch of any run an actor stays with its holder, unless that party gives it back in it.
+/// A law: over any stretch of any run an actor stays with its holder, unless that party gives it back in it; and who
+/// holds it at the end held it at the beginning, or has scheduled it.
 pub fn every_run_leaves_actors_to_their_holders()
-    ensures { StretchesLink StaysWithHolderOver }
+    ensures stays { StretchesLink StaysWithHolderOver }
+    ensures begins { StretchesLink IsHeldByScheduleOver }
 {}
 
 /// A law: only the holder of an actor changes its suspend count or closes it.
@@ -65,9 +69,11 @@ pub fn step_counts_by_the_holder()
 {}
 
 /// A law: where a suspend count, or whether a mailbox is closed, differs between two moments of a run, between them the
-/// party that then held the actor made a step that changes it.
+/// party that then held the actor made a step that changes it. So a holder knows both until it changes them itself or
+/// gives the actor back.
 pub fn every_run_counts_by_the_holder()
-    ensures { StretchesLink IsSetByHoldersAloneOver }
+    ensures alone { StretchesLink IsSetByHolderAloneOver }
+    ensures known { StretchesLink StaysKnownToHolderOver }
 {}
 
 /// A law: a step leaves closed what is closed, and system work gone that is gone.
@@ -93,7 +99,7 @@ pub fn split_keeps_debts()
 /// A law, of no event but of the state: a party that takes over what another one owes and holds leaves each actor owed
 /// what it was owed, so that all other laws go on.
 pub fn join_keeps_debts()
-    ensures joined { (x : Actor) (into from : ℕ) → into ≢ from → into < length x.owed → IsOwedTheSame x (joined x into from) }
+    ensures absorbed { (x : Actor) (into from : ℕ) → into ≢ from → into < length x.owed → IsOwedTheSame x (absorbed x into from) }
     ensures held { JoinsKeep IsHeldRightly }
     ensures possible { JoinsKeep HasPossibleMailbox }
     ensures settled { JoinsKeep IsSettled }

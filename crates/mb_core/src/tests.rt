@@ -39,6 +39,22 @@ fn is_run(alloc: Global, word: u64, events: &[Event]) -> Result<bool, Fail> {
 }
 
 #[test]
+fn messages_are_a_list(rt: HostRuntime) -> Result<(), Fail> {
+    let alloc = rt.alloc();
+    let messages = Messages::new(vec![in alloc; SysMsg::Terminate, SysMsg::Suspend]?);
+    assert_eq!(rt;
+        messages.as_slice(),
+        [SysMsg::Terminate, SysMsg::Suspend].as_slice()
+    );
+    let listed = messages.into_vec();
+    assert_eq!(rt;
+        listed.as_slice(),
+        [SysMsg::Terminate, SysMsg::Suspend].as_slice()
+    );
+    Ok(())
+}
+
+#[test]
 fn one_party_holds(rt: HostRuntime) -> Result<(), Fail> {
     let alloc = rt.alloc();
     let mut events = vec![in alloc; by(0, Step::Schedule)]?;

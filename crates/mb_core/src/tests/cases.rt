@@ -146,7 +146,8 @@ const STATUS_CASES: &[Case] = &[
     Case { word: 0, before: &[], event: (1, Act::Read), after: Some(OPEN) },
     Case { word: 0, before: &[(1, Act::SysAdd(END)), (1, Act::Sent)], event: (1, Act::Read),
         after: Some(Seen { waiting: 1, system: Some(&[END]), owed: [NONE, LOOK], ..OPEN }) },
-    Case { word: 0, before: &[(1, Act::Sent), (1, Act::Unsent)], event: (1, Act::Read), after: Some(Seen { owed: [NONE, MESSAGE], ..OPEN }) },
+    Case { word: 0, before: &[(1, Act::Sent), (1, Act::Unsent)], event: (1, Act::Read),
+        after: Some(Seen { owed: [NONE, MESSAGE], ..OPEN }) },
     Case { word: 0, before: &[(1, Act::SysAdd(END)), (1, Act::Sent), (1, Act::Unsent), (1, Act::Sent)], event: (1, Act::Read),
         after: Some(Seen { waiting: 1, system: Some(&[END]), owed: [NONE, LOOK], ..OPEN }) },
     // Of a suspended one: system work alone is owed.
@@ -163,7 +164,8 @@ const STATUS_CASES: &[Case] = &[
         after: Some(Seen { waiting: 1, system: Some(&[END]), ..SHUT }) },
     Case { word: 0, before: &[(0, Act::Schedule), (0, Act::Sent)], event: (0, Act::Read), after: Some(Seen { waiting: 1, ..HELD }) },
     // What another owes stays.
-    Case { word: 1, before: &[(0, Act::Sent)], event: (1, Act::Read), after: Some(Seen { word: 1, waiting: 1, owed: [SENDING, NONE], ..OPEN }) },
+    Case { word: 1, before: &[(0, Act::Sent)], event: (1, Act::Read),
+        after: Some(Seen { word: 1, waiting: 1, owed: [SENDING, NONE], ..OPEN }) },
 
     // Schedule: neither closed nor scheduled, and then nothing is owed by the one that holds.
     Case { word: 0, before: &[(1, Act::SysAdd(END)), (1, Act::Sent), (1, Act::Unsent), (1, Act::Sent)], event: (1, Act::Schedule),
@@ -231,11 +233,14 @@ const STATUS_CASES: &[Case] = &[
 const ENVELOPE_CASES: &[Case] = &[
     // Sent: always, over the end of the numbers too.
     Case { word: 0, before: &[], event: (1, Act::Sent), after: Some(Seen { waiting: 1, owed: [NONE, SENDING], ..OPEN }) },
-    Case { word: 4, before: &[(1, Act::Sent)], event: (1, Act::Sent), after: Some(Seen { word: 4, waiting: 2, owed: [NONE, SENDING], ..OPEN }) },
-    Case { word: 1, before: &[(0, Act::Sent)], event: (1, Act::Sent), after: Some(Seen { word: 1, waiting: 2, owed: [SENDING, SENDING], ..OPEN }) },
+    Case { word: 4, before: &[(1, Act::Sent)], event: (1, Act::Sent),
+        after: Some(Seen { word: 4, waiting: 2, owed: [NONE, SENDING], ..OPEN }) },
+    Case { word: 1, before: &[(0, Act::Sent)], event: (1, Act::Sent),
+        after: Some(Seen { word: 1, waiting: 2, owed: [SENDING, SENDING], ..OPEN }) },
     Case { word: 0, before: &[(1, Act::SysAdd(END)), (1, Act::Sent), (1, Act::Unsent)], event: (1, Act::Sent),
         after: Some(Seen { waiting: 1, system: Some(&[END]), owed: [NONE, ALL], ..OPEN }) },
-    Case { word: 0, before: &[(0, Act::Schedule), (0, Act::Taken)], event: (1, Act::Sent), after: Some(Seen { owed: [NONE, SENDING], ..HELD }) },
+    Case { word: 0, before: &[(0, Act::Schedule), (0, Act::Taken)], event: (1, Act::Sent),
+        after: Some(Seen { owed: [NONE, SENDING], ..HELD }) },
 
     // Unsent: by one that is sending, who owes a look instead.
     Case { word: 0, before: &[(1, Act::Sent)], event: (1, Act::Unsent), after: Some(Seen { owed: [NONE, MESSAGE], ..OPEN }) },
@@ -252,7 +257,8 @@ const ENVELOPE_CASES: &[Case] = &[
     Case { word: 0, before: &[(1, Act::SysAdd(END))], event: (1, Act::Unsent), after: None },
 
     // Taken: by the holder, below 0 too.
-    Case { word: 0, before: &[(1, Act::Sent), (0, Act::Schedule)], event: (0, Act::Taken), after: Some(Seen { owed: [NONE, SENDING], ..HELD }) },
+    Case { word: 0, before: &[(1, Act::Sent), (0, Act::Schedule)], event: (0, Act::Taken),
+        after: Some(Seen { owed: [NONE, SENDING], ..HELD }) },
     Case { word: 0, before: &[(0, Act::Schedule)], event: (0, Act::Taken), after: Some(Seen { waiting: LAST, ..HELD }) },
     Case { word: 4, before: &[(1, Act::Sent), (0, Act::Schedule), (0, Act::Close)], event: (0, Act::Taken),
         after: Some(Seen { owed: [NONE, SENDING], ..SHUT }) },
@@ -295,13 +301,17 @@ const SYSTEM_CASES: &[Case] = &[
     Case { word: 0, before: &[], event: (1, Act::SysAdd(END)), after: Some(Seen { system: Some(&[END]), owed: [NONE, SYSTEM], ..OPEN }) },
     Case { word: 4, before: &[(0, Act::SysAdd(END)), (1, Act::Sent)], event: (1, Act::SysAdd(STOP)),
         after: Some(Seen { word: 4, waiting: 1, system: Some(&[END, STOP]), owed: [SYSTEM, Debt { sending: true, ..SYSTEM }], ..OPEN }) },
-    Case { word: 1, before: &[], event: (1, Act::SysAdd(END)), after: Some(Seen { word: 1, system: Some(&[END]), owed: [NONE, SYSTEM], ..OPEN }) },
-    Case { word: 0, before: &[(0, Act::Schedule)], event: (0, Act::SysAdd(END)), after: Some(Seen { system: Some(&[END]), owed: [SYSTEM, NONE], ..HELD }) },
+    Case { word: 1, before: &[], event: (1, Act::SysAdd(END)),
+        after: Some(Seen { word: 1, system: Some(&[END]), owed: [NONE, SYSTEM], ..OPEN }) },
+    Case { word: 0, before: &[(0, Act::Schedule)], event: (0, Act::SysAdd(END)),
+        after: Some(Seen { system: Some(&[END]), owed: [SYSTEM, NONE], ..HELD }) },
     Case { word: 0, before: &[(0, Act::Schedule), (0, Act::Close), (0, Act::SysEnd)], event: (1, Act::SysAdd(END)), after: None },
-    Case { word: 0, before: &[(0, Act::Schedule), (0, Act::Close), (0, Act::SysEnd), (0, Act::Idle(&[]))], event: (1, Act::SysAdd(END)), after: None },
+    Case { word: 0, before: &[(0, Act::Schedule), (0, Act::Close), (0, Act::SysEnd), (0, Act::Idle(&[]))], event: (1, Act::SysAdd(END)),
+        after: None },
 
     // SysRead: where nothing is listed, or the list is gone, no look at it is owed.
-    Case { word: 0, before: &[(1, Act::SysAdd(END))], event: (1, Act::SysRead), after: Some(Seen { system: Some(&[END]), owed: [NONE, SYSTEM], ..OPEN }) },
+    Case { word: 0, before: &[(1, Act::SysAdd(END))], event: (1, Act::SysRead),
+        after: Some(Seen { system: Some(&[END]), owed: [NONE, SYSTEM], ..OPEN }) },
     Case { word: 0, before: &[(1, Act::SysAdd(END)), (1, Act::Sent), (1, Act::Unsent), (1, Act::Sent), (0, Act::Schedule), (0, Act::SysDrain)],
         event: (1, Act::SysRead), after: Some(Seen { waiting: 1, owed: [NONE, Debt { sending: true, ..MESSAGE }], ..HELD }) },
     Case { word: 0, before: &[(1, Act::SysAdd(END)), (0, Act::Schedule), (0, Act::Close), (0, Act::SysEnd)], event: (1, Act::SysRead),
@@ -316,14 +326,16 @@ const SYSTEM_CASES: &[Case] = &[
         after: Some(Seen { word: 6, owed: [NONE, SYSTEM], ..HELD }) },
     Case { word: 0, before: &[(1, Act::SysAdd(END)), (0, Act::Schedule), (0, Act::Close)], event: (0, Act::SysDrain),
         after: Some(Seen { owed: [NONE, SYSTEM], ..SHUT }) },
-    Case { word: 0, before: &[(0, Act::Schedule), (0, Act::Close), (0, Act::SysEnd)], event: (0, Act::SysDrain), after: Some(Seen { system: None, ..SHUT }) },
+    Case { word: 0, before: &[(0, Act::Schedule), (0, Act::Close), (0, Act::SysEnd)], event: (0, Act::SysDrain),
+        after: Some(Seen { system: None, ..SHUT }) },
     Case { word: 0, before: &[(1, Act::SysAdd(END))], event: (1, Act::SysDrain), after: None },
     Case { word: 0, before: &[(0, Act::Schedule)], event: (1, Act::SysDrain), after: None },
 
     // SysEnd: by the holder of a closed actor.
     Case { word: 0, before: &[(1, Act::SysAdd(END)), (0, Act::Schedule), (0, Act::Close)], event: (0, Act::SysEnd),
         after: Some(Seen { system: None, owed: [NONE, SYSTEM], ..SHUT }) },
-    Case { word: 0, before: &[(0, Act::Schedule), (0, Act::Close), (0, Act::SysEnd)], event: (0, Act::SysEnd), after: Some(Seen { system: None, ..SHUT }) },
+    Case { word: 0, before: &[(0, Act::Schedule), (0, Act::Close), (0, Act::SysEnd)], event: (0, Act::SysEnd),
+        after: Some(Seen { system: None, ..SHUT }) },
     Case { word: 0, before: &[(0, Act::Schedule)], event: (0, Act::SysEnd), after: None },
     Case { word: 4, before: &[(0, Act::Schedule)], event: (0, Act::SysEnd), after: None },
     Case { word: 1, before: &[], event: (0, Act::SysEnd), after: None },
