@@ -8,6 +8,7 @@ ghost use Rattle.mb_journal.specs.Incarnation.{messages};
 ghost use Rattle.bench.specs.Idle.{IsIdle};
 ghost use Rattle.bench.specs.Sum.{sends};
 
+use crate::clock::since;
 use crate::memory::Memory;
 use mb_actor::{Actor, Behaviours};
 use mb_cell::Cell;
@@ -60,10 +61,7 @@ pub fn measure<R: Clock + Files + AllocGlobal, A: Actor, K: Behaviours>(
     let memory_before = Memory::read(rt);
     let begin = Instant::now(rt);
     handle_all(&mut cell, count)?;
-    let time = match begin {
-        Ok(begin) => begin.elapsed(rt).ok(),
-        Err(_) => None,
-    };
+    let time = since(rt, begin);
     let memory = match (memory_before, Memory::read(rt)) {
         (Some(before), Some(after)) => Some(after.since(before)),
         _ => None,

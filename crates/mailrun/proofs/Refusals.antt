@@ -1,12 +1,11 @@
 -- A text that is a scenario is not refused.
-use Rattle.std.proofs.Common.{◌≡◌, ℕ, List, Option, Some, None, IfSome, arith}
+use Rattle.std.proofs.Common.{◌≡◌, ℕ, List, arith}
 use Rattle.mb_scenario.specs.Reading.{IsReadAs, Refuses}
 use Rattle.mb_scenario.specs.Scenario.{ScenarioData}
 use Rattle.mb_scenario.specs.declared.fault.Fault.{Fault}
 use Rattle.mb_scenario.specs.declared.fault.Fault.TheVariants.{NoMemory, NotToml, BadScenario}
 use Rattle.mb_scenario.specs.declared.fault.Place.TheVariants as place
 use Rattle.mb_scenario.specs.declared.fault.Reason.TheVariants.{TooMany, NotYet}
-use Rattle.mailrun.specs.Answer.{most_read, IsAnswer, IsRefused}
 use Rattle.mailrun.specs.Failure.{status_of}
 use Rattle.mailrun.specs.declared.failure.Failure.TheVariants.{Input}
 

@@ -29,7 +29,8 @@ no_room throughput old new n turns at_most rest kept =
 
 -- a run that ended by itself
 pub whole_run : (throughput : ℕ) (old new : World) (systems n : ℕ) (stopped : Stopped) → IsEnd stopped new →
-    IsReason old.cell.who throughput n new.cell.journal stopped → IsTurns old.cell.who old.cell.journal n new.cell.journal → n ≤ most_envelopes throughput →
+    IsReason old.cell.who throughput n new.cell.journal stopped → IsTurns old.cell.who old.cell.journal n new.cell.journal →
+    n ≤ most_envelopes throughput →
     IsAtRest new → IsKept old new → new.systems ≡ [] → systems ≡ length old.systems → n + length new.envelopes ≡ length old.envelopes →
     (0 < length old.envelopes → 0 < n) → IsWholeRun throughput old new systems n
 whole_run throughput old new systems n stopped is_end reason turns at_most rest kept none all taken progress = record {

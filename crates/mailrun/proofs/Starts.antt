@@ -29,7 +29,8 @@ unfolding envelopes_of
 no_envelopes = refl
 
 -- an actor before its first run is at rest
-at_start : (limit : ℕ) (sends : List Sending) → IsAtRest (record { cell = new_cell limit; status = fresh; next = 0; systems = Create ∷ []; envelopes = sent 0 sends })
+at_start : (limit : ℕ) (sends : List Sending) →
+    IsAtRest (record { cell = new_cell limit; status = fresh; next = 0; systems = Create ∷ []; envelopes = sent 0 sends })
 at_start limit sends = record {
   no_acts = refl;
   an_actor = refl;

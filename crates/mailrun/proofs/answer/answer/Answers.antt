@@ -35,7 +35,8 @@ returns-clause-report c =
     ∙ ap (λ (z : ℤ). after_of z c.new.result.rows (map message_of c.deref.result.now)) initial_is
     ∙ ap (λ (r : List RowData). after_of scenario.actor.initial r (map message_of c.deref.result.now)) rows_are
     ∙ ap (λ (l : List Sending). after_of scenario.actor.initial seen.actor.rows (map message_of l)) sends_are in
-    let handled = told.handled ∙ ap (λ (l : List Envelope). length l) told.told ∙ length-sent 0 c.deref.result.now ∙ ap (λ (l : List Sending). length l) sends_are in
+    let handled = told.handled ∙ ap (λ (l : List Envelope). length l) told.told ∙ length-sent 0 c.deref.result.now
+    ∙ ap (λ (l : List Sending). length l) sends_are in
     let same = finished_line-sends scenario.actor.name seen.actor.initial seen.actor.rows seen.sends c.in-Ok.finished
     told.live state told.unsuspended handled in (
       seen,

@@ -1,4 +1,4 @@
-use Rattle.std.proofs.Common.{arith, ◌≡◌, true, rules}
+use Rattle.std.proofs.Common.{arith, ◌≡◌, true}
 use Rattle.std.proofs.lemmas.Grind.{common_steps}
 use Rattle.mailrun.proofs.Endings.{answered_not_refused, failed_before, failed_writing, has_reported, nothing_for_refused, refused_not_zero}
 use Rattle.mailrun.specs.declared.failure.Failure.TheVariants.{Os}

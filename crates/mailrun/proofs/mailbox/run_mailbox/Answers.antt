@@ -77,8 +77,10 @@ returns-in_err-turn-clause-stopped g c =
     let kept = kept_after _ old middle c.loop.invariant.kept c.apply_next_envelope.ensures.kept in
     let counted = c.loop.invariant.counted in
     let fewer : c.loop.turn.envelopes < most_envelopes c.args.throughput = omega (arith, c.max-end.ensures) in
-    on_err c.from_residual-in_err-turn.result _ (no_room c.args.throughput (world c.args.cell.now c.args.status.now c.args.post.now) new (suc c.loop.turn.envelopes)
-    (turn_more (world c.args.cell.now c.args.status.now c.args.post.now) old middle new c.loop.turn.envelopes c.loop.invariant.kept kept is.1 c.apply_systems-in-loop.ensures.block c.loop.invariant.turns)
+    on_err c.from_residual-in_err-turn.result _
+    (no_room c.args.throughput (world c.args.cell.now c.args.status.now c.args.post.now) new (suc c.loop.turn.envelopes)
+    (turn_more (world c.args.cell.now c.args.status.now c.args.post.now) old middle new c.loop.turn.envelopes c.loop.invariant.kept kept
+    is.1 c.apply_systems-in-loop.ensures.block c.loop.invariant.turns)
     (omega (arith, fewer)) c.apply_systems-in-loop.ensures.rest (kept_after _ middle new kept c.apply_systems-in-loop.ensures.kept))
 
 pub loop-preserved : goal.loop-preserved
@@ -90,7 +92,8 @@ loop-preserved g c =
     let is = subst (λ (n : Next). IsNext n old middle) c.in-Handled.is c.in_ok-apply_next_envelope.ensures.next in
     let kept = kept_after _ old middle c.loop.invariant.kept c.apply_next_envelope.ensures.kept in
     let none = c.apply_next_envelope.ensures.same_systems ∙ c.loop.invariant.no_systems in
-    let more = turn_more first old middle new c.loop.turn.envelopes c.loop.invariant.kept kept is.1 c.apply_systems-in-loop.ensures.block c.loop.invariant.turns in
+    let more = turn_more first old middle new c.loop.turn.envelopes c.loop.invariant.kept kept is.1 c.apply_systems-in-loop.ensures.block
+    c.loop.invariant.turns in
     record {
       rest = c.apply_systems-in-loop.ensures.rest;
       kept = kept_after _ middle new kept c.apply_systems-in-loop.ensures.kept;
@@ -108,8 +111,10 @@ returns-clause-whole g c =
     let counted = c.loop.invariant.counted in
     let most : c.loop.turn.envelopes ≡ most_envelopes c.args.throughput = omega (arith, c.max-end.ensures) in
     whole_run c.args.throughput (world c.args.cell.now c.args.status.now c.args.post.now) (world c.loop.cell c.loop.status c.loop.post)
-    c.loop.turn.systems c.loop.turn.envelopes UsedUp tt (most, rest_no_front _ (world c.loop.cell c.loop.status c.loop.post) c.loop.invariant.kept.same_who c.loop.invariant.rest)
-    c.loop.invariant.turns (omega (arith, most)) c.loop.invariant.rest c.loop.invariant.kept c.loop.invariant.no_systems c.loop.invariant.all_systems c.loop.invariant.taken (λ some. omega (arith, most))
+    c.loop.turn.systems c.loop.turn.envelopes UsedUp tt
+    (most, rest_no_front _ (world c.loop.cell c.loop.status c.loop.post) c.loop.invariant.kept.same_who c.loop.invariant.rest)
+    c.loop.invariant.turns (omega (arith, most)) c.loop.invariant.rest c.loop.invariant.kept c.loop.invariant.no_systems
+    c.loop.invariant.all_systems c.loop.invariant.taken (λ some. omega (arith, most))
 
 pub returns-in_err-apply_systems-clause-full : goal.returns-in_err-apply_systems-clause-full
 returns-in_err-apply_systems-clause-full g c =

@@ -46,14 +46,16 @@ returns-clause-told g c =
     let who = c.loop-status.invariant.who in
     let none : c.loop-status.post.envelopes.items ≡ [] = grind (arith, common_steps) in
     let told : envelopes_of cell.journal ≡ sent 0 c.args.sends.now =
-    sym (append-nil (envelopes_of cell.journal)) ∙ sym (ap (λ (l : List Envelope). envelopes_of cell.journal ++ l) none) ∙ c.loop-status.invariant.kept in
+    sym (append-nil (envelopes_of cell.journal)) ∙ sym (ap (λ (l : List Envelope). envelopes_of cell.journal ++ l) none)
+    ∙ c.loop-status.invariant.kept in
     let running = is_running (world cell c.loop-status.status c.loop-status.post) c.loop-status.invariant.rest
     (rest_open (world cell c.loop-status.status c.loop-status.post) c.loop-status.invariant.rest c.loop-status.invariant.no_systems) in
     record {
       journal = cell.journal;
       lawful = subst (λ (w : Identity). IsLawful w (recorded (g.K.Behaviours.gives w.this.0)) cell.journal) who c.journal.ensures.lawful;
       told = told;
-      heard = sym (ap (λ w. messages w cell.journal) who) ∙ c.loop-status.invariant.rest.heard ∙ ap messages_in told ∙ messages_in-sent 0 c.args.sends.now;
+      heard = sym (ap (λ w. messages w cell.journal) who) ∙ c.loop-status.invariant.rest.heard ∙ ap messages_in told
+          ∙ messages_in-sent 0 c.args.sends.now;
       state = let kept : to_z w64 (of_z w64 c.state.result) ≡ c.state.result = search rules in
           kept ∙ c.state.ensures ∙ ap (λ (w : Identity). g.K.Behaviours.after w.this.0 (messages w cell.journal)) who;
       phase_is = c.phase.ensures ∙ ap (λ w. phase w cell.journal) who;
