@@ -24,6 +24,10 @@ actor_of (effect.Unwatch x) = x
 actor_of (effect.Stop x) = x
 actor_of (effect.Spawn x) = x
 
+-- what stands where an outbox holds no effect: one that none can ask for (this project's own profile)
+abbrev pub blank : Effect
+blank = effect.Stop (record { 0 = 0 })
+
 -- the child that an effect starts
 abbrev pub spawn_of : Effect → Option ActorId
 spawn_of (effect.Spawn x) = Some x

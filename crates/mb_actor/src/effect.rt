@@ -33,8 +33,12 @@ impl Effect {
     }
 }
 
-/// What fills the places of an outbox that hold no effect.
+/// What fills the places of an outbox that hold no effect: to stop the guardian, which none can ask for.
 impl Default for Effect {
+    ghost use Rattle.mb_actor.specs.Tray.{blank};
+
+    ghost is_default = { λ e. e ≡ blank };
+
     fn default() -> Self {
         Effect::Stop(ActorId(0))
     }

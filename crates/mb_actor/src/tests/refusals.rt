@@ -62,6 +62,13 @@ fn each_effect_is_kept_in_order(rt: HostRuntime) -> Result<(), Fail> {
     assert_eq!(rt; out.effects().len(), 8);
     assert_eq!(rt; out.effects()[6], Effect::Spawn(ActorId(2)));
     assert_eq!(rt; out.effects()[7], Effect::Watch(ActorId(1)));
+    ask_all(
+        &rt,
+        &mut out,
+        &all_kinds(ActorId(64)),
+        Err(OutboxError::NoSuchActor),
+    );
+    assert_eq!(rt; out.effects().len(), 8);
     Ok(())
 }
 
