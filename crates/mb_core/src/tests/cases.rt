@@ -9,7 +9,7 @@ use std::alloc::{AllocError, Global};
 use std::test::Fail;
 
 /// A step as a constant can hold it: an envelope by its number, a rest by a slice.
-#[derive(Clone, Copy, Debug)]
+#[derive(Clone, Copy)]
 enum Act {
     Read,
     Schedule,
@@ -59,7 +59,7 @@ impl Act {
 
 /// All that is seen of an actor: its status word, the number counted as waiting, the numbers of its envelopes, its
 /// system work, its holder, and what the parties 0 and 1 owe it.
-#[derive(Clone, Copy, Debug)]
+#[derive(Clone, Copy)]
 struct Seen {
     word: u64,
     waiting: u64,
@@ -69,7 +69,7 @@ struct Seen {
     owed: [Debt; 2],
 }
 
-#[derive(Clone, Copy, Debug)]
+#[derive(Clone, Copy)]
 struct Case {
     word: u64,
     before: &'static [(usize, Act)],
@@ -394,9 +394,13 @@ fn is_right(alloc: Global, case: &Case) -> Result<bool, Fail> {
 #[test]
 fn each_step_by_its_table(rt: HostRuntime) -> Result<(), Fail> {
     let alloc = rt.alloc();
-    for cases in [STATUS_CASES, ENVELOPE_CASES, SYSTEM_CASES] {
-        for case in cases {
-            assert!(rt; is_right(alloc, case)?, "{case:?}");
+    for (name, cases) in [
+        ("status", STATUS_CASES),
+        ("envelopes", ENVELOPE_CASES),
+        ("system", SYSTEM_CASES),
+    ] {
+        for (place, case) in cases.iter().enumerate() {
+            assert!(rt; is_right(alloc, case)?, "case {place} of {name}, from 0");
         }
     }
     Ok(())
