@@ -1,5 +1,5 @@
 -- What an outbox answers, from what it keeps.
-use Rattle.std.proofs.Common.{ℕ, ◌+◌, ◌^◌, ◌<◌, ◌≤◌, ◌≡◌, Bool, true, false, not, ◌&&◌, ◌||◌, cond, if◌then◌else◌, List, [], ◌∷◌, ◌++◌, length, length-append, get_or, take, take_all, filter, ap, sym, ◌∙◌, subst, refl, Some, None, arith, rules}
+use Rattle.std.proofs.Common.{ℕ, ◌+◌, ◌^◌, ◌<◌, ◌≤◌, ◌≡◌, Bool, true, false, not, ◌&&◌, ◌||◌, cond, if◌then◌else◌, List, [], ◌∷◌, ◌++◌, length, get_or, take, take_all, filter, ap, sym, ◌∙◌, subst, refl, Some, None, arith, rules}
 use Rattle.std.proofs.lemmas.List.Folds.{list_any-append, list_any_more}
 use Rattle.std.proofs.lemmas.Bool.Decides.{nat_tests}
 use Rattle.std.proofs.lemmas.Map.Views.{any-filter_same}
@@ -111,7 +111,6 @@ with_effect o kept tray view e goes more new items same_actors same_set same_lis
   prepared = λ x here. ap (λ p. has p.value.items x) same_list ∙ kept.prepared x (ap (λ s. contains s x) (sym same_set) ∙ here);
   asked = λ x. says x ∙ ap (λ b. has (spawns_of (e ∷ [])) x || b) (kept.asked x) ∙ sym (has-push o.effects.items e x)
       ∙ ap (λ l. has (spawns_of l) x) (sym items);
-  few = grind (arith, items, (passes tray e goes).room, ap (λ (t : Tray). length t.effects) view, length-append o.effects.items (e ∷ []));
   held =
       subst (λ (t : Tray). CanHold t)
       (sym (same_tray (tray_of new) (record tray { effects = tray.effects ++ e ∷ [] })

@@ -1,7 +1,6 @@
 -- How an outbox keeps which children may still be spawned.
-use Rattle.std.specs.Prelude.{◌≡◌, ◌≤◌, true, length, filter}
+use Rattle.std.specs.Prelude.{◌≡◌, true, filter}
 use Rattle.mb_msg.specs.declared.id.ActorId.{ActorId}
-use Rattle.mb_msg.specs.Limits.{most_effects}
 use Rattle.mb_actor.specs.ActorList.{has}
 use Rattle.mb_actor.specs.ActorSet.{contains}
 use Rattle.mb_actor.specs.Held.{CanHold}
@@ -18,5 +17,4 @@ tray_of o =
 pub record IsOutbox (o : Inside) : Type 0 where
   pub prepared : (x : ActorId) → contains o.unspawned x ≡ true → has o.prepared.value.items x ≡ true
   pub asked : (x : ActorId) → contains o.asked x ≡ has (spawns_of o.effects.items) x
-  pub few : length o.effects.items ≤ most_effects
   pub held : CanHold (tray_of o)

@@ -1,4 +1,4 @@
-use Rattle.std.proofs.Common.{sym, ◌∙◌, ap, refl, arith, filter}
+use Rattle.std.proofs.Common.{sym, ◌∙◌, ap, refl, filter}
 use Rattle.mb_actor.specs.ActorList.{has}
 use Rattle.mb_actor.specs.ActorSet.{contains}
 use Rattle.mb_actor.specs.Tray.{spawns_of}
@@ -21,7 +21,6 @@ invariant_of-result c =
     record {
       prepared = λ x here. sym (all x) ∙ here;
       asked = λ x. c.new-2.ensures x ∙ ap (λ l. has (spawns_of l) x) (sym c.new.ensures);
-      few = grind (arith, c.new.ensures);
       held = can_hold-none _ c.new.ensures;
     }
 
