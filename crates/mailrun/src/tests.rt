@@ -96,6 +96,29 @@ impl Write for Narrow {
     }
 }
 
+/// A writer that takes everything, and fails at each flush or at none.
+#[derive(Drop)]
+struct Flushing {
+    taken: Vec<u8>,
+    flushes: u32,
+    fails: bool,
+}
+
+impl Write for Flushing {
+    fn write(&mut self, buf: &[u8]) -> io::Result<usize> {
+        self.taken.extend_from_slice(buf)?;
+        Ok(buf.len())
+    }
+
+    fn flush(&mut self) -> io::Result<()> {
+        self.flushes = self.flushes.saturating_add(1);
+        if self.fails {
+            return Err(io::Error::from(io::ErrorKind::Other));
+        }
+        Ok(())
+    }
+}
+
 /// Arguments as a system gives them: bytes, the program's own path first.
 #[derive(Drop)]
 struct Given<'a> {
@@ -334,6 +357,30 @@ fn writers_that_fail(rt: HostRuntime) {
             assert_eq!(rt; writer.taken.len(), 0);
             assert_eq!(rt; errors.taken.as_slice(), &b"mailrun: 11 NotToml\n"[..room]);
         }
+    }
+}
+
+#[test]
+fn flushes(rt: HostRuntime) {
+    for fails in [false, true] {
+        let mut rest = COUNT.as_bytes();
+        let mut writer = Flushing {
+            taken: Vec::new(rt.alloc()),
+            flushes: 0,
+            fails,
+        };
+        let mut errors = Vec::new(rt.alloc());
+        let status = run_program(
+            rt.alloc(),
+            0,
+            &mut Watched::new(&mut rest),
+            &mut Watched::new(&mut writer),
+            &mut Watched::new(&mut errors),
+        );
+        assert_eq!(rt; status, u8::from(fails));
+        assert_eq!(rt; writer.taken.as_slice(), COUNT_REPORT.as_bytes());
+        assert_eq!(rt; writer.flushes, 1);
+        assert_eq!(rt; errors.is_empty(), !fails);
     }
 }
 
