@@ -5,6 +5,7 @@ pub mod InputLemmas
 pub mod Lines
 pub mod Refusals
 pub mod RunSteps
+pub mod Runs
 pub mod SentLemmas
 pub mod Starts
 pub mod SystemStep

@@ -19,6 +19,9 @@ use Rattle.mb_journal.specs.Entry.{Entry}
 use Rattle.mailrun.proofs.Starts.{no_envelopes}
 use Rattle.mailrun.proofs.SentLemmas.{messages_in-sent, length-sent}
 use Rattle.std.proofs.lemmas.Result.{err_from_is_err_and}
+use Rattle.mailrun.proofs.Runs.{IsRunOn, run_on, runs_of, used_up_before}
+use Rattle.mailrun.specs.Told.{AreUsedUp, scripted}
+use Rattle.mailrun.specs.Told.AreUsedUp.{no_run}
 use Rattle.mailrun.proofs.RunSteps.{full_needs}
 use Rattle.mailrun.proofs.run.run.Goals as goal
 
@@ -32,6 +35,12 @@ loop-status-init g c =
       kept = whole.run_of.kept.envelopes
           ∙ ap (λ (j : List Entry). envelopes_of j ++ c.in-Ok.running.post.envelopes.items) c.in-Ok.ensures.nothing
           ∙ ap (λ l. l ++ c.in-Ok.running.post.envelopes.items) no_envelopes ∙ c.in-Ok.ensures.sent;
+      runs =
+          let old = world c.in-Ok.running.cell c.in-Ok.running.status c.in-Ok.running.post in
+          let new = world c.run_once.new.cell c.run_once.new.status c.run_once.new.post in
+          let before = subst (λ (j : List Entry). AreUsedUp old.cell.who 5 j) (sym c.in-Ok.ensures.nothing) no_run in
+          subst (λ (w : Identity). IsRunOn w 5 new) c.in-Ok.ensures.who
+          (run_on 5 old new c.in_ok-run_once.field-0.systems c.in_ok-run_once.field-0.envelopes whole before);
       in_all =
           let begun = ap (λ (j : List Entry). length j) c.in-Ok.ensures.nothing in
           let one = ap (λ (l : List SysMsg). length l) c.in-Ok.ensures.create in
@@ -53,6 +62,7 @@ returns-clause-told g c =
     record {
       journal = cell.journal;
       lawful = subst (λ (w : Identity). IsLawful w (recorded (g.K.Behaviours.gives w.this.0)) cell.journal) who c.journal.ensures.lawful;
+      runs = runs_of scripted 5 (world cell c.loop-status.status c.loop-status.post) c.loop-status.invariant.runs;
       told = told;
       heard = sym (ap (λ w. messages w cell.journal) who) ∙ c.loop-status.invariant.rest.heard ∙ ap messages_in told
           ∙ messages_in-sent 0 c.args.sends.now;
@@ -80,3 +90,22 @@ returns-in_err-run_once-clause-full g c = λ is_full.
     let limit = ap (λ (w : Identity). w.limit) c.in-Ok.ensures.who in
     full_needs old (world c.run_once.new.cell c.run_once.new.status c.run_once.new.post) 4294967295 (length c.args.sends.now)
     c.in_err-run_once.ensures.stopped.kept limit (omega (arith, begun, one, sends)) full
+
+pub loop-status-preserved : goal.loop-status-preserved
+loop-status-preserved g c =
+    let old = world c.loop-status.cell c.loop-status.status c.loop-status.post in
+    let new = world c.run_once-in-loop-status.new.cell c.run_once-in-loop-status.new.status c.run_once-in-loop-status.new.post in
+    let turn = c.in_ok-run_once-2.field-0 in
+    let who = c.loop-status.invariant.who in
+    let some : c.loop-status.post.envelopes.items ≡ [] → ⊥ = λ none. grind (arith, common_steps) in
+    let used_up = used_up_before scripted 5 old c.loop-status.invariant.runs some in
+    let before = subst (λ (w : Identity). AreUsedUp w 5 old.cell.journal) (sym who) used_up in
+    record {
+      rest = search rules;
+      who = search rules;
+      no_systems = search rules;
+      kept = search rules;
+      runs = subst (λ (w : Identity). IsRunOn w 5 new) who
+          (run_on 5 old new turn.systems turn.envelopes c.in_ok-run_once-2.ensures.whole before);
+      in_all = search rules;
+    }
