@@ -1,4 +1,8 @@
+ghost use Rattle.std.specs.Prelude.{Some};
+ghost use Rattle.mb_format.specs.Place.{path_text, place_text, reason_text};
+
 use crate::path::Path;
+use std::fmt;
 
 /// What is wrong.
 #[derive(Clone, Copy, Debug, PartialEq, Eq)]
@@ -41,4 +45,47 @@ pub struct Finding<'a> {
     pub place: Place<'a>,
     /// What.
     pub reason: Reason,
+}
+
+impl fmt::Display for Path {
+    ghost output = { λ path. Some (path_text path) };
+
+    fn fmt<W: fmt::Write>(&self, f: &mut fmt::Formatter<W>) -> fmt::Result {
+        match self {
+            Path::Top => Ok(()),
+            Path::Actor(position) => write!(f, "actor {position} "),
+            Path::Send(position) => write!(f, "send {position} "),
+            Path::Row(actor, name, position) => write!(f, "actor {actor} {name} {position} "),
+        }
+    }
+}
+
+impl fmt::Display for Place<'_> {
+    ghost output = { λ place. Some (place_text place) };
+
+    fn fmt<W: fmt::Write>(&self, f: &mut fmt::Formatter<W>) -> fmt::Result {
+        match self {
+            Place::Key(path, key) => write!(f, "{path}{key}"),
+            Place::Unnamed(path) => write!(f, "{path}?"),
+            Place::Entry(path, name, position) => write!(f, "{path}{name} {position}"),
+        }
+    }
+}
+
+impl fmt::Display for Reason {
+    ghost output = { λ reason. Some (reason_text reason) };
+
+    fn fmt<W: fmt::Write>(&self, f: &mut fmt::Formatter<W>) -> fmt::Result {
+        f.write_str(match self {
+            Reason::UnknownKey => "unknown key",
+            Reason::Missing => "missing",
+            Reason::WrongType => "wrong type",
+            Reason::NotAllowed => "not allowed",
+            Reason::OutOfRange => "out of range",
+            Reason::TooMany => "too many",
+            Reason::UnknownName => "unknown name",
+            Reason::RepeatedName => "repeated name",
+            Reason::BadOp => "bad op",
+        })
+    }
 }

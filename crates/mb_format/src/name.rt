@@ -50,7 +50,7 @@ pub(crate) fn is_guardian(name: &[u8]) -> bool
 }
 
 /// Whether the two texts are the same.
-pub(crate) fn is_text(text: &[u8], other: &[u8]) -> bool
+pub fn is_text(text: &[u8], other: &[u8]) -> bool
     ensures { result ≡ bytes_eq text.now other.now }
 {
     text == other

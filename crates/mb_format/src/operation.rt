@@ -51,7 +51,7 @@ fn op_after<'a>(word: &[u8], rest: &'a [u8]) -> Option<Op<'a>>
 }
 
 /// Where the first space is.
-pub(crate) fn space_in(text: &[u8]) -> Option<usize>
+pub fn space_in(text: &[u8]) -> Option<usize>
     ensures value { result ≡ space_in text.now }
     ensures within { IfSome result (λ i. i < length text.now) }
 {

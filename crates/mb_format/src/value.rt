@@ -78,7 +78,7 @@ fn has_type(form: Form, value: &Value) -> bool
 }
 
 /// The text of a value, empty where it is none.
-pub(crate) fn text_of(value: &Value) -> &[u8]
+pub fn text_of(value: &Value) -> &[u8]
     ensures { result.now ≡ text_of (view value.now) }
 {
     match value.as_str() {
@@ -88,7 +88,7 @@ pub(crate) fn text_of(value: &Value) -> &[u8]
 }
 
 /// The text at a key, with what stands for it where the key is absent.
-pub(crate) fn text_or<'a>(default: &'static [u8], found: Option<&'a Value>) -> &'a [u8]
+pub fn text_or<'a>(default: &'static [u8], found: Option<&'a Value>) -> &'a [u8]
     ensures { result.now ≡ text_or default.now (option_map (λ v. view v.now) found.entry) }
 {
     match found {
@@ -98,7 +98,7 @@ pub(crate) fn text_or<'a>(default: &'static [u8], found: Option<&'a Value>) -> &
 }
 
 /// The value at a key.
-pub(crate) fn value_at<'a>(table: &'a Table, key: &str) -> Option<&'a Value>
+pub fn value_at<'a>(table: &'a Table, key: &str) -> Option<&'a Value>
     ensures { option_map (λ v. view v.now) result ≡ get_member key.now (table_view table.now) }
 {
     table.get(key)
@@ -226,7 +226,7 @@ fn is_few(form: Form, value: &Value) -> bool
 }
 
 /// The items of a value, none where it is no array.
-pub(crate) fn items_of(value: &Value) -> &[Value]
+pub fn items_of(value: &Value) -> &[Value]
     ensures { items_view result.now ≡ items_of (view value.now) }
 {
     match value.as_array() {
