@@ -7,7 +7,7 @@ mod fields;
 mod limits;
 mod names;
 mod plan;
-mod read;
+mod reading;
 mod scenario;
 mod scripts;
 mod sends;
@@ -15,5 +15,5 @@ mod strategy;
 
 pub use fault::Fault;
 pub use limits::SCENARIO_BYTES;
-pub use read::read;
+pub use reading::read;
 pub use scenario::{Scenario, Sending, What};
