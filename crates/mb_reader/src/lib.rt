@@ -12,6 +12,8 @@ mod scenario;
 mod scripts;
 mod sends;
 mod strategy;
+#[cfg(test)]
+mod tests;
 
 pub use fault::Fault;
 pub use limits::SCENARIO_BYTES;

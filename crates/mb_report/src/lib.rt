@@ -8,6 +8,8 @@ mod counts;
 mod line;
 mod lines;
 mod report;
+#[cfg(test)]
+mod tests;
 mod text;
 mod totals;
 

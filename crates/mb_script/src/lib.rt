@@ -5,6 +5,8 @@ mod index;
 mod operation;
 mod perform;
 mod script;
+#[cfg(test)]
+mod tests;
 
 pub use operation::{Operation, Row};
 pub use script::{Hooks, Script};
