@@ -16,7 +16,8 @@ min_bit a b one other = grind arith
 min_none : (a b r : ℕ) → a ≡ 0 → r ≡ min a b → (r == 1) ≡ false
 min_none a b r none is = grind arith
 
-pub bit_cleared : (word other i : ℕ) → word < 2 ^ 64 → other < 2 ^ 64 → (bit_at (bit_and word (2 ^ 64 - 1 - other)) i == 1) ≡ ((bit_at word i == 1) && not (bit_at other i == 1))
+pub bit_cleared : (word other i : ℕ) → word < 2 ^ 64 → other < 2 ^ 64 →
+    (bit_at (bit_and word (2 ^ 64 - 1 - other)) i == 1) ≡ ((bit_at word i == 1) && not (bit_at other i == 1))
 bit_cleared word other i fits other_fits =
     let conclusion : Type 0 = (bit_at (bit_and word (2 ^ 64 - 1 - other)) i == 1) ≡ ((bit_at word i == 1) && not (bit_at other i == 1)) in
     let below : i < 64 → conclusion =

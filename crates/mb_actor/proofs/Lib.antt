@@ -1,2 +1,3 @@
 pub mod ActorSetLemmas
+pub mod HeldLemmas
 pub mod OutboxLemmas

@@ -1,5 +1,5 @@
 -- What an outbox answers, from what it keeps.
-use Rattle.std.proofs.Common.{ℕ, ◌+◌, ◌^◌, ◌<◌, ◌≤◌, ◌≡◌, Bool, true, false, not, ◌&&◌, ◌||◌, cond, if◌then◌else◌, List, [], ◌∷◌, ◌++◌, length, length-append, get_or, take, take_all, filter, ap, sym, ◌∙◌, refl, Some, None, arith, rules}
+use Rattle.std.proofs.Common.{ℕ, ◌+◌, ◌^◌, ◌<◌, ◌≤◌, ◌≡◌, Bool, true, false, not, ◌&&◌, ◌||◌, cond, if◌then◌else◌, List, [], ◌∷◌, ◌++◌, length, length-append, get_or, take, take_all, filter, ap, sym, ◌∙◌, subst, refl, Some, None, arith, rules}
 use Rattle.std.proofs.lemmas.List.Folds.{list_any-append, list_any_more}
 use Rattle.std.proofs.lemmas.Bool.Decides.{nat_tests}
 use Rattle.std.proofs.lemmas.Map.Views.{any-filter_same}
@@ -8,7 +8,8 @@ use Rattle.mb_msg.specs.declared.id.ActorId.{ActorId}
 use Rattle.mb_actor.specs.ActorList.{has, is_same}
 use Rattle.mb_actor.specs.ActorSet.{contains}
 use Rattle.mb_actor.proofs.ActorSetLemmas.{no_bit_above}
-use Rattle.mb_actor.specs.Outbox.{IsOutbox}
+use Rattle.mb_actor.specs.Held.{CanHold}
+use Rattle.mb_actor.specs.Outbox.{IsOutbox, tray_of}
 use Rattle.mb_actor.specs.Tray.{Tray, refusal, is_actor, actor_of, may_spawn, spawn_of, spawns_of}
 use Rattle.mb_actor.specs.declared.actor_set.ActorSet.{ActorSet}
 use Rattle.mb_actor.specs.declared.effect.Effect.{Effect}
@@ -22,7 +23,8 @@ pub record Passes (tray : Tray) (e : Effect) : Type 0 where
   pub actor : is_actor tray (actor_of e) ≡ true
   pub may : may_spawn tray e ≡ true
 
-not_full : (a b c : Bool) (full other : OutboxError) → None ≡ (if a then Some full else (if b && c then None else Some other)) → (a ≡ false) × (b ≡ true) × (c ≡ true)
+not_full : (a b c : Bool) (full other : OutboxError) → None ≡ (if a then Some full else (if b && c then None else Some other)) →
+    (a ≡ false) × (b ≡ true) × (c ≡ true)
 not_full a b c full other h = grind rules
 
 pub passes : (tray : Tray) (e : Effect) → None ≡ refusal tray e → Passes tray e
@@ -34,15 +36,10 @@ same_bit : (set : ActorSet) (x k : ActorId) → is_same x k ≡ true → contain
 same_bit set x k same = grind arith
 
 -- of the prepared children those are left whose bits are set
-pub has-kept : (set : ActorSet) (prepared : List ActorId) → ((x : ActorId) → contains set x ≡ true → has prepared x ≡ true) → (x : ActorId) →
-    has (filter (contains set) prepared) x ≡ contains set x
+pub has-kept : (set : ActorSet) (prepared : List ActorId) → ((x : ActorId) → contains set x ≡ true → has prepared x ≡ true) →
+    (x : ActorId) → has (filter (contains set) prepared) x ≡ contains set x
 has-kept set prepared within x =
     any-filter_same (is_same x) (contains set) (contains set x) (same_bit set x) prepared ∙ grind (rules, within x)
-
--- the value of an outbox
-abbrev pub tray_of : Inside → Tray
-tray_of o =
-    record { effects = o.effects.items; actors = o.actors; unspawned = filter (contains o.unspawned) o.prepared.value.items }
 
 pub may-spawn : (o : Inside) → IsOutbox o → (tray : Tray) → tray_of o ≡ tray → (x : ActorId) →
     (contains o.unspawned x && not (contains o.asked x)) ≡ may_spawn tray (effect.Spawn x)
@@ -61,7 +58,8 @@ filter_filter : (p q : ActorId → Bool) (xs : List ActorId) → filter p (filte
 filter_filter p q [] = refl
 filter_filter p q (x ∷ xs) = kept_by_both (q x) p x (filter q xs) (filter (λ y. q y && p y) xs) (filter_filter p q xs)
 
-pub unspawned-settled : (o : Inside) → IsOutbox o → (left : ActorSet) → ((x : ActorId) → contains left x ≡ (contains o.unspawned x && not (contains o.asked x))) →
+pub unspawned-settled : (o : Inside) → IsOutbox o → (left : ActorSet) →
+    ((x : ActorId) → contains left x ≡ (contains o.unspawned x && not (contains o.asked x))) →
     filter (contains left) o.prepared.value.items
     ≡ filter (λ x. not (has (spawns_of o.effects.items) x)) (filter (contains o.unspawned) o.prepared.value.items)
 unspawned-settled o kept left says =
@@ -86,30 +84,40 @@ pub small : (set : ActorSet) → set.bits < 2 ^ 64 → (x : ActorId) → contain
 small set fits x here = grind (arith, no_bit_above set.bits x.0)
 
 -- a child whose spawn is not refused
-pub spawnable : (o : Inside) → IsOutbox o → (tray : Tray) → tray_of o ≡ tray → (e : Effect) → None ≡ refusal tray e → (x : ActorId) →
-    e ≡ effect.Spawn x → contains o.unspawned x ≡ true
+pub spawnable : (o : Inside) → IsOutbox o → (tray : Tray) → tray_of o ≡ tray → (e : Effect) → None ≡ refusal tray e →
+    (x : ActorId) → e ≡ effect.Spawn x → contains o.unspawned x ≡ true
 spawnable o kept tray view e goes x is =
     both_true _ _ (may-spawn o kept tray view x ∙ ap (may_spawn tray) (sym is) ∙ (passes tray e goes).may)
 
 or_comm : (a b : Bool) → (a || b) ≡ (b || a)
 or_comm a b = grind rules
 
-same_sym : (a b : ActorId) → is_same a b ≡ is_same b a
+pub same_sym : (a b : ActorId) → is_same a b ≡ is_same b a
 same_sym a b = grind arith
 
-has-push : (effects : List Effect) (e : Effect) (x : ActorId) → has (spawns_of (effects ++ e ∷ [])) x ≡ (has (spawns_of (e ∷ [])) x || has (spawns_of effects) x)
+has-push : (effects : List Effect) (e : Effect) (x : ActorId) →
+    has (spawns_of (effects ++ e ∷ [])) x ≡ (has (spawns_of (e ∷ [])) x || has (spawns_of effects) x)
 has-push effects e x =
     ap (λ l. has l x) (filter_map-append spawn_of effects (e ∷ [])) ∙ list_any-append (is_same x) (spawns_of effects) (spawns_of (e ∷ []))
     ∙ or_comm (has (spawns_of effects) x) (has (spawns_of (e ∷ [])) x)
 
 -- one effect more, and the set of those that are to be spawned with it
-pub with_effect : (o : Inside) → IsOutbox o → (tray : Tray) → tray_of o ≡ tray → (e : Effect) → None ≡ refusal tray e → (new : Inside) →
-    new.effects.items ≡ o.effects.items ++ e ∷ [] → new.unspawned ≡ o.unspawned → new.prepared ≡ o.prepared →
+pub with_effect : (o : Inside) → IsOutbox o → (tray : Tray) → tray_of o ≡ tray → (e : Effect) → None ≡ refusal tray e →
+    CanHold (record tray { effects = tray.effects ++ e ∷ [] }) → (new : Inside) → new.effects.items ≡ o.effects.items ++ e ∷ [] →
+    new.actors ≡ o.actors → new.unspawned ≡ o.unspawned → new.prepared ≡ o.prepared →
     ((x : ActorId) → contains new.asked x ≡ (has (spawns_of (e ∷ [])) x || contains o.asked x)) → IsOutbox new
-with_effect o kept tray view e goes new items same_set same_list says = record {
+with_effect o kept tray view e goes more new items same_actors same_set same_list says = record {
   prepared = λ x here. ap (λ p. has p.value.items x) same_list ∙ kept.prepared x (ap (λ s. contains s x) (sym same_set) ∙ here);
-  asked = λ x. says x ∙ ap (λ b. has (spawns_of (e ∷ [])) x || b) (kept.asked x) ∙ sym (has-push o.effects.items e x) ∙ ap (λ l. has (spawns_of l) x) (sym items);
+  asked = λ x. says x ∙ ap (λ b. has (spawns_of (e ∷ [])) x || b) (kept.asked x) ∙ sym (has-push o.effects.items e x)
+      ∙ ap (λ l. has (spawns_of l) x) (sym items);
   few = grind (arith, items, (passes tray e goes).room, ap (λ (t : Tray). length t.effects) view, length-append o.effects.items (e ∷ []));
+  held =
+      subst (λ (t : Tray). CanHold t)
+      (sym (same_tray (tray_of new) (record tray { effects = tray.effects ++ e ∷ [] })
+      (items ∙ ap (λ (t : Tray). t.effects ++ e ∷ []) view)
+      (same_actors ∙ ap (λ (t : Tray). t.actors) view)
+      ((λ i. filter (contains (same_set i)) (same_list i).value.items) ∙ ap (λ (t : Tray). t.unspawned) view)))
+      more;
 }
 
 pub asks_spawn : (e : Effect) (child x : ActorId) → e ≡ effect.Spawn child → is_same child x ≡ has (spawns_of (e ∷ [])) x

@@ -1,14 +1,22 @@
 -- How an outbox keeps which children may still be spawned.
-use Rattle.std.specs.Prelude.{◌≡◌, ◌≤◌, true, length}
+use Rattle.std.specs.Prelude.{◌≡◌, ◌≤◌, true, length, filter}
 use Rattle.mb_msg.specs.declared.id.ActorId.{ActorId}
+use Rattle.mb_msg.specs.Limits.{most_effects}
 use Rattle.mb_actor.specs.ActorList.{has}
 use Rattle.mb_actor.specs.ActorSet.{contains}
-use Rattle.mb_actor.specs.Tray.{spawns_of, most_effects}
+use Rattle.mb_actor.specs.Held.{CanHold}
+use Rattle.mb_actor.specs.Tray.{Tray, spawns_of}
 use Rattle.mb_actor.specs.declared.outbox.Outbox.TheInside.{Inside}
 
+-- what an outbox shows
+abbrev pub tray_of : Inside → Tray
+tray_of o =
+    record { effects = o.effects.items; actors = o.actors; unspawned = filter (contains o.unspawned) o.prepared.value.items }
+
 -- the children that may be spawned are prepared ones, the set of those that were asked for is that of the spawns among the
--- effects, and no more effects are there than a call may ask for (this project's own profile)
+-- effects, and they are such as an outbox can hold (this project's own profile)
 pub record IsOutbox (o : Inside) : Type 0 where
   pub prepared : (x : ActorId) → contains o.unspawned x ≡ true → has o.prepared.value.items x ≡ true
   pub asked : (x : ActorId) → contains o.asked x ≡ has (spawns_of o.effects.items) x
   pub few : length o.effects.items ≤ most_effects
+  pub held : CanHold (tray_of o)

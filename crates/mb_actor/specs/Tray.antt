@@ -2,6 +2,7 @@
 use Rattle.std.specs.Prelude.{ℕ, ◌==◌, Bool, true, not, ◌&&◌, if◌then◌else◌, List, [], ◌∷◌, ◌++◌, length, filter, nat_lt, nat_le, Option, Some, None, Result, Ok, Err}
 use Rattle.std.specs.List.{filter_map}
 use Rattle.mb_msg.specs.declared.id.ActorId.{ActorId}
+use Rattle.mb_msg.specs.Limits.{most_effects}
 use Rattle.mb_actor.specs.ActorList.{has}
 use Rattle.mb_actor.specs.declared.effect.Effect.{Effect}
 use Rattle.mb_actor.specs.declared.effect.Effect.TheVariants as effect
@@ -13,10 +14,6 @@ pub record Tray : Type 0 where
   pub effects : List Effect
   pub actors : ℕ
   pub unspawned : List ActorId
-
--- how many effects a call may ask for (this project's own profile: Akka carries them out at once, and has no limit)
-abbrev pub most_effects : ℕ
-most_effects = 16
 
 -- the actor that an effect names
 abbrev pub actor_of : Effect → ActorId

@@ -23,7 +23,8 @@ pub trait Actor: Drop {
     fn start(&mut self, out: &mut Outbox) -> Answer
         requires empty { out.old.effects ≡ [] }
         ensures begins { content self.new ≡ after self.new [] }
-        ensures given { IsAllowed (content self.old) (after self.old) (gives self.new) Call.Start (Some result) out.old out.new }
+        ensures given { IsAllowed (content self.old) (after self.old) (gives self.new) Call.Start (Some result)
+            out.old out.new }
         ensures kept { Keeps (after self.old) (gives self.old) out.old (after self.new) (gives self.new) out.new };
 
     /// Handles a message (`receive`). Whatever it answers, the content is that of one message more.
@@ -31,21 +32,24 @@ pub trait Actor: Drop {
         requires empty { out.old.effects ≡ [] }
         ensures goes_on { (l : List Message) → content self.old ≡ after self.old l →
             content self.new ≡ after self.new (l ++ message.now ∷ []) }
-        ensures given { IsAllowed (content self.old) (after self.old) (gives self.new) (Call.Receive message.now) (Some result) out.old out.new }
+        ensures given { IsAllowed (content self.old) (after self.old) (gives self.new) (Call.Receive message.now) (Some result)
+            out.old out.new }
         ensures kept { Keeps (after self.old) (gives self.old) out.old (after self.new) (gives self.new) out.new };
 
     /// Begins again after a failure (`preRestart` and `postRestart`): the content is that of no message.
     fn restart(&mut self, cause: Cause, out: &mut Outbox) -> Answer
         requires empty { out.old.effects ≡ [] }
         ensures begins { content self.new ≡ after self.new [] }
-        ensures given { IsAllowed (content self.old) (after self.old) (gives self.new) (Call.Restart cause) (Some result) out.old out.new }
+        ensures given { IsAllowed (content self.old) (after self.old) (gives self.new) (Call.Restart cause) (Some result)
+            out.old out.new }
         ensures kept { Keeps (after self.old) (gives self.old) out.old (after self.new) (gives self.new) out.new };
 
     /// Ends (`postStop`). It changes no content.
     fn stop(&mut self, out: &mut Outbox)
         requires empty { out.old.effects ≡ [] }
         ensures stays { content self.new ≡ content self.old }
-        ensures given { IsAllowed (content self.old) (after self.old) (gives self.new) Call.Stop None out.old out.new }
+        ensures given { IsAllowed (content self.old) (after self.old) (gives self.new) Call.Stop None
+            out.old out.new }
         ensures kept { Keeps (after self.old) (gives self.old) out.old (after self.new) (gives self.new) out.new };
 
     /// The content as one number, for the report.

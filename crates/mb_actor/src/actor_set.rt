@@ -1,6 +1,7 @@
 ghost use Rattle.std.specs.Prelude.{◌≡◌, ◌<◌, ◌&&◌, ◌||◌, not, false};
 ghost use Rattle.mb_actor.specs.ActorList.{is_same};
-ghost use Rattle.mb_actor.specs.ActorSet.{contains, most_actors};
+ghost use Rattle.mb_actor.specs.ActorSet.{contains};
+ghost use Rattle.mb_msg.specs.Limits.{most_actors};
 ghost use Rattle.mb_msg.specs.declared.id.ActorId.{ActorId};
 
 use mb_msg::ActorId;

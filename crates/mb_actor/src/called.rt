@@ -44,8 +44,10 @@ impl<A: Actor> Called<A> {
         requires empty { out.old.effects ≡ [] }
         ensures called { self.new.calls ≡ Call.Start ∷ self.old.calls }
         ensures begins { A.content self.new.actor ≡ A.after self.new.actor [] }
-        ensures given { IsAllowed (A.content self.old.actor) (A.after self.old.actor) (A.gives self.new.actor) Call.Start (Some result) out.old out.new }
-        ensures kept { Keeps (A.after self.old.actor) (A.gives self.old.actor) out.old (A.after self.new.actor) (A.gives self.new.actor) out.new }
+        ensures given { IsAllowed (A.content self.old.actor) (A.after self.old.actor) (A.gives self.new.actor)
+            Call.Start (Some result) out.old out.new }
+        ensures kept { Keeps (A.after self.old.actor) (A.gives self.old.actor) out.old
+            (A.after self.new.actor) (A.gives self.new.actor) out.new }
     {
         self.history.add(Call::Start);
         self.actor.start(out)
@@ -57,8 +59,10 @@ impl<A: Actor> Called<A> {
         ensures called { self.new.calls ≡ Call.Receive message.now ∷ self.old.calls }
         ensures goes_on { (l : List Message) → A.content self.old.actor ≡ A.after self.old.actor l →
             A.content self.new.actor ≡ A.after self.new.actor (l ++ message.now ∷ []) }
-        ensures given { IsAllowed (A.content self.old.actor) (A.after self.old.actor) (A.gives self.new.actor) (Call.Receive message.now) (Some result) out.old out.new }
-        ensures kept { Keeps (A.after self.old.actor) (A.gives self.old.actor) out.old (A.after self.new.actor) (A.gives self.new.actor) out.new }
+        ensures given { IsAllowed (A.content self.old.actor) (A.after self.old.actor) (A.gives self.new.actor)
+            (Call.Receive message.now) (Some result) out.old out.new }
+        ensures kept { Keeps (A.after self.old.actor) (A.gives self.old.actor) out.old
+            (A.after self.new.actor) (A.gives self.new.actor) out.new }
     {
         self.history.add(Call::Receive(*message));
         self.actor.receive(message, out)
@@ -69,8 +73,10 @@ impl<A: Actor> Called<A> {
         requires empty { out.old.effects ≡ [] }
         ensures called { self.new.calls ≡ Call.Restart cause ∷ self.old.calls }
         ensures begins { A.content self.new.actor ≡ A.after self.new.actor [] }
-        ensures given { IsAllowed (A.content self.old.actor) (A.after self.old.actor) (A.gives self.new.actor) (Call.Restart cause) (Some result) out.old out.new }
-        ensures kept { Keeps (A.after self.old.actor) (A.gives self.old.actor) out.old (A.after self.new.actor) (A.gives self.new.actor) out.new }
+        ensures given { IsAllowed (A.content self.old.actor) (A.after self.old.actor) (A.gives self.new.actor)
+            (Call.Restart cause) (Some result) out.old out.new }
+        ensures kept { Keeps (A.after self.old.actor) (A.gives self.old.actor) out.old
+            (A.after self.new.actor) (A.gives self.new.actor) out.new }
     {
         self.history.add(Call::Restart(cause));
         self.actor.restart(cause, out)
@@ -81,8 +87,10 @@ impl<A: Actor> Called<A> {
         requires empty { out.old.effects ≡ [] }
         ensures called { self.new.calls ≡ Call.Stop ∷ self.old.calls }
         ensures stays { A.content self.new.actor ≡ A.content self.old.actor }
-        ensures given { IsAllowed (A.content self.old.actor) (A.after self.old.actor) (A.gives self.new.actor) Call.Stop None out.old out.new }
-        ensures kept { Keeps (A.after self.old.actor) (A.gives self.old.actor) out.old (A.after self.new.actor) (A.gives self.new.actor) out.new }
+        ensures given { IsAllowed (A.content self.old.actor) (A.after self.old.actor) (A.gives self.new.actor)
+            Call.Stop None out.old out.new }
+        ensures kept { Keeps (A.after self.old.actor) (A.gives self.old.actor) out.old
+            (A.after self.new.actor) (A.gives self.new.actor) out.new }
     {
         self.history.add(Call::Stop);
         self.actor.stop(out);

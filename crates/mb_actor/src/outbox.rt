@@ -1,7 +1,8 @@
 ghost use Rattle.std.specs.Prelude.{◌≡◌, ◌<◌, ◌≤◌, [], length};
 ghost use Rattle.std.specs.List.{All};
-ghost use Rattle.mb_actor.specs.ActorSet.{most_actors};
-ghost use Rattle.mb_actor.specs.Tray.{added, answer_of, may_spawn, is_actor, actor_of, most_effects, refusal, settled};
+ghost use Rattle.mb_msg.specs.Limits.{most_actors, most_effects};
+ghost use Rattle.mb_actor.specs.Held.{CanHold};
+ghost use Rattle.mb_actor.specs.Tray.{added, answer_of, may_spawn, refusal, settled};
 
 use crate::actor_set::ActorSet;
 use crate::effect::Effect;
@@ -122,6 +123,7 @@ impl Outbox {
     pub fn effects(&self) -> &[Effect]
         ensures value { result.now ≡ self.now.effects }
         ensures few { length self.now.effects ≤ most_effects }
+        ensures held { CanHold self.now }
     {
         self.effects.as_slice()
     }

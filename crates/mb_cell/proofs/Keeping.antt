@@ -1,13 +1,17 @@
 -- Each rule keeps the fields of a cell and the queries of its journal together, and adds an entry that may come.
 use Rattle.std.proofs.Common.{◌≡◌, ℕ, ℤ, ◌-◌, ◌≤◌, List, [], ◌∷◌, ◌++◌, length, true, false, refl, ap, sym, ◌∙◌, subst, arith}
-use Rattle.std.specs.Prelude.{not, is_some, Option, Some, None}
+use Rattle.std.specs.Prelude.{not, nat_lt, ◌&&◌, is_some, Bool, Option, Some, None}
+use Rattle.std.specs.List.{list_all}
+use Rattle.std.proofs.lemmas.Bool.Decides.{nat_tests}
+use Rattle.mb_actor.specs.Held.{CanHold}
 use Rattle.mb_msg.specs.declared.envelope.Body.TheVariants as body
 use Rattle.mb_msg.specs.declared.envelope.Envelope.{Envelope}
 use Rattle.mb_msg.specs.declared.id.ActorId.{ActorId}
 use Rattle.mb_msg.specs.declared.system.SysMsg.TheVariants as system
-use Rattle.mb_actor.specs.Behaviour.{Moment, Reply, Call, AllowsSame}
-use Rattle.mb_actor.specs.Behaviour.Call.{Start, Receive}
-use Rattle.mb_actor.specs.Tray.{Tray}
+use Rattle.mb_actor.specs.Behaviour.{Moment, Reply, AllowsSame}
+use Rattle.mb_actor.specs.declared.call.Call.{Call}
+use Rattle.mb_actor.specs.declared.call.Call.TheVariants.{Start, Receive}
+use Rattle.mb_actor.specs.Tray.{Tray, actor_of, is_actor}
 use Rattle.mb_actor.specs.declared.answer.Answer.{Answer}
 use Rattle.mb_actor.specs.declared.effect.Effect.{Effect}
 use Rattle.mb_actor.specs.declared.message.Message.{Message}
@@ -21,7 +25,7 @@ use Rattle.mb_journal.specs.Entry.Outcome.{Applied}
 use Rattle.mb_journal.specs.Failure.{failure_of}
 use Rattle.mb_journal.specs.Identity.{Identity, is_guardian}
 use Rattle.mb_journal.specs.Incarnation.{messages, body_messages}
-use Rattle.mb_journal.specs.Lawful.{IsLawful, IsLawfulEntry, AreLawful, unspawned, moment}
+use Rattle.mb_journal.specs.Lawful.{IsLawful, IsLawfulEntry, AreLawful, calls, envelope_call, unspawned, moment}
 use Rattle.mb_journal.specs.Life.{phase, closed, has_start}
 use Rattle.mb_journal.specs.Log.{Log}
 use Rattle.mb_journal.specs.Phase.{phase_is}
@@ -33,7 +37,10 @@ use Rattle.mb_journal.proofs.TestLemmas.{none_excepted, if_false}
 use Rattle.mb_journal.proofs.CreateLemmas.{acts-create-well, acts-create_again, phase-create, messages-create, count-create}
 use Rattle.mb_journal.proofs.CreateLemmas.{phase-create_again, messages-create_again, count-create_again}
 use Rattle.mb_journal.proofs.EnvelopeLemmas.{acts-user-well, phase-handled, messages-handled, count-handled, failure_of-user}
-use Rattle.mb_journal.proofs.LawfulLemmas.{can_hold-none, lawful-create, lawful-create_again, lawful-user}
+use Rattle.mb_journal.proofs.CreateLemmas.{call_of-create, call_of-create_again}
+use Rattle.mb_actor.proofs.HeldLemmas.{can_hold-none}
+use Rattle.mb_journal.proofs.LawfulLemmas.{calls-called, calls-silent}
+use Rattle.mb_journal.proofs.LawfulLemmas.{lawful-create, lawful-create_again, lawful-user}
 use Rattle.mb_cell.specs.Agrees.{Agrees}
 use Rattle.mb_cell.specs.Identity.{childless}
 use Rattle.mb_cell.specs.Recorded.{recorded}
@@ -70,6 +77,19 @@ lawful-none : (who : Identity) (gives : Moment → Reply → Type 0) → IsLawfu
 unfolding AreLawful
 lawful-none who gives = record { entries = tt; within_limit = omega arith }
 
+-- where no actor is there, an outbox can hold nothing
+pub nothing_held : (tray : Tray) → tray.actors ≡ 0 → CanHold tray → tray.effects ≡ []
+nothing_held tray nobody held = by_first tray.effects tray.actors tray.unspawned nobody held.there
+  where
+    not_below : (x actors : ℕ) → actors ≡ 0 → (some rest : Bool) → ((some && nat_lt x actors) && rest) ≡ true → ⊥
+    not_below x actors none some rest h = grind (arith, nat_tests)
+
+    by_first : (effects : List Effect) (actors : ℕ) (unspawned : List ActorId) → actors ≡ 0 →
+        list_all (λ e. is_actor (record { effects = effects; actors = actors; unspawned = unspawned }) (actor_of e)) effects ≡ true →
+        effects ≡ []
+    by_first [] actors unspawned none there = refl
+    by_first (e ∷ effects) actors unspawned none there = absurd (not_below (actor_of e).0 actors none _ _ there)
+
 -- what is recorded of a call is what the actor of this number may give
 pub recorded-along : (new theirs : Moment → Reply → Type 0) (m : Moment) (r : Reply) → AllowsSame new theirs → recorded new m r → recorded theirs m r
 recorded-along new theirs m r same (given, gives_it, r_is) = (given, (same m given).0 gives_it, r_is)
@@ -104,7 +124,7 @@ module _ (who : Identity) (before : List Entry) (after : List Message → ℤ) (
       let fresh : phase who before ≡ Fresh = sym kept.same_phase ∙ is_fresh in
       record {
         lawful = lawful-more who (recorded gives) before _ kept.lawful
-            (lawful-create who (recorded gives) before number a [] fresh an_actor next given (can_hold-none _ _)) within;
+            (lawful-create who (recorded gives) before number a [] fresh an_actor next given (can_hold-none _ refl)) within;
         same_phase = sym (phase-create who before number a [] fresh ∙ if_false _ _ _ well);
         started = has_start-create before number (Some a);
         same_count = ap (λ k. k - 1) kept.same_count ∙ sym (count-create who before number a [] fresh ∙ if_false _ _ _ well);
@@ -144,7 +164,7 @@ module _ (who : Identity) (before : List Entry) (after : List Message → ℤ) (
       record {
         lawful = lawful-more who (recorded gives) before _ kept.lawful
             (lawful-user who (recorded gives) before envelope reading a [] kind value is_user an_actor addressed live open_reading
-            given (can_hold-none _ _)) within;
+            given (can_hold-none _ refl)) within;
         same_phase = kept.same_phase ∙ sym (phase-handled who before envelope reading (Some a) []);
         started = has_start-handled before envelope reading (Some a) ∙ kept.started;
         same_count = kept.same_count ∙ sym (count-handled who before envelope reading (Some a) [] (ap (λ q. phase_is q Ended) live)
@@ -313,3 +333,38 @@ module _ (this : ActorId) (old new : Log) (envelope : Envelope) (word reading : 
         (no_acts ∙ sym (acts-user-well (childless this old.limit) old.entries envelope reading (Some a) kind value is_user well))
         ∙ ap (λ (s : Seen). with_entry s (Handled envelope reading (Applied (Some a) []))) seen_is;
   }
+
+-- ---- the calls that were made
+
+-- the first Create calls the actor's start
+pub calls-start : (this : ActorId) (old new : Log) (number : ℕ) (a : Answer) (effects : List Effect) (was now : List Call) →
+    new ≡ record old { entries = System number system.Create (Applied (Some a) effects) ∷ old.entries; is_ready = false } →
+    phase (childless this old.limit) old.entries ≡ Fresh → was ≡ calls (childless this old.limit) old.entries → now ≡ Start ∷ was →
+    now ≡ calls (childless this new.limit) new.entries
+calls-start this old new number a effects was now added fresh was_is now_is =
+    now_is ∙ (ap (λ cs. Start ∷ cs) was_is
+    ∙ (sym (calls-called (childless this old.limit) old.entries (System number system.Create (Applied (Some a) effects)) Start
+    (call_of-create (childless this old.limit) old.entries number a effects fresh refl))
+    ∙ ap (λ (l : Log). calls (childless this l.limit) l.entries) (sym added)))
+
+-- another Create calls nothing
+pub calls-again : (this : ActorId) (old new : Log) (number : ℕ) (was : List Call) →
+    new ≡ record old { entries = System number system.Create (Applied None []) ∷ old.entries; is_ready = false } →
+    has_start old.entries ≡ true → was ≡ calls (childless this old.limit) old.entries → was ≡ calls (childless this new.limit) new.entries
+calls-again this old new number was added started was_is =
+    was_is
+    ∙ (sym (calls-silent (childless this old.limit) old.entries (System number system.Create (Applied None []))
+    (call_of-create_again (childless this old.limit) old.entries number started))
+    ∙ ap (λ (l : Log). calls (childless this l.limit) l.entries) (sym added))
+
+-- a message of a sender's calls the actor's receive
+pub calls-user : (this : ActorId) (old new : Log) (envelope : Envelope) (word : ℕ) (a : Answer) (effects : List Effect) (kind : ℕ) (value : ℤ)
+    (was now : List Call) →
+    new ≡ record old { entries = Handled envelope word (Applied (Some a) effects) ∷ old.entries; is_ready = false } →
+    envelope.body ≡ body.User kind value → was ≡ calls (childless this old.limit) old.entries →
+    now ≡ Receive (message.User kind value) ∷ was → now ≡ calls (childless this new.limit) new.entries
+calls-user this old new envelope word a effects kind value was now added is_user was_is now_is =
+    now_is ∙ (ap (λ cs. Receive (message.User kind value) ∷ cs) was_is
+    ∙ (sym (calls-called (childless this old.limit) old.entries (Handled envelope word (Applied (Some a) effects))
+    (Receive (message.User kind value)) (ap envelope_call is_user))
+    ∙ ap (λ (l : Log). calls (childless this l.limit) l.entries) (sym added)))

@@ -7,8 +7,9 @@ use Rattle.mb_msg.specs.declared.envelope.Body.TheVariants as body
 use Rattle.mb_msg.specs.declared.envelope.Envelope.{Envelope}
 use Rattle.mb_msg.specs.declared.system.SysMsg.TheVariants as system
 use Rattle.mb_status.specs.Mailbox.{mailbox_of, is_valid, should_process}
-use Rattle.mb_actor.specs.Behaviour.{Moment, Reply, Call}
-use Rattle.mb_actor.specs.Behaviour.Call.{Start}
+use Rattle.mb_actor.specs.Behaviour.{Moment, Reply}
+use Rattle.mb_actor.specs.declared.call.Call.{Call}
+use Rattle.mb_actor.specs.declared.call.Call.TheVariants.{Start}
 use Rattle.mb_actor.specs.declared.answer.Answer.{Answer}
 use Rattle.mb_journal.specs.Acts.{acts}
 use Rattle.mb_journal.specs.Acts.Act.{ResumeSelf}

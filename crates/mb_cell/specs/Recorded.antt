@@ -1,6 +1,9 @@
 -- What a cell records of what its actor's calls give.
-use Rattle.std.specs.Prelude.{◌≡◌, Option, Some, None}
-use Rattle.mb_actor.specs.Behaviour.{Moment, Reply}
+use Rattle.std.specs.Prelude.{◌≡◌, ℤ, List, Option, Some, None}
+use Rattle.mb_actor.specs.Behaviour.{Moment, Reply, IsAllowed}
+use Rattle.mb_actor.specs.Tray.{Tray}
+use Rattle.mb_actor.specs.declared.call.Call.{Call}
+use Rattle.mb_actor.specs.declared.message.Message.{Message}
 use Rattle.mb_actor.specs.declared.answer.Answer.{Answer}
 use Rattle.mb_actor.specs.declared.answer.Answer.TheVariants as answer
 
@@ -18,3 +21,7 @@ recorded_option (Some a) = Some (recorded_answer a)
 -- what is recorded of a call is what it may give, recorded so
 abbrev pub recorded : (Moment → Reply → Type 0) → Moment → Reply → Type 0
 recorded gives m r = (given : Reply) × gives m given × (r ≡ record { answer = recorded_option given.answer; effects = given.effects })
+
+-- what is recorded of a call, after each list of messages that leads to the content before it
+abbrev pub IsRecorded : ℤ → (List Message → ℤ) → (Moment → Reply → Type 0) → Call → Option Answer → Tray → Tray → Type 0
+IsRecorded content after gives call answer old new = IsAllowed content after (recorded gives) call answer old new

@@ -12,7 +12,7 @@ ghost use Rattle.mb_cell.specs.Recorded.{recorded};
 mod apply;
 
 use crate::act::Act;
-use mb_actor::{Actor, Behaviours, Outbox, Phase};
+use mb_actor::{Actor, Behaviours, Called, Outbox, Phase};
 use mb_journal::{Journal, ReadyError};
 use mb_msg::ActorId;
 use std::alloc::Global;
@@ -24,7 +24,7 @@ use std::marker::{Model, PhantomData};
 #[derive(Drop)]
 pub struct Cell<A: Actor, K: Behaviours> {
     this: ActorId,
-    actor: A,
+    actor: Called<A>,
     outbox: Outbox,
     journal: Journal,
     phase: Phase,
@@ -40,6 +40,7 @@ impl<A: Actor, K: Behaviours> Model for Cell<A, K> {
 
     ghost Value = { Seen };
 
+    ghost use Rattle.mb_journal.specs.Lawful.{calls};
     ghost use Rattle.mb_cell.specs.Agrees.{Agrees};
     ghost use Rattle.mb_cell.specs.Identity.{childless};
     ghost use Rattle.mb_cell.specs.NextAct.{act_of};
@@ -52,16 +53,18 @@ impl<A: Actor, K: Behaviours> Model for Cell<A, K> {
     } };
 
     ghost invariant = { λ c.
-        (A.after c.actor ≡ K.after c.this.0)
-        × AllowsSame (A.gives c.actor) (K.gives c.this.0)
+        (A.after c.actor.actor ≡ K.after c.this.0)
+        × AllowsSame (A.gives c.actor.actor) (K.gives c.this.0)
+        × (c.actor.calls ≡ calls (childless c.this c.journal.limit) c.journal.entries)
         × Agrees (childless c.this c.journal.limit) c.journal.entries (K.after c.this.0) (K.gives c.this.0)
-        c.phase c.count (A.content c.actor) c.outbox };
+        c.phase c.count (A.content c.actor.actor) c.outbox };
 }
 
 impl<A: Actor, K: Behaviours> Cell<A, K> {
     /// The cell of an actor that is not started yet, whose journal may have so many entries. It takes no memory yet.
     ///
-    /// The actor is a child of the guardian, which has no cell.
+    /// The actor is a child of the guardian, which has no cell, and is told of no other actor, so that each effect that it
+    /// asks for is refused.
     pub fn new(alloc: Global, this: ActorId, actor: A, journal_limit: u32) -> Self
         requires not_guardian { this.0 ≢ 0 }
         requires unused { A.content actor ≡ A.after actor [] }
@@ -77,10 +80,11 @@ impl<A: Actor, K: Behaviours> Cell<A, K> {
         ensures suspended { count_of result.who result.journal ≡ 1 }
         ensures lawful { IsLawful result.who (recorded (K.gives result.who.this.0)) result.journal }
     {
+        let nobody: Vec<ActorId> = Vec::new(alloc);
         Cell {
             this,
-            actor,
-            outbox: Outbox::new(0, Vec::new(alloc)),
+            actor: Called::new(actor),
+            outbox: Outbox::new(0, &nobody),
             journal: Journal::new(alloc, journal_limit),
             phase: Phase::Fresh,
             count: 1,

@@ -181,7 +181,8 @@ fn handle_all_alone<A: Actor>(
     kinds: &[u32],
     expected: &[Arrival],
 ) -> i64 {
-    let _answer = actor.restart(Cause::Init, &mut Outbox::new(0, Vec::new(alloc)));
+    let nobody: Vec<ActorId> = Vec::new(alloc);
+    let _answer = actor.restart(Cause::Init, &mut Outbox::new(0, &nobody));
     handle_all::<A, Brand>(rt, alloc, actor, limit, kinds, expected)
 }
 

@@ -4,12 +4,12 @@ use Rattle.std.specs.Prelude.{not, ◌&&◌, ◌||◌, if◌then◌else◌, Some
 use Rattle.std.proofs.lemmas.List.{append-nil}
 use Rattle.mb_msg.specs.declared.supervision.Cause.TheVariants as cause
 use Rattle.mb_msg.specs.declared.system.SysMsg.TheVariants as system
-use Rattle.mb_actor.specs.Behaviour.Call.{Start}
+use Rattle.mb_actor.specs.declared.call.Call.TheVariants.{Start}
 use Rattle.mb_actor.specs.declared.answer.Answer.{Answer}
 use Rattle.mb_actor.specs.declared.effect.Effect.{Effect}
 use Rattle.mb_journal.specs.Acts.{acts, effect_acts, fail_acts, to_each, report}
 use Rattle.mb_journal.specs.Acts.Act.{SuspendSelf, ResumeSelf}
-use Rattle.mb_journal.specs.Effects.{spawns_of}
+use Rattle.mb_actor.specs.Tray.{spawns_of}
 use Rattle.mb_journal.specs.Entry.{Entry, is_failed}
 use Rattle.mb_journal.specs.Entry.Entry.{System}
 use Rattle.mb_journal.specs.Entry.Outcome.{Applied}

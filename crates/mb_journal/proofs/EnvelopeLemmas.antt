@@ -12,7 +12,7 @@ use Rattle.mb_actor.specs.declared.effect.Effect.{Effect}
 use Rattle.mb_journal.specs.Acts.{acts, effect_acts, failure_acts, envelope_acts, to_each, report}
 use Rattle.mb_journal.specs.Acts.Act.{SuspendSelf}
 use Rattle.mb_journal.specs.Aside.{ever_aside, next_number}
-use Rattle.mb_journal.specs.Effects.{spawns_of}
+use Rattle.mb_actor.specs.Tray.{spawns_of}
 use Rattle.mb_journal.specs.Entry.{Entry, is_failed}
 use Rattle.mb_journal.specs.Entry.Entry.{Handled}
 use Rattle.mb_journal.specs.Entry.Outcome.{Applied}

@@ -8,7 +8,7 @@ use Rattle.mb_msg.specs.declared.supervision.Directive.{Directive}
 use Rattle.mb_msg.specs.declared.supervision.Directive.TheVariants as directive
 use Rattle.mb_msg.specs.declared.system.SysMsg.{SysMsg}
 use Rattle.mb_msg.specs.declared.system.SysMsg.TheVariants as system
-use Rattle.mb_actor.specs.Behaviour.Call.{Start, Receive, Restart, Stop}
+use Rattle.mb_actor.specs.declared.call.Call.TheVariants.{Start, Receive, Restart, Stop}
 use Rattle.mb_actor.specs.declared.answer.Answer.{Answer}
 use Rattle.mb_actor.specs.declared.answer.Answer.TheVariants as answer
 use Rattle.mb_actor.specs.declared.effect.Effect.{Effect}

@@ -1,25 +1,27 @@
 -- When a Create or a message of the user's may come after a journal; the numbers of system messages.
-use Rattle.std.proofs.Common.{◌≤◌, length, arith, ◌≡◌, ℕ, ℤ, ◌+◌, List, [], ◌∷◌, true, false, refl, ap, subst, sym, ◌∙◌, inl, eq-eqb}
-use Rattle.std.specs.Prelude.{filter, not, ◌&&◌, if◌then◌else◌, Option, Some, None, ◌==◌}
+use Rattle.std.proofs.Common.{◌≤◌, length, arith, ◌≡◌, ℕ, ℤ, ◌+◌, List, [], ◌∷◌, ◌++◌, true, false, refl, ap, subst, sym, ◌∙◌, inl, eq-eqb}
+use Rattle.std.specs.Prelude.{filter, option_to_list, not, ◌&&◌, if◌then◌else◌, Option, Some, None, ◌==◌}
 use Rattle.mb_msg.specs.declared.envelope.Body.TheVariants as body
 use Rattle.mb_msg.specs.declared.envelope.Envelope.{Envelope}
 use Rattle.mb_msg.specs.declared.id.ActorId.{ActorId}
 use Rattle.mb_msg.specs.declared.system.SysMsg.{SysMsg}
 use Rattle.mb_msg.specs.declared.system.SysMsg.TheVariants as system
-use Rattle.mb_actor.specs.Behaviour.{Moment, Reply, Call}
-use Rattle.mb_actor.specs.Behaviour.Call.{Start, Receive}
+use Rattle.mb_actor.specs.Behaviour.{Moment, Reply}
+use Rattle.mb_actor.specs.declared.call.Call.{Call}
+use Rattle.mb_actor.specs.declared.call.Call.TheVariants.{Start, Receive}
 use Rattle.mb_actor.specs.declared.answer.Answer.{Answer}
 use Rattle.mb_actor.specs.declared.effect.Effect.{Effect}
 use Rattle.mb_actor.specs.declared.message.Message.TheVariants as message
 use Rattle.mb_journal.specs.Aside.{ever_aside, aside, next_front, next_number, first_of_list, without_number}
-use Rattle.mb_journal.specs.ActorList.{has}
-use Rattle.mb_journal.specs.Effects.{lasting_effects, spawns_of}
+use Rattle.mb_actor.specs.ActorList.{has}
+use Rattle.mb_actor.specs.Tray.{spawns_of}
+use Rattle.mb_journal.specs.Effects.{lasting_effects}
 use Rattle.mb_journal.specs.Entry.{Entry, Outcome}
 use Rattle.mb_journal.specs.Entry.Entry.{Handled, System}
 use Rattle.mb_journal.specs.Entry.Outcome.{Applied}
-use Rattle.mb_journal.specs.Held.{CanHold}
+use Rattle.mb_actor.specs.Held.{CanHold}
 use Rattle.mb_journal.specs.Identity.{Identity, is_guardian}
-use Rattle.mb_journal.specs.Lawful.{IsLawful, AreLawful, unspawned, IsLawfulEntry, IsGiven, IsExpected, envelope_call, moment}
+use Rattle.mb_journal.specs.Lawful.{IsLawful, AreLawful, calls, call_of, unspawned, IsLawfulEntry, IsGiven, IsExpected, envelope_call, moment}
 use Rattle.mb_journal.specs.Life.{phase, closed, has_start}
 use Rattle.mb_journal.specs.Phase.{phase_is}
 use Rattle.mb_journal.specs.Reading.{IsOpen}
@@ -28,14 +30,10 @@ use Rattle.mb_actor.specs.declared.phase.Phase.TheVariants.{Fresh, Live, Ending,
 use Rattle.mb_journal.proofs.CreateLemmas.{sets_aside-create, call_of-create, call_of-create_again}
 use Rattle.mb_journal.proofs.TestLemmas.{none_excepted, if_true, if_same}
 
--- an outbox can hold no effects
-pub can_hold-none : (actors : ℕ) (prepared : List ActorId) → CanHold actors prepared []
-can_hold-none actors prepared = record { few = omega arith; there = refl; prepared = refl; once = refl }
-
 -- the first Create of an actor that is not the guardian may come, with an answer and effects that its start may give
 pub lawful-create : (who : Identity) (gives : Moment → Reply → Type 0) (before : List Entry) (number : ℕ) (a : Answer) (effects : List Effect) →
     phase who before ≡ Fresh → is_guardian who ≡ false → number ≡ next_number before →
-    gives (moment who before Start) (record { answer = Some a; effects = effects }) → CanHold who.actors (unspawned who before) effects →
+    gives (moment who before Start) (record { answer = Some a; effects = effects }) → CanHold (record { effects = effects; actors = who.actors; unspawned = unspawned who before }) →
     IsLawfulEntry who gives before (System number system.Create (Applied (Some a) effects))
 lawful-create who gives before number a effects fresh an_actor next given held = (
   record {
@@ -68,7 +66,7 @@ pub lawful-user : (who : Identity) (gives : Moment → Reply → Type 0) (before
     envelope.body ≡ body.User kind value → is_guardian who ≡ false → envelope.to ≡ who.this → phase who before ≡ Live →
     IsOpen who before reading →
     gives (moment who before (Receive (message.User kind value))) (record { answer = Some a; effects = effects }) →
-    CanHold who.actors (unspawned who before) effects →
+    CanHold (record { effects = effects; actors = who.actors; unspawned = unspawned who before }) →
     IsLawfulEntry who gives before (Handled envelope reading (Applied (Some a) effects))
 lawful-user who gives before envelope reading a effects kind value is_user an_actor addressed live open_reading given held = record {
   an_actor = an_actor;
@@ -121,3 +119,20 @@ pub unspawned-none : (who : Identity) (e : Entry) (before : List Entry) → spaw
 unfolding unspawned
 unspawned-none who e before none =
     ap (λ spawned. filter (λ x. not (has spawned x)) (unspawned who before)) none ∙ none_excepted (unspawned who before)
+
+-- ---- the calls that a journal records
+
+pub calls-none : (who : Identity) → calls who [] ≡ []
+unfolding calls
+calls-none who = refl
+
+-- an entry that records a call adds it, and any other adds none
+pub calls-called : (who : Identity) (before : List Entry) (e : Entry) (call : Call) → call_of who before e ≡ Some call →
+    calls who (e ∷ before) ≡ call ∷ calls who before
+unfolding calls
+calls-called who before e call is_call = ap (λ (c : Option Call). option_to_list c ++ calls who before) is_call
+
+pub calls-silent : (who : Identity) (before : List Entry) (e : Entry) → call_of who before e ≡ None →
+    calls who (e ∷ before) ≡ calls who before
+unfolding calls
+calls-silent who before e no_call = ap (λ (c : Option Call). option_to_list c ++ calls who before) no_call

@@ -2,6 +2,7 @@ pub mod CountLemmas
 pub mod CreateLemmas
 pub mod EnvelopeLemmas
 mod Examples
+pub mod Fold
 pub mod StoredLemmas
 pub mod LawfulLemmas
 mod PhaseLaw

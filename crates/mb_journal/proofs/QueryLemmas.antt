@@ -2,7 +2,8 @@
 use Rattle.std.proofs.Common.{◌≡◌, ◌+◌, ◌-◌, List, [], ◌∷◌, ◌++◌, Bool, true, false, ap, sym, ◌∙◌, append_assoc}
 use Rattle.std.specs.Prelude.{not, ◌&&◌, ◌||◌, if◌then◌else◌}
 use Rattle.std.proofs.lemmas.List.{append-nil}
-use Rattle.mb_journal.specs.Effects.{applies, lasting_effects, spawns_of}
+use Rattle.mb_actor.specs.Tray.{spawns_of}
+use Rattle.mb_journal.specs.Effects.{applies, lasting_effects}
 use Rattle.mb_journal.specs.Entry.{Entry}
 use Rattle.mb_journal.specs.Failure.{failed, is_failure, culprit_of, is_resume_of_failure}
 use Rattle.mb_journal.specs.Failure.FailedBy.{Nobody, Itself}

@@ -2,7 +2,7 @@
 use Rattle.std.proofs.Common.{◌≡◌, List, [], ◌∷◌, Bool, true, false, refl, ap}
 use Rattle.std.specs.Prelude.{not, ◌&&◌, ◌||◌, if◌then◌else◌, filter}
 use Rattle.mb_msg.specs.declared.id.ActorId.{ActorId}
-use Rattle.mb_journal.specs.ActorList.{has}
+use Rattle.mb_actor.specs.ActorList.{has}
 
 -- a test that fails fails beside any other
 pub and-false : (b : Bool) → (b && false) ≡ false

@@ -15,8 +15,9 @@ use Rattle.mb_msg.specs.declared.system.SysMsg.TheVariants as system
 use Rattle.mb_actor.specs.declared.answer.Answer.{Answer}
 use Rattle.mb_actor.specs.declared.effect.Effect.{Effect}
 use Rattle.mb_actor.specs.declared.effect.Effect.TheVariants as effect
-use Rattle.mb_journal.specs.ActorList.{is_same, has, without}
-use Rattle.mb_journal.specs.Effects.{spawns_of}
+use Rattle.mb_actor.specs.ActorList.{is_same, has}
+use Rattle.mb_journal.specs.ActorList.{without}
+use Rattle.mb_actor.specs.Tray.{spawns_of}
 use Rattle.mb_journal.specs.Entry.{Entry, outcome_answer, outcome_effects, is_failed}
 use Rattle.mb_journal.specs.Entry.Entry.{Handled, System, Dropped}
 use Rattle.mb_journal.specs.Entry.Outcome.{Applied, SetAside}

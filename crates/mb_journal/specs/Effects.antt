@@ -1,11 +1,8 @@
 -- What the effects that an entry records change of the actor's own lists.
-use Rattle.std.specs.Prelude.{Bool, false, ◌&&◌, List, [], Option, Some, None}
-use Rattle.std.specs.List.{filter_map}
-use Rattle.mb_msg.specs.declared.id.ActorId.{ActorId}
+use Rattle.std.specs.Prelude.{Bool, false, ◌&&◌, List, []}
 use Rattle.mb_msg.specs.declared.system.SysMsg.{SysMsg}
 use Rattle.mb_msg.specs.declared.system.SysMsg.TheVariants as system
 use Rattle.mb_actor.specs.declared.effect.Effect.{Effect}
-use Rattle.mb_actor.specs.declared.effect.Effect.TheVariants as effect
 use Rattle.mb_journal.specs.Entry.{Entry, is_applied, outcome_effects, outcome_of}
 use Rattle.mb_journal.specs.Entry.Entry.{Handled, System, Dropped}
 
@@ -21,11 +18,3 @@ abbrev pub lasting_effects : Entry → List Effect
 lasting_effects (System number system.Terminate outcome) = []
 lasting_effects (System number (system.Died x) outcome) = []
 lasting_effects e = outcome_effects (outcome_of e)
-
-abbrev pub spawn_of : Effect → Option ActorId
-spawn_of (effect.Spawn x) = Some x
-spawn_of _ = None
-
--- the children that the effects start, in order
-abbrev pub spawns_of : List Effect → List ActorId
-spawns_of effects = filter_map spawn_of effects

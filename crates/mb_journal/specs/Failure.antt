@@ -12,7 +12,7 @@ use Rattle.mb_msg.specs.declared.system.SysMsg.{SysMsg}
 use Rattle.mb_msg.specs.declared.system.SysMsg.TheVariants as system
 use Rattle.mb_actor.specs.declared.answer.Answer.{Answer}
 use Rattle.mb_actor.specs.declared.answer.Answer.TheVariants as answer
-use Rattle.mb_journal.specs.ActorList.{is_same, has}
+use Rattle.mb_actor.specs.ActorList.{is_same, has}
 use Rattle.mb_journal.specs.Effects.{applies}
 use Rattle.mb_journal.specs.Entry.{Entry, outcome_answer, answered_failed}
 use Rattle.mb_journal.specs.Entry.Entry.{Handled, System}

@@ -10,18 +10,20 @@ use Rattle.mb_msg.specs.declared.supervision.Cause.{Cause}
 use Rattle.mb_msg.specs.declared.supervision.Cause.TheVariants as cause
 use Rattle.mb_msg.specs.declared.system.SysMsg.{SysMsg}
 use Rattle.mb_msg.specs.declared.system.SysMsg.TheVariants as system
-use Rattle.mb_actor.specs.Behaviour.{Moment, Reply, Call}
-use Rattle.mb_actor.specs.Behaviour.Call.{Start, Receive, Restart, Stop}
+use Rattle.mb_actor.specs.Behaviour.{Moment, Reply}
+use Rattle.mb_actor.specs.declared.call.Call.{Call}
+use Rattle.mb_actor.specs.declared.call.Call.TheVariants.{Start, Receive, Restart, Stop}
 use Rattle.mb_actor.specs.declared.answer.Answer.{Answer}
 use Rattle.mb_actor.specs.declared.effect.Effect.{Effect}
 use Rattle.mb_actor.specs.declared.message.Message.TheVariants as message
-use Rattle.mb_journal.specs.ActorList.{has}
+use Rattle.mb_actor.specs.ActorList.{has}
 use Rattle.mb_journal.specs.Aside.{sets_aside, next_front, next_number}
-use Rattle.mb_journal.specs.Effects.{lasting_effects, spawns_of}
+use Rattle.mb_actor.specs.Tray.{spawns_of}
+use Rattle.mb_journal.specs.Effects.{lasting_effects}
 use Rattle.mb_journal.specs.Entry.{Entry, Outcome, is_applied}
 use Rattle.mb_journal.specs.Entry.Entry.{Handled, System, Dropped}
 use Rattle.mb_journal.specs.Entry.Outcome.{Applied, SetAside}
-use Rattle.mb_journal.specs.Held.{CanHold}
+use Rattle.mb_actor.specs.Held.{CanHold}
 use Rattle.mb_journal.specs.Identity.{Identity, is_guardian}
 use Rattle.mb_journal.specs.Incarnation.{messages}
 use Rattle.mb_journal.specs.Life.{phase, closed, is_start, is_restart, is_ending, is_last}
@@ -85,7 +87,7 @@ pub record IsGivenBy (who : Identity) (gives : Moment → Reply → Type 0) (bef
     (effects : List Effect) : Type 0 where
   pub answered : IsAnswered call a
   pub allowed : gives (moment who before call) (record { answer = a; effects = effects })
-  pub held : CanHold who.actors (unspawned who before) effects
+  pub held : CanHold (record { effects = effects; actors = who.actors; unspawned = unspawned who before })
 
 -- nothing is recorded where no call is made
 abbrev pub IsGiven : Identity → (Moment → Reply → Type 0) → List Entry → Option Call → Option Answer → List Effect → Type 0

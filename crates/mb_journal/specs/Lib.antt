@@ -4,7 +4,6 @@ pub mod Aside
 pub mod Effects
 pub mod Entry
 pub mod Failure
-pub mod Held
 pub mod Identity
 pub mod Incarnation
 pub mod Lawful

@@ -5,8 +5,10 @@ use Rattle.std.specs.List.{list_any}
 use Rattle.mb_msg.specs.declared.id.ActorId.{ActorId}
 use Rattle.mb_msg.specs.declared.system.SysMsg.{SysMsg}
 use Rattle.mb_msg.specs.declared.system.SysMsg.TheVariants as system
-use Rattle.mb_journal.specs.ActorList.{is_same, without}
-use Rattle.mb_journal.specs.Effects.{applies, lasting_effects, spawns_of}
+use Rattle.mb_actor.specs.ActorList.{is_same}
+use Rattle.mb_journal.specs.ActorList.{without}
+use Rattle.mb_actor.specs.Tray.{spawns_of}
+use Rattle.mb_journal.specs.Effects.{applies, lasting_effects}
 use Rattle.mb_journal.specs.Entry.{Entry, answered_failed}
 use Rattle.mb_journal.specs.Entry.Entry.{System}
 use Rattle.mb_journal.specs.Entry.Outcome.{Applied}

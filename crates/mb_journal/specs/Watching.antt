@@ -7,7 +7,8 @@ use Rattle.mb_msg.specs.declared.id.ActorId.{ActorId}
 use Rattle.mb_msg.specs.declared.system.SysMsg.TheVariants as system
 use Rattle.mb_actor.specs.declared.effect.Effect.{Effect}
 use Rattle.mb_actor.specs.declared.effect.Effect.TheVariants as effect
-use Rattle.mb_journal.specs.ActorList.{is_same, has, without, joined}
+use Rattle.mb_actor.specs.ActorList.{is_same, has}
+use Rattle.mb_journal.specs.ActorList.{without, joined}
 use Rattle.mb_journal.specs.Effects.{lasting_effects}
 use Rattle.mb_journal.specs.Entry.{Entry}
 use Rattle.mb_journal.specs.Entry.Entry.{Handled, System}

@@ -17,7 +17,8 @@ pub enum Body {
 }
 
 /// A message on its way, with what names it: of all envelopes of one sender each has a number of its own.
-/// The fields lie in an order that takes 32 bytes, and it is the order of comparison too.
+///
+/// The fields lie in an order that takes 32 bytes. Envelopes compare by them in this order, which no rule rests on.
 #[derive(Clone, Copy, Debug, PartialEq, Eq, PartialOrd, Ord, Hash)]
 pub struct Envelope {
     /// Who sent it.

@@ -7,6 +7,8 @@ mod id;
 pub mod limits;
 mod supervision;
 mod system;
+#[cfg(test)]
+mod tests;
 
 pub use dead_letter::{DeadLetter, Why};
 pub use envelope::{Body, Envelope};

@@ -1,5 +1,8 @@
 //! The limits of the product.
 
+ghost use Rattle.std.specs.Prelude.{◌≡◌};
+ghost use Rattle.mb_msg.specs.Limits.{most_actors, most_outside_senders, most_effects};
+
 /// How many actors a plan has at most, the guardian among them. It is the number of the first outside sender too.
 pub const ACTORS: u32 = 64;
 
@@ -8,3 +11,10 @@ pub const OUTSIDE_SENDERS: u32 = 16;
 
 /// How many effects one call of an actor may ask for.
 pub const EFFECTS: usize = 16;
+
+/// A law: the constants are the limits that are stated.
+pub fn are_as_stated()
+    ensures actors { ACTORS ≡ most_actors }
+    ensures outside_senders { OUTSIDE_SENDERS ≡ most_outside_senders }
+    ensures effects { EFFECTS ≡ most_effects }
+{}

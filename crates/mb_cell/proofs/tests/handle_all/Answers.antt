@@ -26,6 +26,10 @@ loop-number-init g c =
           (started-running (recorded (g.K.Behaviours.gives c.apply_system.new.self.who.this.0)) c.make_ready.new.cell c.apply_system.new.self 0
           c.apply_system.ensures.applied c.apply_system.ensures.lawful an_actor nothing refl));
       done = search rules;
+      this_one =
+          ap (λ (s : Seen). s.who.this) c.next_act-2.ensures.rest ∙ (ap (λ (s : Seen). s.who.this) c.next_act.ensures.rest
+          ∙ (ap (λ (s : Seen). s.who.this) c.apply_system.ensures.applied.adds ∙ (ap (λ (s : Seen). s.who.this) c.make_ready.ensures.same
+          ∙ ap (λ (s : Seen). s.who.this) c.new-cell.ensures.fresh)));
     }
 
 pub loop-number-preserved : goal.loop-number-preserved
@@ -36,4 +40,8 @@ loop-number-preserved g c = record {
       (subst (λ (e : Envelope). IsUser e.body) (sym c.user.ensures) tt)
       (subst (λ (s : Seen). IsRunning s.who s.journal) (sym c.make_ready-in-loop-number.ensures.same) c.loop-number.invariant.running));
   done = search rules;
+  this_one =
+      ap (λ (s : Seen). s.who.this) c.next_act-in-loop-number.ensures.rest
+      ∙ (ap (λ (s : Seen). s.who.this) c.apply_envelope.ensures.handled.adds
+      ∙ (ap (λ (s : Seen). s.who.this) c.make_ready-in-loop-number.ensures.same ∙ c.loop-number.invariant.this_one));
 }

@@ -2,6 +2,7 @@ use Rattle.std.proofs.Common.{sym, ◌∙◌, ap, refl, arith, filter}
 use Rattle.mb_actor.specs.ActorList.{has}
 use Rattle.mb_actor.specs.ActorSet.{contains}
 use Rattle.mb_actor.specs.Tray.{spawns_of}
+use Rattle.mb_actor.proofs.HeldLemmas.{can_hold-none}
 use Rattle.mb_actor.proofs.OutboxLemmas.{filter_own, all_prepared, one_more, same_tray}
 use Rattle.mb_actor.proofs.outbox.Outbox.new.Goals as goal
 
@@ -18,6 +19,7 @@ invariant_of-result c =
       prepared = λ x here. sym (all x) ∙ here;
       asked = λ x. c.new-2.ensures x ∙ ap (λ l. has (spawns_of l) x) (sym c.new.ensures);
       few = grind (arith, c.new.ensures);
+      held = can_hold-none _ c.new.ensures;
     }
 
 pub returns : goal.returns

@@ -1,5 +1,6 @@
 use Rattle.std.proofs.Common.{◌∙◌, ap, refl}
 use Rattle.mb_actor.specs.Tray.{settled}
+use Rattle.mb_actor.proofs.HeldLemmas.{can_hold-none}
 use Rattle.mb_actor.proofs.OutboxLemmas.{unspawned-settled, same_tray}
 use Rattle.mb_actor.proofs.outbox.Outbox.settle.Goals as goal
 

@@ -1,0 +1,13 @@
+//! What an outbox answers, what an actor may ask for in it, and which call each call of an actor makes.
+
+mod asking;
+mod calls;
+mod refusals;
+
+use crate::{Effect, Outbox};
+use std::process::Abort;
+
+/// Compares what an outbox holds with what is expected.
+fn holds(rt: &impl Abort, out: &Outbox, expected: &[Effect]) {
+    assert_eq!(rt; out.effects(), expected);
+}
