@@ -11,9 +11,13 @@ SOURCES := crates.txt HANDLES $(shell find crates -path '*/out' -prune -o \( -na
 run: $(PROGRAM)
 	@$(PROGRAM) < $(SCENARIO)
 
-# The gate: every proof from nothing, the must-fail edits, the tests, the program by two compilers.
+# The gate: the list of definitions, every proof from nothing, the must-fail edits, the tests, the program by two
+# compilers, and the program as a user runs it.
 test:
+	tools/check_definitions
 	rt ci
+	@$(MAKE) --no-print-directory $(PROGRAM)
+	tools/check_program $(PROGRAM)
 
 # Proves what changed since the last check, lowest crate first.
 check:
@@ -21,13 +25,14 @@ check:
 
 # What a handled message costs: a million messages through a cell and its journal.
 bench:
-	cd crates/bench && rt run
+	@tools/prove bench
+	@cd crates/bench && rt run
 
 # Installs the one binary: make install [PREFIX=path]
 install: $(PROGRAM)
 	install -D -m 755 $(PROGRAM) $(DESTDIR)$(PREFIX)/bin/mailrun
 
 $(PROGRAM): $(SOURCES)
-	@echo "proving and building $(PROGRAM): a few minutes the first time" >&2
-	@cd crates/mailrun && mkdir -p out && rt run < stdin > out/make.log 2>&1 || { cat out/make.log >&2; exit 1; }
+	@tools/prove mailrun
+	@cd crates/mailrun && rt run < stdin > out/make.log 2>&1 || { cat out/make.log >&2; exit 1; }
 	@touch $(PROGRAM)

@@ -2,11 +2,12 @@
 use Rattle.std.specs.Prelude.{ℕ, ℤ, pos, ◌+ℤ◌, List, fold, replicate}
 use Rattle.std.specs.Int.{w64, saturate_signed}
 use Rattle.mb_actor.specs.declared.message.Message.{Message}
-use Rattle.mb_actor.specs.declared.message.Message.TheVariants.{User, Terminated}
+use Rattle.mb_actor.specs.declared.message.Message.TheVariants.{User, Control, Terminated}
 
 -- the sum after one message, held at the ends of 64 bits
 abbrev pub after_message : ℤ → Message → ℤ
 after_message sum (User kind value) = saturate_signed w64 (sum +ℤ value)
+after_message sum (Control kind value) = saturate_signed w64 (sum +ℤ value)
 after_message sum (Terminated who) = sum
 
 -- the sum of the messages' values, added in order

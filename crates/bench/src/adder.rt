@@ -36,12 +36,11 @@ impl Actor for Adder {
 
     fn receive(&mut self, message: &Message, _out: &mut Outbox) -> Answer {
         match *message {
-            Message::User { value, .. } => {
-                self.sum = self.sum.saturating_add(value);
-                Answer::Handled
-            }
-            Message::Terminated(_) => Answer::Unhandled,
+            Message::User { value, .. } => self.sum = self.sum.saturating_add(value),
+            Message::Control { value, .. } => self.sum = self.sum.saturating_add(value),
+            Message::Terminated(_) => return Answer::Unhandled,
         }
+        Answer::Handled
     }
 
     fn restart(&mut self, _cause: Cause, _out: &mut Outbox) -> Answer {

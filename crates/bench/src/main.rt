@@ -1,19 +1,29 @@
-//! `bench`: what one handled message costs. What was handled goes to standard output, the figures to standard error.
+//! `bench`: what one handled message, one push on a system list and one tell cost. What was done goes to standard output,
+//! the figures to standard error.
 #![tactic(auto)]
 
 mod adder;
+mod clock;
+mod lists;
 mod measured;
 mod memory;
+mod outboxes;
 
 use adder::Adder;
+use lists::measure_lists;
 use measured::{Measured, measure};
 use memory::Memory;
+use outboxes::measure_outbox;
 use std::io;
 use std::io::ErrorKind;
 use std::marker::Brand;
+use std::time::Duration;
 
 /// How many messages are handled.
 const MESSAGES: u32 = 1_000_000;
+
+/// How often sixteen nodes are pushed and drained.
+const ROUNDS: u32 = 62_500;
 
 fn main(rt: HostRuntime) -> io::Result<()> {
     // The journal has room for so many, so that memory was refused where there is an error.
@@ -27,14 +37,25 @@ fn main(rt: HostRuntime) -> io::Result<()> {
         memory,
     } = measured;
     println!(rt; "handled {handled} state {state}")?;
-    if let Some(time) = time {
-        let each = time.as_nanos() / u128::from(MESSAGES);
-        let _ = eprintln!(rt; "{each} ns a message");
-    }
+    print_each(&rt, time, "message");
     if let Some(Memory { now, most }) = memory {
         let kept = now / u64::from(MESSAGES);
         let peak = most / u64::from(MESSAGES);
         let _ = eprintln!(rt; "{kept} bytes a message kept, {peak} at the peak");
     }
+    let listed = measure_lists(&rt, ROUNDS)?;
+    println!(rt; "pushed {}", listed.given)?;
+    print_each(&rt, listed.time, "push with its part of a drain");
+    let told = measure_outbox(&rt, MESSAGES);
+    println!(rt; "told {}", told.told)?;
+    print_each(&rt, told.time, "tell with its outbox");
     Ok(())
+}
+
+/// Says what each of a million took.
+fn print_each<R: Eprint>(rt: &R, time: Option<Duration>, what: &str) {
+    if let Some(time) = time {
+        let each = time.as_nanos() / u128::from(MESSAGES);
+        let _ = eprintln!(rt; "{each} ns a {what}");
+    }
 }

@@ -1,15 +1,18 @@
 //! The run that is measured.
 
-ghost use Rattle.std.specs.Prelude.{◌≡◌, ◌+◌, [], ◌++◌, length, false, pos, IfOk};
+ghost use Rattle.std.specs.Prelude.{◌≡◌, ◌↔◌, ◌+◌, ◌<◌, ◌≤◌, [], ◌++◌, length, false, pos, IfOk, OnOk, IsTrue, IsErrOf};
+ghost use Rattle.mb_status.specs.Mailbox.{should_process};
 ghost use Rattle.mb_actor.specs.Behaviour.{AllowsSame};
 ghost use Rattle.mb_journal.specs.Identity.{is_guardian};
 ghost use Rattle.mb_journal.specs.Incarnation.{messages};
 ghost use Rattle.bench.specs.Idle.{IsIdle};
 ghost use Rattle.bench.specs.Sum.{sends};
 
+use crate::clock::since;
 use crate::memory::Memory;
 use mb_actor::{Actor, Behaviours};
-use mb_cell::{Cell, CellFault};
+use mb_cell::Cell;
+use mb_journal::ReadyError;
 use mb_msg::{ActorId, Body, Envelope, SenderId, SysMsg, limits};
 use mb_status::Status;
 use std::alloc::AllocGlobal;
@@ -21,9 +24,6 @@ const ACTOR: ActorId = ActorId(1);
 
 /// The number of the sender.
 const SENDER: SenderId = SenderId(limits::ACTORS);
-
-/// The status word of a mailbox that is open and scheduled.
-const OPEN: u64 = 2;
 
 /// What a run came to, and what it took. A figure is `None` where the system does not give it.
 #[derive(Clone, Copy)]
@@ -40,17 +40,20 @@ pub struct Measured {
 
 /// Starts the actor, gives it so many messages, and measures how these are handled.
 ///
-/// The faults are `NoMemory`, and `JournalFull` where the messages and the start are more than 2^32 - 1 entries.
+/// The faults are `NoMemory`, and `JournalFull` where the messages and the start are more than 2^32 - 1 entries: then no
+/// answer is `Ok`.
 pub fn measure<R: Clock + Files + AllocGlobal, A: Actor, K: Behaviours>(
     rt: &R,
     actor: A,
     count: u32,
-) -> Result<Measured, CellFault>
+) -> Result<Measured, ReadyError>
     requires unused { A.content actor ≡ A.after actor [] }
     requires behaves { A.after actor ≡ K.after 1 }
     requires allows { AllowsSame (A.gives actor) (K.gives 1) }
     ensures handled { IfOk result (λ measured. measured.handled ≡ count) }
     ensures state { IfOk result (λ measured. measured.state ≡ K.after 1 (sends count)) }
+    ensures room { OnOk result (count + 1 ≤ 4294967295) }
+    ensures full { IsErrOf result ReadyError.JournalFull → 4294967295 < count + 1 }
 {
     let mut cell = Cell::<A, K>::new(rt.alloc(), ACTOR, actor, u32::MAX);
     start(&mut cell)?;
@@ -58,10 +61,7 @@ pub fn measure<R: Clock + Files + AllocGlobal, A: Actor, K: Behaviours>(
     let memory_before = Memory::read(rt);
     let begin = Instant::now(rt);
     handle_all(&mut cell, count)?;
-    let time = match begin {
-        Ok(begin) => begin.elapsed(rt).ok(),
-        Err(_) => None,
-    };
+    let time = since(rt, begin);
     let memory = match (memory_before, Memory::read(rt)) {
         (Some(before), Some(after)) => Some(after.since(before)),
         _ => None,
@@ -75,12 +75,15 @@ pub fn measure<R: Clock + Files + AllocGlobal, A: Actor, K: Behaviours>(
 }
 
 /// Starts the actor of a cell to which nothing came yet.
-fn start<A: Actor, K: Behaviours>(cell: &mut Cell<A, K>) -> Result<(), CellFault>
+fn start<A: Actor, K: Behaviours>(cell: &mut Cell<A, K>) -> Result<(), ReadyError>
     requires an_actor { is_guardian cell.old.who ≡ false }
     requires nothing { cell.old.journal ≡ [] }
     requires no_acts { cell.old.acts ≡ [] }
     ensures same_who { cell.new.who ≡ cell.old.who }
     ensures idle { IfOk result (λ _. IsIdle cell.new) }
+    ensures entry { OnOk result (length cell.new.journal ≡ 1) }
+    ensures room { OnOk result (1 ≤ cell.old.who.limit) }
+    ensures full { IsErrOf result ReadyError.JournalFull ↔ (cell.old.who.limit ≤ 0) }
     ensures no_message { IfOk result (λ _. messages cell.new.who cell.new.journal ≡ []) }
 {
     cell.ready()?;
@@ -90,19 +93,31 @@ fn start<A: Actor, K: Behaviours>(cell: &mut Cell<A, K>) -> Result<(), CellFault
 }
 
 /// The loop that is measured: so many messages, each with room made for it, handled, and its acts taken.
-fn handle_all<A: Actor, K: Behaviours>(cell: &mut Cell<A, K>, count: u32) -> Result<(), CellFault>
+fn handle_all<A: Actor, K: Behaviours>(cell: &mut Cell<A, K>, count: u32) -> Result<(), ReadyError>
     requires idle { IsIdle cell.old }
+    requires the_actor { cell.old.who.this ≡ record { 0 = 1 } }
     ensures same_who { cell.new.who ≡ cell.old.who }
     ensures entries { IfOk result (λ _. length cell.new.journal ≡ length cell.old.journal + count) }
+    ensures room { OnOk result (0 < count → length cell.old.journal + count ≤ cell.old.who.limit) }
+    ensures full { IsErrOf result ReadyError.JournalFull → cell.old.who.limit < length cell.old.journal + count }
     ensures heard { IfOk result (λ _. messages cell.new.who cell.new.journal ≡ messages cell.old.who cell.old.journal ++ sends count) }
 {
-    let reading = Status::of(OPEN).unwrap();
+    let reading = open();
     for number in 0..count {
         cell.ready()?;
         cell.apply_envelope(reading, envelope(number));
         take_acts(cell);
     }
     Ok(())
+}
+
+/// The status of a mailbox that is open: of one that is fresh, resumed.
+fn open() -> Status
+    ensures { IsTrue (should_process result) }
+{
+    let mut status = Status::fresh();
+    let _ = status.resume();
+    status
 }
 
 /// Takes the acts that the cell asks for.

@@ -1,5 +1,6 @@
 -- How many entries of a journal tell of an envelope.
-use Rattle.std.proofs.Common.{◌≡◌, ℕ, ◌+◌, ◌<◌, Bool, true, false, cond, if◌then◌else◌, List, [], ◌∷◌, ◌++◌, length, take, reverse, count_by, slice_get, get_or, Some, refl, sym, ap, ◌∙◌, arith, length-append}
+use Rattle.std.proofs.Common.{◌≡◌, ℕ, ◌+◌, ◌<◌, Bool, true, false, cond, if◌then◌else◌, List, [], ◌∷◌, ◌++◌, length, take, reverse}
+use Rattle.std.proofs.Common.{count_by, slice_get, get_or, Some, refl, sym, ap, ◌∙◌, arith, length-append}
 use Rattle.std.proofs.lemmas.List.{reverse-append}
 use Rattle.std.proofs.lemmas.Option.{same_Some, slice_get_within, slice_get-get_or}
 use Rattle.std.proofs.lemmas.List.Sums.{count_by_more_yes, count_by_more_no, sum_by-append}
@@ -15,7 +16,8 @@ count_more p xs i x found =
     let there : get_or xs i x ≡ x = same_Some _ _ (sym (slice_get-get_or xs i x within) ∙ found) in
     by_answer (p x) refl within there
   where
-    by_answer : (b : Bool) → p x ≡ b → i < length xs → get_or xs i x ≡ x → count_by p (take (i + 1) xs) ≡ count_by p (take i xs) + (if b then 1 else 0)
+    by_answer : (b : Bool) → p x ≡ b → i < length xs → get_or xs i x ≡ x →
+        count_by p (take (i + 1) xs) ≡ count_by p (take i xs) + (if b then 1 else 0)
     by_answer true passes within there = count_by_more_yes p xs i x within (ap p there ∙ passes)
     by_answer false passes_not within there = let same = count_by_more_no p xs i x within (ap p there ∙ passes_not) in omega (arith, same)
 

@@ -1,5 +1,6 @@
 -- What an envelope makes of an actor at rest.
-use Rattle.std.proofs.Common.{◌≡◌, ℕ, ◌+◌, ◌*◌, Bool, true, false, not, ◌&&◌, nat_lt, if◌then◌else◌, List, [], ◌∷◌, ◌++◌, length, suc, Option, refl, sym, ap, subst, ◌∙◌, arith, append-nil, append_assoc}
+use Rattle.std.proofs.Common.{◌≡◌, ℕ, ◌+◌, ◌*◌, Bool, true, false, not, ◌&&◌, nat_lt, if◌then◌else◌, List, [], ◌∷◌, ◌++◌, length, suc}
+use Rattle.std.proofs.Common.{Option, refl, sym, ap, subst, ◌∙◌, arith, append-nil, append_assoc}
 use Rattle.std.specs.List.{AllByRecursion}
 use Rattle.std.proofs.lemmas.Bool.Decides.{nat_tests}
 use Rattle.mb_msg.specs.declared.envelope.Envelope.{Envelope}
@@ -10,7 +11,7 @@ use Rattle.mb_journal.specs.Entry.{Entry}
 use Rattle.mb_journal.specs.Entry.Entry.{Handled}
 use Rattle.mb_journal.specs.Entry.Outcome.{Applied}
 use Rattle.mb_journal.specs.Identity.{Identity, is_guardian}
-use Rattle.mb_journal.specs.Incarnation.{message_of}
+use Rattle.mb_journal.specs.Incarnation.{body_messages}
 use Rattle.mb_journal.specs.Reading.{IsOpen}
 use Rattle.mb_journal.specs.Run.{IsBlock, IsTurns}
 use Rattle.mb_journal.specs.Run.IsBlock.{no_more, one_more}
@@ -20,6 +21,7 @@ use Rattle.mb_cell.specs.Message.{IsUser}
 use Rattle.mb_cell.specs.Seen.{Seen, HandlesEnvelope}
 use Rattle.mb_cell.proofs.Laws.{IsRunning, handled, running-not_closed, running-open, count-none}
 use Rattle.mb_cell.proofs.RunLaws.{turn-more}
+use Rattle.mailrun.proofs.SystemStep.{still_addressed}
 use Rattle.mailrun.specs.Fates.{envelopes_of, messages_in}
 use Rattle.mailrun.specs.Post.{World}
 use Rattle.mailrun.specs.Rest.{IsStanding, IsAtRest, IsKept}
@@ -59,7 +61,8 @@ rest_open w rest none = open_at w.status rest.not_closed (rest.same_count ∙ un
 open_word : (m : Mailbox) → m.closed ≡ false → m.count ≡ 0 → (is_valid (word_of m) ≡ true) × (should_process (mailbox_of (word_of m)) ≡ true)
 open_word m not_closed unsuspended =
     let word_is : word_of m ≡ 4 * 0 + (if m.scheduled then 2 else 0) =
-    ap (λ c. if c then 1 else 4 * m.count + (if m.scheduled then 2 else 0)) not_closed ∙ ap (λ n. 4 * n + (if m.scheduled then 2 else 0)) unsuspended in
+    ap (λ c. if c then 1 else 4 * m.count + (if m.scheduled then 2 else 0)) not_closed
+    ∙ ap (λ n. 4 * n + (if m.scheduled then 2 else 0)) unsuspended in
     subst (λ word. (is_valid word ≡ true) × (should_process (mailbox_of word) ≡ true)) (sym word_is) (at m.scheduled)
   where
     at : (s : Bool) → (is_valid (4 * 0 + (if s then 2 else 0)) ≡ true) × (should_process (mailbox_of (4 * 0 + (if s then 2 else 0))) ≡ true)
@@ -74,10 +77,12 @@ is_open w rest open_ =
 -- blocks one after another are a block
 pub block_after : (who : Identity) (from middle to : List Entry) → IsBlock who from middle → IsBlock who middle to → IsBlock who from to
 block_after who from middle _ first no_more = first
-block_after who from middle _ first (one_more to number m outcome rest front) = one_more to number m outcome (block_after who from middle to first rest) front
+block_after who from middle _ first (one_more to number m outcome rest front) =
+    one_more to number m outcome (block_after who from middle to first rest) front
 
 -- a block after turns
-pub turns_after : (who : Identity) (from : List Entry) (n : ℕ) (middle to : List Entry) → IsTurns who from n middle → IsBlock who middle to → IsTurns who from n to
+pub turns_after : (who : Identity) (from : List Entry) (n : ℕ) (middle to : List Entry) → IsTurns who from n middle → IsBlock who middle to →
+    IsTurns who from n to
 turns_after who from _ _ to (a_block middle block) last = a_block to (block_after who from middle to block last)
 turns_after who from _ _ to (a_turn n first middle e turns none of_envelope block) last =
     a_turn n first to e turns none of_envelope (block_after who (e ∷ first) middle to block last)
@@ -95,10 +100,12 @@ unfolding envelopes_of
 told before envelope reading a = refl
 
 -- the messages in envelopes with one more
-one_more_message : (list : List Envelope) (envelope : Envelope) → messages_in (list ++ envelope ∷ []) ≡ messages_in list ++ message_of envelope.body
-one_more_message [] envelope = append-nil (message_of envelope.body)
+one_more_message : (list : List Envelope) (envelope : Envelope) →
+    messages_in (list ++ envelope ∷ []) ≡ messages_in list ++ body_messages envelope.body
+one_more_message [] envelope = append-nil (body_messages envelope.body)
 one_more_message (e ∷ list) envelope =
-    ap (λ l. message_of e.body ++ l) (one_more_message list envelope) ∙ sym (append_assoc (message_of e.body) (messages_in list) (message_of envelope.body))
+    ap (λ l. body_messages e.body ++ l) (one_more_message list envelope)
+    ∙ sym (append_assoc (body_messages e.body) (messages_in list) (body_messages envelope.body))
 
 after_envelope : World → Seen → List Envelope → World
 after_envelope w cell envelopes =
@@ -113,6 +120,7 @@ handled_step w ready cell envelope envelopes rest is_ready open_ some handles =
     let from_there : HandlesEnvelope there cell envelope (word_of w.status) =
     subst (λ (s : Seen). HandlesEnvelope s cell envelope (word_of w.status)) is_ready handles in
     let runs = is_running w rest open_ in
+    let mine = subst (AllByRecursion (λ (e : Envelope). e.to ≡ w.cell.who.this)) some rest.addressed in
     let users = subst (AllByRecursion (λ (e : Envelope). IsUser e.body)) some rest.users in
     let after = handled there cell envelope (word_of w.status) from_there users.0 (running-not_closed w.cell.who w.cell.journal runs) in
     let status : carried_out cell.acts w.status ≡ w.status = ap (λ l. carried_out l w.status) after.no_acts in
@@ -123,13 +131,15 @@ handled_step w ready cell envelope envelopes rest is_ready open_ some handles =
         no_acts = refl;
         an_actor = ap is_guardian after.same_who ∙ rest.an_actor;
         not_closed = ap (λ (m : Mailbox). m.closed) status ∙ rest.not_closed;
+        not_scheduled = ap (λ (m : Mailbox). m.scheduled) status ∙ rest.not_scheduled;
         same_count = ap (λ (m : Mailbox). m.count) status ∙ rest.same_count ∙ sym after.same_count;
         standing = running (after.same_phase ∙ runs.live) (after.same_count ∙ runs.unsuspended) (after.same_aside ∙ runs.none_aside);
         numbered = rest.numbered ∙ sym after.same_next;
         numbers_fit = rest.numbers_fit;
         creates = rest.creates;
+        addressed = still_addressed w cell envelopes after.same_who mine.1;
         users = users.1;
-        heard = after.one_message ∙ ap (λ l. l ++ message_of envelope.body) rest.heard
+        heard = after.one_message ∙ ap (λ l. l ++ body_messages envelope.body) rest.heard
             ∙ sym (ap messages_in tells ∙ one_more_message (envelopes_of w.cell.journal) envelope);
       };
       kept = record {
@@ -144,10 +154,12 @@ handled_step w ready cell envelope envelopes rest is_ready open_ some handles =
 -- the step, by what the code leaves
 pub envelope_step : (w new : World) (ready cell : Seen) (envelope : Envelope) → IsAtRest w → ready ≡ record w.cell { is_ready = true } →
     should_process w.status ≡ true → w.envelopes ≡ envelope ∷ new.envelopes → HandlesEnvelope ready cell envelope (word_of w.status) →
-    new.cell ≡ record cell { acts = [] } → new.status ≡ carried_out cell.acts w.status → new.next ≡ w.next → new.systems ≡ w.systems → EnvelopeStep w new
+    new.cell ≡ record cell { acts = [] } → new.status ≡ carried_out cell.acts w.status → new.next ≡ w.next → new.systems ≡ w.systems →
+    EnvelopeStep w new
 unfolding after_envelope
 envelope_step w new ready cell envelope rest is_ready open_ some handles same_cell same_status same_next same_systems =
-    let with_ : Seen → Mailbox → ℕ → List SysMsg → World = λ c s n l. record { cell = c; status = s; next = n; systems = l; envelopes = new.envelopes } in
+    let with_ : Seen → Mailbox → ℕ → List SysMsg → World =
+    λ c s n l. record { cell = c; status = s; next = n; systems = l; envelopes = new.envelopes } in
     let same : after_envelope w cell new.envelopes ≡ new =
     ap (λ c. with_ c (carried_out cell.acts w.status) w.next w.systems) (sym same_cell)
     ∙ ap (λ s. with_ new.cell s w.next w.systems) (sym same_status)

@@ -1,9 +1,12 @@
 pub mod Counted
+pub mod Endings
 pub mod EnvelopeStep
 pub mod InputLemmas
 pub mod Lines
 pub mod Refusals
 pub mod RunSteps
+pub mod Runs
 pub mod SentLemmas
 pub mod Starts
 pub mod SystemStep
+pub mod WrittenLemmas

@@ -9,9 +9,9 @@ use Rattle.mb_scenario.specs.Scenario.{RowData}
 use Rattle.mb_scenario.specs.Script.{after_of}
 use Rattle.mb_scenario.specs.declared.scenario.Sending.{Sending}
 use Rattle.mb_scenario.proofs.Sendings.{after_of-sendings}
-use Rattle.mailrun.specs.Line.{line_of}
+use Rattle.mailrun.specs.Line.{finished_line}
 use Rattle.mailrun.specs.Sent.{message_of}
-use Rattle.mailrun.specs.declared.run.Outcome.{Outcome}
+use Rattle.mailrun.specs.declared.run.Finished.{Finished}
 
 line_with : List ℕ → Phase → ℤ → ℕ → ℕ → LineData
 line_with name phase state suspended handled = record {
@@ -30,10 +30,10 @@ same_line : (name : List ℕ) (p q : Phase) (s t : ℤ) (u v h k : ℕ) → p �
 same_line name p q s t u v h k e f i j =
     ap (λ x. line_with name x s u h) e ∙ ap (λ x. line_with name q x u h) f ∙ ap (λ x. line_with name q t x h) i ∙ ap (λ x. line_with name q t v x) j
 
-pub line_of-outcome : (name : String Global) (initial : ℤ) (rows : List RowData) (sends : List Sending) (outcome : Outcome) →
-    outcome.phase ≡ Live → outcome.state ≡ after_of initial rows (map message_of sends) → outcome.suspended ≡ 0 →
-    outcome.handled ≡ length sends →
-    line_of name outcome ≡ actor_line (record { actor = record { name = string_bytes name; initial = initial; rows = rows }; sends = sends })
+pub finished_line-sends : (name : String Global) (initial : ℤ) (rows : List RowData) (sends : List Sending) (finished : Finished) →
+    finished.phase ≡ Live → finished.state ≡ after_of initial rows (map message_of sends) → finished.suspended ≡ 0 →
+    finished.handled ≡ length sends →
+    finished_line name finished ≡ actor_line (record { actor = record { name = string_bytes name; initial = initial; rows = rows }; sends = sends })
 unfolding line_with
-line_of-outcome name initial rows sends outcome live state opened handled =
+finished_line-sends name initial rows sends finished live state opened handled =
     same_line (string_bytes name) _ _ _ _ _ _ _ _ live (state ∙ after_of-sendings initial rows sends) opened handled

@@ -1,15 +1,17 @@
 -- Runs of a mailbox, put together from their steps.
-use Rattle.std.proofs.Common.{◌≡◌, ℕ, suc, ◌+◌, ◌<◌, ◌≤◌, List, [], length, None, refl, sym, ap, arith, subst, ◌∙◌}
+use Rattle.std.proofs.Common.{◌≡◌, ◌↔◌, ℕ, suc, ◌+◌, ◌<◌, ◌≤◌, List, [], length, None, Result, Err, IsErrOf, inl, refl, sym, ap, arith, subst, ◌∙◌}
 use Rattle.mb_journal.specs.Aside.{next_front}
 use Rattle.mb_journal.specs.Entry.{Entry}
 use Rattle.mb_journal.specs.Identity.{Identity}
 use Rattle.mb_journal.specs.Run.{IsBlock, IsTurns, IsReason, Stopped, most_envelopes}
 use Rattle.mb_journal.specs.Run.Stopped.{NoRoom}
 use Rattle.mb_journal.proofs.LawfulLemmas.{next_front-none}
+use Rattle.mb_journal.specs.declared.error.ReadyError.{ReadyError}
+use Rattle.mb_journal.specs.declared.error.ReadyError.TheVariants.{JournalFull}
 use Rattle.mailrun.proofs.EnvelopeStep.{turns_after}
 use Rattle.mailrun.proofs.SystemStep.{none_aside}
 use Rattle.mailrun.specs.Post.{World}
-use Rattle.mailrun.specs.Rest.{IsAtRest, IsKept, IsRunOf, IsWholeRun, IsEnd, messages_in_all}
+use Rattle.mailrun.specs.Rest.{IsAtRest, IsKept, IsRunOf, IsUnended, IsWholeRun, IsEnd, messages_in_all}
 
 -- what is kept twice is kept
 pub kept_after : (first middle last : World) → IsKept first middle → IsKept middle last → IsKept first last
@@ -27,7 +29,8 @@ no_room throughput old new n turns at_most rest kept =
 
 -- a run that ended by itself
 pub whole_run : (throughput : ℕ) (old new : World) (systems n : ℕ) (stopped : Stopped) → IsEnd stopped new →
-    IsReason old.cell.who throughput n new.cell.journal stopped → IsTurns old.cell.who old.cell.journal n new.cell.journal → n ≤ most_envelopes throughput →
+    IsReason old.cell.who throughput n new.cell.journal stopped → IsTurns old.cell.who old.cell.journal n new.cell.journal →
+    n ≤ most_envelopes throughput →
     IsAtRest new → IsKept old new → new.systems ≡ [] → systems ≡ length old.systems → n + length new.envelopes ≡ length old.envelopes →
     (0 < length old.envelopes → 0 < n) → IsWholeRun throughput old new systems n
 whole_run throughput old new systems n stopped is_end reason turns at_most rest kept none all taken progress = record {
@@ -60,3 +63,14 @@ full_needs old new limit sends kept who in_all full =
     let same = ap (λ (w : Identity). w.limit) kept.same_who in
     let as_many = kept.in_all in
     omega (arith, same, as_many)
+
+-- a run that ends with the fault of its system messages, some of which are left, ends with a full journal exactly where
+-- they did
+pub full_by_systems : {T U : Type 0} → (first : Result T ReadyError) (last : Result U ReadyError) (fault other : ReadyError) → first ≡ Err fault →
+    last ≡ Err other → other ≡ fault → (throughput : ℕ) (old new : World) → 0 < length new.systems →
+    (IsErrOf first JournalFull ↔ (new.cell.who.limit ≤ length new.cell.journal) × (0 < length new.systems)) →
+    (IsErrOf last JournalFull ↔ (new.cell.who.limit ≤ length new.cell.journal) × IsUnended throughput old new)
+full_by_systems first last fault other is given same throughput old new some full = (
+  λ is_full. let fault_is : first ≡ Err JournalFull = cc in let f = full.0 fault_is in (f.0, inl f.1),
+  λ unended. let fault_is = full.1 (unended.0, some) in cc,
+)

@@ -11,6 +11,11 @@ pub users-sent : (number : ℕ) (sends : List Sending) → AllByRecursion (λ (e
 users-sent number [] = tt
 users-sent number (s ∷ sends) = (tt, users-sent (number + 1) sends)
 
+pub addressed-sent : (number : ℕ) (sends : List Sending) →
+    AllByRecursion (λ (e : Envelope). e.to ≡ record { 0 = 1 }) (sent number sends)
+addressed-sent number [] = tt
+addressed-sent number (s ∷ sends) = (refl, addressed-sent (number + 1) sends)
+
 pub messages_in-sent : (number : ℕ) (sends : List Sending) → messages_in (sent number sends) ≡ map message_of sends
 messages_in-sent number [] = refl
 messages_in-sent number (s ∷ sends) = ap (λ l. message_of s ∷ l) (messages_in-sent (number + 1) sends)

@@ -1,5 +1,6 @@
 -- What a system message makes of an actor at rest.
-use Rattle.std.proofs.Common.{◌≡◌, ℕ, ◌+◌, ◌-◌, ◌<◌, ◌^◌, false, List, [], ◌∷◌, ◌++◌, length, Option, Some, refl, sym, ap, subst, ◌∙◌, arith, append-nil}
+use Rattle.std.proofs.Common.{◌≡◌, ℕ, ◌+◌, ◌-◌, ◌<◌, ◌^◌, false, List, [], ◌∷◌, ◌++◌, length, Option, Some, refl, sym, ap, subst, ◌∙◌}
+use Rattle.std.proofs.Common.{arith, append-nil}
 use Rattle.std.specs.List.{AllByRecursion}
 use Rattle.mb_msg.specs.declared.envelope.Envelope.{Envelope}
 use Rattle.mb_msg.specs.declared.system.SysMsg.{SysMsg}
@@ -11,7 +12,7 @@ use Rattle.mb_journal.specs.Aside.{ever_aside, next_number}
 use Rattle.mb_journal.specs.Entry.{Entry}
 use Rattle.mb_journal.specs.Entry.Entry.{System}
 use Rattle.mb_journal.specs.Entry.Outcome.{Applied}
-use Rattle.mb_journal.specs.Identity.{is_guardian}
+use Rattle.mb_journal.specs.Identity.{Identity, is_guardian}
 use Rattle.mb_journal.specs.Lawful.{IsLawful}
 use Rattle.mb_journal.specs.Life.{phase, closed}
 use Rattle.mb_journal.specs.Phase.{phase_is}
@@ -42,7 +43,19 @@ none_aside w (running live unsuspended aside) = aside
 -- the world once the message is applied and its acts are carried out
 after_system : World → Seen → List SysMsg → World
 after_system w cell systems =
-    record { cell = record cell { acts = [] }; status = carried_out cell.acts w.status; next = w.next + 1; systems = systems; envelopes = w.envelopes }
+    record {
+      cell = record cell { acts = [] };
+      status = carried_out cell.acts w.status;
+      next = w.next + 1;
+      systems = systems;
+      envelopes = w.envelopes;
+    }
+
+-- envelopes are addressed to the actor as long as it is the same
+pub still_addressed : (w : World) (cell : Seen) (envelopes : List Envelope) → cell.who ≡ w.cell.who →
+    AllByRecursion (λ (e : Envelope). e.to ≡ w.cell.who.this) envelopes → AllByRecursion (λ (e : Envelope). e.to ≡ cell.who.this) envelopes
+still_addressed w cell envelopes same addressed =
+    subst (λ (who : Identity). AllByRecursion (λ (e : Envelope). e.to ≡ who.this) envelopes) (sym same) addressed
 
 -- an entry of a system message tells of no envelope
 pub no_envelope : (number : ℕ) (m : SysMsg) (a : Option Answer) (before : List Entry) →
@@ -68,15 +81,21 @@ first_step gives w cell systems rest some applied lawful nothing =
         no_acts = refl;
         an_actor = ap is_guardian after.same_who ∙ rest.an_actor;
         not_closed = ap (λ (m : Mailbox). m.closed) status ∙ rest.not_closed;
+        not_scheduled = ap (λ (m : Mailbox). m.scheduled) status ∙ rest.not_scheduled;
         same_count = ap (λ (m : Mailbox). m.count) status ∙ ap (λ n. n - 1) rest.same_count ∙ sym after.resumed;
         standing = running after.live (after.resumed ∙ ap (λ n. n - 1) one) (after.none_aside (none_aside w rest.standing));
         numbered = sym after.next;
         numbers_fit = omega arith;
         creates = (subst (AllByRecursion (λ m. m ≡ Create)) some rest.creates).1;
+        addressed = still_addressed w cell w.envelopes after.same_who rest.addressed;
         users = rest.users;
         heard = after.no_message ∙ sym (ap messages_in (told ∙ ap envelopes_of nothing));
       };
-      kept = record { same_who = after.same_who; envelopes = ap (λ l. l ++ w.envelopes) told; in_all = let longer = ap length after.entry in omega (arith, longer, many) };
+      kept = record {
+        same_who = after.same_who;
+        envelopes = ap (λ l. l ++ w.envelopes) told;
+        in_all = let longer = ap length after.entry in omega (arith, longer, many);
+      };
       block = λ from so_far. block-more from w.cell cell w.next Create applied (none_aside w rest.standing) so_far;
     }
 
@@ -89,7 +108,8 @@ next_step gives w cell systems rest some applied lawful live unsuspended aside =
     let after = created_again gives w.cell cell w.next applied lawful live in
     let status : carried_out cell.acts w.status ≡ w.status = ap (λ l. carried_out l w.status) after.no_acts in
     let entry : cell.journal ≡ System w.next Create (Applied applied.answer []) ∷ w.cell.journal = ap (λ (s : Seen). s.journal) applied.adds in
-    let told : envelopes_of cell.journal ≡ envelopes_of w.cell.journal = ap envelopes_of entry ∙ no_envelope w.next Create applied.answer w.cell.journal in
+    let told : envelopes_of cell.journal ≡ envelopes_of w.cell.journal = ap envelopes_of entry
+    ∙ no_envelope w.next Create applied.answer w.cell.journal in
     let fits : w.next + length w.systems < 2 ^ 64 = rest.numbers_fit in
     let many : length w.systems ≡ length systems + 1 = ap length some ∙ omega arith in
     record {
@@ -97,15 +117,21 @@ next_step gives w cell systems rest some applied lawful live unsuspended aside =
         no_acts = refl;
         an_actor = ap is_guardian after.same_who ∙ rest.an_actor;
         not_closed = ap (λ (m : Mailbox). m.closed) status ∙ rest.not_closed;
+        not_scheduled = ap (λ (m : Mailbox). m.scheduled) status ∙ rest.not_scheduled;
         same_count = ap (λ (m : Mailbox). m.count) status ∙ rest.same_count ∙ sym after.same_count;
         standing = running (after.same_phase ∙ live) (after.same_count ∙ unsuspended) (after.none_aside aside);
         numbered = sym (ap next_number entry ∙ next_number-new w.cell.journal w.next Create (Applied applied.answer []) rest.numbered);
         numbers_fit = omega arith;
         creates = (subst (AllByRecursion (λ m. m ≡ Create)) some rest.creates).1;
+        addressed = still_addressed w cell w.envelopes after.same_who rest.addressed;
         users = rest.users;
         heard = after.same_messages ∙ rest.heard ∙ sym (ap messages_in told);
       };
-      kept = record { same_who = after.same_who; envelopes = ap (λ l. l ++ w.envelopes) told; in_all = let longer = ap length entry in omega (arith, longer, many) };
+      kept = record {
+        same_who = after.same_who;
+        envelopes = ap (λ l. l ++ w.envelopes) told;
+        in_all = let longer = ap length entry in omega (arith, longer, many);
+      };
       block = λ from so_far. block-more from w.cell cell w.next Create applied aside so_far;
     }
 
@@ -125,7 +151,8 @@ system_step gives w new m cell rest some applied lawful same_cell same_status sa
     let some_create : w.systems ≡ Create ∷ new.systems = some ∙ ap (λ x. x ∷ new.systems) create in
     let applied_create : AppliesSystem w.cell cell w.next Create = subst (λ (x : SysMsg). AppliesSystem w.cell cell w.next x) create applied in
     let step = any_step gives w cell new.systems rest some_create applied_create lawful rest.standing in
-    let with_ : Seen → Mailbox → ℕ → List Envelope → World = λ c s n e. record { cell = c; status = s; next = n; systems = new.systems; envelopes = e } in
+    let with_ : Seen → Mailbox → ℕ → List Envelope → World =
+    λ c s n e. record { cell = c; status = s; next = n; systems = new.systems; envelopes = e } in
     let same : after_system w cell new.systems ≡ new =
     ap (λ c. with_ c (carried_out cell.acts w.status) (w.next + 1) w.envelopes) (sym same_cell)
     ∙ ap (λ s. with_ new.cell s (w.next + 1) w.envelopes) (sym same_status)

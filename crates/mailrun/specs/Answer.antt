@@ -1,19 +1,73 @@
 -- What the program makes of its input (this project's own profile).
-use Rattle.std.specs.Prelude.{◌≡◌, ℕ, List, take}
-use Rattle.mb_scenario.specs.Fault.{status_of}
+use Rattle.std.specs.Prelude.{◌≡◌, ℕ, ◌<◌, Bool, false, IsTrue, ◌⊎◌, List, take, Option, IfSome}
+use Rattle.std.specs.Io.KnownBytes.{Appends, Keeps}
 use Rattle.mb_scenario.specs.Outcome.{report_of}
 use Rattle.mb_scenario.specs.Reading.{IsReadAs, Refuses}
 use Rattle.mb_scenario.specs.Scenario.{ScenarioData}
 use Rattle.mb_scenario.specs.declared.fault.Fault.{Fault}
+use Rattle.mb_scenario.specs.declared.fault.Fault.TheVariants.{NoMemory, NotToml, BadScenario}
+use Rattle.mailrun.specs.Failure.{status_of}
+use Rattle.mailrun.specs.Written.{AppendsBeginning}
+use Rattle.mailrun.specs.declared.failure.Failure.{Failure}
+use Rattle.mailrun.specs.declared.failure.Failure.TheVariants.{Os, Arguments, Input}
 
--- how many bytes of the input are read: one more than a scenario may have
+-- how many bytes of the input are read at most: one more than a scenario may have
 abbrev pub most_read : ℕ
 most_read = 1048577
 
--- the input is a scenario, and this is its report
-abbrev pub IsReport : List ℕ → List ℕ → Type 0
-IsReport input report = (scenario : ScenarioData) × IsReadAs (take most_read input) scenario × (report ≡ report_of scenario)
+-- this text was read: where it is known which bytes the reader has, the first of them, as many as are read at most
+abbrev pub IsRead : Option (List ℕ) → List ℕ → Type 0
+IsRead known text = IfSome known (λ input. text ≡ take most_read input)
 
--- the input is no scenario, and this is why
+-- the text is a scenario, and this is its report
+abbrev pub IsReport : List ℕ → List ℕ → Type 0
+IsReport text report = (scenario : ScenarioData) × IsReadAs text scenario × (report ≡ report_of scenario)
+
+-- the text is no scenario, and this is why
 abbrev pub IsRefused : List ℕ → Fault → Type 0
-IsRefused input fault = Refuses (take most_read input) fault × (status_of fault ≡ 2)
+IsRefused text fault = Refuses text fault × (status_of (Input fault) ≡ 2)
+
+-- the report is that of what was read
+abbrev pub IsAnswer : Option (List ℕ) → List ℕ → Type 0
+IsAnswer known report = (text : List ℕ) × IsRead known text × IsReport text report
+
+-- the whole report was written of what was read
+abbrev pub HasReported : Option (List ℕ) → Option (List ℕ) → Option (List ℕ) → Type 0
+HasReported known old new = (report : List ℕ) × IsAnswer known report × Appends old new report
+
+-- the fault is one of what was read. Of want of memory nothing can be said
+abbrev pub IsFaultOf : Option (List ℕ) → Fault → Type 0
+IsFaultOf known NoMemory = Unit {0}
+IsFaultOf known NotToml = (text : List ℕ) × IsRead known text × Refuses text NotToml
+IsFaultOf known (BadScenario place reason) = (text : List ℕ) × IsRead known text × Refuses text (BadScenario place reason)
+
+-- the failure is met with so many arguments, this input, and a call of the reader or the writer that failed or none:
+-- `Os` exactly where one failed
+abbrev pub IsMet : ℕ → Option (List ℕ) → Bool → Failure → Type 0
+IsMet arguments known failed Os = (arguments ≡ 0) × IsTrue failed
+IsMet arguments known failed Arguments = (0 < arguments) × (failed ≡ false)
+IsMet arguments known failed (Input fault) = (arguments ≡ 0) × (failed ≡ false) × IsFaultOf known fault
+
+-- what a run has written that failed: nothing; or a beginning of the report of what was read, where writing it failed
+pub data IsCutShort (known : Option (List ℕ)) (failed : Bool) (old new : Option (List ℕ)) : Type 0 where
+  nothing : Keeps old new → IsCutShort known failed old new
+  a_beginning : (report : List ℕ) → IsTrue failed → IsAnswer known report → AppendsBeginning old new report →
+      IsCutShort known failed old new
+
+-- the line was said: a beginning of it, and the whole line unless writing it failed
+abbrev pub IsSaid : Option (List ℕ) → Option (List ℕ) → Bool → List ℕ → Type 0
+IsSaid old new failed line = AppendsBeginning old new line × (failed ≡ false → Appends old new line)
+
+-- reading ended in this failure: the reader failed, or memory was refused and it did not
+abbrev pub IsReadFailure : Bool → Bool → Failure → Type 0
+IsReadFailure before after Os = IsTrue after
+IsReadFailure before after Arguments = ⊥
+IsReadFailure before after (Input NoMemory) = after ≡ before
+IsReadFailure before after (Input NotToml) = ⊥
+IsReadFailure before after (Input (BadScenario place reason)) = ⊥
+
+-- what is said where a failure is met: it; or of the input's, where no memory was had for the line, that
+abbrev pub IsSaidFor : Failure → Failure → Type 0
+IsSaidFor Os said = said ≡ Os
+IsSaidFor Arguments said = said ≡ Arguments
+IsSaidFor (Input fault) said = (said ≡ Input fault) ⊎ (said ≡ Input NoMemory)

@@ -5,7 +5,7 @@ use Rattle.mb_msg.specs.declared.envelope.Envelope.{Envelope}
 use Rattle.mb_actor.specs.declared.message.Message.{Message}
 use Rattle.mb_journal.specs.Entry.{Entry}
 use Rattle.mb_journal.specs.Entry.Entry.{Handled, System, Dropped}
-use Rattle.mb_journal.specs.Incarnation.{message_of}
+use Rattle.mb_journal.specs.Incarnation.{body_messages}
 
 -- the envelope of an entry, if it is one's
 abbrev pub envelope_of : Entry → List Envelope
@@ -20,7 +20,7 @@ envelopes_of (e ∷ before) = envelopes_of before ++ envelope_of e
 
 -- the messages in envelopes, in order
 abbrev pub messages_in : List Envelope → List Message
-messages_in envelopes = flat_map (λ (e : Envelope). message_of e.body) envelopes
+messages_in envelopes = flat_map (λ (e : Envelope). body_messages e.body) envelopes
 
 -- the entry tells of an envelope
 abbrev pub is_of_envelope : Entry → Bool

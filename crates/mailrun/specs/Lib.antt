@@ -1,4 +1,5 @@
 pub mod Answer
+pub mod Failure
 pub mod Fates
 pub mod Line
 pub mod Next
@@ -6,3 +7,4 @@ pub mod Post
 pub mod Rest
 pub mod Sent
 pub mod Told
+pub mod Written

@@ -2,15 +2,15 @@
 use Rattle.std.specs.Prelude.{Some, String, string_bytes}
 use Rattle.std.specs.declared.alloc.Global.{Global}
 use Rattle.mb_scenario.specs.Report.{LineData}
-use Rattle.mailrun.specs.declared.run.Outcome.{Outcome}
+use Rattle.mailrun.specs.declared.run.Finished.{Finished}
 
-abbrev pub line_of : String Global → Outcome → LineData
-line_of name outcome = record {
+abbrev pub finished_line : String Global → Finished → LineData
+finished_line name finished = record {
   name = string_bytes name;
-  phase = outcome.phase;
-  state = Some outcome.state;
-  suspended = outcome.suspended;
-  handled = outcome.handled;
+  phase = finished.phase;
+  state = Some finished.state;
+  suspended = finished.suspended;
+  handled = finished.handled;
   left = 0;
   dead = 0;
   restarts = 0;

@@ -1,5 +1,5 @@
 -- What holds between two messages, and what a run of the mailbox does.
-use Rattle.std.specs.Prelude.{◌≡◌, ℕ, ◌+◌, ◌<◌, ◌^◌, false, [], ◌++◌, length}
+use Rattle.std.specs.Prelude.{◌≡◌, ℕ, ◌+◌, ◌<◌, ◌⊎◌, ◌^◌, false, [], ◌++◌, length}
 use Rattle.std.specs.List.{AllByRecursion}
 use Rattle.mb_msg.specs.declared.envelope.Envelope.{Envelope}
 use Rattle.mb_msg.specs.declared.system.SysMsg.TheVariants.{Create}
@@ -7,7 +7,7 @@ use Rattle.mb_journal.specs.Aside.{ever_aside, next_number}
 use Rattle.mb_journal.specs.Identity.{is_guardian}
 use Rattle.mb_journal.specs.Incarnation.{messages}
 use Rattle.mb_journal.specs.Life.{phase}
-use Rattle.mb_journal.specs.Run.{IsRun, Stopped}
+use Rattle.mb_journal.specs.Run.{IsRun, Stopped, most_envelopes}
 use Rattle.mb_journal.specs.Run.Stopped.{UsedUp, NotOpen, NoEnvelope, AtClosing, NoRoom}
 use Rattle.mb_journal.specs.Suspension.{count}
 use Rattle.mb_actor.specs.declared.phase.Phase.TheVariants.{Live}
@@ -20,16 +20,19 @@ pub data IsStanding (w : World) : Type 0 where
   untouched : w.cell.journal ≡ [] → 0 < length w.systems → IsStanding w
   running : phase w.cell.who w.cell.journal ≡ Live → count w.cell.who w.cell.journal ≡ 0 → ever_aside w.cell.journal ≡ [] → IsStanding w
 
--- no act is left, the mailbox is what the journal says, and what waits is what the actor may be given today
+-- no act is left, the mailbox is what the journal says and is not scheduled, since no other thread could hold the actor, and
+-- what waits is what the actor may be given today
 pub record IsAtRest (w : World) : Type 0 where
   pub no_acts : w.cell.acts ≡ []
   pub an_actor : is_guardian w.cell.who ≡ false
   pub not_closed : w.status.closed ≡ false
+  pub not_scheduled : w.status.scheduled ≡ false
   pub same_count : w.status.count ≡ count w.cell.who w.cell.journal
   pub standing : IsStanding w
   pub numbered : w.next ≡ next_number w.cell.journal
   pub numbers_fit : w.next + length w.systems < 2 ^ 64
   pub creates : AllByRecursion (λ m. m ≡ Create) w.systems
+  pub addressed : AllByRecursion (λ (e : Envelope). e.to ≡ w.cell.who.this) w.envelopes
   pub users : AllByRecursion (λ (e : Envelope). IsUser e.body) w.envelopes
   pub heard : messages w.cell.who w.cell.journal ≡ messages_in (envelopes_of w.cell.journal)
 
@@ -46,7 +49,7 @@ pub record IsKept (old new : World) : Type 0 where
 -- what the reason says beyond the journal: no envelope was left, and there was room for each message that came up
 abbrev pub IsEnd : Stopped → World → Type 0
 IsEnd NoRoom w = ⊥
-IsEnd NoEnvelope w = w.envelopes ≡ []
+IsEnd (NoEnvelope word) w = w.envelopes ≡ []
 IsEnd UsedUp w = Unit {0}
 IsEnd (NotOpen word) w = Unit {0}
 IsEnd AtClosing w = Unit {0}
@@ -56,6 +59,11 @@ pub record IsRunOf (throughput : ℕ) (old new : World) (stopped : Stopped) : Ty
   pub run : IsRun old.cell.who throughput old.cell.journal new.cell.journal stopped
   pub rest : IsAtRest new
   pub kept : IsKept old new
+
+-- a run is not over: a system message waits, or the throughput allows one envelope more. Whether an envelope waits is not
+-- asked: room is made before one is taken
+abbrev pub IsUnended : ℕ → World → World → Type 0
+IsUnended throughput old new = (0 < length new.systems) ⊎ (length old.envelopes < length new.envelopes + most_envelopes throughput)
 
 -- the run ended by itself, and handled so many
 pub record IsWholeRun (throughput : ℕ) (old new : World) (systems envelopes : ℕ) : Type 0 where

@@ -3,11 +3,11 @@ ghost use Rattle.mb_scenario.specs.Outcome.{report_of, guardian_line};
 ghost use Rattle.mb_scenario.specs.Reading.{IsReadAs, Refuses};
 ghost use Rattle.mb_scenario.specs.Report.{line_data, text_of as report_of_lines};
 ghost use Rattle.mb_scenario.specs.Scenario.{ScenarioData};
-ghost use Rattle.mailrun.specs.Line.{line_of};
+ghost use Rattle.mailrun.specs.Line.{finished_line};
 
-use crate::run::{Outcome, run};
+use crate::run::{Finished, run};
 use mb_actor::Phase;
-use mb_cell::CellFault;
+use mb_journal::ReadyError;
 use mb_scenario::{Fault, Report, ReportLine, Scenario, Script, ScriptedActor, read, report_text};
 use std::alloc::{AllocError, Global};
 use std::marker::Brand;
@@ -25,22 +25,22 @@ pub fn answer(alloc: Global, text: &[u8]) -> Result<String, Fault>
         initial,
         rows,
     } = actor;
-    let outcome = match run::<Script, Brand>(alloc, Script::new(initial, rows), &sends) {
-        Ok(outcome) => outcome,
+    let finished = match run::<Script, Brand>(alloc, Script::new(initial, rows), &sends) {
+        Ok(finished) => finished,
         // The journal has room for more entries than a scenario has sends.
-        Err(CellFault::JournalFull) => unreachable!(),
-        Err(CellFault::NoMemory) => return Err(Fault::NoMemory),
+        Err(ReadyError::JournalFull) => unreachable!(),
+        Err(ReadyError::NoMemory) => return Err(Fault::NoMemory),
     };
-    Ok(text_of(alloc, name, &outcome)?)
+    Ok(text_of(alloc, name, &finished)?)
 }
 
 /// The text of the report about the guardian and one actor.
-fn text_of(alloc: Global, name: String, outcome: &Outcome) -> Result<String, AllocError>
-    ensures { IfOk result (λ text. string_bytes text ≡ report_of_lines (guardian_line ∷ line_of name outcome.now ∷ [])) }
+fn text_of(alloc: Global, name: String, finished: &Finished) -> Result<String, AllocError>
+    ensures { IfOk result (λ text. string_bytes text ≡ report_of_lines (guardian_line ∷ finished_line name finished.now ∷ [])) }
 {
     let mut lines = Vec::new(alloc);
     lines.push(guardian(alloc)?)?;
-    lines.push(line(name, outcome))?;
+    lines.push(line(name, finished))?;
     report_text(alloc, &Report { lines })
 }
 
@@ -61,15 +61,15 @@ fn guardian(alloc: Global) -> Result<ReportLine, AllocError>
 }
 
 /// The line of an actor whose messages are all handled.
-fn line(name: String, outcome: &Outcome) -> ReportLine
-    ensures { line_data result ≡ line_of name outcome.now }
+fn line(name: String, finished: &Finished) -> ReportLine
+    ensures { line_data result ≡ finished_line name finished.now }
 {
     ReportLine {
         name,
-        phase: outcome.phase,
-        state: Some(outcome.state),
-        suspended: outcome.suspended,
-        handled: outcome.handled as u64,
+        phase: finished.phase,
+        state: Some(finished.state),
+        suspended: finished.suspended,
+        handled: finished.handled as u64,
         left: 0,
         dead: 0,
         restarts: 0,

@@ -1,15 +1,17 @@
-ghost use Rattle.std.specs.Prelude.{◌≡◌, ◌+◌, ◌<◌, ◌≤◌, List, [], length, IsTrue, IfOk, OnErr, MatchResult};
+ghost use Rattle.std.specs.Prelude.{◌≡◌, ◌↔◌, ◌+◌, ◌<◌, ◌≤◌, List, [], length, IsTrue, IfOk, OnErr, MatchResult, IsErrOf};
+ghost use Rattle.mb_status.specs.Mailbox.{should_process};
 ghost use Rattle.mb_journal.specs.Entry.{Entry};
 ghost use Rattle.mb_journal.specs.Run.{IsBlock};
 ghost use Rattle.mb_journal.specs.Run.Stopped.{NoRoom};
 ghost use Rattle.mailrun.specs.Next.{IsNext};
 ghost use Rattle.mailrun.specs.Post.{world};
-ghost use Rattle.mailrun.specs.Rest.{IsAtRest, IsKept, IsRunOf, IsWholeRun};
+ghost use Rattle.mailrun.specs.Rest.{IsAtRest, IsKept, IsRunOf, IsUnended, IsWholeRun};
 ghost use Rattle.mailrun.specs.Sent.{carried_out};
 
 use crate::post::Post;
 use mb_actor::{Actor, Behaviours};
-use mb_cell::{Act, Cell, CellFault};
+use mb_cell::{Act, Cell};
+use mb_journal::ReadyError;
 use mb_status::Status;
 
 /// What a run of a mailbox did.
@@ -34,18 +36,22 @@ enum Next {
 /// One run of the mailbox (`akka.dispatch.Mailbox.run`): all system messages, and then at most as many envelopes as the
 /// throughput says, of which 0 counts as 1, each with all system messages after it.
 ///
-/// It stops before a message for which there is no room, with everything before it kept.
+/// It stops before a message for which there is no room, with everything before it kept: room is made before each message
+/// is taken, also where none comes. The answer is `JournalFull` exactly where the journal is full then, else `NoMemory`.
+///
+/// The mailbox is one that is not scheduled, before and after.
 pub fn run_mailbox<A: Actor, K: Behaviours>(
     cell: &mut Cell<A, K>,
     status: &mut Status,
     post: &mut Post,
     throughput: u32,
-) -> Result<Turn, CellFault>
+) -> Result<Turn, ReadyError>
     requires rest { IsAtRest (world cell.old status.old post.old) }
     ensures whole { IfOk result (λ turn.
         IsWholeRun throughput (world cell.old status.old post.old) (world cell.new status.new post.new) turn.systems turn.envelopes) }
     ensures stopped { OnErr result (IsRunOf throughput (world cell.old status.old post.old) (world cell.new status.new post.new) NoRoom) }
-    ensures full { result ≡ Err CellFault.JournalFull → cell.new.who.limit ≤ length cell.new.journal }
+    ensures full { IsErrOf result ReadyError.JournalFull ↔ (cell.new.who.limit ≤ length cell.new.journal)
+        × IsUnended throughput (world cell.old status.old post.old) (world cell.new status.new post.new) }
 {
     let mut turn = Turn {
         systems: apply_systems(cell, status, post)?,
@@ -67,7 +73,7 @@ fn apply_next_envelope<A: Actor, K: Behaviours>(
     cell: &mut Cell<A, K>,
     status: &mut Status,
     post: &mut Post,
-) -> Result<Next, CellFault>
+) -> Result<Next, ReadyError>
     requires rest { IsAtRest (world cell.old status.old post.old) }
     ensures rest { IsAtRest (world cell.new status.new post.new) }
     ensures kept { IsKept (world cell.old status.old post.old) (world cell.new status.new post.new) }
@@ -75,7 +81,7 @@ fn apply_next_envelope<A: Actor, K: Behaviours>(
     ensures next { MatchResult result
         (λ next. IsNext next (world cell.old status.old post.old) (world cell.new status.new post.new))
         (λ _. cell.new.journal ≡ cell.old.journal) }
-    ensures full { result ≡ Err CellFault.JournalFull → cell.new.who.limit ≤ length cell.new.journal }
+    ensures full { IsErrOf result ReadyError.JournalFull ↔ (cell.old.who.limit ≤ length cell.old.journal) × IsTrue (should_process status.old) }
 {
     let reading = *status;
     if !reading.should_process() {
@@ -110,14 +116,15 @@ fn apply_systems<A: Actor, K: Behaviours>(
     cell: &mut Cell<A, K>,
     status: &mut Status,
     post: &mut Post,
-) -> Result<usize, CellFault>
+) -> Result<usize, ReadyError>
     requires rest { IsAtRest (world cell.old status.old post.old) }
     ensures rest { IsAtRest (world cell.new status.new post.new) }
     ensures kept { IsKept (world cell.old status.old post.old) (world cell.new status.new post.new) }
     ensures block { IsBlock cell.old.who cell.old.journal cell.new.journal }
     ensures same_envelopes { post.new.envelopes.items ≡ post.old.envelopes.items }
+    ensures left { OnErr result (0 < length post.new.systems.items) }
     ensures all { IfOk result (λ count. (post.new.systems.items ≡ []) × (count ≡ length post.old.systems.items)) }
-    ensures full { result ≡ Err CellFault.JournalFull → cell.new.who.limit ≤ length cell.new.journal }
+    ensures full { IsErrOf result ReadyError.JournalFull ↔ (cell.new.who.limit ≤ length cell.new.journal) × (0 < length post.new.systems.items) }
 {
     let mut count = 0;
     while !post.systems.is_empty() {

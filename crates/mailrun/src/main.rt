@@ -2,40 +2,28 @@
 #![tactic(auto)]
 
 mod answer;
+mod arguments;
 mod drive;
+mod failure;
 mod input;
 mod mailbox;
 mod post;
 mod run;
 #[cfg(test)]
 mod tests;
+mod watched;
 
-use mb_scenario::{Fault, Place, Reason};
-use std::env;
-use std::io::ErrorKind;
+use arguments::argument_count;
+use drive::run_program;
 use std::process::ExitCode;
+use watched::Watched;
 
-/// The program takes no arguments: any is refused before anything is read.
 fn main(rt: HostRuntime) -> ExitCode {
-    let status = match env::args(&rt) {
-        Ok(arguments) if arguments.len() <= 1 => {
-            drive::drive(
-                rt.alloc(),
-                &mut rt.stdin(),
-                &mut rt.stdout(),
-                &mut rt.stderr(),
-            )
-        }
-        Ok(_) => drive::refuse(&mut rt.stderr(), &TOO_MANY_ARGUMENTS),
-        Err(error) if error.kind() == ErrorKind::OutOfMemory => {
-            drive::refuse(&mut rt.stderr(), &Fault::NoMemory)
-        }
-        Err(_) => drive::refuse(&mut rt.stderr(), &Fault::Os),
-    };
-    ExitCode::from(status)
+    ExitCode::from(run_program(
+        rt.alloc(),
+        argument_count(&rt),
+        &mut Watched::new(rt.stdin()),
+        &mut Watched::new(rt.stdout()),
+        &mut Watched::new(rt.stderr()),
+    ))
 }
-
-const TOO_MANY_ARGUMENTS: Fault = Fault::BadScenario {
-    place: Place::Arguments,
-    reason: Reason::TooMany,
-};

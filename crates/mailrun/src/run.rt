@@ -1,18 +1,19 @@
-ghost use Rattle.std.specs.Prelude.{◌≡◌, ◌+◌, ◌≤◌, [], ◌∷◌, length, IfOk};
+ghost use Rattle.std.specs.Prelude.{◌≡◌, ◌+◌, ◌≤◌, [], ◌∷◌, ◌↔◌, length, IfOk, OnErr, IsErrOf};
 ghost use Rattle.mb_actor.specs.Behaviour.{AllowsSame};
 ghost use Rattle.mb_msg.specs.declared.system.SysMsg.TheVariants.{Create};
 ghost use Rattle.mb_journal.specs.Log.{entry_of};
+ghost use Rattle.mb_journal.specs.Run.Stopped.{NoRoom};
 ghost use Rattle.mailrun.specs.Fates.{envelopes_of, is_of_envelope};
 ghost use Rattle.mailrun.specs.Post.{world};
-ghost use Rattle.mailrun.specs.Rest.{IsAtRest};
+ghost use Rattle.mailrun.specs.Rest.{IsAtRest, IsRunOf, IsUnended, IsWholeRun};
 ghost use Rattle.mailrun.specs.Sent.{sent, envelope_for};
-ghost use Rattle.mailrun.specs.Told.{IsTold, the_actor};
+ghost use Rattle.mailrun.specs.Told.{IsTold, default_throughput, the_actor};
 
-use crate::mailbox::run_mailbox;
+use crate::mailbox::{Turn, run_mailbox};
 use crate::post::Post;
 use mb_actor::{Actor, Behaviours, Phase};
-use mb_cell::{Cell, CellFault};
-use mb_journal::{Event, Journal, Record};
+use mb_cell::Cell;
+use mb_journal::{Arrival, Journal, ReadyError, Record};
 use mb_msg::{ActorId, Body, Envelope, SenderId, SysMsg, limits};
 use mb_scenario::Sending;
 use mb_status::Status;
@@ -28,15 +29,12 @@ const SENDER: SenderId = SenderId(limits::ACTORS);
 /// How many entries the actor's journal may have.
 const JOURNAL_LIMIT: u32 = u32::MAX;
 
-/// The word of a mailbox that is suspended once, since its actor is not started yet.
-const NOT_STARTED: u64 = 4;
-
 /// How many envelopes one run of the mailbox handles at most (the default of Akka's `throughput`).
 const THROUGHPUT: u32 = 5;
 
-/// What became of the actor.
+/// An actor that has handled all that it was sent.
 #[derive(Drop)]
-pub struct Outcome {
+pub struct Finished {
     /// Where it stands in its life.
     pub phase: Phase,
     /// Its content.
@@ -66,12 +64,12 @@ pub fn run<A: Actor, K: Behaviours>(
     alloc: Global,
     actor: A,
     sends: &[Sending],
-) -> Result<Outcome, CellFault>
+) -> Result<Finished, ReadyError>
     requires unused { A.content actor ≡ A.after actor [] }
     requires behaves { A.after actor ≡ K.after 1 }
     requires allows { AllowsSame (A.gives actor) (K.gives 1) }
     ensures told { IfOk result (IsTold (K.after 1) (K.gives 1) sends.now) }
-    ensures full { result ≡ Err CellFault.JournalFull → 4294967295 ≤ length sends.now + 1 }
+    ensures full { result ≡ Err ReadyError.JournalFull → 4294967295 ≤ length sends.now + 1 }
 {
     let Running {
         mut cell,
@@ -79,18 +77,35 @@ pub fn run<A: Actor, K: Behaviours>(
         mut post,
     } = match begin::<A, K>(alloc, actor, JOURNAL_LIMIT, sends) {
         Ok(running) => running,
-        Err(_) => return Err(CellFault::NoMemory),
+        Err(_) => return Err(ReadyError::NoMemory),
     };
-    run_mailbox(&mut cell, &mut status, &mut post, THROUGHPUT)?;
+    run_once(&mut cell, &mut status, &mut post)?;
     while !post.envelopes.is_empty() {
-        run_mailbox(&mut cell, &mut status, &mut post, THROUGHPUT)?;
+        run_once(&mut cell, &mut status, &mut post)?;
     }
-    Ok(Outcome {
+    Ok(Finished {
         phase: cell.phase(),
         state: cell.state(),
         suspended: cell.count(),
         handled: handled_in(cell.journal()),
     })
+}
+
+/// One run of the mailbox, of at most five envelopes. The faults are those of [`run_mailbox`].
+fn run_once<A: Actor, K: Behaviours>(
+    cell: &mut Cell<A, K>,
+    status: &mut Status,
+    post: &mut Post,
+) -> Result<Turn, ReadyError>
+    requires rest { IsAtRest (world cell.old status.old post.old) }
+    ensures whole { IfOk result (λ turn. IsWholeRun default_throughput
+        (world cell.old status.old post.old) (world cell.new status.new post.new) turn.systems turn.envelopes) }
+    ensures stopped { OnErr result (IsRunOf default_throughput
+        (world cell.old status.old post.old) (world cell.new status.new post.new) NoRoom) }
+    ensures full { IsErrOf result ReadyError.JournalFull ↔ (cell.new.who.limit ≤ length cell.new.journal)
+        × IsUnended default_throughput (world cell.old status.old post.old) (world cell.new status.new post.new) }
+{
+    run_mailbox(cell, status, post, THROUGHPUT)
 }
 
 /// The actor before its first run: nothing came to it, and its Create and the sends wait.
@@ -112,7 +127,7 @@ pub fn begin<A: Actor, K: Behaviours>(
     let post = post_of(alloc, sends)?;
     Ok(Running {
         cell: Cell::new(alloc, ACTOR, actor, journal_limit),
-        status: Status::of(NOT_STARTED).unwrap(),
+        status: Status::fresh(),
         post,
     })
 }
@@ -166,8 +181,8 @@ fn handled_in(journal: &Journal) -> usize
 fn tells_of_envelope(entry: &Record<'_>) -> bool
     ensures { result ≡ is_of_envelope (entry_of entry.now) }
 {
-    match entry.event {
-        Event::Handled { .. } | Event::Dropped { .. } => true,
-        Event::System { .. } | Event::SetAside { .. } => false,
+    match entry.arrival {
+        Arrival::Handled { .. } | Arrival::Dropped { .. } => true,
+        Arrival::System { .. } | Arrival::SetAside { .. } => false,
     }
 }

@@ -3,13 +3,16 @@
 ghost use Rattle.std.specs.Prelude.{◌≡◌, []};
 ghost use Rattle.mb_actor.specs.Behaviour.{AllowsSame};
 
-use crate::drive::{drive, refuse};
+use crate::arguments::argument_count;
+use crate::drive::run_program;
 use crate::mailbox::{Turn, run_mailbox};
 use crate::run::{Running, begin};
+use crate::watched::Watched;
 use mb_actor::{Actor, Behaviours};
-use mb_cell::CellFault;
-use mb_scenario::{Fault, Operation, Place, Reason, Row, Script, Sending};
+use mb_journal::ReadyError;
+use mb_scenario::{Operation, Row, Script, Sending};
 use std::alloc::Global;
+use std::env::{Env, FillError};
 use std::io;
 use std::io::{Read, Write};
 use std::marker::Brand;
@@ -41,6 +44,9 @@ a live state 6 suspended 0 handled 3 left 0 dead 0 restarts 0
 sent 3 handled 3 left 0 dead 0
 ";
 
+/// What a document is answered that is no scenario.
+const NOT_YET: &str = "mailrun: 12 BadScenario top: not yet\n";
+
 /// A reader that gives one byte at a time, and fails once it was read so often.
 #[derive(Drop)]
 struct Stumbling<'a> {
@@ -66,13 +72,23 @@ impl Read for Stumbling<'_> {
     }
 }
 
-/// A writer that fails at once.
+/// A writer that takes three bytes at a time, and only so many; then it fails, or takes nothing more.
 #[derive(Drop)]
-struct Broken;
+struct Narrow {
+    taken: Vec<u8>,
+    room: usize,
+    fails: bool,
+}
 
-impl Write for Broken {
-    fn write(&mut self, _buf: &[u8]) -> io::Result<usize> {
-        Err(io::Error::from(io::ErrorKind::Other))
+impl Write for Narrow {
+    fn write(&mut self, buf: &[u8]) -> io::Result<usize> {
+        let count = buf.len().min(3).min(self.room);
+        if count == 0 && self.fails {
+            return Err(io::Error::from(io::ErrorKind::Other));
+        }
+        self.taken.extend_from_slice(&buf[..count])?;
+        self.room -= count;
+        Ok(count)
     }
 
     fn flush(&mut self) -> io::Result<()> {
@@ -80,20 +96,78 @@ impl Write for Broken {
     }
 }
 
-/// Drives a text to its end; answers the status, standard output and the error output.
-fn driven(alloc: Global, text: &[u8]) -> (u8, Vec<u8>, Vec<u8>) {
+/// A writer that takes everything, and fails at each flush or at none.
+#[derive(Drop)]
+struct Flushing {
+    taken: Vec<u8>,
+    flushes: u32,
+    fails: bool,
+}
+
+impl Write for Flushing {
+    fn write(&mut self, buf: &[u8]) -> io::Result<usize> {
+        self.taken.extend_from_slice(buf)?;
+        Ok(buf.len())
+    }
+
+    fn flush(&mut self) -> io::Result<()> {
+        self.flushes = self.flushes.saturating_add(1);
+        if self.fails {
+            return Err(io::Error::from(io::ErrorKind::Other));
+        }
+        Ok(())
+    }
+}
+
+/// Arguments as a system gives them: bytes, the program's own path first.
+#[derive(Drop)]
+struct Given<'a> {
+    words: &'a [&'a [u8]],
+}
+
+impl Env for Given<'_> {
+    fn arg(&self, i: usize, buf: &mut [u8]) -> Result<usize, FillError> {
+        match self.words.get(i) {
+            Some(word) if word.len() <= buf.len() => Ok(word.len()),
+            Some(_) => Err(FillError::TooLong),
+            None => Err(FillError::NotPresent),
+        }
+    }
+
+    fn var(&self, _name: &str, _buf: &mut [u8]) -> Result<usize, FillError> {
+        Err(FillError::NotPresent)
+    }
+
+    fn var_at(&self, _i: usize, _buf: &mut [u8]) -> Result<usize, FillError> {
+        Err(FillError::NotPresent)
+    }
+}
+
+/// Runs the program on a reader; answers the status, standard output and the error output.
+fn ran(alloc: Global, arguments: usize, reader: &mut impl Read) -> (u8, Vec<u8>, Vec<u8>) {
     let mut written = Vec::new(alloc);
     let mut errors = Vec::new(alloc);
-    let mut rest = text;
-    let status = drive(alloc, &mut rest, &mut written, &mut errors);
+    let status = run_program(
+        alloc,
+        arguments,
+        &mut Watched::new(reader),
+        &mut Watched::new(&mut written),
+        &mut Watched::new(&mut errors),
+    );
     (status, written, errors)
 }
 
-/// Sees to it that the text is refused with this status and line, and nothing written.
-fn is_refused(rt: &impl Abort, alloc: Global, text: &[u8], status: u8, line: &str) {
+/// The same of a text, without arguments.
+fn driven(alloc: Global, text: &[u8]) -> (u8, Vec<u8>, Vec<u8>) {
+    let mut rest = text;
+    ran(alloc, 0, &mut rest)
+}
+
+/// Sees to it that the text is refused with the status 2 and this line, and nothing written.
+fn is_refused(rt: &impl Abort, alloc: Global, text: &[u8], line: &str) {
     let (found, written, errors) = driven(alloc, text);
     assert_eq!(rt; errors.as_slice(), line.as_bytes());
-    assert_eq!(rt; found, status);
+    assert_eq!(rt; found, 2);
     assert_eq!(rt; written.len(), 0);
 }
 
@@ -105,46 +179,95 @@ fn counts(rt: HostRuntime) {
     assert_eq!(rt; errors.len(), 0);
 }
 
+/// A scenario with so many sends of 1.
+fn with_sends(alloc: Global, count: usize) -> Result<String, Fail> {
+    let mut text = String::from_str(
+        alloc,
+        "workers = 0\n[[actor]]\nname = \"a\"\n[[actor.on]]\nkind = 1\ndo = [\"add\"]\n",
+    )?;
+    for _ in 0..count {
+        text.push_str("[[send]]\nto = \"a\"\nkind = 1\nvalue = 1\n")?;
+    }
+    Ok(text)
+}
+
+#[test]
+fn the_most_sends(rt: HostRuntime) -> Result<(), Fail> {
+    let text = with_sends(rt.alloc(), 10_000)?;
+    let (status, written, errors) = driven(rt.alloc(), text.as_bytes());
+    assert_eq!(rt; status, 0);
+    assert_eq!(rt;
+        written.as_slice(),
+        b"guardian live state - suspended 0 handled 0 left 0 dead 0 restarts 0
+a live state 10000 suspended 0 handled 10000 left 0 dead 0 restarts 0
+sent 10000 handled 10000 left 0 dead 0
+"
+            .as_slice()
+    );
+    assert_eq!(rt; errors.len(), 0);
+    let text = with_sends(rt.alloc(), 10_001)?;
+    is_refused(&rt, rt.alloc(), text.as_bytes(), NOT_YET);
+    Ok(())
+}
+
 #[test]
 fn refusals(rt: HostRuntime) -> Result<(), Fail> {
-    is_refused(&rt, rt.alloc(), b"[[actor", 2, "mailrun: 11 NotToml\n");
-    is_refused(&rt, rt.alloc(), b"\xff", 2, "mailrun: 11 NotToml\n");
-    is_refused(
-        &rt,
-        rt.alloc(),
-        b"",
-        2,
-        "mailrun: 12 BadScenario top: not yet\n",
-    );
+    is_refused(&rt, rt.alloc(), b"[[actor", "mailrun: 11 NotToml\n");
+    is_refused(&rt, rt.alloc(), b"\xff", "mailrun: 11 NotToml\n");
+    is_refused(&rt, rt.alloc(), b"", NOT_YET);
     let spaces = vec![in rt.alloc(); b' '; 1_048_577]?;
     is_refused(
         &rt,
         rt.alloc(),
         &spaces,
-        2,
         "mailrun: 12 BadScenario input: too many\n",
     );
-    is_refused(
-        &rt,
-        rt.alloc(),
-        &spaces[1..],
-        2,
-        "mailrun: 12 BadScenario top: not yet\n",
-    );
+    is_refused(&rt, rt.alloc(), &spaces[1..], NOT_YET);
     Ok(())
 }
 
 #[test]
-fn an_argument(rt: HostRuntime) {
-    let mut errors = Vec::new(rt.alloc());
-    let fault = Fault::BadScenario {
-        place: Place::Arguments,
-        reason: Reason::TooMany,
-    };
-    assert_eq!(rt; refuse(&mut errors, &fault), 2);
+fn arguments(rt: HostRuntime) {
+    for count in [1, 2, usize::MAX] {
+        let mut rest = COUNT.as_bytes();
+        let (status, written, errors) = ran(rt.alloc(), count, &mut rest);
+        assert_eq!(rt; status, 2);
+        assert_eq!(rt; written.len(), 0);
+        assert_eq!(rt;
+            errors.as_slice(),
+            b"mailrun: 12 BadScenario arguments: too many\n".as_slice()
+        );
+        assert_eq!(rt; rest, COUNT.as_bytes());
+    }
+}
+
+#[test]
+fn counting_arguments(rt: HostRuntime) {
+    let none: [&[u8]; 0] = [];
+    assert_eq!(rt; argument_count(&Given { words: &none }), 0);
     assert_eq!(rt;
-        errors.as_slice(),
-        b"mailrun: 12 BadScenario arguments: too many\n".as_slice()
+        argument_count(&Given {
+            words: &[b"mailrun"]
+        }),
+        0
+    );
+    assert_eq!(rt;
+        argument_count(&Given {
+            words: &[b"\xff\xff"]
+        }),
+        0
+    );
+    assert_eq!(rt;
+        argument_count(&Given {
+            words: &[b"mailrun", b""]
+        }),
+        1
+    );
+    assert_eq!(rt;
+        argument_count(&Given {
+            words: &[b"mailrun", b"\xff", b"x"]
+        }),
+        2
     );
 }
 
@@ -155,9 +278,7 @@ fn a_reader_that_fails(rt: HostRuntime) {
             text: COUNT.as_bytes(),
             reads,
         };
-        let mut written = Vec::new(rt.alloc());
-        let mut errors = Vec::new(rt.alloc());
-        let status = drive(rt.alloc(), &mut reader, &mut written, &mut errors);
+        let (status, written, errors) = ran(rt.alloc(), 0, &mut reader);
         assert_eq!(rt; status, 1, "after {reads} reads");
         assert_eq!(rt; written.len(), 0);
         assert_eq!(rt; errors.as_slice(), b"mailrun: 2 Os\n".as_slice());
@@ -170,25 +291,97 @@ fn a_reader_of_single_bytes(rt: HostRuntime) {
         text: COUNT.as_bytes(),
         reads: 1000,
     };
-    let mut written = Vec::new(rt.alloc());
-    let mut errors = Vec::new(rt.alloc());
-    let status = drive(rt.alloc(), &mut reader, &mut written, &mut errors);
+    let (status, written, _) = ran(rt.alloc(), 0, &mut reader);
     assert_eq!(rt; status, 0);
     assert_eq!(rt; written.as_slice(), COUNT_REPORT.as_bytes());
 }
 
+/// Runs the example with so much room on standard output and on the error output.
+fn with_room(
+    alloc: Global,
+    text: &[u8],
+    output: usize,
+    error: usize,
+    fails: bool,
+) -> (u8, Narrow, Narrow) {
+    let mut rest = text;
+    let mut writer = Narrow {
+        taken: Vec::new(alloc),
+        room: output,
+        fails,
+    };
+    let mut errors = Narrow {
+        taken: Vec::new(alloc),
+        room: error,
+        fails,
+    };
+    let status = run_program(
+        alloc,
+        0,
+        &mut Watched::new(&mut rest),
+        &mut Watched::new(&mut writer),
+        &mut Watched::new(&mut errors),
+    );
+    (status, writer, errors)
+}
+
 #[test]
-fn a_writer_that_fails(rt: HostRuntime) {
-    let mut errors = Vec::new(rt.alloc());
-    let mut rest = COUNT.as_bytes();
-    let status = drive(rt.alloc(), &mut rest, &mut Broken, &mut errors);
-    assert_eq!(rt; status, 1);
-    assert_eq!(rt; errors.as_slice(), b"mailrun: 2 Os\n".as_slice());
-    let mut rest = b"".as_slice();
-    let mut written = Vec::new(rt.alloc());
-    let status = drive(rt.alloc(), &mut rest, &mut written, &mut Broken);
-    assert_eq!(rt; status, 2);
-    assert_eq!(rt; written.len(), 0);
+fn writers_that_fail(rt: HostRuntime) {
+    let report = COUNT_REPORT.as_bytes();
+    for fails in [false, true] {
+        for room in [0, 1, 7, report.len() - 1] {
+            let (status, writer, errors) = with_room(
+                rt.alloc(),
+                COUNT.as_bytes(),
+                room,
+                100,
+                fails,
+            );
+            assert_eq!(rt; status, 1, "with room for {room}");
+            assert_eq!(rt; writer.taken.as_slice(), &report[..room]);
+            assert_eq!(rt; errors.taken.as_slice(), b"mailrun: 2 Os\n".as_slice());
+        }
+        let (status, writer, errors) = with_room(
+            rt.alloc(),
+            COUNT.as_bytes(),
+            report.len(),
+            0,
+            fails,
+        );
+        assert_eq!(rt; status, 0);
+        assert_eq!(rt; writer.taken.as_slice(), report);
+        assert_eq!(rt; errors.taken.len(), 0);
+        for room in [0, 9] {
+            let (status, writer, errors) = with_room(rt.alloc(), b"[", 100, room, fails);
+            assert_eq!(rt; status, 2, "with room for {room}");
+            assert_eq!(rt; writer.taken.len(), 0);
+            assert_eq!(rt; errors.taken.as_slice(), &b"mailrun: 11 NotToml\n"[..room]);
+        }
+    }
+}
+
+#[test]
+fn flushes(rt: HostRuntime) {
+    for fails in [false, true] {
+        let mut rest = COUNT.as_bytes();
+        let mut writer = Flushing {
+            taken: Vec::new(rt.alloc()),
+            flushes: 0,
+            fails,
+        };
+        let mut errors = Vec::new(rt.alloc());
+        let status = run_program(
+            rt.alloc(),
+            0,
+            &mut Watched::new(&mut rest),
+            &mut Watched::new(&mut writer),
+            &mut Watched::new(&mut errors),
+        );
+        assert_eq!(rt; status, u8::from(fails));
+        assert_eq!(rt; writer.taken.as_slice(), COUNT_REPORT.as_bytes());
+        assert_eq!(rt; writer.flushes, 1);
+        assert_eq!(rt; errors.is_empty(), !fails);
+    }
 }
 
 #[test]
@@ -209,7 +402,7 @@ fn each_prefix(rt: HostRuntime) {
 #[derive(Drop)]
 struct Runs {
     turns: Vec<Turn>,
-    fault: Option<CellFault>,
+    fault: Option<ReadyError>,
     state: i64,
 }
 
@@ -308,10 +501,10 @@ fn runs_by_throughput(rt: HostRuntime) -> Result<(), Fail> {
 #[test]
 fn a_full_journal_ends_a_run(rt: HostRuntime) -> Result<(), Fail> {
     let runs = added(rt.alloc(), 5, 2, 2)?;
-    assert_eq!(rt; runs.fault, Some(CellFault::JournalFull));
+    assert_eq!(rt; runs.fault, Some(ReadyError::JournalFull));
     assert_eq!(rt; runs.state, 1);
     let runs = added(rt.alloc(), 5, 1, 2)?;
-    assert_eq!(rt; runs.fault, Some(CellFault::JournalFull));
+    assert_eq!(rt; runs.fault, Some(ReadyError::JournalFull));
     assert_eq!(rt; runs.state, 0);
     Ok(())
 }

@@ -58,14 +58,15 @@ filter_filter : (p q : ActorId → Bool) (xs : List ActorId) → filter p (filte
 filter_filter p q [] = refl
 filter_filter p q (x ∷ xs) = kept_by_both (q x) p x (filter q xs) (filter (λ y. q y && p y) xs) (filter_filter p q xs)
 
-pub unspawned-settled : (o : Inside) → IsOutbox o → (left : ActorSet) →
-    ((x : ActorId) → contains left x ≡ (contains o.unspawned x && not (contains o.asked x))) →
-    filter (contains left) o.prepared.value.items
-    ≡ filter (λ x. not (has (spawns_of o.effects.items) x)) (filter (contains o.unspawned) o.prepared.value.items)
-unspawned-settled o kept left says =
-    filter_agree (contains left) (λ x. contains o.unspawned x && not (has (spawns_of o.effects.items) x))
-    (λ x. says x ∙ ap (λ b. contains o.unspawned x && not b) (kept.asked x)) o.prepared.value.items
-    ∙ sym (filter_filter (λ x. not (has (spawns_of o.effects.items) x)) (contains o.unspawned) o.prepared.value.items)
+-- the children that are left once those are taken out that the effects start
+pub unspawned-settled : (left spawned new : ActorSet) (prepared : List ActorId) (effects : List Effect) →
+    ((x : ActorId) → contains spawned x ≡ has (spawns_of effects) x) →
+    ((x : ActorId) → contains new x ≡ (contains left x && not (contains spawned x))) →
+    filter (contains new) prepared ≡ filter (λ x. not (has (spawns_of effects) x)) (filter (contains left) prepared)
+unspawned-settled left spawned new prepared effects asked says =
+    filter_agree (contains new) (λ x. contains left x && not (has (spawns_of effects) x))
+    (λ x. says x ∙ ap (λ b. contains left x && not b) (asked x)) prepared
+    ∙ sym (filter_filter (λ x. not (has (spawns_of effects) x)) (contains left) prepared)
 
 -- a list by a test that all of it passes
 pub filter_own : (p : ActorId → Bool) (list : List ActorId) → ((x : ActorId) → has list x ≡ true → p x ≡ true) → filter p list ≡ list
@@ -77,7 +78,7 @@ filter_own p (x ∷ list) h =
 pub same_tray : (a b : Tray) → a.effects ≡ b.effects → a.actors ≡ b.actors → a.unspawned ≡ b.unspawned → a ≡ b
 same_tray a b e n u = λ i. record { effects = e i; actors = n i; unspawned = u i }
 
-both_true : (a b : Bool) → (a && b) ≡ true → a ≡ true
+pub both_true : (a b : Bool) → (a && b) ≡ true → a ≡ true
 both_true a b h = grind rules
 
 pub small : (set : ActorSet) → set.bits < 2 ^ 64 → (x : ActorId) → contains set x ≡ true → x.0 < 64

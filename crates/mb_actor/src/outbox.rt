@@ -133,9 +133,9 @@ impl Outbox {
     pub fn settle(&mut self)
         ensures { self.new ≡ settled self.old }
     {
-        self.unspawned.remove_all(self.asked);
-        self.asked = ActorSet::new();
-        self.effects.clear();
+        let spawned = self.asked;
+        self.clear();
+        self.unspawned.remove_all(spawned);
     }
 
     /// Makes it ready for the next call, where the effects are let go: it is empty, and nothing else has changed.

@@ -2,21 +2,25 @@
 use Rattle.std.proofs.Common.{ℕ, ◌<◌, List, length, All, IsTrue, arith}
 use Rattle.std.proofs.lemmas.Grind.{common_steps}
 use Rattle.mb_core.specs.declared.event.Event.{Event}
+use Rattle.mb_core.specs.declared.event.Step.{Step}
 use Rattle.mb_core.specs.Actor.{Actor, at_start}
-use Rattle.mb_core.specs.Event.{party_of}
 use Rattle.mb_core.specs.Held.{IsHeldRightly}
-use Rattle.mb_core.specs.Run.{Change, Step, LeadsTo, can_start}
+use Rattle.mb_core.specs.Run.{Change, Transition, LeadsTo, can_start}
 use Rattle.mb_core.proofs.KeptLemmas.{at_before, after_step, after_run, after_start}
 
 -- the change keeps the fact
-pub held_change : (x : Actor) (event : Event) (y : Actor) → Change x event y → party_of event < length x.owed → IsHeldRightly x → IsHeldRightly y
-held_change x event y change there held = grind (arith, common_steps)
+pub held_change :
+    (x : Actor) (party : ℕ) (step : Step) (y : Actor) → Change x party step y → party < length x.owed →
+    IsHeldRightly x → IsHeldRightly y
+held_change x party step y change there held = grind (arith, common_steps)
 
 -- so the step keeps it of all
-pub held_step : (old : List Actor) (event : Event) (new : List Actor) → Step old event new → All IsHeldRightly old → All IsHeldRightly new
+pub held_step :
+    (old : List Actor) (event : Event) (new : List Actor) →
+    Transition old event new → All IsHeldRightly old → All IsHeldRightly new
 held_step old event new step all =
     after_step IsHeldRightly old event new step
-    (held_change step.before event step.after step.change step.party_there (at_before IsHeldRightly old event new step all))
+    (held_change step.before event.party event.step step.after step.change step.party_there (at_before IsHeldRightly old event new step all))
     all
 
 pub held_start : (parties word : ℕ) → IsTrue (can_start word) → IsHeldRightly (at_start parties word)

@@ -4,28 +4,29 @@ use Rattle.std.proofs.lemmas.List.Elements.{All-set, All-get_or, All-map}
 use Rattle.std.proofs.lemmas.Option.{slice_get_within, get_or_from_slice_get}
 use Rattle.mb_core.specs.declared.event.Event.{Event}
 use Rattle.mb_core.specs.Actor.{Actor, at_start}
-use Rattle.mb_core.specs.Event.{actor_of}
-use Rattle.mb_core.specs.Run.{Step, Run, can_start, start}
+use Rattle.mb_core.specs.Run.{Transition, Run, can_start, start}
 
 -- the fact at the event's actor, from the fact at all
-pub at_before : (P : Actor → Type 0) (old : List Actor) (event : Event) (new : List Actor) (step : Step old event new) → All P old → P step.before
+pub at_before :
+    (P : Actor → Type 0) (old : List Actor) (event : Event) (new : List Actor) (step : Transition old event new) →
+    All P old → P step.before
 at_before P old event new step all =
-    let inside = slice_get_within old (actor_of event) step.before step.actor_there in
-    let here : get_or old (actor_of event) step.before ≡ step.before =
-    get_or_from_slice_get old (actor_of event) step.before step.before step.actor_there in
-    subst P here (All-get_or P old (actor_of event) step.before inside all)
+    let inside = slice_get_within old event.actor.0 step.before step.actor_there in
+    let here : get_or old event.actor.0 step.before ≡ step.before =
+    get_or_from_slice_get old event.actor.0 step.before step.before step.actor_there in
+    subst P here (All-get_or P old event.actor.0 step.before inside all)
 
 -- the fact at all, from the fact at what the event made of its actor
 pub after_step :
-    (P : Actor → Type 0) (old : List Actor) (event : Event) (new : List Actor) (step : Step old event new) →
+    (P : Actor → Type 0) (old : List Actor) (event : Event) (new : List Actor) (step : Transition old event new) →
     P step.after → All P old → All P new
 after_step P old event new step here all =
-    subst (All P) (sym step.others_stay) (All-set P old (actor_of event) step.after here all)
+    subst (All P) (sym step.others_stay) (All-set P old event.actor.0 step.after here all)
 
 -- a fact that each step keeps, each run keeps
 pub after_run :
     (P : Actor → Type 0) →
-    ((old : List Actor) (event : Event) (new : List Actor) → Step old event new → All P old → All P new) →
+    ((old : List Actor) (event : Event) (new : List Actor) → Transition old event new → All P old → All P new) →
     (old : List Actor) (events : List Event) (new : List Actor) → Run old events new → All P old → All P new
 after_run P kept old [] new run all = subst (All P) (sym run) all
 after_run P kept old (event ∷ events) new run all =

@@ -5,3 +5,5 @@ pub mod MailboxLemmas
 pub mod SettledLemmas
 pub mod KeptLemmas
 pub mod RunnableLemmas
+pub mod BetweenLemmas
+pub mod PartiesLemmas

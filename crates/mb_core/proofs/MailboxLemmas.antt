@@ -3,10 +3,10 @@ use Rattle.std.proofs.Common.{ℕ, ◌<◌, List, length, All, IsTrue, arith}
 use Rattle.std.proofs.lemmas.Bool.Decides.{nat_tests}
 use Rattle.mb_status.specs.Mailbox.{Mailbox, is_possible, is_valid, word_of, mailbox_of}
 use Rattle.mb_core.specs.declared.event.Event.{Event}
+use Rattle.mb_core.specs.declared.event.Step.{Step}
 use Rattle.mb_core.specs.Actor.{Actor, at_start}
-use Rattle.mb_core.specs.Event.{party_of}
 use Rattle.mb_core.specs.Held.{HasPossibleMailbox}
-use Rattle.mb_core.specs.Run.{Change, Step, LeadsTo, can_start}
+use Rattle.mb_core.specs.Run.{Change, Transition, LeadsTo, can_start}
 use Rattle.mb_core.proofs.KeptLemmas.{at_before, after_step, after_run, after_start}
 
 -- the word of a possible mailbox is a valid one
@@ -19,18 +19,24 @@ possible_start word valid = grind (arith, nat_tests)
 valid_of : (word : ℕ) → IsTrue (can_start word) → IsTrue (is_valid word)
 valid_of word can = grind arith
 
-pub possible_change : (x : Actor) (event : Event) (y : Actor) → Change x event y → IsTrue (is_possible x.mailbox) → IsTrue (is_possible y.mailbox)
-possible_change x event y change possible = grind (arith, nat_tests)
+pub possible_change :
+    (x : Actor) (party : ℕ) (step : Step) (y : Actor) → Change x party step y →
+    IsTrue (is_possible x.mailbox) → IsTrue (is_possible y.mailbox)
+possible_change x party step y change possible = grind (arith, nat_tests)
 
-pub mailbox_change : (x : Actor) (event : Event) (y : Actor) → Change x event y → party_of event < length x.owed → HasPossibleMailbox x → HasPossibleMailbox y
-mailbox_change x event y change there has =
-    let possible = possible_change x event y change has.possible in
+pub mailbox_change :
+    (x : Actor) (party : ℕ) (step : Step) (y : Actor) → Change x party step y → party < length x.owed →
+    HasPossibleMailbox x → HasPossibleMailbox y
+mailbox_change x party step y change there has =
+    let possible = possible_change x party step y change has.possible in
     record { possible = possible; word_valid = valid_word y.mailbox possible }
 
-pub mailbox_step : (old : List Actor) (event : Event) (new : List Actor) → Step old event new → All HasPossibleMailbox old → All HasPossibleMailbox new
+pub mailbox_step :
+    (old : List Actor) (event : Event) (new : List Actor) →
+    Transition old event new → All HasPossibleMailbox old → All HasPossibleMailbox new
 mailbox_step old event new step all =
     after_step HasPossibleMailbox old event new step
-    (mailbox_change step.before event step.after step.change step.party_there (at_before HasPossibleMailbox old event new step all))
+    (mailbox_change step.before event.party event.step step.after step.change step.party_there (at_before HasPossibleMailbox old event new step all))
     all
 
 mailbox_start : (parties word : ℕ) → IsTrue (can_start word) → HasPossibleMailbox (at_start parties word)

@@ -1,45 +1,48 @@
 -- An event has one outcome at most, and so has a run.
-use Rattle.std.proofs.Common.{◌≡◌, ◌↔◌, ℕ, suc, ◌<◌, ◌≤◌, Bool, false, IsTrue, IsSome, Option, All, List, ◌∷◌, Some, length, get_or, drop, ap, sym, ◌∙◌, refl, subst}
+use Rattle.std.proofs.Common.{◌≡◌, ◌↔◌, ℕ, suc, ◌<◌, ◌≤◌, Bool, false, IsTrue, IsSome, Option, All, List, ◌∷◌, Some}
+use Rattle.std.proofs.Common.{length, get_or, drop, ap, sym, ◌∙◌, refl, subst}
 use Rattle.std.proofs.lemmas.Option.{same_Some}
 use Rattle.std.proofs.lemmas.List.{drop_all}
 use Rattle.std.proofs.Math.ListN.{set}
 use Rattle.std.proofs.Math.Seq.{drop-cons}
 use Rattle.mb_core.specs.declared.event.Event.{Event}
-use Rattle.mb_core.specs.declared.event.Event.TheVariants.{Read, Schedule, Idle, Suspend, Resume, Close, Sent, Unsent, Taken, Count, Push, Take, SysAdd, SysRead, SysDrain, SysEnd}
+use Rattle.mb_core.specs.declared.event.Step.{Step}
+use Rattle.mb_core.specs.declared.event.Step.TheVariants.{Read, Schedule, Idle, Suspend, Resume, Close, Sent, Unsent}
+use Rattle.mb_core.specs.declared.event.Step.TheVariants.{Taken, Count, Push, Take, SysAdd, SysRead, SysDrain, SysEnd}
 use Rattle.mb_core.specs.Actor.{Actor}
-use Rattle.mb_core.specs.Event.{actor_of}
-use Rattle.mb_core.specs.Run.{Change, Step, Run, IsStepped, LeadsTo, can_start, start}
+use Rattle.mb_core.specs.Run.{Change, Transition, Run, IsMade, LeadsTo, can_start, start}
 
--- what an event makes of its actor is one thing
-pub one_change : (x : Actor) (event : Event) (y z : Actor) → Change x event y → Change x event z → z ≡ y
-one_change x (Read party actor) y z one other = other ∙ sym one
-one_change x (Schedule party actor) y z one other = other.2 ∙ sym one.2
-one_change x (Idle party actor rest) y z one other = other.1 ∙ sym one.1
-one_change x (Suspend party actor) y z one other = other.2 ∙ sym one.2
-one_change x (Resume party actor) y z one other = other.1 ∙ sym one.1
-one_change x (Close party actor) y z one other = other.1 ∙ sym one.1
-one_change x (Sent party actor) y z one other = other ∙ sym one
-one_change x (Unsent party actor) y z one other = other.1 ∙ sym one.1
-one_change x (Taken party actor) y z one other = other.1 ∙ sym one.1
-one_change x (Count party actor) y z one other = other ∙ sym one
-one_change x (Push party actor envelope) y z one other = other ∙ sym one
-one_change x (Take party actor place) y z one other = other.2 ∙ sym one.2
-one_change x (SysAdd party actor message) y z one other = other.1 ∙ sym one.1
-one_change x (SysRead party actor) y z one other = other ∙ sym one
-one_change x (SysDrain party actor) y z one other = other.1 ∙ sym one.1
-one_change x (SysEnd party actor) y z one other = other.2 ∙ sym one.2
+-- what a step makes of its actor is one thing
+pub one_change : (x : Actor) (party : ℕ) (step : Step) (y z : Actor) → Change x party step y → Change x party step z → z ≡ y
+one_change x party Read y z one other = other ∙ sym one
+one_change x party Schedule y z one other = other.2 ∙ sym one.2
+one_change x party (Idle rest) y z one other = other.1 ∙ sym one.1
+one_change x party Suspend y z one other = other.2 ∙ sym one.2
+one_change x party Resume y z one other = other.1 ∙ sym one.1
+one_change x party Close y z one other = other.1 ∙ sym one.1
+one_change x party Sent y z one other = other ∙ sym one
+one_change x party Unsent y z one other = other.1 ∙ sym one.1
+one_change x party Taken y z one other = other.1 ∙ sym one.1
+one_change x party Count y z one other = other ∙ sym one
+one_change x party (Push envelope) y z one other = other ∙ sym one
+one_change x party (Take place) y z one other = other.2 ∙ sym one.2
+one_change x party (SysAdd message) y z one other = other.1 ∙ sym one.1
+one_change x party SysRead y z one other = other ∙ sym one
+one_change x party SysDrain y z one other = other.1 ∙ sym one.1
+one_change x party SysEnd y z one other = other.2 ∙ sym one.2
 
 -- one event leads to one state
-pub one_step : (old : List Actor) (event : Event) (new other : List Actor) → Step old event new → Step old event other → other ≡ new
+pub one_step : (old : List Actor) (event : Event) (new other : List Actor) → Transition old event new → Transition old event other → other ≡ new
 one_step old event new other one two =
     let same_before : two.before ≡ one.before = same_Some two.before one.before (sym two.actor_there ∙ one.actor_there) in
-    let change : Change one.before event two.after = subst (λ (x : Actor). Change x event two.after) same_before two.change in
-    let same_after : two.after ≡ one.after = one_change one.before event one.after two.after one.change change in
-    two.others_stay ∙ ap (set old (actor_of event)) same_after ∙ sym one.others_stay
+    let change : Change one.before event.party event.step two.after =
+    subst (λ (x : Actor). Change x event.party event.step two.after) same_before two.change in
+    let same_after : two.after ≡ one.after = one_change one.before event.party event.step one.after two.after one.change change in
+    two.others_stay ∙ ap (set old event.actor.0) same_after ∙ sym one.others_stay
 
 -- once the first event is made, the rest leads where all of them lead
 pub rest_leads :
-    (old : List Actor) (event : Event) (events : List Event) (next state : List Actor) → Step old event next →
+    (old : List Actor) (event : Event) (events : List Event) (next state : List Actor) → Transition old event next →
     Run old (event ∷ events) state ↔ Run next events state
 rest_leads old event events next state step = (
   λ whole. subst (λ (s : List Actor). Run s events state) (one_step old event next whole.0 step whole.1) whole.2,
@@ -60,7 +63,7 @@ leads_here words parties events found first now index starts is ended same = rec
 -- where the next event is refused, the events lead nowhere
 pub no_run :
     (old now new : List Actor) (events : List Event) (index : ℕ) (event : Event) (done : Bool) → index < length events →
-    event ≡ get_or events index event → IsStepped now event new done → done ≡ false →
+    event ≡ get_or events index event → IsMade now event new done → done ≡ false →
     ((state : List Actor) → Run old events state ↔ Run now (drop index events) state) →
     (state : List Actor) → Run old events state → ⊥
 no_run old now new events index event done inside next stepped refused same state run =
@@ -68,5 +71,5 @@ no_run old now new events index event done inside next stepped refused same stat
     drop-cons events index event inside ∙ ap (λ (e : Event). e ∷ drop (suc index) events) (sym next) in
     let here : Run now (event ∷ drop (suc index) events) state =
     subst (λ (es : List Event). Run now es state) left ((same state).0 run) in
-    let never : (other : List Actor) → Step now event other → ⊥ = subst (IsStepped now event new) refused stepped in
+    let never : (other : List Actor) → Transition now event other → ⊥ = subst (IsMade now event new) refused stepped in
     never here.0 here.1

@@ -1,5 +1,6 @@
 -- Each event keeps that nothing is stranded.
-use Rattle.std.proofs.Common.{◌≡◌, ℕ, ◌<◌, inl, inr, Bool, true, false, ◌||◌, List, [], ◌∷◌, length, get_or, All, Any, Some, IsTrue, IsFalse, sym, ap, subst, refl, ◌∙◌, arith, ◌==◌, if◌then◌else◌}
+use Rattle.std.proofs.Common.{◌≡◌, ℕ, ◌<◌, inl, inr, Bool, true, false, ◌||◌, ◌==◌, if◌then◌else◌, List, [], ◌∷◌, length, get_or}
+use Rattle.std.proofs.Common.{All, Any, Some, IsTrue, IsFalse, sym, ap, subst, refl, ◌∙◌, arith}
 use Rattle.std.proofs.Math.ListN.{set}
 use Rattle.std.proofs.lemmas.List.{length-set, get_or_default, get_or-set_other}
 use Rattle.std.proofs.lemmas.List.Quantifiers.{any-set}
@@ -8,11 +9,12 @@ use Rattle.std.proofs.lemmas.Bool.Decides.{nat_tests}
 use Rattle.mb_status.specs.Mailbox.{Mailbox, suspend}
 use Rattle.mb_core.specs.declared.debt.Debt.{Debt}
 use Rattle.mb_core.specs.declared.event.Event.{Event}
-use Rattle.mb_core.specs.declared.event.Event.TheVariants.{Read, Schedule, Idle, Suspend, Resume, Close, Sent, Unsent, Taken, Count, Push, Take, SysAdd, SysRead, SysDrain, SysEnd}
+use Rattle.mb_core.specs.declared.event.Step.{Step}
+use Rattle.mb_core.specs.declared.event.Step.TheVariants.{Read, Schedule, Idle, Suspend, Resume, Close, Sent, Unsent}
+use Rattle.mb_core.specs.declared.event.Step.TheVariants.{Taken, Count, Push, Take, SysAdd, SysRead, SysDrain, SysEnd}
 use Rattle.mb_core.specs.Actor.{Actor, at_start, nothing, owing, debt_of, has_work}
-use Rattle.mb_core.specs.Event.{party_of}
 use Rattle.mb_core.specs.Held.{IsHeldRightly}
-use Rattle.mb_core.specs.Run.{Change, Step, Run, LeadsTo, can_start, after_reading}
+use Rattle.mb_core.specs.Run.{Change, Transition, Run, LeadsTo, can_start, after_reading}
 use Rattle.mb_core.specs.Settled.{IsSettled, IsOwedSystem, IsOwedMessage}
 use Rattle.mb_core.proofs.HeldLemmas.{held_step, held_start}
 use Rattle.mb_core.proofs.KeptLemmas.{at_before, after_step, after_start}
@@ -28,7 +30,8 @@ any_set_kept P xs i y inside kept some =
         | inl less ↦ other (omega arith)
         | inr more ↦
             let same : some.0 ≡ i = omega arith in
-            let read : get_or xs i nothing ≡ some.1 = ap (λ k. get_or xs k nothing) (sym same) ∙ get_or_default xs some.0 nothing some.1 some.2 ∙ some.3 in
+            let read : get_or xs i nothing ≡ some.1 =
+            ap (λ k. get_or xs k nothing) (sym same) ∙ get_or_default xs some.0 nothing some.1 some.2 ∙ some.3 in
             any-set P xs i y inside (kept (subst P (sym read) some.4))
       ]
     ]
@@ -37,7 +40,9 @@ any_set_kept P xs i y inside kept some =
     other apart = (some.0, some.1, rw length-set some.2, get_or-set_other xs i some.0 y some.1 apart ∙ some.3, some.4)
 
 -- a free actor is held by nobody
-pub nobody : (x : Actor) (party : ℕ) → IsHeldRightly x → IsFalse x.mailbox.closed → IsFalse x.mailbox.scheduled → x.holder ≡ Some party → ⊥
+pub nobody :
+    (x : Actor) (party : ℕ) → IsHeldRightly x → IsFalse x.mailbox.closed → IsFalse x.mailbox.scheduled →
+    x.holder ≡ Some party → ⊥
 nobody x party held open_ free is = grind (arith, held.free open_ free)
 
 -- what a party owes after reading the status of an open mailbox that nobody holds
@@ -54,14 +59,16 @@ read_message m debt open_ free unsuspended = grind (arith, nat_tests)
 pub system_kept :
     (x : Actor) (party : ℕ) (debt : Debt) → party < length x.owed → (IsTrue (debt_of x party).system → IsTrue debt.system) →
     IsOwedSystem x → IsOwedSystem (owing x party debt)
-system_kept x party debt there kept some = any_set_kept (λ d. IsTrue d.system) x.owed party debt there kept some
+system_kept x party debt there kept some =
+    any_set_kept (λ d. IsTrue d.system) x.owed party debt there kept some
 
 -- nor for envelopes
 pub message_kept :
     (x : Actor) (party : ℕ) (debt : Debt) → party < length x.owed →
     (IsTrue ((debt_of x party).message || (debt_of x party).sending) → IsTrue (debt.message || debt.sending)) →
     IsOwedMessage x → IsOwedMessage (owing x party debt)
-message_kept x party debt there kept some = any_set_kept (λ d. IsTrue (d.message || d.sending)) x.owed party debt there kept some
+message_kept x party debt there kept some =
+    any_set_kept (λ d. IsTrue (d.message || d.sending)) x.owed party debt there kept some
 
 pub owes_system : (x : Actor) (party : ℕ) (debt : Debt) → party < length x.owed → IsTrue debt.system → IsOwedSystem (owing x party debt)
 owes_system x party debt there owes = any-set (λ d. IsTrue d.system) x.owed party debt there owes
@@ -104,9 +111,9 @@ settled_look x party y false found there change settled = rw change (record {
 
 -- The change keeps the fact. What its holder does to an actor cannot strand it: it is scheduled or closed.
 pub settled_change :
-    (x : Actor) (event : Event) (y : Actor) → Change x event y → party_of event < length x.owed →
+    (x : Actor) (party : ℕ) (step : Step) (y : Actor) → Change x party step y → party < length x.owed →
     IsHeldRightly x → IsSettled x → IsSettled y
-settled_change x (Read party actor) y change there held settled = rw change (record {
+settled_change x party Read y change there held settled = rw change (record {
   system = λ open_ free work.
       system_kept x party _ there (λ was. rw (read_system x.mailbox (debt_of x party) open_ free) was) (settled.system open_ free work);
   message = λ open_ free unsuspended waits.
@@ -114,63 +121,63 @@ settled_change x (Read party actor) y change there held settled = rw change (rec
       (λ was. rw (read_message x.mailbox (debt_of x party) open_ free unsuspended) was)
       (settled.message open_ free unsuspended waits);
 })
-settled_change x (Schedule party actor) y change there held settled =
+settled_change x party Schedule y change there held settled =
     rw change.2 (record { system = λ open_ free work. cc; message = λ open_ free unsuspended waits. cc })
-settled_change x (Idle party actor rest) y change there held settled = rw change.1 (record {
+settled_change x party (Idle rest) y change there held settled = rw change.1 (record {
   system = λ open_ free work. owes_system x party _ there refl;
   message = λ open_ free unsuspended waits. owes_message x party _ there refl;
 })
-settled_change x (Suspend party actor) y change there held settled = rw change.2 (record {
+settled_change x party Suspend y change there held settled = rw change.2 (record {
   system = λ open_ free work.
       absurd (nobody x party held (sym (suspend-closed x.mailbox) ∙ open_) (sym (suspend-scheduled x.mailbox) ∙ free) change.0);
   message = λ open_ free unsuspended waits.
       absurd (nobody x party held (sym (suspend-closed x.mailbox) ∙ open_) (sym (suspend-scheduled x.mailbox) ∙ free) change.0);
 })
-settled_change x (Resume party actor) y change there held settled = rw change.1 (record {
+settled_change x party Resume y change there held settled = rw change.1 (record {
   system = λ open_ free work. absurd (nobody x party held open_ free change.0);
   message = λ open_ free unsuspended waits. absurd (nobody x party held open_ free change.0);
 })
-settled_change x (Close party actor) y change there held settled =
+settled_change x party Close y change there held settled =
     rw change.1 (record { system = λ open_ free work. cc; message = λ open_ free unsuspended waits. cc })
-settled_change x (Sent party actor) y change there held settled = rw change (record {
+settled_change x party Sent y change there held settled = rw change (record {
   system = λ open_ free work. system_kept x party _ there (λ was. was) (settled.system open_ free work);
   message = λ open_ free unsuspended waits. owes_message x party _ there (or_true (debt_of x party).message);
 })
-settled_change x (Unsent party actor) y change there held settled = rw change.1 (record {
+settled_change x party Unsent y change there held settled = rw change.1 (record {
   system = λ open_ free work. system_kept x party _ there (λ was. was) (settled.system open_ free work);
   message = λ open_ free unsuspended waits. owes_message x party _ there refl;
 })
-settled_change x (Taken party actor) y change there held settled = rw change.1 (record {
+settled_change x party Taken y change there held settled = rw change.1 (record {
   system = λ open_ free work. absurd (nobody x party held open_ free change.0);
   message = λ open_ free unsuspended waits. absurd (nobody x party held open_ free change.0);
 })
-settled_change x (Count party actor) y change there held settled =
+settled_change x party Count y change there held settled =
     settled_count x party y (x.waiting == 0) refl there change settled
-settled_change x (Push party actor envelope) y change there held settled =
+settled_change x party (Push envelope) y change there held settled =
     rw change (record { system = settled.system; message = settled.message })
-settled_change x (Take party actor place) y change there held settled =
+settled_change x party (Take place) y change there held settled =
     rw change.2 (record { system = settled.system; message = settled.message })
-settled_change x (SysAdd party actor message) y change there held settled = rw change.1 (record {
+settled_change x party (SysAdd message) y change there held settled = rw change.1 (record {
   system = λ open_ free work. owes_system x party _ there refl;
   message = λ open_ free unsuspended waits.
       message_kept x party _ there (λ was. was) (settled.message open_ free unsuspended waits);
 })
-settled_change x (SysRead party actor) y change there held settled =
+settled_change x party SysRead y change there held settled =
     settled_look x party y (has_work x.system) refl there change settled
-settled_change x (SysDrain party actor) y change there held settled = rw change.1 (record {
+settled_change x party SysDrain y change there held settled = rw change.1 (record {
   system = λ open_ free work. absurd (nobody x party held open_ free change.0);
   message = settled.message;
 })
-settled_change x (SysEnd party actor) y change there held settled =
+settled_change x party SysEnd y change there held settled =
     rw change.2 (record { system = λ open_ free work. cc; message = settled.message })
 
 -- so the step keeps it of all
 pub settled_step :
-    (old : List Actor) (event : Event) (new : List Actor) → Step old event new →
+    (old : List Actor) (event : Event) (new : List Actor) → Transition old event new →
     All IsHeldRightly old → All IsSettled old → All IsSettled new
 settled_step old event new step held settled =
     after_step IsSettled old event new step
-    (settled_change step.before event step.after step.change step.party_there
+    (settled_change step.before event.party event.step step.after step.change step.party_there
     (at_before IsHeldRightly old event new step held) (at_before IsSettled old event new step settled))
     settled
 

@@ -1,11 +1,13 @@
 -- The actors as a run begins, word by word.
-use Rattle.std.proofs.Common.{◌≡◌, ℕ, ◌+◌, ◌<◌, false, List, [], ◌∷◌, ◌++◌, length, map, take, get_or, IsTrue, ap, sym, ◌∙◌}
+use Rattle.std.proofs.Common.{◌≡◌, ℕ, ◌+◌, ◌<◌, false, List, [], ◌∷◌, ◌++◌, length, map, take, get_or}
+use Rattle.std.proofs.Common.{IsTrue, ap, sym, ◌∙◌}
 use Rattle.std.proofs.lemmas.List.{take_more, map-append}
 use Rattle.mb_status.specs.Mailbox.{Mailbox, mailbox_of, is_valid}
 use Rattle.mb_core.specs.Actor.{Actor, at_start}
 use Rattle.mb_core.specs.Run.{can_start, start}
 
-pub can_start_by : (word : ℕ) (m : Mailbox) → IsTrue (is_valid word) → m ≡ mailbox_of word → m.scheduled ≡ false → IsTrue (can_start word)
+pub can_start_by :
+    (word : ℕ) (m : Mailbox) → IsTrue (is_valid word) → m ≡ mailbox_of word → m.scheduled ≡ false → IsTrue (can_start word)
 can_start_by word m valid same free =
     let unscheduled : (mailbox_of word).scheduled ≡ false = ap (λ (n : Mailbox). n.scheduled) (sym same) ∙ free in
     rw (valid, unscheduled)

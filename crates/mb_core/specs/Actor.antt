@@ -1,5 +1,6 @@
 -- The state of the machine. It is what Akka's dispatcher and mailboxes share between threads, in this project's own form.
-use Rattle.std.specs.Prelude.{ℕ, Bool, true, false, List, [], ◌∷◌, replicate, slice_get, slice_index_or, slice_set, option_and_then, Option, Some, None}
+use Rattle.std.specs.Prelude.{ℕ, Bool, true, false, List, [], ◌∷◌, replicate, slice_get, slice_index_or, slice_set}
+use Rattle.std.specs.Prelude.{option_and_then, Option, Some, None}
 use Rattle.mb_status.specs.Mailbox.{Mailbox, mailbox_of}
 use Rattle.mb_msg.specs.declared.envelope.Envelope.{Envelope}
 use Rattle.mb_msg.specs.declared.system.SysMsg.{SysMsg}

@@ -1,18 +1,18 @@
 -- What the laws say: a fact of an actor that is kept, and that so holds after every run.
 use Rattle.std.specs.Prelude.{ℕ, ◌<◌, List, All, length}
 use Rattle.mb_core.specs.declared.event.Event.{Event}
+use Rattle.mb_core.specs.declared.event.Step.{Step}
 use Rattle.mb_core.specs.Actor.{Actor}
-use Rattle.mb_core.specs.Event.{party_of}
-use Rattle.mb_core.specs.Run.{Change, Step, LeadsTo}
+use Rattle.mb_core.specs.Run.{Change, Transition, LeadsTo}
 
--- an event keeps the fact at its actor
+-- a step keeps the fact at its actor
 abbrev pub ChangesKeep : (Actor → Type 0) → Type 0
 ChangesKeep P =
-    (x : Actor) (event : Event) (y : Actor) → Change x event y → party_of event < length x.owed → P x → P y
+    (x : Actor) (party : ℕ) (step : Step) (y : Actor) → Change x party step y → party < length x.owed → P x → P y
 
 -- an event keeps the fact of all actors
 abbrev pub StepsKeep : (Actor → Type 0) → Type 0
-StepsKeep P = (old : List Actor) (event : Event) (new : List Actor) → Step old event new → All P old → All P new
+StepsKeep P = (old : List Actor) (event : Event) (new : List Actor) → Transition old event new → All P old → All P new
 
 -- the fact holds of all actors after every run
 abbrev pub EveryRunHas : (Actor → Type 0) → Type 0
@@ -20,11 +20,11 @@ EveryRunHas P =
     (words : List ℕ) (parties : ℕ) (events : List Event) (state : List Actor) →
     LeadsTo words parties events state → All P state
 
--- an event keeps the fact P at its actor, or of all actors, where the fact H holds too
+-- a step keeps the fact P at its actor, and an event of all actors, where the fact H holds too
 abbrev pub ChangesKeepWith : (Actor → Type 0) → (Actor → Type 0) → Type 0
 ChangesKeepWith H P =
-    (x : Actor) (event : Event) (y : Actor) → Change x event y → party_of event < length x.owed → H x → P x → P y
+    (x : Actor) (party : ℕ) (step : Step) (y : Actor) → Change x party step y → party < length x.owed → H x → P x → P y
 
 abbrev pub StepsKeepWith : (Actor → Type 0) → (Actor → Type 0) → Type 0
 StepsKeepWith H P =
-    (old : List Actor) (event : Event) (new : List Actor) → Step old event new → All H old → All P old → All P new
+    (old : List Actor) (event : Event) (new : List Actor) → Transition old event new → All H old → All P old → All P new

@@ -1,6 +1,7 @@
 pub mod Actor
-pub mod Event
 pub mod Held
 pub mod Settled
 pub mod Run
 pub mod Laws
+pub mod Between
+pub mod Parties

@@ -1,12 +1,14 @@
 -- The runs of the machine: where each event is allowed, what it changes, and what a list of events leads to.
-use Rattle.std.specs.Prelude.{◌≡◌, ℕ, ◌+◌, ◌-◌, ◌%◌, ◌^◌, ◌<◌, Bool, true, false, not, ◌&&◌, ◌||◌, ◌==◌, if◌then◌else◌, IsTrue, IsFalse, List, [], ◌∷◌, ◌++◌, All, map, length, remove, slice_get, slice_set, Option, Some, None, IsSome, option_map}
+use Rattle.std.specs.Prelude.{◌≡◌, ℕ, ◌+◌, ◌-◌, ◌%◌, ◌^◌, ◌<◌, Bool, true, false, not, ◌&&◌, ◌||◌, ◌==◌, if◌then◌else◌, IsTrue, IsFalse}
+use Rattle.std.specs.Prelude.{List, [], ◌∷◌, ◌++◌, All, map, length, remove, slice_get, slice_set, Option, Some, None, IsSome, option_map}
 use Rattle.mb_status.specs.Mailbox.{Mailbox, mailbox_of, is_valid, most_suspensions, suspended, idle, suspend, resume, the_closed}
 use Rattle.mb_msg.specs.declared.system.SysMsg.{SysMsg}
 use Rattle.mb_core.specs.declared.debt.Debt.{Debt}
 use Rattle.mb_core.specs.declared.event.Event.{Event}
-use Rattle.mb_core.specs.declared.event.Event.TheVariants.{Read, Schedule, Idle, Suspend, Resume, Close, Sent, Unsent, Taken, Count, Push, Take, SysAdd, SysRead, SysDrain, SysEnd}
+use Rattle.mb_core.specs.declared.event.Step.{Step}
+use Rattle.mb_core.specs.declared.event.Step.TheVariants.{Read, Schedule, Idle, Suspend, Resume, Close, Sent, Unsent}
+use Rattle.mb_core.specs.declared.event.Step.TheVariants.{Taken, Count, Push, Take, SysAdd, SysRead, SysDrain, SysEnd}
 use Rattle.mb_core.specs.Actor.{Actor, nothing, debt_of, owing, has_work, at_start}
-use Rattle.mb_core.specs.Event.{party_of, actor_of}
 
 -- What a party still owes once it has read this status: nothing where a worker holds the actor or it is closed; no
 -- wake-up for envelopes where it is suspended; else what was being sent, is sent (this project's own profile).
@@ -38,69 +40,69 @@ drained system = option_map (λ listed. []) system
 abbrev pub given_back : Actor → List SysMsg → Actor
 given_back x rest = record x { mailbox = idle x.mailbox; system = with_first x.system rest; holder = None }
 
--- One step, seen from its actor: where the event is allowed, and what the actor is after it. The transitions of the
+-- A step of a party, seen from its actor: where it is allowed, and what the actor is after it. The transitions of the
 -- mailbox are those of `akka.dispatch.Mailbox`; who owes what is this project's own profile.
-abbrev pub Change : Actor → Event → Actor → Type 0
+abbrev pub Change : Actor → ℕ → Step → Actor → Type 0
 -- always
-Change x (Read party _) y = y ≡ owing x party (after_reading x.mailbox (debt_of x party))
+Change x party Read y = y ≡ owing x party (after_reading x.mailbox (debt_of x party))
 -- where the mailbox is neither closed nor scheduled: the party holds the actor from now on, and owes it nothing
-Change x (Schedule party _) y =
+Change x party Schedule y =
     IsFalse x.mailbox.closed × IsFalse x.mailbox.scheduled ×
     (y ≡ owing (record x { mailbox = record x.mailbox { scheduled = true }; holder = Some party }) party nothing)
 -- by the holder: the rest goes in front of the system work, and the party owes the actor a look at both queues
-Change x (Idle party _ rest) y =
+Change x party (Idle rest) y =
     (x.holder ≡ Some party) ×
     (y ≡ owing (given_back x rest) party (record (debt_of x party) { system = true; message = true }))
 -- by the holder, where the count is below the limit
-Change x (Suspend party _) y =
+Change x party Suspend y =
     (x.holder ≡ Some party) × (x.mailbox.count < most_suspensions) × (y ≡ record x { mailbox = suspend x.mailbox })
 -- by the holder
-Change x (Resume party _) y = (x.holder ≡ Some party) × (y ≡ record x { mailbox = resume x.mailbox })
+Change x party Resume y = (x.holder ≡ Some party) × (y ≡ record x { mailbox = resume x.mailbox })
 -- by the holder
-Change x (Close party _) y = (x.holder ≡ Some party) × (y ≡ record x { mailbox = the_closed })
+Change x party Close y = (x.holder ≡ Some party) × (y ≡ record x { mailbox = the_closed })
 -- always
-Change x (Sent party _) y =
+Change x party Sent y =
     y ≡ owing (record x { waiting = one_more x.waiting }) party (record (debt_of x party) { sending = true })
 -- by a party that is sending: it owes a look instead
-Change x (Unsent party _) y =
+Change x party Unsent y =
     IsTrue (debt_of x party).sending ×
     (y ≡
     owing (record x { waiting = one_less x.waiting }) party (record (debt_of x party) { message = true; sending = false }))
 -- by the holder
-Change x (Taken party _) y = (x.holder ≡ Some party) × (y ≡ record x { waiting = one_less x.waiting })
+Change x party Taken y = (x.holder ≡ Some party) × (y ≡ record x { waiting = one_less x.waiting })
 -- always: where nothing waits, no look at the envelopes is owed
-Change x (Count party _) y =
+Change x party Count y =
     y ≡ (if x.waiting == 0 then owing x party (record (debt_of x party) { message = false }) else x)
 -- always
-Change x (Push party _ envelope) y = y ≡ record x { envelopes = x.envelopes ++ envelope ∷ [] }
+Change x party (Push envelope) y = y ≡ record x { envelopes = x.envelopes ++ envelope ∷ [] }
 -- by the holder, where an envelope is at the place
-Change x (Take party _ place) y =
+Change x party (Take place) y =
     (x.holder ≡ Some party) × (place < length x.envelopes) × (y ≡ record x { envelopes = remove x.envelopes place })
 -- where the system work is not gone
-Change x (SysAdd party _ message) y =
+Change x party (SysAdd message) y =
     IsSome x.system ×
     (y ≡ owing (record x { system = with_last x.system message }) party (record (debt_of x party) { system = true }))
 -- always: where nothing is listed, no look at it is owed
-Change x (SysRead party _) y =
+Change x party SysRead y =
     y ≡ (if has_work x.system then x else owing x party (record (debt_of x party) { system = false }))
 -- by the holder
-Change x (SysDrain party _) y = (x.holder ≡ Some party) × (y ≡ record x { system = drained x.system })
+Change x party SysDrain y = (x.holder ≡ Some party) × (y ≡ record x { system = drained x.system })
 -- by the holder of a closed actor: the system work is gone for good
-Change x (SysEnd party _) y = (x.holder ≡ Some party) × IsTrue x.mailbox.closed × (y ≡ record x { system = None })
+Change x party SysEnd y = (x.holder ≡ Some party) × IsTrue x.mailbox.closed × (y ≡ record x { system = None })
 
--- From old, the event leads to new: its actor and its party are there, it is allowed, and no other actor changes.
-pub record Step (old : List Actor) (event : Event) (new : List Actor) : Type 0 where
+-- From old, the event leads to new: its actor and its party are there, its step is allowed, and no other actor changes.
+pub record Transition (old : List Actor) (event : Event) (new : List Actor) : Type 0 where
   pub before : Actor
   pub after : Actor
-  pub actor_there : slice_get old (actor_of event) ≡ Some before
-  pub party_there : party_of event < length before.owed
-  pub change : Change before event after
-  pub others_stay : new ≡ slice_set old (actor_of event) after
+  pub actor_there : slice_get old event.actor.0 ≡ Some before
+  pub party_there : event.party < length before.owed
+  pub change : Change before event.party event.step after
+  pub others_stay : new ≡ slice_set old event.actor.0 after
 
 -- From old, the events lead to new: they are a run, each allowed where it stands.
 abbrev pub Run : List Actor → List Event → List Actor → Type 0
 Run old [] new = new ≡ old
-Run old (event ∷ events) new = (next : List Actor) × Step old event next × Run next events new
+Run old (event ∷ events) new = (next : List Actor) × Transition old event next × Run next events new
 
 -- a run may begin with an actor of this word: one that a mailbox has, and not scheduled
 abbrev pub can_start : ℕ → Bool
@@ -115,12 +117,12 @@ pub record LeadsTo (words : List ℕ) (parties : ℕ) (events : List Event) (sta
   pub can_start : All (λ word. IsTrue (can_start word)) words
   pub run : Run (start words parties) events state
 
--- the answer to an event: it was carried out, or no step of it is allowed
-abbrev pub IsCarriedOut : Actor → Event → Actor → Bool → Type 0
-IsCarriedOut x event y true = Change x event y
-IsCarriedOut x event y false = (z : Actor) → Change x event z → ⊥
+-- the answer to a step of a party: it was carried out, or it is not allowed
+abbrev pub IsCarriedOut : Actor → ℕ → Step → Actor → Bool → Type 0
+IsCarriedOut x party step y true = Change x party step y
+IsCarriedOut x party step y false = (z : Actor) → Change x party step z → ⊥
 
--- the same of a whole state
-abbrev pub IsStepped : List Actor → Event → List Actor → Bool → Type 0
-IsStepped old event new true = Step old event new
-IsStepped old event new false = (other : List Actor) → Step old event other → ⊥
+-- the answer to an event: it led from the one state to the other, or it leads nowhere
+abbrev pub IsMade : List Actor → Event → List Actor → Bool → Type 0
+IsMade old event new true = Transition old event new
+IsMade old event new false = (other : List Actor) → Transition old event other → ⊥

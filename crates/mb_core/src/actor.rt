@@ -1,6 +1,5 @@
 ghost use Rattle.std.specs.Prelude.{◌≡◌, ◌↔◌, ◌<◌, length, IsTrue, IfOk, option_map};
 ghost use Rattle.mb_core.specs.Actor.{at_start, debt_of, has_work, owing};
-ghost use Rattle.mb_core.specs.Event.{party_of};
 ghost use Rattle.mb_core.specs.Run.{IsCarriedOut};
 ghost use Rattle.mb_core.specs.Settled.{is_runnable};
 
@@ -9,7 +8,7 @@ mod status_events;
 mod system_events;
 
 use crate::debt::Debt;
-use crate::event::Event;
+use crate::event::Step;
 use mb_msg::{Envelope, SysMsg};
 use mb_status::Status;
 use std::alloc::{AllocError, Global};
@@ -118,33 +117,34 @@ impl ActorState {
         })
     }
 
-    /// Carries out an event of a party that is there, or answers `false` where the event is not allowed; the actor is
-    /// then in any state.
-    pub(crate) fn carry_out(&mut self, alloc: Global, event: &Event) -> Result<bool, AllocError>
-        requires { party_of event.now < length self.old.owed }
-        ensures { IfOk result (IsCarriedOut self.old event.now self.new) }
+    /// Carries out a step of a party that is there, or answers `false` where it is not allowed; the actor is then in any
+    /// state.
+    pub(crate) fn carry_out(
+        &mut self,
+        alloc: Global,
+        party: usize,
+        step: &Step,
+    ) -> Result<bool, AllocError>
+        requires { party < length self.old.owed }
+        ensures { IfOk result (IsCarriedOut self.old party step.now self.new) }
     {
-        match event {
-            Event::Read { party, .. } => self.read(*party),
-            Event::Schedule { party, .. } => return Ok(self.schedule(*party)),
-            Event::Idle { party, rest, .. } => return self.give_back(
-                alloc,
-                *party,
-                rest.as_slice(),
-            ),
-            Event::Suspend { party, .. } => return Ok(self.suspend(*party)),
-            Event::Resume { party, .. } => return Ok(self.resume(*party)),
-            Event::Close { party, .. } => return Ok(self.close(*party)),
-            Event::Sent { party, .. } => self.count_sent(*party),
-            Event::Unsent { party, .. } => return Ok(self.count_unsent(*party)),
-            Event::Taken { party, .. } => return Ok(self.count_taken(*party)),
-            Event::Count { party, .. } => self.read_count(*party),
-            Event::Push { envelope, .. } => self.push(*envelope)?,
-            Event::Take { party, place, .. } => return Ok(self.take(*party, *place)),
-            Event::SysAdd { party, message, .. } => return self.add_system(*party, *message),
-            Event::SysRead { party, .. } => self.read_system(*party),
-            Event::SysDrain { party, .. } => return Ok(self.drain_system(*party)),
-            Event::SysEnd { party, .. } => return Ok(self.end_system(*party)),
+        match step {
+            Step::Read => self.read(party),
+            Step::Schedule => return Ok(self.schedule(party)),
+            Step::Idle(rest) => return self.give_back(alloc, party, rest.as_slice()),
+            Step::Suspend => return Ok(self.suspend(party)),
+            Step::Resume => return Ok(self.resume(party)),
+            Step::Close => return Ok(self.close(party)),
+            Step::Sent => self.count_sent(party),
+            Step::Unsent => return Ok(self.count_unsent(party)),
+            Step::Taken => return Ok(self.count_taken(party)),
+            Step::Count => self.read_count(party),
+            Step::Push(envelope) => self.push(*envelope)?,
+            Step::Take(place) => return Ok(self.take(party, *place)),
+            Step::SysAdd(message) => return self.add_system(party, *message),
+            Step::SysRead => self.read_system(party),
+            Step::SysDrain => return Ok(self.drain_system(party)),
+            Step::SysEnd => return Ok(self.end_system(party)),
         }
         Ok(true)
     }

@@ -4,9 +4,12 @@
 pub struct Debt {
     /// System work may be there that nobody else will look for.
     pub system: bool,
-    /// An envelope may wait that nobody else will look for.
+    /// An envelope may wait that nobody else will look for. It is also what stays of `sending` once the party has taken
+    /// a count back, or has read a status at which envelopes may be handled.
     pub message: bool,
-    /// The party has counted an envelope as waiting and not read the mailbox's status since.
+    /// The party has counted an envelope as waiting, and has since neither taken a count back, nor read the status, nor
+    /// scheduled the actor. So after it has counted two and taken one back this is not set, though one is still
+    /// counted: `message` is owed for that one.
     pub sending: bool,
 }
 

@@ -1,7 +1,11 @@
-ghost use Rattle.std.specs.Prelude.{◌⊎◌, IsTrue, IsFalse};
+ghost use Rattle.std.specs.Prelude.{◌≢◌, ◌⊎◌, ℕ, ◌<◌, length, IsTrue, IsFalse};
 ghost use Rattle.mb_core.specs.Actor.{Actor};
+ghost use Rattle.mb_core.specs.Between.{ChangesLink, ChangesLinkWhereHeld, StretchesLink};
+ghost use Rattle.mb_core.specs.Between.{StaysWithHolder, StaysWithHolderOver, IsHeldBySchedule, IsHeldByScheduleOver};
+ghost use Rattle.mb_core.specs.Between.{IsSetByHolderAlone, IsSetByHolderAloneOver, StaysKnownToHolderOver, StaysEnded};
 ghost use Rattle.mb_core.specs.Held.{HasPossibleMailbox, IsHeldRightly};
 ghost use Rattle.mb_core.specs.Laws.{ChangesKeep, ChangesKeepWith, EveryRunHas, StepsKeep, StepsKeepWith};
+ghost use Rattle.mb_core.specs.Parties.{IsOwedTheSame, SplitsKeep, JoinsKeep, copied, moved, absorbed};
 ghost use Rattle.mb_core.specs.Settled.{IsOwedMessage, IsOwedNothing, IsOwedSystem, IsSettled, is_runnable};
 
 /// A law: each event keeps that a scheduled actor has exactly one holder, a closed one at most one, every other none.
@@ -32,8 +36,8 @@ pub fn step_keeps_debts()
     ensures of_all { StepsKeepWith IsHeldRightly IsSettled }
 {}
 
-/// A law: after every run nothing is stranded. An actor that nobody holds is owed a look at its system work where it
-/// has some, and a wake-up for its envelopes where some are counted and it may handle them.
+/// A law: after every run nothing is stranded. An actor that is not closed and that nobody holds is owed a look at its
+/// system work where it has some, and a wake-up for its envelopes where some are counted and it may handle them.
 pub fn every_run_keeps_debts()
     ensures { EveryRunHas IsSettled }
 {}
@@ -43,4 +47,60 @@ pub fn every_run_keeps_debts()
 pub fn runnable_is_owed()
     ensures owed { (x : Actor) → IsSettled x → IsTrue (is_runnable x) → IsOwedSystem x ⊎ IsOwedMessage x }
     ensures paid { (x : Actor) → IsSettled x → IsOwedNothing x → IsFalse (is_runnable x) }
+{}
+
+/// A law: nobody takes an actor from its holder. A step leaves the actor to the party that holds it, or is that party's
+/// own step of giving it back; and who comes to hold it has scheduled it by that step.
+pub fn step_leaves_actors_to_their_holders()
+    ensures stays { ChangesLinkWhereHeld StaysWithHolder }
+    ensures begins { ChangesLink IsHeldBySchedule }
+{}
+
+/// A law: over any stretch of any run an actor stays with its holder, unless that party gives it back in it; and who
+/// holds it at the end held it at the beginning, or has scheduled it.
+pub fn every_run_leaves_actors_to_their_holders()
+    ensures stays { StretchesLink StaysWithHolderOver }
+    ensures begins { StretchesLink IsHeldByScheduleOver }
+{}
+
+/// A law: only the holder of an actor changes its suspend count or closes it.
+pub fn step_counts_by_the_holder()
+    ensures { ChangesLink IsSetByHolderAlone }
+{}
+
+/// A law: where a suspend count, or whether a mailbox is closed, differs between two moments of a run, between them the
+/// party that then held the actor made a step that changes it. So a holder knows both until it changes them itself or
+/// gives the actor back.
+pub fn every_run_counts_by_the_holder()
+    ensures alone { StretchesLink IsSetByHolderAloneOver }
+    ensures known { StretchesLink StaysKnownToHolderOver }
+{}
+
+/// A law: a step leaves closed what is closed, and system work gone that is gone.
+pub fn step_keeps_ended()
+    ensures { ChangesLink (λ party step x y. StaysEnded x y) }
+{}
+
+/// A law: what is closed at one moment of a run is closed at each later one, and system work that is gone stays gone.
+pub fn every_run_keeps_ended()
+    ensures { StretchesLink (λ old number events x y. StaysEnded x y) }
+{}
+
+/// A law, of no event but of the state: a party that is split off another one, whose debts it copies or takes over,
+/// leaves each actor owed what it was owed and held by whom it was held, so that all other laws go on.
+pub fn split_keeps_debts()
+    ensures copied { (x : Actor) (party : ℕ) → IsOwedTheSame x (copied x party) }
+    ensures moved { (x : Actor) (party : ℕ) → IsOwedTheSame x (moved x party) }
+    ensures held { SplitsKeep IsHeldRightly }
+    ensures possible { SplitsKeep HasPossibleMailbox }
+    ensures settled { SplitsKeep IsSettled }
+{}
+
+/// A law, of no event but of the state: a party that takes over what another one owes and holds leaves each actor owed
+/// what it was owed, so that all other laws go on.
+pub fn join_keeps_debts()
+    ensures absorbed { (x : Actor) (into from : ℕ) → into ≢ from → into < length x.owed → IsOwedTheSame x (absorbed x into from) }
+    ensures held { JoinsKeep IsHeldRightly }
+    ensures possible { JoinsKeep HasPossibleMailbox }
+    ensures settled { JoinsKeep IsSettled }
 {}

@@ -2,7 +2,9 @@
 //! steps keeps.
 //!
 //! A state is a list of actors, and an event is one step of one party on one of them. `replay` carries events out and
-//! refuses what is no run. The laws say, for every run, who holds an actor and that no wake-up is lost.
+//! refuses what is no run. The laws say, for every run, who holds an actor, that only the holder gives it back, counts
+//! its suspensions and closes it, that what is closed stays closed, and that no wake-up is lost, also where parties are
+//! split off and joined.
 #![tactic(auto)]
 
 mod actor;
@@ -17,10 +19,13 @@ mod tests;
 
 pub use actor::ActorState;
 pub use debt::Debt;
-pub use event::Event;
+pub use event::{Event, Step};
 pub use laws::{
-    every_run_keeps_debts, every_run_keeps_holders, every_run_keeps_mailboxes, runnable_is_owed,
-    step_keeps_debts, step_keeps_holders, step_keeps_mailboxes,
+    every_run_counts_by_the_holder, every_run_keeps_debts, every_run_keeps_ended,
+    every_run_keeps_holders, every_run_keeps_mailboxes, every_run_leaves_actors_to_their_holders,
+    join_keeps_debts, runnable_is_owed, split_keeps_debts, step_counts_by_the_holder,
+    step_keeps_debts, step_keeps_ended, step_keeps_holders, step_keeps_mailboxes,
+    step_leaves_actors_to_their_holders,
 };
 pub use messages::Messages;
 pub use model::Model;

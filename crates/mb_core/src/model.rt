@@ -1,6 +1,6 @@
 ghost use Rattle.std.specs.Prelude.{◌≡◌, ◌↔◌, IsTrue, All, IsSome, IfOk, IfSome};
 ghost use Rattle.mb_core.specs.Actor.{debt_between};
-ghost use Rattle.mb_core.specs.Run.{IsStepped, can_start, start};
+ghost use Rattle.mb_core.specs.Run.{IsMade, can_start, start};
 
 use crate::actor::ActorState;
 use crate::debt::Debt;
@@ -45,10 +45,10 @@ impl Model {
     pub(crate) fn start(
         alloc: Global,
         words: &[u64],
-        threads: usize,
+        parties: usize,
     ) -> Result<Option<Model>, AllocError>
         ensures starts { IfOk result (λ model. IsSome model ↔ All (λ word. IsTrue (can_start word)) words.now) }
-        ensures at_start { IfOk result (λ model. IfSome model (λ m. m ≡ start words.now threads)) }
+        ensures at_start { IfOk result (λ model. IfSome model (λ m. m ≡ start words.now parties)) }
     {
         let mut actors = Vec::with_capacity(alloc, words.len())?;
         for word in words {
@@ -58,24 +58,24 @@ impl Model {
             if status.scheduled() {
                 return Ok(None);
             }
-            actors.push(ActorState::start(alloc, threads, status)?)?;
+            actors.push(ActorState::start(alloc, parties, status)?)?;
         }
         Ok(Some(Model { actors }))
     }
 
-    /// Carries out an event, or answers `false` where its actor or party is not there or it is not allowed; the model
-    /// is then in any state.
-    pub(crate) fn step(&mut self, alloc: Global, event: &Event) -> Result<bool, AllocError>
-        ensures { IfOk result (IsStepped self.old event.now self.new) }
+    /// Makes the step of an event, or answers `false` where its actor or party is not there or the step is not
+    /// allowed; the model is then in any state.
+    pub(crate) fn make(&mut self, alloc: Global, event: &Event) -> Result<bool, AllocError>
+        ensures { IfOk result (IsMade self.old event.now self.new) }
     {
-        let number = event.actor().0 as usize;
+        let number = event.actor.0 as usize;
         if number >= self.actors.len() {
             return Ok(false);
         }
         let actor = &mut self.actors[number];
-        if event.party() >= actor.owed().len() {
+        if event.party >= actor.owed().len() {
             return Ok(false);
         }
-        actor.carry_out(alloc, event)
+        actor.carry_out(alloc, event.party, &event.step)
     }
 }

@@ -9,28 +9,28 @@ use crate::model::Model;
 use std::alloc::{AllocError, Global};
 
 /// The machine's state after these events, from actors of these status words with empty lists, held by nobody and
-/// owed nothing, among `threads` parties. `None` where a word is not one that a mailbox has or is scheduled, where an
+/// owed nothing, among so many parties. `None` where a word is not one that a mailbox has or is scheduled, where an
 /// event names an actor or a party that is not there, or where an event is not allowed where it stands. Want of memory
 /// is an error of its own.
 pub fn replay(
     alloc: Global,
     words: &[u64],
-    threads: usize,
+    parties: usize,
     events: &[Event],
 ) -> Result<Option<Model>, AllocError>
     ensures exact { IfOk result (λ found. (state : List Actor) →
-        (found ≡ Some state) ↔ LeadsTo words.now threads events.now state) }
+        (found ≡ Some state) ↔ LeadsTo words.now parties events.now state) }
 
     // What the laws say of every run holds of the answer.
     ensures held { IfOk result (λ found. IfSome found (All IsHeldRightly)) }
     ensures possible { IfOk result (λ found. IfSome found (All HasPossibleMailbox)) }
     ensures settled { IfOk result (λ found. IfSome found (All IsSettled)) }
 {
-    let Some(mut model) = Model::start(alloc, words, threads)? else {
+    let Some(mut model) = Model::start(alloc, words, parties)? else {
         return Ok(None);
     };
     for event in events {
-        if !model.step(alloc, event)? {
+        if !model.make(alloc, event)? {
             return Ok(None);
         }
     }

@@ -1,7 +1,9 @@
 -- What a script does with the messages that come to it (this project's own profile: in Akka it is the actor's own code).
 use Rattle.std.specs.Prelude.{◌≡◌, ℕ, ℤ, ◌+ℤ◌, List, [], ◌∷◌, ◌==◌, fold, Option, Some, None, if◌then◌else◌}
 use Rattle.std.specs.Int.{w64, saturate_signed}
-use Rattle.mb_actor.specs.Behaviour.{Call, Start, Receive, Restart, Stop, Moment, Reply}
+use Rattle.mb_actor.specs.Behaviour.{Moment, Reply}
+use Rattle.mb_actor.specs.declared.call.Call.{Call}
+use Rattle.mb_actor.specs.declared.call.Call.TheVariants.{Start, Receive, Restart, Stop}
 use Rattle.mb_actor.specs.declared.answer.Answer.{Answer}
 use Rattle.mb_actor.specs.declared.answer.Answer.TheVariants.{Handled, Unhandled}
 use Rattle.mb_actor.specs.declared.message.Message.{Message}

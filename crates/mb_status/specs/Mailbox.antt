@@ -1,5 +1,6 @@
 -- The status of a mailbox, and what each transition does to it (`akka.dispatch.Mailbox`).
-use Rattle.std.specs.Prelude.{ℕ, ◌+◌, ◌-◌, ◌*◌, ◌/◌, ◌%◌, ◌==◌, nat_le, nat_lt, Bool, true, false, not, ◌&&◌, ◌||◌, if◌then◌else◌, Option, Some, None}
+use Rattle.std.specs.Prelude.{ℕ, ◌+◌, ◌-◌, ◌*◌, ◌/◌, ◌%◌, ◌==◌, nat_le, nat_lt, Bool, true, false, not, ◌&&◌, ◌||◌, if◌then◌else◌, Option}
+use Rattle.std.specs.Prelude.{Some, None}
 
 -- A mailbox may be closed, which is for good, or scheduled, which says that a worker holds its actor;
 -- and it counts the suspensions that are not undone. A closed mailbox has neither of the other two.

@@ -5,5 +5,7 @@
 #![tactic(auto)]
 
 mod status;
+#[cfg(test)]
+mod tests;
 
 pub use status::{MOST_SUSPENSIONS, Status};

@@ -1,5 +1,5 @@
 ghost use Rattle.std.specs.Prelude.{◌≡◌, ◌↔◌, ◌<◌, ◌≤◌, not, IsTrue, IsSome, IfSome};
-ghost use Rattle.mb_status.specs.Mailbox.{word_of, mailbox_of, is_valid, is_possible, most_suspensions, suspended, should_process, with_scheduled, idle, suspend, resume, the_closed, can_schedule};
+ghost use Rattle.mb_status.specs.Mailbox.{word_of, mailbox_of, is_valid, is_possible, most_suspensions, suspended, fresh, should_process, with_scheduled, idle, suspend, resume, the_closed, can_schedule};
 
 use std::marker::Model;
 
@@ -57,6 +57,14 @@ impl Status {
         } else {
             None
         }
+    }
+
+    /// The status of a mailbox whose actor is not started yet: neither closed nor scheduled, and suspended once, so
+    /// that no envelope is handled before the actor's Create (this project's own profile).
+    pub fn fresh() -> Status
+        ensures { result ≡ fresh }
+    {
+        Status { word: SUSPENSION }
     }
 
     /// The word: 1 if the mailbox is closed, else four times the count, and 2 more if it is scheduled.
@@ -174,81 +182,5 @@ impl Status {
         } else {
             system && self.word != CLOSED
         }
-    }
-}
-
-#[cfg(test)]
-mod tests {
-    use super::*;
-
-    /// A word, and what each call gives on it.
-    struct Row {
-        word: u64,
-        with_scheduled: Option<u64>,
-        idle: u64,
-        suspend: (u64, bool),
-        resume: (u64, bool),
-        close: bool,
-        should_process: bool,
-        by_messages: bool,
-        by_system: bool,
-    }
-
-    #[rattlefmt::skip]
-    const ROWS: [Row; 5] = [
-        Row { word: 0, with_scheduled: Some(2), idle: 0, suspend: (4, true), resume: (0, true), close: true, should_process: true, by_messages: true, by_system: true },
-        Row { word: 1, with_scheduled: None, idle: 1, suspend: (1, false), resume: (1, false), close: false, should_process: false, by_messages: false, by_system: false },
-        Row { word: 2, with_scheduled: None, idle: 0, suspend: (6, true), resume: (2, true), close: true, should_process: true, by_messages: true, by_system: true },
-        Row { word: 4, with_scheduled: Some(6), idle: 4, suspend: (8, false), resume: (0, true), close: true, should_process: false, by_messages: false, by_system: true },
-        Row { word: 6, with_scheduled: None, idle: 4, suspend: (10, false), resume: (2, true), close: true, should_process: false, by_messages: false, by_system: true },
-    ];
-
-    #[test]
-    fn transitions(rt: HostRuntime) {
-        for row in ROWS.iter() {
-            let word = row.word;
-            let status = Status::of(word).expect(&rt, "a valid word");
-            assert_eq!(rt;
-                status.with_scheduled().map(|s| s.word()),
-                row.with_scheduled,
-                "at {word}"
-            );
-            assert_eq!(rt; status.idle().word(), row.idle, "at {word}");
-            let mut suspended = status;
-            assert!(rt; suspended.count() < 2);
-            let first = suspended.suspend();
-            assert_eq!(rt; (suspended.word(), first), row.suspend, "at {word}");
-            let mut resumed = status;
-            let last = resumed.resume();
-            assert_eq!(rt; (resumed.word(), last), row.resume, "at {word}");
-            let mut closed = status;
-            let closes = closed.close();
-            assert_eq!(rt; (closed.word(), closes), (1, row.close), "at {word}");
-            assert_eq!(rt; status.should_process(), row.should_process, "at {word}");
-            assert_eq!(rt;
-                status.can_schedule(true, false),
-                row.by_messages,
-                "at {word}"
-            );
-            assert_eq!(rt;
-                status.can_schedule(false, true),
-                row.by_system,
-                "at {word}"
-            );
-        }
-    }
-
-    #[test]
-    fn a_second_suspension_stays(rt: HostRuntime) {
-        let mut status = Status::of(8).expect(&rt, "a valid word");
-        let last = status.resume();
-        assert_eq!(rt; (status.word(), last), (4, false));
-    }
-
-    #[test]
-    fn not_a_word(rt: HostRuntime) {
-        assert_eq!(rt; Status::of(3), None);
-        assert_eq!(rt; Status::of((1 << 34) + 4), None);
-        assert!(rt; Status::of(1 << 34).is_some());
     }
 }

@@ -1,6 +1,5 @@
-ghost use Rattle.std.specs.Prelude.{◌≡◌, ℕ, ◌<◌, length, OnOk};
-ghost use Rattle.mb_msg.specs.declared.id.ActorId.{ActorId};
-ghost use Rattle.mb_core.specs.declared.event.Event.TheVariants.{Sent, Unsent, Taken, Count, Push, Take};
+ghost use Rattle.std.specs.Prelude.{◌≡◌, ◌<◌, [], ◌∷◌, ◌++◌, length, OnOk};
+ghost use Rattle.mb_core.specs.declared.event.Step.TheVariants.{Sent, Unsent, Taken, Count, Take};
 ghost use Rattle.mb_core.specs.Run.{Change, IsCarriedOut};
 
 use crate::actor::ActorState;
@@ -12,7 +11,7 @@ use std::alloc::AllocError;
 impl ActorState {
     pub(super) fn count_sent(&mut self, party: usize)
         requires { party < length self.old.owed }
-        ensures { (actor : ActorId) → Change self.old (Sent party actor) self.new }
+        ensures { Change self.old party Sent self.new }
     {
         self.waiting = self.waiting.wrapping_add(1);
         let debt = self.debt(party);
@@ -27,7 +26,7 @@ impl ActorState {
 
     pub(super) fn count_unsent(&mut self, party: usize) -> bool
         requires { party < length self.old.owed }
-        ensures { (actor : ActorId) → IsCarriedOut self.old (Unsent party actor) self.new result }
+        ensures { IsCarriedOut self.old party Unsent self.new result }
     {
         let debt = self.debt(party);
         if !debt.sending {
@@ -46,7 +45,7 @@ impl ActorState {
     }
 
     pub(super) fn count_taken(&mut self, party: usize) -> bool
-        ensures { (actor : ActorId) → IsCarriedOut self.old (Taken party actor) self.new result }
+        ensures { IsCarriedOut self.old party Taken self.new result }
     {
         if !self.is_held_by(party) {
             return false;
@@ -57,7 +56,7 @@ impl ActorState {
 
     pub(super) fn read_count(&mut self, party: usize)
         requires { party < length self.old.owed }
-        ensures { (actor : ActorId) → Change self.old (Count party actor) self.new }
+        ensures { Change self.old party Count self.new }
     {
         if self.waiting == 0 {
             let debt = self.debt(party);
@@ -72,14 +71,14 @@ impl ActorState {
     }
 
     pub(super) fn push(&mut self, envelope: Envelope) -> Result<(), AllocError>
-        ensures { OnOk result ((party : ℕ) (actor : ActorId) → Change self.old (Push party actor envelope) self.new) }
+        ensures { OnOk result (self.new ≡ record self.old { envelopes = self.old.envelopes ++ envelope ∷ [] }) }
     {
         self.envelopes.push(envelope)?;
         Ok(())
     }
 
     pub(super) fn take(&mut self, party: usize, place: usize) -> bool
-        ensures { (actor : ActorId) → IsCarriedOut self.old (Take party actor place) self.new result }
+        ensures { IsCarriedOut self.old party (Take place) self.new result }
     {
         if !self.is_held_by(party) || place >= self.envelopes.len() {
             return false;

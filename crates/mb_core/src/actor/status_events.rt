@@ -1,6 +1,5 @@
 ghost use Rattle.std.specs.Prelude.{◌≡◌, ◌<◌, ◌++◌, length, IfOk};
-ghost use Rattle.mb_msg.specs.declared.id.ActorId.{ActorId};
-ghost use Rattle.mb_core.specs.declared.event.Event.TheVariants.{Read, Schedule, Idle, Suspend, Resume, Close};
+ghost use Rattle.mb_core.specs.declared.event.Step.TheVariants.{Read, Schedule, Idle, Suspend, Resume, Close};
 ghost use Rattle.mb_core.specs.Run.{Change, IsCarriedOut, after_reading};
 
 use crate::actor::ActorState;
@@ -13,7 +12,7 @@ use std::alloc::{AllocError, Global};
 impl ActorState {
     pub(super) fn read(&mut self, party: usize)
         requires { party < length self.old.owed }
-        ensures { (actor : ActorId) → Change self.old (Read party actor) self.new }
+        ensures { Change self.old party Read self.new }
     {
         let debt = after_reading(self.status, self.debt(party));
         self.owe(party, debt);
@@ -21,7 +20,7 @@ impl ActorState {
 
     pub(super) fn schedule(&mut self, party: usize) -> bool
         requires { party < length self.old.owed }
-        ensures { (actor : ActorId) → IsCarriedOut self.old (Schedule party actor) self.new result }
+        ensures { IsCarriedOut self.old party Schedule self.new result }
     {
         let Some(status) = self.status.with_scheduled() else {
             return false;
@@ -39,7 +38,7 @@ impl ActorState {
         rest: &[SysMsg],
     ) -> Result<bool, AllocError>
         requires { party < length self.old.owed }
-        ensures { IfOk result (λ done. (actor : ActorId) → IsCarriedOut self.old (Idle party actor rest.now) self.new done) }
+        ensures { IfOk result (λ done. IsCarriedOut self.old party (Idle rest.now) self.new done) }
     {
         if !self.is_held_by(party) {
             return Ok(false);
@@ -62,7 +61,7 @@ impl ActorState {
     }
 
     pub(super) fn suspend(&mut self, party: usize) -> bool
-        ensures { (actor : ActorId) → IsCarriedOut self.old (Suspend party actor) self.new result }
+        ensures { IsCarriedOut self.old party Suspend self.new result }
     {
         if !self.is_held_by(party) || self.status.count() >= MOST_SUSPENSIONS {
             return false;
@@ -72,7 +71,7 @@ impl ActorState {
     }
 
     pub(super) fn resume(&mut self, party: usize) -> bool
-        ensures { (actor : ActorId) → IsCarriedOut self.old (Resume party actor) self.new result }
+        ensures { IsCarriedOut self.old party Resume self.new result }
     {
         if !self.is_held_by(party) {
             return false;
@@ -82,7 +81,7 @@ impl ActorState {
     }
 
     pub(super) fn close(&mut self, party: usize) -> bool
-        ensures { (actor : ActorId) → IsCarriedOut self.old (Close party actor) self.new result }
+        ensures { IsCarriedOut self.old party Close self.new result }
     {
         if !self.is_held_by(party) {
             return false;

@@ -1,6 +1,5 @@
 ghost use Rattle.std.specs.Prelude.{◌≡◌, ◌<◌, length, IfOk};
-ghost use Rattle.mb_msg.specs.declared.id.ActorId.{ActorId};
-ghost use Rattle.mb_core.specs.declared.event.Event.TheVariants.{SysAdd, SysRead, SysDrain, SysEnd};
+ghost use Rattle.mb_core.specs.declared.event.Step.TheVariants.{SysAdd, SysRead, SysDrain, SysEnd};
 ghost use Rattle.mb_core.specs.Run.{Change, IsCarriedOut};
 
 use crate::actor::ActorState;
@@ -12,7 +11,7 @@ use std::alloc::AllocError;
 impl ActorState {
     pub(super) fn add_system(&mut self, party: usize, message: SysMsg) -> Result<bool, AllocError>
         requires { party < length self.old.owed }
-        ensures { IfOk result (λ done. (actor : ActorId) → IsCarriedOut self.old (SysAdd party actor message) self.new done) }
+        ensures { IfOk result (λ done. IsCarriedOut self.old party (SysAdd message) self.new done) }
     {
         let Some(listed) = &mut self.system else {
             return Ok(false);
@@ -31,7 +30,7 @@ impl ActorState {
 
     pub(super) fn read_system(&mut self, party: usize)
         requires { party < length self.old.owed }
-        ensures { (actor : ActorId) → Change self.old (SysRead party actor) self.new }
+        ensures { Change self.old party SysRead self.new }
     {
         if !self.has_work() {
             let debt = self.debt(party);
@@ -46,7 +45,7 @@ impl ActorState {
     }
 
     pub(super) fn drain_system(&mut self, party: usize) -> bool
-        ensures { (actor : ActorId) → IsCarriedOut self.old (SysDrain party actor) self.new result }
+        ensures { IsCarriedOut self.old party SysDrain self.new result }
     {
         if !self.is_held_by(party) {
             return false;
@@ -58,7 +57,7 @@ impl ActorState {
     }
 
     pub(super) fn end_system(&mut self, party: usize) -> bool
-        ensures { (actor : ActorId) → IsCarriedOut self.old (SysEnd party actor) self.new result }
+        ensures { IsCarriedOut self.old party SysEnd self.new result }
     {
         if !self.is_held_by(party) || !self.status.closed() {
             return false;

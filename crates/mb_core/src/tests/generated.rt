@@ -1,6 +1,6 @@
 ghost use Rattle.std.specs.Prelude.{◌<◌};
 
-use crate::{ActorState, Event, Messages, replay};
+use crate::{ActorState, Event, Messages, Step, replay};
 use mb_msg::{ActorId, Body, Envelope, SenderId, SysMsg};
 use std::alloc::{AllocError, Global};
 use std::test::Fail;
@@ -39,55 +39,37 @@ impl Numbers {
     fn event(&mut self, alloc: Global) -> Result<Event, AllocError> {
         let party = self.below(3) as usize;
         let actor = ActorId(self.below(3) as u32);
-        Ok(match self.below(24) {
-            0 => Event::Read { party, actor },
-            1..=4 => Event::Schedule { party, actor },
+        let step = match self.below(24) {
+            0 => Step::Read,
+            1..=4 => Step::Schedule,
             5 => {
                 let rest = if self.below(2) == 0 {
                     Vec::new(alloc)
                 } else {
                     vec![in alloc; self.message()]?
                 };
-                Event::Idle {
-                    party,
-                    actor,
-                    rest: Messages::new(rest),
-                }
+                Step::Idle(Messages::new(rest))
             }
-            6 => Event::Suspend { party, actor },
-            7..=8 => Event::Resume { party, actor },
-            9 => Event::Close { party, actor },
-            10..=11 => Event::Sent { party, actor },
-            12 => Event::Unsent { party, actor },
-            13 => Event::Taken { party, actor },
-            14..=15 => Event::Count { party, actor },
-            16 => {
-                let envelope = Envelope {
-                    by: SenderId(64),
-                    number: self.below(100),
-                    to: actor,
-                    body: Body::PoisonPill,
-                };
-                Event::Push {
-                    party,
-                    actor,
-                    envelope,
-                }
-            }
-            17 => Event::Take {
-                party,
-                actor,
-                place: self.below(2) as usize,
-            },
-            18..=19 => Event::SysAdd {
-                party,
-                actor,
-                message: self.message(),
-            },
-            20..=21 => Event::SysRead { party, actor },
-            22 => Event::SysDrain { party, actor },
-            _ => Event::SysEnd { party, actor },
-        })
+            6 => Step::Suspend,
+            7..=8 => Step::Resume,
+            9 => Step::Close,
+            10..=11 => Step::Sent,
+            12 => Step::Unsent,
+            13 => Step::Taken,
+            14..=15 => Step::Count,
+            16 => Step::Push(Envelope {
+                by: SenderId(64),
+                number: self.below(100),
+                to: actor,
+                body: Body::PoisonPill,
+            }),
+            17 => Step::Take(self.below(2) as usize),
+            18..=19 => Step::SysAdd(self.message()),
+            20..=21 => Step::SysRead,
+            22 => Step::SysDrain,
+            _ => Step::SysEnd,
+        };
+        Ok(Event { party, actor, step })
     }
 }
 

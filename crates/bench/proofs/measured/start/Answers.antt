@@ -23,11 +23,14 @@ apply_system-requires-clause-next g c =
 pub returns-clause-idle : goal.returns-clause-idle
 returns-clause-idle g c =
     started_idle (recorded (g.K.Behaviours.gives c.apply_system.new.self.who.this.0)) c.ready.new.self c.apply_system.new.self c.take_acts.new.cell
-    (ap (λ (s : Seen). s.journal) c.in_ok-ready.ensures.ok ∙ c.requires.nothing) (ap (λ (s : Seen). is_guardian s.who) c.in_ok-ready.ensures.ok ∙ c.requires.an_actor)
+    (ap (λ (s : Seen). s.journal) c.in_ok-ready.ensures.ok ∙ c.requires.nothing)
+    (ap (λ (s : Seen). is_guardian s.who) c.in_ok-ready.ensures.ok ∙ c.requires.an_actor)
     c.apply_system.ensures.applied c.apply_system.ensures.lawful c.take_acts.ensures
 
 pub returns-clause-no_message : goal.returns-clause-no_message
 returns-clause-no_message g c =
-    started_unheard (recorded (g.K.Behaviours.gives c.apply_system.new.self.who.this.0)) c.ready.new.self c.apply_system.new.self c.take_acts.new.cell
-    (ap (λ (s : Seen). s.journal) c.in_ok-ready.ensures.ok ∙ c.requires.nothing) (ap (λ (s : Seen). is_guardian s.who) c.in_ok-ready.ensures.ok ∙ c.requires.an_actor)
+    started_unheard (recorded (g.K.Behaviours.gives c.apply_system.new.self.who.this.0)) c.ready.new.self c.apply_system.new.self
+    c.take_acts.new.cell
+    (ap (λ (s : Seen). s.journal) c.in_ok-ready.ensures.ok ∙ c.requires.nothing)
+    (ap (λ (s : Seen). is_guardian s.who) c.in_ok-ready.ensures.ok ∙ c.requires.an_actor)
     c.apply_system.ensures.applied c.apply_system.ensures.lawful c.take_acts.ensures

@@ -4,9 +4,10 @@ use Rattle.mailrun.proofs.input.read_input.Given as goal
 
 abbrev pub invariant-loop-chunk : goal.invariant-loop-chunk
 invariant-loop-chunk g l = record {
-  read : Consumes (g.R.Read.remaining l.fn.reader) (g.R.Read.remaining l.reader) l.text.items;
+  read : Consumes (g.R.Read.remaining l.fn.reader.stream) (g.R.Read.remaining l.reader.stream) l.text.items;
   within : vec_len l.text ≤ 1048577;
   chunk : length l.chunk ≡ 8192;
+  same : l.reader.failed ≡ l.fn.reader.failed;
 }
 
 abbrev pub decreases-loop-chunk : goal.decreases-loop-chunk

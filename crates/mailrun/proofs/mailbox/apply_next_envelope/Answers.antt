@@ -1,4 +1,6 @@
-use Rattle.std.proofs.Common.{◌≡◌, true, refl, ap, sym, length, arith, subst, rules}
+use Rattle.std.proofs.Common.{◌≡◌, ◌∙◌, true, refl, ap, sym, length, arith, subst, rules}
+use Rattle.std.specs.List.{AllByRecursion}
+use Rattle.mb_msg.specs.declared.envelope.Envelope.{Envelope}
 use Rattle.mb_status.specs.Mailbox.{word_of, should_process}
 use Rattle.mb_journal.specs.Life.{phase}
 use Rattle.mb_journal.specs.Reading.{IsOpen}
@@ -24,7 +26,8 @@ pub returns-clause-rest : goal.returns-clause-rest
 returns-clause-rest g c =
     let open_ : should_process c.args.status.now ≡ true = search rules in
     (envelope_step (world c.args.cell.now c.args.status.now c.args.post.now)
-    (world c.carry_out.new.cell c.carry_out.new.status (record { next = c.args.post.now.next; systems = c.args.post.now.systems; envelopes = c.pop_front.new.self }))
+    (world c.carry_out.new.cell c.carry_out.new.status
+    (record { next = c.args.post.now.next; systems = c.args.post.now.systems; envelopes = c.pop_front.new.self }))
     c.ready.new.self c.apply_envelope.new.self c.in-Some.envelope c.requires.rest c.in_ok-ready.ensures.ok open_ c.in-Some.ensures.items
     c.apply_envelope.ensures.handled c.carry_out.ensures.done c.carry_out.ensures.status refl refl).rest
 
@@ -32,7 +35,8 @@ pub returns-clause-kept : goal.returns-clause-kept
 returns-clause-kept g c =
     let open_ : should_process c.args.status.now ≡ true = search rules in
     (envelope_step (world c.args.cell.now c.args.status.now c.args.post.now)
-    (world c.carry_out.new.cell c.carry_out.new.status (record { next = c.args.post.now.next; systems = c.args.post.now.systems; envelopes = c.pop_front.new.self }))
+    (world c.carry_out.new.cell c.carry_out.new.status
+    (record { next = c.args.post.now.next; systems = c.args.post.now.systems; envelopes = c.pop_front.new.self }))
     c.ready.new.self c.apply_envelope.new.self c.in-Some.envelope c.requires.rest c.in_ok-ready.ensures.ok open_ c.in-Some.ensures.items
     c.apply_envelope.ensures.handled c.carry_out.ensures.done c.carry_out.ensures.status refl refl).kept
 
@@ -42,7 +46,14 @@ returns-clause-next g c =
     let items = c.in-Some.ensures.items in (
       omega (arith, ap length items),
       (envelope_step (world c.args.cell.now c.args.status.now c.args.post.now)
-          (world c.carry_out.new.cell c.carry_out.new.status (record { next = c.args.post.now.next; systems = c.args.post.now.systems; envelopes = c.pop_front.new.self }))
+          (world c.carry_out.new.cell c.carry_out.new.status
+          (record { next = c.args.post.now.next; systems = c.args.post.now.systems; envelopes = c.pop_front.new.self }))
           c.ready.new.self c.apply_envelope.new.self c.in-Some.envelope c.requires.rest c.in_ok-ready.ensures.ok open_ items
           c.apply_envelope.ensures.handled c.carry_out.ensures.done c.carry_out.ensures.status refl refl).turn,
     )
+
+pub apply_envelope-requires-clause-addressed : goal.apply_envelope-requires-clause-addressed
+apply_envelope-requires-clause-addressed g c =
+    let waiting = world c.args.cell.now c.args.status.now c.args.post.now in
+    let mine = subst (AllByRecursion (λ (e : Envelope). e.to ≡ waiting.cell.who.this)) c.in-Some.ensures.items c.requires.rest.addressed in
+    mine.0 ∙ sym (ap (λ (s : Seen). s.who.this) c.in_ok-ready.ensures.ok)

@@ -1,4 +1,5 @@
 use Rattle.std.proofs.Common.{◌≡◌, ◌+◌, ◌++◌, [], length}
+use Rattle.mailrun.proofs.Runs.{IsRunOn}
 use Rattle.mailrun.specs.Fates.{envelopes_of}
 use Rattle.mailrun.specs.Post.{world}
 use Rattle.mailrun.specs.Rest.{IsAtRest, messages_in_all}
@@ -12,6 +13,7 @@ invariant-loop-status g l = record {
   who : l.cell.who ≡ scripted;
   no_systems : l.post.systems.items ≡ [];
   kept : envelopes_of l.cell.journal ++ l.post.envelopes.items ≡ sent 0 l.sends;
+  runs : IsRunOn scripted 5 (world l.cell l.status l.post);
   in_all : messages_in_all (world l.cell l.status l.post) ≡ length l.sends + 1;
 }
 

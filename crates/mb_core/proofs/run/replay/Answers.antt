@@ -9,14 +9,14 @@ use Rattle.mb_core.proofs.run.replay.Goals as goal
 pub returns-then-not-branch-clause-exact : goal.returns-then-not-branch-clause-exact
 returns-then-not-branch-clause-exact c = λ state. (
   λ is. cc,
-  λ leads. absurd (no_run _ c.loop-event.model c.step.new.self c.args.events.now c.loop-event.event-index c.event-item.result
-      c.in_ok-step.field-0 c.loop-event-test.true c.event-item.is c.in_ok-step.ensures c.if-not-branch.true c.loop-event.invariant
+  λ leads. absurd (no_run _ c.loop-event.model c.make.new.self c.args.events.now c.loop-event.event-index c.event-item.result
+      c.in_ok-make.field-0 c.loop-event-test.true c.event-item.is c.in_ok-make.ensures c.if-not-branch.true c.loop-event.invariant
       state leads.run),
 )
 
-leads : (c : goal.After-loop-event) → LeadsTo c.args.words.now c.args.threads c.args.events.now c.loop-event.model
+leads : (c : goal.After-loop-event) → LeadsTo c.args.words.now c.args.parties c.args.events.now c.loop-event.model
 leads c =
-    leads_here c.args.words.now c.args.threads c.args.events.now c.in_ok-model.field-0 c.in-Some.model c.loop-event.model
+    leads_here c.args.words.now c.args.parties c.args.events.now c.in_ok-model.field-0 c.in-Some.model c.loop-event.model
     c.loop-event.event-index c.in_ok-model.ensures.starts.0 c.in-Some.is c.loop-event-test.false c.loop-event.invariant
 
 pub returns-clause-held : goal.returns-clause-held

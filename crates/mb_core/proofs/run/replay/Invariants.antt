@@ -6,4 +6,4 @@ use Rattle.mb_core.proofs.run.replay.Given as goal
 
 abbrev pub invariant-loop-event : goal.invariant-loop-event
 invariant-loop-event l =
-    (state : List Actor) → Run (start l.words l.threads) l.events state ↔ Run l.model (drop l.event-index l.events) state
+    (state : List Actor) → Run (start l.words l.parties) l.events state ↔ Run l.model (drop l.event-index l.events) state

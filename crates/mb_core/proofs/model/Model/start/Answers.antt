@@ -14,7 +14,7 @@ loop-word-preserved c =
       actors =
           cc (
             c.in_ok-push.ensures.items,
-            start_more c.args.words.now c.loop-word.word-index c.args.threads inside,
-            at_start_of c.args.threads _ c.in-Some.status c.in_ok-start.field-0 c.in-Some.ensures.value c.in_ok-start.ensures,
+            start_more c.args.words.now c.loop-word.word-index c.args.parties inside,
+            at_start_of c.args.parties _ c.in-Some.status c.in_ok-start.field-0 c.in-Some.ensures.value c.in_ok-start.ensures,
           );
     }

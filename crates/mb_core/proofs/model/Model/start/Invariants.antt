@@ -7,5 +7,5 @@ abbrev pub invariant-loop-word : goal.invariant-loop-word
 invariant-loop-word l =
     record {
       words : All (λ word. IsTrue (can_start word)) (take l.word-index l.words);
-      actors : l.actors.items ≡ start (take l.word-index l.words) l.threads;
+      actors : l.actors.items ≡ start (take l.word-index l.words) l.parties;
     }

@@ -1,0 +1,184 @@
+-- A party that is split off another one, or joins one, leaves each actor owed what it was owed.
+use Rattle.std.proofs.Common.{◌≡◌, ◌≢◌, ◌↔◌, inl, inr, ℕ, zero, suc, ◌<◌, Bool, true, false, ◌||◌, List, [], ◌∷◌, ◌++◌}
+use Rattle.std.proofs.Common.{All, Any, length, get_or, sym, ap, subst, refl, ◌∙◌, arith}
+use Rattle.std.specs.List.{list_any}
+use Rattle.std.proofs.Math.ListN.{set}
+use Rattle.std.proofs.lemmas.Grind.{common_steps}
+use Rattle.std.proofs.lemmas.Option.{slice_get-get_or, get_or_from_slice_get}
+use Rattle.std.proofs.lemmas.List.{length-set, length-append, get_or-set_other, get_or-set_same}
+use Rattle.std.proofs.lemmas.List.Elements.{All-map}
+use Rattle.std.proofs.lemmas.List.Folds.{list_any-append, Any-from_list_any, list_any-from_Any}
+use Rattle.mb_core.specs.declared.debt.Debt.{Debt}
+use Rattle.mb_core.specs.Actor.{Actor, nothing, debt_of}
+use Rattle.mb_core.specs.Held.{IsHeldRightly}
+use Rattle.mb_core.specs.Settled.{IsOwedSystem, IsOwedMessage}
+use Rattle.mb_core.specs.Parties.{copied, moved, both, absorbed, IsOwedTheSame, SplitsKeep, JoinsKeep}
+
+or_swap : (rest one none : Bool) → none ≡ false → ((none || rest) || one) ≡ (one || rest)
+or_swap rest one none is = grind arith
+
+or_assoc : (a b c : Bool) → ((a || b) || c) ≡ (a || (b || c))
+or_assoc a b c = grind arith
+
+or_end : (rest one whole : Bool) → (rest || one) ≡ whole → (rest || (one || false)) ≡ whole
+or_end rest one whole is = grind arith
+
+or_again : (rest one whole : Bool) → (rest || one) ≡ whole → (whole || (one || false)) ≡ whole
+or_again rest one whole is = grind arith
+
+-- Whether somebody owes for a cause is what one party owes for it, or whether somebody does once that party owes nothing.
+apart :
+    (cause : Debt → Bool) → cause nothing ≡ false → (owed : List Debt) (party : ℕ) →
+    (list_any cause (set owed party nothing) || cause (get_or owed party nothing)) ≡ list_any cause owed
+apart cause none [] party = none
+apart cause none (debt ∷ owed) zero = or_swap (list_any cause owed) (cause debt) (cause nothing) none
+apart cause none (debt ∷ owed) (suc party) =
+    or_assoc (cause debt) (list_any cause (set owed party nothing)) (cause (get_or owed party nothing)) ∙
+    ap (λ b. cause debt || b) (apart cause none owed party)
+
+-- and once it owes something else, for that too
+instead :
+    (cause : Debt → Bool) → cause nothing ≡ false → (owed : List Debt) (party : ℕ) (debt : Debt) → party < length owed →
+    (list_any cause (set owed party nothing) || cause debt) ≡ list_any cause (set owed party debt)
+instead cause none [] party debt there = absurd (omega arith)
+instead cause none (first ∷ owed) zero debt there = or_swap (list_any cause owed) (cause debt) (cause nothing) none
+instead cause none (first ∷ owed) (suc party) debt there =
+    or_assoc (cause first) (list_any cause (set owed party nothing)) (cause debt) ∙
+    ap (λ b. cause first || b) (instead cause none owed party debt (omega arith))
+
+copied_any :
+    (cause : Debt → Bool) → cause nothing ≡ false → (owed : List Debt) (party : ℕ) →
+    list_any cause (owed ++ get_or owed party nothing ∷ []) ≡ list_any cause owed
+copied_any cause none owed party =
+    list_any-append cause owed (get_or owed party nothing ∷ []) ∙
+    or_again (list_any cause (set owed party nothing)) (cause (get_or owed party nothing)) (list_any cause owed)
+    (apart cause none owed party)
+
+moved_any :
+    (cause : Debt → Bool) → cause nothing ≡ false → (owed : List Debt) (party : ℕ) →
+    list_any cause (set owed party nothing ++ get_or owed party nothing ∷ []) ≡ list_any cause owed
+moved_any cause none owed party =
+    list_any-append cause (set owed party nothing) (get_or owed party nothing ∷ []) ∙
+    or_end (list_any cause (set owed party nothing)) (cause (get_or owed party nothing)) (list_any cause owed)
+    (apart cause none owed party)
+
+-- Two owe for a cause: with what both owe at the one and nothing at the other, somebody owes for it as before.
+or_joined :
+    (whole both_ last new without_into without_from without_two a b : Bool) → both_ ≡ (a || b) →
+    (new || b) ≡ last → (without_into || both_) ≡ last → (without_into || a) ≡ whole → (without_from || b) ≡ whole →
+    (without_two || both_) ≡ new → new ≡ whole
+or_joined whole both_ last new without_into without_from without_two a b = grind arith
+
+absorbed_any :
+    (cause : Debt → Bool) → cause nothing ≡ false → (owed : List Debt) (into from : ℕ) (debt : Debt) → into ≢ from →
+    into < length owed → cause debt ≡ (cause (get_or owed into nothing) || cause (get_or owed from nothing)) →
+    list_any cause (set (set owed into debt) from nothing) ≡ list_any cause owed
+absorbed_any cause none owed into from debt two there sum =
+    or_joined (list_any cause owed) (cause debt) (list_any cause (set owed into debt))
+    (list_any cause (set (set owed into debt) from nothing)) (list_any cause (set owed into nothing))
+    (list_any cause (set owed from nothing)) (list_any cause (set (set (set owed into debt) from nothing) into nothing))
+    (cause (get_or owed into nothing)) (cause (get_or owed from nothing)) sum
+    (subst (λ d. (list_any cause (set (set owed into debt) from nothing) || cause d) ≡ list_any cause (set owed into debt))
+    (get_or-set_other owed into from debt nothing (λ (is : from ≡ into). two (sym is)))
+    (apart cause none (set owed into debt) from))
+    (instead cause none owed into debt there)
+    (apart cause none owed into)
+    (apart cause none owed from)
+    (subst
+    (λ d.
+    (list_any cause (set (set (set owed into debt) from nothing) into nothing) || cause d) ≡
+    list_any cause (set (set owed into debt) from nothing))
+    (get_or-set_other (set owed into debt) from into nothing nothing two ∙ get_or-set_same owed into debt nothing there)
+    (apart cause none (set (set owed into debt) from nothing) into))
+
+-- where the lists pass the same test, somebody owes for it in both or in none
+same_any :
+    (cause : Debt → Bool) (old new : List Debt) → list_any cause new ≡ list_any cause old →
+    Any (λ debt. cause debt ≡ true) old ↔ Any (λ debt. cause debt ≡ true) new
+same_any cause old new same = (
+  λ some. Any-from_list_any cause new (same ∙ list_any-from_Any cause old some),
+  λ some. Any-from_list_any cause old (sym same ∙ list_any-from_Any cause new some),
+)
+
+-- an actor of which only the debts and the holder differ
+same_owed :
+    (x y : Actor) → y.mailbox ≡ x.mailbox → y.system ≡ x.system → y.waiting ≡ x.waiting →
+    list_any (λ debt. debt.system) y.owed ≡ list_any (λ debt. debt.system) x.owed →
+    list_any (λ debt. debt.message || debt.sending) y.owed ≡ list_any (λ debt. debt.message || debt.sending) x.owed →
+    (IsHeldRightly x → IsHeldRightly y) → IsOwedTheSame x y
+same_owed x y mailbox system waiting for_system for_message held =
+    let of_system : IsOwedSystem x ↔ IsOwedSystem y = same_any (λ debt. debt.system) x.owed y.owed for_system in
+    let of_message : IsOwedMessage x ↔ IsOwedMessage y =
+    same_any (λ debt. debt.message || debt.sending) x.owed y.owed for_message in
+    record {
+      system = of_system;
+      message = of_message;
+      held = held;
+      possible = λ has. record { possible = rw mailbox has.possible; word_valid = rw mailbox has.word_valid };
+      settled = λ settled. record {
+        system = λ open_ free work. of_system.0 (settled.system (rw mailbox at open_) (rw mailbox at free) (rw system at work));
+        message = λ open_ free unsuspended waits.
+            of_message.0 (
+            settled.message (rw mailbox at open_) (rw mailbox at free) (rw mailbox at unsuspended) (rw waiting at waits)
+            );
+      };
+    }
+
+pub copied_owed : (x : Actor) (party : ℕ) → IsOwedTheSame x (copied x party)
+copied_owed x party =
+    same_owed x (copied x party) refl refl refl
+    (copied_any (λ debt. debt.system) refl x.owed party)
+    (copied_any (λ debt. debt.message || debt.sending) refl x.owed party)
+    (λ held. record {
+      scheduled = held.scheduled;
+      free = held.free;
+      there = λ holder is. let inside = held.there holder is in omega (arith, length-append {A = Debt});
+    })
+
+pub moved_owed : (x : Actor) (party : ℕ) → IsOwedTheSame x (moved x party)
+moved_owed x party =
+    same_owed x (moved x party) refl refl refl
+    (moved_any (λ debt. debt.system) refl x.owed party)
+    (moved_any (λ debt. debt.message || debt.sending) refl x.owed party)
+    (λ held. record {
+      scheduled = held.scheduled;
+      free = held.free;
+      there = λ holder is.
+          let inside = held.there holder is in omega (arith, length-append {A = Debt}, length-set {A = Debt});
+    })
+
+absorbed_held : (x : Actor) (into from : ℕ) → into < length x.owed → IsHeldRightly x → IsHeldRightly (absorbed x into from)
+absorbed_held x into from there held = grind (arith, common_steps)
+
+both_message :
+    (a b : Debt) → ((both a b).message || (both a b).sending) ≡ ((a.message || a.sending) || (b.message || b.sending))
+both_message a b = grind arith
+
+pub absorbed_owed : (x : Actor) (into from : ℕ) → into ≢ from → into < length x.owed → IsOwedTheSame x (absorbed x into from)
+absorbed_owed x into from two there =
+    same_owed x (absorbed x into from) refl refl refl
+    (absorbed_any (λ debt. debt.system) refl x.owed into from (both (debt_of x into) (debt_of x from)) two there refl)
+    (absorbed_any (λ debt. debt.message || debt.sending) refl x.owed into from (both (debt_of x into) (debt_of x from)) two there
+    (both_message (debt_of x into) (debt_of x from)))
+    (absorbed_held x into from there)
+
+-- what a split of one actor keeps, it keeps of all
+pub split_keeps :
+    (P : Actor → Type 0) → ((x : Actor) (party : ℕ) → P x → P (copied x party)) →
+    ((x : Actor) (party : ℕ) → P x → P (moved x party)) → SplitsKeep P
+split_keeps P by_copy by_move party old new split all number d inside =
+    let within : number < length old = rw (sym split.same_actors) inside in
+    let before : Actor = get_or old number d in
+    let known : P before = all number d within in
+    elim (split.each number before (slice_get-get_or old number d within)) as (λ _. P (get_or new number d)) [
+      | inl copy ↦ subst P (sym (get_or_from_slice_get new number (copied before party) d copy)) (by_copy before party known)
+      | inr move ↦ subst P (sym (get_or_from_slice_get new number (moved before party) d move)) (by_move before party known)
+    ]
+
+pub join_keeps :
+    (P : Actor → Type 0) →
+    ((x : Actor) (into from : ℕ) → into ≢ from → into < length x.owed → P x → P (absorbed x into from)) → JoinsKeep P
+join_keeps P keeps into from old new join all =
+    subst (All P) (sym join.each)
+    (All-map P (λ x. absorbed x into from) old
+    (λ k d inside. keeps (get_or old k d) into from join.two (join.there k d inside) (all k d inside)))

@@ -1,0 +1,62 @@
+-- Parties that are split off one another, and that join one another. That is no event: no word and no list changes, only
+-- who owes and who holds (this project's own profile).
+use Rattle.std.specs.Prelude.{◌≡◌, ◌≢◌, ◌↔◌, ◌⊎◌, ℕ, ◌<◌, ◌==◌, ◌||◌, if◌then◌else◌, List, [], ◌∷◌, ◌++◌, All, map, length}
+use Rattle.std.specs.Prelude.{slice_get, slice_set, Some, option_map}
+use Rattle.mb_core.specs.declared.debt.Debt.{Debt}
+use Rattle.mb_core.specs.Actor.{Actor, nothing, debt_of}
+use Rattle.mb_core.specs.Held.{IsHeldRightly, HasPossibleMailbox}
+use Rattle.mb_core.specs.Settled.{IsSettled, IsOwedSystem, IsOwedMessage}
+
+-- a new party, of the next number, owes a copy of what this party owes
+abbrev pub copied : Actor → ℕ → Actor
+copied x party = record x { owed = x.owed ++ debt_of x party ∷ [] }
+
+-- a new party, of the next number, takes what this party owes, which owes nothing from then on
+abbrev pub moved : Actor → ℕ → Actor
+moved x party = record x { owed = slice_set x.owed party nothing ++ debt_of x party ∷ [] }
+
+-- what one owes for each cause for which one of two is owed
+abbrev pub both : Debt → Debt → Debt
+both a b =
+    record {
+      system = a.system || b.system;
+      message = a.message || b.message;
+      sending = a.sending || b.sending;
+    }
+
+-- one party takes over what another one owes and holds, which owes and holds nothing from then on
+abbrev pub absorbed : Actor → ℕ → ℕ → Actor
+absorbed x into from =
+    record x {
+      holder = option_map (λ party. if party == from then into else party) x.holder;
+      owed = slice_set (slice_set x.owed into (both (debt_of x into) (debt_of x from))) from nothing;
+    }
+
+-- A party is split off this one: actor by actor its debts are copied, or moved. (Who schedules an actor by a claim of
+-- its own moves what it owes that actor, and copies what it owes the others.)
+pub record IsSplit (party : ℕ) (old new : List Actor) : Type 0 where
+  pub same_actors : length new ≡ length old
+  pub each :
+      (number : ℕ) (x : Actor) → slice_get old number ≡ Some x →
+      (slice_get new number ≡ Some (copied x party)) ⊎ (slice_get new number ≡ Some (moved x party))
+
+-- One party takes over another one, at each actor; both are there, and not the same.
+pub record IsJoined (into from : ℕ) (old new : List Actor) : Type 0 where
+  pub two : into ≢ from
+  pub there : All (λ x. into < length x.owed) old
+  pub each : new ≡ map (λ x. absorbed x into from) old
+
+-- y is owed what x is owed, no less and no more, and what the laws say of x they say of y
+pub record IsOwedTheSame (x y : Actor) : Type 0 where
+  pub system : IsOwedSystem x ↔ IsOwedSystem y
+  pub message : IsOwedMessage x ↔ IsOwedMessage y
+  pub held : IsHeldRightly x → IsHeldRightly y
+  pub possible : HasPossibleMailbox x → HasPossibleMailbox y
+  pub settled : IsSettled x → IsSettled y
+
+-- a split keeps the fact of all actors, and so does a join
+abbrev pub SplitsKeep : (Actor → Type 0) → Type 0
+SplitsKeep P = (party : ℕ) (old new : List Actor) → IsSplit party old new → All P old → All P new
+
+abbrev pub JoinsKeep : (Actor → Type 0) → Type 0
+JoinsKeep P = (into from : ℕ) (old new : List Actor) → IsJoined into from old new → All P old → All P new
