@@ -1,0 +1,56 @@
+-- The worked documents: what is found in each is computed from the definition.
+use Rattle.std.proofs.Common.{◌≡◌, ℕ, List, codes, Option, Some, None, option_map, refl}
+use Rattle.std.specs.Fmt.{digits}
+use Rattle.toml.proofs.OnLiterals.{toml_on_literals}
+use Rattle.toml.specs.Parse.{parse_document}
+use Rattle.mb_format.specs.Check.{document_check}
+use Rattle.mb_format.specs.Place.{Fault}
+use Rattle.mb_format.specs.declared.finding.Reason.{Reason}
+use Rattle.mb_format.specs.declared.finding.Reason.TheVariants.{UnknownKey, WrongType, OutOfRange, UnknownName, RepeatedName, BadOp}
+
+-- what is found in a text that is a document
+abbrev found_in : List ℕ → Option (Option Fault)
+found_in text = option_map document_check (parse_document text)
+
+abbrev fault : List ℕ → Reason → Option (Option Fault)
+fault place reason = Some (Some (record { place = place; reason = reason }))
+
+unknown_top : found_in (codes "x = 1\n") ≡ fault (codes "x") UnknownKey
+unfolding toml_on_literals digits
+unknown_top = refl
+
+unknown_unnamed : found_in (codes "X = 1\n") ≡ fault (codes "?") UnknownKey
+unfolding toml_on_literals digits
+unknown_unnamed = refl
+
+workers_text : found_in (codes "workers = \"1\"\n") ≡ fault (codes "workers") WrongType
+unfolding toml_on_literals digits
+workers_text = refl
+
+workers_many : found_in (codes "workers = 17\n") ≡ fault (codes "workers") OutOfRange
+unfolding toml_on_literals digits
+workers_many = refl
+
+name_twice : found_in (codes "[[actor]]\nname = \"a\"\n[[actor]]\nname = \"a\"\n") ≡ fault (codes "actor 2 name") RepeatedName
+unfolding toml_on_literals digits
+name_twice = refl
+
+parent_unknown : found_in (codes "[[actor]]\nname = \"a\"\nparent = \"x\"\n") ≡ fault (codes "actor 1 parent") UnknownName
+unfolding toml_on_literals digits
+parent_unknown = refl
+
+parent_later : found_in (codes "[[actor]]\nname = \"a\"\nparent = \"b\"\n[[actor]]\nname = \"b\"\nparent = \"a\"\n") ≡ fault (codes "actor 1 parent") UnknownName
+unfolding toml_on_literals digits
+parent_later = refl
+
+capacity_zero : found_in (codes "[[actor]]\nname = \"a\"\nmailbox = \"bounded\"\ncapacity = 0\n") ≡ fault (codes "actor 1 capacity") OutOfRange
+unfolding toml_on_literals digits
+capacity_zero = refl
+
+add_with_a_number : found_in (codes "[[actor]]\nname = \"a\"\n[[actor.on]]\nkind = 1\ndo = [\"add 1\"]\n") ≡ fault (codes "actor 1 on 1 do 1") BadOp
+unfolding toml_on_literals digits
+add_with_a_number = refl
+
+times_zero : found_in (codes "[[actor]]\nname = \"a\"\n[[send]]\nto = \"a\"\nkind = 1\ntimes = 0\n") ≡ fault (codes "send 1 times") OutOfRange
+unfolding toml_on_literals digits
+times_zero = refl

@@ -1,0 +1,134 @@
+-- What is wrong with a document: the checks, in their order (this project's own profile).
+use Rattle.std.specs.Prelude.{ℕ, ◌+◌, List, [], ◌∷◌, ◌++◌, map, codes, Bool, true, false, Option, Some, None, if◌then◌else◌, option_map, is_some}
+use Rattle.std.specs.List.{list_any}
+use Rattle.std.specs.Str.{bytes_eq}
+use Rattle.toml.specs.Data.{Data, Items, no_items, item, Members, no_members, member, get_member, as_table, as_str}
+use Rattle.mb_format.specs.Context.{Around, KinData}
+use Rattle.mb_format.specs.Format.{KeyData, top_keys, name_key, other_actor_keys, actor_keys, send_keys, row_keys}
+use Rattle.mb_format.specs.Name.{is_name}
+use Rattle.mb_format.specs.Operation.{op_of, op_reason}
+use Rattle.mb_format.specs.Place.{Fault, first, when, entry_text}
+use Rattle.mb_format.specs.Value.{items_of, key_reason, text_of, text_or}
+use Rattle.mb_format.specs.declared.finding.Reason.{Reason}
+use Rattle.mb_format.specs.declared.finding.Reason.TheVariants.{UnknownKey, WrongType}
+use Rattle.mb_format.specs.declared.form.Rows.{Rows as RowsType}
+use Rattle.mb_format.specs.declared.form.Form.{Form}
+use Rattle.mb_format.specs.declared.form.Form.TheVariants.{Rows, Operations}
+
+-- in what follows `prefix` is what stands before the keys of a table, as it is printed
+
+-- a check of each item of an array, by how many come before it
+abbrev pub each_from : {A : Type 0} → ℕ → (ℕ → Data → A) → Items → List A
+each_from earlier check no_items = []
+each_from earlier check (item d ds) = check earlier d ∷ each_from (earlier + 1) check ds
+
+abbrev pub each : {A : Type 0} → (ℕ → Data → A) → Items → List A
+each check ds = each_from 0 check ds
+
+abbrev pub at : List ℕ → Reason → Fault
+at place reason = record { place = place; reason = reason }
+
+-- one of the keys has the name
+abbrev pub has_key : List KeyData → List ℕ → Bool
+has_key keys name = list_any (λ (key : KeyData). bytes_eq key.name name) keys
+
+-- the least key that the table should not have: the keys of a table stand in the order of their bytes
+abbrev pub unknown_key : List KeyData → Members → Option (List ℕ)
+unknown_key keys no_members = None
+unknown_key keys (member name d ms) = if has_key keys name then unknown_key keys ms else Some name
+
+-- a key as it is printed: itself, where it is a name
+abbrev pub shown : List ℕ → List ℕ
+shown name = if is_name name then name else codes "?"
+
+abbrev pub unknown_check : List ℕ → List KeyData → Members → Option Fault
+unknown_check prefix keys ms = option_map (λ name. at (prefix ++ shown name) UnknownKey) (unknown_key keys ms)
+
+-- an operation of the array at a key; positions count from 1
+abbrev pub op_check : Around → Bool → List ℕ → ℕ → Data → Option Fault
+op_check a adds before earlier d =
+    option_map (at (entry_text before (earlier + 1))) (if is_some (as_str d) then op_reason a adds (op_of (text_of d)) else Some WrongType)
+
+-- the operations of an array
+abbrev pub ops_check : Around → List ℕ → Form → Option Data → Option Fault
+ops_check a before (Operations adds) (Some d) = first (each (op_check a adds before) (items_of d))
+ops_check a before _ _ = None
+
+-- a key that holds no tables to be checked: its value, and then its operations
+abbrev pub key_check : List ℕ → Around → Members → KeyData → Option Fault
+key_check prefix a ms key = first (
+    option_map (at (prefix ++ key.name)) (key_reason a ms key (get_member key.name ms))
+    ∷ ops_check a (prefix ++ key.name) key.form (get_member key.name ms)
+    ∷ [])
+
+-- a table: the least unknown key, and then its keys in their order
+abbrev pub table_check : List KeyData → List KeyData → List ℕ → Around → Members → Option Fault
+table_check known keys prefix a ms = first (unknown_check prefix known ms ∷ map (key_check prefix a ms) keys)
+
+-- an entry of an array, which is to be a table
+abbrev pub entry_check : (List ℕ → Members → Option Fault) → List ℕ → ℕ → Option Members → Option Fault
+entry_check check before earlier None = Some (at (entry_text before (earlier + 1)) WrongType)
+entry_check check before earlier (Some ms) = check (entry_text before (earlier + 1) ++ codes " ") ms
+
+-- a table of an array within an actor
+abbrev pub row_check : Around → RowsType → List ℕ → ℕ → Data → Option Fault
+row_check a rows before earlier d = entry_check (λ prefix ms. table_check (row_keys rows) (row_keys rows) prefix a ms) before earlier (as_table d)
+
+abbrev pub rows_check : Around → List ℕ → Form → Option Data → Option Fault
+rows_check a before (Rows rows) (Some d) =
+    first (each (row_check a rows before) (items_of d))
+rows_check a before _ _ = None
+
+-- a key of an actor: its value and its operations, and then its tables
+abbrev pub actor_key_check : List ℕ → Around → Members → KeyData → Option Fault
+actor_key_check prefix a ms key = first (key_check prefix a ms key ∷ rows_check a (prefix ++ key.name) key.form (get_member key.name ms) ∷ [])
+
+-- the items of the array at a key, none where there is none
+abbrev pub items_in : Option Data → Items
+items_in None = no_items
+items_in (Some d) = items_of d
+
+-- an actor as others name it: what stands at its keys, if that is a text; its parent is the guardian where none is named
+abbrev pub kin_of : Option Members → KinData
+kin_of None = record { name = []; parent = [] }
+kin_of (Some ms) = record { name = text_or [] (get_member (codes "name") ms); parent = text_or (codes "guardian") (get_member (codes "parent") ms) }
+
+abbrev pub all_kin : Items → List KinData
+all_kin no_items = []
+all_kin (item d ds) = kin_of (as_table d) ∷ all_kin ds
+
+-- what is known where an actor is checked, by how many come before it
+abbrev pub around_actor : List KinData → ℕ → Data → Around
+around_actor kin earlier d = record { kin = kin; earlier = earlier; own = (kin_of (as_table d)).name }
+
+abbrev pub around_send : List KinData → Around
+around_send kin = record { kin = kin; earlier = 0; own = [] }
+
+-- the first check of an actor: it is a table, and its name
+abbrev pub name_check : List KinData → ℕ → Data → Option Fault
+name_check kin earlier d =
+    entry_check (λ prefix ms. key_check prefix (around_actor kin earlier d) ms name_key) (codes "actor") earlier (as_table d)
+
+-- the second: the least unknown key, and then the other keys
+abbrev pub actor_table_check : Around → List ℕ → Members → Option Fault
+actor_table_check a prefix ms = first (unknown_check prefix actor_keys ms ∷ map (actor_key_check prefix a ms) other_actor_keys)
+
+abbrev pub actor_check : List KinData → ℕ → Data → Option Fault
+actor_check kin earlier d = entry_check (actor_table_check (around_actor kin earlier d)) (codes "actor") earlier (as_table d)
+
+abbrev pub send_check : List KinData → ℕ → Data → Option Fault
+send_check kin earlier d =
+    entry_check (λ prefix ms. table_check send_keys send_keys prefix (around_send kin) ms) (codes "send") earlier (as_table d)
+
+-- the document: its own keys; then the names of all actors; then all actors; then all sends
+abbrev pub document_check : Members → Option Fault
+document_check top =
+    let actors = items_in (get_member (codes "actor") top) in
+    let sends = items_in (get_member (codes "send") top) in
+    let kin = all_kin actors in
+    first (
+    table_check top_keys top_keys [] (around_send []) top
+    ∷ first (each (name_check kin) actors)
+    ∷ first (each (actor_check kin) actors)
+    ∷ first (each (send_check kin) sends)
+    ∷ [])

@@ -1,0 +1,67 @@
+ghost use Rattle.std.specs.Prelude.{◌≡◌, ◌≤◌, length, map, take};
+ghost use Rattle.mb_format.specs.Context.{around, kin_data, knows, knows_child, knows_earlier};
+
+use crate::name::is_text;
+
+/// An actor of the document, as others name it.
+#[derive(Clone, Copy, Debug)]
+pub struct Kin<'a> {
+    /// Its name; empty where it has none.
+    pub name: &'a [u8],
+    /// Its parent's name; empty where it is faulty.
+    pub parent: &'a [u8],
+}
+
+/// What the check of a table knows of the rest of the document.
+#[derive(Clone, Copy, Debug)]
+pub struct Context<'a> {
+    /// The actors.
+    pub kin: &'a [Kin<'a>],
+    /// How many of them come before the one that is checked.
+    pub earlier: usize,
+    /// The name of the one that is checked.
+    pub own: &'a [u8],
+}
+
+impl Context<'_> {
+    /// Whether an actor has the name.
+    pub(crate) fn knows(&self, name: &[u8]) -> bool
+        ensures { result ≡ knows (around self.now).kin name.now }
+    {
+        has_name(self.kin, name)
+    }
+
+    /// Whether an earlier actor has the name.
+    pub(crate) fn knows_earlier(&self, name: &[u8]) -> bool
+        ensures { result ≡ knows_earlier (around self.now) name.now }
+    {
+        if self.earlier < self.kin.len() {
+            has_name(&self.kin[..self.earlier], name)
+        } else {
+            has_name(self.kin, name)
+        }
+    }
+
+    /// Whether a child of the actor that is checked has the name.
+    pub(crate) fn knows_child(&self, name: &[u8]) -> bool
+        ensures { result ≡ knows_child (around self.now) name.now }
+    {
+        for kin in self.kin {
+            if is_text(kin.name, name) && is_text(kin.parent, self.own) {
+                return true;
+            }
+        }
+        false
+    }
+}
+
+fn has_name(kin: &[Kin<'_>], name: &[u8]) -> bool
+    ensures { result ≡ knows (map kin_data kin.now) name.now }
+{
+    for one in kin {
+        if is_text(one.name, name) {
+            return true;
+        }
+    }
+    false
+}

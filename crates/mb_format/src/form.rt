@@ -1,0 +1,59 @@
+/// The arrays of tables within an actor.
+#[derive(Clone, Copy, Debug, PartialEq, Eq)]
+pub enum Rows {
+    /// The ranks of a priority mailbox.
+    Rank,
+    /// What a script does with messages.
+    On,
+    /// What is done about children that fail.
+    Strategy,
+}
+
+/// The sets of words.
+#[derive(Clone, Copy, Debug, PartialEq, Eq)]
+pub enum Words {
+    Pool,
+    Mailbox,
+    What,
+    Directive,
+}
+
+/// What the value of a key may be.
+#[derive(Clone, Copy, Debug, PartialEq, Eq)]
+pub enum Form {
+    /// An integer from the one number to the other.
+    Whole { low: u32, high: u32 },
+    /// Any integer.
+    AnyInteger,
+    /// A truth value.
+    Truth,
+    /// One of these words.
+    Word(Words),
+    /// A cause of failure, or all of them.
+    Cause,
+    /// The name of this actor, which no earlier one has.
+    Name,
+    /// The guardian, or an earlier actor's name.
+    Parent,
+    /// An actor's name, or where it is a stop the guardian.
+    Receiver,
+    /// An array of at most so many tables, which are checked later.
+    Tables { most: usize },
+    /// An array of these tables.
+    Rows(Rows),
+    /// An array of operations, and whether `add` may be one of them.
+    Operations { adds: bool },
+}
+
+/// Where a key may stand.
+#[derive(Clone, Copy, Debug, PartialEq, Eq)]
+pub enum Only {
+    /// Everywhere.
+    Always,
+    /// In an actor with a bounded mailbox.
+    Bounded,
+    /// In an actor with a priority mailbox.
+    Priority,
+    /// In a send of a user or control message.
+    Message,
+}

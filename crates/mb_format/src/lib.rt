@@ -1,0 +1,30 @@
+//! The format of scenarios: which keys each table has, what each may hold, and in which order a document is checked.
+#![tactic(auto)]
+
+mod actors;
+mod check;
+mod context;
+mod document;
+mod finding;
+mod form;
+mod key;
+mod kin;
+mod name;
+mod number;
+mod operation;
+mod path;
+mod tables;
+mod unknown;
+mod value;
+
+pub use context::{Context, Kin};
+pub use document::{check_document, items_at};
+pub use finding::{Finding, Place, Reason};
+pub use form::{Form, Only, Rows, Words};
+pub use key::Key;
+pub use kin::all_kin;
+pub use name::{is_name, is_text};
+pub use number::number_of;
+pub use operation::{Op, Verb, op_of, space_in};
+pub use path::Path;
+pub use value::{items_of, text_of, text_or, value_at};

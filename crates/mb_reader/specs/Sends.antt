@@ -1,0 +1,32 @@
+-- What a document that passes all checks sends (this project's own profile).
+use Rattle.std.specs.Prelude.{ℕ, ℤ, pos, ◌+◌, List, codes, fold, max, if◌then◌else◌}
+use Rattle.std.specs.Str.{bytes_eq}
+use Rattle.toml.specs.Data.{Data}
+use Rattle.mb_format.specs.Context.{KinData}
+use Rattle.mb_format.specs.Value.{text_or}
+use Rattle.mb_msg.specs.declared.envelope.Body.TheVariants.{User, Control, PoisonPill, Kill}
+use Rattle.mb_reader.specs.Fields.{field, id_of, integer_or, number_or}
+use Rattle.mb_reader.specs.declared.scenario.Sending.{Sending}
+use Rattle.mb_reader.specs.declared.scenario.What.{What}
+use Rattle.mb_reader.specs.declared.scenario.What.TheVariants.{Envelope, Stop}
+
+-- what is sent by this word, with this kind and value
+abbrev pub what_of : List ℕ → ℕ → ℤ → What
+what_of word kind value =
+    if bytes_eq word (codes "poison") then Envelope PoisonPill
+    else (if bytes_eq word (codes "kill") then Envelope Kill
+    else (if bytes_eq word (codes "stop") then Stop
+    else (if bytes_eq word (codes "control") then Envelope (Control kind value)
+    else Envelope (User kind value))))
+
+abbrev pub send_of : List KinData → Data → Sending
+send_of kin d = record {
+  from = number_or 0 (field (codes "from") d);
+  to = id_of kin (text_or (codes "") (field (codes "to") d));
+  what = what_of (text_or (codes "user") (field (codes "what") d)) (number_or 0 (field (codes "kind") d)) (integer_or (pos 0) (field (codes "value") d));
+  times = number_or 1 (field (codes "times") d);
+}
+
+-- how many senders there are: one more than the greatest number of one that sends, none where nothing is sent
+abbrev pub senders_of : List Sending → ℕ
+senders_of sends = fold (λ n (s : Sending). max n (s.from + 1)) 0 sends

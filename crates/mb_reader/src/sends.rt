@@ -1,0 +1,72 @@
+//! What is sent.
+
+ghost use Rattle.std.specs.Prelude.{◌≡◌, IfOk, map};
+ghost use Rattle.toml.specs.View.{view, items_view};
+ghost use Rattle.mb_format.specs.Context.{kin_data};
+ghost use Rattle.mb_reader.specs.Fields.{map_items, small};
+ghost use Rattle.mb_reader.specs.Sends.{send_of, senders_of, what_of};
+
+use crate::fields::{field, id_of, integer_or, number_or, small};
+use crate::scenario::{Sending, What};
+use mb_format::{Kin, is_text, text_or};
+use mb_msg::Body;
+use std::alloc::{AllocError, Global};
+use toml::Value;
+
+/// What the entries say is sent, in order.
+pub(crate) fn sends_of(
+    alloc: Global,
+    kin: &[Kin<'_>],
+    values: &[Value],
+) -> Result<Vec<Sending>, AllocError>
+    ensures { IfOk result (λ sends. sends.items ≡ map_items (send_of (map kin_data kin.now)) (items_view values.now)) }
+{
+    let mut sends = Vec::new(alloc);
+    for value in values {
+        sends.push(send_of(kin, value))?;
+    }
+    Ok(sends)
+}
+
+fn send_of(kin: &[Kin<'_>], value: &Value) -> Sending
+    ensures { result ≡ send_of (map kin_data kin.now) (view value.now) }
+{
+    let word = text_or(b"user", field(value, "what"));
+    let kind = number_or(0, field(value, "kind"));
+    let number = integer_or(0, field(value, "value"));
+    Sending {
+        from: number_or(0, field(value, "from")),
+        to: id_of(kin, text_or(b"", field(value, "to"))),
+        what: what_of(word, kind, number),
+        times: number_or(1, field(value, "times")),
+    }
+}
+
+fn what_of(word: &[u8], kind: u32, value: i64) -> What
+    ensures { result ≡ what_of word.now kind value }
+{
+    if is_text(word, b"poison") {
+        return What::Envelope(Body::PoisonPill);
+    }
+    if is_text(word, b"kill") {
+        return What::Envelope(Body::Kill);
+    }
+    if is_text(word, b"stop") {
+        return What::Stop;
+    }
+    if is_text(word, b"control") {
+        return What::Envelope(Body::Control { kind, value });
+    }
+    What::Envelope(Body::User { kind, value })
+}
+
+/// How many senders there are.
+pub(crate) fn senders_of(sends: &[Sending]) -> u32
+    ensures { result ≡ small (senders_of sends.now) }
+{
+    let mut senders: u64 = 0;
+    for sending in sends {
+        senders = senders.max(u64::from(sending.from) + 1);
+    }
+    small(senders as usize)
+}

@@ -1,0 +1,48 @@
+ghost use Rattle.std.specs.Prelude.{◌≤◌, length};
+
+use mb_actor::Phase;
+use mb_journal::Journal;
+use mb_msg::{DeadLetter, Envelope, SysMsg};
+
+/// What became of one actor.
+#[derive(Drop)]
+pub struct ActorReport {
+    /// Where it stands in its life.
+    pub phase: Phase,
+    /// How many suspensions keep its envelopes waiting: 0 once it is closed.
+    pub count: u64,
+    /// What it shows of its content. The guardian shows nothing.
+    pub state: Option<i64>,
+    /// What came to it and what became of it.
+    pub journal: Journal,
+    /// The system messages that are set aside, with their numbers.
+    pub aside: Vec<(u64, SysMsg)>,
+    /// The envelopes that are left in its mailbox, in order.
+    pub left: Vec<Envelope>,
+    /// The envelopes that were still queued when it ended, in order.
+    pub cleaned: Vec<Envelope>,
+    /// How many numbered system messages to it were never applied and are dead.
+    pub dead_system: u64,
+}
+
+/// What became of what one sender sent.
+#[derive(Drop)]
+pub struct SenderReport {
+    /// How many envelopes it sent.
+    pub sent: u64,
+    /// Those of them that were refused when they were sent, in order.
+    pub dead: Vec<DeadLetter>,
+}
+
+/// What a run has come to: the actors in the order of their numbers, the guardian first, and the senders, each actor as
+/// a sender first and then those outside.
+#[derive(Drop)]
+pub struct Report {
+    /// The actors.
+    pub actors: Vec<ActorReport>,
+    /// The senders.
+    pub senders: Vec<SenderReport>,
+    // As many as a plan may have: the totals then fit.
+    pub ghost few_actors: { length actors.items ≤ 64 },
+    pub ghost few_senders: { length senders.items ≤ 80 },
+}

@@ -1,0 +1,4 @@
+pub mod Index
+pub mod Kept
+pub mod Operations
+pub mod Script

@@ -1,0 +1,147 @@
+ghost use Rattle.std.specs.Prelude.{◌≡◌, IfOk, map, option_map};
+ghost use Rattle.mb_script.specs.Script.{answer_with, after_work, asked_with, row_data, work_of_kind};
+
+use crate::index::{first_of_kind, index_of};
+use crate::operation::{Operation, Row};
+use crate::perform::{Performed, perform};
+use mb_actor::{Actor, Answer, Message, Outbox};
+use mb_msg::Cause;
+use std::alloc::{AllocError, Global};
+use std::collections::BTreeMap;
+use std::marker::Model;
+
+/// What a script does beside its rows.
+#[derive(Debug, Drop)]
+pub struct Hooks {
+    /// At a start.
+    pub start: Vec<Operation>,
+    /// At a restart.
+    pub restart: Vec<Operation>,
+    /// At the end.
+    pub stop: Vec<Operation>,
+    /// When an actor has ended that it watches; without it that is not handled.
+    pub terminated: Option<Vec<Operation>>,
+}
+
+/// An actor with a number for its state, which does with a message what the first row of its kind says.
+///
+/// A message of a kind that has no row is not handled. Where the rows are many, a message takes hardly longer.
+#[derive(Drop)]
+pub struct Script {
+    initial: i64,
+    hooks: Hooks,
+    rows: Vec<Row>,
+    index: BTreeMap<u32, usize>,
+    state: i64,
+}
+
+impl Model for Script {
+    ghost use Rattle.std.specs.Prelude.{map, option_map};
+    ghost use Rattle.mb_script.specs.Script.{Scripted, row_data};
+
+    ghost Value = { Scripted };
+
+    ghost use Rattle.mb_script.specs.Kept.{IsKept};
+
+    ghost view = { λ s. record {
+      script = record {
+        initial = s.initial;
+        start = s.hooks.start.items;
+        restart = s.hooks.restart.items;
+        stop = s.hooks.stop.items;
+        terminated = option_map (λ operations. operations.items) s.hooks.terminated;
+        rows = map row_data s.rows.items;
+      };
+      state = s.state;
+    } };
+
+    ghost invariant = { IsKept };
+}
+
+impl Script {
+    /// An actor whose state begins at `initial`, with these hooks and rows. Its one error is that memory was refused.
+    pub fn new(
+        alloc: Global,
+        initial: i64,
+        hooks: Hooks,
+        rows: Vec<Row>,
+    ) -> Result<Self, AllocError>
+        ensures { IfOk result (λ script. script ≡ record {
+          script = record {
+            initial = initial;
+            start = hooks.start.items;
+            restart = hooks.restart.items;
+            stop = hooks.stop.items;
+            terminated = option_map (λ operations. operations.items) hooks.terminated;
+            rows = map row_data rows.items;
+          };
+          state = initial;
+        }) }
+    {
+        let index = index_of(alloc, &rows)?;
+        Ok(Script {
+            initial,
+            hooks,
+            rows,
+            index,
+            state: initial,
+        })
+    }
+
+    /// Does what the first row of the kind says.
+    fn do_kind(&mut self, kind: u32, value: i64, out: &mut Outbox) -> Answer
+        ensures state { self.new ≡ record self.old { state = after_work self.old.state (work_of_kind self.old.script.rows kind value) } }
+        ensures answer { result ≡ answer_with (work_of_kind self.old.script.rows kind value) }
+        ensures asked { out.new ≡ asked_with (work_of_kind self.old.script.rows kind value) out.old }
+        ensures actors { out.new.actors ≡ out.old.actors }
+        ensures unspawned { out.new.unspawned ≡ out.old.unspawned }
+    {
+        match first_of_kind(&self.rows, &self.index, kind) {
+            Some(row) => {
+                let Performed { state, answer } = perform(&row.operations, value, self.state, out);
+                self.state = state;
+                answer
+            }
+            None => Answer::Unhandled,
+        }
+    }
+}
+
+impl Actor for Script {
+    ghost use Rattle.mb_script.specs.Script.{after_of, gives_of};
+
+    ghost after = { λ s. after_of s.script.initial s.script.rows };
+
+    ghost content = { λ s. s.state };
+
+    ghost gives = { λ s. gives_of s.script };
+
+    fn start(&mut self, out: &mut Outbox) -> Answer {
+        self.state = self.initial;
+        perform(&self.hooks.start, 0, 0, out).answer
+    }
+
+    fn receive(&mut self, message: &Message, out: &mut Outbox) -> Answer {
+        match *message {
+            Message::User { kind, value } => self.do_kind(kind, value, out),
+            Message::Control { kind, value } => self.do_kind(kind, value, out),
+            Message::Terminated(id) => match &self.hooks.terminated {
+                Some(operations) => perform(operations, i64::from(id.0), 0, out).answer,
+                None => Answer::Unhandled,
+            },
+        }
+    }
+
+    fn restart(&mut self, _cause: Cause, out: &mut Outbox) -> Answer {
+        self.state = self.initial;
+        perform(&self.hooks.restart, 0, 0, out).answer
+    }
+
+    fn stop(&mut self, out: &mut Outbox) {
+        let _ = perform(&self.hooks.stop, 0, 0, out).answer;
+    }
+
+    fn state(&self) -> i64 {
+        self.state
+    }
+}
