@@ -4,13 +4,14 @@ use Rattle.std.specs.Bool.{Decides}
 use Rattle.std.proofs.lemmas.Bool.Decides.{nat_tests, Decides-eqb}
 use Rattle.std.proofs.lemmas.List.Elements.{filter-append, All-contains}
 use Rattle.std.specs.List.{All, Contains}
-use Rattle.mb_lane.specs.Rule.{AllBy}
+use Rattle.mb_lane.specs.Rule.{Belongs}
 use Rattle.std.proofs.lemmas.List.{append-nil}
 use mathlib.Core.Option.{some, some-ne-none, some-injective}
 use lib.ListN.{get_elem?}
 use Rattle.crossbeam_queue.proofs.Lists.{at_set, at_snoc}
 use Rattle.mb_msg.specs.declared.envelope.Envelope.{Envelope}
 use Rattle.mb_lane.specs.declared.ledger.Account.{Account}
+use Rattle.mb_lane.specs.declared.ledger.Scope.{Scope}
 use Rattle.mb_lane.specs.Ledger.{sent_by, account, account_after}
 
 module _ {V : Type 0} where
@@ -77,9 +78,9 @@ pub account-cases : (accounts : List Account) (a : Account) (sender : ℕ) (push
 account-cases accounts a sender pushed is = ⊎_elim (λ (same : sender ≡ a.by). inl (same, sym (account-same accounts a sender (sym same)) ∙ is))
     (λ (ne : sender ≢ a.by). inr (ne, sym (account-other accounts a sender (λ e. ne (sym e))) ∙ is)) (same_or_not sender a.by)
 
-pub none_known : (senders : List ℕ) (all : List Envelope) → senders ≡ [] → AllBy senders all → all ≡ []
-none_known senders [] is known = refl
-none_known senders (e ∷ all) is known = let c : Contains senders e.by.0 = All-contains (λ (x : Envelope). Contains senders x.by.0) (e ∷ all) e known (0, omega arith, refl) in absurd (omega (arith, c.1, ap length is))
+pub none_known : (scope : Scope) (all : List Envelope) → scope.senders ≡ [] → All (Belongs scope) all → all ≡ []
+none_known scope [] is known = refl
+none_known scope (e ∷ all) is known = let c : Belongs scope e = All-contains (Belongs scope) (e ∷ all) e known (0, omega arith, refl) in absurd (omega (arith, c.0.1, ap length is))
 
 pub none_within : (senders : List ℕ) (sender : ℕ) → senders ≡ [] → Contains senders sender → ⊥
 none_within senders sender is c = omega (arith, c.1, ap length is)

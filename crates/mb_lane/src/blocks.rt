@@ -2,11 +2,11 @@
 ghost use Rattle.std.specs.Prelude.{◌≡◌, [], IfOk, MatchOption, MatchResult};
 ghost use Rattle.crossbeam_queue.specs.SegTies.{IsSegPassOf};
 ghost use Rattle.mb_lane.specs.declared.ledger.Ledger.TheVariants.{Taker};
-ghost use Rattle.mb_lane.specs.Ledger.{IsSender, IsSenderOf, IsTaker, IsUnused, MayLend, pushing, taking, lending, borrowing, joining};
+ghost use Rattle.mb_lane.specs.Ledger.{IsSender, IsTaker, IsUnused, MayLend, MayPush, pushing, taking, lending, borrowing, joining};
 ghost use Rattle.mb_lane.specs.Rule.{FoundEmpty, FoundNext};
 
 use crate::ledger::Ledger;
-use crate::rule::{Accounted, Joins, Lends, Named, Opens, Pushed, Senders, Taken};
+use crate::rule::{Accounted, Joins, Lends, Named, Opens, Pushed, Scoped, Taken};
 use crossbeam_queue::{RuledSegQueue, SegPass};
 use mb_msg::Envelope;
 use std::alloc::{AllocError, Global};
@@ -42,7 +42,7 @@ impl Blocks {
         envelope: Envelope,
     ) -> Result<(), Envelope>
         requires queue { IsSegPassOf self.now.queue pass.old }
-        requires sender { IsSenderOf envelope.by.0 pass.old.me.view.client }
+        requires sender { MayPush envelope pass.old.me.view.client }
         ensures queue { IsSegPassOf self.now.queue pass.new }
         ensures pushed { MatchResult result (λ _. pass.new.me.view.client ≡ pushing pass.old.me.view.client envelope)
             (λ back. (back ≡ envelope) × (pass.new.me.view.client ≡ pass.old.me.view.client)) }
@@ -60,12 +60,12 @@ impl Blocks {
         self.queue.pop_as::<Taken, R>(rt, pass)
     }
 
-    /// Settles of which senders the lane is.
-    pub fn open<S: Senders>(&self, pass: &mut BlocksPass)
+    /// Settles which envelopes the lane has.
+    pub fn open<S: Scoped>(&self, pass: &mut BlocksPass)
         requires queue { IsSegPassOf self.now.queue pass.old }
         requires unused { IsUnused pass.old.me.view.client }
         ensures queue { IsSegPassOf self.now.queue pass.new }
-        ensures opened { pass.new.me.view.client ≡ Taker S.senders [] [] }
+        ensures opened { pass.new.me.view.client ≡ Taker S.scope [] [] }
     {
         let _ = self.queue.another::<Opens<S>>(pass);
     }

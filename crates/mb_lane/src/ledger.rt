@@ -12,12 +12,31 @@ pub struct Account {
     pub pushed: Option<Log<Envelope>>,
 }
 
+/// Which envelopes a lane is for.
+#[derive(Clone, Copy, Debug, PartialEq, Eq)]
+pub enum Part {
+    /// All.
+    Whole,
+    /// Those with a body `Control`.
+    Controls,
+    /// All others.
+    Others,
+}
+
+/// Which envelopes a lane has.
+pub struct Scope {
+    /// By which senders.
+    pub senders: LinkedList<u32>,
+    /// And of which part.
+    pub part: Part,
+}
+
 /// What a port knows of its lane.
 pub enum Ledger {
-    /// It pushes for one sender: of which senders the lane is, which one this is, and what it pushed.
-    Sender(LinkedList<u32>, u32, LinkedList<Envelope>),
-    /// It takes: of which senders the lane is, what was taken, and what became of the accounts, the newest last.
-    Taker(LinkedList<u32>, LinkedList<Envelope>, LinkedList<Account>),
+    /// It pushes for one sender: which envelopes the lane has, which sender this is, and what it pushed.
+    Sender(Scope, u32, LinkedList<Envelope>),
+    /// It takes: which envelopes the lane has, what was taken, and what became of the accounts, the newest last.
+    Taker(Scope, LinkedList<Envelope>, LinkedList<Account>),
     /// It was joined to another.
     Spent,
 }

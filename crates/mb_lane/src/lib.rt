@@ -8,9 +8,11 @@ mod blocks;
 mod ledger;
 mod log;
 mod port;
+mod refused;
 mod rule;
 mod slots;
 
-pub use ledger::{Account, Ledger};
+pub use ledger::{Account, Ledger, Part, Scope};
 pub use log::Log;
 pub use port::Port;
+pub use refused::PushError;

@@ -2,6 +2,7 @@
 ghost use Rattle.std.specs.Prelude.{◌≡◌, [], ◌∷◌, ◌++◌};
 
 use std::marker::Model;
+use std::mem;
 use std::snapshot::Snapshot;
 
 /// What came so far, the newest in front. It is only ever seen through a snapshot.
@@ -39,15 +40,14 @@ impl<T: Drop> Log<T> {
         }
     }
 
-    /// The list with one more at its end.
+    /// One more comes at the end.
     #[inline]
-    pub fn with(self, item: T) -> Log<T>
-        ensures { result ≡ self ++ item ∷ [] }
+    pub fn add(&mut self, item: T)
+        ensures { self.new ≡ self.old ++ item ∷ [] }
     {
-        let Log { past } = self;
+        let nothing = Past::Nothing;
+        let past = mem::replace(&mut self.past, Snapshot::of(&nothing));
         let past = Past::Then(past, item);
-        Log {
-            past: Snapshot::of(&past),
-        }
+        self.past = Snapshot::of(&past);
     }
 }

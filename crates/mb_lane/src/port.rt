@@ -1,11 +1,13 @@
 //! A thread's way into a lane: it pushes for one sender, or it takes.
-ghost use Rattle.std.specs.Prelude.{◌≡◌, ◌<◌, [], Some, None, IfOk, MatchOption, MatchResult, IfSome, map};
+ghost use Rattle.std.specs.Prelude.{◌≡◌, ◌<◌, [], Some, None, IfOk, MatchOption, MatchResult, IfErr};
 ghost use Rattle.mb_lane.specs.declared.ledger.Ledger.TheVariants.{Taker};
-ghost use Rattle.mb_lane.specs.Ledger.{IsSender, IsSenderOf, IsTaker, IsUnused, MayLend, pushing, taking, lending, borrowing, joining};
-ghost use Rattle.mb_lane.specs.Rule.{FoundEmpty, FoundFull, FoundNext};
+ghost use Rattle.mb_lane.specs.Ledger.{IsSender, IsTaker, IsUnused, MayLend, MayPush, pushing, scope_of, taking, lending, borrowing, joining};
+ghost use Rattle.mb_lane.specs.Rule.{FoundEmpty, FoundNext, IsRefusal, given_back};
 
 use crate::blocks::{Blocks, BlocksPass};
-use crate::rule::{Named, Senders};
+use crate::ledger::Part;
+use crate::refused::PushError;
+use crate::rule::{Named, Scoped};
 use crate::slots::{Slots, SlotsPass};
 use mb_msg::{Envelope, SenderId};
 use std::alloc::{AllocError, Global};
@@ -40,7 +42,7 @@ impl Model for Port {
 impl Port {
     ghost use Rattle.mb_lane.specs.Port.{Known};
 
-    /// The taker's port of a lane without a bound. The senders are not settled yet.
+    /// The taker's port of a lane without a bound. It is not settled yet which envelopes it has.
     pub fn unbounded(alloc: Global) -> Result<Port, AllocError>
         ensures { IfOk result (λ port. (port.lane.capacity ≡ None) × IsUnused port.ledger) }
     {
@@ -51,7 +53,7 @@ impl Port {
         })
     }
 
-    /// The taker's port of a lane that holds so many at most. The senders are not settled yet.
+    /// The taker's port of a lane that holds so many at most. It is not settled yet which envelopes it has.
     pub fn bounded(alloc: Global, capacity: usize) -> Result<Port, AllocError>
         requires { 0 < capacity }
         ensures { IfOk result (λ port. (port.lane.capacity ≡ Some capacity) × IsUnused port.ledger) }
@@ -63,17 +65,22 @@ impl Port {
         })
     }
 
-    /// Puts the envelope last. It comes back where a bounded lane was full, or where there was no memory for it in one
-    /// without a bound.
-    pub fn push<R: Wait>(&mut self, rt: &R, envelope: Envelope) -> Result<(), Envelope>
-        requires { IsSenderOf envelope.by.0 self.old.ledger }
+    /// Puts the envelope last, or gives it back.
+    pub fn push<R: Wait>(&mut self, rt: &R, envelope: Envelope) -> Result<(), PushError>
+        requires { MayPush envelope self.old.ledger }
         ensures pushed { MatchResult result (λ _. self.new ≡ record self.old { ledger = pushing self.old.ledger envelope })
-            (λ back. (back ≡ envelope) × (self.new ≡ self.old)) }
-        ensures full { MatchResult result (λ _. Unit {0}) (λ _. IfSome self.old.lane.capacity (λ capacity. FoundFull capacity self.old.ledger)) }
+            (λ refused. (given_back refused ≡ envelope) × (self.new ≡ self.old)) }
+        ensures refused { IfErr result (IsRefusal self.old.lane.capacity self.old.ledger) }
     {
         match &mut self.end {
-            End::Unbounded(blocks, pass) => blocks.push(rt, pass, envelope),
-            End::Bounded(slots, pass) => slots.push(rt, pass, envelope),
+            End::Unbounded(blocks, pass) => match blocks.push(rt, pass, envelope) {
+                Ok(()) => Ok(()),
+                Err(back) => Err(PushError::NoMemory(back)),
+            },
+            End::Bounded(slots, pass) => match slots.push(rt, pass, envelope) {
+                Ok(()) => Ok(()),
+                Err(back) => Err(PushError::Full(back)),
+            },
         }
     }
 
@@ -89,20 +96,21 @@ impl Port {
         }
     }
 
-    /// Settles of which senders the lane is, whose accounts are then all at home and empty.
-    pub fn open(&mut self, senders: &[SenderId])
+    /// Settles which envelopes the lane has: by these senders, whose accounts are all at home and empty, and of this part.
+    pub fn open(&mut self, senders: &[SenderId], part: Part)
         requires { IsUnused self.old.ledger }
-        ensures { self.new ≡ record self.old { ledger = Taker (map (λ s. s.0) senders.now) [] [] } }
+        ensures { self.new ≡ record self.old { ledger = Taker (scope_of senders.now part) [] [] } }
     {
-        self.open_as::<Brand>(senders);
+        self.open_as::<Brand>(senders, part);
     }
 
-    fn open_as<S: Senders>(&mut self, senders: &[SenderId])
+    fn open_as<S: Scoped>(&mut self, senders: &[SenderId], part: Part)
         requires unused { IsUnused self.old.ledger }
-        requires these { S.senders ≡ map (λ s. s.0) senders.now }
-        ensures { self.new ≡ record self.old { ledger = Taker (map (λ s. s.0) senders.now) [] [] } }
+        requires these { S.scope ≡ scope_of senders.now part }
+        ensures { self.new ≡ record self.old { ledger = Taker (scope_of senders.now part) [] [] } }
     {
         let _ = senders;
+        let _ = part;
         match &mut self.end {
             End::Unbounded(blocks, pass) => blocks.open::<S>(pass),
             End::Bounded(slots, pass) => slots.open::<S>(pass),

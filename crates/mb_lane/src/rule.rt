@@ -10,11 +10,12 @@ pub struct Accounted;
 impl Protocol<Envelope, Ledger> for Accounted {
     ghost use Rattle.std.specs.Prelude.{[]};
     ghost use Rattle.mb_lane.specs.declared.ledger.Ledger.TheVariants.{Taker};
+    ghost use Rattle.mb_lane.specs.Ledger.{unsettled};
     ghost use Rattle.mb_lane.specs.Rule.{Kept};
 
     ghost holds = { Kept };
 
-    ghost first = { Taker [] [] [] };
+    ghost first = { Taker unsettled [] [] };
 }
 
 /// A push.
@@ -54,27 +55,27 @@ impl Lesson<Envelope, Ledger> for Taken {
     ghost fact = { λ ledger items. length items ≡ 0 → FoundEmpty ledger };
 }
 
-/// Of which senders a lane is. A call picks it.
-pub trait Senders {
-    ghost use Rattle.std.specs.Prelude.{ℕ, List};
+/// Which envelopes a lane has. A call picks it.
+pub trait Scoped {
+    ghost use Rattle.mb_lane.specs.declared.ledger.Scope.{Scope};
 
-    ghost senders: { List ℕ };
+    ghost scope: { Scope };
 }
 
-impl Senders for Brand {
-    ghost use Rattle.std.specs.Prelude.{[]};
+impl Scoped for Brand {
+    ghost use Rattle.mb_lane.specs.Ledger.{unsettled};
 
-    ghost senders = { [] };
+    ghost scope = { unsettled };
 }
 
-/// The first step: it settles of which senders the lane is.
+/// The first step: it settles which envelopes the lane has.
 pub struct Opens<S>(PhantomData<S>);
 
-impl<S: Senders> Split<Ledger> for Opens<S> {
+impl<S: Scoped> Split<Ledger> for Opens<S> {
     ghost use Rattle.std.specs.Prelude.{[]};
     ghost use Rattle.mb_lane.specs.declared.ledger.Ledger.TheVariants.{Taker, Spent};
 
-    ghost left = { λ ledger. Taker S.senders [] [] };
+    ghost left = { λ ledger. Taker S.scope [] [] };
 
     ghost right = { λ ledger. Spent };
 }

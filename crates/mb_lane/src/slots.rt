@@ -2,11 +2,11 @@
 ghost use Rattle.std.specs.Prelude.{◌≡◌, ◌<◌, [], IfOk, MatchOption, MatchResult};
 ghost use Rattle.crossbeam_queue.specs.Passes.{view, IsPassOf, ruled_capacity};
 ghost use Rattle.mb_lane.specs.declared.ledger.Ledger.TheVariants.{Taker};
-ghost use Rattle.mb_lane.specs.Ledger.{IsSender, IsSenderOf, IsTaker, IsUnused, MayLend, pushing, taking, lending, borrowing, joining};
+ghost use Rattle.mb_lane.specs.Ledger.{IsSender, IsTaker, IsUnused, MayLend, MayPush, pushing, taking, lending, borrowing, joining};
 ghost use Rattle.mb_lane.specs.Rule.{FoundEmpty, FoundFull, FoundNext};
 
 use crate::ledger::Ledger;
-use crate::rule::{Accounted, Joins, Lends, Named, Opens, Pushed, Senders, Taken};
+use crate::rule::{Accounted, Joins, Lends, Named, Opens, Pushed, Scoped, Taken};
 use crossbeam_queue::{Pass, RuledArrayQueue};
 use mb_msg::Envelope;
 use std::alloc::{AllocError, Global};
@@ -38,7 +38,7 @@ impl Slots {
         envelope: Envelope,
     ) -> Result<(), Envelope>
         requires queue { IsPassOf self.now.queue pass.old }
-        requires sender { IsSenderOf envelope.by.0 (view pass.old) }
+        requires sender { MayPush envelope (view pass.old) }
         ensures queue { IsPassOf self.now.queue pass.new }
         ensures pushed { MatchResult result (λ _. (view pass.new) ≡ pushing (view pass.old) envelope)
             (λ back. (back ≡ envelope) × ((view pass.new) ≡ (view pass.old)) × FoundFull (ruled_capacity self.now.queue) (view pass.old)) }
@@ -56,12 +56,12 @@ impl Slots {
         self.queue.pop_as::<Taken, R>(rt, pass)
     }
 
-    /// Settles of which senders the lane is.
-    pub fn open<S: Senders>(&self, pass: &mut SlotsPass)
+    /// Settles which envelopes the lane has.
+    pub fn open<S: Scoped>(&self, pass: &mut SlotsPass)
         requires queue { IsPassOf self.now.queue pass.old }
         requires unused { IsUnused (view pass.old) }
         ensures queue { IsPassOf self.now.queue pass.new }
-        ensures opened { (view pass.new) ≡ Taker S.senders [] [] }
+        ensures opened { (view pass.new) ≡ Taker S.scope [] [] }
     {
         let _ = self.queue.another::<Opens<S>>(pass);
     }

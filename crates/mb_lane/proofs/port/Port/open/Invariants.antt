@@ -1,5 +1,5 @@
-use Rattle.std.proofs.Common.{map}
+use Rattle.mb_lane.specs.Ledger.{scope_of}
 use Rattle.mb_lane.proofs.port.Port.open.Given as goal
 
 abbrev pub ghosts-open_as : goal.ghosts-open_as
-ghosts-open_as a = record { senders = map (λ s. s.0) a.senders.now }
+ghosts-open_as a = record { scope = scope_of a.senders.now a.part }
