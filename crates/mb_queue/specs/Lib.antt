@@ -1,0 +1,5 @@
+pub mod Kept
+pub mod Parts
+pub mod Passes
+pub mod Pushes
+pub mod Takes
