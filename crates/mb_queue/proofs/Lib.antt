@@ -1,1 +1,5 @@
+pub mod Bags
 pub mod Refused
+pub mod Taken
+pub mod TakenIn
+pub mod Takings

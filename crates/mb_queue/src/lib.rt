@@ -4,10 +4,16 @@
 //! the mailbox has the pass to take with, and a pass may go to any thread.
 #![tactic(auto)]
 
+mod choice;
 mod kind;
+mod make;
+mod order;
 mod send_pass;
+mod take_pass;
 
 pub use kind::Kind;
+pub use make::MailQueue;
 pub use mb_lane::PushError;
 pub use mb_rank::{RankRow, Ranks};
 pub use send_pass::SendPass;
+pub use take_pass::TakePass;
