@@ -77,8 +77,8 @@ module _ (rows : List RankRow) (other number : ℕ) (gone fresh taken : List Env
       let a = sum_by-append f gone fresh in let b = bag test in let c = sum_by-append f taken (envelopes_of waiting) in
       let d = count-held test (waiting ++ in') held came in
       let e : count_by test (envelopes_of (waiting ++ in')) ≡ count_by test (envelopes_of waiting) + count_by test fresh =
-          ap (count_by test) (map-append (λ (x : Arrival). x.envelope) waiting in') ∙ sum_by-append f (envelopes_of waiting) (envelopes_of in')
-          ∙ ap (λ l. count_by test (envelopes_of waiting) + count_by test l) (envelopes-arrivals rows other number fresh) in
+      ap (count_by test) (map-append (λ (x : Arrival). x.envelope) waiting in') ∙ sum_by-append f (envelopes_of waiting) (envelopes_of in')
+      ∙ ap (λ l. count_by test (envelopes_of waiting) + count_by test l) (envelopes-arrivals rows other number fresh) in
       omega (arith, a, b, c, d, e)
 
   -- what came in is what was given and what is held, after one more is given

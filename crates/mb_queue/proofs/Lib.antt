@@ -1,4 +1,6 @@
 pub mod Bags
+pub mod Distinct
+pub mod Lends
 pub mod Refused
 pub mod Taken
 pub mod TakenIn

@@ -45,7 +45,7 @@ module _ (part : List Envelope → List Envelope) where
       ∙ account_after-part (cond (a.by == sender) a.pushed before) accounts sender
 
   -- what a lane says of a part of each account
-  part_of_account : part [] ≡ [] → (accounts : List Account) (sender : ℕ) (pushed : List Envelope) → account accounts sender ≡ Some pushed → account (accounts_of part accounts) sender ≡ Some (part pushed)
+  pub part_of_account : part [] ≡ [] → (accounts : List Account) (sender : ℕ) (pushed : List Envelope) → account accounts sender ≡ Some pushed → account (accounts_of part accounts) sender ≡ Some (part pushed)
   part_of_account none accounts sender pushed is = ap (λ l. account_after (Some l) (accounts_of part accounts) sender) (sym none) ∙ account_after-part (Some []) accounts sender ∙ ap (option_map part) is
 
   pub all_out : part [] ≡ [] → (accounts : List Account) (out : List Envelope) → lane.AllOut (accounts_of part accounts) (part out) → AllOut part accounts out

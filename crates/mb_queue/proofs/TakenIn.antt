@@ -30,7 +30,7 @@ pub arrivals_from-more : (rows : List RankRow) (other number : ℕ) (es : List E
 arrivals_from-more rows other number [] e = let n : number ≡ number + 0 = omega arith in ap (λ k. record { rank = rank_of rows other e.body; number = k; envelope = e } ∷ []) n
 arrivals_from-more rows other number (x ∷ es) e = let n : (number + 1) + length es ≡ number + length (x ∷ es) = omega arith in
     ap (λ l. record { rank = rank_of rows other x.body; number = number; envelope = x } ∷ l)
-      (arrivals_from-more rows other (number + 1) es e ∙ ap (λ k. arrivals_from rows other (number + 1) es ++ record { rank = rank_of rows other e.body; number = k; envelope = e } ∷ []) n)
+    (arrivals_from-more rows other (number + 1) es e ∙ ap (λ k. arrivals_from rows other (number + 1) es ++ record { rank = rank_of rows other e.body; number = k; envelope = e } ∷ []) n)
 
 begins_next : (l : Ledger) (e : Envelope) → lane.FoundNext l e → Begins (taking l e)
 begins_next (Sender scope by pushed) e found = found
@@ -60,7 +60,7 @@ one_more old port mid port' new port'' m o =
     let e : Envelope = o.envelope in let es : List Envelope = m.fresh in
     let item : Arrival = record { rank = rank_of old.ranks old.other e.body; number = old.next + length es; envelope = e } in
     let same : record { rank = rank_of mid.ranks mid.other e.body; number = mid.next; envelope = e } ≡ item
-        = λ i. record { rank = rank_of (m.ranks i) (m.other i) e.body; number = m.next i; envelope = e } in record {
+    = λ i. record { rank = rank_of (m.ranks i) (m.other i) e.body; number = m.next i; envelope = e } in record {
       fresh = es ++ e ∷ [];
       ranks = o.ranks ∙ m.ranks;
       other = o.other ∙ m.other;
@@ -69,5 +69,5 @@ one_more old port mid port' new port'' m o =
       begins = inr (subst (λ (p : Known). Begins p.ledger) (sym o.came.0) (begins_next port'.ledger e o.came.1));
       held = subst (λ l. IsPermutation (old.waiting ++ l) new.waiting) (sym (arrivals_from-more old.ranks old.other old.next es e))
           (subst (λ l. IsPermutation l new.waiting) (append_assoc old.waiting (arrivals_from old.ranks old.other old.next es) (item ∷ []))
-            (IsPermutation-push_more _ mid.waiting new.waiting item m.held (subst (λ x. IsPermutation (x ∷ mid.waiting) new.waiting) same o.held)));
+          (IsPermutation-push_more _ mid.waiting new.waiting item m.held (subst (λ x. IsPermutation (x ∷ mid.waiting) new.waiting) same o.held)));
     }

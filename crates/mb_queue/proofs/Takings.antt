@@ -43,7 +43,7 @@ module _ (main : Known) (taken : List Envelope) (accounts : List Account) where
         let at_main : IsTaking main (ControlFirst control') (taken ++ e ∷ []) accounts = (
           subst (λ l. Took main ours Others l (accounts_of others accounts)) (sym less) kept.0,
           subst (λ l. Took control' ours Controls l (accounts_of controls accounts)) (sym more)
-            (took_next ours Controls (controls taken) (accounts_of controls accounts) control e control' kept.1 step),
+              (took_next ours Controls (controls taken) (accounts_of controls accounts) control e control' kept.1 step),
           kept.2,
           ap (λ l. l.capacity) lane_same ∙ kept.3,
         ) in
@@ -60,7 +60,7 @@ module _ (main : Known) (taken : List Envelope) (accounts : List Account) where
         let lane_same : main'.lane ≡ main.lane = ap (λ (p : Known). p.lane) step.0 in (
           subst (λ l. Took main' (senders_of main'.ledger) Others l (accounts_of others accounts)) (sym more) (settled ours Others _ (accounts_of others accounts) main' took),
           subst (λ l. Took control' (senders_of main'.ledger) Controls l (accounts_of controls accounts)) (sym less)
-            (subst (λ s. Took control' s Controls (controls taken) (accounts_of controls accounts)) same
+              (subst (λ s. Took control' s Controls (controls taken) (accounts_of controls accounts)) same
               (took_none ours Controls (controls taken) (accounts_of controls accounts) control control' kept.1 none)),
           ap (λ l. l.capacity) lane_same ∙ kept.2,
           ap (λ (p : Known). p.lane.capacity) none.0 ∙ kept.3,
@@ -74,7 +74,7 @@ module _ (main : Known) (taken : List Envelope) (accounts : List Account) where
         let found = found_next ours Controls (controls taken) (accounts_of controls accounts) control e control' kept.1 step in
         let is : is_control e ≡ true = found.0.1 in
         let begins : AllBegin controls accounts (taken ++ e ∷ []) = all_begin controls refl accounts (taken ++ e ∷ [])
-            (subst (lane.AllBegin (accounts_of controls accounts)) (sym (filter-more is_control taken e is)) found.1) in
+        (subst (lane.AllBegin (accounts_of controls accounts)) (sym (filter-more is_control taken e is)) found.1) in
         subst (λ b. MatchBool b (AllBegin controls accounts (taken ++ e ∷ [])) (AllOut controls accounts taken × AllBegin others accounts (taken ++ e ∷ []))) (sym is) begins
 
     other_turn : (e : Envelope) (control' main' : Known) → TakesOf control None control' → TakesOf main (Some e) main' → Control_turn e
@@ -82,7 +82,7 @@ module _ (main : Known) (taken : List Envelope) (accounts : List Account) where
         let found = found_next ours Others (others taken) (accounts_of others accounts) main e main' kept.0 step in
         let is : is_control e ≡ false = found.0.1 in
         let begins : AllBegin others accounts (taken ++ e ∷ []) = all_begin others refl accounts (taken ++ e ∷ [])
-            (subst (lane.AllBegin (accounts_of others accounts)) (sym (filter-more no_control taken e (ap not is))) found.1) in
+        (subst (lane.AllBegin (accounts_of others accounts)) (sym (filter-more no_control taken e (ap not is))) found.1) in
         let out : AllOut controls accounts taken = all_out controls refl accounts taken (found_empty ours Controls (controls taken) (accounts_of controls accounts) control kept.1 none.1) in
         subst (λ b. MatchBool b (AllBegin controls accounts (taken ++ e ∷ [])) (AllOut controls accounts taken × AllBegin others accounts (taken ++ e ∷ []))) (sym is) (out, begins)
 
@@ -135,10 +135,10 @@ kept_some main FirstInFirstOut taken accounts e main' order' kept step =
     subst (λ o. IsTaking main' o (taken ++ e ∷ []) accounts) (sym step.0) (fifo_kept main taken accounts e main' kept step.1)
 kept_some main (ControlFirst control) taken accounts e main' order' kept step =
     subst (λ o. IsTaking main' o (taken ++ e ∷ []) accounts) (sym step.1)
-      (⊎_elim (λ h. control_kept main taken accounts control kept e step.0 main' h.0 h.1) (λ h. other_kept main taken accounts control kept e step.0 main' h.0 h.1) step.2)
+    (⊎_elim (λ h. control_kept main taken accounts control kept e step.0 main' h.0 h.1) (λ h. other_kept main taken accounts control kept e step.0 main' h.0 h.1) step.2)
 kept_some main (ByRank choice) taken accounts e main' order' kept step =
     subst (λ o. IsTaking main' o (taken ++ e ∷ []) accounts) (sym step.1)
-      (rank_kept main taken accounts choice kept (Some e) (taken ++ e ∷ []) step.0 main' step.2 (rank_bag main taken accounts choice kept e step.0 main' step.2))
+    (rank_kept main taken accounts choice kept (Some e) (taken ++ e ∷ []) step.0 main' step.2 (rank_bag main taken accounts choice kept e step.0 main' step.2))
 
 pub kept_none : (main : Known) (order : Order) (taken : List Envelope) (accounts : List Account) (main' : Known) (order' : Order)
     → IsTaking main order taken accounts → IsStep main order None main' order' → IsTaking main' order' taken accounts
@@ -146,10 +146,10 @@ kept_none main FirstInFirstOut taken accounts main' order' kept step =
     subst (λ o. IsTaking main' o taken accounts) (sym step.0) (subst (λ m. IsTaking m FirstInFirstOut taken accounts) (sym step.1.0) kept)
 kept_none main (ControlFirst control) taken accounts main' order' kept step =
     subst (λ o. IsTaking main' o taken accounts) (sym step.1)
-      (subst (λ (y : Known × Known). IsTaking y.0 (ControlFirst y.1) taken accounts) (λ i. (sym step.2.1.0 i, sym step.2.0.0 i)) kept)
+    (subst (λ (y : Known × Known). IsTaking y.0 (ControlFirst y.1) taken accounts) (λ i. (sym step.2.1.0 i, sym step.2.0.0 i)) kept)
 kept_none main (ByRank choice) taken accounts main' order' kept step =
     subst (λ o. IsTaking main' o taken accounts) (sym step.1)
-      (rank_kept main taken accounts choice kept None taken step.0 main' step.2 (rank_bag_none main taken accounts choice kept step.0 main' step.2))
+    (rank_kept main taken accounts choice kept None taken step.0 main' step.2 (rank_bag_none main taken accounts choice kept step.0 main' step.2))
 
 -- and it is the turn of what was given
 pub turn_some : (main : Known) (order : Order) (taken : List Envelope) (accounts : List Account) (e : Envelope) (main' : Known) (order' : Order)
@@ -158,31 +158,35 @@ pub turn_some : (main : Known) (order : Order) (taken : List Envelope) (accounts
 turn_some main FirstInFirstOut taken accounts e main' order' kept step =
     let found = found_next (senders_of main.ledger) Whole taken accounts main e main' kept step.1 in
     subst (λ o. IsTake (turns_of FirstInFirstOut) (taking_of main FirstInFirstOut taken accounts) (Some e) (taking_of main' o (taken ++ e ∷ []) accounts)) (sym step.0)
-      ((refl, refl), (found.0.0, found.1))
+    ((refl, refl), (found.0.0, found.1))
 turn_some main (ControlFirst control) taken accounts e main' order' kept step =
-    subst (λ o. IsTake (turns_of (ControlFirst control)) (taking_of main (ControlFirst control) taken accounts) (Some e) (taking_of main' o (taken ++ e ∷ []) accounts)) (sym step.1)
-      ((refl, refl), ⊎_elim
-        (λ h. ((found_next (senders_of main.ledger) Controls (controls taken) (accounts_of controls accounts) control e step.0 kept.1 h.0).0.0, control_turn main taken accounts control kept e step.0 h.0))
-        (λ h. ((found_next (senders_of main.ledger) Others (others taken) (accounts_of others accounts) main e main' kept.0 h.1).0.0, other_turn main taken accounts control kept e step.0 main' h.0 h.1)) step.2)
+    subst (λ o. IsTake (turns_of (ControlFirst control)) (taking_of main (ControlFirst control) taken accounts) (Some e) (taking_of main' o (taken ++ e ∷ []) accounts)) (sym step.1) (
+      (refl, refl),
+      ⊎_elim
+          (λ h. ((found_next (senders_of main.ledger) Controls (controls taken) (accounts_of controls accounts) control e step.0 kept.1 h.0).0.0, control_turn main taken accounts control kept e step.0 h.0))
+          (λ h. ((found_next (senders_of main.ledger) Others (others taken) (accounts_of others accounts) main e main' kept.0 h.1).0.0, other_turn main taken accounts control kept e step.0 main' h.0 h.1)) step.2,
+    )
 turn_some main (ByRank choice) taken accounts e main' order' kept step =
     subst (λ o. IsTake (turns_of (ByRank choice)) (taking_of main (ByRank choice) taken accounts) (Some e) (taking_of main' o (taken ++ e ∷ []) accounts)) (sym step.1)
-      (rank_turn main taken accounts choice kept (Some e) (taken ++ e ∷ []) step.0 main' step.2)
+    (rank_turn main taken accounts choice kept (Some e) (taken ++ e ∷ []) step.0 main' step.2)
 
 pub turn_none : (main : Known) (order : Order) (taken : List Envelope) (accounts : List Account) (main' : Known) (order' : Order)
     → IsTaking main order taken accounts → IsStep main order None main' order'
     → IsTake (turns_of order) (taking_of main order taken accounts) None (taking_of main' order' taken accounts)
 turn_none main FirstInFirstOut taken accounts main' order' kept step =
     subst (λ o. IsTake (turns_of FirstInFirstOut) (taking_of main FirstInFirstOut taken accounts) None (taking_of main' o taken accounts)) (sym step.0)
-      ((refl, refl), found_empty (senders_of main.ledger) Whole taken accounts main kept step.1.1)
+    ((refl, refl), found_empty (senders_of main.ledger) Whole taken accounts main kept step.1.1)
 turn_none main (ControlFirst control) taken accounts main' order' kept step =
-    subst (λ o. IsTake (turns_of (ControlFirst control)) (taking_of main (ControlFirst control) taken accounts) None (taking_of main' o taken accounts)) (sym step.1)
-      ((refl, refl), (
+    subst (λ o. IsTake (turns_of (ControlFirst control)) (taking_of main (ControlFirst control) taken accounts) None (taking_of main' o taken accounts)) (sym step.1) (
+      (refl, refl),
+      (
         all_out controls refl accounts taken (found_empty (senders_of main.ledger) Controls (controls taken) (accounts_of controls accounts) control kept.1 step.2.0.1),
         all_out others refl accounts taken (found_empty (senders_of main.ledger) Others (others taken) (accounts_of others accounts) main kept.0 step.2.1.1),
-      ))
+      ),
+    )
 turn_none main (ByRank choice) taken accounts main' order' kept step =
     subst (λ o. IsTake (turns_of (ByRank choice)) (taking_of main (ByRank choice) taken accounts) None (taking_of main' o taken accounts)) (sym step.1)
-      (rank_turn main taken accounts choice kept None taken step.0 main' step.2)
+    (rank_turn main taken accounts choice kept None taken step.0 main' step.2)
 
 rank_once : (main : Known) (choice : Choice) (taken : List Envelope) (accounts : List Account) (main' : Known) (choice' : Choice)
     → IsTaking main (ByRank choice) taken accounts → RankTakes choice main None choice' main' → EachOnce (taking_of main' (ByRank choice') taken accounts)

@@ -11,6 +11,6 @@ loop-choice-smaller g c = let most = c.if-is_full.ensures.most in let not : leng
 
 pub loop-choice-preserved : goal.loop-choice-preserved
 loop-choice-preserved g c = let one = c.if-not-take_one_in.ensures in (
-    subst (λ (p : Known). IsTaker p.ledger) (sym one.came.0) (still_taker _ _ c.loop-choice.invariant.0),
-    one_more _ _ _ _ _ _ c.loop-choice.invariant.1 one,
-  )
+  subst (λ (p : Known). IsTaker p.ledger) (sym one.came.0) (still_taker _ _ c.loop-choice.invariant.0),
+  one_more _ _ _ _ _ _ c.loop-choice.invariant.1 one,
+)
