@@ -1,0 +1,5 @@
+pub mod Ends
+pub mod Ledger
+pub mod Log
+pub mod Port
+pub mod Rule

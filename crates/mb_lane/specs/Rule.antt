@@ -1,0 +1,78 @@
+-- The rule of a lane: what holds between any two steps of any threads.
+use Rattle.std.specs.Prelude.{◌≡◌, ℕ, List, [], ◌∷◌, ◌++◌, length, Option, Some, None, All, Contains}
+use mathlib.Core.Option.{some}
+use lib.ListN.{get_elem?}
+use Rattle.mb_msg.specs.declared.envelope.Envelope.{Envelope}
+use Rattle.mb_lane.specs.declared.ledger.Account.{Account}
+use Rattle.mb_lane.specs.declared.ledger.Ledger.{Ledger}
+use Rattle.mb_lane.specs.declared.ledger.Scope.{Scope}
+use Rattle.mb_lane.specs.declared.ledger.Ledger.TheVariants.{Sender, Taker, Spent}
+use Rattle.mb_lane.specs.declared.refused.PushError.{PushError}
+use Rattle.mb_lane.specs.declared.refused.PushError.TheVariants.{Full, NoMemory}
+use Rattle.mb_lane.specs.Ledger.{IsOfPart, sent_by, account}
+
+-- the envelope is one that a lane of this scope has: by one of its senders, and of its part
+abbrev pub Belongs : Scope → Envelope → Type 0
+Belongs scope e = Contains scope.senders e.by.0 × IsOfPart scope.part e
+
+-- What a port knows is so. The account of each sender is with one port, its holder, and says what was taken of that
+-- sender and then what is in the lane of it. `all` is what was taken and then what is in the lane.
+abbrev pub Fits : Scope → (ℕ → ℕ) → ℕ → List Envelope → List Envelope → ℕ → Ledger → Type 0
+Fits scope holder taker taken all port (Sender ours by pushed) =
+    (ours ≡ scope) × Contains scope.senders by × (port ≡ holder by) × (pushed ≡ sent_by by all)
+Fits scope holder taker taken all port (Taker ours gone accounts) =
+    (ours ≡ scope) × (port ≡ taker) × (gone ≡ taken)
+    × ((sender : ℕ) (pushed : List Envelope) → account accounts sender ≡ Some pushed → (port ≡ holder sender) × (pushed ≡ sent_by sender all))
+Fits scope holder taker taken all port Spent = Unit {0}
+
+-- of what the lane holds, the oldest first, and of what each port knows
+pub record Kept (items : List Envelope) (ledgers : List Ledger) : Type 0 where
+  pub scope : Scope
+  pub holder : ℕ → ℕ
+  pub taker : ℕ
+  pub taken : List Envelope
+  pub known : All (Belongs scope) (taken ++ items)
+  pub fits : (port : ℕ) (ledger : Ledger) → get_elem? ledgers port ≡ some ledger → Fits scope holder taker taken (taken ++ items) port ledger
+
+-- At one moment the lane held as many as it can: so many that, with what was taken before, they have all that this sender
+-- pushed, in its order, and are all such as the lane has. (Of a lane with one sender this says how much that has pushed.)
+abbrev pub WasFull : ℕ → Scope → ℕ → List Envelope → Type 0
+WasFull capacity scope by pushed =
+    (taken : List Envelope) × (items : List Envelope) × (length items ≡ capacity) × All (Belongs scope) (taken ++ items) × (pushed ≡ sent_by by (taken ++ items))
+
+-- the same, of what a port knows
+abbrev pub FoundFull : ℕ → Ledger → Type 0
+FoundFull capacity (Sender scope by pushed) = WasFull capacity scope by pushed
+FoundFull capacity (Taker scope taken accounts) = ⊥
+FoundFull capacity Spent = ⊥
+
+-- each account that is at home is all among what came out: nothing of it is left
+abbrev pub AllOut : List Account → List Envelope → Type 0
+AllOut accounts taken = (sender : ℕ) (pushed : List Envelope) → account accounts sender ≡ Some pushed → pushed ≡ sent_by sender taken
+
+-- At one moment the lane was empty.
+abbrev pub FoundEmpty : Ledger → Type 0
+FoundEmpty (Sender scope by pushed) = ⊥
+FoundEmpty (Taker scope taken accounts) = AllOut accounts taken
+FoundEmpty Spent = ⊥
+
+-- each account that is at home begins with what came out of its sender's
+abbrev pub AllBegin : List Account → List Envelope → Type 0
+AllBegin accounts taken = (sender : ℕ) (pushed : List Envelope) → account accounts sender ≡ Some pushed → (rest : List Envelope) × (pushed ≡ sent_by sender taken ++ rest)
+
+-- The envelope is one that the lane has, and it is the one that comes next.
+abbrev pub FoundNext : Ledger → Envelope → Type 0
+FoundNext (Sender scope by pushed) e = ⊥
+FoundNext (Taker scope taken accounts) e = Belongs scope e × AllBegin accounts (taken ++ e ∷ [])
+FoundNext Spent e = ⊥
+
+-- Why a push was refused, of what a lane holds at most and what the port knows: only a lane with a bound is found full, and
+-- only one without a bound wants memory.
+abbrev pub IsRefusal : Option ℕ → Ledger → PushError → Type 0
+IsRefusal capacity ledger (Full e) = (most : ℕ) × (capacity ≡ Some most) × FoundFull most ledger
+IsRefusal capacity ledger (NoMemory e) = capacity ≡ None
+
+-- the envelope that comes back
+abbrev pub given_back : PushError → Envelope
+given_back (Full e) = e
+given_back (NoMemory e) = e

@@ -1,0 +1,53 @@
+//! A list that only clauses read.
+ghost use Rattle.std.specs.Prelude.{◌≡◌, [], ◌∷◌, ◌++◌};
+
+use std::marker::Model;
+use std::mem;
+use std::snapshot::Snapshot;
+
+/// What came so far, the newest in front. It is only ever seen through a snapshot.
+#[derive(Drop)]
+pub enum Past<T> {
+    Nothing,
+    Then(Snapshot<Past<T>>, T),
+}
+
+/// A list that grows at its end and that contracts alone read. It takes no bytes.
+#[derive(Drop)]
+pub struct Log<T> {
+    past: Snapshot<Past<T>>,
+}
+
+impl<T> Model for Log<T> {
+    ghost use Rattle.std.specs.Prelude.{List};
+
+    ghost Value = { List T };
+
+    ghost use Rattle.mb_lane.specs.Log.{listed};
+
+    ghost view = { λ l. listed l.past.value };
+}
+
+impl<T: Drop> Log<T> {
+    /// The empty list.
+    #[inline]
+    pub fn new() -> Log<T>
+        ensures { result ≡ [] }
+    {
+        let past = Past::Nothing;
+        Log {
+            past: Snapshot::of(&past),
+        }
+    }
+
+    /// One more comes at the end.
+    #[inline]
+    pub fn add(&mut self, item: T)
+        ensures { self.new ≡ self.old ++ item ∷ [] }
+    {
+        let nothing = Past::Nothing;
+        let past = mem::replace(&mut self.past, Snapshot::of(&nothing));
+        let past = Past::Then(past, item);
+        self.past = Snapshot::of(&past);
+    }
+}

@@ -1,0 +1,90 @@
+//! A lane with a bound, over the kit's ring of slots.
+ghost use Rattle.std.specs.Prelude.{◌≡◌, ◌<◌, [], IfOk, MatchOption, MatchResult};
+ghost use Rattle.crossbeam_queue.specs.Passes.{view, IsPassOf, ruled_capacity};
+ghost use Rattle.mb_lane.specs.declared.ledger.Ledger.TheVariants.{Taker};
+ghost use Rattle.mb_lane.specs.Ledger.{IsSender, IsTaker, IsUnused, MayLend, MayPush, pushing, taking, lending, borrowing, joining};
+ghost use Rattle.mb_lane.specs.Rule.{FoundEmpty, FoundFull, FoundNext};
+
+use crate::ledger::Ledger;
+use crate::rule::{Accounted, Joins, Lends, Named, Opens, Pushed, Scoped, Taken};
+use crossbeam_queue::{Pass, RuledArrayQueue};
+use mb_msg::Envelope;
+use std::alloc::{AllocError, Global};
+use std::sync::Wait;
+
+#[derive(Drop)]
+/// The kit's bounded queue under the lane's rule.
+pub struct Slots {
+    pub queue: RuledArrayQueue<Envelope, Ledger, Accounted>,
+}
+
+/// What one port knows of it.
+pub type SlotsPass = Pass<Envelope, Ledger>;
+
+impl Slots {
+    pub fn new(alloc: Global, capacity: usize) -> Result<(Slots, SlotsPass), AllocError>
+        requires { 0 < capacity }
+        ensures queue { IfOk result (λ r. IsPassOf r.0.queue r.1 × IsUnused (view r.1)) }
+        ensures capacity { IfOk result (λ r. ruled_capacity r.0.queue ≡ capacity) }
+    {
+        let (queue, pass) = RuledArrayQueue::ruled(alloc, capacity)?;
+        Ok((Slots { queue }, pass))
+    }
+
+    pub fn push<R: Wait>(
+        &self,
+        rt: &R,
+        pass: &mut SlotsPass,
+        envelope: Envelope,
+    ) -> Result<(), Envelope>
+        requires queue { IsPassOf self.now.queue pass.old }
+        requires sender { MayPush envelope (view pass.old) }
+        ensures queue { IsPassOf self.now.queue pass.new }
+        ensures pushed { MatchResult result (λ _. (view pass.new) ≡ pushing (view pass.old) envelope)
+            (λ back. (back ≡ envelope) × ((view pass.new) ≡ (view pass.old)) × FoundFull (ruled_capacity self.now.queue) (view pass.old)) }
+    {
+        self.queue.push_as::<Pushed, R>(rt, pass, envelope)
+    }
+
+    pub fn take<R: Wait>(&self, rt: &R, pass: &mut SlotsPass) -> Option<Envelope>
+        requires queue { IsPassOf self.now.queue pass.old }
+        requires taker { IsTaker (view pass.old) }
+        ensures queue { IsPassOf self.now.queue pass.new }
+        ensures taken { MatchOption result (((view pass.new) ≡ (view pass.old)) × FoundEmpty (view pass.old))
+            (λ e. ((view pass.new) ≡ taking (view pass.old) e) × FoundNext (view pass.old) e) }
+    {
+        self.queue.pop_as::<Taken, R>(rt, pass)
+    }
+
+    /// Settles which envelopes the lane has.
+    pub fn open<S: Scoped>(&self, pass: &mut SlotsPass)
+        requires queue { IsPassOf self.now.queue pass.old }
+        requires unused { IsUnused (view pass.old) }
+        ensures queue { IsPassOf self.now.queue pass.new }
+        ensures opened { (view pass.new) ≡ Taker S.scope [] [] }
+    {
+        let _ = self.queue.another::<Opens<S>>(pass);
+    }
+
+    /// Lends the account of one sender to a pass of its own.
+    pub fn lend<N: Named>(&self, pass: &mut SlotsPass) -> SlotsPass
+        requires queue { IsPassOf self.now.queue pass.old }
+        requires may { MayLend N.by (view pass.old) }
+        ensures queue { IsPassOf self.now.queue pass.new × IsPassOf self.now.queue result }
+        ensures lent { (view pass.new) ≡ lending N.by (view pass.old) }
+        ensures borrowed { (view result) ≡ borrowing N.by (view pass.old) }
+    {
+        self.queue.another::<Lends<N>>(pass)
+    }
+
+    /// Takes a sender's pass in, with its account.
+    pub fn join(&self, pass: &mut SlotsPass, other: SlotsPass)
+        requires queue { IsPassOf self.now.queue pass.old × IsPassOf self.now.queue other }
+        requires taker { IsTaker (view pass.old) }
+        requires sender { IsSender (view other) }
+        ensures queue { IsPassOf self.now.queue pass.new }
+        ensures joined { (view pass.new) ≡ joining (view pass.old) (view other) }
+    {
+        self.queue.absorb::<Joins>(pass, other);
+    }
+}

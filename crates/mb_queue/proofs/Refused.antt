@@ -1,0 +1,22 @@
+-- A refusal of the lane is one of the queue.
+use Rattle.std.proofs.Common.{◌≡◌, ℕ, List, ◌++◌, Option, Some, None, subst, sym, ◌∙◌}
+use Rattle.mb_msg.specs.declared.envelope.Envelope.{Envelope}
+use Rattle.mb_lane.specs.declared.ledger.Ledger.{Ledger}
+use Rattle.mb_lane.specs.declared.ledger.Ledger.TheVariants.{Sender}
+use Rattle.mb_lane.specs.declared.ledger.Part.TheVariants.{Whole}
+use Rattle.mb_lane.specs.declared.refused.PushError.{PushError}
+use Rattle.mb_lane.specs.declared.refused.PushError.TheVariants.{Full, NoMemory}
+use Rattle.mb_lane.specs.Port.{Known}
+use Rattle.mb_lane.specs.Rule as lane
+use Rattle.mb_queue.specs.Kept.{sending, scoped, senders_of, IsSending}
+use Rattle.mb_queue.specs.Pushes.{IsRefusal, WasFull}
+
+was_full : (most by : ℕ) (main : Known) (pushed : List Envelope) → IsSending by main None pushed → lane.FoundFull most main.ledger → WasFull most (sending by main None pushed)
+was_full most by main pushed kept found = let f = subst (lane.FoundFull most) kept found in (f.0, f.1, f.2, (λ k d lt. (f.3 k d lt).0), f.4)
+
+pub refused : (by : ℕ) (main : Known) (control : Option Known) (pushed : List Envelope) (e : PushError) → IsSending by main control pushed → lane.IsRefusal main.lane.capacity main.ledger e
+    → IsRefusal (sending by main control pushed) e
+refused by main None pushed (Full e) kept r = (r.0, r.1, was_full r.0 by main pushed kept r.2)
+refused by main None pushed (NoMemory e) kept r = r
+refused by main (Some control) pushed (Full e) kept r = let no : None ≡ Some r.0 = sym kept.2 ∙ r.1 in absurd cc
+refused by main (Some control) pushed (NoMemory e) kept r = r

@@ -1,0 +1,29 @@
+use Rattle.std.proofs.Common.{subst, sym, Some, None, ◌++◌, ◌∷◌, []}
+use Rattle.mb_queue.specs.Kept.{IsTaking, taking_of}
+use Rattle.mb_queue.specs.Passes.{Taking}
+use Rattle.mb_queue.specs.Takes.{EachOnce, IsTake}
+use Rattle.mb_queue.proofs.Takings.{each_once, kept_none, kept_some, turn_none, turn_some}
+use Rattle.mb_queue.proofs.take_pass.TakePass.take.Goals as goal
+
+pub invariant_of-self : goal.invariant_of-self
+invariant_of-self g c = let i = c.self.inside in let next = c.take_next-next.new in
+    subst (λ l. IsTaking next.main next.order l i.accounts) (sym c.add.ensures)
+    (kept_some i.main i.order i.taken i.accounts c.in-Some.envelope next.main next.order c.self.invariant c.in-Some.ensures)
+
+pub invariant_of-self-in-None : goal.invariant_of-self-in-None
+invariant_of-self-in-None g c = let i = c.self.inside in let next = c.take_next-next.new in
+    kept_none i.main i.order i.taken i.accounts next.main next.order c.self.invariant c.in-None.ensures
+
+pub returns-in-Some-clause-turn : goal.returns-in-Some-clause-turn
+returns-in-Some-clause-turn g c = let i = c.self.inside in let next = c.take_next-next.new in let e = c.in-Some.envelope in
+    subst (λ (y : Taking × _). IsTake y.0.turns y.0 (Some e) (taking_of next.main next.order y.1 i.accounts)) (λ k. (c.self.view_is k, sym c.add.ensures k))
+    (turn_some i.main i.order i.taken i.accounts e next.main next.order c.self.invariant c.in-Some.ensures)
+
+pub returns-in-None-clause-turn : goal.returns-in-None-clause-turn
+returns-in-None-clause-turn g c = let i = c.self.inside in let next = c.take_next-next.new in
+    subst (λ (y : Taking). IsTake y.turns y None (taking_of next.main next.order i.taken i.accounts)) c.self.view_is
+    (turn_none i.main i.order i.taken i.accounts next.main next.order c.self.invariant c.in-None.ensures)
+
+pub returns-in-None-clause-each_once : goal.returns-in-None-clause-each_once
+returns-in-None-clause-each_once g c = let i = c.self.inside in let next = c.take_next-next.new in
+    each_once i.main i.order i.taken i.accounts next.main next.order c.self.invariant c.in-None.ensures

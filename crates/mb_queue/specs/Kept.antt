@@ -1,0 +1,101 @@
+-- How the passes are kept over the ports of their lanes.
+use Rattle.std.specs.Prelude.{◌≡◌, ℕ, ◌++◌, List, [], map, length, Option, Some, None, option_map}
+use Rattle.mb_msg.specs.declared.envelope.Envelope.{Envelope}
+use Rattle.mb_lane.specs.declared.ledger.Ledger.{Ledger}
+use Rattle.mb_lane.specs.declared.ledger.Ledger.TheVariants.{Sender, Taker, Spent}
+use Rattle.mb_lane.specs.declared.ledger.Part.{Part}
+use Rattle.mb_lane.specs.declared.ledger.Part.TheVariants.{Whole, Controls, Others}
+use Rattle.mb_lane.specs.declared.ledger.Scope.{Scope}
+use Rattle.mb_lane.specs.Port.{Known, Lane}
+use Rattle.mb_lane.specs.declared.ledger.Account.{Account}
+use Rattle.mb_rank.specs.declared.waiting.Arrival.{Arrival}
+use Rattle.mb_queue.specs.declared.order.Order.{Order}
+use Rattle.mb_queue.specs.declared.order.Order.TheVariants.{FirstInFirstOut, ControlFirst, ByRank}
+use Rattle.mb_queue.specs.Parts.{accounts_of, controls, others}
+use Rattle.mb_queue.specs.Passes.{Queue, Sending, Taking, Turns, first_in_first_out, control_first, by_rank}
+use Rattle.mb_queue.specs.Takes.{IsSameBag}
+
+-- the senders of a port's lane
+abbrev pub senders_of : Ledger → List ℕ
+senders_of (Sender scope by pushed) = scope.senders
+senders_of (Taker scope taken accounts) = scope.senders
+senders_of Spent = []
+
+abbrev pub lane_of : Known → Lane
+lane_of port = port.lane
+
+abbrev pub queue_of : Known → Option Known → Queue
+queue_of main control = record { main = main.lane; control = option_map lane_of control; senders = senders_of main.ledger }
+
+abbrev pub sending : ℕ → Known → Option Known → List Envelope → Sending
+sending by main control pushed = record { queue = queue_of main control; by = by; pushed = pushed }
+
+-- a part of the queue's lanes
+abbrev pub scoped : List ℕ → Part → Scope
+scoped senders part = record { senders = senders; part = part }
+
+-- what a send pass pushed is what its ports pushed, each its part
+abbrev pub IsSending : ℕ → Known → Option Known → List Envelope → Type 0
+IsSending by main None pushed = main.ledger ≡ Sender (scoped (senders_of main.ledger) Whole) by pushed
+IsSending by main (Some control) pushed =
+    (main.ledger ≡ Sender (scoped (senders_of main.ledger) Others) by (others pushed))
+    × (control.ledger ≡ Sender (scoped (senders_of main.ledger) Controls) by (controls pushed))
+    × (main.lane.capacity ≡ None) × (control.lane.capacity ≡ None)
+
+-- what came out of a port's lane
+abbrev pub gone_of : Ledger → List Envelope
+gone_of (Sender scope by pushed) = []
+gone_of (Taker scope taken accounts) = taken
+gone_of Spent = []
+
+abbrev pub envelopes_of : List Arrival → List Envelope
+envelopes_of = map (λ (a : Arrival). a.envelope)
+
+-- whose turn it is
+abbrev pub turns_of : Order → Turns
+turns_of FirstInFirstOut = first_in_first_out
+turns_of (ControlFirst control) = control_first
+turns_of (ByRank choice) = by_rank choice.ranks choice.other
+
+abbrev pub control_of : Order → Option Known
+control_of FirstInFirstOut = None
+control_of (ControlFirst control) = Some control
+control_of (ByRank choice) = None
+
+-- what was taken in
+abbrev pub arrived_of : Known → Order → List Envelope → List Envelope
+arrived_of main FirstInFirstOut taken = taken
+arrived_of main (ControlFirst control) taken = taken
+arrived_of main (ByRank choice) taken = gone_of main.ledger
+
+-- what is held of that
+abbrev pub waiting_of : Order → List Arrival
+waiting_of FirstInFirstOut = []
+waiting_of (ControlFirst control) = []
+waiting_of (ByRank choice) = choice.waiting
+
+abbrev pub taking_of : Known → Order → List Envelope → List Account → Taking
+taking_of main order taken accounts = record {
+  queue = queue_of main (control_of order);
+  turns = turns_of order;
+  arrived = arrived_of main order taken;
+  waiting = waiting_of order;
+  taken = taken;
+  accounts = accounts;
+}
+
+-- the port takes for these senders and this part, and this came out, with these accounts
+abbrev pub Took : Known → List ℕ → Part → List Envelope → List Account → Type 0
+Took port senders part out accounts = port.ledger ≡ Taker (scoped senders part) out accounts
+
+-- What a take pass gave is what its ports took, each its part. By rank it is, with what is held, all that came in.
+abbrev pub IsTaking : Known → Order → List Envelope → List Account → Type 0
+IsTaking main FirstInFirstOut taken accounts = Took main (senders_of main.ledger) Whole taken accounts
+IsTaking main (ControlFirst control) taken accounts =
+    Took main (senders_of main.ledger) Others (others taken) (accounts_of others accounts)
+    × Took control (senders_of main.ledger) Controls (controls taken) (accounts_of controls accounts)
+    × (main.lane.capacity ≡ None) × (control.lane.capacity ≡ None)
+IsTaking main (ByRank choice) taken accounts =
+    Took main (senders_of main.ledger) Whole (gone_of main.ledger) accounts
+    × (choice.next ≡ length (gone_of main.ledger))
+    × IsSameBag (gone_of main.ledger) (taken ++ envelopes_of choice.waiting)

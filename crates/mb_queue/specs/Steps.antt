@@ -1,0 +1,83 @@
+-- What a take does to the ports of the lanes.
+use Rattle.std.specs.Prelude.{◌≡◌, ℕ, ◌+◌, ◌⊎◌, List, [], ◌∷◌, ◌++◌, length, Option, Some, None, IsPermutation}
+use Rattle.mb_msg.specs.declared.envelope.Envelope.{Envelope}
+use Rattle.mb_lane.specs.declared.ledger.Ledger.{Ledger}
+use Rattle.mb_lane.specs.declared.ledger.Ledger.TheVariants.{Sender, Taker, Spent}
+use Rattle.mb_lane.specs.Ledger.{taking, IsTaker}
+use Rattle.mb_lane.specs.Port.{Known}
+use Rattle.mb_lane.specs.Rule as lane
+use Rattle.mb_rank.specs.declared.waiting.Arrival.{Arrival}
+use Rattle.mb_rank.specs.Rank.{rank_of}
+use Rattle.mb_queue.specs.declared.choice.Choice.{Choice}
+use Rattle.mb_queue.specs.declared.order.Order.{Order}
+use Rattle.mb_queue.specs.declared.order.Order.TheVariants.{FirstInFirstOut, ControlFirst, ByRank}
+use Rattle.mb_queue.specs.Takes.{arrivals_from, Chooses}
+
+-- after several takes
+abbrev pub taking_all : Ledger → List Envelope → Ledger
+taking_all (Sender scope by pushed) es = Sender scope by pushed
+taking_all (Taker scope taken accounts) es = Taker scope (taken ++ es) accounts
+taking_all Spent es = Spent
+
+-- each account at home begins with what came out of the lane
+abbrev pub Begins : Ledger → Type 0
+Begins (Sender scope by pushed) = ⊥
+Begins (Taker scope taken accounts) = lane.AllBegin accounts taken
+Begins Spent = ⊥
+
+-- one take of one lane
+abbrev pub TakesOf : Known → Option Envelope → Known → Type 0
+TakesOf port None port' = (port' ≡ port) × lane.FoundEmpty port.ledger
+TakesOf port (Some e) port' = (port' ≡ record port { ledger = taking port.ledger e }) × lane.FoundNext port.ledger e
+
+-- one envelope more is held
+pub record OneMore (old : Choice) (port : Known) (new : Choice) (port' : Known) : Type 0 where
+  pub envelope : Envelope
+  pub ranks : new.ranks ≡ old.ranks
+  pub other : new.other ≡ old.other
+  pub next : new.next ≡ old.next + 1
+  pub came : TakesOf port (Some envelope) port'
+  pub held : IsPermutation (record { rank = rank_of old.ranks old.other envelope.body; number = old.next; envelope = envelope } ∷ old.waiting) new.waiting
+
+-- the lane was empty, and nothing changed
+abbrev pub NoMore : Choice → Known → Choice → Known → Type 0
+NoMore old port new port' = (new ≡ old) × TakesOf port None port'
+
+-- some were taken in
+pub record TakesMore (old : Choice) (port : Known) (new : Choice) (port' : Known) : Type 0 where
+  pub fresh : List Envelope
+  pub ranks : new.ranks ≡ old.ranks
+  pub other : new.other ≡ old.other
+  pub next : new.next ≡ old.next + length fresh
+  pub came : port' ≡ record port { ledger = taking_all port.ledger fresh }
+  pub begins : (fresh ≡ []) ⊎ Begins port'.ledger
+  pub held : IsPermutation (old.waiting ++ arrivals_from old.ranks old.other old.next fresh) new.waiting
+
+-- so many that as many are held as may be, or the lane was empty
+pub record TakenIn (old : Choice) (port : Known) (new : Choice) (port' : Known) : Type 0 where
+  pub more : TakesMore old port new port'
+  pub enough : (length new.waiting ≡ 1024) ⊎ lane.FoundEmpty port'.ledger
+
+-- and then the first of those held was given
+pub record RankTakes (old : Choice) (port : Known) (result : Option Envelope) (new : Choice) (port' : Known) : Type 0 where
+  pub held : List Arrival
+  pub taken_in : TakenIn old port (record new { waiting = held }) port'
+  pub choice : Chooses held result new.waiting
+
+-- one take of two lanes: of the second only where the first was empty
+abbrev pub TakesOfTwo : Known → Known → Option Envelope → Known → Known → Type 0
+TakesOfTwo control main None control' main' = TakesOf control None control' × TakesOf main None main'
+TakesOfTwo control main (Some e) control' main' =
+    (TakesOf control (Some e) control' × (main' ≡ main)) ⊎ (TakesOf control None control' × TakesOf main (Some e) main')
+
+-- one take, of the lanes of any kind of queue
+abbrev pub IsStep : Known → Order → Option Envelope → Known → Order → Type 0
+IsStep main FirstInFirstOut result main' order' = (order' ≡ FirstInFirstOut) × TakesOf main result main'
+IsStep main (ControlFirst control) result main' order' = (control' : Known) × (order' ≡ ControlFirst control') × TakesOfTwo control main result control' main'
+IsStep main (ByRank choice) result main' order' = (choice' : Choice) × (order' ≡ ByRank choice') × RankTakes choice main result choice' main'
+
+-- all the ports that there are take
+abbrev pub AllTake : Known → Order → Type 0
+AllTake main FirstInFirstOut = IsTaker main.ledger
+AllTake main (ControlFirst control) = IsTaker main.ledger × IsTaker control.ledger
+AllTake main (ByRank choice) = IsTaker main.ledger

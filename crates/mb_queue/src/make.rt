@@ -1,0 +1,141 @@
+//! How a queue is made.
+ghost use Rattle.std.specs.Prelude.{◌≡◌, ◌≢◌, [], ◌∷◌, ◌++◌, AllPairs, Contains, IfOk, None, Some};
+ghost use Rattle.mb_lane.specs.declared.ledger.Ledger.TheVariants.{Taker};
+ghost use Rattle.mb_lane.specs.Ledger.{account, lent, scope_of};
+ghost use Rattle.mb_queue.specs.Kept.{IsTaking, taking_of};
+ghost use Rattle.mb_queue.specs.Lent.{LendsControl, MayLendControl};
+ghost use Rattle.mb_queue.specs.Made.{IsMakeable, IsNew, IsOpened, numbers_of, unused};
+ghost use Rattle.mb_queue.specs.Passes.{Sending, Taking};
+
+use crate::choice::Choice;
+use crate::kind::Kind;
+use crate::order::Order;
+use crate::send_pass::SendPass;
+use crate::take_pass::TakePass;
+use mb_lane::{Account, Log, Part, Port};
+use mb_msg::SenderId;
+use std::alloc::{AllocError, Global};
+
+/// The envelope queue of one mailbox. It is what its passes share; there is no value of this type.
+pub struct MailQueue;
+
+impl MailQueue {
+    /// An empty queue of this kind: the pass to take with, and for each of these senders, in their order, the pass to push
+    /// with. All memory that a take or a bounded queue ever needs is taken here.
+    pub fn new(
+        alloc: Global,
+        kind: Kind,
+        senders: &[SenderId],
+    ) -> Result<(TakePass, Vec<SendPass>), AllocError>
+        requires kind { IsMakeable kind }
+        requires distinct { AllPairs (λ a b. a ≢ b) (numbers_of senders.now) }
+        ensures { IfOk result (λ r. IsNew kind (numbers_of senders.now) r.0 r.1.items) }
+    {
+        let mut take = open(alloc, kind, senders)?;
+        let mut sends = Vec::with_capacity(alloc, senders.len())?;
+        for sender in senders {
+            let (rest, send) = lend(take, *sender)?;
+            take = rest;
+            sends.push(send)?;
+        }
+        Ok((take, sends))
+    }
+}
+
+/// An empty queue, with all accounts at home.
+fn open(alloc: Global, kind: Kind, senders: &[SenderId]) -> Result<TakePass, AllocError>
+    requires { IsMakeable kind }
+    ensures { IfOk result (IsOpened kind (numbers_of senders.now)) }
+{
+    match kind {
+        Kind::Unbounded => {
+            let main = open_lane(alloc, senders, Part::Whole)?;
+            Ok(begin(main, Order::FirstInFirstOut))
+        }
+        Kind::Bounded(capacity) => {
+            let mut main = Port::bounded(alloc, capacity as usize)?;
+            main.open(senders, Part::Whole);
+            Ok(begin(main, Order::FirstInFirstOut))
+        }
+        Kind::Priority { rows, other } => {
+            let main = open_lane(alloc, senders, Part::Whole)?;
+            let choice = Choice::new(alloc, rows, other)?;
+            Ok(begin(main, Order::ByRank(choice)))
+        }
+        Kind::Control => {
+            let main = open_lane(alloc, senders, Part::Others)?;
+            let control = open_lane(alloc, senders, Part::Controls)?;
+            Ok(begin(main, Order::ControlFirst(control)))
+        }
+    }
+}
+
+/// An empty lane without a bound.
+fn open_lane(alloc: Global, senders: &[SenderId], part: Part) -> Result<Port, AllocError>
+    ensures { IfOk result (λ port. (port.lane.capacity ≡ None) × (port.ledger ≡ Taker (scope_of senders.now part) [] [])) }
+{
+    let mut port = Port::unbounded(alloc)?;
+    port.open(senders, part);
+    Ok(port)
+}
+
+/// A take pass of nothing yet.
+fn begin(main: Port, order: Order) -> TakePass
+    requires { IsTaking main order [] [] }
+    ensures { result ≡ taking_of main order [] [] }
+{
+    TakePass {
+        main,
+        order,
+        taken: Log::new(),
+        accounts: Log::new(),
+    }
+}
+
+/// Lends the account of one sender to a pass of its own.
+fn lend(take: TakePass, by: SenderId) -> Result<(TakePass, SendPass), AllocError>
+    requires known { Contains take.queue.senders by.0 }
+    requires home { account take.accounts by.0 ≡ Some [] }
+    ensures { IfOk result (λ r. (r.0 ≡ record take { accounts = take.accounts ++ lent by.0 ∷ [] }) × (r.1 ≡ unused take.queue by.0)) }
+{
+    let TakePass {
+        mut main,
+        mut order,
+        taken,
+        mut accounts,
+    } = take;
+    let own = main.lend(by)?;
+    let control = lend_control(&mut order, by)?;
+    accounts.add(Account {
+        by: by.0,
+        pushed: None,
+    });
+    let take = TakePass {
+        main,
+        order,
+        taken,
+        accounts,
+    };
+    let send = SendPass {
+        by,
+        main: own,
+        control,
+        pushed: Log::new(),
+    };
+    Ok((take, send))
+}
+
+/// The same of the lane of control messages, where there is one.
+fn lend_control(order: &mut Order, by: SenderId) -> Result<Option<Port>, AllocError>
+    requires { MayLendControl by.0 order.old }
+    ensures { IfOk result (LendsControl by.0 order.old order.new) }
+{
+    match order {
+        Order::ControlFirst(control) => {
+            let port = control.lend(by)?;
+            Ok(Some(port))
+        }
+        Order::FirstInFirstOut => Ok(None),
+        Order::ByRank(_) => Ok(None),
+    }
+}

@@ -1,0 +1,69 @@
+//! A sender's way into a queue.
+ghost use Rattle.std.specs.Prelude.{◌≡◌, [], ◌∷◌, ◌++◌, IfErr, MatchResult};
+ghost use Rattle.mb_lane.specs.Ledger.{is_control_body};
+ghost use Rattle.mb_lane.specs.Rule.{given_back};
+ghost use Rattle.mb_queue.specs.Pushes.{IsRefusal};
+
+use mb_lane::{Log, Port, PushError};
+use mb_msg::{Body, Envelope, SenderId};
+use std::marker::Model;
+use std::sync::Wait;
+
+/// Pushes for one sender. Contracts see which queue it is of, who its sender is, and all that it pushed.
+#[derive(Drop)]
+pub struct SendPass {
+    pub(crate) by: SenderId,
+    pub(crate) main: Port,
+    pub(crate) control: Option<Port>,
+    pub(crate) pushed: Log<Envelope>,
+}
+
+impl Model for SendPass {
+    ghost use Rattle.mb_queue.specs.Passes.{Sending};
+
+    ghost Value = { Sending };
+
+    ghost use Rattle.mb_queue.specs.Kept.{sending, IsSending};
+
+    ghost view = { λ p. sending p.by.0 p.main p.control p.pushed };
+
+    ghost invariant = { λ p. IsSending p.by.0 p.main p.control p.pushed };
+}
+
+impl SendPass {
+    ghost use Rattle.mb_queue.specs.Passes.{Sending};
+
+    /// Puts an envelope of this sender last in the queue, or gives it back: `Full` only where the queue has a bound and was
+    /// full at a moment of the call, `NoMemory` where a queue without a bound found no memory. Refused, it changes nothing.
+    pub fn push<R: Wait>(&mut self, rt: &R, envelope: Envelope) -> Result<(), PushError>
+        requires { envelope.by.0 ≡ self.old.by }
+        ensures pushed { MatchResult result (λ _. self.new ≡ record self.old { pushed = self.old.pushed ++ envelope ∷ [] })
+            (λ refused. (given_back refused ≡ envelope) × (self.new ≡ self.old)) }
+        ensures refused { IfErr result (IsRefusal self.old) }
+    {
+        if let Some(control) = &mut self.control
+            && is_control(envelope.body)
+        {
+            control.push(rt, envelope)?;
+            self.pushed.add(envelope);
+            return Ok(());
+        }
+        match self.main.push(rt, envelope) {
+            Ok(()) => {
+                self.pushed.add(envelope);
+                Ok(())
+            }
+            Err(refused) => Err(refused),
+        }
+    }
+}
+
+/// Whether it is a control message.
+fn is_control(body: Body) -> bool
+    ensures { result ≡ is_control_body body }
+{
+    match body {
+        Body::Control { .. } => true,
+        Body::User { .. } | Body::PoisonPill | Body::Kill | Body::Terminated(_) => false,
+    }
+}

@@ -1,0 +1,79 @@
+//! The mailbox's way into its queue.
+ghost use Rattle.std.specs.Prelude.{◌≡◌, [], ◌∷◌, ◌++◌, IfNone, option_to_list};
+ghost use Rattle.mb_lane.specs.Ledger.{home};
+ghost use Rattle.mb_queue.specs.Takes.{EachOnce, IsTake};
+
+use crate::order::{Order, take_next};
+use crate::send_pass::SendPass;
+use mb_lane::{Account, Log, Port};
+use mb_msg::Envelope;
+use std::marker::Model;
+use std::sync::Wait;
+
+/// Takes for the mailbox. Contracts see which queue it is of, what came in and what is held, what it gave, and the accounts
+/// of the senders whose passes were joined.
+#[derive(Drop)]
+pub struct TakePass {
+    pub(crate) main: Port,
+    pub(crate) order: Order,
+    pub(crate) taken: Log<Envelope>,
+    pub(crate) accounts: Log<Account>,
+}
+
+impl Model for TakePass {
+    ghost use Rattle.mb_queue.specs.Passes.{Taking};
+
+    ghost Value = { Taking };
+
+    ghost use Rattle.mb_queue.specs.Kept.{taking_of, IsTaking};
+
+    ghost view = { λ p. taking_of p.main p.order p.taken p.accounts };
+
+    ghost invariant = { λ p. IsTaking p.main p.order p.taken p.accounts };
+}
+
+impl TakePass {
+    ghost use Rattle.mb_queue.specs.Passes.{Taking};
+
+    /// Takes the next envelope by the order of the queue's kind. `None` only if the queue was empty at a moment of the call
+    /// (of a control-aware queue each of its parts, not both at one); then all that a joined pass pushed was given.
+    pub fn take<R: Wait>(&mut self, rt: &R) -> Option<Envelope>
+        ensures taken { self.new.taken ≡ self.old.taken ++ option_to_list result }
+        ensures same { (self.new.queue ≡ self.old.queue) × (self.new.turns ≡ self.old.turns) × (self.new.accounts ≡ self.old.accounts) }
+        ensures turn { IsTake self.old.turns self.old result self.new }
+        ensures each_once { IfNone result (EachOnce self.new) }
+    {
+        let next = take_next(rt, &mut self.main, &mut self.order);
+        match next {
+            Some(envelope) => {
+                self.taken.add(envelope);
+                Some(envelope)
+            }
+            None => None,
+        }
+    }
+
+    /// Takes a send pass of this queue in: from now on it is known here what that pushed.
+    pub fn join(&mut self, pass: SendPass)
+        requires { pass.queue ≡ self.old.queue }
+        ensures { self.new ≡ record self.old { accounts = self.old.accounts ++ home pass.by pass.pushed ∷ [] } }
+    {
+        let SendPass {
+            by,
+            main,
+            control,
+            pushed,
+        } = pass;
+        self.main.join(main);
+        match (&mut self.order, control) {
+            (Order::ControlFirst(own), Some(control)) => own.join(control),
+            (Order::FirstInFirstOut, None) => {}
+            (Order::ByRank(_), None) => {}
+            _ => unreachable!(),
+        }
+        self.accounts.add(Account {
+            by: by.0,
+            pushed: Some(pushed),
+        });
+    }
+}

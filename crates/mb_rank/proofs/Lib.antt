@@ -1,0 +1,2 @@
+pub mod Ranked
+pub mod Turns

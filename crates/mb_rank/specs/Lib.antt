@@ -1,0 +1,3 @@
+pub mod Arrival
+pub mod Kept
+pub mod Rank

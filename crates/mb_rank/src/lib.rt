@@ -1,0 +1,8 @@
+//! The order of a priority mailbox: the rank of each envelope, and which one of those held is next.
+#![tactic(auto)]
+
+mod ranks;
+mod waiting;
+
+pub use ranks::{RankRow, Ranks};
+pub use waiting::{Arrival, HELD_AT_MOST, Waiting};

@@ -1,0 +1,78 @@
+//! The envelopes that a priority mailbox's taker has taken in and that are not begun.
+ghost use Rattle.std.specs.Prelude.{◌≡◌, ◌<◌, ◌≤◌, ◌↔◌, [], ◌∷◌, length, All, IfOk, IsTrue, IsPermutation, MatchOption};
+ghost use Rattle.mb_rank.specs.Arrival.{IsBehind};
+
+use mb_msg::Envelope;
+use std::alloc::{AllocError, Global};
+use std::cmp::Reverse;
+use std::collections::BinaryHeap;
+use std::marker::Model;
+
+/// How many are held at most, in room that is made once.
+pub const HELD_AT_MOST: usize = 1024;
+
+/// An envelope with what its turn goes by: its rank, and the how manieth of all it came in as, from 0.
+#[derive(Clone, Copy, Debug)]
+#[derive_where(PartialEq, Eq, PartialOrd, Ord)]
+pub struct Arrival {
+    pub rank: u32,
+    pub number: u64,
+    #[derive_where(skip(EqHashOrd))]
+    pub envelope: Envelope,
+}
+
+/// What is held, in no order that matters. Contracts see the list.
+#[derive(Drop)]
+pub struct Waiting {
+    heap: BinaryHeap<Reverse<Arrival>>,
+}
+
+impl Model for Waiting {
+    ghost use Rattle.std.specs.Prelude.{List};
+    ghost use Rattle.mb_rank.specs.declared.waiting.Arrival.{Arrival};
+
+    ghost Value = { List Arrival };
+
+    ghost use Rattle.mb_rank.specs.Kept.{arrivals, IsKept};
+
+    ghost view = { λ w. arrivals w.heap };
+
+    ghost invariant = { λ w. IsKept w.heap };
+}
+
+impl Waiting {
+    /// Nothing is held, and there is room for as many as may be.
+    pub fn new(alloc: Global) -> Result<Waiting, AllocError>
+        ensures { IfOk result (λ w. w ≡ []) }
+    {
+        let heap = BinaryHeap::with_capacity(alloc, HELD_AT_MOST)?;
+        Ok(Waiting { heap })
+    }
+
+    /// Whether as many are held as may be.
+    pub fn is_full(&self) -> bool
+        ensures full { IsTrue result ↔ (length self.now ≡ 1024) }
+        ensures most { length self.now ≤ 1024 }
+    {
+        self.heap.len() == HELD_AT_MOST
+    }
+
+    /// Holds one more. It takes no memory.
+    pub fn add(&mut self, arrival: Arrival)
+        requires { length self.old < 1024 }
+        ensures { IsPermutation (arrival ∷ self.old) self.new }
+    {
+        let Ok(()) = self.heap.push(Reverse(arrival)) else {
+            unreachable!();
+        };
+    }
+
+    /// Gives the one of the least rank, of those the one that came first; `None` if nothing is held.
+    pub fn take_first(&mut self) -> Option<Arrival>
+        ensures { MatchOption result ((self.old ≡ []) × (self.new ≡ []))
+            (λ first. IsPermutation self.old (first ∷ self.new) × All (IsBehind first) self.new) }
+    {
+        let Reverse(first) = self.heap.pop()?;
+        Some(first)
+    }
+}
