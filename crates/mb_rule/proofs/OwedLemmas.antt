@@ -28,9 +28,9 @@ module _ {V : Type 0} (Pays : V → Type 0) where
         record { seat = id; view = w; there = set_at vs id v w at; pays = keeps (subst Pays is p.pays) })
       (λ other. record { seat = p.seat; view = p.view; there = set_else vs id p.seat w other ∙ p.there; pays = p.pays })
 
-  -- the seat whose view changes owes no less than before, and no more is due
-  pub still_owed : (Due Due' : Type 0) (vs : List V) (id : ℕ) (v w : V) → get_elem? vs id ≡ some v → (Due' → Due) → (Pays v → Pays w) → Owed Due Pays vs → Owed Due' Pays (set vs id w)
-  still_owed Due Due' vs id v w at less keeps owed due = payer_stays vs id v w at keeps (owed (less due))
+  -- where it is due, the seat whose view changes owes no less than before, and no more is due
+  pub still_owed : (Due Due' : Type 0) (vs : List V) (id : ℕ) (v w : V) → get_elem? vs id ≡ some v → (Due' → Due) → (Due' → Pays v → Pays w) → Owed Due Pays vs → Owed Due' Pays (set vs id w)
+  still_owed Due Due' vs id v w at less keeps owed due = payer_stays vs id v w at (keeps due) (owed (less due))
 
   payer_more : (vs more : List V) → Payer Pays vs → Payer Pays (vs ++ more)
   payer_more vs more p = record { seat = p.seat; view = p.view; there = at_longer vs more p.seat p.view p.there; pays = p.pays }

@@ -3,7 +3,7 @@ use Rattle.std.proofs.Common.{◌≡◌, ◌≢◌, ℕ, List, [], ◌∷◌, �
 use mathlib.Core.Option.{some}
 use lib.ListN.{get_elem?}
 use Rattle.atomic_table.proofs.Lists.{at_set, at_snoc}
-use Rattle.mb_rule.specs.Seen.{EachView}
+use Rattle.mb_rule.specs.Seen.{EachView, Each}
 
 module _ {V : Type 0} (Knew Knows : V → Type 0) where
   -- what was known stays so, and what one seat learns is so
@@ -19,3 +19,12 @@ module _ {V : Type 0} (Knows : V → Type 0) where
   -- a seat takes over what another knows
   pub joins_seen : (vs : List V) (id other : ℕ) (both spent : V) → Knows both → Knows spent → EachView Knows vs → EachView Knows (set (set vs id both) other spent)
   joins_seen vs id other both spent b s each = learns Knows Knows (set vs id both) other spent (λ v k. k) s (learns Knows Knows vs id both (λ v k. k) b each)
+
+module _ {A : Type 0} where
+  pub each_weaker : (P Q : A → Type 0) (xs : List A) → ((x : A) → P x → Q x) → Each P xs → Each Q xs
+  each_weaker P Q [] f h = tt
+  each_weaker P Q (x ∷ xs) f h = (f x h.0, each_weaker P Q xs f h.1)
+
+  pub each_append : (P : A → Type 0) (xs ys : List A) → Each P xs → Each P ys → Each P (xs ++ ys)
+  each_append P [] ys h k = k
+  each_append P (x ∷ xs) ys h k = (h.0, each_append P xs ys h.1 k)

@@ -1,0 +1,5 @@
+pub mod Views
+pub mod Facts
+pub mod Words
+pub mod StatusSteps
+pub mod WaitingSteps

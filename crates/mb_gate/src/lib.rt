@@ -1,0 +1,8 @@
+//! The gates: each actor's status word, its cell at home or with one claim, its waiting count and its list's gate, on
+//! lock-free words.
+#![tactic(auto)]
+
+mod slot;
+mod view;
+
+pub use slot::Slot;
