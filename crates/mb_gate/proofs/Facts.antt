@@ -13,7 +13,7 @@ use Rattle.mb_rule.proofs.OwedLemmas.{still_owed, splits_owed, joins_owed}
 use Rattle.mb_rule.proofs.SeenLemmas.{learns, splits_seen, joins_seen}
 use Rattle.mb_gate.specs.declared.slot.Slot.{Slot}
 use Rattle.mb_gate.specs.View.{View, Held, Listed, Lent, owes}
-use Rattle.mb_gate.specs.Rule.{Word, Status, Flag, Gate, Waiting, word_offset, Shelf, CellShelf, ListShelf, Ghost, claim_for, list_for, Extends, Knows, MessageDue, SystemDue, PaysMessage, PaysSystem, IsHome, IsHeld, Keeping, IsShelved, IsLent, Shelving, Fact}
+use Rattle.mb_gate.specs.Rule.{Word, Status, Flag, Gate, Waiting, word_offset, Shelf, CellShelf, ListShelf, Ghost, claim_for, list_for, Extends, Knows, MessageDue, SystemDue, PaysMessage, PaysSystem, gate_word, IsHome, IsHeld, Keeping, IsShelved, IsLent, Shelving, Fact}
 use Rattle.mb_gate.proofs.Views.{Elsewhere}
 
 -- a word that is written as it was leaves the row as it was
@@ -72,11 +72,12 @@ module _ {H L : Type 0} (is_of : ℕ → H → Type 0) (journal : H → List Ent
     list = k.list;
     there = slot ∙ k.there;
     fold = k.fold ∙ sym items;
-    word = gate ∙ (k.word ∙ (λ i. Rattle.mb_gate.specs.Rule.gate_word false (sym items i) (sym gave i)));
+    word = gate ∙ (k.word ∙ (λ i. gate_word false (sym items i) (sym gave i)));
   }
   still_shelved x y gate slot items gave (Some h) k = record {
     taken = k.taken ∙ sym items;
-    word = gate ∙ (k.word ∙ (λ i. Rattle.mb_gate.specs.Rule.gate_word true (sym items i) (sym gave i)));
+    gave = k.gave ∙ sym gave;
+    word = gate ∙ (k.word ∙ (λ i. gate_word true (sym items i) (sym gave i)));
   }
 
   -- only the view of one seat changes

@@ -3,3 +3,4 @@ pub mod Facts
 pub mod Words
 pub mod StatusSteps
 pub mod WaitingSteps
+pub mod Parting

@@ -134,6 +134,7 @@ module _ {H L : Type 0} (is_of : ℕ → H → Type 0) (journal : H → List Ent
 
   pub record IsLent (x : Spot Word Shelf (Slot H L) Ghost) (lent : Lent) : Type 0 where
     pub taken : lent.listed ≡ x.ghost.listed
+    pub gave : lent.gave ≡ x.ghost.gave
     pub word : x.row Gate ≡ gate_word true x.ghost.listed x.ghost.gave
 
   abbrev pub Shelving : Spot Word Shelf (Slot H L) Ghost → Option (ℕ × Lent) → Type 0

@@ -26,10 +26,11 @@ pub record Listed : Type 0 where
   pub items : List (ℕ × SysMsg)
   pub ended : Bool
 
--- a list that is out: its actor, and what was listed when it was taken
+-- a list that is out: its actor, what was listed when it was taken, and whether the last drain gave something
 pub record Lent : Type 0 where
   pub actor : ℕ
   pub listed : Listed
+  pub gave : Bool
 
 -- a system message that was sent: to whom, what, and whether the list was ended, so that it went nowhere
 pub record Said : Type 0 where
