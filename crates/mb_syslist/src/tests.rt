@@ -1,0 +1,147 @@
+ghost use Rattle.std.specs.Prelude.{◌≡◌};
+
+use super::*;
+use mb_msg::{ActorId, Cause, SysMsg};
+use std::alloc::Global;
+use std::process::Abort;
+use std::test::Fail;
+use std::thread;
+
+/// How many nodes a long list has.
+const MANY: u64 = 1_000_000;
+
+/// A node. Where memory was refused, the same call again succeeds.
+fn node_of(rt: &impl Abort, alloc: Global, message: SysMsg) -> Node
+    ensures { result ≡ message }
+{
+    match Node::new(alloc, message) {
+        Ok(node) => node,
+        Err(_) => Node::new(alloc, message).expect(rt, "there is memory again"),
+    }
+}
+
+/// Pushes a node, whose number has to be this one.
+fn push(rt: &impl Abort, list: &mut SysList, node: Node, number: u64) {
+    let message = node.msg();
+    match list.push(node) {
+        Ok(answer) => assert_eq!(rt; answer, number),
+        Err(ListClosed(_)) => panic!(rt; "{message:?} met a closed list"),
+    }
+}
+
+/// Takes a node out of a chain, which has to have this number and this message.
+fn take(rt: &impl Abort, chain: &mut Chain, number: u64, message: SysMsg) {
+    match chain.next() {
+        Some((its_number, node)) => {
+            assert_eq!(rt; its_number, number);
+            assert_eq!(rt; node.msg(), message);
+        }
+        None => panic!(rt; "{message:?} is not in the chain"),
+    }
+}
+
+/// A list of many nodes.
+fn long_list(rt: &impl Abort, alloc: Global) -> SysList {
+    let mut list = SysList::new();
+    for number in 0..MANY {
+        let node = node_of(rt, alloc, SysMsg::Watch(ActorId((number % 64) as u32)));
+        push(rt, &mut list, node, number);
+    }
+    list
+}
+
+#[test]
+fn the_earliest_comes_first(rt: HostRuntime) {
+    let messages = [
+        SysMsg::Create,
+        SysMsg::Suspend,
+        SysMsg::Resume { of_failure: false },
+    ];
+    let mut list = SysList::new();
+    assert!(rt; list.is_empty() && list.given() == 0);
+    for (number, message) in (0..).zip(messages) {
+        let node = node_of(&rt, rt.alloc(), message);
+        push(&rt, &mut list, node, number);
+    }
+    assert!(rt; !list.is_empty() && list.given() == 0);
+
+    let mut chain = list.drain();
+    assert!(rt; list.is_empty() && list.given() == 3);
+    for (number, message) in (0..).zip(messages) {
+        assert!(rt; !chain.is_empty());
+        take(&rt, &mut chain, number, message);
+    }
+    assert!(rt; chain.is_empty() && chain.next().is_none());
+
+    assert!(rt; list.close().is_empty() && list.given() == 3);
+    let node = node_of(&rt, rt.alloc(), SysMsg::Terminate);
+    match list.push(node) {
+        Ok(number) => panic!(&rt; "a closed list took a node as {number}"),
+        Err(ListClosed(node)) => assert_eq!(rt; node.msg(), SysMsg::Terminate),
+    }
+    assert!(rt; list.is_empty() && list.drain().is_empty() && list.given() == 3);
+}
+
+#[test]
+fn numbers_go_on_after_a_drain(rt: HostRuntime) {
+    let mut list = SysList::new();
+    let first = node_of(&rt, rt.alloc(), SysMsg::Create);
+    push(&rt, &mut list, first, 0);
+    let mut chain = list.drain();
+    let Some((_, mut node)) = chain.next() else {
+        panic!(&rt; "one was listed");
+    };
+    let failed = SysMsg::Failed(ActorId(3), Cause::Error(7));
+    node.set(failed);
+    push(&rt, &mut list, node, 1);
+    let other = node_of(&rt, rt.alloc(), SysMsg::Died(ActorId(3)));
+    push(&rt, &mut list, other, 2);
+
+    let mut rest = list.close();
+    assert_eq!(rt; list.given(), 3);
+    take(&rt, &mut rest, 1, failed);
+    take(&rt, &mut rest, 2, SysMsg::Died(ActorId(3)));
+    assert!(rt; rest.is_empty());
+}
+
+#[test]
+fn a_long_chain_is_walked(rt: HostRuntime) {
+    let mut chain = long_list(&rt, rt.alloc()).drain();
+    for number in 0..MANY {
+        let watcher = ActorId((number % 64) as u32);
+        take(&rt, &mut chain, number, SysMsg::Watch(watcher));
+    }
+    assert!(rt; chain.is_empty());
+}
+
+#[test]
+fn a_long_chain_is_dropped(rt: HostRuntime) {
+    let mut list = long_list(&rt, rt.alloc());
+    drop(list.drain());
+    assert!(rt; list.is_empty() && list.given() == MANY);
+}
+
+#[test]
+fn a_long_list_is_dropped(rt: HostRuntime) {
+    drop(long_list(&rt, rt.alloc()));
+}
+
+#[test]
+fn lists_and_chains_move_to_threads(rt: HostRuntime) {
+    let mut list = SysList::new();
+    let node = node_of(&rt, rt.alloc(), SysMsg::Create);
+    push(&rt, &mut list, node, 0);
+    let chain = list.drain();
+    let node = node_of(&rt, rt.alloc(), SysMsg::Suspend);
+    let Ok(child) = thread::spawn(&rt, move || {
+        let mut list = list;
+        let pushed = list.push(node).is_ok();
+        (pushed, list, chain)
+    }) else {
+        panic!(&rt; "no thread could be made");
+    };
+    let (pushed, mut list, mut chain) = child.join(&rt);
+    assert!(rt; pushed);
+    take(&rt, &mut chain, 0, SysMsg::Create);
+    take(&rt, &mut list.close(), 1, SysMsg::Suspend);
+}
