@@ -3,6 +3,8 @@ use Rattle.std.proofs.Common.{◌≡◌, ◌≢◌, ℕ, ◌+◌, ◌%◌, ◌==
 use mathlib.Core.Option.{some}
 use lib.ListN.{get_elem?}
 use Rattle.mb_status.specs.Mailbox.{Mailbox}
+use Rattle.mb_syslist.specs.MessageList.{MessageList}
+use Rattle.mb_gate.specs.declared.slot.Slot.TheVariants.{List as Listing}
 use Rattle.mb_journal.specs.Entry.{Entry}
 use Rattle.mb_core.specs.declared.debt.Debt.{Debt}
 use Rattle.mb_rule.specs.Layout.{Spot, write, fill}
@@ -12,7 +14,7 @@ use Rattle.mb_rule.proofs.LockedLemmas.{stays_locked, splits_locked, joins_locke
 use Rattle.mb_rule.proofs.OwedLemmas.{still_owed, splits_owed, joins_owed}
 use Rattle.mb_rule.proofs.SeenLemmas.{learns, splits_seen, joins_seen}
 use Rattle.mb_gate.specs.declared.slot.Slot.{Slot}
-use Rattle.mb_gate.specs.View.{View, Held, Listed, Lent, owes}
+use Rattle.mb_gate.specs.View.{View, Held, Lent, owes}
 use Rattle.mb_gate.specs.Rule.{Word, Status, Flag, Gate, Waiting, word_offset, Shelf, CellShelf, ListShelf, Ghost, claim_for, list_for, Extends, Knows, MessageDue, SystemDue, PaysMessage, PaysSystem, gate_word, IsHome, IsHeld, Keeping, IsShelved, IsLent, Shelving, Fact}
 use Rattle.mb_gate.proofs.Views.{Elsewhere}
 
@@ -38,15 +40,15 @@ same_word row Waiting Waiting = refl
 pub same_row : (row : Word → ℕ) (name : Word) → write word_offset row name (row name) ≡ row
 same_row row name i w = same_word row name w i
 
-module _ {H L : Type 0} (is_of : ℕ → H → Type 0) (journal : H → List Entry) (mailbox : H → Mailbox) (rested : H → Type 0) (listed : L → Listed) (actor : ℕ) where
+module _ {H : Type 0} (is_of : ℕ → H → Type 0) (journal : H → List Entry) (mailbox : H → Mailbox) (rested : H → Type 0) (actor : ℕ) where
   abbrev Place : Type 0
-  Place = Spot Word Shelf (Slot H L) Ghost
+  Place = Spot Word Shelf (Slot H) Ghost
 
   abbrev Facts : Place → List View → Type 0
-  Facts = Fact is_of journal mailbox rested listed actor
+  Facts = Fact is_of journal mailbox rested actor
 
   pub still_kept : (x y : Place) → y.row Status ≡ x.row Status → y.row Flag ≡ x.row Flag → y.slot CellShelf ≡ x.slot CellShelf → y.ghost.journal ≡ x.ghost.journal → y.ghost.gave ≡ x.ghost.gave
-      → (holder : Option (ℕ × Held)) → Keeping is_of journal mailbox rested listed actor x holder → Keeping is_of journal mailbox rested listed actor y holder
+      → (holder : Option (ℕ × Held)) → Keeping is_of journal mailbox rested actor x holder → Keeping is_of journal mailbox rested actor y holder
   still_kept x y status flag slot tale gave None k = record {
     home = k.home;
     there = slot ∙ k.there;
@@ -67,11 +69,9 @@ module _ {H L : Type 0} (is_of : ℕ → H → Type 0) (journal : H → List Ent
   }
 
   pub still_shelved : (x y : Place) → y.row Gate ≡ x.row Gate → y.slot ListShelf ≡ x.slot ListShelf → y.ghost.listed ≡ x.ghost.listed → y.ghost.gave ≡ x.ghost.gave
-      → (keeper : Option (ℕ × Lent)) → Shelving is_of journal mailbox rested listed x keeper → Shelving is_of journal mailbox rested listed y keeper
+      → (keeper : Option (ℕ × Lent)) → Shelving is_of journal mailbox rested x keeper → Shelving is_of journal mailbox rested y keeper
   still_shelved x y gate slot items gave None k = record {
-    list = k.list;
-    there = slot ∙ k.there;
-    fold = k.fold ∙ sym items;
+    there = slot ∙ (k.there ∙ ap (λ (l : MessageList). some (some (Listing l))) (sym items));
     word = gate ∙ (k.word ∙ (λ i. gate_word false (sym items i) (sym gave i)));
   }
   still_shelved x y gate slot items gave (Some h) k = record {
@@ -96,7 +96,7 @@ module _ {H L : Type 0} (is_of : ℕ → H → Type 0) (journal : H → List Ent
   }
 
   -- the view of a seat that made a step elsewhere
-  pub elsewhere : (x : Place) (vs : List View) (id : ℕ) (v w : View) → get_elem? vs id ≡ some v → Elsewhere H L actor v w → Facts x vs → Facts x (set vs id w)
+  pub elsewhere : (x : Place) (vs : List View) (id : ℕ) (v w : View) → get_elem? vs id ≡ some v → Elsewhere H actor v w → Facts x vs → Facts x (set vs id w)
   elsewhere x vs id v w at same = views_change x vs id v w at same.claim same.list
       (λ _. subst (λ (d : Debt). IsTrue (d.message || d.sending)) (sym same.debt)) (λ _. subst (λ (d : Debt). IsTrue d.system) (sym same.debt)) (same.knows x)
 

@@ -4,3 +4,5 @@ pub mod Words
 pub mod StatusSteps
 pub mod WaitingSteps
 pub mod Parting
+pub mod ListSteps
+pub mod Allowed

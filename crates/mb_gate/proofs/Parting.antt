@@ -13,7 +13,7 @@ use Rattle.mb_rule.proofs.SeenLemmas.{splits_seen, joins_seen, each_append}
 use Rattle.atomic_table.proofs.Lists.{set_else}
 use Rattle.std.proofs.lemmas.Bool.{eqb-true}
 use Rattle.mb_gate.specs.declared.slot.Slot.{Slot}
-use Rattle.mb_gate.specs.View.{View, Held, Listed, Lent, debt_of, owes, blank, claim_alone, without_claim, either_owes, added_debts, taking_over}
+use Rattle.mb_gate.specs.View.{View, Held, Lent, debt_of, owes, blank, claim_alone, without_claim, either_owes, added_debts, taking_over}
 use Rattle.mb_gate.specs.Rule.{Word, Shelf, Ghost, held_of, lent_of, claim_for, list_for, IsSo, Knows, MessageDue, SystemDue, PaysMessage, PaysSystem, Fact}
 
 added_at : (actor : ℕ) (d : ℕ × Debt) (ds old : List (ℕ × Debt)) (b : Bool) → (d.0 == actor) ≡ b → debt_of actor (added_debts ds old) ≡ either_owes (debt_of actor ds) (debt_of actor old)
@@ -47,12 +47,12 @@ either_system a b h = cases a.system b.system h
     cases false false (inl h) = h
     cases false false (inr h) = h
 
-module _ {H L : Type 0} (is_of : ℕ → H → Type 0) (journal : H → List Entry) (mailbox : H → Mailbox) (rested : H → Type 0) (listed : L → Listed) where
-  abbrev F : ℕ → Spot Word Shelf (Slot H L) Ghost → List View → Type 0
-  F = Fact is_of journal mailbox rested listed
+module _ {H : Type 0} (is_of : ℕ → H → Type 0) (journal : H → List Entry) (mailbox : H → Mailbox) (rested : H → Type 0) where
+  abbrev F : ℕ → Spot Word Shelf (Slot H) Ghost → List View → Type 0
+  F = Fact is_of journal mailbox rested
 
   abbrev Place : Type 0
-  Place = Spot Word Shelf (Slot H L) Ghost
+  Place = Spot Word Shelf (Slot H) Ghost
 
   -- a view is cut in two: the first keeps the claim, no list is out, and what was owed and seen is the second's
   pub parts : (id : ℕ) (v left right : View) → left.claim ≡ v.claim → right.claim ≡ None → v.list ≡ None → left.list ≡ None → right.list ≡ None → right.debts ≡ v.debts → right.log ≡ v.log

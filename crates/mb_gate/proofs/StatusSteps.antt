@@ -17,21 +17,21 @@ use Rattle.mb_rule.proofs.OwedLemmas.{pays, still_owed}
 use Rattle.mb_rule.proofs.SeenLemmas.{learns}
 use Rattle.mb_gate.specs.declared.slot.Slot.{Slot}
 use Rattle.mb_gate.specs.declared.slot.Slot.TheVariants.{Home}
-use Rattle.mb_gate.specs.View.{View, Saw, rewritten, Held, Listed, Lent, owes, reading, taking, writing, idling}
+use Rattle.mb_gate.specs.View.{View, Saw, rewritten, Held, Lent, owes, reading, taking, writing, idling}
 use Rattle.mb_gate.specs.Rule.{Word, Status, Flag, Gate, Waiting, word_offset, Shelf, CellShelf, ListShelf, slot_offset, Ghost, held_of, claim_for, list_for, Extends, Knows, MessageDue, SystemDue, PaysMessage, PaysSystem, IsHome, IsHeld, Keeping, Fact}
 use Rattle.mb_gate.proofs.Views.{held_here, owes_here, extends_self, reading_elsewhere, taking_elsewhere, writing_elsewhere, idling_elsewhere, goes_on}
 use Rattle.mb_gate.proofs.Facts.{still_kept, still_shelved, views_change, elsewhere, load_here}
 use Rattle.mb_gate.proofs.Words.{scheduled_valid, reading_pays_message, reading_pays_system}
 
-module _ {H L : Type 0} (is_of : ℕ → H → Type 0) (journal : H → List Entry) (mailbox : H → Mailbox) (rested : H → Type 0) (listed : L → Listed) where
-  abbrev F : ℕ → Spot Word Shelf (Slot H L) Ghost → List View → Type 0
-  F = Fact is_of journal mailbox rested listed
+module _ {H : Type 0} (is_of : ℕ → H → Type 0) (journal : H → List Entry) (mailbox : H → Mailbox) (rested : H → Type 0) where
+  abbrev F : ℕ → Spot Word Shelf (Slot H) Ghost → List View → Type 0
+  F = Fact is_of journal mailbox rested
 
   abbrev M : Type 0
-  M = Me (Slot H L) View
+  M = Me (Slot H) View
 
   abbrev Place : Type 0
-  Place = Spot Word Shelf (Slot H L) Ghost
+  Place = Spot Word Shelf (Slot H) Ghost
 
   -- a seat reads the word
   pub reads : (actor id : ℕ) (me : M) (tell : M → Type 0) (x : Place) (vs : List View) → F actor x vs → get_elem? vs id ≡ some me.0 → tell (reading actor (x.row Status) me.0, me.1)
@@ -41,29 +41,29 @@ module _ {H L : Type 0} (is_of : ℕ → H → Type 0) (journal : H → List Ent
     deed = stays;
     kept = x.ghost;
     able = tt;
-    here = load_here is_of journal mailbox rested listed actor x (set vs id (reading actor r v)) Status
-        (views_change is_of journal mailbox rested listed actor x vs id v (reading actor r v) at refl refl
+    here = load_here is_of journal mailbox rested actor x (set vs id (reading actor r v)) Status
+        (views_change is_of journal mailbox rested actor x vs id v (reading actor r v) at refl refl
         (λ due owed. subst (λ (d : Debt). IsTrue (d.message || d.sending)) (sym (owes_here actor (after_reading (mailbox_of r) (owes actor v)) v)) (reading_pays_message r (owes actor v) due.0 owed))
         (λ due owed. subst (λ (d : Debt). IsTrue d.system) (sym (owes_here actor (after_reading (mailbox_of r) (owes actor v)) v)) (reading_pays_system r (owes actor v) due.0 owed))
         (λ k. ((λ _ one. one), k)) f);
-    others = λ a n y g. elsewhere is_of journal mailbox rested listed a y vs id v (reading actor r v) at (reading_elsewhere actor a r v n) g;
+    others = λ a n y g. elsewhere is_of journal mailbox rested a y vs id v (reading actor r v) at (reading_elsewhere actor a r v n) g;
     tells = told;
   }
 
-  nobody : (actor : ℕ) (x : Place) (holder : Option (ℕ × Held)) → x.row Status % 4 ≡ 0 → Keeping is_of journal mailbox rested listed actor x holder → holder ≡ None
+  nobody : (actor : ℕ) (x : Place) (holder : Option (ℕ × Held)) → x.row Status % 4 ≡ 0 → Keeping is_of journal mailbox rested actor x holder → holder ≡ None
   nobody actor x None free k = refl
   nobody actor x (Some h) free k = absurd (⊎_elim (λ b. omega arith) (λ b. omega arith) k.busy)
 
   -- nobody holds an actor whose word is neither closed nor scheduled, and its cell is at home
-  pub is_home : (actor : ℕ) (x : Place) (vs : List View) → F actor x vs → x.row Status % 4 ≡ 0 → (x.ghost.holder ≡ None) × IsHome is_of journal mailbox rested listed actor x
-  is_home actor x vs f free = let none = nobody actor x x.ghost.holder free f.cell in (none, subst (Keeping is_of journal mailbox rested listed actor x) none f.cell)
+  pub is_home : (actor : ℕ) (x : Place) (vs : List View) → F actor x vs → x.row Status % 4 ≡ 0 → (x.ghost.holder ≡ None) × IsHome is_of journal mailbox rested actor x
+  is_home actor x vs f free = let none = nobody actor x x.ghost.holder free f.cell in (none, subst (Keeping is_of journal mailbox rested actor x) none f.cell)
 
   -- who has the claim holds the actor
   pub is_held : (actor id : ℕ) (x : Place) (vs : List View) (v : View) (c : Held) → F actor x vs → get_elem? vs id ≡ some v → v.claim ≡ Some c → c.actor ≡ actor
-      → (x.ghost.holder ≡ Some (id, c)) × IsHeld is_of journal mailbox rested listed actor x c
+      → (x.ghost.holder ≡ Some (id, c)) × IsHeld is_of journal mailbox rested actor x c
   is_held actor id x vs v c f at has of =
       let held = is_holder (claim_for actor) x.ghost.holder vs id v c at (ap (held_of actor) has ∙ held_here actor c of) f.claims in
-      (held, subst (Keeping is_of journal mailbox rested listed actor x) held f.cell)
+      (held, subst (Keeping is_of journal mailbox rested actor x) held f.cell)
 
   -- a seat schedules the actor, and takes its cell
   pub schedules : (actor id : ℕ) (me : M) (old : ℕ) (tell : M → Type 0) (x : Place) (vs : List View) (f : F actor x vs) → get_elem? vs id ≡ some me.0 → (free : x.row Status % 4 ≡ 0) → x.row Status ≡ old → me.0.claim ≡ None
@@ -84,14 +84,14 @@ module _ {H L : Type 0} (is_of : ℕ → H → Type 0) (journal : H → List Ent
           claims = takes_up (claim_for actor) vs id v w c at (held_here actor c refl) (subst (λ o. Locked (claim_for actor) o vs) h.0 f.claims);
           cell = record { own = refl; taken = refl; gave = refl; word = refl; busy = inl (omega arith); flag = h.1.flag ∙ ap (λ b. if b then 1 else 0) (ne_eqb (x.row Status) 1 (λ e. omega arith)) };
           lists = stays_locked (list_for actor) x.ghost.keeper vs id v w at refl f.lists;
-          shelf = still_shelved is_of journal mailbox rested listed actor x y refl refl refl refl x.ghost.keeper f.shelf;
+          shelf = still_shelved is_of journal mailbox rested actor x y refl refl refl refl x.ghost.keeper f.shelf;
           ended = λ e. absurd (let one = f.ended e in omega arith);
           message = λ due. absurd (let z = due.0 in omega arith);
           system = λ due. absurd (let z = due.0 in omega arith);
           seen = learns (Knows actor x) (Knows actor y) vs id w (λ u. goes_on actor x y u (λ one. absurd (omega arith)) (extends_self x.ghost.journal))
               (goes_on actor x y v (λ one. absurd (omega arith)) (extends_self x.ghost.journal) (f.seen id v at)) f.seen;
         };
-        others = λ a n z g. elsewhere is_of journal mailbox rested listed a z vs id v w at (taking_elsewhere actor a old x.ghost.journal x.ghost.gave v n bare) g;
+        others = λ a n z g. elsewhere is_of journal mailbox rested a z vs id v w at (taking_elsewhere actor a old x.ghost.journal x.ghost.gave v n bare) g;
         tells = told;
       }
 
@@ -115,13 +115,13 @@ module _ {H L : Type 0} (is_of : ℕ → H → Type 0) (journal : H → List Ent
               (subst (λ o. Locked (claim_for actor) o vs) h.0 f.claims);
           cell = record { own = of; taken = h.1.taken; gave = h.1.gave; word = refl; busy = busy; flag = h.1.flag };
           lists = stays_locked (list_for actor) x.ghost.keeper vs id v w at refl f.lists;
-          shelf = still_shelved is_of journal mailbox rested listed actor x y refl refl refl refl x.ghost.keeper f.shelf;
+          shelf = still_shelved is_of journal mailbox rested actor x y refl refl refl refl x.ghost.keeper f.shelf;
           ended = λ e. shut (f.ended e);
           message = λ due. absurd (let z : new ≡ 0 = due.0 in ⊎_elim (λ b. omega arith) (λ b. omega arith) busy);
           system = λ due. absurd (let z : new % 4 ≡ 0 = due.0 in ⊎_elim (λ b. omega arith) (λ b. omega arith) busy);
           seen = learns (Knows actor x) (Knows actor y) vs id w (λ u. goes_on actor x y u shut (extends_self x.ghost.journal)) (goes_on actor x y v shut (extends_self x.ghost.journal) (f.seen id v at)) f.seen;
         };
-        others = λ a n z g. elsewhere is_of journal mailbox rested listed a z vs id v w at (writing_elsewhere actor a new c v n has of) g;
+        others = λ a n z g. elsewhere is_of journal mailbox rested a z vs id v w at (writing_elsewhere actor a new c v n has of) g;
         tells = told;
       }
 
@@ -157,13 +157,13 @@ module _ {H L : Type 0} (is_of : ℕ → H → Type 0) (journal : H → List Ent
             rest = ⊎_elim (λ one. absurd (omega arith)) (λ gave. rest (h.1.gave ∙ gave));
           };
           lists = stays_locked (list_for actor) x.ghost.keeper vs id v w at refl f.lists;
-          shelf = still_shelved is_of journal mailbox rested listed actor x y refl refl refl refl x.ghost.keeper f.shelf;
+          shelf = still_shelved is_of journal mailbox rested actor x y refl refl refl refl x.ghost.keeper f.shelf;
           ended = λ e. shut (f.ended e);
           message = pays (PaysMessage actor) (MessageDue y) vs id v w at (subst (λ (d : Debt). IsTrue (d.message || d.sending)) (sym (owes_here actor debt (record v { log = Saw actor j ∷ v.log; claim = None }))) refl);
           system = pays (PaysSystem actor) (SystemDue y) vs id v w at (subst (λ (d : Debt). IsTrue d.system) (sym (owes_here actor debt (record v { log = Saw actor j ∷ v.log; claim = None }))) refl);
           seen = learns (Knows actor x) (Knows actor y) vs id w (λ u. goes_on actor x y u shut grown) ((λ _. extends_self j), goes_on actor x y v shut grown (f.seen id v at)) f.seen;
         };
-        others = λ a n z k. elsewhere is_of journal mailbox rested listed a z vs id v w at (idling_elsewhere actor a j c v n has of) k;
+        others = λ a n z k. elsewhere is_of journal mailbox rested a z vs id v w at (idling_elsewhere actor a j c v n has of) k;
         tells = subst (λ l. tell (w, tail_of l)) (sym carried) told;
       }
 
@@ -199,12 +199,12 @@ module _ {H L : Type 0} (is_of : ℕ → H → Type 0) (journal : H → List Ent
             rest = λ _. rest;
           };
           lists = stays_locked (list_for actor) x.ghost.keeper vs id v w at refl f.lists;
-          shelf = still_shelved is_of journal mailbox rested listed actor x y refl refl refl refl x.ghost.keeper f.shelf;
+          shelf = still_shelved is_of journal mailbox rested actor x y refl refl refl refl x.ghost.keeper f.shelf;
           ended = f.ended;
           message = pays (PaysMessage actor) (MessageDue y) vs id v w at (subst (λ (d : Debt). IsTrue (d.message || d.sending)) (sym (owes_here actor debt (record v { log = Saw actor j ∷ v.log; claim = None }))) refl);
           system = pays (PaysSystem actor) (SystemDue y) vs id v w at (subst (λ (d : Debt). IsTrue d.system) (sym (owes_here actor debt (record v { log = Saw actor j ∷ v.log; claim = None }))) refl);
           seen = learns (Knows actor x) (Knows actor y) vs id w (λ u. goes_on actor x y u (λ one. one) grown) ((λ _. extends_self j), goes_on actor x y v (λ one. one) grown (f.seen id v at)) f.seen;
         };
-        others = λ a n z k. elsewhere is_of journal mailbox rested listed a z vs id v w at (idling_elsewhere actor a j c v n has of) k;
+        others = λ a n z k. elsewhere is_of journal mailbox rested a z vs id v w at (idling_elsewhere actor a j c v n has of) k;
         tells = subst (λ l. tell (w, tail_of l)) (sym carried) told;
       }

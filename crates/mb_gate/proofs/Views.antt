@@ -9,7 +9,7 @@ use Rattle.mb_rule.specs.Layout.{Spot}
 use Rattle.mb_rule.specs.Seen.{Each}
 use Rattle.mb_rule.proofs.SeenLemmas.{each_weaker, each_append}
 use Rattle.mb_gate.specs.declared.slot.Slot.{Slot}
-use Rattle.mb_gate.specs.View.{View, Sight, Read, Saw, Held, Listed, Lent, debt_of, owes, owing, reading, taking, rewritten, writing, idling, sending, unsending, counting, blank, either_owes, added_debts, taking_over}
+use Rattle.mb_gate.specs.View.{View, Sight, Read, Saw, Held, Lent, debt_of, owes, owing, reading, taking, rewritten, writing, idling, sending, unsending, counting, blank, either_owes, added_debts, taking_over}
 use Rattle.mb_gate.specs.Rule.{Word, Shelf, Ghost, Status, held_of, lent_of, claim_for, list_for, Extends, IsSo, Knows}
 
 pub held_here : (actor : ℕ) (c : Held) → c.actor ≡ actor → held_of actor (Some c) ≡ Some c
@@ -38,17 +38,17 @@ pub extends_more : (j k l : List Entry) → Extends j k → Extends k l → Exte
 extends_more j k l a b = record { newer = a.newer ++ b.newer; joined = a.joined ∙ (ap (λ z. a.newer ++ z) b.joined ∙ sym (append_assoc a.newer b.newer l)) }
 
 -- Towards this actor, w is as v: of its cell, its list and what is owed; and what it has seen is so where what v has seen is.
-pub record Elsewhere (H L : Type 0) (actor : ℕ) (v w : View) : Type 0 where
+pub record Elsewhere (H : Type 0) (actor : ℕ) (v w : View) : Type 0 where
   pub claim : claim_for actor w ≡ claim_for actor v
   pub list : list_for actor w ≡ list_for actor v
   pub debt : owes actor w ≡ owes actor v
-  pub knows : (x : Spot Word Shelf (Slot H L) Ghost) → Knows actor x v → Knows actor x w
+  pub knows : (x : Spot Word Shelf (Slot H) Ghost) → Knows actor x v → Knows actor x w
 
-module _ {H L : Type 0} where
-  pub owing_elsewhere : (actor other : ℕ) (d : Debt) (v : View) → other ≢ actor → Elsewhere H L other v (owing actor d v)
+module _ {H : Type 0} where
+  pub owing_elsewhere : (actor other : ℕ) (d : Debt) (v : View) → other ≢ actor → Elsewhere H other v (owing actor d v)
   owing_elsewhere actor other d v n = record { claim = refl; list = refl; debt = owes_else actor other d v n; knows = λ x k. k }
 
-  pub reading_elsewhere : (actor other word : ℕ) (v : View) → other ≢ actor → Elsewhere H L other v (reading actor word v)
+  pub reading_elsewhere : (actor other word : ℕ) (v : View) → other ≢ actor → Elsewhere H other v (reading actor word v)
   reading_elsewhere actor other word v n = record {
     claim = refl;
     list = refl;
@@ -56,7 +56,7 @@ module _ {H L : Type 0} where
     knows = λ x k. ((λ e _. absurd (n (sym e))), k);
   }
 
-  pub taking_elsewhere : (actor other word : ℕ) (j : List Entry) (gave : Bool) (v : View) → other ≢ actor → v.claim ≡ None → Elsewhere H L other v (taking actor j word gave v)
+  pub taking_elsewhere : (actor other word : ℕ) (j : List Entry) (gave : Bool) (v : View) → other ≢ actor → v.claim ≡ None → Elsewhere H other v (taking actor j word gave v)
   taking_elsewhere actor other word j gave v n bare = record {
     claim = held_else other (record { actor = actor; journal = j; word = word + 2; gave = gave }) (λ e. n (sym e)) ∙ sym (ap (held_of other) bare);
     list = refl;
@@ -64,7 +64,7 @@ module _ {H L : Type 0} where
     knows = λ x k. k;
   }
 
-  pub writing_elsewhere : (actor other word : ℕ) (c : Held) (v : View) → other ≢ actor → v.claim ≡ Some c → c.actor ≡ actor → Elsewhere H L other v (writing word v)
+  pub writing_elsewhere : (actor other word : ℕ) (c : Held) (v : View) → other ≢ actor → v.claim ≡ Some c → c.actor ≡ actor → Elsewhere H other v (writing word v)
   writing_elsewhere actor other word c v n has of = record {
     claim = ap (λ z. held_of other (rewritten word z)) has ∙ (held_else other (record c { word = word }) (λ e. n (sym e ∙ of)) ∙ sym (ap (held_of other) has ∙ held_else other c (λ e. n (sym e ∙ of))));
     list = refl;
@@ -72,7 +72,7 @@ module _ {H L : Type 0} where
     knows = λ x k. k;
   }
 
-  pub idling_elsewhere : (actor other : ℕ) (j : List Entry) (c : Held) (v : View) → other ≢ actor → v.claim ≡ Some c → c.actor ≡ actor → Elsewhere H L other v (idling actor j v)
+  pub idling_elsewhere : (actor other : ℕ) (j : List Entry) (c : Held) (v : View) → other ≢ actor → v.claim ≡ Some c → c.actor ≡ actor → Elsewhere H other v (idling actor j v)
   idling_elsewhere actor other j c v n has of = record {
     claim = sym (ap (held_of other) has ∙ held_else other c (λ e. n (sym e ∙ of)));
     list = refl;
@@ -81,6 +81,6 @@ module _ {H L : Type 0} where
   }
 
   -- what was known of a place is so where the place goes on
-  pub goes_on : (actor : ℕ) (x y : Spot Word Shelf (Slot H L) Ghost) (v : View) → (x.row Status ≡ 1 → y.row Status ≡ 1) → Extends y.ghost.journal x.ghost.journal → Knows actor x v → Knows actor y v
+  pub goes_on : (actor : ℕ) (x y : Spot Word Shelf (Slot H) Ghost) (v : View) → (x.row Status ≡ 1 → y.row Status ≡ 1) → Extends y.ghost.journal x.ghost.journal → Knows actor x v → Knows actor y v
   goes_on actor x y v closed longer k = each_weaker (IsSo actor x) (IsSo actor y) v.log
       (λ s. elim s as (λ z. IsSo actor x z → IsSo actor y z) [ Read a word ↦ (λ h e one. closed (h e one)) | Saw a j ↦ (λ h e. extends_more y.ghost.journal x.ghost.journal j longer (h e)) ]) k

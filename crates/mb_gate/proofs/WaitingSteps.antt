@@ -12,22 +12,22 @@ use Rattle.mb_rule.proofs.LockedLemmas.{stays_locked}
 use Rattle.mb_rule.proofs.OwedLemmas.{pays, still_owed}
 use Rattle.mb_rule.proofs.SeenLemmas.{learns}
 use Rattle.mb_gate.specs.declared.slot.Slot.{Slot}
-use Rattle.mb_gate.specs.View.{View, Held, Listed, owes, owing, sending, unsending, counting, looking}
+use Rattle.mb_gate.specs.View.{View, Held, owes, owing, sending, unsending, counting, looking}
 use Rattle.mb_gate.specs.Rule.{Word, Status, Flag, Gate, Waiting, word_offset, Shelf, slot_offset, Ghost, claim_for, list_for, Knows, MessageDue, SystemDue, PaysMessage, PaysSystem, has_work, Fact}
 use Rattle.mb_gate.proofs.Views.{Elsewhere, owes_here, extends_self, owing_elsewhere, goes_on}
 use Rattle.mb_gate.proofs.Facts.{still_kept, still_shelved, views_change, elsewhere, load_here}
 use Rattle.mb_gate.proofs.StatusSteps.{is_held}
 use Rattle.std.proofs.lemmas.Bool.{eqb-true}
 
-module _ {H L : Type 0} (is_of : ℕ → H → Type 0) (journal : H → List Entry) (mailbox : H → Mailbox) (rested : H → Type 0) (listed : L → Listed) where
-  abbrev F : ℕ → Spot Word Shelf (Slot H L) Ghost → List View → Type 0
-  F = Fact is_of journal mailbox rested listed
+module _ {H : Type 0} (is_of : ℕ → H → Type 0) (journal : H → List Entry) (mailbox : H → Mailbox) (rested : H → Type 0) where
+  abbrev F : ℕ → Spot Word Shelf (Slot H) Ghost → List View → Type 0
+  F = Fact is_of journal mailbox rested
 
   abbrev M : Type 0
-  M = Me (Slot H L) View
+  M = Me (Slot H) View
 
   abbrev Place : Type 0
-  Place = Spot Word Shelf (Slot H L) Ghost
+  Place = Spot Word Shelf (Slot H) Ghost
 
   -- the waiting number changes, and the seat owes a wake-up where one is due
   recounts : (actor id n : ℕ) (d : Debt) (me : M) (tell : M → Type 0) (x : Place) (vs : List View) → F actor x vs → get_elem? vs id ≡ some me.0
@@ -43,15 +43,15 @@ module _ {H L : Type 0} (is_of : ℕ → H → Type 0) (journal : H → List Ent
         here = record {
           valid = f.valid;
           claims = stays_locked (claim_for actor) x.ghost.holder vs id v w at refl f.claims;
-          cell = still_kept is_of journal mailbox rested listed actor x y refl refl refl refl refl x.ghost.holder f.cell;
+          cell = still_kept is_of journal mailbox rested actor x y refl refl refl refl refl x.ghost.holder f.cell;
           lists = stays_locked (list_for actor) x.ghost.keeper vs id v w at refl f.lists;
-          shelf = still_shelved is_of journal mailbox rested listed actor x y refl refl refl refl x.ghost.keeper f.shelf;
+          shelf = still_shelved is_of journal mailbox rested actor x y refl refl refl refl x.ghost.keeper f.shelf;
           ended = f.ended;
           message = pays (PaysMessage actor) (MessageDue y) vs id v w at (subst (λ (z : Debt). IsTrue (z.message || z.sending)) (sym (owes_here actor d v)) owed);
           system = still_owed (PaysSystem actor) (SystemDue x) (SystemDue y) vs id v w at (λ due. due) (λ _ p. subst (λ (z : Debt). IsTrue z.system) (sym (owes_here actor d v)) (subst IsTrue (sym same) p)) f.system;
           seen = learns (Knows actor x) (Knows actor y) vs id w (λ u. goes_on actor x y u (λ one. one) (extends_self x.ghost.journal)) (goes_on actor x y v (λ one. one) (extends_self x.ghost.journal) (f.seen id v at)) f.seen;
         };
-        others = λ a z y g. elsewhere is_of journal mailbox rested listed a y vs id v w at (owing_elsewhere actor a d v z) g;
+        others = λ a z y g. elsewhere is_of journal mailbox rested a y vs id v w at (owing_elsewhere actor a d v z) g;
         tells = told;
       }
 
@@ -72,7 +72,7 @@ module _ {H L : Type 0} (is_of : ℕ → H → Type 0) (journal : H → List Ent
       → Goes word_offset slot_offset F actor id me Waiting n tell x vs
   takes_one actor id n me c tell x vs f at has of told =
       let v = me.0 in
-      let h = is_held is_of journal mailbox rested listed actor id x vs v c f at has of in
+      let h = is_held is_of journal mailbox rested actor id x vs v c f at has of in
       let y : Place = record { row = write word_offset x.row Waiting n; slot = x.slot; ghost = x.ghost } in record {
         view = v;
         deed = stays;
@@ -81,15 +81,15 @@ module _ {H L : Type 0} (is_of : ℕ → H → Type 0) (journal : H → List Ent
         here = record {
           valid = f.valid;
           claims = stays_locked (claim_for actor) x.ghost.holder vs id v v at refl f.claims;
-          cell = still_kept is_of journal mailbox rested listed actor x y refl refl refl refl refl x.ghost.holder f.cell;
+          cell = still_kept is_of journal mailbox rested actor x y refl refl refl refl refl x.ghost.holder f.cell;
           lists = stays_locked (list_for actor) x.ghost.keeper vs id v v at refl f.lists;
-          shelf = still_shelved is_of journal mailbox rested listed actor x y refl refl refl refl x.ghost.keeper f.shelf;
+          shelf = still_shelved is_of journal mailbox rested actor x y refl refl refl refl x.ghost.keeper f.shelf;
           ended = f.ended;
           message = λ due. absurd (let z = due.0 in ⊎_elim (λ b. omega arith) (λ b. omega arith) h.1.busy);
           system = still_owed (PaysSystem actor) (SystemDue x) (SystemDue y) vs id v v at (λ due. due) (λ _ p. p) f.system;
           seen = learns (Knows actor x) (Knows actor y) vs id v (λ u. goes_on actor x y u (λ one. one) (extends_self x.ghost.journal)) (goes_on actor x y v (λ one. one) (extends_self x.ghost.journal) (f.seen id v at)) f.seen;
         };
-        others = λ a z y g. elsewhere is_of journal mailbox rested listed a y vs id v v at (record { claim = refl; list = refl; debt = refl; knows = λ _ k. k }) g;
+        others = λ a z y g. elsewhere is_of journal mailbox rested a y vs id v v at (record { claim = refl; list = refl; debt = refl; knows = λ _ k. k }) g;
         tells = told;
       }
 
@@ -102,10 +102,10 @@ module _ {H L : Type 0} (is_of : ℕ → H → Type 0) (journal : H → List Ent
     deed = stays;
     kept = x.ghost;
     able = tt;
-    here = load_here is_of journal mailbox rested listed actor x (set vs id w) name (views_change is_of journal mailbox rested listed actor x vs id v w at refl refl
+    here = load_here is_of journal mailbox rested actor x (set vs id w) name (views_change is_of journal mailbox rested actor x vs id v w at refl refl
         (λ due p. subst (λ (z : Debt). IsTrue (z.message || z.sending)) (sym (owes_here actor d v)) (message due p))
         (λ due p. subst (λ (z : Debt). IsTrue z.system) (sym (owes_here actor d v)) (system due p)) (λ k. k) f);
-    others = λ a n y g. elsewhere is_of journal mailbox rested listed a y vs id v w at (owing_elsewhere actor a d v n) g;
+    others = λ a n y g. elsewhere is_of journal mailbox rested a y vs id v w at (owing_elsewhere actor a d v n) g;
     tells = told;
   }
 
@@ -116,8 +116,8 @@ module _ {H L : Type 0} (is_of : ℕ → H → Type 0) (journal : H → List Ent
     deed = stays;
     kept = x.ghost;
     able = tt;
-    here = load_here is_of journal mailbox rested listed actor x (set vs id v) name (views_change is_of journal mailbox rested listed actor x vs id v v at refl refl (λ _ p. p) (λ _ p. p) (λ k. k) f);
-    others = λ a n y g. elsewhere is_of journal mailbox rested listed a y vs id v v at (record { claim = refl; list = refl; debt = refl; knows = λ _ k. k }) g;
+    here = load_here is_of journal mailbox rested actor x (set vs id v) name (views_change is_of journal mailbox rested actor x vs id v v at refl refl (λ _ p. p) (λ _ p. p) (λ k. k) f);
+    others = λ a n y g. elsewhere is_of journal mailbox rested a y vs id v v at (record { claim = refl; list = refl; debt = refl; knows = λ _ k. k }) g;
     tells = told;
   }
 

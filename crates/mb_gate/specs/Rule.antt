@@ -3,12 +3,13 @@ use Rattle.std.specs.Prelude.{◌≡◌, ◌⊎◌, ℕ, ◌+◌, ◌<◌, ◌==
 use mathlib.Core.Option as maybe
 use mathlib.Core.Option.{none, some}
 use Rattle.mb_status.specs.Mailbox.{Mailbox, word_of, is_valid}
+use Rattle.mb_syslist.specs.MessageList.{MessageList}
 use Rattle.mb_journal.specs.Entry.{Entry}
 use Rattle.mb_rule.specs.Layout.{Spot}
 use Rattle.mb_rule.specs.Locked.{Locked}
 use Rattle.mb_rule.specs.Owed.{Owed}
 use Rattle.mb_rule.specs.Seen.{EachView, Each}
-use Rattle.mb_gate.specs.View.{View, Sight, Read, Saw, Held, Listed, Lent, owes}
+use Rattle.mb_gate.specs.View.{View, Sight, Read, Saw, Held, Lent, owes}
 use Rattle.mb_gate.specs.declared.slot.Slot.{Slot}
 use Rattle.mb_gate.specs.declared.slot.Slot.TheVariants.{Home, List as Listing}
 
@@ -40,7 +41,7 @@ pub record Ghost : Type 0 where
   pub holder : Option (ℕ × Held)
   pub journal : List Entry
   pub keeper : Option (ℕ × Lent)
-  pub listed : Listed
+  pub listed : MessageList
   pub gave : Bool
 
 abbrev pub is_some_item : {A : Type 0} → List A → Bool
@@ -49,13 +50,13 @@ is_some_item (x ∷ xs) = true
 
 -- there is system work: something is listed, or the last drain gave something
 abbrev pub has_work : Ghost → Bool
-has_work g = is_some_item g.listed.items || g.gave
+has_work g = is_some_item g.listed.messages || g.gave
 
 -- the word of a list's gate: 1 while the list is out, 2 where something is listed, 4 where the last drain gave something, 8 where
 -- the list is ended
-abbrev pub gate_word : Bool → Listed → Bool → ℕ
+abbrev pub gate_word : Bool → MessageList → Bool → ℕ
 gate_word is_out listed gave =
-    (if is_out then 1 else 0) + (if is_some_item listed.items then 2 else 0) + (if gave then 4 else 0) + (if listed.ended then 8 else 0)
+    (if is_out then 1 else 0) + (if is_some_item listed.messages then 2 else 0) + (if gave then 4 else 0) + (if listed.closed then 8 else 0)
 
 abbrev pub held_of : ℕ → Option Held → Option Held
 held_of actor None = None
@@ -78,11 +79,11 @@ pub record Extends (journal before : List Entry) : Type 0 where
   pub joined : journal ≡ newer ++ before
 
 -- envelopes may be handled, nobody holds the actor, and some are counted as waiting
-abbrev pub MessageDue : {H L : Type 0} → Spot Word Shelf (Slot H L) Ghost → Type 0
+abbrev pub MessageDue : {H : Type 0} → Spot Word Shelf (Slot H) Ghost → Type 0
 MessageDue x = (x.row Status ≡ 0) × (0 < x.row Waiting)
 
 -- the actor is neither closed nor scheduled, and there is system work
-abbrev pub SystemDue : {H L : Type 0} → Spot Word Shelf (Slot H L) Ghost → Type 0
+abbrev pub SystemDue : {H : Type 0} → Spot Word Shelf (Slot H) Ghost → Type 0
 SystemDue x = (x.row Status % 4 ≡ 0) × IsTrue (has_work x.ghost)
 
 abbrev pub PaysMessage : ℕ → View → Type 0
@@ -92,17 +93,17 @@ abbrev pub PaysSystem : ℕ → View → Type 0
 PaysSystem actor v = IsTrue (owes actor v).system
 
 -- what was seen closed is closed, and the journal goes on from each that was seen
-abbrev pub IsSo : {H L : Type 0} → ℕ → Spot Word Shelf (Slot H L) Ghost → Sight → Type 0
+abbrev pub IsSo : {H : Type 0} → ℕ → Spot Word Shelf (Slot H) Ghost → Sight → Type 0
 IsSo actor x (Read a word) = a ≡ actor → word ≡ 1 → x.row Status ≡ 1
 IsSo actor x (Saw a journal) = a ≡ actor → Extends x.ghost.journal journal
 
-abbrev pub Knows : {H L : Type 0} → ℕ → Spot Word Shelf (Slot H L) Ghost → View → Type 0
+abbrev pub Knows : {H : Type 0} → ℕ → Spot Word Shelf (Slot H) Ghost → View → Type 0
 Knows actor x v = Each (IsSo actor x) v.log
 
-module _ {H L : Type 0} (is_of : ℕ → H → Type 0) (journal : H → List Entry) (mailbox : H → Mailbox) (rested : H → Type 0) (listed : L → Listed) where
+module _ {H : Type 0} (is_of : ℕ → H → Type 0) (journal : H → List Entry) (mailbox : H → Mailbox) (rested : H → Type 0) where
   -- The cell is at home: it is the actor's own, its word is that of its journal, and only an open actor of which the last drain gave
   -- something may have something left beside its cell that is to be applied. The flag tells it of a closed one.
-  pub record IsHome (actor : ℕ) (x : Spot Word Shelf (Slot H L) Ghost) : Type 0 where
+  pub record IsHome (actor : ℕ) (x : Spot Word Shelf (Slot H) Ghost) : Type 0 where
     pub home : H
     pub there : x.slot CellShelf ≡ some (some (Home home))
     pub own : is_of actor home
@@ -113,7 +114,7 @@ module _ {H L : Type 0} (is_of : ℕ → H → Type 0) (journal : H → List Ent
     pub rest : (x.row Status ≡ 1) ⊎ (x.ghost.gave ≡ false) → rested home
 
   -- a claim has it: it knows the word, which says that it is scheduled or closed
-  pub record IsHeld (actor : ℕ) (x : Spot Word Shelf (Slot H L) Ghost) (claim : Held) : Type 0 where
+  pub record IsHeld (actor : ℕ) (x : Spot Word Shelf (Slot H) Ghost) (claim : Held) : Type 0 where
     pub own : claim.actor ≡ actor
     pub taken : claim.journal ≡ x.ghost.journal
     pub gave : claim.gave ≡ x.ghost.gave
@@ -121,34 +122,32 @@ module _ {H L : Type 0} (is_of : ℕ → H → Type 0) (journal : H → List Ent
     pub busy : (x.row Status % 4 ≡ 2) ⊎ (x.row Status ≡ 1)
     pub flag : x.row Flag ≡ 0
 
-  abbrev pub Keeping : ℕ → Spot Word Shelf (Slot H L) Ghost → Option (ℕ × Held) → Type 0
+  abbrev pub Keeping : ℕ → Spot Word Shelf (Slot H) Ghost → Option (ℕ × Held) → Type 0
   Keeping actor x None = IsHome actor x
   Keeping actor x (Some h) = IsHeld actor x h.1
 
   -- the list is in its slot, or with one seat
-  pub record IsShelved (x : Spot Word Shelf (Slot H L) Ghost) : Type 0 where
-    pub list : L
-    pub there : x.slot ListShelf ≡ some (some (Listing list))
-    pub fold : listed list ≡ x.ghost.listed
+  pub record IsShelved (x : Spot Word Shelf (Slot H) Ghost) : Type 0 where
+    pub there : x.slot ListShelf ≡ some (some (Listing x.ghost.listed))
     pub word : x.row Gate ≡ gate_word false x.ghost.listed x.ghost.gave
 
-  pub record IsLent (x : Spot Word Shelf (Slot H L) Ghost) (lent : Lent) : Type 0 where
+  pub record IsLent (x : Spot Word Shelf (Slot H) Ghost) (lent : Lent) : Type 0 where
     pub taken : lent.listed ≡ x.ghost.listed
     pub gave : lent.gave ≡ x.ghost.gave
     pub word : x.row Gate ≡ gate_word true x.ghost.listed x.ghost.gave
 
-  abbrev pub Shelving : Spot Word Shelf (Slot H L) Ghost → Option (ℕ × Lent) → Type 0
+  abbrev pub Shelving : Spot Word Shelf (Slot H) Ghost → Option (ℕ × Lent) → Type 0
   Shelving x None = IsShelved x
   Shelving x (Some k) = IsLent x k.1
 
   -- All that holds of one actor: who has its cell, who has its list, what is owed and what was seen.
-  pub record Fact (actor : ℕ) (x : Spot Word Shelf (Slot H L) Ghost) (vs : List View) : Type 0 where
+  pub record Fact (actor : ℕ) (x : Spot Word Shelf (Slot H) Ghost) (vs : List View) : Type 0 where
     pub valid : IsTrue (is_valid (x.row Status))
     pub claims : Locked (claim_for actor) x.ghost.holder vs
     pub cell : Keeping actor x x.ghost.holder
     pub lists : Locked (list_for actor) x.ghost.keeper vs
     pub shelf : Shelving x x.ghost.keeper
-    pub ended : IsTrue x.ghost.listed.ended → x.row Status ≡ 1
+    pub ended : IsTrue x.ghost.listed.closed → x.row Status ≡ 1
     pub message : Owed (MessageDue x) (PaysMessage actor) vs
     pub system : Owed (SystemDue x) (PaysSystem actor) vs
     pub seen : EachView (Knows actor x) vs

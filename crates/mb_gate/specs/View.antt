@@ -3,6 +3,7 @@
 use Rattle.std.specs.Prelude.{◌≡◌, ℕ, ◌+◌, ◌==◌, Bool, true, false, ◌||◌, if◌then◌else◌, List, [], ◌∷◌, ◌++◌, Option, Some, None}
 use Rattle.mb_status.specs.Mailbox.{mailbox_of}
 use Rattle.mb_msg.specs.declared.system.SysMsg.{SysMsg}
+use Rattle.mb_syslist.specs.MessageList.{MessageList}
 use Rattle.mb_journal.specs.Entry.{Entry}
 use Rattle.mb_core.specs.declared.debt.Debt.{Debt}
 use Rattle.mb_core.specs.Actor.{nothing}
@@ -21,15 +22,10 @@ pub record Held : Type 0 where
   pub word : ℕ
   pub gave : Bool
 
--- what is listed at an actor, the earliest first with its number; and whether the list is ended for good
-pub record Listed : Type 0 where
-  pub items : List (ℕ × SysMsg)
-  pub ended : Bool
-
 -- a list that is out: its actor, what was listed when it was taken, and whether the last drain gave something
 pub record Lent : Type 0 where
   pub actor : ℕ
-  pub listed : Listed
+  pub listed : MessageList
   pub gave : Bool
 
 -- a system message that was sent: to whom, what, and whether the list was ended, so that it went nowhere
@@ -122,3 +118,26 @@ added_debts (d ∷ ds) old = (d.0, either_owes d.1 (debt_of d.0 old)) ∷ added_
 -- a seat takes over what another has seen and what it owes
 abbrev pub taking_over : View → View → View
 taking_over v w = record v { log = w.log ++ v.log; debts = added_debts w.debts v.debts }
+
+-- the list was taken out
+abbrev pub lending : ℕ → MessageList → Bool → View → View
+lending actor listed gave v = record v { list = Some (record { actor = actor; listed = listed; gave = gave }) }
+
+-- the list was given back with this message last
+abbrev pub enlisting : ℕ → SysMsg → View → View
+enlisting actor message v =
+    owing actor (record (owes actor v) { system = true })
+    (record v { list = None; said = record { to = actor; message = message; was_ended = false } ∷ v.said })
+
+-- the list was found ended, so that this message went nowhere
+abbrev pub refusing : ℕ → SysMsg → View → View
+refusing actor message v = record v { said = record { to = actor; message = message; was_ended = true } ∷ v.said }
+
+-- the claim, which knows that the last drain gave something, or nothing
+abbrev pub regiven : Bool → Option Held → Option Held
+regiven gave None = None
+regiven gave (Some c) = Some (record c { gave = gave })
+
+-- the holder gave the list back, of which the last drain gave something, or nothing
+abbrev pub draining : Bool → View → View
+draining gave v = record v { list = None; claim = regiven gave v.claim }

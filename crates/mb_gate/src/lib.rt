@@ -2,7 +2,9 @@
 //! lock-free words.
 #![tactic(auto)]
 
+mod law;
+mod resident;
 mod slot;
 mod view;
 
-pub use slot::Slot;
+pub use resident::Resident;

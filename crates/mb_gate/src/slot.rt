@@ -1,6 +1,11 @@
-/// What lies in a slot of the table: an actor's home, its list, or nothing while a seat has it out.
-pub enum Slot<H, L> {
+use mb_msg::SysMsg;
+use mb_syslist::SysList;
+
+/// What lies in a slot of the table: an actor's home or its list, or nothing while a seat has that out.
+pub enum Slot<H> {
     Empty,
     Home(H),
-    List(L),
+    List(SysList),
+    /// A message that found its list ended. It lies in no slot: a step is told of it.
+    Note(SysMsg),
 }
