@@ -82,6 +82,17 @@ marks false false true false = refl
 marks false false false true = refl
 marks false false false false = refl
 
+end_mark : (a b c d : Bool) → ((if d then 1 else 0) + (if a then 2 else 0) + (if b then 4 else 0) + (if c then 8 else 0)) / 8 % 2 ≡ 1 → IsTrue c
+end_mark a b true d e = refl
+end_mark true true false true e = absurd (cc)
+end_mark true true false false e = absurd (cc)
+end_mark true false false true e = absurd (cc)
+end_mark true false false false e = absurd (cc)
+end_mark false true false true e = absurd (cc)
+end_mark false true false false e = absurd (cc)
+end_mark false false false true e = absurd (cc)
+end_mark false false false false e = absurd (cc)
+
 -- a gate's word shows whether there is system work, also while the list is out
 pub marked : (out : Bool) (l : MessageList) (gave : Bool) → shows_work (gate_word out l gave) ≡ (is_some_item l.messages || gave)
 marked out l gave = marks (is_some_item l.messages) gave l.closed out
@@ -101,15 +112,19 @@ module _ {H : Type 0} (is_of : ℕ → H → Type 0) (journal : H → List Entry
 
   still_closed : (actor : ℕ) (x : Place) (v : View) → Knows actor x v → StaysClosed actor (x.row Status) v
   still_closed actor x v k = each_weaker (IsSo actor x) (IsWord actor (x.row Status)) v.log
-      (λ s. elim s as (λ z. IsSo actor x z → IsWord actor (x.row Status) z) [ Read a word ↦ (λ h. h) | Saw a j ↦ (λ h. tt) ]) k
+      (λ s. elim s as (λ z. IsSo actor x z → IsWord actor (x.row Status) z) [ Read a word ↦ (λ h. h) | Saw a j ↦ (λ h. tt) ]) k.seen
 
   goes_further : (actor : ℕ) (x : Place) (v : View) → x.row Status ≢ 1 → Knows actor x v → GoesOn actor x.ghost.journal v
   goes_further actor x v unshut k = each_weaker (IsSo actor x) (IsBefore actor x.ghost.journal) v.log
-      (λ s. elim s as (λ z. IsSo actor x z → IsBefore actor x.ghost.journal z) [ Read a word ↦ (λ h e one. unshut (h e one)) | Saw a j ↦ (λ h. h) ]) k
+      (λ s. elim s as (λ z. IsSo actor x z → IsBefore actor x.ghost.journal z) [ Read a word ↦ (λ h e one. unshut (h e one)) | Saw a j ↦ (λ h. h) ]) k.seen
 
   shown_by : (x : Place) (keeper : Option (ℕ × Lent)) → Shelving is_of journal mailbox rested x keeper → has_work x.ghost ≡ shows_work (x.row Gate)
   shown_by x None k = sym (ap shows_work k.word ∙ marked false x.ghost.listed x.ghost.gave)
   shown_by x (Some h) k = sym (ap shows_work k.word ∙ marked true x.ghost.listed x.ghost.gave)
+
+  ends_by : (x : Place) (keeper : Option (ℕ × Lent)) → Shelving is_of journal mailbox rested x keeper → x.row Gate / 8 % 2 ≡ 1 → IsTrue x.ghost.listed.closed
+  ends_by x None k e = end_mark (is_some_item x.ghost.listed.messages) x.ghost.gave x.ghost.listed.closed false (ap (λ z. z / 8 % 2) (sym k.word) ∙ e)
+  ends_by x (Some h) k e = end_mark (is_some_item x.ghost.listed.messages) x.ghost.gave x.ghost.listed.closed true (ap (λ z. z / 8 % 2) (sym k.word) ∙ e)
 
   module _ (n slots id : ℕ) (me : M) (actor i : ℕ) (inside : actor < n) where
     told_read : (x : Place) (vs : List View) → F actor x vs → get_elem? vs id ≡ some me.0 → (a : ℕ) → word_at actor 0 ≡ word_at a 0
@@ -234,31 +249,31 @@ module _ {H : Type 0} (is_of : ℕ → H → Type 0) (journal : H → List Entry
           (told_enlist l m (step slots (word_at actor 2) new 0 none) new has of carried)))
 
     pub unloads_allowed : (gave : Bool) (c : Held) (l : Lent) (list : MessageList) (new : ℕ) → i ≡ word_at actor 2 → me.0.claim ≡ Some c → c.actor ≡ actor → me.0.list ≡ Some l → l.actor ≡ actor
-        → me.1 ≡ (slot_at actor 1, Listing list) ∷ tail_of me.1 → new ≡ gate_word false list gave → (IsTrue list.closed → IsTrue l.listed.closed ⊎ (c.word ≡ 1))
+        → me.1 ≡ (slot_at actor 1, Listing list) ∷ tail_of me.1 → new ≡ gate_word false list gave → list.messages ≡ [] → (IsTrue l.listed.closed → IsTrue list.closed) → (IsTrue list.closed → IsTrue l.listed.closed ⊎ (c.word ≡ 1))
         → Allows (Rule n) slots id me i (λ _. new) (λ _. Unloads gave (step slots i new 0 none) me new)
-    unloads_allowed gave c l list new e has of keeps of_list carried word closed = subst (λ j. Allows (Rule n) slots id me j (λ _. new) (λ _. Unloads gave (step slots j new 0 none) me new)) (sym e)
+    unloads_allowed gave c l list new e has of keeps of_list carried word empty still closed = subst (λ j. Allows (Rule n) slots id me j (λ _. new) (λ _. Unloads gave (step slots j new 0 none) me new)) (sym e)
         (allows word_offset slot_offset words_few slots_few n F slots id me actor Gate (λ _. new) (λ _. Unloads gave (step slots (word_at actor 2) new 0 none) me new) inside
-        (λ x vs f at fits. unloads is_of journal mailbox rested actor id new me c l list gave (Unloads gave (step slots (word_at actor 2) new 0 none) me new) x vs f at has of keeps of_list carried word closed refl))
+        (λ x vs f at fits. unloads is_of journal mailbox rested actor id new me c l list gave (Unloads gave (step slots (word_at actor 2) new 0 none) me new) x vs f at has of keeps of_list carried word empty still closed refl))
 
-    pub refuses_allowed : (old : ℕ) (m : SysMsg) → i ≡ word_at actor 2 → Allows (Rule n) slots id me i (λ k. either (k == old) old k) (Refuses (step slots i old old (some (Note m))) me)
-    refuses_allowed old m e = subst (λ j. Allows (Rule n) slots id me j (λ k. either (k == old) old k) (Refuses (step slots j old old (some (Note m))) me)) (sym e)
+    pub refuses_allowed : (old : ℕ) (m : SysMsg) → i ≡ word_at actor 2 → old / 8 % 2 ≡ 1 → Allows (Rule n) slots id me i (λ k. either (k == old) old k) (Refuses (step slots i old old (some (Note m))) me)
+    refuses_allowed old m e shut = subst (λ j. Allows (Rule n) slots id me j (λ k. either (k == old) old k) (Refuses (step slots j old old (some (Note m))) me)) (sym e)
         (allows word_offset slot_offset words_few slots_few n F slots id me actor Gate (λ k. either (k == old) old k) (Refuses (step slots (word_at actor 2) old old (some (Note m))) me) inside
         (λ x vs f at fits. let tell = Refuses (step slots (word_at actor 2) old old (some (Note m))) me (x.row Gate) in
           exchanged (x.row Gate) old old (λ k. Goes word_offset slot_offset F actor id me Gate k tell x vs)
           (λ hit. subst (λ k. Goes word_offset slot_offset F actor id me Gate k tell x vs) hit
-            (refuses is_of journal mailbox rested actor id me m tell x vs f at
+            (refuses is_of journal mailbox rested actor id me m tell x vs f at (ends_by x x.ghost.keeper f.shelf (ap (λ k. k / 8 % 2) hit ∙ shut))
               (λ a m' w said. let who : actor ≡ a = same_actor actor a 2 w in let what : m ≡ m' = note_same {H = H} m m' said in
                 ((λ _ z. (refusing (who z) (what z) me.0, me.1)), (λ miss. absurd (miss hit))))))
           (λ miss. glances is_of journal mailbox rested actor id Gate me tell x vs f at (λ a m' w said. ((λ hit. absurd (miss hit)), (λ _. refl))))))
 
     -- a view is copied for a seat more
     pub copies_allowed : (v : View) → v.claim ≡ None → v.list ≡ None → Splits (Rule n) id v v v
-    copies_allowed v bare no_list = splits word_offset slot_offset words_few slots_few n F id v v v (parts is_of journal mailbox rested id v v v refl bare no_list no_list no_list refl refl (λ a x k. k))
+    copies_allowed v bare no_list = splits word_offset slot_offset words_few slots_few n F id v v v (parts is_of journal mailbox rested id v v v refl bare no_list no_list no_list refl refl refl (λ a x k. k))
 
     -- the claim gets a view of its own
     pub claims_allowed : (v : View) → v.list ≡ None → Splits (Rule n) id v (claim_alone v) (without_claim v)
     claims_allowed v no_list = splits word_offset slot_offset words_few slots_few n F id v (claim_alone v) (without_claim v)
-        (parts is_of journal mailbox rested id v (claim_alone v) (without_claim v) refl refl no_list refl no_list refl refl (λ a x k. tt))
+        (parts is_of journal mailbox rested id v (claim_alone v) (without_claim v) refl refl no_list refl no_list refl refl refl (λ a x k. record { seen = tt; said = tt }))
 
     pub joins_allowed : (v : View) (other : ℕ) (w : View) → w.claim ≡ None → w.list ≡ None → Joins (Rule n) id v other w (taking_over v w) blank
     joins_allowed v other w bare no_list = joins word_offset slot_offset words_few slots_few n F id v other w (taking_over v w) blank (takes_over is_of journal mailbox rested id v other w bare no_list)

@@ -90,6 +90,7 @@ module _ {H : Type 0} (is_of : ℕ → H → Type 0) (journal : H → List Entry
     lists = stays_locked (list_for actor) x.ghost.keeper vs id v w at list f.lists;
     shelf = f.shelf;
     ended = f.ended;
+    listing = f.listing;
     message = still_owed (PaysMessage actor) (MessageDue x) (MessageDue x) vs id v w at (λ d. d) message f.message;
     system = still_owed (PaysSystem actor) (SystemDue x) (SystemDue x) vs id v w at (λ d. d) system f.system;
     seen = learns (Knows actor x) (Knows actor x) vs id w (λ u k. k) (knows (f.seen id v at)) f.seen;

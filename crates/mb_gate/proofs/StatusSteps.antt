@@ -45,7 +45,7 @@ module _ {H : Type 0} (is_of : ℕ → H → Type 0) (journal : H → List Entry
         (views_change is_of journal mailbox rested actor x vs id v (reading actor r v) at refl refl
         (λ due owed. subst (λ (d : Debt). IsTrue (d.message || d.sending)) (sym (owes_here actor (after_reading (mailbox_of r) (owes actor v)) v)) (reading_pays_message r (owes actor v) due.0 owed))
         (λ due owed. subst (λ (d : Debt). IsTrue d.system) (sym (owes_here actor (after_reading (mailbox_of r) (owes actor v)) v)) (reading_pays_system r (owes actor v) due.0 owed))
-        (λ k. ((λ _ one. one), k)) f);
+        (λ k. record { seen = ((λ _ one. one), k.seen); said = k.said }) f);
     others = λ a n y g. elsewhere is_of journal mailbox rested a y vs id v (reading actor r v) at (reading_elsewhere actor a r v n) g;
     tells = told;
   }
@@ -86,10 +86,11 @@ module _ {H : Type 0} (is_of : ℕ → H → Type 0) (journal : H → List Entry
           lists = stays_locked (list_for actor) x.ghost.keeper vs id v w at refl f.lists;
           shelf = still_shelved is_of journal mailbox rested actor x y refl refl refl refl x.ghost.keeper f.shelf;
           ended = λ e. absurd (let one = f.ended e in omega arith);
+          listing = f.listing;
           message = λ due. absurd (let z = due.0 in omega arith);
           system = λ due. absurd (let z = due.0 in omega arith);
-          seen = learns (Knows actor x) (Knows actor y) vs id w (λ u. goes_on actor x y u (λ one. absurd (omega arith)) (extends_self x.ghost.journal))
-              (goes_on actor x y v (λ one. absurd (omega arith)) (extends_self x.ghost.journal) (f.seen id v at)) f.seen;
+          seen = let k = goes_on actor x y v (λ one. absurd (omega arith)) (extends_self x.ghost.journal) (λ s t. t) (f.seen id v at) in
+              learns (Knows actor x) (Knows actor y) vs id w (λ u. goes_on actor x y u (λ one. absurd (omega arith)) (extends_self x.ghost.journal) (λ s t. t)) (record { seen = k.seen; said = k.said }) f.seen;
         };
         others = λ a n z g. elsewhere is_of journal mailbox rested a z vs id v w at (taking_elsewhere actor a old x.ghost.journal x.ghost.gave v n bare) g;
         tells = told;
@@ -117,9 +118,11 @@ module _ {H : Type 0} (is_of : ℕ → H → Type 0) (journal : H → List Entry
           lists = stays_locked (list_for actor) x.ghost.keeper vs id v w at refl f.lists;
           shelf = still_shelved is_of journal mailbox rested actor x y refl refl refl refl x.ghost.keeper f.shelf;
           ended = λ e. shut (f.ended e);
+          listing = f.listing;
           message = λ due. absurd (let z : new ≡ 0 = due.0 in ⊎_elim (λ b. omega arith) (λ b. omega arith) busy);
           system = λ due. absurd (let z : new % 4 ≡ 0 = due.0 in ⊎_elim (λ b. omega arith) (λ b. omega arith) busy);
-          seen = learns (Knows actor x) (Knows actor y) vs id w (λ u. goes_on actor x y u shut (extends_self x.ghost.journal)) (goes_on actor x y v shut (extends_self x.ghost.journal) (f.seen id v at)) f.seen;
+          seen = let k = goes_on actor x y v shut (extends_self x.ghost.journal) (λ s t. t) (f.seen id v at) in
+              learns (Knows actor x) (Knows actor y) vs id w (λ u. goes_on actor x y u shut (extends_self x.ghost.journal) (λ s t. t)) (record { seen = k.seen; said = k.said }) f.seen;
         };
         others = λ a n z g. elsewhere is_of journal mailbox rested a z vs id v w at (writing_elsewhere actor a new c v n has of) g;
         tells = told;
@@ -159,9 +162,11 @@ module _ {H : Type 0} (is_of : ℕ → H → Type 0) (journal : H → List Entry
           lists = stays_locked (list_for actor) x.ghost.keeper vs id v w at refl f.lists;
           shelf = still_shelved is_of journal mailbox rested actor x y refl refl refl refl x.ghost.keeper f.shelf;
           ended = λ e. shut (f.ended e);
+          listing = f.listing;
           message = pays (PaysMessage actor) (MessageDue y) vs id v w at (subst (λ (d : Debt). IsTrue (d.message || d.sending)) (sym (owes_here actor debt (record v { log = Saw actor j ∷ v.log; claim = None }))) refl);
           system = pays (PaysSystem actor) (SystemDue y) vs id v w at (subst (λ (d : Debt). IsTrue d.system) (sym (owes_here actor debt (record v { log = Saw actor j ∷ v.log; claim = None }))) refl);
-          seen = learns (Knows actor x) (Knows actor y) vs id w (λ u. goes_on actor x y u shut grown) ((λ _. extends_self j), goes_on actor x y v shut grown (f.seen id v at)) f.seen;
+          seen = let k = goes_on actor x y v shut grown (λ s t. t) (f.seen id v at) in
+              learns (Knows actor x) (Knows actor y) vs id w (λ u. goes_on actor x y u shut grown (λ s t. t)) (record { seen = ((λ _. extends_self j), k.seen); said = k.said }) f.seen;
         };
         others = λ a n z k. elsewhere is_of journal mailbox rested a z vs id v w at (idling_elsewhere actor a j c v n has of) k;
         tells = subst (λ l. tell (w, tail_of l)) (sym carried) told;
@@ -201,9 +206,11 @@ module _ {H : Type 0} (is_of : ℕ → H → Type 0) (journal : H → List Entry
           lists = stays_locked (list_for actor) x.ghost.keeper vs id v w at refl f.lists;
           shelf = still_shelved is_of journal mailbox rested actor x y refl refl refl refl x.ghost.keeper f.shelf;
           ended = f.ended;
+          listing = f.listing;
           message = pays (PaysMessage actor) (MessageDue y) vs id v w at (subst (λ (d : Debt). IsTrue (d.message || d.sending)) (sym (owes_here actor debt (record v { log = Saw actor j ∷ v.log; claim = None }))) refl);
           system = pays (PaysSystem actor) (SystemDue y) vs id v w at (subst (λ (d : Debt). IsTrue d.system) (sym (owes_here actor debt (record v { log = Saw actor j ∷ v.log; claim = None }))) refl);
-          seen = learns (Knows actor x) (Knows actor y) vs id w (λ u. goes_on actor x y u (λ one. one) grown) ((λ _. extends_self j), goes_on actor x y v (λ one. one) grown (f.seen id v at)) f.seen;
+          seen = let k = goes_on actor x y v (λ one. one) grown (λ s t. t) (f.seen id v at) in
+              learns (Knows actor x) (Knows actor y) vs id w (λ u. goes_on actor x y u (λ one. one) grown (λ s t. t)) (record { seen = ((λ _. extends_self j), k.seen); said = k.said }) f.seen;
         };
         others = λ a n z k. elsewhere is_of journal mailbox rested a z vs id v w at (idling_elsewhere actor a j c v n has of) k;
         tells = subst (λ l. tell (w, tail_of l)) (sym carried) told;

@@ -9,8 +9,8 @@ use Rattle.mb_rule.specs.Layout.{Spot}
 use Rattle.mb_rule.specs.Seen.{Each}
 use Rattle.mb_rule.proofs.SeenLemmas.{each_weaker, each_append}
 use Rattle.mb_gate.specs.declared.slot.Slot.{Slot}
-use Rattle.mb_gate.specs.View.{View, Sight, Read, Saw, Held, Lent, debt_of, owes, owing, reading, taking, rewritten, writing, idling, sending, unsending, counting, blank, either_owes, added_debts, taking_over}
-use Rattle.mb_gate.specs.Rule.{Word, Shelf, Ghost, Status, held_of, lent_of, claim_for, list_for, Extends, IsSo, Knows}
+use Rattle.mb_gate.specs.View.{View, Sight, Read, Saw, Held, Lent, Said, debt_of, owes, owing, reading, taking, rewritten, writing, idling, sending, unsending, counting, blank, either_owes, added_debts, taking_over}
+use Rattle.mb_gate.specs.Rule.{Word, Shelf, Ghost, Status, held_of, lent_of, claim_for, list_for, Extends, IsSo, IsTold, Knows}
 
 pub held_here : (actor : ℕ) (c : Held) → c.actor ≡ actor → held_of actor (Some c) ≡ Some c
 held_here actor c e = ap (λ b. if b then Some c else None) (eq-eqb c.actor actor e)
@@ -46,14 +46,14 @@ pub record Elsewhere (H : Type 0) (actor : ℕ) (v w : View) : Type 0 where
 
 module _ {H : Type 0} where
   pub owing_elsewhere : (actor other : ℕ) (d : Debt) (v : View) → other ≢ actor → Elsewhere H other v (owing actor d v)
-  owing_elsewhere actor other d v n = record { claim = refl; list = refl; debt = owes_else actor other d v n; knows = λ x k. k }
+  owing_elsewhere actor other d v n = record { claim = refl; list = refl; debt = owes_else actor other d v n; knows = λ x k. record { seen = k.seen; said = k.said } }
 
   pub reading_elsewhere : (actor other word : ℕ) (v : View) → other ≢ actor → Elsewhere H other v (reading actor word v)
   reading_elsewhere actor other word v n = record {
     claim = refl;
     list = refl;
     debt = owes_else actor other (after_reading (mailbox_of word) (owes actor v)) v n;
-    knows = λ x k. ((λ e _. absurd (n (sym e))), k);
+    knows = λ x k. record { seen = ((λ e _. absurd (n (sym e))), k.seen); said = k.said };
   }
 
   pub taking_elsewhere : (actor other word : ℕ) (j : List Entry) (gave : Bool) (v : View) → other ≢ actor → v.claim ≡ None → Elsewhere H other v (taking actor j word gave v)
@@ -61,7 +61,7 @@ module _ {H : Type 0} where
     claim = held_else other (record { actor = actor; journal = j; word = word + 2; gave = gave }) (λ e. n (sym e)) ∙ sym (ap (held_of other) bare);
     list = refl;
     debt = owes_else actor other nothing v n;
-    knows = λ x k. k;
+    knows = λ x k. record { seen = k.seen; said = k.said };
   }
 
   pub writing_elsewhere : (actor other word : ℕ) (c : Held) (v : View) → other ≢ actor → v.claim ≡ Some c → c.actor ≡ actor → Elsewhere H other v (writing word v)
@@ -69,7 +69,7 @@ module _ {H : Type 0} where
     claim = ap (λ z. held_of other (rewritten word z)) has ∙ (held_else other (record c { word = word }) (λ e. n (sym e ∙ of)) ∙ sym (ap (held_of other) has ∙ held_else other c (λ e. n (sym e ∙ of))));
     list = refl;
     debt = refl;
-    knows = λ x k. k;
+    knows = λ x k. record { seen = k.seen; said = k.said };
   }
 
   pub idling_elsewhere : (actor other : ℕ) (j : List Entry) (c : Held) (v : View) → other ≢ actor → v.claim ≡ Some c → c.actor ≡ actor → Elsewhere H other v (idling actor j v)
@@ -77,10 +77,14 @@ module _ {H : Type 0} where
     claim = sym (ap (held_of other) has ∙ held_else other c (λ e. n (sym e ∙ of)));
     list = refl;
     debt = owes_else actor other (record (owes actor v) { system = true; message = true }) v n;
-    knows = λ x k. ((λ e. absurd (n (sym e))), k);
+    knows = λ x k. record { seen = ((λ e. absurd (n (sym e))), k.seen); said = k.said };
   }
 
   -- what was known of a place is so where the place goes on
-  pub goes_on : (actor : ℕ) (x y : Spot Word Shelf (Slot H) Ghost) (v : View) → (x.row Status ≡ 1 → y.row Status ≡ 1) → Extends y.ghost.journal x.ghost.journal → Knows actor x v → Knows actor y v
-  goes_on actor x y v closed longer k = each_weaker (IsSo actor x) (IsSo actor y) v.log
-      (λ s. elim s as (λ z. IsSo actor x z → IsSo actor y z) [ Read a word ↦ (λ h e one. closed (h e one)) | Saw a j ↦ (λ h e. extends_more y.ghost.journal x.ghost.journal j longer (h e)) ]) k
+  pub goes_on : (actor : ℕ) (x y : Spot Word Shelf (Slot H) Ghost) (v : View) → (x.row Status ≡ 1 → y.row Status ≡ 1) → Extends y.ghost.journal x.ghost.journal
+      → ((s : Said) → IsTold actor x s → IsTold actor y s) → Knows actor x v → Knows actor y v
+  goes_on actor x y v closed longer told k = record {
+    seen = each_weaker (IsSo actor x) (IsSo actor y) v.log
+        (λ s. elim s as (λ z. IsSo actor x z → IsSo actor y z) [ Read a word ↦ (λ h e one. closed (h e one)) | Saw a j ↦ (λ h e. extends_more y.ghost.journal x.ghost.journal j longer (h e)) ]) k.seen;
+    said = each_weaker (IsTold actor x) (IsTold actor y) v.said told k.said;
+  }

@@ -47,9 +47,11 @@ module _ {H : Type 0} (is_of : ℕ → H → Type 0) (journal : H → List Entry
           lists = stays_locked (list_for actor) x.ghost.keeper vs id v w at refl f.lists;
           shelf = still_shelved is_of journal mailbox rested actor x y refl refl refl refl x.ghost.keeper f.shelf;
           ended = f.ended;
+          listing = f.listing;
           message = pays (PaysMessage actor) (MessageDue y) vs id v w at (subst (λ (z : Debt). IsTrue (z.message || z.sending)) (sym (owes_here actor d v)) owed);
           system = still_owed (PaysSystem actor) (SystemDue x) (SystemDue y) vs id v w at (λ due. due) (λ _ p. subst (λ (z : Debt). IsTrue z.system) (sym (owes_here actor d v)) (subst IsTrue (sym same) p)) f.system;
-          seen = learns (Knows actor x) (Knows actor y) vs id w (λ u. goes_on actor x y u (λ one. one) (extends_self x.ghost.journal)) (goes_on actor x y v (λ one. one) (extends_self x.ghost.journal) (f.seen id v at)) f.seen;
+          seen = let k = goes_on actor x y v (λ one. one) (extends_self x.ghost.journal) (λ s t. t) (f.seen id v at) in
+              learns (Knows actor x) (Knows actor y) vs id w (λ u. goes_on actor x y u (λ one. one) (extends_self x.ghost.journal) (λ s t. t)) (record { seen = k.seen; said = k.said }) f.seen;
         };
         others = λ a z y g. elsewhere is_of journal mailbox rested a y vs id v w at (owing_elsewhere actor a d v z) g;
         tells = told;
@@ -85,11 +87,13 @@ module _ {H : Type 0} (is_of : ℕ → H → Type 0) (journal : H → List Entry
           lists = stays_locked (list_for actor) x.ghost.keeper vs id v v at refl f.lists;
           shelf = still_shelved is_of journal mailbox rested actor x y refl refl refl refl x.ghost.keeper f.shelf;
           ended = f.ended;
+          listing = f.listing;
           message = λ due. absurd (let z = due.0 in ⊎_elim (λ b. omega arith) (λ b. omega arith) h.1.busy);
           system = still_owed (PaysSystem actor) (SystemDue x) (SystemDue y) vs id v v at (λ due. due) (λ _ p. p) f.system;
-          seen = learns (Knows actor x) (Knows actor y) vs id v (λ u. goes_on actor x y u (λ one. one) (extends_self x.ghost.journal)) (goes_on actor x y v (λ one. one) (extends_self x.ghost.journal) (f.seen id v at)) f.seen;
+          seen = let k = goes_on actor x y v (λ one. one) (extends_self x.ghost.journal) (λ s t. t) (f.seen id v at) in
+              learns (Knows actor x) (Knows actor y) vs id v (λ u. goes_on actor x y u (λ one. one) (extends_self x.ghost.journal) (λ s t. t)) (record { seen = k.seen; said = k.said }) f.seen;
         };
-        others = λ a z y g. elsewhere is_of journal mailbox rested a y vs id v v at (record { claim = refl; list = refl; debt = refl; knows = λ _ k. k }) g;
+        others = λ a z y g. elsewhere is_of journal mailbox rested a y vs id v v at (record { claim = refl; list = refl; debt = refl; knows = λ _ k. record { seen = k.seen; said = k.said } }) g;
         tells = told;
       }
 
@@ -104,7 +108,7 @@ module _ {H : Type 0} (is_of : ℕ → H → Type 0) (journal : H → List Entry
     able = tt;
     here = load_here is_of journal mailbox rested actor x (set vs id w) name (views_change is_of journal mailbox rested actor x vs id v w at refl refl
         (λ due p. subst (λ (z : Debt). IsTrue (z.message || z.sending)) (sym (owes_here actor d v)) (message due p))
-        (λ due p. subst (λ (z : Debt). IsTrue z.system) (sym (owes_here actor d v)) (system due p)) (λ k. k) f);
+        (λ due p. subst (λ (z : Debt). IsTrue z.system) (sym (owes_here actor d v)) (system due p)) (λ k. record { seen = k.seen; said = k.said }) f);
     others = λ a n y g. elsewhere is_of journal mailbox rested a y vs id v w at (owing_elsewhere actor a d v n) g;
     tells = told;
   }
@@ -116,8 +120,8 @@ module _ {H : Type 0} (is_of : ℕ → H → Type 0) (journal : H → List Entry
     deed = stays;
     kept = x.ghost;
     able = tt;
-    here = load_here is_of journal mailbox rested actor x (set vs id v) name (views_change is_of journal mailbox rested actor x vs id v v at refl refl (λ _ p. p) (λ _ p. p) (λ k. k) f);
-    others = λ a n y g. elsewhere is_of journal mailbox rested a y vs id v v at (record { claim = refl; list = refl; debt = refl; knows = λ _ k. k }) g;
+    here = load_here is_of journal mailbox rested actor x (set vs id v) name (views_change is_of journal mailbox rested actor x vs id v v at refl refl (λ _ p. p) (λ _ p. p) (λ k. record { seen = k.seen; said = k.said }) f);
+    others = λ a n y g. elsewhere is_of journal mailbox rested a y vs id v v at (record { claim = refl; list = refl; debt = refl; knows = λ _ k. record { seen = k.seen; said = k.said } }) g;
     tells = told;
   }
 

@@ -3,13 +3,14 @@ use Rattle.std.specs.Prelude.{◌≡◌, ◌⊎◌, ℕ, ◌+◌, ◌<◌, ◌==
 use mathlib.Core.Option as maybe
 use mathlib.Core.Option.{none, some}
 use Rattle.mb_status.specs.Mailbox.{Mailbox, word_of, is_valid}
+use Rattle.mb_msg.specs.declared.system.SysMsg.{SysMsg}
 use Rattle.mb_syslist.specs.MessageList.{MessageList}
 use Rattle.mb_journal.specs.Entry.{Entry}
 use Rattle.mb_rule.specs.Layout.{Spot}
 use Rattle.mb_rule.specs.Locked.{Locked}
 use Rattle.mb_rule.specs.Owed.{Owed}
 use Rattle.mb_rule.specs.Seen.{EachView, Each}
-use Rattle.mb_gate.specs.View.{View, Sight, Read, Saw, Held, Lent, owes}
+use Rattle.mb_gate.specs.View.{View, Sight, Read, Saw, Held, Lent, Said, owes}
 use Rattle.mb_gate.specs.declared.slot.Slot.{Slot}
 use Rattle.mb_gate.specs.declared.slot.Slot.TheVariants.{Home, List as Listing}
 
@@ -36,13 +37,14 @@ slot_offset CellShelf = 0
 slot_offset ListShelf = 1
 
 -- What is kept of an actor besides: who holds it; its journal, as it is at home or as it was taken; who has its list out; what is
--- listed; and whether the last drain gave something.
+-- listed; whether the last drain gave something; and all that was ever listed, in order.
 pub record Ghost : Type 0 where
   pub holder : Option (ℕ × Held)
   pub journal : List Entry
   pub keeper : Option (ℕ × Lent)
   pub listed : MessageList
   pub gave : Bool
+  pub pushed : List SysMsg
 
 abbrev pub is_some_item : {A : Type 0} → List A → Bool
 is_some_item [] = false
@@ -97,8 +99,20 @@ abbrev pub IsSo : {H : Type 0} → ℕ → Spot Word Shelf (Slot H) Ghost → Si
 IsSo actor x (Read a word) = a ≡ actor → word ≡ 1 → x.row Status ≡ 1
 IsSo actor x (Saw a journal) = a ≡ actor → Extends x.ghost.journal journal
 
-abbrev pub Knows : {H : Type 0} → ℕ → Spot Word Shelf (Slot H) Ghost → View → Type 0
-Knows actor x v = Each (IsSo actor x) v.log
+-- the message stands in the list
+pub record IsAmong (message : SysMsg) (messages : List SysMsg) : Type 0 where
+  pub before : List SysMsg
+  pub after : List SysMsg
+  pub joined : messages ≡ before ++ message ∷ after
+
+-- what was said was listed; or the list is ended
+abbrev pub IsTold : {H : Type 0} → ℕ → Spot Word Shelf (Slot H) Ghost → Said → Type 0
+IsTold actor x s = s.to ≡ actor → (s.was_ended ≡ true → IsTrue x.ghost.listed.closed) × (s.was_ended ≡ false → IsAmong s.message x.ghost.pushed)
+
+-- all that the view has seen, and said, of the actor is so
+pub record Knows {H : Type 0} (actor : ℕ) (x : Spot Word Shelf (Slot H) Ghost) (v : View) : Type 0 where
+  pub seen : Each (IsSo actor x) v.log
+  pub said : Each (IsTold actor x) v.said
 
 module _ {H : Type 0} (is_of : ℕ → H → Type 0) (journal : H → List Entry) (mailbox : H → Mailbox) (rested : H → Type 0) where
   -- The cell is at home: it is the actor's own, its word is that of its journal, and only an open actor of which the last drain gave
@@ -148,6 +162,7 @@ module _ {H : Type 0} (is_of : ℕ → H → Type 0) (journal : H → List Entry
     pub lists : Locked (list_for actor) x.ghost.keeper vs
     pub shelf : Shelving x x.ghost.keeper
     pub ended : IsTrue x.ghost.listed.closed → x.row Status ≡ 1
+    pub listing : (given : List SysMsg) × (x.ghost.pushed ≡ given ++ x.ghost.listed.messages)
     pub message : Owed (MessageDue x) (PaysMessage actor) vs
     pub system : Owed (SystemDue x) (PaysSystem actor) vs
     pub seen : EachView (Knows actor x) vs
