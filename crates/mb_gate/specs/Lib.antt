@@ -1,3 +1,5 @@
 pub mod View
+pub mod Claims
 pub mod Rule
 pub mod Plays
+pub mod Names

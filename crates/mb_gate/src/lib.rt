@@ -2,9 +2,16 @@
 //! lock-free words.
 #![tactic(auto)]
 
+mod claim;
+mod gates;
 mod law;
+mod pass;
+mod reading;
 mod resident;
 mod slot;
 mod view;
 
+pub use claim::Claim;
+pub use gates::Gates;
+pub use pass::Pass;
 pub use resident::Resident;
