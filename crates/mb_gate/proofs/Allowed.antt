@@ -6,7 +6,7 @@ use lib.ListN.{get_elem?}
 use prog.Atomic.{either}
 use Rattle.mb_status.specs.Mailbox.{Mailbox, word_of, is_valid}
 use Rattle.mb_msg.specs.declared.system.SysMsg.{SysMsg}
-use Rattle.mb_syslist.specs.MessageList.{MessageList, with_last}
+use Rattle.mb_syslist.specs.MessageList.{MessageList, with_last, listed, drained, ended}
 use Rattle.mb_journal.specs.Entry.{Entry}
 use Rattle.atomic_table.specs.Table.{State, Me, Step, step, Allows, Splits, Joins}
 use Rattle.atomic_table.specs.Table.{rest as tail_of}
@@ -20,8 +20,8 @@ use Rattle.mb_gate.specs.declared.slot.Slot.{Slot}
 use Rattle.mb_gate.specs.declared.slot.Slot.TheVariants.{Home, List as Listing, Note}
 use Rattle.mb_gate.specs.View.{View, Sight, Read, Saw, Held, Lent, owes, reading, taking, writing, idling, sending, unsending, counting, looking, lending, enlisting, refusing, draining, blank, claim_alone, without_claim, taking_over}
 use Rattle.mb_gate.specs.Rule.{Word, Status, Flag, Gate, Waiting, word_offset, Shelf, CellShelf, ListShelf, slot_offset, Ghost, Extends, IsSo, Knows, has_work, is_some_item, gate_word, IsHome, Shelving, IsShelved, IsLent, Fact}
-use Rattle.mb_gate.specs.Plays.{IsBefore, GoesOn, IsWord, StaysClosed, shows_work, Reads, Writes, Sends, Unsends, Stays, Counts, Looks, Gripped, Grips, Enlists, Refuses, Unloads, Won, Schedules, Idles}
-use Rattle.mb_gate.proofs.StatusSteps.{reads, is_home, schedules, writes, idles, idles_closed}
+use Rattle.mb_gate.specs.Plays.{IsBefore, GoesOn, IsWord, StaysClosed, shows_work, Reads, Writes, Sends, Unsends, Stays, Counts, Looks, Gripped, Grips, Enlists, Refuses, Drains, Ends, IsEmpty, Glances, Won, Schedules, Idles}
+use Rattle.mb_gate.proofs.StatusSteps.{reads, is_home, is_held, schedules, writes, idles, idles_closed}
 use Rattle.mb_gate.proofs.WaitingSteps.{sends, unsends, takes_one, counts, looks, glances}
 use Rattle.mb_gate.proofs.ListSteps.{is_shelved, grips, enlists, unloads, refuses, gate_even}
 use Rattle.mb_gate.proofs.Parting.{parts, takes_over}
@@ -93,6 +93,24 @@ end_mark false true false false e = absurd (cc)
 end_mark false false false true e = absurd (cc)
 end_mark false false false false e = absurd (cc)
 
+no_marks : (a b c d : Bool) → ((if d then 1 else 0) + (if a then 2 else 0) + (if b then 4 else 0) + (if c then 8 else 0)) % 8 ≡ 0 → (a ≡ false) × (b ≡ false)
+no_marks true true true true e = absurd (cc)
+no_marks true true false true e = absurd (cc)
+no_marks true false true true e = absurd (cc)
+no_marks true false false true e = absurd (cc)
+no_marks false true true true e = absurd (cc)
+no_marks false true false true e = absurd (cc)
+no_marks false false true true e = absurd (cc)
+no_marks false false false true e = absurd (cc)
+no_marks true true true false e = absurd (cc)
+no_marks true true false false e = absurd (cc)
+no_marks true false true false e = absurd (cc)
+no_marks true false false false e = absurd (cc)
+no_marks false true true false e = absurd (cc)
+no_marks false true false false e = absurd (cc)
+no_marks false false true false e = (refl, refl)
+no_marks false false false false e = (refl, refl)
+
 -- a gate's word shows whether there is system work, also while the list is out
 pub marked : (out : Bool) (l : MessageList) (gave : Bool) → shows_work (gate_word out l gave) ≡ (is_some_item l.messages || gave)
 marked out l gave = marks (is_some_item l.messages) gave l.closed out
@@ -125,6 +143,10 @@ module _ {H : Type 0} (is_of : ℕ → H → Type 0) (journal : H → List Entry
   ends_by : (x : Place) (keeper : Option (ℕ × Lent)) → Shelving is_of journal mailbox rested x keeper → x.row Gate / 8 % 2 ≡ 1 → IsTrue x.ghost.listed.closed
   ends_by x None k e = end_mark (is_some_item x.ghost.listed.messages) x.ghost.gave x.ghost.listed.closed false (ap (λ z. z / 8 % 2) (sym k.word) ∙ e)
   ends_by x (Some h) k e = end_mark (is_some_item x.ghost.listed.messages) x.ghost.gave x.ghost.listed.closed true (ap (λ z. z / 8 % 2) (sym k.word) ∙ e)
+
+  gave_by : (x : Place) (keeper : Option (ℕ × Lent)) → Shelving is_of journal mailbox rested x keeper → x.row Gate % 8 ≡ 0 → (is_some_item x.ghost.listed.messages ≡ false) × (x.ghost.gave ≡ false)
+  gave_by x None k e = no_marks (is_some_item x.ghost.listed.messages) x.ghost.gave x.ghost.listed.closed false (ap (λ z. z % 8) (sym k.word) ∙ e)
+  gave_by x (Some h) k e = no_marks (is_some_item x.ghost.listed.messages) x.ghost.gave x.ghost.listed.closed true (ap (λ z. z % 8) (sym k.word) ∙ e)
 
   module _ (n slots id : ℕ) (me : M) (actor i : ℕ) (inside : actor < n) where
     told_read : (x : Place) (vs : List View) → F actor x vs → get_elem? vs id ≡ some me.0 → (a : ℕ) → word_at actor 0 ≡ word_at a 0
@@ -248,12 +270,32 @@ module _ {H : Type 0} (is_of : ℕ → H → Type 0) (journal : H → List Entry
         (λ x vs f at fits. enlists is_of journal mailbox rested actor id new me l m (Enlists (step slots (word_at actor 2) new 0 none) me new) x vs f at has of carried word
           (told_enlist l m (step slots (word_at actor 2) new 0 none) new has of carried)))
 
-    pub unloads_allowed : (gave : Bool) (c : Held) (l : Lent) (list : MessageList) (new : ℕ) → i ≡ word_at actor 2 → me.0.claim ≡ Some c → c.actor ≡ actor → me.0.list ≡ Some l → l.actor ≡ actor
-        → me.1 ≡ (slot_at actor 1, Listing list) ∷ tail_of me.1 → new ≡ gate_word false list gave → list.messages ≡ [] → (IsTrue l.listed.closed → IsTrue list.closed) → (IsTrue list.closed → IsTrue l.listed.closed ⊎ (c.word ≡ 1))
-        → Allows (Rule n) slots id me i (λ _. new) (λ _. Unloads gave (step slots i new 0 none) me new)
-    unloads_allowed gave c l list new e has of keeps of_list carried word empty still closed = subst (λ j. Allows (Rule n) slots id me j (λ _. new) (λ _. Unloads gave (step slots j new 0 none) me new)) (sym e)
-        (allows word_offset slot_offset words_few slots_few n F slots id me actor Gate (λ _. new) (λ _. Unloads gave (step slots (word_at actor 2) new 0 none) me new) inside
-        (λ x vs f at fits. unloads is_of journal mailbox rested actor id new me c l list gave (Unloads gave (step slots (word_at actor 2) new 0 none) me new) x vs f at has of keeps of_list carried word empty still closed refl))
+    pub drains_allowed : (c : Held) (l : Lent) (new : ℕ) → i ≡ word_at actor 2 → me.0.claim ≡ Some c → c.actor ≡ actor → me.0.list ≡ Some l → l.actor ≡ actor
+        → me.1 ≡ (slot_at actor 1, Listing (drained l.listed)) ∷ tail_of me.1 → new ≡ gate_word false (drained l.listed) (is_some_item l.listed.messages)
+        → Allows (Rule n) slots id me i (λ _. new) (λ _. Drains (step slots i new 0 none) me new)
+    drains_allowed c l new e has of keeps of_list carried word = subst (λ j. Allows (Rule n) slots id me j (λ _. new) (λ _. Drains (step slots j new 0 none) me new)) (sym e)
+        (allows word_offset slot_offset words_few slots_few n F slots id me actor Gate (λ _. new) (λ _. Drains (step slots (word_at actor 2) new 0 none) me new) inside
+        (λ x vs f at fits. unloads is_of journal mailbox rested actor id new me c l (drained l.listed) (listed l.listed) (is_some_item l.listed.messages) (Drains (step slots (word_at actor 2) new 0 none) me new) x vs f at
+          has of keeps of_list carried word refl (λ e. e) (λ e. inl e)
+          (λ l' has' z. (draining (listed (some_same l l' (sym keeps ∙ has') z).listed) (is_some_item (some_same l l' (sym keeps ∙ has') z).listed.messages) me.0, tail_of me.1))))
+
+    pub ends_allowed : (c : Held) (l : Lent) (new : ℕ) → i ≡ word_at actor 2 → me.0.claim ≡ Some c → c.actor ≡ actor → me.0.list ≡ Some l → l.actor ≡ actor
+        → me.1 ≡ (slot_at actor 1, Listing (ended l.listed)) ∷ tail_of me.1 → new ≡ gate_word false (ended l.listed) l.gave → c.word ≡ 1
+        → Allows (Rule n) slots id me i (λ _. new) (λ _. Ends (step slots i new 0 none) me new)
+    ends_allowed c l new e has of keeps of_list carried word closed = subst (λ j. Allows (Rule n) slots id me j (λ _. new) (λ _. Ends (step slots j new 0 none) me new)) (sym e)
+        (allows word_offset slot_offset words_few slots_few n F slots id me actor Gate (λ _. new) (λ _. Ends (step slots (word_at actor 2) new 0 none) me new) inside
+        (λ x vs f at fits. unloads is_of journal mailbox rested actor id new me c l (ended l.listed) (listed l.listed) l.gave (Ends (step slots (word_at actor 2) new 0 none) me new) x vs f at
+          has of keeps of_list carried word refl (λ e. refl) (λ e. inr closed)
+          (λ l' has' z. (draining (listed (some_same l l' (sym keeps ∙ has') z).listed) (some_same l l' (sym keeps ∙ has') z).gave me.0, tail_of me.1))))
+
+    told_glance : (x : Place) (vs : List View) → F actor x vs → get_elem? vs id ≡ some me.0 → (a : ℕ) → word_at actor 2 ≡ word_at a 2 → IsEmpty a (x.row Gate) me.0
+    told_glance x vs f at a w = subst (λ b. IsEmpty b (x.row Gate) me.0) (same_actor actor a 2 w)
+        (λ empty c has of. (is_held is_of journal mailbox rested actor id x vs me.0 c f at has of).1.gave ∙ (gave_by x x.ghost.keeper f.shelf empty).1)
+
+    pub glances_allowed : i ≡ word_at actor 2 → Allows (Rule n) slots id me i (λ k. k) (Glances (step slots i 0 0 none) me)
+    glances_allowed e = subst (λ j. Allows (Rule n) slots id me j (λ k. k) (Glances (step slots j 0 0 none) me)) (sym e)
+        (allows word_offset slot_offset words_few slots_few n F slots id me actor Gate (λ k. k) (Glances (step slots (word_at actor 2) 0 0 none) me) inside
+        (λ x vs f at fits. glances is_of journal mailbox rested actor id Gate me (Glances (step slots (word_at actor 2) 0 0 none) me (x.row Gate)) x vs f at (refl, told_glance x vs f at)))
 
     pub refuses_allowed : (old : ℕ) (m : SysMsg) → i ≡ word_at actor 2 → old / 8 % 2 ≡ 1 → Allows (Rule n) slots id me i (λ k. either (k == old) old k) (Refuses (step slots i old old (some (Note m))) me)
     refuses_allowed old m e shut = subst (λ j. Allows (Rule n) slots id me j (λ k. either (k == old) old k) (Refuses (step slots j old old (some (Note m))) me)) (sym e)
@@ -266,6 +308,7 @@ module _ {H : Type 0} (is_of : ℕ → H → Type 0) (journal : H → List Entry
                 ((λ _ z. (refusing (who z) (what z) me.0, me.1)), (λ miss. absurd (miss hit))))))
           (λ miss. glances is_of journal mailbox rested actor id Gate me tell x vs f at (λ a m' w said. ((λ hit. absurd (miss hit)), (λ _. refl))))))
 
+  module _ (n id : ℕ) where
     -- a view is copied for a seat more
     pub copies_allowed : (v : View) → v.claim ≡ None → v.list ≡ None → Splits (Rule n) id v v v
     copies_allowed v bare no_list = splits word_offset slot_offset words_few slots_few n F id v v v (parts is_of journal mailbox rested id v v v refl bare no_list no_list no_list refl refl refl (λ a x k. k))

@@ -145,17 +145,17 @@ module _ {H : Type 0} (is_of : ℕ → H → Type 0) (journal : H → List Entry
       }
 
   -- the holder gives back the list, to which it did this
-  pub unloads : (actor id n : ℕ) (me : M) (c : Held) (l : Lent) (new : MessageList) (gave : Bool) (tell : M → Type 0) (x : Place) (vs : List View) → F actor x vs → get_elem? vs id ≡ some me.0
+  pub unloads : (actor id n : ℕ) (me : M) (c : Held) (l : Lent) (new : MessageList) (given : List (ℕ × SysMsg)) (gave : Bool) (tell : M → Type 0) (x : Place) (vs : List View) → F actor x vs → get_elem? vs id ≡ some me.0
       → me.0.claim ≡ Some c → c.actor ≡ actor → me.0.list ≡ Some l → l.actor ≡ actor → me.1 ≡ (slot_at actor 1, Listing new) ∷ tail_of me.1 → n ≡ gate_word false new gave
       → new.messages ≡ [] → (IsTrue l.listed.closed → IsTrue new.closed) → (IsTrue new.closed → IsTrue l.listed.closed ⊎ (c.word ≡ 1))
-      → tell (draining gave me.0, tail_of me.1) → Goes word_offset slot_offset F actor id me Gate n tell x vs
-  unloads actor id n me c l new gave tell x vs f at has of keeps of_list carried word empty stays_closed closed told =
+      → tell (draining given gave me.0, tail_of me.1) → Goes word_offset slot_offset F actor id me Gate n tell x vs
+  unloads actor id n me c l new given gave tell x vs f at has of keeps of_list carried word empty stays_closed closed told =
       let v = me.0 in
       let h = is_held is_of journal mailbox rested actor id x vs v c f at has of in
       let k = is_lent actor id x vs v l f at keeps of_list in
-      let w = draining gave v in
+      let w = draining given gave v in
       let still : IsTrue x.ghost.listed.closed → IsTrue new.closed = (λ e. stays_closed (ap (λ (z : MessageList). z.closed) k.1.taken ∙ e)) in
-      let c' : Held = record c { gave = gave } in
+      let c' : Held = record c { gave = gave; drained = c.drained ++ given } in
       let g : Ghost = record x.ghost { holder = Some (id, c'); keeper = None; listed = new; gave = gave } in
       let y : Place = record { row = write word_offset x.row Gate n; slot = fill slot_offset x.slot ListShelf (some (Listing new)); ghost = g } in record {
         view = w;
@@ -164,7 +164,7 @@ module _ {H : Type 0} (is_of : ℕ → H → Type 0) (journal : H → List Entry
         able = (tail_of me.1, carried);
         here = record {
           valid = f.valid;
-          claims = turns_over (claim_for actor) vs id v w c c' at (ap (λ z. held_of actor (regiven gave z)) has ∙ held_here actor c' of) (subst (λ o. Locked (claim_for actor) o vs) h.0 f.claims);
+          claims = turns_over (claim_for actor) vs id v w c c' at (ap (λ z. held_of actor (regiven given gave z)) has ∙ held_here actor c' of) (subst (λ o. Locked (claim_for actor) o vs) h.0 f.claims);
           cell = record { own = of; taken = h.1.taken; gave = refl; word = h.1.word; busy = h.1.busy; flag = h.1.flag };
           lists = puts_back (list_for actor) vs id v w l at refl (subst (λ o. Locked (list_for actor) o vs) k.0 f.lists);
           shelf = record { there = refl; word = word };
@@ -176,7 +176,7 @@ module _ {H : Type 0} (is_of : ℕ → H → Type 0) (journal : H → List Entry
               learns (Knows actor x) (Knows actor y) vs id w (λ u. goes_on actor x y u (λ one. one) (extends_self x.ghost.journal) (ended_told actor x y still refl)) (record { seen = k.seen; said = k.said }) f.seen;
         };
         others = λ a i z s. elsewhere is_of journal mailbox rested a z vs id v w at (record {
-          claim = ap (λ z. held_of a (regiven gave z)) has ∙ (held_else a c' (λ e. i (sym e ∙ of)) ∙ sym (ap (held_of a) has ∙ held_else a c (λ e. i (sym e ∙ of))));
+          claim = ap (λ z. held_of a (regiven given gave z)) has ∙ (held_else a c' (λ e. i (sym e ∙ of)) ∙ sym (ap (held_of a) has ∙ held_else a c (λ e. i (sym e ∙ of))));
           list = sym (ap (lent_of a) keeps ∙ lent_else a l (λ e. i (sym e ∙ of_list)));
           debt = refl;
           knows = λ _ t. record { seen = t.seen; said = t.said };

@@ -72,7 +72,7 @@ module _ {H : Type 0} (is_of : ℕ → H → Type 0) (journal : H → List Entry
   schedules actor id me old tell x vs f at free is bare told =
       let v = me.0 in
       let h = is_home actor x vs f free in
-      let c : Held = record { actor = actor; journal = x.ghost.journal; word = old + 2; gave = x.ghost.gave } in
+      let c : Held = record { actor = actor; journal = x.ghost.journal; word = old + 2; gave = x.ghost.gave; drained = [] } in
       let w = taking actor x.ghost.journal old x.ghost.gave v in
       let y : Place = record { row = write word_offset x.row Status (old + 2); slot = fill slot_offset x.slot CellShelf none; ghost = record x.ghost { holder = Some (id, c) } } in record {
         view = w;

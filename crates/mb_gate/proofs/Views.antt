@@ -9,7 +9,7 @@ use Rattle.mb_rule.specs.Layout.{Spot}
 use Rattle.mb_rule.specs.Seen.{Each}
 use Rattle.mb_rule.proofs.SeenLemmas.{each_weaker, each_append}
 use Rattle.mb_gate.specs.declared.slot.Slot.{Slot}
-use Rattle.mb_gate.specs.View.{View, Sight, Read, Saw, Held, Lent, Said, debt_of, owes, owing, reading, taking, rewritten, writing, idling, sending, unsending, counting, blank, either_owes, added_debts, taking_over}
+use Rattle.mb_gate.specs.View.{View, Sight, Read, Saw, Held, Lent, Said, debt_of, owes, owing, reading, taking, rewritten, writing, idling, sending, unsending, counting, looking, blank, either_owes, added_debts, taking_over}
 use Rattle.mb_gate.specs.Rule.{Word, Shelf, Ghost, Status, held_of, lent_of, claim_for, list_for, Extends, IsSo, IsTold, Knows}
 
 pub held_here : (actor : ℕ) (c : Held) → c.actor ≡ actor → held_of actor (Some c) ≡ Some c
@@ -58,7 +58,7 @@ module _ {H : Type 0} where
 
   pub taking_elsewhere : (actor other word : ℕ) (j : List Entry) (gave : Bool) (v : View) → other ≢ actor → v.claim ≡ None → Elsewhere H other v (taking actor j word gave v)
   taking_elsewhere actor other word j gave v n bare = record {
-    claim = held_else other (record { actor = actor; journal = j; word = word + 2; gave = gave }) (λ e. n (sym e)) ∙ sym (ap (held_of other) bare);
+    claim = held_else other (record { actor = actor; journal = j; word = word + 2; gave = gave; drained = [] }) (λ e. n (sym e)) ∙ sym (ap (held_of other) bare);
     list = refl;
     debt = owes_else actor other nothing v n;
     knows = λ x k. record { seen = k.seen; said = k.said };
@@ -88,3 +88,15 @@ module _ {H : Type 0} where
         (λ s. elim s as (λ z. IsSo actor x z → IsSo actor y z) [ Read a word ↦ (λ h e one. closed (h e one)) | Saw a j ↦ (λ h e. extends_more y.ghost.journal x.ghost.journal j longer (h e)) ]) k.seen;
     said = each_weaker (IsTold actor x) (IsTold actor y) v.said told k.said;
   }
+
+chosen_rest : (b : Bool) (v w : View) → (w.claim ≡ v.claim) × (w.list ≡ v.list) → (let u = if b then w else v in (u.claim ≡ v.claim) × (u.list ≡ v.list))
+chosen_rest true v w e = e
+chosen_rest false v w e = (refl, refl)
+
+-- a look at the waiting number or the list's gate leaves the claim and the list
+pub counting_rest : (actor n : ℕ) (v : View) → ((counting actor n v).claim ≡ v.claim) × ((counting actor n v).list ≡ v.list)
+counting_rest actor n v = chosen_rest (n == 0) v (owing actor (record (owes actor v) { message = false }) v) (refl, refl)
+
+pub looking_rest : (actor : ℕ) (b : Bool) (v : View) → ((looking actor b v).claim ≡ v.claim) × ((looking actor b v).list ≡ v.list)
+looking_rest actor true v = (refl, refl)
+looking_rest actor false v = (refl, refl)

@@ -3,3 +3,4 @@ pub mod Claims
 pub mod Rule
 pub mod Plays
 pub mod Names
+pub mod Tries

@@ -2,6 +2,7 @@
 use Rattle.std.specs.Prelude.{◌≡◌, ℕ, Bool, List, Option, Some, None}
 use Rattle.atomic_table.specs.Seated.{TableId}
 use Rattle.mb_status.specs.Mailbox.{Mailbox}
+use Rattle.mb_msg.specs.declared.system.SysMsg.{SysMsg}
 use Rattle.mb_journal.specs.Entry.{Entry}
 use Rattle.mb_gate.specs.declared.gates.Gates.{Gates}
 use Rattle.mb_gate.specs.declared.pass.Pass.{Pass}
@@ -43,3 +44,7 @@ module _ {H : Type 0} where
 
   abbrev pub gave_last : Claim H → Bool
   gave_last claim = (held_in claim.seat.me.0).gave
+
+  -- what was drained since the claim was taken, with the numbers
+  abbrev pub drained_by : Claim H → List (ℕ × SysMsg)
+  drained_by claim = (held_in claim.seat.me.0).drained

@@ -1,18 +1,18 @@
 -- What each step of the gates tells the seat that makes it. A step does not know its actor, so it is told of it by the word's place.
-use Rattle.std.specs.Prelude.{◌≡◌, ◌≢◌, ℕ, ◌+◌, ◌/◌, ◌%◌, ◌==◌, Bool, true, false, not, IsTrue, IsFalse, List, [], ◌∷◌, Option, Some, None}
+use Rattle.std.specs.Prelude.{◌≡◌, ◌≢◌, ℕ, ◌+◌, ◌/◌, ◌%◌, ◌==◌, Bool, true, false, not, IsTrue,  List, [], ◌∷◌, Option, Some, None}
 use mathlib.Core.Option as maybe
 use mathlib.Core.Option.{some}
 use Rattle.atomic_table.specs.Table.{Me, Step, rest}
 use Rattle.mb_status.specs.Mailbox.{Mailbox, word_of, is_valid}
 use Rattle.mb_msg.specs.declared.system.SysMsg.{SysMsg}
-use Rattle.mb_syslist.specs.MessageList.{MessageList, with_last}
+use Rattle.mb_syslist.specs.MessageList.{MessageList, with_last, listed}
 use Rattle.mb_journal.specs.Entry.{Entry}
 use Rattle.mb_rule.specs.Layout.{word_at, slot_at}
 use Rattle.mb_rule.specs.Seen.{Each}
 use Rattle.mb_gate.specs.declared.slot.Slot.{Slot}
 use Rattle.mb_gate.specs.declared.slot.Slot.TheVariants.{Home, List as Listing, Note}
 use Rattle.mb_gate.specs.View.{View, Sight, Read, Saw, Held, Lent, reading, taking, writing, idling, sending, unsending, counting, looking, lending, enlisting, refusing, draining}
-use Rattle.mb_gate.specs.Rule.{Extends, gate_word}
+use Rattle.mb_gate.specs.Rule.{Extends, is_some_item, gate_word}
 
 -- this sight allows that the actor is taken with this journal: it was not seen closed, and the journal goes on from each that was seen
 abbrev pub IsBefore : ℕ → List Entry → Sight → Type 0
@@ -34,6 +34,10 @@ StaysClosed actor word v = Each (IsWord actor word) v.log
 -- there is system work, by the word of the list's gate
 abbrev pub shows_work : ℕ → Bool
 shows_work word = not (word / 2 % 4 == 0)
+
+-- The holder finds nothing listed, and that the last drain gave nothing.
+abbrev pub IsEmpty : ℕ → ℕ → View → Type 0
+IsEmpty actor found v = found % 8 ≡ 0 → (c : Held) → v.claim ≡ Some c → c.actor ≡ actor → c.gave ≡ false
 
 module _ {H : Type 0} where
   -- a status word was read
@@ -80,9 +84,17 @@ module _ {H : Type 0} where
   Refuses st m found m' = (actor : ℕ) (message : SysMsg) → st.word ≡ word_at actor 2 → st.said ≡ some (Note message)
       → (found ≡ st.first → m' ≡ (refusing actor message m.0, m.1)) × (found ≢ st.first → m' ≡ m)
 
-  -- the list was given back by the holder
-  abbrev pub Unloads : Bool → Step (Slot H) → Me (Slot H) View → ℕ → Me (Slot H) View → Type 0
-  Unloads gave st m n m' = m' ≡ (draining gave m.0, rest m.1)
+  -- all that was listed was taken out
+  abbrev pub Drains : Step (Slot H) → Me (Slot H) View → ℕ → Me (Slot H) View → Type 0
+  Drains st m n m' = (l : Lent) → m.0.list ≡ Some l → m' ≡ (draining (listed l.listed) (is_some_item l.listed.messages) m.0, rest m.1)
+
+  -- and the list was ended
+  abbrev pub Ends : Step (Slot H) → Me (Slot H) View → ℕ → Me (Slot H) View → Type 0
+  Ends st m n m' = (l : Lent) → m.0.list ≡ Some l → m' ≡ (draining (listed l.listed) l.gave m.0, rest m.1)
+
+  -- the gate's word was read by the holder
+  abbrev pub Glances : Step (Slot H) → Me (Slot H) View → ℕ → Me (Slot H) View → Type 0
+  Glances st m found m' = (m' ≡ m) × ((actor : ℕ) → st.word ≡ word_at actor 2 → IsEmpty actor found m.0)
 
 module _ {H : Type 0} (is_of : ℕ → H → Type 0) (journal : H → List Entry) (mailbox : H → Mailbox) (rested : H → Type 0) where
   -- The actor was scheduled by an exchange that found this word, and its cell was taken: it is the actor's own, its journal goes on

@@ -14,13 +14,14 @@ pub data Sight : Type 0 where
   Read : ℕ → ℕ → Sight
   Saw : ℕ → List Entry → Sight
 
--- a claim: its actor, the journal with which it was taken, the status word as it knows it, and whether the actor's last drain gave
--- something
+-- a claim: its actor, the journal with which it was taken, the status word as it knows it, whether the actor's last drain gave
+-- something, and all that was drained since it was taken, with the numbers
 pub record Held : Type 0 where
   pub actor : ℕ
   pub journal : List Entry
   pub word : ℕ
   pub gave : Bool
+  pub drained : List (ℕ × SysMsg)
 
 -- a list that is out: its actor, what was listed when it was taken, and whether the last drain gave something
 pub record Lent : Type 0 where
@@ -66,7 +67,7 @@ reading actor word v = owing actor (after_reading (mailbox_of word) (owes actor 
 -- the actor was scheduled, by an exchange that found this word, and its cell was taken
 abbrev pub taking : ℕ → List Entry → ℕ → Bool → View → View
 taking actor journal word gave v =
-    owing actor nothing (record v { claim = Some (record { actor = actor; journal = journal; word = word + 2; gave = gave }) })
+    owing actor nothing (record v { claim = Some (record { actor = actor; journal = journal; word = word + 2; gave = gave; drained = [] }) })
 
 -- the claim in a view of its own, and the view without it
 abbrev pub claim_alone : View → View
@@ -133,11 +134,11 @@ enlisting actor message v =
 abbrev pub refusing : ℕ → SysMsg → View → View
 refusing actor message v = record v { said = record { to = actor; message = message; was_ended = true } ∷ v.said }
 
--- the claim, which knows that the last drain gave something, or nothing
-abbrev pub regiven : Bool → Option Held → Option Held
-regiven gave None = None
-regiven gave (Some c) = Some (record c { gave = gave })
+-- the claim, to which this was given, and which knows that the last drain gave something, or nothing
+abbrev pub regiven : List (ℕ × SysMsg) → Bool → Option Held → Option Held
+regiven given gave None = None
+regiven given gave (Some c) = Some (record c { gave = gave; drained = c.drained ++ given })
 
--- the holder gave the list back, of which the last drain gave something, or nothing
-abbrev pub draining : Bool → View → View
-draining gave v = record v { list = None; claim = regiven gave v.claim }
+-- the holder gave the list back, without what it took out of it
+abbrev pub draining : List (ℕ × SysMsg) → Bool → View → View
+draining given gave v = record v { list = None; claim = regiven given gave v.claim }

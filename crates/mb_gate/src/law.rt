@@ -1,13 +1,12 @@
-ghost use Rattle.std.specs.Prelude.{true, false};
 ghost use Rattle.mb_rule.specs.Ruled.{Ruled};
-ghost use Rattle.mb_gate.specs.View.{blank};
+ghost use Rattle.mb_gate.specs.View.{blank, claim_alone, without_claim, taking_over};
 ghost use Rattle.mb_gate.specs.Rule.{word_offset, slot_offset, Fact};
-ghost use Rattle.mb_gate.specs.Plays.{Reads, Writes, Sends, Unsends, Stays, Counts, Looks, Grips, Enlists, Refuses, Unloads, Schedules, Idles};
+ghost use Rattle.mb_gate.specs.Plays.{Reads, Writes, Sends, Unsends, Stays, Counts, Looks, Grips, Enlists, Refuses, Drains, Ends, Glances, Schedules, Idles};
 
 use crate::resident::Resident;
 use crate::slot::Slot;
 use crate::view::Knowledge;
-use atomic_table::{Play, TableRule};
+use atomic_table::{Join, Play, Split, TableRule};
 use std::marker::PhantomData;
 
 /// The rule of the gates' table. Its key is the number of actors.
@@ -93,16 +92,47 @@ impl<H> Play<Slot<H>, Knowledge> for Refuse {
     ghost then = { Refuses };
 }
 
-/// The last drain gave something.
-pub struct UnloadSome;
+pub struct Drain;
 
-impl<H> Play<Slot<H>, Knowledge> for UnloadSome {
-    ghost then = { Unloads true };
+impl<H> Play<Slot<H>, Knowledge> for Drain {
+    ghost then = { Drains };
 }
 
-/// It gave nothing.
-pub struct UnloadNone;
+pub struct End;
 
-impl<H> Play<Slot<H>, Knowledge> for UnloadNone {
-    ghost then = { Unloads false };
+impl<H> Play<Slot<H>, Knowledge> for End {
+    ghost then = { Ends };
+}
+
+pub struct Glance;
+
+impl<H> Play<Slot<H>, Knowledge> for Glance {
+    ghost then = { Glances };
+}
+
+/// The claim's seat has the claim alone, and the pass's all else.
+pub struct Part;
+
+impl Split<Knowledge> for Part {
+    ghost left = { claim_alone };
+
+    ghost right = { without_claim };
+}
+
+/// Each knows and owes what the one did.
+pub struct Twin;
+
+impl Split<Knowledge> for Twin {
+    ghost left = { λ v. v };
+
+    ghost right = { λ v. v };
+}
+
+/// A pass takes over what another seat has seen and what it owes.
+pub struct TakeOver;
+
+impl Join<Knowledge> for TakeOver {
+    ghost both = { taking_over };
+
+    ghost spent = { blank };
 }

@@ -5,9 +5,13 @@
 mod claim;
 mod gates;
 mod law;
+mod layout;
 mod pass;
+mod passes;
 mod reading;
 mod resident;
+mod schedule;
+mod sending;
 mod slot;
 mod view;
 
@@ -15,3 +19,4 @@ pub use claim::Claim;
 pub use gates::Gates;
 pub use pass::Pass;
 pub use resident::Resident;
+pub use schedule::Tried;
