@@ -6,3 +6,4 @@ pub mod WaitingSteps
 pub mod Parting
 pub mod ListSteps
 pub mod Allowed
+pub mod Wins
