@@ -1,6 +1,7 @@
 -- What a won exchange of a status word gives.
-use Rattle.std.proofs.Common.{◌≡◌, ◌≢◌, ℕ, ◌+◌, ◌*◌, ◌%◌, ◌==◌, if◌then◌else◌, ◌⊎◌, inl, inr, Bool, true, false, not, ◌&&◌, ◌||◌, IsTrue, List, [], ◌∷◌, sym, refl, ap, ◌∙◌, subst, Option, Some, None, arith}
+use Rattle.std.proofs.Common.{◌≡◌, ◌≢◌, ℕ, ◌+◌, ◌*◌, ◌%◌, ◌==◌, if◌then◌else◌, ◌⊎◌, inl, inr, Bool, true, false, not, ◌&&◌, ◌||◌, nat_le, IsTrue, List, [], ◌∷◌, sym, refl, ap, ◌∙◌, subst, Option, Some, None, arith}
 use Rattle.std.proofs.lemmas.Bool.Decides.{nat_tests}
+use Rattle.std.proofs.lemmas.Bool.{eqb-true}
 use Rattle.atomic_table.specs.Table.{Me}
 use Rattle.mb_status.specs.Mailbox.{Mailbox, word_of, is_valid, is_possible, most_suspensions, suspend, resume, idle, the_closed}
 use Rattle.mb_journal.specs.Entry.{Entry}
@@ -65,3 +66,70 @@ module _ {H : Type 0} (is_of : ℕ → H → Type 0) (journal : H → List Entry
         known = all ∙ (λ i. claimed actor (journal (same i)) (word i) (sym gave i));
         pass = rest ∙ (ap (λ (z : Me (Slot H) View). without_claim z.0) w.now ∙ (λ i. record (owing actor nothing m.0) { claim = sym bare i }));
       }
+
+-- the word of a possible mailbox is valid
+pub valid_word : (m : Mailbox) → IsTrue (is_possible m) → IsTrue (is_valid (word_of m))
+valid_word m p = cases m.closed m.scheduled p
+  where
+    cases : (c s : Bool) → IsTrue (if c then not s && m.count == 0 else nat_le m.count most_suspensions) → IsTrue (is_valid (if c then 1 else 4 * m.count + (if s then 2 else 0)))
+    cases true s q = refl
+    cases false true q = grind (arith, nat_tests)
+    cases false false q = grind (arith, nat_tests)
+
+busy_parts : (n : ℕ) (s : Bool) → is_busy (4 * n + (if s then 2 else 0)) ≡ true → s ≡ true
+busy_parts n true b = refl
+busy_parts n false b = absurd (grind (arith, nat_tests))
+
+-- a busy mailbox is closed or scheduled
+busy_open : (m : Mailbox) → m.closed ≡ false → is_busy (word_of m) ≡ true → m.scheduled ≡ true
+busy_open m e b = busy_parts m.count m.scheduled (ap is_busy (sym (open_word m e)) ∙ b)
+
+scheduled_busy : (n : ℕ) → is_busy (4 * n + 2) ≡ true
+scheduled_busy n = grind (arith, nat_tests)
+
+open_busy : (m : Mailbox) → m.closed ≡ false → m.scheduled ≡ true → is_busy (word_of m) ≡ true
+open_busy m e s = ap is_busy (open_word m e ∙ ap (λ b. 4 * m.count + (if b then 2 else 0)) s) ∙ scheduled_busy m.count
+
+-- which stays so once suspended, and once resumed
+pub suspend_busy : (m n : Mailbox) → n ≡ suspend m → is_busy (word_of m) ≡ true → is_busy (word_of n) ≡ true
+suspend_busy m n e b = ap (λ k. is_busy (word_of k)) e ∙ cases m.closed refl
+  where
+    cases : (c : Bool) → m.closed ≡ c → is_busy (word_of (if c then m else record m { count = m.count + 1 })) ≡ true
+    cases true is = b
+    cases false is = open_busy (record m { count = m.count + 1 }) is (busy_open m is b)
+
+pub resume_busy : (m n : Mailbox) → n ≡ resume m → is_busy (word_of m) ≡ true → is_busy (word_of n) ≡ true
+resume_busy m n e b = ap (λ k. is_busy (word_of k)) e ∙ cases m.closed refl
+  where
+    cases : (c : Bool) → m.closed ≡ c → is_busy (word_of (resume m)) ≡ true
+    cases true is = ap is_busy (closed_word (resume m) is)
+    cases false is = open_busy (resume m) is (busy_open m is b)
+
+pub suspend_closed : (m n : Mailbox) → n ≡ suspend m → m.closed ≡ true → word_of n ≡ 1
+suspend_closed m n e c = ap word_of e ∙ (ap (λ b. word_of (if b then m else record m { count = m.count + 1 })) c ∙ closed_word m c)
+
+pub resume_closed : (m n : Mailbox) → n ≡ resume m → m.closed ≡ true → word_of n ≡ 1
+resume_closed m n e c = ap word_of e ∙ closed_word (resume m) c
+
+one_parts : (n : ℕ) (c s : Bool) → (if c then 1 else 4 * n + (if s then 2 else 0)) ≡ 1 → c ≡ true
+one_parts n true s e = refl
+one_parts n false true e = absurd (omega arith)
+one_parts n false false e = absurd (omega arith)
+
+-- only a closed mailbox has the word 1
+pub one_closed : (m : Mailbox) → word_of m ≡ 1 → m.closed ≡ true
+one_closed m e = one_parts m.count m.closed m.scheduled e
+
+mod_parts : (n : ℕ) → is_busy n ≡ true → (n % 4 ≡ 2) ⊎ (n ≡ 1)
+mod_parts n b = cases (n % 4 == 2) refl
+  where
+    cases : (c : Bool) → (n % 4 == 2) ≡ c → (n % 4 ≡ 2) ⊎ (n ≡ 1)
+    cases true is = inl (eqb-true (n % 4) 2 is)
+    cases false is = inr (eqb-true n 1 (ap (λ d. d || n == 1) (sym is) ∙ b))
+
+pub busy_word : (n : ℕ) → is_busy n ≡ true → (n % 4 ≡ 2) ⊎ (n ≡ 1)
+busy_word = mod_parts
+
+-- the word of an open mailbox that is idle again
+pub idle_free : (m : Mailbox) → m.closed ≡ false → word_of (idle m) % 4 ≡ 0
+idle_free m e = free_mod (idle m) (record { open_yet = e; free = refl })

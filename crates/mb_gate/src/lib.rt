@@ -4,6 +4,7 @@
 
 mod claim;
 mod gates;
+mod holding;
 mod law;
 mod layout;
 mod pass;
