@@ -7,3 +7,5 @@ pub mod Parting
 pub mod ListSteps
 pub mod Allowed
 pub mod Wins
+pub mod Rows
+pub mod Starting

@@ -4,3 +4,4 @@ pub mod Rule
 pub mod Plays
 pub mod Names
 pub mod Tries
+pub mod Starts

@@ -8,6 +8,7 @@ use atomic_table::Table;
 use std::alloc::Global;
 
 /// The status words, cells at home, waiting counts and list gates of some actors. Threads share it.
+#[derive(Drop)]
 pub struct Gates<H: Resident> {
     pub(crate) table: Table<Slot<H>, Knowledge, usize, Law<H>, Global>,
     pub(crate) actors: usize,

@@ -7,6 +7,7 @@ mod gates;
 mod holding;
 mod law;
 mod layout;
+mod new;
 mod pass;
 mod passes;
 mod reading;
@@ -18,6 +19,7 @@ mod view;
 
 pub use claim::Claim;
 pub use gates::Gates;
+pub use new::NoGates;
 pub use pass::Pass;
 pub use resident::Resident;
 pub use schedule::Tried;

@@ -2,6 +2,7 @@ use mb_msg::SysMsg;
 use mb_syslist::SysList;
 
 /// What lies in a slot of the table: an actor's home or its list, or nothing while a seat has that out.
+#[derive(Drop)]
 pub enum Slot<H> {
     Empty,
     Home(H),
