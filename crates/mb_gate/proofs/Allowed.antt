@@ -23,7 +23,7 @@ use Rattle.mb_gate.specs.Rule.{Word, Status, Flag, Gate, Waiting, word_offset, S
 use Rattle.mb_gate.specs.Plays.{IsBefore, GoesOn, IsWord, StaysClosed, shows_work, Reads, Writes, Sends, Unsends, Stays, Counts, Looks, Gripped, Grips, Enlists, Refuses, Drains, Ends, IsEmpty, Glances, Won, Schedules, Idles}
 use Rattle.mb_gate.proofs.StatusSteps.{reads, is_home, is_held, schedules, writes, idles, idles_closed}
 use Rattle.mb_gate.proofs.WaitingSteps.{sends, unsends, takes_one, counts, looks, glances}
-use Rattle.mb_gate.proofs.ListSteps.{is_shelved, grips, enlists, unloads, refuses, gate_even}
+use Rattle.mb_gate.proofs.ListSteps.{is_shelved, is_lent, grips, enlists, unloads, refuses, gate_even}
 use Rattle.mb_gate.proofs.Parting.{parts, takes_over}
 
 pub words_few : (w : Word) → word_offset w < 8
@@ -284,9 +284,11 @@ module _ {H : Type 0} (is_of : ℕ → H → Type 0) (journal : H → List Entry
         → Allows (Rule n) slots id me i (λ _. new) (λ _. Ends (step slots i new 0 none) me new)
     ends_allowed c l new e has of keeps of_list carried word closed = subst (λ j. Allows (Rule n) slots id me j (λ _. new) (λ _. Ends (step slots j new 0 none) me new)) (sym e)
         (allows word_offset slot_offset words_few slots_few n F slots id me actor Gate (λ _. new) (λ _. Ends (step slots (word_at actor 2) new 0 none) me new) inside
-        (λ x vs f at fits. unloads is_of journal mailbox rested actor id new me c l (ended l.listed) (listed l.listed) l.gave (Ends (step slots (word_at actor 2) new 0 none) me new) x vs f at
+        (λ x vs f at fits.
+          let gave : l.gave ≡ c.gave = (is_lent is_of journal mailbox rested actor id x vs me.0 l f at keeps of_list).1.gave ∙ sym (is_held is_of journal mailbox rested actor id x vs me.0 c f at has of).1.gave in
+          unloads is_of journal mailbox rested actor id new me c l (ended l.listed) (listed l.listed) l.gave (Ends (step slots (word_at actor 2) new 0 none) me new) x vs f at
           has of keeps of_list carried word refl (λ e. refl) (λ e. inr closed)
-          (λ l' has' z. (draining (listed (some_same l l' (sym keeps ∙ has') z).listed) (some_same l l' (sym keeps ∙ has') z).gave me.0, tail_of me.1))))
+          (λ l' c' list' claim' z. (draining (listed (some_same l l' (sym keeps ∙ list') z).listed) ((gave ∙ ap (λ (h : Held). h.gave) (some_same c c' (sym has ∙ claim'))) z) me.0, tail_of me.1))))
 
     told_glance : (x : Place) (vs : List View) → F actor x vs → get_elem? vs id ≡ some me.0 → (a : ℕ) → word_at actor 2 ≡ word_at a 2 → IsEmpty a (x.row Gate) me.0
     told_glance x vs f at a w = subst (λ b. IsEmpty b (x.row Gate) me.0) (same_actor actor a 2 w)

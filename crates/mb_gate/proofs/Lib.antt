@@ -9,3 +9,4 @@ pub mod Allowed
 pub mod Wins
 pub mod Rows
 pub mod Starting
+pub mod ListCalls

@@ -5,3 +5,4 @@ pub mod Plays
 pub mod Names
 pub mod Tries
 pub mod Starts
+pub mod Lists

@@ -90,7 +90,7 @@ module _ {H : Type 0} where
 
   -- and the list was ended
   abbrev pub Ends : Step (Slot H) → Me (Slot H) View → ℕ → Me (Slot H) View → Type 0
-  Ends st m n m' = (l : Lent) → m.0.list ≡ Some l → m' ≡ (draining (listed l.listed) l.gave m.0, rest m.1)
+  Ends st m n m' = (l : Lent) (c : Held) → m.0.list ≡ Some l → m.0.claim ≡ Some c → m' ≡ (draining (listed l.listed) c.gave m.0, rest m.1)
 
   -- the gate's word was read by the holder
   abbrev pub Glances : Step (Slot H) → Me (Slot H) View → ℕ → Me (Slot H) View → Type 0

@@ -7,6 +7,7 @@ mod gates;
 mod holding;
 mod law;
 mod layout;
+mod lists;
 mod new;
 mod pass;
 mod passes;
