@@ -12,7 +12,7 @@ use Rattle.mb_gate.specs.View.{View, Held, lending, regiven, draining}
 use Rattle.mb_gate.specs.Claims.{held_in}
 use Rattle.mb_gate.specs.Rule.{is_some_item, gate_word}
 use Rattle.mb_gate.specs.Plays.{Gripped}
-use Rattle.mb_gate.specs.Lists.{IsLentBy, IsHolder, with_listed, with_drained, with_ended}
+use Rattle.mb_gate.specs.Lists.{IsLentBy, IsOut, HasClaim, with_listed, with_drained, with_ended}
 
 head_same : {A : Type 0} (a b : A) (xs ys : List A) → a ∷ xs ≡ b ∷ ys → a ≡ b
 head_same a b xs ys e = cc
@@ -150,3 +150,24 @@ drains_nothing v has no_list gave i = record v { list = no_list i; claim = same 
   where
     same : v.claim ≡ regiven [] false v.claim
     same = has ∙ ((λ k. Some (record (held_in v) { gave = gave k; drained = sym (append-nil (held_in v).drained) k })) ∙ sym (ap (regiven [] false) has))
+
+-- what was taken out is out
+pub lent_out : {H : Type 0} (actor word : ℕ) (l : MessageList) (m m' : Me (Slot H) View) → IsLentBy actor word l m m' → IsOut actor word l m'
+lent_out actor word l m m' lent = record {
+  gave = lent.gave;
+  found = lent.found;
+  has = ap (λ (z : Me (Slot _) View). z.0.list) lent.now;
+  carried = ap (λ (z : Me (Slot _) View). z.1) lent.now ∙ ap (λ c. (slot_at actor 1, Empty) ∷ rest c) (sym (ap (λ (z : Me (Slot _) View). z.1) lent.now));
+}
+
+-- what was laid into the slot is carried
+pub laid_back : {H : Type 0} (actor : ℕ) (a b : MessageList) (m m' : Me (Slot H) View) → m' ≡ (m.0, (slot_at actor 1, Listing a) ∷ rest m.1) → a ≡ b → m'.1 ≡ (slot_at actor 1, Listing b) ∷ rest m'.1
+laid_back {H} actor a b m m' laid same =
+    let now : m'.1 ≡ (slot_at actor 1, Listing a) ∷ rest m.1 = ap (λ (z : Me (Slot H) View). z.1) laid in
+    now ∙ (λ i. (slot_at actor 1, Listing (same i)) ∷ rest (sym now i))
+
+pub empty_is : {A : Type 0} (b : Bool) (xs : List A) → (IsTrue b → xs ≡ []) × (xs ≡ [] → IsTrue b) → b ≡ not (is_some_item xs)
+empty_is true [] h = refl
+empty_is true (x ∷ xs) h = let no = h.0 refl in absurd (cc)
+empty_is false [] h = let no = h.1 refl in absurd (cc)
+empty_is false (x ∷ xs) h = refl

@@ -1,6 +1,6 @@
 -- A list that a seat took out, and the words of its gate.
 use Rattle.std.specs.Prelude.{◌≡◌, ℕ, ◌+◌, ◌*◌, ◌/◌, ◌%◌, ◌==◌, Bool, false, if◌then◌else◌, List, [], ◌∷◌, Option, Some, None}
-use Rattle.atomic_table.specs.Table.{Me}
+use Rattle.atomic_table.specs.Table.{Me, rest}
 use Rattle.mb_syslist.specs.MessageList.{MessageList}
 use Rattle.mb_rule.specs.Layout.{slot_at}
 use Rattle.mb_gate.specs.declared.slot.Slot.{Slot}
@@ -15,11 +15,17 @@ pub record IsLentBy {H : Type 0} (actor : ℕ) (word : ℕ) (listed : MessageLis
   pub found : word ≡ gate_word false listed gave
   pub now : m' ≡ (lending actor listed gave m.0, (slot_at actor 1, Empty) ∷ m.1)
 
--- the seat has the claim of the actor, and no list
-pub record IsHolder {H : Type 0} (actor : ℕ) (m : Me (Slot H) View) : Type 0 where
+-- the seat has the list of the actor out, with nothing in its slot, and the gate showed this word before
+pub record IsOut {H : Type 0} (actor : ℕ) (word : ℕ) (listed : MessageList) (m : Me (Slot H) View) : Type 0 where
+  pub gave : Bool
+  pub found : word ≡ gate_word false listed gave
+  pub has : m.0.list ≡ Some (record { actor = actor; listed = listed; gave = gave })
+  pub carried : m.1 ≡ (slot_at actor 1, Empty) ∷ rest m.1
+
+-- the seat has the claim of the actor
+pub record HasClaim {H : Type 0} (actor : ℕ) (m : Me (Slot H) View) : Type 0 where
   pub has : m.0.claim ≡ Some (held_in m.0)
   pub of : (held_in m.0).actor ≡ actor
-  pub no_list : m.0.list ≡ None
 
 -- the gate's word with a message listed; with nothing listed, after a drain that gave something or nothing; and with the list ended
 abbrev pub with_listed : ℕ → ℕ

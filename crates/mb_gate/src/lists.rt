@@ -1,5 +1,5 @@
 //! The lists of system messages, each behind a gate that is taken for one list step and given back.
-ghost use Rattle.std.specs.Prelude.{◌≡◌, ◌+◌, ◌*◌, ◌/◌, ◌%◌, ◌<◌, ◌==◌, [], ◌∷◌, false, None, IsTrue, MatchOption, MatchResult, if◌then◌else◌};
+ghost use Rattle.std.specs.Prelude.{◌≡◌, ◌+◌, ◌*◌, ◌/◌, ◌%◌, ◌<◌, ◌==◌, [], ◌∷◌, false, true, None, IfErr, IfOk, MatchOption, if◌then◌else◌};
 ghost use Rattle.atomic_table.specs.Table.{rest};
 ghost use Rattle.mb_syslist.specs.MessageList.{MessageList};
 ghost use Rattle.mb_rule.specs.Layout.{slot_at};
@@ -7,7 +7,7 @@ ghost use Rattle.mb_gate.specs.declared.slot.Slot.TheVariants.{Empty, List};
 ghost use Rattle.mb_gate.specs.View.{enlisting, refusing, draining};
 ghost use Rattle.mb_gate.specs.Rule.{is_some_item};
 ghost use Rattle.mb_gate.specs.Claims.{held_in};
-ghost use Rattle.mb_gate.specs.Lists.{IsLentBy, IsHolder, with_listed, with_drained, with_ended};
+ghost use Rattle.mb_gate.specs.Lists.{IsLentBy, IsOut, HasClaim, with_listed, with_drained, with_ended};
 ghost use Rattle.mb_gate.specs.Names.{gates_id, pass_id, claim_id, actors_of, known_by, known_of, held_actor, status_of, gave_last};
 
 use crate::claim::Claim;
@@ -157,5 +157,140 @@ impl<H: Resident> Gates<H> {
             Slot::Empty => {}
             _ => unreachable!(),
         }
+    }
+
+    /// Puts a node last into the actor's list, and says so (`systemEnqueue`). From now on the pass owes the actor a look
+    /// at it. It takes no memory, and may wait for the list's gate.
+    ///
+    /// It answers `ListClosed` with the same node if the list is ended, and says that too.
+    pub fn sys_enqueue<R: Wait>(
+        &self,
+        rt: &R,
+        pass: &mut Pass<H>,
+        id: ActorId,
+        node: Node,
+    ) -> Result<(), ListClosed>
+        requires ours { pass_id pass.old ≡ gates_id self.now }
+        requires there { id.0 < actors_of self.now }
+        ensures ours { pass_id pass.new ≡ pass_id pass.old }
+        ensures listed { IfOk result (λ _. known_by pass.new ≡ enlisting id.0 node (known_by pass.old)) }
+        ensures ended { IfErr result (λ refused. (refused.0 ≡ node) × (known_by pass.new ≡ refusing id.0 node (known_by pass.old))) }
+    {
+        match self.grip_open(rt, &mut pass.seat, id, node.msg()) {
+            Some((word, list)) => {
+                self.enlist(&mut pass.seat, id, word, list, node);
+                Ok(())
+            }
+            None => Err(ListClosed(node)),
+        }
+    }
+
+    // Puts the node last into the list that is out, and gives it back.
+    fn enlist(
+        &self,
+        seat: &mut Seat<Slot<H>, Knowledge>,
+        id: ActorId,
+        word: u64,
+        mut list: SysList,
+        node: Node,
+    )
+        requires ours { seat.old.table_id ≡ gates_id self.now }
+        requires there { id.0 < actors_of self.now }
+        requires lent { IsOut id.0 word list seat.old.me }
+        requires not_ended { list.closed ≡ false }
+        ensures ours { seat.new.table_id ≡ seat.old.table_id }
+        ensures listed { seat.new.me ≡ (enlisting id.0 node seat.old.me.0, rest seat.old.me.1) }
+    {
+        let gate = word_index(id, GATE);
+        let new = with_listed_bit(word);
+        match list.push(node) {
+            Ok(_) => {}
+            Err(_) => unreachable!(),
+        }
+        self.lay_list(seat, id, list);
+        self.table.shared.store::<Enlist>(seat, gate, new);
+    }
+
+    // Takes all out of the list that is out, and gives it back.
+    fn drain_list(
+        &self,
+        seat: &mut Seat<Slot<H>, Knowledge>,
+        id: ActorId,
+        word: u64,
+        mut list: SysList,
+    ) -> Chain
+        requires ours { seat.old.table_id ≡ gates_id self.now }
+        requires there { id.0 < actors_of self.now }
+        requires lent { IsOut id.0 word list seat.old.me }
+        requires holder { HasClaim id.0 seat.old.me }
+        ensures ours { seat.new.table_id ≡ seat.old.table_id }
+        ensures drained { seat.new.me ≡ (draining result (is_some_item result) seat.old.me.0, rest seat.old.me.1) }
+    {
+        let gate = word_index(id, GATE);
+        let chain = list.drain();
+        let new = with_drained_bits(word, chain.is_empty());
+        self.lay_list(seat, id, list);
+        self.table.shared.store::<Drain>(seat, gate, new);
+        chain
+    }
+
+    // Takes all out of the list that is out, and gives it back ended.
+    fn end_list(
+        &self,
+        seat: &mut Seat<Slot<H>, Knowledge>,
+        id: ActorId,
+        word: u64,
+        mut list: SysList,
+    ) -> Chain
+        requires ours { seat.old.table_id ≡ gates_id self.now }
+        requires there { id.0 < actors_of self.now }
+        requires lent { IsOut id.0 word list seat.old.me }
+        requires holder { HasClaim id.0 seat.old.me }
+        requires closed { (held_in seat.old.me.0).word ≡ 1 }
+        ensures ours { seat.new.table_id ≡ seat.old.table_id }
+        ensures drained { seat.new.me ≡ (draining result (held_in seat.old.me.0).gave seat.old.me.0, rest seat.old.me.1) }
+    {
+        let gate = word_index(id, GATE);
+        let chain = list.close();
+        let new = with_ended_bits(word);
+        self.lay_list(seat, id, list);
+        self.table.shared.store::<End>(seat, gate, new);
+        chain
+    }
+
+    /// Takes all system messages that are listed out of the list of the claim's actor, the earliest first, with their
+    /// numbers (`systemDrain`). It takes no memory, and may wait for the list's gate; a drain of an empty list, where the
+    /// last drain gave nothing, is one load.
+    pub fn sys_drain<R: Wait>(&self, rt: &R, claim: &mut Claim<H>) -> Chain
+        requires ours { claim_id claim.old ≡ gates_id self.now }
+        requires there { held_actor claim.old < actors_of self.now }
+        ensures ours { (claim_id claim.new ≡ claim_id claim.old) × (held_actor claim.new ≡ held_actor claim.old) }
+        ensures known { known_of claim.new ≡ draining result (is_some_item result) (known_of claim.old) }
+        ensures same { (status_of claim.new ≡ status_of claim.old) × (claim.new.home ≡ claim.old.home) }
+    {
+        let gate = word_index(claim.actor, GATE);
+        let word = self
+            .table
+            .shared
+            .load::<Glance>(&mut claim.seat, gate);
+        if word % 8 == 0 {
+            return Chain::new();
+        }
+        let (word, list) = self.grip(rt, &mut claim.seat, claim.actor);
+        self.drain_list(&mut claim.seat, claim.actor, word, list)
+    }
+
+    /// Takes out all that is listed, as `sys_drain`, and ends the list for good (`systemDrain` that leaves no list): the
+    /// claim's actor is closed.
+    pub fn sys_close<R: Wait>(&self, rt: &R, claim: &mut Claim<H>) -> Chain
+        requires ours { claim_id claim.old ≡ gates_id self.now }
+        requires there { held_actor claim.old < actors_of self.now }
+        requires closed { (status_of claim.old).closed ≡ true }
+        ensures ours { (claim_id claim.new ≡ claim_id claim.old) × (held_actor claim.new ≡ held_actor claim.old) }
+        ensures known { known_of claim.new ≡ draining result (gave_last claim.old) (known_of claim.old) }
+        ensures same { (status_of claim.new ≡ status_of claim.old) × (claim.new.home ≡ claim.old.home) }
+    {
+        let (word, list) = self.grip(rt, &mut claim.seat, claim.actor);
+        self.end_list(&mut claim.seat, claim.actor, word, list)
     }
 }
