@@ -164,23 +164,25 @@ module _ {H : Type 0} (is_of : ℕ → H → Type 0) (journal : H → List Entry
     schedules_allowed old new e free is_new bare = subst (λ j. Allows (Rule n) slots id me j (λ k. either (k == old) new k) (Schedules is_of journal mailbox rested (step slots j old new none) me)) (sym e)
         (allows word_offset slot_offset words_few slots_few n F slots id me actor Status (λ k. either (k == old) new k) (Schedules is_of journal mailbox rested (step slots (word_at actor 0) old new none) me) inside
         (λ x vs f at fits. let tell = Schedules is_of journal mailbox rested (step slots (word_at actor 0) old new none) me (x.row Status) in
-          exchanged (x.row Status) old new (λ k. Goes word_offset slot_offset F actor id me Status k tell x vs)
-          (λ hit. let here : x.row Status % 4 ≡ 0 = ap (λ k. k % 4) hit ∙ free in let h = is_home is_of journal mailbox rested actor x vs f here in
-            subst (λ k. Goes word_offset slot_offset F actor id me Status k tell x vs) (sym is_new)
-            (schedules is_of journal mailbox rested actor id me old tell x vs f at here hit bare
-              (λ a w. subst (λ (b : ℕ). (let now : M = (taking actor x.ghost.journal old x.ghost.gave me.0, (slot_at actor 0, Home h.1.home) ∷ me.1) in
-                  (x.row Status ≡ old → Won is_of journal mailbox rested b (x.row Status) me now)
-                  × (x.row Status ≢ old → (now ≡ (reading b (x.row Status) me.0, me.1)) × IsTrue (is_valid (x.row Status)) × StaysClosed b (x.row Status) me.0))) (same_actor actor a 0 w)
-                ((λ _. record {
-                  home = h.1.home;
-                  own = h.1.own;
-                  word = h.1.word;
-                  gave = x.ghost.gave;
-                  rest = λ no. h.1.rest (inr no);
-                  seen = subst (λ j. GoesOn actor j me.0) (sym h.1.fold) (goes_further actor x me.0 (λ one. omega arith) (f.seen id me.0 at));
-                  now = λ z. (taking actor (sym h.1.fold z) (sym hit z) x.ghost.gave me.0, (slot_at actor 0, Home h.1.home) ∷ me.1);
-                }), (λ miss. absurd (miss hit))))))
-          (λ miss. reads is_of journal mailbox rested actor id me tell x vs f at (λ a w. ((λ hit. absurd (miss hit)), (λ _. told_read x vs f at a w))))))
+        exchanged (x.row Status) old new (λ k. Goes word_offset slot_offset F actor id me Status k tell x vs)
+        (λ hit. let here : x.row Status % 4 ≡ 0 = ap (λ k. k % 4) hit ∙ free in let h = is_home is_of journal mailbox rested actor x vs f here in
+        subst (λ k. Goes word_offset slot_offset F actor id me Status k tell x vs) (sym is_new)
+        (schedules is_of journal mailbox rested actor id me old tell x vs f at here hit bare
+        (λ a w. subst (λ (b : ℕ). (let now : M = (taking actor x.ghost.journal old x.ghost.gave me.0, (slot_at actor 0, Home h.1.home) ∷ me.1) in
+        (x.row Status ≡ old → Won is_of journal mailbox rested b (x.row Status) me now)
+        × (x.row Status ≢ old → (now ≡ (reading b (x.row Status) me.0, me.1)) × IsTrue (is_valid (x.row Status)) × StaysClosed b (x.row Status) me.0))) (same_actor actor a 0 w) (
+          (λ _. record {
+            home = h.1.home;
+            own = h.1.own;
+            word = h.1.word;
+            gave = x.ghost.gave;
+            rest = λ no. h.1.rest (inr no);
+            seen = subst (λ j. GoesOn actor j me.0) (sym h.1.fold) (goes_further actor x me.0 (λ one. omega arith) (f.seen id me.0 at));
+            now = λ z. (taking actor (sym h.1.fold z) (sym hit z) x.ghost.gave me.0, (slot_at actor 0, Home h.1.home) ∷ me.1);
+          }),
+          (λ miss. absurd (miss hit)),
+        ))))
+        (λ miss. reads is_of journal mailbox rested actor id me tell x vs f at (λ a w. ((λ hit. absurd (miss hit)), (λ _. told_read x vs f at a w))))))
 
     pub writes_allowed : (c : Held) (new : ℕ) → i ≡ word_at actor 0 → me.0.claim ≡ Some c → c.actor ≡ actor → IsTrue (is_valid new) → (new % 4 ≡ 2) ⊎ (new ≡ 1) → (c.word ≡ 1 → new ≡ 1)
         → Allows (Rule n) slots id me i (λ _. new) (λ _. Writes (step slots i new 0 none) me new)
@@ -201,7 +203,7 @@ module _ {H : Type 0} (is_of : ℕ → H → Type 0) (journal : H → List Entry
     idles_allowed c home new e has of carried own longer unshut valid free word rest = subst (λ j. Allows (Rule n) slots id me j (λ _. new) (λ _. Idles is_of journal mailbox rested (step slots j new 0 none) me new)) (sym e)
         (allows word_offset slot_offset words_few slots_few n F slots id me actor Status (λ _. new) (λ _. Idles is_of journal mailbox rested (step slots (word_at actor 0) new 0 none) me new) inside
         (λ x vs f at fits. idles is_of journal mailbox rested actor id me c home new (Idles is_of journal mailbox rested (step slots (word_at actor 0) new 0 none) me new) x vs f at has of carried own longer unshut valid free word rest
-          (told_idle home (step slots (word_at actor 0) new 0 none) new carried)))
+        (told_idle home (step slots (word_at actor 0) new 0 none) new carried)))
 
     pub idles_closed_allowed : (c : Held) (home : H) → i ≡ word_at actor 1 → me.0.claim ≡ Some c → c.actor ≡ actor → me.1 ≡ (slot_at actor 0, Home home) ∷ [] → is_of actor home → Extends (journal home) c.journal
         → c.word ≡ 1 → 1 ≡ word_of (mailbox home) → rested home
@@ -209,19 +211,19 @@ module _ {H : Type 0} (is_of : ℕ → H → Type 0) (journal : H → List Entry
     idles_closed_allowed c home e has of carried own longer closed word rest = subst (λ j. Allows (Rule n) slots id me j (λ _. 1) (λ _. Idles is_of journal mailbox rested (step slots j 1 0 none) me 1)) (sym e)
         (allows word_offset slot_offset words_few slots_few n F slots id me actor Flag (λ _. 1) (λ _. Idles is_of journal mailbox rested (step slots (word_at actor 1) 1 0 none) me 1) inside
         (λ x vs f at fits. idles_closed is_of journal mailbox rested actor id me c home (Idles is_of journal mailbox rested (step slots (word_at actor 1) 1 0 none) me 1) x vs f at has of carried own longer closed word rest
-          (told_idle home (step slots (word_at actor 1) 1 0 none) 1 carried)))
+        (told_idle home (step slots (word_at actor 1) 1 0 none) 1 carried)))
 
     pub sends_allowed : (g : ℕ → ℕ) (k : ℕ) → i ≡ word_at actor 4 → Allows (Rule n) slots id me i g (Sends (step slots i k 0 none) me)
     sends_allowed g k e = subst (λ j. Allows (Rule n) slots id me j g (Sends (step slots j k 0 none) me)) (sym e)
         (allows word_offset slot_offset words_few slots_few n F slots id me actor Waiting g (Sends (step slots (word_at actor 4) k 0 none) me) inside
         (λ x vs f at fits. sends is_of journal mailbox rested actor id (g (x.row Waiting)) me (Sends (step slots (word_at actor 4) k 0 none) me (x.row Waiting)) x vs f at
-          (λ a w z. (sending (same_actor actor a 4 w z) me.0, me.1))))
+        (λ a w z. (sending (same_actor actor a 4 w z) me.0, me.1))))
 
     pub unsends_allowed : (g : ℕ → ℕ) (k : ℕ) → i ≡ word_at actor 4 → Allows (Rule n) slots id me i g (Unsends (step slots i k 0 none) me)
     unsends_allowed g k e = subst (λ j. Allows (Rule n) slots id me j g (Unsends (step slots j k 0 none) me)) (sym e)
         (allows word_offset slot_offset words_few slots_few n F slots id me actor Waiting g (Unsends (step slots (word_at actor 4) k 0 none) me) inside
         (λ x vs f at fits. unsends is_of journal mailbox rested actor id (g (x.row Waiting)) me (Unsends (step slots (word_at actor 4) k 0 none) me (x.row Waiting)) x vs f at
-          (λ a w z. (unsending (same_actor actor a 4 w z) me.0, me.1))))
+        (λ a w z. (unsending (same_actor actor a 4 w z) me.0, me.1))))
 
     pub takes_allowed : (c : Held) (g : ℕ → ℕ) (k : ℕ) → i ≡ word_at actor 4 → me.0.claim ≡ Some c → c.actor ≡ actor → Allows (Rule n) slots id me i g (Stays (step slots i k 0 none) me)
     takes_allowed c g k e has of = subst (λ j. Allows (Rule n) slots id me j g (Stays (step slots j k 0 none) me)) (sym e)
@@ -232,26 +234,26 @@ module _ {H : Type 0} (is_of : ℕ → H → Type 0) (journal : H → List Entry
     counts_allowed e = subst (λ j. Allows (Rule n) slots id me j (λ k. k) (Counts (step slots j 0 0 none) me)) (sym e)
         (allows word_offset slot_offset words_few slots_few n F slots id me actor Waiting (λ k. k) (Counts (step slots (word_at actor 4) 0 0 none) me) inside
         (λ x vs f at fits. counts is_of journal mailbox rested actor id me (Counts (step slots (word_at actor 4) 0 0 none) me (x.row Waiting)) x vs f at
-          (λ a w z. (counting (same_actor actor a 4 w z) (x.row Waiting) me.0, me.1))))
+        (λ a w z. (counting (same_actor actor a 4 w z) (x.row Waiting) me.0, me.1))))
 
     pub looks_allowed : i ≡ word_at actor 2 → Allows (Rule n) slots id me i (λ k. k) (Looks (step slots i 0 0 none) me)
     looks_allowed e = subst (λ j. Allows (Rule n) slots id me j (λ k. k) (Looks (step slots j 0 0 none) me)) (sym e)
         (allows word_offset slot_offset words_few slots_few n F slots id me actor Gate (λ k. k) (Looks (step slots (word_at actor 2) 0 0 none) me) inside
         (λ x vs f at fits. looks is_of journal mailbox rested actor id me (shows_work (x.row Gate)) (Looks (step slots (word_at actor 2) 0 0 none) me (x.row Gate)) x vs (shown_by x x.ghost.keeper f.shelf) f at
-          (λ a w z. (looking (same_actor actor a 2 w z) (shows_work (x.row Gate)) me.0, me.1))))
+        (λ a w z. (looking (same_actor actor a 2 w z) (shows_work (x.row Gate)) me.0, me.1))))
 
     pub grips_allowed : (old new : ℕ) → i ≡ word_at actor 2 → old % 2 ≡ 0 → new ≡ old + 1 → me.0.list ≡ None → Allows (Rule n) slots id me i (λ k. either (k == old) new k) (Grips (step slots i old new none) me)
     grips_allowed old new e even is_new bare = subst (λ j. Allows (Rule n) slots id me j (λ k. either (k == old) new k) (Grips (step slots j old new none) me)) (sym e)
         (allows word_offset slot_offset words_few slots_few n F slots id me actor Gate (λ k. either (k == old) new k) (Grips (step slots (word_at actor 2) old new none) me) inside
         (λ x vs f at fits. let tell = Grips (step slots (word_at actor 2) old new none) me (x.row Gate) in
-          exchanged (x.row Gate) old new (λ k. Goes word_offset slot_offset F actor id me Gate k tell x vs)
-          (λ hit. let here : x.row Gate % 2 ≡ 0 = ap (λ k. k % 2) hit ∙ even in
-            subst (λ k. Goes word_offset slot_offset F actor id me Gate k tell x vs) (sym is_new)
-            (grips is_of journal mailbox rested actor id me old tell x vs f at here hit bare
-              (λ a w. subst (λ (b : ℕ). (let now : M = (lending actor x.ghost.listed x.ghost.gave me.0, (slot_at actor 1, Listing x.ghost.listed) ∷ me.1) in
-                  (x.row Gate ≡ old → Gripped b (x.row Gate) me now) × (x.row Gate ≢ old → now ≡ me))) (same_actor actor a 2 w)
-                ((λ _. record { listed = x.ghost.listed; gave = x.ghost.gave; word = (is_shelved is_of journal mailbox rested actor x vs f here).1.word; now = refl }), (λ miss. absurd (miss hit))))))
-          (λ miss. glances is_of journal mailbox rested actor id Gate me tell x vs f at (λ a w. ((λ hit. absurd (miss hit)), (λ _. refl))))))
+        exchanged (x.row Gate) old new (λ k. Goes word_offset slot_offset F actor id me Gate k tell x vs)
+        (λ hit. let here : x.row Gate % 2 ≡ 0 = ap (λ k. k % 2) hit ∙ even in
+        subst (λ k. Goes word_offset slot_offset F actor id me Gate k tell x vs) (sym is_new)
+        (grips is_of journal mailbox rested actor id me old tell x vs f at here hit bare
+        (λ a w. subst (λ (b : ℕ). (let now : M = (lending actor x.ghost.listed x.ghost.gave me.0, (slot_at actor 1, Listing x.ghost.listed) ∷ me.1) in
+        (x.row Gate ≡ old → Gripped b (x.row Gate) me now) × (x.row Gate ≢ old → now ≡ me))) (same_actor actor a 2 w)
+        ((λ _. record { listed = x.ghost.listed; gave = x.ghost.gave; word = (is_shelved is_of journal mailbox rested actor x vs f here).1.word; now = refl }), (λ miss. absurd (miss hit))))))
+        (λ miss. glances is_of journal mailbox rested actor id Gate me tell x vs f at (λ a w. ((λ hit. absurd (miss hit)), (λ _. refl))))))
 
     told_enlist : (l : Lent) (m : SysMsg) (st : Step (Slot H)) (k : ℕ) → me.0.list ≡ Some l → l.actor ≡ actor → me.1 ≡ (slot_at actor 1, Listing (with_last l.listed m)) ∷ tail_of me.1
         → Enlists st me k (enlisting actor m me.0, tail_of me.1)
@@ -268,7 +270,7 @@ module _ {H : Type 0} (is_of : ℕ → H → Type 0) (journal : H → List Entry
     enlists_allowed l m new e has of carried word = subst (λ j. Allows (Rule n) slots id me j (λ _. new) (λ _. Enlists (step slots j new 0 none) me new)) (sym e)
         (allows word_offset slot_offset words_few slots_few n F slots id me actor Gate (λ _. new) (λ _. Enlists (step slots (word_at actor 2) new 0 none) me new) inside
         (λ x vs f at fits. enlists is_of journal mailbox rested actor id new me l m (Enlists (step slots (word_at actor 2) new 0 none) me new) x vs f at has of carried word
-          (told_enlist l m (step slots (word_at actor 2) new 0 none) new has of carried)))
+        (told_enlist l m (step slots (word_at actor 2) new 0 none) new has of carried)))
 
     pub drains_allowed : (c : Held) (l : Lent) (new : ℕ) → i ≡ word_at actor 2 → me.0.claim ≡ Some c → c.actor ≡ actor → me.0.list ≡ Some l → l.actor ≡ actor
         → me.1 ≡ (slot_at actor 1, Listing (drained l.listed)) ∷ tail_of me.1 → new ≡ gate_word false (drained l.listed) (is_some_item l.listed.messages)
@@ -276,8 +278,8 @@ module _ {H : Type 0} (is_of : ℕ → H → Type 0) (journal : H → List Entry
     drains_allowed c l new e has of keeps of_list carried word = subst (λ j. Allows (Rule n) slots id me j (λ _. new) (λ _. Drains (step slots j new 0 none) me new)) (sym e)
         (allows word_offset slot_offset words_few slots_few n F slots id me actor Gate (λ _. new) (λ _. Drains (step slots (word_at actor 2) new 0 none) me new) inside
         (λ x vs f at fits. unloads is_of journal mailbox rested actor id new me c l (drained l.listed) (listed l.listed) (is_some_item l.listed.messages) (Drains (step slots (word_at actor 2) new 0 none) me new) x vs f at
-          has of keeps of_list carried word refl (λ e. e) (λ e. inl e)
-          (λ l' has' z. (draining (listed (some_same l l' (sym keeps ∙ has') z).listed) (is_some_item (some_same l l' (sym keeps ∙ has') z).listed.messages) me.0, tail_of me.1))))
+        has of keeps of_list carried word refl (λ e. e) (λ e. inl e)
+        (λ l' has' z. (draining (listed (some_same l l' (sym keeps ∙ has') z).listed) (is_some_item (some_same l l' (sym keeps ∙ has') z).listed.messages) me.0, tail_of me.1))))
 
     pub ends_allowed : (c : Held) (l : Lent) (new : ℕ) → i ≡ word_at actor 2 → me.0.claim ≡ Some c → c.actor ≡ actor → me.0.list ≡ Some l → l.actor ≡ actor
         → me.1 ≡ (slot_at actor 1, Listing (ended l.listed)) ∷ tail_of me.1 → new ≡ gate_word false (ended l.listed) l.gave → c.word ≡ 1
@@ -285,10 +287,10 @@ module _ {H : Type 0} (is_of : ℕ → H → Type 0) (journal : H → List Entry
     ends_allowed c l new e has of keeps of_list carried word closed = subst (λ j. Allows (Rule n) slots id me j (λ _. new) (λ _. Ends (step slots j new 0 none) me new)) (sym e)
         (allows word_offset slot_offset words_few slots_few n F slots id me actor Gate (λ _. new) (λ _. Ends (step slots (word_at actor 2) new 0 none) me new) inside
         (λ x vs f at fits.
-          let gave : l.gave ≡ c.gave = (is_lent is_of journal mailbox rested actor id x vs me.0 l f at keeps of_list).1.gave ∙ sym (is_held is_of journal mailbox rested actor id x vs me.0 c f at has of).1.gave in
-          unloads is_of journal mailbox rested actor id new me c l (ended l.listed) (listed l.listed) l.gave (Ends (step slots (word_at actor 2) new 0 none) me new) x vs f at
-          has of keeps of_list carried word refl (λ e. refl) (λ e. inr closed)
-          (λ l' c' list' claim' z. (draining (listed (some_same l l' (sym keeps ∙ list') z).listed) ((gave ∙ ap (λ (h : Held). h.gave) (some_same c c' (sym has ∙ claim'))) z) me.0, tail_of me.1))))
+        let gave : l.gave ≡ c.gave = (is_lent is_of journal mailbox rested actor id x vs me.0 l f at keeps of_list).1.gave ∙ sym (is_held is_of journal mailbox rested actor id x vs me.0 c f at has of).1.gave in
+        unloads is_of journal mailbox rested actor id new me c l (ended l.listed) (listed l.listed) l.gave (Ends (step slots (word_at actor 2) new 0 none) me new) x vs f at
+        has of keeps of_list carried word refl (λ e. refl) (λ e. inr closed)
+        (λ l' c' list' claim' z. (draining (listed (some_same l l' (sym keeps ∙ list') z).listed) ((gave ∙ ap (λ (h : Held). h.gave) (some_same c c' (sym has ∙ claim'))) z) me.0, tail_of me.1))))
 
     told_glance : (x : Place) (vs : List View) → F actor x vs → get_elem? vs id ≡ some me.0 → (a : ℕ) → word_at actor 2 ≡ word_at a 2 → IsEmpty a (x.row Gate) me.0
     told_glance x vs f at a w = subst (λ b. IsEmpty b (x.row Gate) me.0) (same_actor actor a 2 w)
@@ -303,12 +305,12 @@ module _ {H : Type 0} (is_of : ℕ → H → Type 0) (journal : H → List Entry
     refuses_allowed old m e shut = subst (λ j. Allows (Rule n) slots id me j (λ k. either (k == old) old k) (Refuses (step slots j old old (some (Note m))) me)) (sym e)
         (allows word_offset slot_offset words_few slots_few n F slots id me actor Gate (λ k. either (k == old) old k) (Refuses (step slots (word_at actor 2) old old (some (Note m))) me) inside
         (λ x vs f at fits. let tell = Refuses (step slots (word_at actor 2) old old (some (Note m))) me (x.row Gate) in
-          exchanged (x.row Gate) old old (λ k. Goes word_offset slot_offset F actor id me Gate k tell x vs)
-          (λ hit. subst (λ k. Goes word_offset slot_offset F actor id me Gate k tell x vs) hit
-            (refuses is_of journal mailbox rested actor id me m tell x vs f at (ends_by x x.ghost.keeper f.shelf (ap (λ k. k / 8 % 2) hit ∙ shut))
-              (λ a m' w said. let who : actor ≡ a = same_actor actor a 2 w in let what : m ≡ m' = note_same {H = H} m m' said in
-                ((λ _ z. (refusing (who z) (what z) me.0, me.1)), (λ miss. absurd (miss hit))))))
-          (λ miss. glances is_of journal mailbox rested actor id Gate me tell x vs f at (λ a m' w said. ((λ hit. absurd (miss hit)), (λ _. refl))))))
+        exchanged (x.row Gate) old old (λ k. Goes word_offset slot_offset F actor id me Gate k tell x vs)
+        (λ hit. subst (λ k. Goes word_offset slot_offset F actor id me Gate k tell x vs) hit
+        (refuses is_of journal mailbox rested actor id me m tell x vs f at (ends_by x x.ghost.keeper f.shelf (ap (λ k. k / 8 % 2) hit ∙ shut))
+        (λ a m' w said. let who : actor ≡ a = same_actor actor a 2 w in let what : m ≡ m' = note_same {H = H} m m' said in
+        ((λ _ z. (refusing (who z) (what z) me.0, me.1)), (λ miss. absurd (miss hit))))))
+        (λ miss. glances is_of journal mailbox rested actor id Gate me tell x vs f at (λ a m' w said. ((λ hit. absurd (miss hit)), (λ _. refl))))))
 
   module _ (n id : ℕ) where
     -- a view is copied for a seat more

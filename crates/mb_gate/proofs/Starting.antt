@@ -43,16 +43,19 @@ module _ {H : Type 0} (journal : H → List Entry) (mailbox : H → Mailbox) whe
   begun : (hs : List H) (a : ℕ) → a < length hs → (h : H) × Begun hs a h
   begun [] a l = absurd (omega arith)
   begun (h ∷ hs) zero l = (h, record { there = refl; tale = refl; status = refl; flag = refl; gate = refl; waiting = refl; cell = refl; list = refl })
-  begun (h ∷ hs) (suc a) l = let b = begun hs a (omega arith) in let w = word_of (mailbox h) in (b.0, record {
-    there = b.1.there;
-    tale = b.1.tale;
-    status = next_row w (rows_of mailbox hs) (word_at (suc a) 0) (word_at a 0) (omega arith) ∙ b.1.status;
-    flag = next_row w (rows_of mailbox hs) (word_at (suc a) 1) (word_at a 1) (omega arith) ∙ b.1.flag;
-    gate = next_row w (rows_of mailbox hs) (word_at (suc a) 2) (word_at a 2) (omega arith) ∙ b.1.gate;
-    waiting = next_row w (rows_of mailbox hs) (word_at (suc a) 4) (word_at a 4) (omega arith) ∙ b.1.waiting;
-    cell = next_shelves h (map some (shelves_of hs)) (slot_at (suc a) 0) (slot_at a 0) (omega arith) ∙ b.1.cell;
-    list = next_shelves h (map some (shelves_of hs)) (slot_at (suc a) 1) (slot_at a 1) (omega arith) ∙ b.1.list;
-  })
+  begun (h ∷ hs) (suc a) l = let b = begun hs a (omega arith) in let w = word_of (mailbox h) in (
+    b.0,
+    record {
+      there = b.1.there;
+      tale = b.1.tale;
+      status = next_row w (rows_of mailbox hs) (word_at (suc a) 0) (word_at a 0) (omega arith) ∙ b.1.status;
+      flag = next_row w (rows_of mailbox hs) (word_at (suc a) 1) (word_at a 1) (omega arith) ∙ b.1.flag;
+      gate = next_row w (rows_of mailbox hs) (word_at (suc a) 2) (word_at a 2) (omega arith) ∙ b.1.gate;
+      waiting = next_row w (rows_of mailbox hs) (word_at (suc a) 4) (word_at a 4) (omega arith) ∙ b.1.waiting;
+      cell = next_shelves h (map some (shelves_of hs)) (slot_at (suc a) 0) (slot_at a 0) (omega arith) ∙ b.1.cell;
+      list = next_shelves h (map some (shelves_of hs)) (slot_at (suc a) 1) (slot_at a 1) (omega arith) ∙ b.1.list;
+    },
+  )
 
 nobody_has : {T : Type 0} (ticket : View → Option T) → ticket blank ≡ None → (q : ℕ) → ticket_at ticket (blank ∷ []) q ≡ None
 nobody_has ticket bare zero = bare

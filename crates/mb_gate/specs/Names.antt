@@ -48,3 +48,9 @@ module _ {H : Type 0} where
   -- what was drained since the claim was taken, with the numbers
   abbrev pub drained_by : Claim H → List (ℕ × SysMsg)
   drained_by claim = (held_in claim.seat.me.0).drained
+
+  -- the claim was taken with the same journal, and no more was drained
+  pub record SameTaken (old new : Claim H) : Type 0 where
+    pub journal : taken_with new ≡ taken_with old
+    pub gave : gave_last new ≡ gave_last old
+    pub drained : drained_by new ≡ drained_by old

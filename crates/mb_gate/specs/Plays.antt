@@ -1,5 +1,5 @@
 -- What each step of the gates tells the seat that makes it. A step does not know its actor, so it is told of it by the word's place.
-use Rattle.std.specs.Prelude.{◌≡◌, ◌≢◌, ℕ, ◌+◌, ◌/◌, ◌%◌, ◌==◌, Bool, true, false, not, IsTrue,  List, [], ◌∷◌, Option, Some, None}
+use Rattle.std.specs.Prelude.{◌≡◌, ◌≢◌, ℕ, ◌+◌, ◌/◌, ◌%◌, ◌==◌, Bool, true, false, not, IsTrue, List, [], ◌∷◌, Option, Some, None}
 use mathlib.Core.Option as maybe
 use mathlib.Core.Option.{some}
 use Rattle.atomic_table.specs.Table.{Me, Step, rest}

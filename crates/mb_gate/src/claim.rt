@@ -24,3 +24,31 @@ pub struct Claim<H> {
     ghost no_list: { seat.me.0.list ≡ None },
     ghost carries: { seat.me.1 ≡ (slot_at actor.0 0, Empty) ∷ [] },
 }
+
+impl<H> Claim<H> {
+    /// The actor that it is of.
+    pub fn actor(&self) -> ActorId
+        ensures { result.0 ≡ self.now.actor.0 }
+    {
+        self.actor
+    }
+
+    /// The actor's status, which no other seat changes.
+    pub fn status(&self) -> Status
+        ensures { result ≡ self.now.status }
+    {
+        self.status
+    }
+}
+
+impl<H: Drop> Claim<H> {
+    /// Gives the claim up. Its actor is held for good: nobody can schedule it any more.
+    pub fn abandon(self) {
+        let Claim {
+            home: _,
+            actor: _,
+            status: _,
+            seat: _,
+        } = self;
+    }
+}

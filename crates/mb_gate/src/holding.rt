@@ -5,7 +5,7 @@ ghost use Rattle.mb_rule.specs.Layout.{slot_at};
 ghost use Rattle.mb_gate.specs.View.{idling, taking_over, writing};
 ghost use Rattle.mb_gate.specs.Claims.{is_busy, IsReady, Idled};
 ghost use Rattle.mb_gate.specs.Rule.{Extends};
-ghost use Rattle.mb_gate.specs.Names.{gates_id, pass_id, claim_id, actors_of, known_by, known_of, held_actor, status_of, taken_with, gave_last};
+ghost use Rattle.mb_gate.specs.Names.{gates_id, pass_id, claim_id, actors_of, known_by, known_of, held_actor, status_of, taken_with, gave_last, SameTaken};
 ghost use Rattle.mb_gate.specs.declared.slot.Slot.TheVariants.{Empty, Home};
 
 use crate::claim::Claim;
@@ -31,6 +31,7 @@ impl<H: Resident> Gates<H> {
         ensures status { status_of claim.new ≡ suspend (status_of claim.old) }
         ensures known { known_of claim.new ≡ writing (word_of (status_of claim.new)) (known_of claim.old) }
         ensures home { claim.new.home ≡ claim.old.home }
+        ensures taken { SameTaken claim.old claim.new }
         ensures first { result ≡ should_process (status_of claim.old) }
     {
         let mut status = claim.status;
@@ -48,6 +49,7 @@ impl<H: Resident> Gates<H> {
         ensures status { status_of claim.new ≡ resume (status_of claim.old) }
         ensures known { known_of claim.new ≡ writing (word_of (status_of claim.new)) (known_of claim.old) }
         ensures home { claim.new.home ≡ claim.old.home }
+        ensures taken { SameTaken claim.old claim.new }
         ensures last { result ≡ should_process (status_of claim.new) }
     {
         let mut status = claim.status;
@@ -65,6 +67,7 @@ impl<H: Resident> Gates<H> {
         ensures status { status_of claim.new ≡ the_closed }
         ensures known { known_of claim.new ≡ writing (word_of (status_of claim.new)) (known_of claim.old) }
         ensures home { claim.new.home ≡ claim.old.home }
+        ensures taken { SameTaken claim.old claim.new }
         ensures first { result ≡ not (status_of claim.old).closed }
     {
         let mut status = claim.status;
@@ -83,6 +86,7 @@ impl<H: Resident> Gates<H> {
         ensures status { status_of claim.new ≡ status }
         ensures known { known_of claim.new ≡ writing (word_of status) (known_of claim.old) }
         ensures home { claim.new.home ≡ claim.old.home }
+        ensures taken { SameTaken claim.old claim.new }
     {
         let index = word_index(claim.actor, STATUS);
         self.table

@@ -16,6 +16,8 @@ mod resident;
 mod schedule;
 mod sending;
 mod slot;
+#[cfg(test)]
+mod tests;
 mod view;
 
 pub use claim::Claim;

@@ -1,5 +1,5 @@
 //! The lists of system messages, each behind a gate that is taken for one list step and given back.
-ghost use Rattle.std.specs.Prelude.{◌≡◌, ◌+◌, ◌*◌, ◌/◌, ◌%◌, ◌<◌, ◌==◌, [], ◌∷◌, false, true, None, IfErr, IfOk, MatchOption, if◌then◌else◌};
+ghost use Rattle.std.specs.Prelude.{◌≡◌, ◌+◌, ◌*◌, ◌/◌, ◌%◌, ◌<◌, ◌==◌, [], ◌∷◌, ◌++◌, false, true, None, IfErr, IfOk, MatchOption, if◌then◌else◌};
 ghost use Rattle.atomic_table.specs.Table.{rest};
 ghost use Rattle.mb_syslist.specs.MessageList.{MessageList};
 ghost use Rattle.mb_rule.specs.Layout.{slot_at};
@@ -8,7 +8,7 @@ ghost use Rattle.mb_gate.specs.View.{enlisting, refusing, draining};
 ghost use Rattle.mb_gate.specs.Rule.{is_some_item};
 ghost use Rattle.mb_gate.specs.Claims.{held_in};
 ghost use Rattle.mb_gate.specs.Lists.{IsLentBy, IsOut, HasClaim, with_listed, with_drained, with_ended};
-ghost use Rattle.mb_gate.specs.Names.{gates_id, pass_id, claim_id, actors_of, known_by, known_of, held_actor, status_of, gave_last};
+ghost use Rattle.mb_gate.specs.Names.{gates_id, pass_id, claim_id, actors_of, known_by, known_of, held_actor, status_of, taken_with, gave_last, drained_by};
 
 use crate::claim::Claim;
 use crate::gates::Gates;
@@ -50,7 +50,12 @@ fn with_ended_bits(word: u64) -> u64
 
 impl<H: Resident> Gates<H> {
     // One try to take the list out, where the gate shows this word.
-    fn try_grip(&self, seat: &mut Seat<Slot<H>, Knowledge>, id: ActorId, word: u64) -> Option<SysList>
+    fn try_grip(
+        &self,
+        seat: &mut Seat<Slot<H>, Knowledge>,
+        id: ActorId,
+        word: u64,
+    ) -> Option<SysList>
         requires ours { seat.old.table_id ≡ gates_id self.now }
         requires there { id.0 < actors_of self.now }
         requires in_slot { word % 2 ≡ 0 }
@@ -126,7 +131,12 @@ impl<H: Resident> Gates<H> {
     }
 
     // Takes the list out.
-    fn grip<R: Wait>(&self, rt: &R, seat: &mut Seat<Slot<H>, Knowledge>, id: ActorId) -> (u64, SysList)
+    fn grip<R: Wait>(
+        &self,
+        rt: &R,
+        seat: &mut Seat<Slot<H>, Knowledge>,
+        id: ActorId,
+    ) -> (u64, SysList)
         requires ours { seat.old.table_id ≡ gates_id self.now }
         requires there { id.0 < actors_of self.now }
         requires no_list { seat.old.me.0.list ≡ None }
@@ -267,12 +277,10 @@ impl<H: Resident> Gates<H> {
         ensures ours { (claim_id claim.new ≡ claim_id claim.old) × (held_actor claim.new ≡ held_actor claim.old) }
         ensures known { known_of claim.new ≡ draining result (is_some_item result) (known_of claim.old) }
         ensures same { (status_of claim.new ≡ status_of claim.old) × (claim.new.home ≡ claim.old.home) }
+        ensures drained { (taken_with claim.new ≡ taken_with claim.old) × (gave_last claim.new ≡ is_some_item result) × (drained_by claim.new ≡ drained_by claim.old ++ result) }
     {
         let gate = word_index(claim.actor, GATE);
-        let word = self
-            .table
-            .shared
-            .load::<Glance>(&mut claim.seat, gate);
+        let word = self.table.shared.load::<Glance>(&mut claim.seat, gate);
         if word % 8 == 0 {
             return Chain::new();
         }
@@ -289,6 +297,7 @@ impl<H: Resident> Gates<H> {
         ensures ours { (claim_id claim.new ≡ claim_id claim.old) × (held_actor claim.new ≡ held_actor claim.old) }
         ensures known { known_of claim.new ≡ draining result (gave_last claim.old) (known_of claim.old) }
         ensures same { (status_of claim.new ≡ status_of claim.old) × (claim.new.home ≡ claim.old.home) }
+        ensures drained { (taken_with claim.new ≡ taken_with claim.old) × (gave_last claim.new ≡ gave_last claim.old) × (drained_by claim.new ≡ drained_by claim.old ++ result) }
     {
         let (word, list) = self.grip(rt, &mut claim.seat, claim.actor);
         self.end_list(&mut claim.seat, claim.actor, word, list)

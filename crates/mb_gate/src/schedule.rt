@@ -70,12 +70,10 @@ impl<H: Resident> Gates<H> {
     {
         let old = seen.word();
         let new = status.word();
-        let found = self.table.shared.compare_exchange::<Schedule>(
-            &mut pass.seat,
-            word_index(id, STATUS),
-            old,
-            new,
-        );
+        let found = self
+            .table
+            .shared
+            .compare_exchange::<Schedule>(&mut pass.seat, word_index(id, STATUS), old, new);
         if found == old {
             return Tried::Got(self.claim(&mut pass.seat, id, status));
         }

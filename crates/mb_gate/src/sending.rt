@@ -1,7 +1,7 @@
 //! The waiting count: how many envelopes were announced and not taken.
 ghost use Rattle.std.specs.Prelude.{◌≡◌, ◌<◌, IsTrue};
 ghost use Rattle.mb_gate.specs.View.{owes, sending, unsending};
-ghost use Rattle.mb_gate.specs.Names.{gates_id, pass_id, claim_id, actors_of, known_by, known_of, held_actor, status_of};
+ghost use Rattle.mb_gate.specs.Names.{gates_id, pass_id, claim_id, actors_of, known_by, known_of, held_actor, status_of, SameTaken};
 
 use crate::claim::Claim;
 use crate::gates::Gates;
@@ -44,6 +44,7 @@ impl<H: Resident> Gates<H> {
         ensures ours { claim_id claim.new ≡ claim_id claim.old }
         ensures known { known_of claim.new ≡ known_of claim.old }
         ensures same { (held_actor claim.new ≡ held_actor claim.old) × (status_of claim.new ≡ status_of claim.old) × (claim.new.home ≡ claim.old.home) }
+        ensures taken { SameTaken claim.old claim.new }
     {
         let index = word_index(claim.actor, WAITING);
         self.table

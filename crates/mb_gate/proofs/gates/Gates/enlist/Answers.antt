@@ -12,9 +12,12 @@ store-requires g c =
     let lent = c.requires.lent in
     let l : Lent = record { actor = c.args.id.0; listed = c.args.list; gave = lent.gave } in
     let laid = c.lay_list.ensures.carries in
-    let list = c.push.ensures.list ∙ ap (λ b. if b then c.args.list else with_last c.args.list c.args.node) c.requires.not_ended in
-    (search rules, search rules, enlists_allowed g.H.Resident.is_of g.H.Resident.journal g.H.Resident.mailbox g.H.Resident.rested _ _ _ _ c.args.id.0 _ (let k = c.args.self.now.keyed in let t = c.requires.there in omega arith) l c.args.node _ c.word_index-gate.ensures (ap (λ m. m.0.list) laid ∙ lent.has) refl (laid_back c.args.id.0 _ _ c.args.seat.now.me _ laid list)
-      (c.with_listed_bit-new.ensures ∙ word_listed c.args.word c.args.list lent.gave c.args.node lent.found))
+    let list = c.push.ensures.list ∙ ap (λ b. if b then c.args.list else with_last c.args.list c.args.node) c.requires.not_ended in (
+      search rules,
+      search rules,
+      enlists_allowed g.H.Resident.is_of g.H.Resident.journal g.H.Resident.mailbox g.H.Resident.rested _ _ _ _ c.args.id.0 _ (let k = c.args.self.now.keyed in let t = c.requires.there in omega arith) l c.args.node _ c.word_index-gate.ensures (ap (λ m. m.0.list) laid ∙ lent.has) refl (laid_back c.args.id.0 _ _ c.args.seat.now.me _ laid list)
+          (c.with_listed_bit-new.ensures ∙ word_listed c.args.word c.args.list lent.gave c.args.node lent.found),
+    )
 
 pub returns-clause-listed : goal.returns-clause-listed
 returns-clause-listed g c =

@@ -5,9 +5,13 @@ use Rattle.mb_gate.proofs.Wins.{free_mod, scheduled_word, taken, got}
 use Rattle.mb_gate.proofs.gates.Gates.exchange_status.Goals as goal
 
 pub compare_exchange-found-requires : goal.compare_exchange-found-requires
-compare_exchange-found-requires g c = (search rules, search rules, schedules_allowed g.H.Resident.is_of g.H.Resident.journal g.H.Resident.mailbox g.H.Resident.rested _ _ _ _ c.args.id.0 _ (let k = c.args.self.now.keyed in let t = c.requires.there in omega arith) _ _ c.word_index.ensures
-    (ap (λ n. n % 4) c.word-old.ensures.word ∙ free_mod c.args.seen c.requires.free)
-    (c.word-new.ensures.word ∙ (scheduled_word c.args.seen c.args.status c.requires.free c.requires.scheduled ∙ ap (λ n. n + 2) (sym c.word-old.ensures.word))) c.args.pass.now.holds_nothing.1)
+compare_exchange-found-requires g c = (
+  search rules,
+  search rules,
+  schedules_allowed g.H.Resident.is_of g.H.Resident.journal g.H.Resident.mailbox g.H.Resident.rested _ _ _ _ c.args.id.0 _ (let k = c.args.self.now.keyed in let t = c.requires.there in omega arith) _ _ c.word_index.ensures
+      (ap (λ n. n % 4) c.word-old.ensures.word ∙ free_mod c.args.seen c.requires.free)
+      (c.word-new.ensures.word ∙ (scheduled_word c.args.seen c.args.status c.requires.free c.requires.scheduled ∙ ap (λ n. n + 2) (sym c.word-old.ensures.word))) c.args.pass.now.holds_nothing.1,
+)
 
 pub claim-requires-clause-won : goal.claim-requires-clause-won
 claim-requires-clause-won g c = taken g.H.Resident.is_of g.H.Resident.journal g.H.Resident.mailbox g.H.Resident.rested _ _ _ _ ((c.compare_exchange-found.ensures.2 _ c.word_index.ensures).0 c.if-found-old.true) c.args.status

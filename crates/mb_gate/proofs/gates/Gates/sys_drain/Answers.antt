@@ -1,4 +1,4 @@
-use Rattle.std.proofs.Common.{rules, ◌≡◌, ◌<◌, ap, sym, ◌∙◌, refl, arith}
+use Rattle.std.proofs.Common.{rules, ◌≡◌, ◌<◌, ◌++◌, append-nil, ap, sym, ◌∙◌, refl, arith}
 use Rattle.mb_gate.specs.Claims.{held_in}
 use Rattle.mb_gate.specs.View.{draining}
 use Rattle.mb_gate.specs.Rule.{is_some_item}
@@ -15,3 +15,14 @@ returns-then-word-eq0-clause-known g c =
     let told = c.load-word.ensures.2 in
     ap (λ m. m.0) told.0 ∙ (drains_nothing claim.seat.me.0 claim.has claim.no_list (told.1 claim.actor.0 c.word_index-gate.ensures c.if-word-eq0.true (held_in claim.seat.me.0) claim.has claim.of)
     ∙ ap (λ r. draining r (is_some_item r) claim.seat.me.0) (sym c.new.ensures))
+
+pub returns-then-word-eq0-clause-drained : goal.returns-then-word-eq0-clause-drained
+returns-then-word-eq0-clause-drained g c =
+    let claim = c.args.claim.now in
+    let told = c.load-word.ensures.2 in
+    let gave = told.1 claim.actor.0 c.word_index-gate.ensures c.if-word-eq0.true (held_in claim.seat.me.0) claim.has claim.of in
+    let empty = sym c.new.ensures in (
+      ap (λ m. (held_in m.0).journal) told.0,
+      ap (λ m. (held_in m.0).gave) told.0 ∙ (gave ∙ ap is_some_item empty),
+      ap (λ m. (held_in m.0).drained) told.0 ∙ (sym (append-nil (held_in claim.seat.me.0).drained) ∙ ap (λ r. (held_in claim.seat.me.0).drained ++ r) empty),
+    )
