@@ -1,4 +1,4 @@
-ghost use Rattle.std.specs.Prelude.{◌≡◌, ◌<◌, [], IsFalse, false, true};
+ghost use Rattle.std.specs.Prelude.{◌≡◌, ◌<◌, [], IfOk};
 ghost use Rattle.mb_status.specs.Mailbox.{Mailbox, word_of, idle};
 ghost use Rattle.mb_gate.specs.Names.{gates_id, pass_id, claim_id, actors_of, known_by, held_actor, status_of, taken_with, gave_last};
 
@@ -6,6 +6,7 @@ use crate::{Claim, Gates, Pass, Resident, Tried};
 use mb_msg::{ActorId, SysMsg};
 use mb_status::Status;
 use mb_syslist::Node;
+use std::alloc::Global;
 use std::process::Abort;
 use std::test::Fail;
 
@@ -62,11 +63,72 @@ fn give(gates: &Gates<Desk>, mut claim: Claim<Desk>, pass: &mut Pass<Desk>)
     gates.release(claim, pass);
 }
 
+// The gates of one actor that is not started, with a pass.
+fn gates_of_one(alloc: Global) -> Result<(Gates<Desk>, Pass<Desk>), Fail>
+    ensures { IfOk result (λ made. (actors_of made.0 ≡ 1) × (pass_id made.1 ≡ gates_id made.0)) }
+{
+    let mut desks = Vec::with_capacity(alloc, 1)?;
+    let status = Status::of(4).ok_or("a valid word")?;
+    desks.push_reserved(Desk { actor: 0, status });
+    match Gates::new(alloc, desks) {
+        Ok(made) => Ok(made),
+        Err(_) => Err(Fail::from("no memory")),
+    }
+}
+
+// Whether a try to schedule the actor finds that a worker holds it, or that it is closed.
+fn is_already(gates: &Gates<Desk>, pass: &mut Pass<Desk>, id: ActorId) -> bool
+    requires ours { pass_id pass.old ≡ gates_id gates.now }
+    requires there { id.0 < actors_of gates.now }
+    ensures ours { pass_id pass.new ≡ pass_id pass.old }
+{
+    match gates.try_schedule(pass, id) {
+        Tried::Already => true,
+        Tried::Closed | Tried::Lost(_) => false,
+        Tried::Got(claim) => {
+            claim.abandon();
+            false
+        }
+    }
+}
+
+fn is_closed(gates: &Gates<Desk>, pass: &mut Pass<Desk>, id: ActorId) -> bool
+    requires ours { pass_id pass.old ≡ gates_id gates.now }
+    requires there { id.0 < actors_of gates.now }
+    ensures ours { pass_id pass.new ≡ pass_id pass.old }
+{
+    match gates.try_schedule(pass, id) {
+        Tried::Closed => true,
+        Tried::Already | Tried::Lost(_) => false,
+        Tried::Got(claim) => {
+            claim.abandon();
+            false
+        }
+    }
+}
+
 #[test]
 fn one_actor(rt: HostRuntime) -> Result<(), Fail> {
     let alloc = rt.alloc();
-    let mut desks = Vec::with_capacity(alloc, 1)?;
-    let status = Status::of(4).ok_or("a valid word")?;
-    desks.push(Desk { actor: 0, status })?;
+    let (gates, mut a) = gates_of_one(alloc)?;
+    let mut b = gates.another(&mut a);
+    let id = GUARDIAN;
+    assert_eq!(rt; gates.status(&mut a, id).word(), 4);
+    let mut claim = got(&rt, &gates, &mut a, id);
+    assert_eq!(rt; gates.status(&mut a, id).word(), 6);
+    assert!(rt; is_already(&gates, &mut b, id));
+    assert!(rt; gates.resume(&mut claim));
+    assert_eq!(rt; gates.status(&mut b, id).word(), 2);
+    give(&gates, claim, &mut a);
+    assert_eq!(rt; gates.status(&mut a, id).word(), 0);
+    let mut claim = got(&rt, &gates, &mut b, id);
+    assert!(rt; gates.close_mailbox(&mut claim));
+    assert_eq!(rt; gates.status(&mut a, id).word(), 1);
+    assert!(rt; gates.sys_close(&rt, &mut claim).is_empty());
+    give(&gates, claim, &mut b);
+    assert!(rt; is_closed(&gates, &mut a, id));
+    let node = Node::new(alloc, SysMsg::Terminate)?;
+    assert!(rt; gates.sys_enqueue(&rt, &mut a, id, node).is_err());
+    gates.absorb(&mut a, b);
     Ok(())
 }
