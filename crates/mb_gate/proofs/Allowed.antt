@@ -1,5 +1,5 @@
 -- Each step of the gates is one that the table allows.
-use Rattle.std.proofs.Common.{◌≡◌, ◌≢◌, ℕ, ◌+◌, ◌-◌, ◌*◌, ◌/◌, ◌%◌, ◌^◌, ◌==◌, ◌<◌, if◌then◌else◌, ◌⊎◌, inl, inr, ⊎_elim, Bool, true, false, not, ◌||◌, IsTrue, List, [], ◌∷◌, ◌++◌, set, sym, refl, ap, ◌∙◌, subst, Option, Some, None, eqb, arith}
+use Rattle.std.proofs.Common.{◌≡◌, ◌≢◌, ℕ, ◌+◌, ◌/◌, ◌%◌, ◌==◌, ◌<◌, if◌then◌else◌, ◌⊎◌, inl, inr, Bool, true, false, ◌||◌, IsTrue, List, [], ◌∷◌, ◌++◌, sym, refl, ap, ◌∙◌, subst, Option, Some, None, arith}
 use mathlib.Core.Option as maybe
 use mathlib.Core.Option.{none, some}
 use lib.ListN.{get_elem?}
@@ -13,17 +13,16 @@ use Rattle.atomic_table.specs.Table.{rest as tail_of}
 use Rattle.atomic_table.proofs.Lists.{exchanged}
 use Rattle.mb_rule.specs.Layout.{Spot, word_at, slot_at}
 use Rattle.mb_rule.specs.Ruled.{Ruled, Goes}
-use Rattle.mb_rule.specs.Seen.{Each}
 use Rattle.mb_rule.proofs.RuledLemmas.{allows, splits, joins}
 use Rattle.mb_rule.proofs.SeenLemmas.{each_weaker}
 use Rattle.mb_gate.specs.declared.slot.Slot.{Slot}
 use Rattle.mb_gate.specs.declared.slot.Slot.TheVariants.{Home, List as Listing, Note}
-use Rattle.mb_gate.specs.View.{View, Sight, Read, Saw, Held, Lent, owes, reading, taking, writing, idling, sending, unsending, counting, looking, lending, enlisting, refusing, draining, blank, claim_alone, without_claim, taking_over}
-use Rattle.mb_gate.specs.Rule.{Word, Status, Flag, Gate, Waiting, word_offset, Shelf, CellShelf, ListShelf, slot_offset, Ghost, Extends, IsSo, Knows, has_work, is_some_item, gate_word, IsHome, Shelving, IsShelved, IsLent, Fact}
+use Rattle.mb_gate.specs.View.{View, Read, Saw, Held, Lent, reading, taking, idling, sending, unsending, counting, looking, lending, enlisting, refusing, draining, blank, claim_alone, without_claim, taking_over}
+use Rattle.mb_gate.specs.Rule.{Word, Status, Flag, Gate, Waiting, word_offset, Shelf, CellShelf, ListShelf, slot_offset, Ghost, Extends, IsSo, Knows, has_work, is_some_item, gate_word, Shelving, Fact}
 use Rattle.mb_gate.specs.Plays.{IsBefore, GoesOn, IsWord, StaysClosed, shows_work, Reads, Writes, Sends, Unsends, Stays, Counts, Looks, Gripped, Grips, Enlists, Refuses, Drains, Ends, IsEmpty, Glances, Won, Schedules, Idles}
 use Rattle.mb_gate.proofs.StatusSteps.{reads, is_home, is_held, schedules, writes, idles, idles_closed}
 use Rattle.mb_gate.proofs.WaitingSteps.{sends, unsends, takes_one, counts, looks, glances}
-use Rattle.mb_gate.proofs.ListSteps.{is_shelved, is_lent, grips, enlists, unloads, refuses, gate_even}
+use Rattle.mb_gate.proofs.ListSteps.{is_shelved, is_lent, grips, enlists, unloads, refuses}
 use Rattle.mb_gate.proofs.Parting.{parts, takes_over}
 
 pub words_few : (w : Word) → word_offset w < 8

@@ -1,5 +1,5 @@
 -- What holds of an actor stays so where only a view changes, or where the words that it speaks of do not.
-use Rattle.std.proofs.Common.{◌≡◌, ◌≢◌, ℕ, ◌+◌, ◌%◌, ◌==◌, if◌then◌else◌, ◌⊎◌, inl, inr, ⊎_elim, Bool, true, false, ◌||◌, IsTrue, List, [], ◌∷◌, ◌++◌, set, sym, refl, ap, ◌∙◌, subst, Option, Some, None, arith}
+use Rattle.std.proofs.Common.{◌≡◌, ℕ, ◌%◌, ◌==◌, if◌then◌else◌, ◌⊎◌, inl, inr, ⊎_elim, true, false, ◌||◌, IsTrue, List, set, sym, refl, ap, ◌∙◌, subst, Option, Some, None}
 use mathlib.Core.Option.{some}
 use lib.ListN.{get_elem?}
 use Rattle.mb_status.specs.Mailbox.{Mailbox}
@@ -7,15 +7,13 @@ use Rattle.mb_syslist.specs.MessageList.{MessageList}
 use Rattle.mb_gate.specs.declared.slot.Slot.TheVariants.{List as Listing}
 use Rattle.mb_journal.specs.Entry.{Entry}
 use Rattle.mb_core.specs.declared.debt.Debt.{Debt}
-use Rattle.mb_rule.specs.Layout.{Spot, write, fill}
-use Rattle.mb_rule.specs.Locked.{Locked}
-use Rattle.mb_rule.specs.Owed.{Owed}
-use Rattle.mb_rule.proofs.LockedLemmas.{stays_locked, splits_locked, joins_locked}
-use Rattle.mb_rule.proofs.OwedLemmas.{still_owed, splits_owed, joins_owed}
-use Rattle.mb_rule.proofs.SeenLemmas.{learns, splits_seen, joins_seen}
+use Rattle.mb_rule.specs.Layout.{Spot, write}
+use Rattle.mb_rule.proofs.LockedLemmas.{stays_locked}
+use Rattle.mb_rule.proofs.OwedLemmas.{still_owed}
+use Rattle.mb_rule.proofs.SeenLemmas.{learns}
 use Rattle.mb_gate.specs.declared.slot.Slot.{Slot}
-use Rattle.mb_gate.specs.View.{View, Held, Lent, owes}
-use Rattle.mb_gate.specs.Rule.{Word, Status, Flag, Gate, Waiting, word_offset, Shelf, CellShelf, ListShelf, Ghost, claim_for, list_for, Extends, Knows, MessageDue, SystemDue, PaysMessage, PaysSystem, gate_word, IsHome, IsHeld, Keeping, IsShelved, IsLent, Shelving, Fact}
+use Rattle.mb_gate.specs.View.{View, Held, Lent}
+use Rattle.mb_gate.specs.Rule.{Word, Status, Flag, Gate, Waiting, word_offset, Shelf, CellShelf, ListShelf, Ghost, claim_for, list_for, Knows, MessageDue, SystemDue, PaysMessage, PaysSystem, gate_word, Keeping, Shelving, Fact}
 use Rattle.mb_gate.proofs.Views.{Elsewhere}
 
 -- a word that is written as it was leaves the row as it was

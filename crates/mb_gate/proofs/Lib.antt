@@ -10,3 +10,4 @@ pub mod Wins
 pub mod Rows
 pub mod Starting
 pub mod ListCalls
+pub mod Shows

@@ -1,5 +1,5 @@
 -- A list that was taken out and given back, and its gate's words.
-use Rattle.std.proofs.Common.{◌≡◌, ◌≢◌, ℕ, ◌+◌, ◌*◌, ◌/◌, ◌%◌, ◌==◌, ◌<◌, if◌then◌else◌, Bool, true, false, not, ◌||◌, IsTrue, List, [], ◌∷◌, ◌++◌, sym, refl, ap, ◌∙◌, subst, Option, Some, None, eq-eqb, ne_eqb, append-nil, arith}
+use Rattle.std.proofs.Common.{◌≡◌, ◌≢◌, ℕ, ◌+◌, ◌/◌, ◌%◌, ◌==◌, ◌<◌, if◌then◌else◌, Bool, true, false, not, IsTrue, List, [], ◌∷◌, ◌++◌, sym, refl, ap, ◌∙◌, subst, Some, None, eq-eqb, ne_eqb, append-nil, arith}
 use mathlib.Core.Logic.{dite}
 use native.Mathlib.Decide.{ℕ_discrete}
 use Rattle.atomic_table.specs.Table.{Me, rest}
@@ -8,11 +8,11 @@ use Rattle.mb_syslist.specs.MessageList.{MessageList, with_last, drained, ended,
 use Rattle.mb_rule.specs.Layout.{slot_at}
 use Rattle.mb_gate.specs.declared.slot.Slot.{Slot}
 use Rattle.mb_gate.specs.declared.slot.Slot.TheVariants.{Empty, List as Listing}
-use Rattle.mb_gate.specs.View.{View, Held, lending, regiven, draining}
+use Rattle.mb_gate.specs.View.{View, lending, regiven, draining}
 use Rattle.mb_gate.specs.Claims.{held_in}
 use Rattle.mb_gate.specs.Rule.{is_some_item, gate_word}
 use Rattle.mb_gate.specs.Plays.{Gripped}
-use Rattle.mb_gate.specs.Lists.{IsLentBy, IsOut, HasClaim, with_listed, with_drained, with_ended}
+use Rattle.mb_gate.specs.Lists.{IsLentBy, IsOut, with_listed, with_drained, with_ended}
 
 head_same : {A : Type 0} (a b : A) (xs ys : List A) → a ∷ xs ≡ b ∷ ys → a ≡ b
 head_same a b xs ys e = cc

@@ -1,10 +1,10 @@
 -- The steps on the gate of an actor's list keep the rule.
-use Rattle.std.proofs.Common.{◌≡◌, ◌≢◌, ℕ, ◌+◌, ◌*◌, ◌/◌, ◌%◌, ◌==◌, ◌<◌, if◌then◌else◌, ◌⊎◌, inl, inr, ⊎_elim, Bool, true, false, ◌||◌, IsTrue, List, [], ◌∷◌, ◌++◌, set, sym, refl, ap, ◌∙◌, subst, Option, Some, None, eqb, eq-eqb, ne_eqb, append_assoc, append-nil, arith}
+use Rattle.std.proofs.Common.{◌≡◌, ℕ, ◌+◌, ◌%◌, if◌then◌else◌, ◌⊎◌, ⊎_elim, Bool, true, false, ◌||◌, IsTrue, List, [], ◌∷◌, ◌++◌, set, sym, refl, ap, ◌∙◌, subst, Option, Some, None, append_assoc, append-nil, arith}
 use mathlib.Core.Option.{none, some}
 use lib.ListN.{get_elem?}
 use Rattle.mb_status.specs.Mailbox.{Mailbox}
 use Rattle.mb_msg.specs.declared.system.SysMsg.{SysMsg}
-use Rattle.mb_syslist.specs.MessageList.{MessageList, with_last, drained, ended}
+use Rattle.mb_syslist.specs.MessageList.{MessageList, with_last}
 use Rattle.mb_journal.specs.Entry.{Entry}
 use Rattle.mb_core.specs.declared.debt.Debt.{Debt}
 use Rattle.atomic_table.specs.Table.{Me}
@@ -17,9 +17,9 @@ use Rattle.mb_rule.proofs.OwedLemmas.{pays, still_owed}
 use Rattle.mb_rule.proofs.SeenLemmas.{learns}
 use Rattle.mb_gate.specs.declared.slot.Slot.{Slot}
 use Rattle.mb_gate.specs.declared.slot.Slot.TheVariants.{List as Listing}
-use Rattle.mb_gate.specs.View.{View, Held, Lent, owes, owing, Said, lending, enlisting, refusing, regiven, draining}
-use Rattle.mb_gate.specs.Rule.{Word, Status, Flag, Gate, Waiting, word_offset, Shelf, CellShelf, ListShelf, slot_offset, Ghost, is_some_item, gate_word, held_of, lent_of, claim_for, list_for, IsAmong, IsTold, Knows, MessageDue, SystemDue, PaysMessage, PaysSystem, IsHeld, Keeping, IsShelved, IsLent, Shelving, Fact}
-use Rattle.mb_gate.proofs.Views.{Elsewhere, held_here, held_else, lent_here, lent_else, owes_here, owes_else, extends_self, goes_on}
+use Rattle.mb_gate.specs.View.{View, Held, Lent, owes, Said, lending, enlisting, refusing, regiven, draining}
+use Rattle.mb_gate.specs.Rule.{Word, Gate, word_offset, Shelf, ListShelf, slot_offset, Ghost, is_some_item, gate_word, held_of, lent_of, claim_for, list_for, IsAmong, IsTold, Knows, MessageDue, SystemDue, PaysMessage, PaysSystem, IsShelved, IsLent, Shelving, Fact}
+use Rattle.mb_gate.proofs.Views.{held_here, held_else, lent_here, lent_else, owes_here, owes_else, extends_self, goes_on}
 use Rattle.mb_gate.proofs.Facts.{still_kept, views_change, elsewhere, load_here}
 use Rattle.mb_gate.proofs.StatusSteps.{is_held}
 

@@ -1,6 +1,6 @@
 -- Views that are cut in two, and views that are put together, keep the rule.
-use Rattle.std.proofs.Common.{◌≡◌, ◌≢◌, ℕ, ◌==◌, if◌then◌else◌, ◌⊎◌, inl, inr, Bool, true, false, ◌||◌, IsTrue, List, [], ◌∷◌, ◌++◌, set, sym, refl, ap, ◌∙◌, subst, Option, Some, None, eq-eqb, ne_eqb, arith}
-use mathlib.Core.Option.{none, some}
+use Rattle.std.proofs.Common.{◌≡◌, ℕ, ◌==◌, if◌then◌else◌, ◌⊎◌, inl, inr, Bool, true, false, ◌||◌, IsTrue, List, [], ◌∷◌, ◌++◌, set, sym, refl, ap, ◌∙◌, subst, None}
+use mathlib.Core.Option.{some}
 use lib.ListN.{get_elem?}
 use Rattle.mb_status.specs.Mailbox.{Mailbox}
 use Rattle.mb_journal.specs.Entry.{Entry}
@@ -13,7 +13,7 @@ use Rattle.mb_rule.proofs.SeenLemmas.{splits_seen, joins_seen, each_append}
 use Rattle.atomic_table.proofs.Lists.{set_else}
 use Rattle.std.proofs.lemmas.Bool.{eqb-true}
 use Rattle.mb_gate.specs.declared.slot.Slot.{Slot}
-use Rattle.mb_gate.specs.View.{View, Held, Lent, debt_of, owes, blank, claim_alone, without_claim, either_owes, added_debts, taking_over}
+use Rattle.mb_gate.specs.View.{View, debt_of, owes, blank, either_owes, added_debts, taking_over}
 use Rattle.mb_gate.specs.Rule.{Word, Shelf, Ghost, held_of, lent_of, claim_for, list_for, IsSo, IsTold, Knows, MessageDue, SystemDue, PaysMessage, PaysSystem, Fact}
 
 added_at : (actor : ℕ) (d : ℕ × Debt) (ds old : List (ℕ × Debt)) (b : Bool) → (d.0 == actor) ≡ b → debt_of actor (added_debts ds old) ≡ either_owes (debt_of actor ds) (debt_of actor old)

@@ -1,18 +1,18 @@
 -- The rule holds as the gates begin.
-use Rattle.std.proofs.Common.{◌≡◌, ◌≢◌, ℕ, zero, suc, ◌+◌, ◌*◌, ◌%◌, ◌<◌, ◌≤◌, ◌==◌, if◌then◌else◌, ◌⊎◌, inl, inr, Bool, true, false, IsTrue, List, [], ◌∷◌, ◌++◌, map, length, get_or, sym, refl, ap, ◌∙◌, subst, Option, Some, None, ne_eqb, arith, slice_get}
+use Rattle.std.proofs.Common.{◌≡◌, ℕ, zero, suc, ◌+◌, ◌*◌, ◌%◌, ◌<◌, if◌then◌else◌, inl, false, IsTrue, List, [], ◌∷◌, ◌++◌, map, length, get_or, sym, refl, ap, ◌∙◌, subst, Option, Some, None, ne_eqb, arith, slice_get}
 use mathlib.Core.Option as maybe
 use mathlib.Core.Option.{none, some, some-ne-none, some-injective}
 use lib.ListN.{get_elem?, length-map}
-use Rattle.atomic_table.specs.Table.{State, opening}
-use Rattle.mb_status.specs.Mailbox.{Mailbox, word_of, is_valid, is_possible}
+use Rattle.atomic_table.specs.Table.{opening}
+use Rattle.mb_status.specs.Mailbox.{Mailbox, word_of, is_valid}
 use Rattle.mb_journal.specs.Entry.{Entry}
-use Rattle.mb_rule.specs.Layout.{Spot, word_at, slot_at, spot_of}
+use Rattle.mb_rule.specs.Layout.{word_at, slot_at}
 use Rattle.mb_rule.specs.Ruled.{Ruled}
 use Rattle.mb_rule.specs.Locked.{ticket_at}
 use Rattle.mb_gate.specs.declared.slot.Slot.{Slot}
 use Rattle.mb_gate.specs.declared.slot.Slot.TheVariants.{Home, List as Listing}
 use Rattle.mb_gate.specs.View.{View, blank}
-use Rattle.mb_gate.specs.Rule.{Word, Status, Flag, Gate, Waiting, word_offset, Shelf, CellShelf, ListShelf, slot_offset, Ghost, Knows, claim_for, list_for, Fact}
+use Rattle.mb_gate.specs.Rule.{word_offset, slot_offset, Ghost, Knows, claim_for, list_for, Fact}
 use Rattle.mb_gate.specs.Starts.{no_messages, rows_of, row_of, shelves_of, IsFresh}
 use Rattle.mb_gate.proofs.Rows.{length-rows_of, length-shelves_of}
 use Rattle.mb_gate.proofs.Wins.{free_word, free_mod, valid_word}

@@ -1,11 +1,10 @@
 -- The steps on an actor's status word keep the rule.
-use Rattle.std.proofs.Common.{◌≡◌, ◌≢◌, ℕ, ◌+◌, ◌%◌, ◌==◌, ◌<◌, if◌then◌else◌, ◌⊎◌, inl, inr, ⊎_elim, Bool, true, false, ◌||◌, IsTrue, List, [], ◌∷◌, ◌++◌, set, sym, refl, ap, ◌∙◌, subst, Option, Some, None, eqb, eq-eqb, ne_eqb, arith}
+use Rattle.std.proofs.Common.{◌≡◌, ◌≢◌, ℕ, ◌+◌, ◌%◌, if◌then◌else◌, ◌⊎◌, inl, inr, ⊎_elim, true, false, ◌||◌, IsTrue, List, [], ◌∷◌, set, sym, refl, ap, ◌∙◌, subst, Option, Some, None, eq-eqb, ne_eqb, arith}
 use mathlib.Core.Option.{none, some}
 use lib.ListN.{get_elem?}
 use Rattle.mb_status.specs.Mailbox.{Mailbox, mailbox_of, word_of, is_valid}
 use Rattle.mb_journal.specs.Entry.{Entry}
 use Rattle.mb_core.specs.declared.debt.Debt.{Debt}
-use Rattle.mb_core.specs.Actor.{nothing}
 use Rattle.mb_core.specs.Run.{after_reading}
 use Rattle.atomic_table.specs.Table.{Me}
 use Rattle.atomic_table.specs.Table.{rest as tail_of}
@@ -13,14 +12,14 @@ use Rattle.mb_rule.specs.Locked.{Locked}
 use Rattle.mb_rule.specs.Layout.{Spot, slot_at, write, fill}
 use Rattle.mb_rule.specs.Ruled.{Goes, stays, takes_from, gives_to}
 use Rattle.mb_rule.proofs.LockedLemmas.{stays_locked, takes_up, turns_over, puts_back, is_holder}
-use Rattle.mb_rule.proofs.OwedLemmas.{pays, still_owed}
+use Rattle.mb_rule.proofs.OwedLemmas.{pays}
 use Rattle.mb_rule.proofs.SeenLemmas.{learns}
 use Rattle.mb_gate.specs.declared.slot.Slot.{Slot}
 use Rattle.mb_gate.specs.declared.slot.Slot.TheVariants.{Home}
-use Rattle.mb_gate.specs.View.{View, Saw, rewritten, Held, Lent, owes, reading, taking, writing, idling}
-use Rattle.mb_gate.specs.Rule.{Word, Status, Flag, Gate, Waiting, word_offset, Shelf, CellShelf, ListShelf, slot_offset, Ghost, held_of, claim_for, list_for, Extends, Knows, MessageDue, SystemDue, PaysMessage, PaysSystem, IsHome, IsHeld, Keeping, Fact}
+use Rattle.mb_gate.specs.View.{View, Saw, rewritten, Held, owes, reading, taking, writing, idling}
+use Rattle.mb_gate.specs.Rule.{Word, Status, Flag, word_offset, Shelf, CellShelf, slot_offset, Ghost, held_of, claim_for, list_for, Extends, Knows, MessageDue, SystemDue, PaysMessage, PaysSystem, IsHome, IsHeld, Keeping, Fact}
 use Rattle.mb_gate.proofs.Views.{held_here, owes_here, extends_self, reading_elsewhere, taking_elsewhere, writing_elsewhere, idling_elsewhere, goes_on}
-use Rattle.mb_gate.proofs.Facts.{still_kept, still_shelved, views_change, elsewhere, load_here}
+use Rattle.mb_gate.proofs.Facts.{still_shelved, views_change, elsewhere, load_here}
 use Rattle.mb_gate.proofs.Words.{scheduled_valid, reading_pays_message, reading_pays_system}
 
 module _ {H : Type 0} (is_of : ℕ → H → Type 0) (journal : H → List Entry) (mailbox : H → Mailbox) (rested : H → Type 0) where

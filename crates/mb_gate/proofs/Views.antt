@@ -1,15 +1,14 @@
 -- What a step at one actor leaves of a view towards the others.
-use Rattle.std.proofs.Common.{◌≡◌, ◌≢◌, ℕ, ◌+◌, ◌==◌, if◌then◌else◌, Bool, true, false, IsTrue, List, [], ◌∷◌, ◌++◌, sym, refl, ap, ◌∙◌, subst, Option, Some, None, eq-eqb, ne_eqb, arith, append_assoc}
+use Rattle.std.proofs.Common.{◌≡◌, ◌≢◌, ℕ, ◌+◌, ◌==◌, if◌then◌else◌, Bool, true, false, List, [], ◌++◌, sym, refl, ap, ◌∙◌, Some, None, eq-eqb, ne_eqb, append_assoc}
 use Rattle.mb_journal.specs.Entry.{Entry}
 use Rattle.mb_core.specs.declared.debt.Debt.{Debt}
 use Rattle.mb_core.specs.Actor.{nothing}
 use Rattle.mb_core.specs.Run.{after_reading}
 use Rattle.mb_status.specs.Mailbox.{mailbox_of}
 use Rattle.mb_rule.specs.Layout.{Spot}
-use Rattle.mb_rule.specs.Seen.{Each}
-use Rattle.mb_rule.proofs.SeenLemmas.{each_weaker, each_append}
+use Rattle.mb_rule.proofs.SeenLemmas.{each_weaker}
 use Rattle.mb_gate.specs.declared.slot.Slot.{Slot}
-use Rattle.mb_gate.specs.View.{View, Sight, Read, Saw, Held, Lent, Said, debt_of, owes, owing, reading, taking, rewritten, writing, idling, sending, unsending, counting, looking, blank, either_owes, added_debts, taking_over}
+use Rattle.mb_gate.specs.View.{View, Read, Saw, Held, Lent, Said, owes, owing, reading, taking, rewritten, writing, idling, counting, looking}
 use Rattle.mb_gate.specs.Rule.{Word, Shelf, Ghost, Status, held_of, lent_of, claim_for, list_for, Extends, IsSo, IsTold, Knows}
 
 pub held_here : (actor : ℕ) (c : Held) → c.actor ≡ actor → held_of actor (Some c) ≡ Some c

@@ -1,6 +1,6 @@
 -- The steps on an actor's waiting count, and a look at its list's gate, keep the rule.
-use Rattle.std.proofs.Common.{◌≡◌, ◌≢◌, ℕ, ◌+◌, ◌%◌, ◌==◌, ◌<◌, if◌then◌else◌, ◌⊎◌, inl, inr, ⊎_elim, Bool, true, false, ◌||◌, IsTrue, List, [], ◌∷◌, ◌++◌, set, sym, refl, ap, ◌∙◌, subst, Option, Some, None, eqb, eq-eqb, ne_eqb, arith}
-use mathlib.Core.Option.{none, some}
+use Rattle.std.proofs.Common.{◌≡◌, ℕ, ◌==◌, if◌then◌else◌, ⊎_elim, Bool, true, false, ◌||◌, IsTrue, List, set, sym, refl, subst, Some, arith}
+use mathlib.Core.Option.{some}
 use lib.ListN.{get_elem?}
 use Rattle.mb_status.specs.Mailbox.{Mailbox}
 use Rattle.mb_journal.specs.Entry.{Entry}
@@ -13,8 +13,8 @@ use Rattle.mb_rule.proofs.OwedLemmas.{pays, still_owed}
 use Rattle.mb_rule.proofs.SeenLemmas.{learns}
 use Rattle.mb_gate.specs.declared.slot.Slot.{Slot}
 use Rattle.mb_gate.specs.View.{View, Held, owes, owing, sending, unsending, counting, looking}
-use Rattle.mb_gate.specs.Rule.{Word, Status, Flag, Gate, Waiting, word_offset, Shelf, slot_offset, Ghost, claim_for, list_for, Knows, MessageDue, SystemDue, PaysMessage, PaysSystem, has_work, Fact}
-use Rattle.mb_gate.proofs.Views.{Elsewhere, owes_here, extends_self, owing_elsewhere, goes_on}
+use Rattle.mb_gate.specs.Rule.{Word, Gate, Waiting, word_offset, Shelf, slot_offset, Ghost, claim_for, list_for, Knows, MessageDue, SystemDue, PaysMessage, PaysSystem, has_work, Fact}
+use Rattle.mb_gate.proofs.Views.{owes_here, extends_self, owing_elsewhere, goes_on}
 use Rattle.mb_gate.proofs.Facts.{still_kept, still_shelved, views_change, elsewhere, load_here}
 use Rattle.mb_gate.proofs.StatusSteps.{is_held}
 use Rattle.std.proofs.lemmas.Bool.{eqb-true}

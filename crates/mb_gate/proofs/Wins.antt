@@ -1,16 +1,16 @@
 -- What a won exchange of a status word gives.
-use Rattle.std.proofs.Common.{◌≡◌, ◌≢◌, ℕ, ◌+◌, ◌*◌, ◌%◌, ◌==◌, if◌then◌else◌, ◌⊎◌, inl, inr, Bool, true, false, not, ◌&&◌, ◌||◌, nat_le, IsTrue, List, [], ◌∷◌, sym, refl, ap, ◌∙◌, subst, Option, Some, None, arith}
+use Rattle.std.proofs.Common.{◌≡◌, ℕ, ◌+◌, ◌*◌, ◌%◌, ◌==◌, if◌then◌else◌, ◌⊎◌, inl, inr, Bool, true, false, not, ◌&&◌, ◌||◌, nat_le, IsTrue, List, [], ◌∷◌, sym, refl, ap, ◌∙◌, subst, Some, None, arith}
 use Rattle.std.proofs.lemmas.Bool.Decides.{nat_tests}
 use Rattle.std.proofs.lemmas.Bool.{eqb-true}
 use Rattle.atomic_table.specs.Table.{Me}
-use Rattle.mb_status.specs.Mailbox.{Mailbox, word_of, is_valid, is_possible, most_suspensions, suspend, resume, idle, the_closed}
+use Rattle.mb_status.specs.Mailbox.{Mailbox, word_of, is_valid, is_possible, most_suspensions, suspend, resume, idle}
 use Rattle.mb_journal.specs.Entry.{Entry}
 use Rattle.mb_core.specs.Actor.{nothing}
 use Rattle.mb_rule.specs.Layout.{slot_at}
 use Rattle.mb_gate.specs.declared.slot.Slot.{Slot}
 use Rattle.mb_gate.specs.declared.slot.Slot.TheVariants.{Home}
 use Rattle.mb_gate.specs.declared.claim.Claim.{Claim}
-use Rattle.mb_gate.specs.View.{View, Held, owing, taking, claim_alone, without_claim}
+use Rattle.mb_gate.specs.View.{View, owing, claim_alone, without_claim}
 use Rattle.mb_gate.specs.Claims.{held_in, claimed, is_busy}
 use Rattle.mb_gate.specs.Plays.{GoesOn, Won}
 use Rattle.mb_gate.specs.Names.{known_of, held_actor, status_of, gave_last}

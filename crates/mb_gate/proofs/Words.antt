@@ -1,7 +1,7 @@
 -- Status words, by arithmetic.
-use Rattle.std.proofs.Common.{◌≡◌, ◌≢◌, ℕ, ◌+◌, ◌*◌, ◌/◌, ◌%◌, ◌==◌, ◌<◌, ◌≤◌, if◌then◌else◌, ◌⊎◌, inl, inr, Bool, true, false, not, ◌&&◌, ◌||◌, IsTrue, sym, refl, ap, ◌∙◌, subst, eqb, eq-eqb, ne_eqb, arith}
+use Rattle.std.proofs.Common.{◌≡◌, ℕ, ◌+◌, ◌/◌, ◌%◌, if◌then◌else◌, Bool, true, false, ◌||◌, IsTrue, sym, subst, ne_eqb, arith}
 use Rattle.std.proofs.lemmas.Bool.Decides.{nat_tests}
-use Rattle.mb_status.specs.Mailbox.{Mailbox, mailbox_of, word_of, is_valid, suspended}
+use Rattle.mb_status.specs.Mailbox.{Mailbox, mailbox_of, is_valid, suspended}
 use Rattle.mb_core.specs.declared.debt.Debt.{Debt}
 use Rattle.mb_core.specs.Actor.{nothing}
 use Rattle.mb_core.specs.Run.{after_reading}

@@ -6,3 +6,4 @@ pub mod Names
 pub mod Tries
 pub mod Starts
 pub mod Lists
+pub mod Shown

@@ -1,11 +1,11 @@
 -- A list that a seat took out, and the words of its gate.
-use Rattle.std.specs.Prelude.{◌≡◌, ℕ, ◌+◌, ◌*◌, ◌/◌, ◌%◌, ◌==◌, Bool, false, if◌then◌else◌, List, [], ◌∷◌, Option, Some, None}
+use Rattle.std.specs.Prelude.{◌≡◌, ℕ, ◌+◌, ◌*◌, ◌/◌, ◌%◌, ◌==◌, Bool, false, if◌then◌else◌, ◌∷◌, Some}
 use Rattle.atomic_table.specs.Table.{Me, rest}
 use Rattle.mb_syslist.specs.MessageList.{MessageList}
 use Rattle.mb_rule.specs.Layout.{slot_at}
 use Rattle.mb_gate.specs.declared.slot.Slot.{Slot}
 use Rattle.mb_gate.specs.declared.slot.Slot.TheVariants.{Empty}
-use Rattle.mb_gate.specs.View.{View, Held, lending}
+use Rattle.mb_gate.specs.View.{View, lending}
 use Rattle.mb_gate.specs.Claims.{held_in}
 use Rattle.mb_gate.specs.Rule.{gate_word}
 

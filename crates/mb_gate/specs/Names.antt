@@ -1,5 +1,5 @@
 -- How the calls of the gates are spoken of: no crate above needs a table, a seat or a rule.
-use Rattle.std.specs.Prelude.{◌≡◌, ℕ, Bool, List, Option, Some, None}
+use Rattle.std.specs.Prelude.{◌≡◌, ℕ, Bool, List}
 use Rattle.atomic_table.specs.Seated.{TableId}
 use Rattle.mb_status.specs.Mailbox.{Mailbox}
 use Rattle.mb_msg.specs.declared.system.SysMsg.{SysMsg}
@@ -7,7 +7,7 @@ use Rattle.mb_journal.specs.Entry.{Entry}
 use Rattle.mb_gate.specs.declared.gates.Gates.{Gates}
 use Rattle.mb_gate.specs.declared.pass.Pass.{Pass}
 use Rattle.mb_gate.specs.declared.claim.Claim.{Claim}
-use Rattle.mb_gate.specs.View.{View, Sight, Said}
+use Rattle.mb_gate.specs.View.{View}
 use Rattle.mb_gate.specs.Claims.{held_in}
 
 module _ {H : Type 0} where

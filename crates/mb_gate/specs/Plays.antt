@@ -1,6 +1,5 @@
 -- What each step of the gates tells the seat that makes it. A step does not know its actor, so it is told of it by the word's place.
-use Rattle.std.specs.Prelude.{◌≡◌, ◌≢◌, ℕ, ◌+◌, ◌/◌, ◌%◌, ◌==◌, Bool, true, false, not, IsTrue, List, [], ◌∷◌, Option, Some, None}
-use mathlib.Core.Option as maybe
+use Rattle.std.specs.Prelude.{◌≡◌, ◌≢◌, ℕ, ◌/◌, ◌%◌, ◌==◌, Bool, false, not, IsTrue, List, [], ◌∷◌, Some}
 use mathlib.Core.Option.{some}
 use Rattle.atomic_table.specs.Table.{Me, Step, rest}
 use Rattle.mb_status.specs.Mailbox.{Mailbox, word_of, is_valid}

@@ -1,5 +1,5 @@
 -- The gates' words and slots as they begin: each actor's home with its status word, and an empty list.
-use Rattle.std.specs.Prelude.{◌≡◌, ℕ, false, IsTrue, List, [], ◌∷◌, ◌++◌}
+use Rattle.std.specs.Prelude.{ℕ, false, IsTrue, List, [], ◌∷◌, ◌++◌}
 use Rattle.mb_status.specs.Mailbox.{Mailbox, word_of, is_possible}
 use Rattle.mb_syslist.specs.MessageList.{MessageList}
 use Rattle.mb_gate.specs.declared.slot.Slot.{Slot}

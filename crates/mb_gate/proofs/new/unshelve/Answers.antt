@@ -1,4 +1,4 @@
-use Rattle.std.proofs.Common.{rules, ◌≡◌, ◌+◌, ◌≤◌, ◌∷◌, ◌++◌, [], length, reverse, ap, sym, ◌∙◌, length-append, arith, vec_len}
+use Rattle.std.proofs.Common.{◌∷◌, ◌++◌, [], length, reverse, ap, sym, ◌∙◌, length-append, arith}
 use Rattle.mb_gate.specs.Starts.{homes_in}
 use Rattle.mb_gate.proofs.Rows.{homes_moved, homes_in-append}
 use Rattle.mb_gate.proofs.new.unshelve.Goals as goal

@@ -1,4 +1,4 @@
-use Rattle.std.proofs.Common.{rules, ◌≡◌, ◌<◌, ap, ◌∙◌, arith}
+use Rattle.std.proofs.Common.{rules}
 use Rattle.mb_gate.proofs.Allowed.{joins_allowed}
 use Rattle.mb_gate.proofs.gates.Gates.absorb.Goals as goal
 

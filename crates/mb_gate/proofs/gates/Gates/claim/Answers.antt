@@ -1,4 +1,4 @@
-use Rattle.std.proofs.Common.{rules, ◌≡◌, ◌<◌, ◌∷◌, [], ap, sym, ◌∙◌, arith}
+use Rattle.std.proofs.Common.{rules, ◌∷◌, ap, sym, ◌∙◌}
 use Rattle.atomic_table.specs.Table.{rest}
 use Rattle.mb_gate.specs.declared.slot.Slot.TheVariants.{Home}
 use Rattle.mb_gate.proofs.Allowed.{claims_allowed}

@@ -1,7 +1,6 @@
-use Rattle.std.proofs.Common.{rules, ◌≡◌, ◌<◌, ◌∷◌, not, Some, ap, sym, ◌∙◌, refl, arith}
+use Rattle.std.proofs.Common.{rules, not, ap, sym, ◌∙◌, refl, arith}
 use Rattle.atomic_table.specs.Table.{rest}
 use Rattle.mb_gate.specs.View.{Lent, draining}
-use Rattle.mb_gate.specs.Claims.{held_in}
 use Rattle.mb_gate.specs.Rule.{is_some_item}
 use Rattle.mb_gate.specs.Lists.{with_drained}
 use Rattle.mb_gate.proofs.Allowed.{drains_allowed}

@@ -1,4 +1,4 @@
-use Rattle.std.proofs.Common.{rules, ◌≡◌, ◌<◌, ◌∷◌, Some, ap, sym, ◌∙◌, refl, arith}
+use Rattle.std.proofs.Common.{rules, ap, sym, ◌∙◌, refl, arith}
 use Rattle.atomic_table.specs.Table.{rest}
 use Rattle.mb_gate.specs.View.{Lent, draining}
 use Rattle.mb_gate.specs.Claims.{held_in}

@@ -1,8 +1,7 @@
-use Rattle.std.proofs.Common.{rules, ◌≡◌, ◌<◌, ◌∷◌, if◌then◌else◌, Some, ap, sym, ◌∙◌, refl, arith}
+use Rattle.std.proofs.Common.{rules, if◌then◌else◌, ap, ◌∙◌, refl, arith}
 use Rattle.atomic_table.specs.Table.{rest}
 use Rattle.mb_syslist.specs.MessageList.{with_last}
 use Rattle.mb_gate.specs.View.{Lent, enlisting}
-use Rattle.mb_gate.specs.Lists.{with_listed}
 use Rattle.mb_gate.proofs.Allowed.{enlists_allowed}
 use Rattle.mb_gate.proofs.ListCalls.{word_listed, laid_back}
 use Rattle.mb_gate.proofs.gates.Gates.enlist.Goals as goal

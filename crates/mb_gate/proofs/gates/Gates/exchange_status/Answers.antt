@@ -1,5 +1,4 @@
-use Rattle.std.proofs.Common.{rules, ◌≡◌, ◌+◌, ◌%◌, ◌<◌, ◌==◌, ap, sym, ◌∙◌, subst, refl, arith, [], None}
-use Rattle.mb_status.specs.Mailbox.{word_of}
+use Rattle.std.proofs.Common.{rules, ◌+◌, ◌%◌, ap, sym, ◌∙◌, arith}
 use Rattle.mb_gate.proofs.Allowed.{schedules_allowed}
 use Rattle.mb_gate.proofs.Wins.{free_mod, scheduled_word, taken, got}
 use Rattle.mb_gate.proofs.gates.Gates.exchange_status.Goals as goal

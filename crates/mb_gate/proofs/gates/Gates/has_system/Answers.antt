@@ -1,4 +1,4 @@
-use Rattle.std.proofs.Common.{rules, ◌≡◌, ◌<◌, ap, ◌∙◌, arith}
+use Rattle.std.proofs.Common.{rules, ap, ◌∙◌, arith}
 use Rattle.mb_gate.proofs.Allowed.{looks_allowed}
 use Rattle.mb_gate.proofs.Views.{looking_rest}
 use Rattle.mb_gate.specs.Plays.{shows_work}

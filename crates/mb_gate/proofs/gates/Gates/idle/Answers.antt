@@ -1,4 +1,4 @@
-use Rattle.std.proofs.Common.{rules, ◌≡◌, ◌≢◌, ◌%◌, ◌<◌, IsTrue, true, false, inl, inr, ap, sym, ◌∙◌, subst, refl, arith}
+use Rattle.std.proofs.Common.{rules, ◌≡◌, ◌%◌, IsTrue, true, false, inl, inr, ap, sym, ◌∙◌, subst, arith}
 use Rattle.mb_status.specs.Mailbox.{word_of, is_valid, idle}
 use Rattle.mb_gate.proofs.Allowed.{idles_allowed, idles_closed_allowed}
 use Rattle.mb_gate.proofs.Wins.{valid_word, closed_word, one_closed, idle_free}

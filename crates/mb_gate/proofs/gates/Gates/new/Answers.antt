@@ -1,5 +1,5 @@
-use Rattle.std.proofs.Common.{rules, ◌≡◌, ◌*◌, ◌≤◌, length, ap, sym, ◌∙◌, arith}
-use Rattle.mb_gate.specs.Starts.{rows_of, shelves_of, homes_in}
+use Rattle.std.proofs.Common.{length, ap, ◌∙◌, arith}
+use Rattle.mb_gate.specs.Starts.{rows_of, homes_in}
 use Rattle.mb_gate.proofs.Rows.{length-rows_of, length-shelves_of, homes_in-shelves_of}
 use Rattle.mb_gate.proofs.Starting.{starts}
 use Rattle.mb_gate.proofs.gates.Gates.new.Goals as goal

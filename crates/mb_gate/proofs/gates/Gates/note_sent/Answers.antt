@@ -1,4 +1,4 @@
-use Rattle.std.proofs.Common.{rules, ◌≡◌, ◌+◌, ◌-◌, ◌%◌, ◌^◌, ◌<◌, ap, ◌∙◌, arith}
+use Rattle.std.proofs.Common.{rules, ◌+◌, ◌%◌, ◌^◌, ap, ◌∙◌, arith}
 use Rattle.mb_gate.proofs.Allowed.{sends_allowed}
 use Rattle.mb_gate.proofs.gates.Gates.note_sent.Goals as goal
 

@@ -1,4 +1,4 @@
-use Rattle.std.proofs.Common.{rules, ◌≡◌, ap, sym, ◌∙◌, refl}
+use Rattle.std.proofs.Common.{rules, ap, ◌∙◌}
 use Rattle.mb_gate.proofs.Allowed.{joins_allowed}
 use Rattle.mb_gate.proofs.gates.Gates.release.Goals as goal
 

@@ -1,4 +1,4 @@
-use Rattle.std.proofs.Common.{rules, ◌≡◌, ◌<◌, ap, sym, ◌∙◌, subst, arith}
+use Rattle.std.proofs.Common.{rules, ap, sym, ◌∙◌, subst, arith}
 use Rattle.mb_gate.specs.Plays.{StaysClosed}
 use Rattle.mb_gate.specs.Names.{known_by}
 use Rattle.mb_gate.proofs.Allowed.{reads_allowed}

@@ -1,4 +1,4 @@
-use Rattle.std.proofs.Common.{rules, ◌≡◌, ◌<◌, ◌++◌, append-nil, ap, sym, ◌∙◌, refl, arith}
+use Rattle.std.proofs.Common.{rules, ◌++◌, append-nil, ap, sym, ◌∙◌, arith}
 use Rattle.mb_gate.specs.Claims.{held_in}
 use Rattle.mb_gate.specs.View.{draining}
 use Rattle.mb_gate.specs.Rule.{is_some_item}

@@ -1,4 +1,4 @@
-use Rattle.std.proofs.Common.{rules, ◌≡◌, ◌+◌, ◌<◌, ◌∷◌, ap, sym, ◌∙◌, refl, arith}
+use Rattle.std.proofs.Common.{rules, ◌∷◌, ap, sym, ◌∙◌, refl, arith}
 use Rattle.atomic_table.specs.Table.{rest}
 use Rattle.mb_gate.specs.declared.slot.Slot.TheVariants.{List as Listing}
 use Rattle.mb_gate.proofs.Allowed.{grips_allowed}

@@ -1,4 +1,4 @@
-use Rattle.std.proofs.Common.{rules, ◌≡◌, ◌+◌, ◌<◌, ◌∷◌, ap, sym, ◌∙◌, refl, arith}
+use Rattle.std.proofs.Common.{rules, refl, arith}
 use Rattle.mb_gate.proofs.Allowed.{refuses_allowed}
 use Rattle.mb_gate.proofs.ListCalls.{choose}
 use Rattle.mb_gate.proofs.gates.Gates.try_refuse.Goals as goal

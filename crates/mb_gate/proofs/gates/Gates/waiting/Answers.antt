@@ -1,4 +1,4 @@
-use Rattle.std.proofs.Common.{rules, ◌≡◌, ◌<◌, ap, ◌∙◌, arith}
+use Rattle.std.proofs.Common.{rules, ap, ◌∙◌, arith}
 use Rattle.mb_gate.proofs.Allowed.{counts_allowed}
 use Rattle.mb_gate.proofs.Views.{counting_rest}
 use Rattle.mb_gate.proofs.gates.Gates.waiting.Goals as goal

@@ -1,4 +1,4 @@
-use Rattle.std.proofs.Common.{rules, ◌≡◌, ◌%◌, ◌⊎◌, ◌<◌, IsTrue, ap, sym, ◌∙◌, subst, refl, arith}
+use Rattle.std.proofs.Common.{rules, ◌≡◌, ◌%◌, ◌⊎◌, IsTrue, sym, ◌∙◌, subst, arith}
 use Rattle.mb_status.specs.Mailbox.{word_of, is_valid}
 use Rattle.mb_gate.proofs.Allowed.{writes_allowed}
 use Rattle.mb_gate.proofs.Wins.{valid_word, busy_word, one_closed}
