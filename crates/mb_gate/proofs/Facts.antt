@@ -1,0 +1,104 @@
+-- What holds of an actor stays so where only a view changes, or where the words that it speaks of do not.
+use Rattle.std.proofs.Common.{◌≡◌, ℕ, ◌%◌, ◌==◌, if◌then◌else◌, ◌⊎◌, inl, inr, ⊎_elim, true, false, ◌||◌, IsTrue, List, set, sym, refl, ap, ◌∙◌, subst, Option, Some, None}
+use mathlib.Core.Option.{some}
+use lib.ListN.{get_elem?}
+use Rattle.mb_status.specs.Mailbox.{Mailbox}
+use Rattle.mb_syslist.specs.MessageList.{MessageList}
+use Rattle.mb_gate.specs.declared.slot.Slot.TheVariants.{List as Listing}
+use Rattle.mb_journal.specs.Entry.{Entry}
+use Rattle.mb_core.specs.declared.debt.Debt.{Debt}
+use Rattle.mb_rule.specs.Layout.{Spot, write}
+use Rattle.mb_rule.proofs.LockedLemmas.{stays_locked}
+use Rattle.mb_rule.proofs.OwedLemmas.{still_owed}
+use Rattle.mb_rule.proofs.SeenLemmas.{learns}
+use Rattle.mb_gate.specs.declared.slot.Slot.{Slot}
+use Rattle.mb_gate.specs.View.{View, Held, Lent}
+use Rattle.mb_gate.specs.Rule.{Word, Status, Flag, Gate, Waiting, word_offset, Shelf, CellShelf, ListShelf, Ghost, claim_for, list_for, Knows, MessageDue, SystemDue, PaysMessage, PaysSystem, gate_word, Keeping, Shelving, Fact}
+use Rattle.mb_gate.proofs.Views.{Elsewhere}
+
+-- a word that is written as it was leaves the row as it was
+same_word : (row : Word → ℕ) (name w : Word) → write word_offset row name (row name) w ≡ row w
+same_word row Status Status = refl
+same_word row Status Flag = refl
+same_word row Status Gate = refl
+same_word row Status Waiting = refl
+same_word row Flag Status = refl
+same_word row Flag Flag = refl
+same_word row Flag Gate = refl
+same_word row Flag Waiting = refl
+same_word row Gate Status = refl
+same_word row Gate Flag = refl
+same_word row Gate Gate = refl
+same_word row Gate Waiting = refl
+same_word row Waiting Status = refl
+same_word row Waiting Flag = refl
+same_word row Waiting Gate = refl
+same_word row Waiting Waiting = refl
+
+pub same_row : (row : Word → ℕ) (name : Word) → write word_offset row name (row name) ≡ row
+same_row row name i w = same_word row name w i
+
+module _ {H : Type 0} (is_of : ℕ → H → Type 0) (journal : H → List Entry) (mailbox : H → Mailbox) (rested : H → Type 0) (actor : ℕ) where
+  abbrev Place : Type 0
+  Place = Spot Word Shelf (Slot H) Ghost
+
+  abbrev Facts : Place → List View → Type 0
+  Facts = Fact is_of journal mailbox rested actor
+
+  pub still_kept : (x y : Place) → y.row Status ≡ x.row Status → y.row Flag ≡ x.row Flag → y.slot CellShelf ≡ x.slot CellShelf → y.ghost.journal ≡ x.ghost.journal → y.ghost.gave ≡ x.ghost.gave
+      → (holder : Option (ℕ × Held)) → Keeping is_of journal mailbox rested actor x holder → Keeping is_of journal mailbox rested actor y holder
+  still_kept x y status flag slot tale gave None k = record {
+    home = k.home;
+    there = slot ∙ k.there;
+    own = k.own;
+    fold = k.fold ∙ sym tale;
+    word = status ∙ k.word;
+    idle = subst (λ n. (n % 4 ≡ 0) ⊎ (n ≡ 1)) (sym status) k.idle;
+    flag = flag ∙ (k.flag ∙ ap (λ n. if n == 1 then 1 else 0) (sym status));
+    rest = λ r. k.rest (⊎_elim (λ h. inl (sym status ∙ h)) (λ h. inr (sym gave ∙ h)) r);
+  }
+  still_kept x y status flag slot tale gave (Some h) k = record {
+    own = k.own;
+    taken = k.taken ∙ sym tale;
+    gave = k.gave ∙ sym gave;
+    word = status ∙ k.word;
+    busy = subst (λ n. (n % 4 ≡ 2) ⊎ (n ≡ 1)) (sym status) k.busy;
+    flag = flag ∙ k.flag;
+  }
+
+  pub still_shelved : (x y : Place) → y.row Gate ≡ x.row Gate → y.slot ListShelf ≡ x.slot ListShelf → y.ghost.listed ≡ x.ghost.listed → y.ghost.gave ≡ x.ghost.gave
+      → (keeper : Option (ℕ × Lent)) → Shelving is_of journal mailbox rested x keeper → Shelving is_of journal mailbox rested y keeper
+  still_shelved x y gate slot items gave None k = record {
+    there = slot ∙ (k.there ∙ ap (λ (l : MessageList). some (some (Listing l))) (sym items));
+    word = gate ∙ (k.word ∙ (λ i. gate_word false (sym items i) (sym gave i)));
+  }
+  still_shelved x y gate slot items gave (Some h) k = record {
+    taken = k.taken ∙ sym items;
+    gave = k.gave ∙ sym gave;
+    word = gate ∙ (k.word ∙ (λ i. gate_word true (sym items i) (sym gave i)));
+  }
+
+  -- only the view of one seat changes
+  pub views_change : (x : Place) (vs : List View) (id : ℕ) (v w : View) → get_elem? vs id ≡ some v → claim_for actor w ≡ claim_for actor v → list_for actor w ≡ list_for actor v
+      → (MessageDue x → PaysMessage actor v → PaysMessage actor w) → (SystemDue x → PaysSystem actor v → PaysSystem actor w) → (Knows actor x v → Knows actor x w) → Facts x vs → Facts x (set vs id w)
+  views_change x vs id v w at claim list message system knows f = record {
+    valid = f.valid;
+    claims = stays_locked (claim_for actor) x.ghost.holder vs id v w at claim f.claims;
+    cell = f.cell;
+    lists = stays_locked (list_for actor) x.ghost.keeper vs id v w at list f.lists;
+    shelf = f.shelf;
+    ended = f.ended;
+    listing = f.listing;
+    message = still_owed (PaysMessage actor) (MessageDue x) (MessageDue x) vs id v w at (λ d. d) message f.message;
+    system = still_owed (PaysSystem actor) (SystemDue x) (SystemDue x) vs id v w at (λ d. d) system f.system;
+    seen = learns (Knows actor x) (Knows actor x) vs id w (λ u k. k) (knows (f.seen id v at)) f.seen;
+  }
+
+  -- the view of a seat that made a step elsewhere
+  pub elsewhere : (x : Place) (vs : List View) (id : ℕ) (v w : View) → get_elem? vs id ≡ some v → Elsewhere H actor v w → Facts x vs → Facts x (set vs id w)
+  elsewhere x vs id v w at same = views_change x vs id v w at same.claim same.list
+      (λ _. subst (λ (d : Debt). IsTrue (d.message || d.sending)) (sym same.debt)) (λ _. subst (λ (d : Debt). IsTrue d.system) (sym same.debt)) (same.knows x)
+
+  -- a load changes nothing but the view
+  pub load_here : (x : Place) (vs : List View) (name : Word) → Facts x vs → Facts (record { row = write word_offset x.row name (x.row name); slot = x.slot; ghost = x.ghost }) vs
+  load_here x vs name f = subst (λ (z : Place). Facts z vs) (λ i. record { row = sym (same_row x.row name) i; slot = x.slot; ghost = x.ghost }) f

@@ -1,0 +1,13 @@
+pub mod Views
+pub mod Facts
+pub mod Words
+pub mod StatusSteps
+pub mod WaitingSteps
+pub mod Parting
+pub mod ListSteps
+pub mod Allowed
+pub mod Wins
+pub mod Rows
+pub mod Starting
+pub mod ListCalls
+pub mod Shows

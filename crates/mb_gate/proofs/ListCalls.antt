@@ -1,0 +1,173 @@
+-- A list that was taken out and given back, and its gate's words.
+use Rattle.std.proofs.Common.{◌≡◌, ◌≢◌, ℕ, ◌+◌, ◌/◌, ◌%◌, ◌==◌, ◌<◌, if◌then◌else◌, Bool, true, false, not, IsTrue, List, [], ◌∷◌, ◌++◌, sym, refl, ap, ◌∙◌, subst, Some, None, eq-eqb, ne_eqb, append-nil, arith}
+use mathlib.Core.Logic.{dite}
+use native.Mathlib.Decide.{ℕ_discrete}
+use Rattle.atomic_table.specs.Table.{Me, rest}
+use Rattle.mb_msg.specs.declared.system.SysMsg.{SysMsg}
+use Rattle.mb_syslist.specs.MessageList.{MessageList, with_last, drained, ended, listed, numbered}
+use Rattle.mb_rule.specs.Layout.{slot_at}
+use Rattle.mb_gate.specs.declared.slot.Slot.{Slot}
+use Rattle.mb_gate.specs.declared.slot.Slot.TheVariants.{Empty, List as Listing}
+use Rattle.mb_gate.specs.View.{View, lending, regiven, draining}
+use Rattle.mb_gate.specs.Claims.{held_in}
+use Rattle.mb_gate.specs.Rule.{is_some_item, gate_word}
+use Rattle.mb_gate.specs.Plays.{Gripped}
+use Rattle.mb_gate.specs.Lists.{IsLentBy, IsOut, with_listed, with_drained, with_ended}
+
+head_same : {A : Type 0} (a b : A) (xs ys : List A) → a ∷ xs ≡ b ∷ ys → a ≡ b
+head_same a b xs ys e = cc
+
+rest_same : {A : Type 0} (a b : A) (xs ys : List A) → a ∷ xs ≡ b ∷ ys → xs ≡ ys
+rest_same a b xs ys e = cc
+
+list_same : {H : Type 0} (a b : MessageList) → (let x : Slot H = Listing a in x ≡ Listing b) → a ≡ b
+list_same a b e = cc
+
+pub choose : {A : Type 0} (found word : ℕ) (now hit miss : A) → (found ≡ word → now ≡ hit) → (found ≢ word → now ≡ miss) → now ≡ (if found == word then hit else miss)
+choose found word now hit miss won lost = dite (ℕ_discrete found word)
+    (λ e. won e ∙ sym (ap (λ b. if b then hit else miss) (eq-eqb found word e)))
+    (λ n. lost n ∙ sym (ap (λ b. if b then hit else miss) (ne_eqb found word n)))
+
+module _ {H : Type 0} (actor found slot : ℕ) (m m1 : Me (Slot H) View) (grip : Gripped actor found m m1) (r : Slot H) (carried : m1.1 ≡ (slot, r) ∷ rest m1.1) where
+  carried_now : (slot, r) ∷ rest m1.1 ≡ (slot_at actor 1, Listing grip.listed) ∷ m.1
+  carried_now = sym carried ∙ ap (λ (z : Me (Slot H) View). z.1) grip.now
+
+  -- what was in the slot is the list
+  pub is_list : r ≡ Listing grip.listed
+  is_list = ap (λ (z : ℕ × Slot H). z.1) (head_same _ _ _ _ carried_now)
+
+  pub lent_by : (word : ℕ) (list : MessageList) (m2 : Me (Slot H) View) → found ≡ word → r ≡ Listing list → m2 ≡ (m1.0, (slot, Empty) ∷ rest m1.1) → IsLentBy actor word list m m2
+  lent_by word list m2 is_word is now =
+      let same : grip.listed ≡ list = list_same {H = H} grip.listed list (sym is_list ∙ is) in
+      let where_is : slot ≡ slot_at actor 1 = ap (λ (z : ℕ × Slot H). z.0) (head_same _ _ _ _ carried_now) in
+      let others : rest m1.1 ≡ m.1 = rest_same _ _ _ _ carried_now in record {
+        gave = grip.gave;
+        found = sym is_word ∙ (grip.word ∙ ap (λ l. gate_word false l grip.gave) same);
+        now = now ∙ (λ i. ((ap (λ (z : Me (Slot H) View). z.0) grip.now ∙ ap (λ l. lending actor l grip.gave m.0) same) i, (where_is i, Empty) ∷ others i));
+      }
+
+more_items : (l : List SysMsg) (m : SysMsg) → is_some_item (l ++ m ∷ []) ≡ true
+more_items [] m = refl
+more_items (x ∷ xs) m = refl
+
+listed_bits : (a b c : Bool) → with_listed ((if a then 2 else 0) + (if b then 4 else 0) + (if c then 8 else 0)) ≡ 2 + (if b then 4 else 0) + (if c then 8 else 0)
+listed_bits true true true = refl
+listed_bits true true false = refl
+listed_bits true false true = refl
+listed_bits true false false = refl
+listed_bits false true true = refl
+listed_bits false true false = refl
+listed_bits false false true = refl
+listed_bits false false false = refl
+
+-- the gate's word once a message more is listed
+pub word_listed : (word : ℕ) (l : MessageList) (gave : Bool) (m : SysMsg) → word ≡ gate_word false l gave → with_listed word ≡ gate_word false (with_last l m) gave
+word_listed word l gave m e =
+    ap with_listed (e ∙ zeros (is_some_item l.messages) gave l.closed) ∙ (listed_bits (is_some_item l.messages) gave l.closed
+    ∙ sym (ap (λ b. 0 + (if b then 2 else 0) + (if gave then 4 else 0) + (if l.closed then 8 else 0)) (more_items l.messages m)))
+  where
+    zeros : (a b c : Bool) → 0 + (if a then 2 else 0) + (if b then 4 else 0) + (if c then 8 else 0) ≡ (if a then 2 else 0) + (if b then 4 else 0) + (if c then 8 else 0)
+    zeros a b c = omega arith
+
+drained_bits : (a b c d : Bool) → with_drained (0 + (if a then 2 else 0) + (if b then 4 else 0) + (if c then 8 else 0)) (not d) ≡ 0 + 0 + (if d then 4 else 0) + (if c then 8 else 0)
+drained_bits true true true true = refl
+drained_bits true true true false = refl
+drained_bits true true false true = refl
+drained_bits true true false false = refl
+drained_bits true false true true = refl
+drained_bits true false true false = refl
+drained_bits true false false true = refl
+drained_bits true false false false = refl
+drained_bits false true true true = refl
+drained_bits false true true false = refl
+drained_bits false true false true = refl
+drained_bits false true false false = refl
+drained_bits false false true true = refl
+drained_bits false false true false = refl
+drained_bits false false false true = refl
+drained_bits false false false false = refl
+
+-- once all was drained
+pub word_drained : (word : ℕ) (l : MessageList) (gave d : Bool) → word ≡ gate_word false l gave → with_drained word (not d) ≡ gate_word false (drained l) d
+word_drained word l gave d e = ap (λ w. with_drained w (not d)) e ∙ drained_bits (is_some_item l.messages) gave l.closed d
+
+ended_bits : (a b c : Bool) → with_ended (0 + (if a then 2 else 0) + (if b then 4 else 0) + (if c then 8 else 0)) ≡ 0 + 0 + (if b then 4 else 0) + 8
+ended_bits true true true = refl
+ended_bits true true false = refl
+ended_bits true false true = refl
+ended_bits true false false = refl
+ended_bits false true true = refl
+ended_bits false true false = refl
+ended_bits false false true = refl
+ended_bits false false false = refl
+
+-- once it was ended
+pub word_ended : (word : ℕ) (l : MessageList) (gave : Bool) → word ≡ gate_word false l gave → with_ended word ≡ gate_word false (ended l) gave
+word_ended word l gave e = ap with_ended e ∙ ended_bits (is_some_item l.messages) gave l.closed
+
+shut_bit : (a b c : Bool) → (0 + (if a then 2 else 0) + (if b then 4 else 0) + (if c then 8 else 0)) / 8 % 2 ≡ (if c then 1 else 0)
+shut_bit true true true = refl
+shut_bit true true false = refl
+shut_bit true false true = refl
+shut_bit true false false = refl
+shut_bit false true true = refl
+shut_bit false true false = refl
+shut_bit false false true = refl
+shut_bit false false false = refl
+
+open_bit : (c : Bool) → ((let n : ℕ = if c then 1 else 0 in n ≡ 1) → ⊥) → c ≡ false
+open_bit true n = absurd (n refl)
+open_bit false n = refl
+
+-- a word that does not show it is one of a list that is not ended
+pub not_ended : (word : ℕ) (l : MessageList) (gave : Bool) → word ≡ gate_word false l gave → word / 8 % 2 ≢ 1 → l.closed ≡ false
+not_ended word l gave e n = open_bit l.closed (λ one. n (ap (λ w. w / 8 % 2) e ∙ (shut_bit (is_some_item l.messages) gave l.closed ∙ one)))
+
+small_bits : (a b c : Bool) → 0 + (if a then 2 else 0) + (if b then 4 else 0) + (if c then 8 else 0) < 16
+small_bits true true true = omega arith
+small_bits true true false = omega arith
+small_bits true false true = omega arith
+small_bits true false false = omega arith
+small_bits false true true = omega arith
+small_bits false true false = omega arith
+small_bits false false true = omega arith
+small_bits false false false = omega arith
+
+pub small_word : (word : ℕ) (l : MessageList) (gave : Bool) → word ≡ gate_word false l gave → word < 16
+small_word word l gave e = subst (λ w. w < 16) (sym e) (small_bits (is_some_item l.messages) gave l.closed)
+
+-- what is listed is numbered message by message
+pub some_listed : (l : MessageList) → is_some_item (listed l) ≡ is_some_item l.messages
+some_listed l = items l.given l.messages
+  where
+    items : (n : ℕ) (ms : List SysMsg) → is_some_item (numbered n ms) ≡ is_some_item ms
+    items n [] = refl
+    items n (m ∷ ms) = refl
+
+-- a drain of nothing changes nothing, where the last drain gave nothing
+pub drains_nothing : (v : View) → v.claim ≡ Some (held_in v) → v.list ≡ None → (held_in v).gave ≡ false → v ≡ draining [] false v
+drains_nothing v has no_list gave i = record v { list = no_list i; claim = same i }
+  where
+    same : v.claim ≡ regiven [] false v.claim
+    same = has ∙ ((λ k. Some (record (held_in v) { gave = gave k; drained = sym (append-nil (held_in v).drained) k })) ∙ sym (ap (regiven [] false) has))
+
+-- what was taken out is out
+pub lent_out : {H : Type 0} (actor word : ℕ) (l : MessageList) (m m' : Me (Slot H) View) → IsLentBy actor word l m m' → IsOut actor word l m'
+lent_out actor word l m m' lent = record {
+  gave = lent.gave;
+  found = lent.found;
+  has = ap (λ (z : Me (Slot _) View). z.0.list) lent.now;
+  carried = ap (λ (z : Me (Slot _) View). z.1) lent.now ∙ ap (λ c. (slot_at actor 1, Empty) ∷ rest c) (sym (ap (λ (z : Me (Slot _) View). z.1) lent.now));
+}
+
+-- what was laid into the slot is carried
+pub laid_back : {H : Type 0} (actor : ℕ) (a b : MessageList) (m m' : Me (Slot H) View) → m' ≡ (m.0, (slot_at actor 1, Listing a) ∷ rest m.1) → a ≡ b → m'.1 ≡ (slot_at actor 1, Listing b) ∷ rest m'.1
+laid_back {H} actor a b m m' laid same =
+    let now : m'.1 ≡ (slot_at actor 1, Listing a) ∷ rest m.1 = ap (λ (z : Me (Slot H) View). z.1) laid in
+    now ∙ (λ i. (slot_at actor 1, Listing (same i)) ∷ rest (sym now i))
+
+pub empty_is : {A : Type 0} (b : Bool) (xs : List A) → (IsTrue b → xs ≡ []) × (xs ≡ [] → IsTrue b) → b ≡ not (is_some_item xs)
+empty_is true [] h = refl
+empty_is true (x ∷ xs) h = let no = h.0 refl in absurd (cc)
+empty_is false [] h = let no = h.1 refl in absurd (cc)
+empty_is false (x ∷ xs) h = refl

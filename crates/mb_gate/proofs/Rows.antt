@@ -1,0 +1,54 @@
+-- The words and slots of actors in a row.
+use Rattle.std.proofs.Common.{◌≡◌, ◌*◌, List, [], ◌∷◌, ◌++◌, length, reverse, sym, refl, ap, ◌∙◌, append_assoc, append-nil, arith}
+use Rattle.std.proofs.lemmas.List.{reverse-append}
+use Rattle.mb_status.specs.Mailbox.{Mailbox, word_of}
+use Rattle.mb_gate.specs.declared.slot.Slot.{Slot}
+use Rattle.mb_gate.specs.declared.slot.Slot.TheVariants.{Empty, Home, List as Listing, Note}
+use Rattle.mb_gate.specs.Starts.{no_messages, row_of, rows_of, shelves_of, homes_in}
+
+module _ {H : Type 0} where
+  pub rows_of-snoc : (mailbox : H → Mailbox) (hs : List H) (h : H) → rows_of mailbox (hs ++ h ∷ []) ≡ rows_of mailbox hs ++ row_of (word_of (mailbox h))
+  rows_of-snoc mailbox [] h = append-nil (row_of (word_of (mailbox h)))
+  rows_of-snoc mailbox (x ∷ xs) h = ap (λ z. row_of (word_of (mailbox x)) ++ z) (rows_of-snoc mailbox xs h)
+
+  pub shelves_of-snoc : (hs : List H) (h : H) → shelves_of (hs ++ h ∷ []) ≡ shelves_of hs ++ Home h ∷ Listing no_messages ∷ []
+  shelves_of-snoc [] h = refl
+  shelves_of-snoc (x ∷ xs) h = ap (λ z. Home x ∷ Listing no_messages ∷ z) (shelves_of-snoc xs h)
+
+  pub homes_in-append : (xs ys : List (Slot H)) → homes_in (xs ++ ys) ≡ homes_in xs ++ homes_in ys
+  homes_in-append [] ys = refl
+  homes_in-append (Home h ∷ xs) ys = ap (λ z. h ∷ z) (homes_in-append xs ys)
+  homes_in-append (Empty ∷ xs) ys = homes_in-append xs ys
+  homes_in-append (Listing l ∷ xs) ys = homes_in-append xs ys
+  homes_in-append (Note m ∷ xs) ys = homes_in-append xs ys
+
+  pub homes_in-shelves_of : (hs : List H) → homes_in (shelves_of hs) ≡ hs
+  homes_in-shelves_of [] = refl
+  homes_in-shelves_of (h ∷ hs) = ap (λ z. h ∷ z) (homes_in-shelves_of hs)
+
+  pub length-rows_of : (mailbox : H → Mailbox) (hs : List H) → length (rows_of mailbox hs) ≡ 16 * length hs
+  length-rows_of mailbox [] = refl
+  length-rows_of mailbox (h ∷ hs) = let e = length-rows_of mailbox hs in omega arith
+
+  pub length-shelves_of : (hs : List H) → length (shelves_of hs) ≡ 2 * length hs
+  length-shelves_of [] = refl
+  length-shelves_of (h ∷ hs) = let e = length-shelves_of hs in omega arith
+
+  -- one more is moved over
+  pub shelves_moved : (hs : List H) (h : H) (slots all : List (Slot H)) → shelves_of (hs ++ h ∷ []) ++ reverse slots ≡ all
+      → shelves_of hs ++ reverse ((slots ++ Listing no_messages ∷ []) ++ Home h ∷ []) ≡ all
+  shelves_moved hs h slots all e =
+      ap (λ z. shelves_of hs ++ z) (reverse-append (slots ++ Listing no_messages ∷ []) (Home h ∷ []) ∙ ap (λ z. Home h ∷ z) (reverse-append slots (Listing no_messages ∷ [])))
+      ∙ (sym (append_assoc (shelves_of hs) (Home h ∷ Listing no_messages ∷ []) (reverse slots)) ∙ (ap (λ z. z ++ reverse slots) (sym (shelves_of-snoc hs h)) ∙ e))
+
+  -- one slot more is gone through
+  pub homes_moved : (slots : List (Slot H)) (s : Slot H) (homes homes' all : List H) → homes' ≡ homes ++ homes_in (s ∷ []) → homes_in (slots ++ s ∷ []) ++ reverse homes ≡ all → homes_in slots ++ reverse homes' ≡ all
+  homes_moved slots s homes homes' all is e =
+      ap (λ z. homes_in slots ++ reverse z) is ∙ (ap (λ z. homes_in slots ++ z) (reverse-append homes (homes_in (s ∷ [])) ∙ ap (λ z. z ++ reverse homes) (reversed s))
+      ∙ (sym (append_assoc (homes_in slots) (homes_in (s ∷ [])) (reverse homes)) ∙ (ap (λ z. z ++ reverse homes) (sym (homes_in-append slots (s ∷ []))) ∙ e)))
+    where
+      reversed : (t : Slot H) → reverse (homes_in (t ∷ [])) ≡ homes_in (t ∷ [])
+      reversed (Home h) = refl
+      reversed Empty = refl
+      reversed (Listing l) = refl
+      reversed (Note m) = refl

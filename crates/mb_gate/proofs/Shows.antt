@@ -1,0 +1,90 @@
+-- The table shows a state of the machine of which the machine's facts hold.
+use Rattle.std.proofs.Common.{◌≡◌, ◌≢◌, ℕ, zero, suc, ◌/◌, ◌%◌, ◌==◌, ◌<◌, if◌then◌else◌, ◌⊎◌, inl, inr, ⊎_elim, Bool, true, false, ◌||◌, IsTrue, IsFalse, IsSome, IsNone, List, [], ◌∷◌, ◌++◌, map, length, get_or, sym, refl, ap, ◌∙◌, subst, Option, Some, None, eq-eqb, arith, Any}
+use Rattle.std.proofs.lemmas.Bool.Decides.{nat_tests}
+use mathlib.Core.Option.{some, some-ne-none, some-injective}
+use lib.ListN.{get_elem?, length-map}
+use Rattle.mb_status.specs.Mailbox.{Mailbox, mailbox_of, is_valid, is_possible}
+use Rattle.mb_status.specs.WordLemmas.{word_of-mailbox_of}
+use Rattle.mb_msg.specs.declared.system.SysMsg.{SysMsg}
+use Rattle.mb_journal.specs.Entry.{Entry}
+use Rattle.mb_core.specs.declared.debt.Debt.{Debt}
+use Rattle.mb_core.specs.Actor as machine
+use Rattle.mb_rule.specs.Layout.{Spot, spot_of}
+use Rattle.mb_rule.specs.Locked.{ticket_at, Locked}
+use Rattle.mb_rule.specs.Owed.{Payer}
+use Rattle.mb_gate.specs.declared.slot.Slot.{Slot}
+use Rattle.mb_gate.specs.View.{View, Held, owes}
+use Rattle.mb_gate.specs.Rule.{Word, Status, word_offset, Shelf, slot_offset, Ghost, is_some_item, has_work, claim_for, Keeping}
+use Rattle.mb_gate.specs.Shown.{holder_of, ShowsMachine}
+
+valid_possible : (w : ℕ) → IsTrue (is_valid w) → IsTrue (is_possible (mailbox_of w))
+valid_possible w v = grind (arith, nat_tests)
+
+inside_of : {T : Type 0} (ticket : View → Option T) (vs : List View) (q : ℕ) (t : T) → ticket_at ticket vs q ≡ Some t → q < length vs
+inside_of ticket [] q t e = absurd (cc)
+inside_of ticket (v ∷ vs) zero t e = omega arith
+inside_of ticket (v ∷ vs) (suc q) t e = let i = inside_of ticket vs q t e in omega arith
+
+place_of : {A B : Type 0} (f : A → B) (xs : List A) (q : ℕ) (x : A) (d : B) → get_elem? xs q ≡ some x → (q < length (map f xs)) × (get_or (map f xs) q d ≡ f x)
+place_of f [] q x d e = absurd (some-ne-none x (sym e))
+place_of f (y ∷ ys) zero x d e = (omega arith, ap f (some-injective y x e))
+place_of f (y ∷ ys) (suc q) x d e = let p = place_of f ys q x d e in (omega arith, p.1)
+
+-- who pays is among those that owe
+pays_among : (P : Debt → Type 0) (actor : ℕ) (vs : List View) → Payer (λ v. P (owes actor v)) vs → Any P (map (owes actor) vs)
+pays_among P actor vs p = let at = place_of (owes actor) vs p.seat p.view (owes actor p.view) p.there in (p.seat, owes actor p.view, at.0, at.1, p.pays)
+
+work_there : (g : Ghost) (rest : List SysMsg) → (g.gave ≡ false → rest ≡ []) → IsTrue (machine.has_work (Some (rest ++ g.listed.messages))) → IsTrue (has_work g)
+work_there g rest quiet h = cases g.listed.messages g.gave rest quiet h
+  where
+    cases : (ms : List SysMsg) (b : Bool) (r : List SysMsg) → (b ≡ false → r ≡ []) → IsTrue (machine.has_work (Some (r ++ ms))) → IsTrue (is_some_item ms || b)
+    cases (m ∷ ms) b r q k = refl
+    cases [] true r q k = refl
+    cases [] false [] q k = k
+    cases [] false (x ∷ xs) q k = absurd (let no = q refl in cc)
+
+unclosed : (w : ℕ) → (w == 1) ≡ false → w ≢ 1
+unclosed w e one = let t : (w == 1) ≡ true = eq-eqb w 1 one in absurd (cc)
+
+free_mod : (w : ℕ) → IsTrue (is_valid w) → IsFalse (mailbox_of w).closed → IsFalse (mailbox_of w).scheduled → w % 4 ≡ 0
+free_mod w v c s = grind (arith, nat_tests)
+
+scheduled_not_free : (w : ℕ) → IsTrue (mailbox_of w).scheduled → (w % 4 ≡ 0) ⊎ (w ≡ 1) → ⊥
+scheduled_not_free w s (inl z) = grind (arith, nat_tests)
+scheduled_not_free w s (inr z) = grind (arith, nat_tests)
+
+module _ {H : Type 0} (is_of : ℕ → H → Type 0) (journal : H → List Entry) (mailbox : H → Mailbox) (rested : H → Type 0) where
+  held : (actor : ℕ) (x : Spot Word Shelf (Slot H) Ghost) (holder : Option (ℕ × Held)) → Keeping is_of journal mailbox rested actor x holder → IsTrue (mailbox_of (x.row Status)).scheduled → IsSome (holder_of holder)
+  held actor x None k s = absurd (scheduled_not_free (x.row Status) s k.idle)
+  held actor x (Some h) k s = refl
+
+  free : (actor : ℕ) (x : Spot Word Shelf (Slot H) Ghost) (holder : Option (ℕ × Held)) → Keeping is_of journal mailbox rested actor x holder → x.row Status % 4 ≡ 0 → IsNone (holder_of holder)
+  free actor x None k z = refl
+  free actor x (Some h) k z = absurd (⊎_elim (λ b. omega arith) (λ b. omega arith) k.busy)
+
+  there : (actor : ℕ) (vs : List View) (holder : Option (ℕ × Held)) → Locked (claim_for actor) holder vs → (p : ℕ) → holder_of holder ≡ Some p → p < length (map (owes actor) vs)
+  there actor vs None l p e = absurd (cc)
+  there actor vs (Some h) l p e =
+      let same : h.0 ≡ p = some_same h.0 p e in
+      let at : ticket_at (claim_for actor) vs h.0 ≡ Some h.1 = l h.0 ∙ ap (λ b. if b then Some h.1 else None) (eq-eqb h.0 h.0 refl) in
+      let i = inside_of (claim_for actor) vs h.0 h.1 at in
+      let n : length (map (owes actor) vs) ≡ length vs = length-map vs (owes actor) in omega arith
+    where
+      some_same : {A : Type 0} (a b : A) → Some a ≡ Some b → a ≡ b
+      some_same a b q = cc
+
+  pub shows : ShowsMachine is_of journal mailbox rested
+  shows n s r actor inside rest quiet =
+      let x = spot_of word_offset slot_offset s r.ghosts actor in
+      let f = r.each actor inside in (
+        record { possible = valid_possible (x.row Status) f.valid; word_valid = subst (λ w. IsTrue (is_valid w)) (sym (word_of-mailbox_of (x.row Status) f.valid)) f.valid },
+        record {
+          scheduled = held actor x x.ghost.holder f.cell;
+          free = λ c z. free actor x x.ghost.holder f.cell (free_mod (x.row Status) f.valid c z);
+          there = there actor s.views x.ghost.holder f.claims;
+        },
+        record {
+          system = λ c z work. pays_among (λ d. IsTrue d.system) actor s.views (f.system (free_mod (x.row Status) f.valid c z, work_there x.ghost rest quiet work));
+          message = λ c z quiet_yet waits. pays_among (λ d. IsTrue (d.message || d.sending)) actor s.views (f.message ((let m = free_mod (x.row Status) f.valid c z in let k : x.row Status / 4 ≡ 0 = quiet_yet in omega arith), waits));
+        },
+      )

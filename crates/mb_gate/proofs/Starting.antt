@@ -1,0 +1,101 @@
+-- The rule holds as the gates begin.
+use Rattle.std.proofs.Common.{◌≡◌, ℕ, zero, suc, ◌+◌, ◌*◌, ◌%◌, ◌<◌, if◌then◌else◌, inl, false, IsTrue, List, [], ◌∷◌, ◌++◌, map, length, get_or, sym, refl, ap, ◌∙◌, subst, Option, Some, None, ne_eqb, arith, slice_get}
+use mathlib.Core.Option as maybe
+use mathlib.Core.Option.{none, some, some-ne-none, some-injective}
+use lib.ListN.{get_elem?, length-map}
+use Rattle.atomic_table.specs.Table.{opening}
+use Rattle.mb_status.specs.Mailbox.{Mailbox, word_of, is_valid}
+use Rattle.mb_journal.specs.Entry.{Entry}
+use Rattle.mb_rule.specs.Layout.{word_at, slot_at}
+use Rattle.mb_rule.specs.Ruled.{Ruled}
+use Rattle.mb_rule.specs.Locked.{ticket_at}
+use Rattle.mb_gate.specs.declared.slot.Slot.{Slot}
+use Rattle.mb_gate.specs.declared.slot.Slot.TheVariants.{Home, List as Listing}
+use Rattle.mb_gate.specs.View.{View, blank}
+use Rattle.mb_gate.specs.Rule.{word_offset, slot_offset, Ghost, Knows, claim_for, list_for, Fact}
+use Rattle.mb_gate.specs.Starts.{no_messages, rows_of, row_of, shelves_of, IsFresh}
+use Rattle.mb_gate.proofs.Rows.{length-rows_of, length-shelves_of}
+use Rattle.mb_gate.proofs.Wins.{free_word, free_mod, valid_word}
+
+module _ {H : Type 0} (journal : H → List Entry) (mailbox : H → Mailbox) where
+  abbrev journal_at : List H → ℕ → List Entry
+  journal_at [] a = []
+  journal_at (h ∷ hs) zero = journal h
+  journal_at (h ∷ hs) (suc a) = journal_at hs a
+
+  -- the words and slots of the actor a, whose home is h
+  record Begun (hs : List H) (a : ℕ) (h : H) : Type 0 where
+    there : slice_get hs a ≡ Some h
+    tale : journal_at hs a ≡ journal h
+    status : get_or (rows_of mailbox hs) (word_at a 0) 0 ≡ word_of (mailbox h)
+    flag : get_or (rows_of mailbox hs) (word_at a 1) 0 ≡ 0
+    gate : get_or (rows_of mailbox hs) (word_at a 2) 0 ≡ 0
+    waiting : get_or (rows_of mailbox hs) (word_at a 4) 0 ≡ 0
+    cell : get_elem? (map some (shelves_of hs)) (slot_at a 0) ≡ some (some (Home h))
+    list : get_elem? (map some (shelves_of hs)) (slot_at a 1) ≡ some (some (Listing no_messages))
+
+  next_row : (w : ℕ) (rest : List ℕ) (i j : ℕ) → i ≡ j + 16 → get_or (row_of w ++ rest) i 0 ≡ get_or rest j 0
+  next_row w rest i j e = ap (λ k. get_or (row_of w ++ rest) k 0) (let n : i ≡ suc (suc (suc (suc (suc (suc (suc (suc (suc (suc (suc (suc (suc (suc (suc (suc j))))))))))))))) = omega arith in n)
+
+  next_shelves : (h : H) (rest : List (maybe.Option (Slot H))) (i j : ℕ) → i ≡ j + 2 → get_elem? (some (Home h) ∷ some (Listing no_messages) ∷ rest) i ≡ get_elem? rest j
+  next_shelves h rest i j e = ap (λ k. get_elem? (some (Home h) ∷ some (Listing no_messages) ∷ rest) k) (let n : i ≡ suc (suc j) = omega arith in n)
+
+  begun : (hs : List H) (a : ℕ) → a < length hs → (h : H) × Begun hs a h
+  begun [] a l = absurd (omega arith)
+  begun (h ∷ hs) zero l = (h, record { there = refl; tale = refl; status = refl; flag = refl; gate = refl; waiting = refl; cell = refl; list = refl })
+  begun (h ∷ hs) (suc a) l = let b = begun hs a (omega arith) in let w = word_of (mailbox h) in (
+    b.0,
+    record {
+      there = b.1.there;
+      tale = b.1.tale;
+      status = next_row w (rows_of mailbox hs) (word_at (suc a) 0) (word_at a 0) (omega arith) ∙ b.1.status;
+      flag = next_row w (rows_of mailbox hs) (word_at (suc a) 1) (word_at a 1) (omega arith) ∙ b.1.flag;
+      gate = next_row w (rows_of mailbox hs) (word_at (suc a) 2) (word_at a 2) (omega arith) ∙ b.1.gate;
+      waiting = next_row w (rows_of mailbox hs) (word_at (suc a) 4) (word_at a 4) (omega arith) ∙ b.1.waiting;
+      cell = next_shelves h (map some (shelves_of hs)) (slot_at (suc a) 0) (slot_at a 0) (omega arith) ∙ b.1.cell;
+      list = next_shelves h (map some (shelves_of hs)) (slot_at (suc a) 1) (slot_at a 1) (omega arith) ∙ b.1.list;
+    },
+  )
+
+nobody_has : {T : Type 0} (ticket : View → Option T) → ticket blank ≡ None → (q : ℕ) → ticket_at ticket (blank ∷ []) q ≡ None
+nobody_has ticket bare zero = bare
+nobody_has ticket bare (suc q) = refl
+
+only_blank : (P : View → Type 0) → P blank → (q : ℕ) (v : View) → get_elem? (blank ∷ []) q ≡ some v → P v
+only_blank P p zero v at = subst P (some-injective blank v at) p
+only_blank P p (suc q) v at = absurd (some-ne-none v (sym at))
+
+module _ {H : Type 0} (is_of : ℕ → H → Type 0) (journal : H → List Entry) (mailbox : H → Mailbox) (rested : H → Type 0) where
+  abbrev begins : (hs : List H) → ℕ → Ghost
+  begins hs a = record { holder = None; journal = journal_at journal mailbox hs a; keeper = None; listed = no_messages; gave = false; pushed = [] }
+
+  pub starts : (n : ℕ) (hs : List H) (words : List ℕ) (slots : List (Slot H)) → n ≡ length hs → words ≡ rows_of mailbox hs → slots ≡ shelves_of hs
+      → ((a : ℕ) (h : H) → slice_get hs a ≡ Some h → IsFresh is_of mailbox rested a h)
+      → Ruled word_offset slot_offset n (Fact is_of journal mailbox rested) (opening words slots blank)
+  starts n hs words slots many rows shelves fresh =
+      subst (λ (z : List ℕ × List (Slot H)). Ruled word_offset slot_offset n (Fact is_of journal mailbox rested) (opening z.0 z.1 blank)) (λ i. (sym rows i, sym shelves i)) record {
+        ghosts = begins hs;
+        wide = length-rows_of mailbox hs ∙ ap (λ k. 16 * k) (sym many);
+        deep = length-map (shelves_of hs) (λ (x : Slot H). some x) ∙ (length-shelves_of hs ∙ ap (λ k. 2 * k) (sym many));
+        each = λ a l. let b = begun journal mailbox hs a (omega arith) in let f = fresh a b.0 b.1.there in let m = mailbox b.0 in record {
+          valid = subst (λ k. IsTrue (is_valid k)) (sym b.1.status) (valid_word m f.possible);
+          claims = nobody_has (claim_for a) refl;
+          cell = record {
+            home = b.0;
+            there = b.1.cell;
+            own = f.own;
+            fold = sym b.1.tale;
+            word = b.1.status;
+            idle = inl (ap (λ k. k % 4) b.1.status ∙ free_mod m f.free);
+            flag = b.1.flag ∙ sym (ap (λ b. if b then 1 else 0) (ne_eqb _ 1 (λ e. let z = free_word m f.free in let s = b.1.status in omega arith)));
+            rest = λ _. f.rest;
+          };
+          lists = nobody_has (list_for a) refl;
+          shelf = record { there = b.1.list; word = b.1.gate };
+          ended = λ e. absurd (cc);
+          listing = ([], refl);
+          message = λ due. absurd (let w = b.1.waiting in let d = due.1 in omega arith);
+          system = λ due. absurd (let d = due.1 in cc);
+          seen = only_blank (Knows a _) (record { seen = tt; said = tt });
+        };
+      }

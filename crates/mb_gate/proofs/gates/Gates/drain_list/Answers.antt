@@ -1,0 +1,29 @@
+use Rattle.std.proofs.Common.{rules, not, ap, sym, ◌∙◌, refl, arith}
+use Rattle.atomic_table.specs.Table.{rest}
+use Rattle.mb_gate.specs.View.{Lent, draining}
+use Rattle.mb_gate.specs.Rule.{is_some_item}
+use Rattle.mb_gate.specs.Lists.{with_drained}
+use Rattle.mb_gate.proofs.Allowed.{drains_allowed}
+use Rattle.mb_gate.proofs.ListCalls.{word_drained, laid_back, empty_is, some_listed}
+use Rattle.mb_gate.proofs.gates.Gates.drain_list.Goals as goal
+
+pub store-requires : goal.store-requires
+store-requires g c =
+    let lent = c.requires.lent in
+    let l : Lent = record { actor = c.args.id.0; listed = c.args.list; gave = lent.gave } in
+    let laid = c.lay_list.ensures.carries in
+    let some = ap is_some_item c.drain-chain.ensures.chain ∙ some_listed c.args.list in (
+      search rules,
+      search rules,
+      drains_allowed g.H.Resident.is_of g.H.Resident.journal g.H.Resident.mailbox g.H.Resident.rested _ _ _ _ c.args.id.0 _ (let k = c.args.self.now.keyed in let t = c.requires.there in omega arith) _ l _ c.word_index-gate.ensures
+          (ap (λ m. m.0.claim) laid ∙ c.requires.holder.has) c.requires.holder.of (ap (λ m. m.0.list) laid ∙ lent.has) refl (laid_back c.args.id.0 _ _ c.args.seat.now.me _ laid c.drain-chain.ensures.list)
+          (c.with_drained_bits-new.ensures ∙ (ap (with_drained c.args.word) (empty_is c.is_empty.result c.drain-chain.result c.is_empty.ensures ∙ ap not some) ∙ word_drained c.args.word c.args.list lent.gave _ lent.found)),
+    )
+
+pub returns-clause-drained : goal.returns-clause-drained
+returns-clause-drained g c =
+    let lent = c.requires.lent in
+    let l : Lent = record { actor = c.args.id.0; listed = c.args.list; gave = lent.gave } in
+    let laid = c.lay_list.ensures.carries in
+    let some = ap is_some_item c.drain-chain.ensures.chain ∙ some_listed c.args.list in
+    c.store.ensures.2 l (ap (λ m. m.0.list) laid ∙ lent.has) ∙ (λ i. (draining (sym c.drain-chain.ensures.chain i) (sym some i) (laid i).0, rest (laid i).1))

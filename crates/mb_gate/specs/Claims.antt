@@ -1,0 +1,48 @@
+-- What a claim's seat knows and has.
+use Rattle.std.specs.Prelude.{◌≡◌, ℕ, ◌%◌, ◌==◌, ◌⊎◌, Bool, true, false, ◌||◌, List, [], ◌∷◌, Option, Some, None}
+use Rattle.mb_journal.specs.Entry.{Entry}
+use Rattle.mb_status.specs.Mailbox.{Mailbox, word_of, idle}
+use Rattle.atomic_table.specs.Table.{Me}
+use Rattle.mb_rule.specs.Layout.{slot_at}
+use Rattle.mb_gate.specs.declared.slot.Slot.{Slot}
+use Rattle.mb_gate.specs.declared.slot.Slot.TheVariants.{Home}
+use Rattle.mb_gate.specs.View.{View, Held, blank, idling}
+use Rattle.mb_gate.specs.Rule.{Extends}
+
+abbrev pub nobody : Held
+nobody = record { actor = 0; journal = []; word = 0; gave = false; drained = [] }
+
+abbrev pub held_or : Option Held → Held
+held_or None = nobody
+held_or (Some c) = c
+
+-- the claim in the view
+abbrev pub held_in : View → Held
+held_in v = held_or v.claim
+
+-- the word says that a worker holds the actor, or that it is closed
+abbrev pub is_busy : ℕ → Bool
+is_busy word = word % 4 == 2 || word == 1
+
+-- the view of a claim that was just taken: of this actor, with this journal and word, and whether the last drain gave something
+abbrev pub claimed : ℕ → List Entry → ℕ → Bool → View
+claimed actor journal word gave = record blank { claim = Some (record { actor = actor; journal = journal; word = word; gave = gave; drained = [] }) }
+
+module _ {H : Type 0} (is_of : ℕ → H → Type 0) (journal : H → List Entry) (mailbox : H → Mailbox) (rested : H → Type 0) where
+  -- A seat has the claim of the actor with this status and carries its cell, which may go home: it is the actor's own, its journal goes
+  -- on from the one that was taken, its word is the one of the status; and unless the actor is open and its last drain gave something,
+  -- nothing is left beside it.
+  pub record IsReady (actor : ℕ) (status : Mailbox) (me : Me (Slot H) View) : Type 0 where
+    pub home : H
+    pub carried : me.1 ≡ (slot_at actor 0, Home home) ∷ []
+    pub has : me.0.claim ≡ Some (held_in me.0)
+    pub of : (held_in me.0).actor ≡ actor
+    pub word : (held_in me.0).word ≡ word_of status
+    pub own : is_of actor home
+    pub longer : Extends (journal home) (held_in me.0).journal
+    pub fold : word_of (mailbox home) ≡ word_of (idle status)
+    pub rest : (status.closed ≡ true) ⊎ ((held_in me.0).gave ≡ false) → rested home
+
+-- the cell that the seat carried went home
+abbrev pub Idled : {H : Type 0} → (H → List Entry) → ℕ → Me (Slot H) View → Me (Slot H) View → Type 0
+Idled {H} journal actor m m' = (home : H) → m.1 ≡ (slot_at actor 0, Home home) ∷ [] → m' ≡ (idling actor (journal home) m.0, [])

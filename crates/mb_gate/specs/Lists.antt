@@ -1,0 +1,38 @@
+-- A list that a seat took out, and the words of its gate.
+use Rattle.std.specs.Prelude.{◌≡◌, ℕ, ◌+◌, ◌*◌, ◌/◌, ◌%◌, ◌==◌, Bool, false, if◌then◌else◌, ◌∷◌, Some}
+use Rattle.atomic_table.specs.Table.{Me, rest}
+use Rattle.mb_syslist.specs.MessageList.{MessageList}
+use Rattle.mb_rule.specs.Layout.{slot_at}
+use Rattle.mb_gate.specs.declared.slot.Slot.{Slot}
+use Rattle.mb_gate.specs.declared.slot.Slot.TheVariants.{Empty}
+use Rattle.mb_gate.specs.View.{View, lending}
+use Rattle.mb_gate.specs.Claims.{held_in}
+use Rattle.mb_gate.specs.Rule.{gate_word}
+
+-- the seat took out the list of the actor, by an exchange that found this word at its gate
+pub record IsLentBy {H : Type 0} (actor : ℕ) (word : ℕ) (listed : MessageList) (m m' : Me (Slot H) View) : Type 0 where
+  pub gave : Bool
+  pub found : word ≡ gate_word false listed gave
+  pub now : m' ≡ (lending actor listed gave m.0, (slot_at actor 1, Empty) ∷ m.1)
+
+-- the seat has the list of the actor out, with nothing in its slot, and the gate showed this word before
+pub record IsOut {H : Type 0} (actor : ℕ) (word : ℕ) (listed : MessageList) (m : Me (Slot H) View) : Type 0 where
+  pub gave : Bool
+  pub found : word ≡ gate_word false listed gave
+  pub has : m.0.list ≡ Some (record { actor = actor; listed = listed; gave = gave })
+  pub carried : m.1 ≡ (slot_at actor 1, Empty) ∷ rest m.1
+
+-- the seat has the claim of the actor
+pub record HasClaim {H : Type 0} (actor : ℕ) (m : Me (Slot H) View) : Type 0 where
+  pub has : m.0.claim ≡ Some (held_in m.0)
+  pub of : (held_in m.0).actor ≡ actor
+
+-- the gate's word with a message listed; with nothing listed, after a drain that gave something or nothing; and with the list ended
+abbrev pub with_listed : ℕ → ℕ
+with_listed word = if word / 2 % 2 == 0 then word + 2 else word
+
+abbrev pub with_drained : ℕ → Bool → ℕ
+with_drained word is_empty = word / 8 * 8 + (if is_empty then 0 else 4)
+
+abbrev pub with_ended : ℕ → ℕ
+with_ended word = word / 4 % 2 * 4 + 8

@@ -1,0 +1,167 @@
+-- The rule of the gates' table: what holds of each actor between any two atomic steps.
+use Rattle.std.specs.Prelude.{◌≡◌, ◌⊎◌, ℕ, ◌+◌, ◌<◌, ◌==◌, ◌%◌, Bool, true, false, ◌||◌, IsTrue, if◌then◌else◌, List, [], ◌∷◌, ◌++◌, Option, Some, None}
+use mathlib.Core.Option.{some}
+use Rattle.mb_status.specs.Mailbox.{Mailbox, word_of, is_valid}
+use Rattle.mb_msg.specs.declared.system.SysMsg.{SysMsg}
+use Rattle.mb_syslist.specs.MessageList.{MessageList}
+use Rattle.mb_journal.specs.Entry.{Entry}
+use Rattle.mb_rule.specs.Layout.{Spot}
+use Rattle.mb_rule.specs.Locked.{Locked}
+use Rattle.mb_rule.specs.Owed.{Owed}
+use Rattle.mb_rule.specs.Seen.{EachView, Each}
+use Rattle.mb_gate.specs.View.{View, Sight, Read, Saw, Held, Lent, Said, owes}
+use Rattle.mb_gate.specs.declared.slot.Slot.{Slot}
+use Rattle.mb_gate.specs.declared.slot.Slot.TheVariants.{Home, List as Listing}
+
+-- an actor's words: its status; whether its closed cell is at home; its list's gate; and how many envelopes are counted as waiting
+pub data Word : Type 0 where
+  Status : Word
+  Flag : Word
+  Gate : Word
+  Waiting : Word
+
+abbrev pub word_offset : Word → ℕ
+word_offset Status = 0
+word_offset Flag = 1
+word_offset Gate = 2
+word_offset Waiting = 4
+
+-- an actor's slots: for its cell, and for its list
+pub data Shelf : Type 0 where
+  CellShelf : Shelf
+  ListShelf : Shelf
+
+abbrev pub slot_offset : Shelf → ℕ
+slot_offset CellShelf = 0
+slot_offset ListShelf = 1
+
+-- What is kept of an actor besides: who holds it; its journal, as it is at home or as it was taken; who has its list out; what is
+-- listed; whether the last drain gave something; and all that was ever listed, in order.
+pub record Ghost : Type 0 where
+  pub holder : Option (ℕ × Held)
+  pub journal : List Entry
+  pub keeper : Option (ℕ × Lent)
+  pub listed : MessageList
+  pub gave : Bool
+  pub pushed : List SysMsg
+
+abbrev pub is_some_item : {A : Type 0} → List A → Bool
+is_some_item [] = false
+is_some_item (x ∷ xs) = true
+
+-- there is system work: something is listed, or the last drain gave something
+abbrev pub has_work : Ghost → Bool
+has_work g = is_some_item g.listed.messages || g.gave
+
+-- the word of a list's gate: 1 while the list is out, 2 where something is listed, 4 where the last drain gave something, 8 where
+-- the list is ended
+abbrev pub gate_word : Bool → MessageList → Bool → ℕ
+gate_word is_out listed gave =
+    (if is_out then 1 else 0) + (if is_some_item listed.messages then 2 else 0) + (if gave then 4 else 0) + (if listed.closed then 8 else 0)
+
+abbrev pub held_of : ℕ → Option Held → Option Held
+held_of actor None = None
+held_of actor (Some c) = if c.actor == actor then Some c else None
+
+abbrev pub lent_of : ℕ → Option Lent → Option Lent
+lent_of actor None = None
+lent_of actor (Some l) = if l.actor == actor then Some l else None
+
+-- the claim of this actor that the seat has, and the list
+abbrev pub claim_for : ℕ → View → Option Held
+claim_for actor v = held_of actor v.claim
+
+abbrev pub list_for : ℕ → View → Option Lent
+list_for actor v = lent_of actor v.list
+
+-- a journal goes on from another: newest first, it ends with the other
+pub record Extends (journal before : List Entry) : Type 0 where
+  pub newer : List Entry
+  pub joined : journal ≡ newer ++ before
+
+-- envelopes may be handled, nobody holds the actor, and some are counted as waiting
+abbrev pub MessageDue : {H : Type 0} → Spot Word Shelf (Slot H) Ghost → Type 0
+MessageDue x = (x.row Status ≡ 0) × (0 < x.row Waiting)
+
+-- the actor is neither closed nor scheduled, and there is system work
+abbrev pub SystemDue : {H : Type 0} → Spot Word Shelf (Slot H) Ghost → Type 0
+SystemDue x = (x.row Status % 4 ≡ 0) × IsTrue (has_work x.ghost)
+
+abbrev pub PaysMessage : ℕ → View → Type 0
+PaysMessage actor v = IsTrue ((owes actor v).message || (owes actor v).sending)
+
+abbrev pub PaysSystem : ℕ → View → Type 0
+PaysSystem actor v = IsTrue (owes actor v).system
+
+-- what was seen closed is closed, and the journal goes on from each that was seen
+abbrev pub IsSo : {H : Type 0} → ℕ → Spot Word Shelf (Slot H) Ghost → Sight → Type 0
+IsSo actor x (Read a word) = a ≡ actor → word ≡ 1 → x.row Status ≡ 1
+IsSo actor x (Saw a journal) = a ≡ actor → Extends x.ghost.journal journal
+
+-- the message stands in the list
+pub record IsAmong (message : SysMsg) (messages : List SysMsg) : Type 0 where
+  pub before : List SysMsg
+  pub after : List SysMsg
+  pub joined : messages ≡ before ++ message ∷ after
+
+-- what was said was listed; or the list is ended
+abbrev pub IsTold : {H : Type 0} → ℕ → Spot Word Shelf (Slot H) Ghost → Said → Type 0
+IsTold actor x s = s.to ≡ actor → (s.was_ended ≡ true → IsTrue x.ghost.listed.closed) × (s.was_ended ≡ false → IsAmong s.message x.ghost.pushed)
+
+-- all that the view has seen, and said, of the actor is so
+pub record Knows {H : Type 0} (actor : ℕ) (x : Spot Word Shelf (Slot H) Ghost) (v : View) : Type 0 where
+  pub seen : Each (IsSo actor x) v.log
+  pub said : Each (IsTold actor x) v.said
+
+module _ {H : Type 0} (is_of : ℕ → H → Type 0) (journal : H → List Entry) (mailbox : H → Mailbox) (rested : H → Type 0) where
+  -- The cell is at home: it is the actor's own, its word is that of its journal, and only an open actor of which the last drain gave
+  -- something may have something left beside its cell that is to be applied. The flag tells it of a closed one.
+  pub record IsHome (actor : ℕ) (x : Spot Word Shelf (Slot H) Ghost) : Type 0 where
+    pub home : H
+    pub there : x.slot CellShelf ≡ some (some (Home home))
+    pub own : is_of actor home
+    pub fold : journal home ≡ x.ghost.journal
+    pub word : x.row Status ≡ word_of (mailbox home)
+    pub idle : (x.row Status % 4 ≡ 0) ⊎ (x.row Status ≡ 1)
+    pub flag : x.row Flag ≡ (if x.row Status == 1 then 1 else 0)
+    pub rest : (x.row Status ≡ 1) ⊎ (x.ghost.gave ≡ false) → rested home
+
+  -- a claim has it: it knows the word, which says that it is scheduled or closed
+  pub record IsHeld (actor : ℕ) (x : Spot Word Shelf (Slot H) Ghost) (claim : Held) : Type 0 where
+    pub own : claim.actor ≡ actor
+    pub taken : claim.journal ≡ x.ghost.journal
+    pub gave : claim.gave ≡ x.ghost.gave
+    pub word : x.row Status ≡ claim.word
+    pub busy : (x.row Status % 4 ≡ 2) ⊎ (x.row Status ≡ 1)
+    pub flag : x.row Flag ≡ 0
+
+  abbrev pub Keeping : ℕ → Spot Word Shelf (Slot H) Ghost → Option (ℕ × Held) → Type 0
+  Keeping actor x None = IsHome actor x
+  Keeping actor x (Some h) = IsHeld actor x h.1
+
+  -- the list is in its slot, or with one seat
+  pub record IsShelved (x : Spot Word Shelf (Slot H) Ghost) : Type 0 where
+    pub there : x.slot ListShelf ≡ some (some (Listing x.ghost.listed))
+    pub word : x.row Gate ≡ gate_word false x.ghost.listed x.ghost.gave
+
+  pub record IsLent (x : Spot Word Shelf (Slot H) Ghost) (lent : Lent) : Type 0 where
+    pub taken : lent.listed ≡ x.ghost.listed
+    pub gave : lent.gave ≡ x.ghost.gave
+    pub word : x.row Gate ≡ gate_word true x.ghost.listed x.ghost.gave
+
+  abbrev pub Shelving : Spot Word Shelf (Slot H) Ghost → Option (ℕ × Lent) → Type 0
+  Shelving x None = IsShelved x
+  Shelving x (Some k) = IsLent x k.1
+
+  -- All that holds of one actor: who has its cell, who has its list, what is owed and what was seen.
+  pub record Fact (actor : ℕ) (x : Spot Word Shelf (Slot H) Ghost) (vs : List View) : Type 0 where
+    pub valid : IsTrue (is_valid (x.row Status))
+    pub claims : Locked (claim_for actor) x.ghost.holder vs
+    pub cell : Keeping actor x x.ghost.holder
+    pub lists : Locked (list_for actor) x.ghost.keeper vs
+    pub shelf : Shelving x x.ghost.keeper
+    pub ended : IsTrue x.ghost.listed.closed → x.row Status ≡ 1
+    pub listing : (given : List SysMsg) × (x.ghost.pushed ≡ given ++ x.ghost.listed.messages)
+    pub message : Owed (MessageDue x) (PaysMessage actor) vs
+    pub system : Owed (SystemDue x) (PaysSystem actor) vs
+    pub seen : EachView (Knows actor x) vs

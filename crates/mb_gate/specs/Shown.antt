@@ -1,0 +1,39 @@
+-- The state of the machine that the table shows of an actor: its words, and all views by what they owe it. The envelopes are no part
+-- of the table.
+use Rattle.std.specs.Prelude.{◌≡◌, ℕ, ◌<◌, false, List, [], ◌++◌, map, Option, Some, None}
+use Rattle.atomic_table.specs.Table.{State}
+use Rattle.mb_status.specs.Mailbox.{Mailbox, mailbox_of}
+use Rattle.mb_msg.specs.declared.system.SysMsg.{SysMsg}
+use Rattle.mb_journal.specs.Entry.{Entry}
+use Rattle.mb_core.specs.Actor.{Actor}
+use Rattle.mb_core.specs.Held.{IsHeldRightly, HasPossibleMailbox}
+use Rattle.mb_core.specs.Settled.{IsSettled}
+use Rattle.mb_rule.specs.Layout.{Spot, spot_of}
+use Rattle.mb_rule.specs.Ruled.{Ruled}
+use Rattle.mb_gate.specs.declared.slot.Slot.{Slot}
+use Rattle.mb_gate.specs.View.{View, Held, owes}
+use Rattle.mb_gate.specs.Rule.{Word, Status, Waiting, word_offset, Shelf, slot_offset, Ghost, Fact}
+
+abbrev pub holder_of : Option (ℕ × Held) → Option ℕ
+holder_of None = None
+holder_of (Some h) = Some h.0
+
+-- the actor of the machine, with this rest of what was drained and is not applied in front of what is listed
+abbrev pub shown : {H : Type 0} → ℕ → Spot Word Shelf (Slot H) Ghost → List View → List SysMsg → Actor
+shown actor x vs rest = record {
+  mailbox = mailbox_of (x.row Status);
+  envelopes = [];
+  waiting = x.row Waiting;
+  system = Some (rest ++ x.ghost.listed.messages);
+  holder = holder_of x.ghost.holder;
+  owed = map (owes actor) vs;
+}
+
+-- The machine's facts hold of each actor, by the rule: who holds it, which mailbox it has, and that nothing is stranded, where something
+-- is left of what was drained only if the last drain gave something.
+abbrev pub ShowsMachine : {H : Type 0} → (ℕ → H → Type 0) → (H → List Entry) → (H → Mailbox) → (H → Type 0) → Type 0
+ShowsMachine {H} is_of journal mailbox rested =
+    (n : ℕ) (s : State (Slot H) View) (r : Ruled word_offset slot_offset n (Fact is_of journal mailbox rested) s) (actor : ℕ) → actor < n →
+    (let x = spot_of word_offset slot_offset s r.ghosts actor in
+    (rest : List SysMsg) → (x.ghost.gave ≡ false → rest ≡ []) →
+    HasPossibleMailbox (shown actor x s.views rest) × IsHeldRightly (shown actor x s.views rest) × IsSettled (shown actor x s.views rest))

@@ -1,0 +1,144 @@
+-- What a seat at the gates knows. A pass and a claim have a seat each; a view changes only at the seat's own steps.
+-- (This project's own profile: Akka's mailboxes keep no account of who knows what.)
+use Rattle.std.specs.Prelude.{ℕ, ◌+◌, ◌==◌, Bool, true, false, ◌||◌, if◌then◌else◌, List, [], ◌∷◌, ◌++◌, Option, Some, None}
+use Rattle.mb_status.specs.Mailbox.{mailbox_of}
+use Rattle.mb_msg.specs.declared.system.SysMsg.{SysMsg}
+use Rattle.mb_syslist.specs.MessageList.{MessageList}
+use Rattle.mb_journal.specs.Entry.{Entry}
+use Rattle.mb_core.specs.declared.debt.Debt.{Debt}
+use Rattle.mb_core.specs.Actor.{nothing}
+use Rattle.mb_core.specs.Run.{after_reading}
+
+-- one thing that was seen: an actor's status word, or its journal
+pub data Sight : Type 0 where
+  Read : ℕ → ℕ → Sight
+  Saw : ℕ → List Entry → Sight
+
+-- a claim: its actor, the journal with which it was taken, the status word as it knows it, whether the actor's last drain gave
+-- something, and all that was drained since it was taken, with the numbers
+pub record Held : Type 0 where
+  pub actor : ℕ
+  pub journal : List Entry
+  pub word : ℕ
+  pub gave : Bool
+  pub drained : List (ℕ × SysMsg)
+
+-- a list that is out: its actor, what was listed when it was taken, and whether the last drain gave something
+pub record Lent : Type 0 where
+  pub actor : ℕ
+  pub listed : MessageList
+  pub gave : Bool
+
+-- a system message that was sent: to whom, what, and whether the list was ended, so that it went nowhere
+pub record Said : Type 0 where
+  pub to : ℕ
+  pub message : SysMsg
+  pub was_ended : Bool
+
+-- what was seen, the newest first; what is owed, by the actor, of which the newest counts; what was said, the newest first;
+-- and the claim and the list that it has, if any
+pub record View : Type 0 where
+  pub log : List Sight
+  pub debts : List (ℕ × Debt)
+  pub said : List Said
+  pub claim : Option Held
+  pub list : Option Lent
+
+abbrev pub debt_of : ℕ → List (ℕ × Debt) → Debt
+debt_of actor [] = nothing
+debt_of actor (d ∷ ds) = if d.0 == actor then d.1 else debt_of actor ds
+
+-- what the seat owes the actor
+abbrev pub owes : ℕ → View → Debt
+owes actor v = debt_of actor v.debts
+
+-- the seat knows nothing and owes nothing
+abbrev pub blank : View
+blank = record { log = []; debts = []; said = []; claim = None; list = None }
+
+-- it owes this actor this
+abbrev pub owing : ℕ → Debt → View → View
+owing actor debt v = record v { debts = (actor, debt) ∷ v.debts }
+
+-- a status word was read
+abbrev pub reading : ℕ → ℕ → View → View
+reading actor word v = owing actor (after_reading (mailbox_of word) (owes actor v)) (record v { log = Read actor word ∷ v.log })
+
+-- the actor was scheduled, by an exchange that found this word, and its cell was taken
+abbrev pub taking : ℕ → List Entry → ℕ → Bool → View → View
+taking actor journal word gave v =
+    owing actor nothing (record v { claim = Some (record { actor = actor; journal = journal; word = word + 2; gave = gave; drained = [] }) })
+
+-- the claim in a view of its own, and the view without it
+abbrev pub claim_alone : View → View
+claim_alone v = record blank { claim = v.claim }
+
+abbrev pub without_claim : View → View
+without_claim v = record v { claim = None }
+
+-- the claim, which knows this word
+abbrev pub rewritten : ℕ → Option Held → Option Held
+rewritten word None = None
+rewritten word (Some c) = Some (record c { word = word })
+
+-- the holder wrote this status word
+abbrev pub writing : ℕ → View → View
+writing word v = record v { claim = rewritten word v.claim }
+
+-- the cell was given home with this journal
+abbrev pub idling : ℕ → List Entry → View → View
+idling actor journal v =
+    owing actor (record (owes actor v) { system = true; message = true })
+    (record v { log = Saw actor journal ∷ v.log; claim = None })
+
+-- one was counted as waiting, before its envelope is queued
+abbrev pub sending : ℕ → View → View
+sending actor v = owing actor (record (owes actor v) { sending = true }) v
+
+-- it was taken back, since the envelope was refused
+abbrev pub unsending : ℕ → View → View
+unsending actor v = owing actor (record (owes actor v) { message = true; sending = false }) v
+
+-- the waiting number was read
+abbrev pub counting : ℕ → ℕ → View → View
+counting actor waiting v = if waiting == 0 then owing actor (record (owes actor v) { message = false }) v else v
+
+-- the list's gate was read, and showed system work or none
+abbrev pub looking : ℕ → Bool → View → View
+looking actor has_work v = if has_work then v else owing actor (record (owes actor v) { system = false }) v
+
+-- what is owed by either of two
+abbrev pub either_owes : Debt → Debt → Debt
+either_owes a b = record { system = a.system || b.system; message = a.message || b.message; sending = a.sending || b.sending }
+
+-- the first debts, with those of the second list to the same actors; before those
+abbrev pub added_debts : List (ℕ × Debt) → List (ℕ × Debt) → List (ℕ × Debt)
+added_debts [] old = old
+added_debts (d ∷ ds) old = (d.0, either_owes d.1 (debt_of d.0 old)) ∷ added_debts ds old
+
+-- a seat takes over what another has seen and what it owes
+abbrev pub taking_over : View → View → View
+taking_over v w = record v { log = w.log ++ v.log; debts = added_debts w.debts v.debts }
+
+-- the list was taken out
+abbrev pub lending : ℕ → MessageList → Bool → View → View
+lending actor listed gave v = record v { list = Some (record { actor = actor; listed = listed; gave = gave }) }
+
+-- the list was given back with this message last
+abbrev pub enlisting : ℕ → SysMsg → View → View
+enlisting actor message v =
+    owing actor (record (owes actor v) { system = true })
+    (record v { list = None; said = record { to = actor; message = message; was_ended = false } ∷ v.said })
+
+-- the list was found ended, so that this message went nowhere
+abbrev pub refusing : ℕ → SysMsg → View → View
+refusing actor message v = record v { said = record { to = actor; message = message; was_ended = true } ∷ v.said }
+
+-- the claim, to which this was given, and which knows that the last drain gave something, or nothing
+abbrev pub regiven : List (ℕ × SysMsg) → Bool → Option Held → Option Held
+regiven given gave None = None
+regiven given gave (Some c) = Some (record c { gave = gave; drained = c.drained ++ given })
+
+-- the holder gave the list back, without what it took out of it
+abbrev pub draining : List (ℕ × SysMsg) → Bool → View → View
+draining given gave v = record v { list = None; claim = regiven given gave v.claim }

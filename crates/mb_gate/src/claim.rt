@@ -1,0 +1,54 @@
+ghost use Rattle.std.specs.Prelude.{◌≡◌, [], ◌∷◌, None, Some, true};
+ghost use Rattle.mb_status.specs.Mailbox.{word_of};
+ghost use Rattle.mb_rule.specs.Layout.{slot_at};
+ghost use Rattle.mb_gate.specs.Claims.{held_in, is_busy};
+ghost use Rattle.mb_gate.specs.declared.slot.Slot.TheVariants.{Empty};
+
+use crate::slot::Slot;
+use crate::view::Knowledge;
+use atomic_table::Seat;
+use mb_msg::ActorId;
+use mb_status::Status;
+
+/// The one claim of an actor that a worker holds, with what lies at its home otherwise. It has to be spent.
+pub struct Claim<H> {
+    /// The cell, and what is kept beside it.
+    pub home: H,
+    pub(crate) actor: ActorId,
+    pub(crate) status: Status,
+    pub(crate) seat: Seat<Slot<H>, Knowledge>,
+    ghost has: { seat.me.0.claim ≡ Some (held_in seat.me.0) },
+    ghost of: { (held_in seat.me.0).actor ≡ actor.0 },
+    ghost word: { (held_in seat.me.0).word ≡ word_of status },
+    ghost busy: { is_busy (word_of status) ≡ true },
+    ghost no_list: { seat.me.0.list ≡ None },
+    ghost carries: { seat.me.1 ≡ (slot_at actor.0 0, Empty) ∷ [] },
+}
+
+impl<H> Claim<H> {
+    /// The actor that it is of.
+    pub fn actor(&self) -> ActorId
+        ensures { result.0 ≡ self.now.actor.0 }
+    {
+        self.actor
+    }
+
+    /// The actor's status, which no other seat changes.
+    pub fn status(&self) -> Status
+        ensures { result ≡ self.now.status }
+    {
+        self.status
+    }
+}
+
+impl<H: Drop> Claim<H> {
+    /// Gives the claim up. Its actor is held for good: nobody can schedule it any more.
+    pub fn abandon(self) {
+        let Claim {
+            home: _,
+            actor: _,
+            status: _,
+            seat: _,
+        } = self;
+    }
+}

@@ -1,0 +1,10 @@
+ghost use Rattle.mb_gate.specs.Shown.{ShowsMachine};
+
+use crate::resident::Resident;
+
+/// A law: the running words show a state of the machine. Between any two atomic steps the machine's facts hold of each
+/// actor: its mailbox is a possible one; a scheduled actor has exactly one holder, a closed one at most one, every other
+/// none; and with system work, or with some waiting that may be handled, it is owed a look.
+pub fn words_show_the_machine<H: Resident>()
+    ensures { ShowsMachine H.is_of H.journal H.mailbox H.rested }
+{}

@@ -1,0 +1,305 @@
+//! The lists of system messages, each behind a gate that is taken for one list step and given back.
+ghost use Rattle.std.specs.Prelude.{◌≡◌, ◌+◌, ◌*◌, ◌/◌, ◌%◌, ◌<◌, ◌==◌, [], ◌∷◌, ◌++◌, false, true, None, IfErr, IfOk, MatchOption, if◌then◌else◌};
+ghost use Rattle.atomic_table.specs.Table.{rest};
+ghost use Rattle.mb_syslist.specs.MessageList.{MessageList};
+ghost use Rattle.mb_rule.specs.Layout.{slot_at};
+ghost use Rattle.mb_gate.specs.declared.slot.Slot.TheVariants.{Empty, List};
+ghost use Rattle.mb_gate.specs.View.{enlisting, refusing, draining};
+ghost use Rattle.mb_gate.specs.Rule.{is_some_item};
+ghost use Rattle.mb_gate.specs.Claims.{held_in};
+ghost use Rattle.mb_gate.specs.Lists.{IsLentBy, IsOut, HasClaim, with_listed, with_drained, with_ended};
+ghost use Rattle.mb_gate.specs.Names.{gates_id, pass_id, claim_id, actors_of, known_by, known_of, held_actor, status_of, taken_with, gave_last, drained_by};
+
+use crate::claim::Claim;
+use crate::gates::Gates;
+use crate::law::{Drain, End, Enlist, Glance, Grip, Refuse};
+use crate::layout::{GATE, LIST, slot_index, word_index};
+use crate::pass::Pass;
+use crate::resident::Resident;
+use crate::slot::Slot;
+use crate::view::Knowledge;
+use atomic_table::Seat;
+use mb_msg::{ActorId, SysMsg};
+use mb_syslist::{Chain, ListClosed, Node, SysList};
+use std::sync::Wait;
+use std::thread;
+
+// Something is listed.
+fn with_listed_bit(word: u64) -> u64
+    requires { word < 16 }
+    ensures { result ≡ with_listed word }
+{
+    if word / 2 % 2 == 0 { word + 2 } else { word }
+}
+
+// Nothing is listed, and the last drain gave something or nothing.
+fn with_drained_bits(word: u64, is_empty: bool) -> u64
+    requires { word < 16 }
+    ensures { result ≡ with_drained word is_empty }
+{
+    word / 8 * 8 + if is_empty { 0 } else { 4 }
+}
+
+// Nothing is listed any more.
+fn with_ended_bits(word: u64) -> u64
+    requires { word < 16 }
+    ensures { result ≡ with_ended word }
+{
+    word / 4 % 2 * 4 + 8
+}
+
+impl<H: Resident> Gates<H> {
+    // One try to take the list out, where the gate shows this word.
+    fn try_grip(
+        &self,
+        seat: &mut Seat<Slot<H>, Knowledge>,
+        id: ActorId,
+        word: u64,
+    ) -> Option<SysList>
+        requires ours { seat.old.table_id ≡ gates_id self.now }
+        requires there { id.0 < actors_of self.now }
+        requires in_slot { word % 2 ≡ 0 }
+        requires no_list { seat.old.me.0.list ≡ None }
+        ensures ours { seat.new.table_id ≡ seat.old.table_id }
+        ensures answer { MatchOption result (seat.new.me ≡ seat.old.me) (λ list. IsLentBy id.0 word list seat.old.me seat.new.me) }
+    {
+        let gate = word_index(id, GATE);
+        let found = self
+            .table
+            .shared
+            .compare_exchange::<Grip>(seat, gate, word, word + 1);
+        if found != word {
+            return None;
+        }
+        let slot = slot_index(id, LIST);
+        match self.table.shared.exchange(seat, slot, Slot::Empty) {
+            Slot::List(list) => Some(list),
+            _ => unreachable!(),
+        }
+    }
+
+    // One try to say that a message found the list ended, where the gate shows this word.
+    fn try_refuse(
+        &self,
+        seat: &mut Seat<Slot<H>, Knowledge>,
+        id: ActorId,
+        word: u64,
+        message: SysMsg,
+    ) -> bool
+        requires ours { seat.old.table_id ≡ gates_id self.now }
+        requires there { id.0 < actors_of self.now }
+        requires ended { word / 8 % 2 ≡ 1 }
+        ensures ours { seat.new.table_id ≡ seat.old.table_id }
+        ensures answer { seat.new.me ≡ (if result then (refusing id.0 message seat.old.me.0, seat.old.me.1) else seat.old.me) }
+    {
+        let gate = word_index(id, GATE);
+        let note = Slot::Note(message);
+        let found = self
+            .table
+            .shared
+            .compare_exchange_with::<Refuse>(seat, gate, word, word, &note);
+        found == word
+    }
+
+    // Takes the list out, or says that the message found it ended.
+    fn grip_open<R: Wait>(
+        &self,
+        rt: &R,
+        seat: &mut Seat<Slot<H>, Knowledge>,
+        id: ActorId,
+        message: SysMsg,
+    ) -> Option<(u64, SysList)>
+        requires ours { seat.old.table_id ≡ gates_id self.now }
+        requires there { id.0 < actors_of self.now }
+        requires no_list { seat.old.me.0.list ≡ None }
+        ensures ours { seat.new.table_id ≡ seat.old.table_id }
+        ensures answer { MatchOption result (seat.new.me ≡ (refusing id.0 message seat.old.me.0, seat.old.me.1)) (λ got. IsLentBy id.0 got.0 got.1 seat.old.me seat.new.me × (got.1.closed ≡ false)) }
+    {
+        for _ in rt.forever() {
+            let word = self.table.shared.peek(word_index(id, GATE));
+            if word % 2 == 1 {
+                thread::yield_now();
+            } else if word / 8 % 2 == 1 {
+                if self.try_refuse(seat, id, word, message) {
+                    return None;
+                }
+            } else if let Some(list) = self.try_grip(seat, id, word) {
+                return Some((word, list));
+            }
+        }
+        unreachable!()
+    }
+
+    // Takes the list out.
+    fn grip<R: Wait>(
+        &self,
+        rt: &R,
+        seat: &mut Seat<Slot<H>, Knowledge>,
+        id: ActorId,
+    ) -> (u64, SysList)
+        requires ours { seat.old.table_id ≡ gates_id self.now }
+        requires there { id.0 < actors_of self.now }
+        requires no_list { seat.old.me.0.list ≡ None }
+        ensures ours { seat.new.table_id ≡ seat.old.table_id }
+        ensures answer { IsLentBy id.0 result.0 result.1 seat.old.me seat.new.me }
+    {
+        for _ in rt.forever() {
+            let word = self.table.shared.peek(word_index(id, GATE));
+            if word % 2 == 1 {
+                thread::yield_now();
+            } else if let Some(list) = self.try_grip(seat, id, word) {
+                return (word, list);
+            }
+        }
+        unreachable!()
+    }
+
+    // Puts the list that is out into its slot, which no other seat can see before the next step.
+    fn lay_list(&self, seat: &mut Seat<Slot<H>, Knowledge>, id: ActorId, list: SysList)
+        requires ours { seat.old.table_id ≡ gates_id self.now }
+        requires there { id.0 < actors_of self.now }
+        requires carries { seat.old.me.1 ≡ (slot_at id.0 1, Empty) ∷ rest seat.old.me.1 }
+        ensures ours { seat.new.table_id ≡ seat.old.table_id }
+        ensures carries { seat.new.me ≡ (seat.old.me.0, (slot_at id.0 1, List list) ∷ rest seat.old.me.1) }
+    {
+        let slot = slot_index(id, LIST);
+        match self.table.shared.exchange(seat, slot, Slot::List(list)) {
+            Slot::Empty => {}
+            _ => unreachable!(),
+        }
+    }
+
+    /// Puts a node last into the actor's list, and says so (`systemEnqueue`). From now on the pass owes the actor a look
+    /// at it. It takes no memory, and may wait for the list's gate.
+    ///
+    /// It answers `ListClosed` with the same node if the list is ended, and says that too.
+    pub fn sys_enqueue<R: Wait>(
+        &self,
+        rt: &R,
+        pass: &mut Pass<H>,
+        id: ActorId,
+        node: Node,
+    ) -> Result<(), ListClosed>
+        requires ours { pass_id pass.old ≡ gates_id self.now }
+        requires there { id.0 < actors_of self.now }
+        ensures ours { pass_id pass.new ≡ pass_id pass.old }
+        ensures listed { IfOk result (λ _. known_by pass.new ≡ enlisting id.0 node (known_by pass.old)) }
+        ensures ended { IfErr result (λ refused. (refused.0 ≡ node) × (known_by pass.new ≡ refusing id.0 node (known_by pass.old))) }
+    {
+        match self.grip_open(rt, &mut pass.seat, id, node.msg()) {
+            Some((word, list)) => {
+                self.enlist(&mut pass.seat, id, word, list, node);
+                Ok(())
+            }
+            None => Err(ListClosed(node)),
+        }
+    }
+
+    // Puts the node last into the list that is out, and gives it back.
+    fn enlist(
+        &self,
+        seat: &mut Seat<Slot<H>, Knowledge>,
+        id: ActorId,
+        word: u64,
+        mut list: SysList,
+        node: Node,
+    )
+        requires ours { seat.old.table_id ≡ gates_id self.now }
+        requires there { id.0 < actors_of self.now }
+        requires lent { IsOut id.0 word list seat.old.me }
+        requires not_ended { list.closed ≡ false }
+        ensures ours { seat.new.table_id ≡ seat.old.table_id }
+        ensures listed { seat.new.me ≡ (enlisting id.0 node seat.old.me.0, rest seat.old.me.1) }
+    {
+        let gate = word_index(id, GATE);
+        let new = with_listed_bit(word);
+        match list.push(node) {
+            Ok(_) => {}
+            Err(_) => unreachable!(),
+        }
+        self.lay_list(seat, id, list);
+        self.table.shared.store::<Enlist>(seat, gate, new);
+    }
+
+    // Takes all out of the list that is out, and gives it back.
+    fn drain_list(
+        &self,
+        seat: &mut Seat<Slot<H>, Knowledge>,
+        id: ActorId,
+        word: u64,
+        mut list: SysList,
+    ) -> Chain
+        requires ours { seat.old.table_id ≡ gates_id self.now }
+        requires there { id.0 < actors_of self.now }
+        requires lent { IsOut id.0 word list seat.old.me }
+        requires holder { HasClaim id.0 seat.old.me }
+        ensures ours { seat.new.table_id ≡ seat.old.table_id }
+        ensures drained { seat.new.me ≡ (draining result (is_some_item result) seat.old.me.0, rest seat.old.me.1) }
+    {
+        let gate = word_index(id, GATE);
+        let chain = list.drain();
+        let new = with_drained_bits(word, chain.is_empty());
+        self.lay_list(seat, id, list);
+        self.table.shared.store::<Drain>(seat, gate, new);
+        chain
+    }
+
+    // Takes all out of the list that is out, and gives it back ended.
+    fn end_list(
+        &self,
+        seat: &mut Seat<Slot<H>, Knowledge>,
+        id: ActorId,
+        word: u64,
+        mut list: SysList,
+    ) -> Chain
+        requires ours { seat.old.table_id ≡ gates_id self.now }
+        requires there { id.0 < actors_of self.now }
+        requires lent { IsOut id.0 word list seat.old.me }
+        requires holder { HasClaim id.0 seat.old.me }
+        requires closed { (held_in seat.old.me.0).word ≡ 1 }
+        ensures ours { seat.new.table_id ≡ seat.old.table_id }
+        ensures drained { seat.new.me ≡ (draining result (held_in seat.old.me.0).gave seat.old.me.0, rest seat.old.me.1) }
+    {
+        let gate = word_index(id, GATE);
+        let chain = list.close();
+        let new = with_ended_bits(word);
+        self.lay_list(seat, id, list);
+        self.table.shared.store::<End>(seat, gate, new);
+        chain
+    }
+
+    /// Takes all system messages that are listed out of the list of the claim's actor, the earliest first, with their
+    /// numbers (`systemDrain`). It takes no memory, and may wait for the list's gate; a drain of an empty list, where the
+    /// last drain gave nothing, is one load.
+    pub fn sys_drain<R: Wait>(&self, rt: &R, claim: &mut Claim<H>) -> Chain
+        requires ours { claim_id claim.old ≡ gates_id self.now }
+        requires there { held_actor claim.old < actors_of self.now }
+        ensures ours { (claim_id claim.new ≡ claim_id claim.old) × (held_actor claim.new ≡ held_actor claim.old) }
+        ensures known { known_of claim.new ≡ draining result (is_some_item result) (known_of claim.old) }
+        ensures same { (status_of claim.new ≡ status_of claim.old) × (claim.new.home ≡ claim.old.home) }
+        ensures drained { (taken_with claim.new ≡ taken_with claim.old) × (gave_last claim.new ≡ is_some_item result) × (drained_by claim.new ≡ drained_by claim.old ++ result) }
+    {
+        let gate = word_index(claim.actor, GATE);
+        let word = self.table.shared.load::<Glance>(&mut claim.seat, gate);
+        if word % 8 == 0 {
+            return Chain::new();
+        }
+        let (word, list) = self.grip(rt, &mut claim.seat, claim.actor);
+        self.drain_list(&mut claim.seat, claim.actor, word, list)
+    }
+
+    /// Takes out all that is listed, as `sys_drain`, and ends the list for good (`systemDrain` that leaves no list): the
+    /// claim's actor is closed.
+    pub fn sys_close<R: Wait>(&self, rt: &R, claim: &mut Claim<H>) -> Chain
+        requires ours { claim_id claim.old ≡ gates_id self.now }
+        requires there { held_actor claim.old < actors_of self.now }
+        requires closed { (status_of claim.old).closed ≡ true }
+        ensures ours { (claim_id claim.new ≡ claim_id claim.old) × (held_actor claim.new ≡ held_actor claim.old) }
+        ensures known { known_of claim.new ≡ draining result (gave_last claim.old) (known_of claim.old) }
+        ensures same { (status_of claim.new ≡ status_of claim.old) × (claim.new.home ≡ claim.old.home) }
+        ensures drained { (taken_with claim.new ≡ taken_with claim.old) × (gave_last claim.new ≡ gave_last claim.old) × (drained_by claim.new ≡ drained_by claim.old ++ result) }
+    {
+        let (word, list) = self.grip(rt, &mut claim.seat, claim.actor);
+        self.end_list(&mut claim.seat, claim.actor, word, list)
+    }
+}

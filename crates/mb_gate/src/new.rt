@@ -1,0 +1,105 @@
+//! How the gates begin.
+ghost use Rattle.std.specs.Prelude.{◌≡◌, ℕ, ◌+◌, ◌*◌, ◌<◌, ◌≤◌, [], ◌∷◌, ◌++◌, length, slice_get, Some, IfOk, IfErr, OnOk, vec_len, vec_capacity};
+ghost use Rattle.mb_status.specs.Mailbox.{word_of};
+ghost use Rattle.mb_gate.specs.View.{blank};
+ghost use Rattle.mb_gate.specs.Starts.{row_of, rows_of, shelves_of, homes_in, IsFresh};
+ghost use Rattle.mb_gate.specs.Names.{gates_id, pass_id, actors_of, known_by};
+
+use crate::gates::Gates;
+use crate::pass::Pass;
+use crate::resident::Resident;
+use crate::slot::Slot;
+use atomic_table::{Refused, Table};
+use mb_syslist::SysList;
+use std::alloc::{AllocError, Global};
+
+/// There was no memory. The homes come back.
+#[derive(Drop)]
+pub struct NoGates<H> {
+    pub homes: Vec<H>,
+}
+
+impl<H: Resident> Gates<H> {
+    /// The gates of as many actors as there are homes, the first with the number 0, with an empty list each; and a pass,
+    /// which knows nothing and owes nothing. Each actor's status is the one that its home says.
+    ///
+    /// It answers `NoGates` with the homes if memory was refused.
+    pub fn new(alloc: Global, homes: Vec<H>) -> Result<(Gates<H>, Pass<H>), NoGates<H>>
+        requires some { 0 < vec_len homes }
+        requires few { vec_len homes ≤ 4294967296 }
+        requires fresh { (actor : ℕ) (home : H) → slice_get homes.items actor ≡ Some home → IsFresh H.is_of H.mailbox H.rested actor home }
+        ensures ok { IfOk result (λ made. (actors_of made.0 ≡ vec_len homes) × (pass_id made.1 ≡ gates_id made.0) × (known_by made.1 ≡ blank)) }
+        ensures err { IfErr result (λ refused. refused.homes.items ≡ homes.items) }
+    {
+        let actors = homes.len();
+        let Ok(words) = rows(alloc, &homes) else {
+            return Err(NoGates { homes });
+        };
+        let Ok(room) = Vec::with_capacity(alloc, 2 * actors) else {
+            return Err(NoGates { homes });
+        };
+        let (slots, homes) = shelve(homes, room);
+        match Table::new(alloc, &words, slots, &actors) {
+            Ok((table, seat)) => Ok((Gates { table, actors }, Pass { seat })),
+            Err(Refused { slots }) => Err(NoGates {
+                homes: unshelve(slots, homes),
+            }),
+        }
+    }
+}
+
+// The words of all actors.
+fn rows<H: Resident>(alloc: Global, homes: &[H]) -> Result<Vec<u64>, AllocError>
+    ensures { IfOk result (λ words. words.items ≡ rows_of H.mailbox homes.now) }
+{
+    let mut words = Vec::new(alloc);
+    for home in homes {
+        push_row(&mut words, home.status().word())?;
+    }
+    Ok(words)
+}
+
+fn push_row(words: &mut Vec<u64>, word: u64) -> Result<(), AllocError>
+    ensures { OnOk result (words.new.items ≡ words.old.items ++ row_of word) }
+{
+    words.extend_from_slice(&[0, 0, 0, 0, 0, 0, 0, 0, word, 0, 0, 0, 0, 0, 0, 0])
+}
+
+// The slots of all actors, and the room in which the homes lay.
+fn shelve<H: Resident>(mut homes: Vec<H>, mut slots: Vec<Slot<H>>) -> (Vec<Slot<H>>, Vec<H>)
+    requires empty { slots.items ≡ [] }
+    requires room { 2 * vec_len homes ≤ vec_capacity slots }
+    ensures slots { result.0.items ≡ shelves_of homes.items }
+    ensures homes { (result.1.items ≡ []) × (vec_len homes ≤ vec_capacity result.1) }
+{
+    while let Some(home) = homes.pop() {
+        slots.push_reserved(Slot::List(SysList::new()));
+        slots.push_reserved(Slot::Home(home));
+    }
+    slots.reverse();
+    (slots, homes)
+}
+
+// The homes out of the slots, back into their room.
+fn unshelve<H: Resident>(mut slots: Vec<Slot<H>>, mut homes: Vec<H>) -> Vec<H>
+    requires empty { homes.items ≡ [] }
+    requires room { length (homes_in slots.items) ≤ vec_capacity homes }
+    ensures { result.items ≡ homes_in slots.items }
+{
+    while let Some(slot) = slots.pop() {
+        put_home(slot, &mut homes);
+    }
+    homes.reverse();
+    homes
+}
+
+fn put_home<H: Resident>(slot: Slot<H>, homes: &mut Vec<H>)
+    requires room { length (homes_in (slot ∷ [])) + vec_len homes.old ≤ vec_capacity homes.old }
+    ensures homes { homes.new.items ≡ homes.old.items ++ homes_in (slot ∷ []) }
+    ensures room { vec_capacity homes.new ≡ vec_capacity homes.old }
+{
+    match slot {
+        Slot::Home(home) => homes.push_reserved(home),
+        Slot::Empty | Slot::List(_) | Slot::Note(_) => {}
+    }
+}

@@ -1,0 +1,15 @@
+ghost use Rattle.std.specs.Prelude.{◌≡◌, [], None};
+ghost use Rattle.atomic_table.specs.Seated.{TableId};
+
+use crate::slot::Slot;
+use crate::view::Knowledge;
+use atomic_table::Seat;
+
+/// The right to step on the words of the gates. Each thread has one of its own; a second one is split off it.
+///
+/// It has no bytes. What it knows exists in clauses alone: what was read and seen of each actor, and what it owes each.
+#[derive(Drop)]
+pub struct Pass<H> {
+    pub(crate) seat: Seat<Slot<H>, Knowledge>,
+    ghost holds_nothing: { (seat.me.1 ≡ []) × (seat.me.0.claim ≡ None) × (seat.me.0.list ≡ None) },
+}

@@ -1,0 +1,33 @@
+//! A pass for another thread, and a pass that comes back.
+ghost use Rattle.std.specs.Prelude.{◌≡◌};
+ghost use Rattle.mb_gate.specs.View.{taking_over};
+ghost use Rattle.mb_gate.specs.Names.{gates_id, pass_id, known_by};
+
+use crate::gates::Gates;
+use crate::law::{TakeOver, Twin};
+use crate::pass::Pass;
+use crate::resident::Resident;
+
+impl<H: Resident> Gates<H> {
+    /// A second pass, which knows and owes what this one does.
+    pub fn another(&self, pass: &mut Pass<H>) -> Pass<H>
+        requires ours { pass_id pass.old ≡ gates_id self.now }
+        ensures ours { (pass_id pass.new ≡ pass_id pass.old) × (pass_id result ≡ pass_id pass.old) }
+        ensures known { (known_by pass.new ≡ known_by pass.old) × (known_by result ≡ known_by pass.old) }
+    {
+        let seat = self.table.shared.split_seat::<Twin>(&mut pass.seat);
+        Pass { seat }
+    }
+
+    /// A pass takes over what another has seen and what it owes; what it said itself stays its own.
+    pub fn absorb(&self, pass: &mut Pass<H>, other: Pass<H>)
+        requires ours { (pass_id pass.old ≡ gates_id self.now) × (pass_id other ≡ gates_id self.now) }
+        ensures ours { pass_id pass.new ≡ pass_id pass.old }
+        ensures known { known_by pass.new ≡ taking_over (known_by pass.old) (known_by other) }
+    {
+        let Pass { seat } = other;
+        self.table
+            .shared
+            .join_seat::<TakeOver>(&mut pass.seat, seat);
+    }
+}

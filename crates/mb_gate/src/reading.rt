@@ -1,0 +1,64 @@
+//! The loads: of a status, of the waiting number, of a list's gate.
+ghost use Rattle.std.specs.Prelude.{◌≡◌, ◌<◌};
+ghost use Rattle.mb_status.specs.Mailbox.{word_of};
+ghost use Rattle.mb_gate.specs.View.{reading, counting, looking};
+ghost use Rattle.mb_gate.specs.Plays.{StaysClosed};
+ghost use Rattle.mb_gate.specs.Names.{gates_id, pass_id, claim_id, actors_of, known_by, known_of, held_actor, status_of};
+
+use crate::claim::Claim;
+use crate::gates::Gates;
+use crate::law::{Count, Look, Read};
+use crate::layout::{GATE, STATUS, WAITING, word_index};
+use crate::pass::Pass;
+use crate::resident::Resident;
+use mb_msg::ActorId;
+use mb_status::Status;
+
+impl<H: Resident> Gates<H> {
+    /// Reads the actor's status (`Mailbox.currentStatus`).
+    ///
+    /// What was seen closed is closed.
+    pub fn status(&self, pass: &mut Pass<H>, id: ActorId) -> Status
+        requires ours { pass_id pass.old ≡ gates_id self.now }
+        requires there { id.0 < actors_of self.now }
+        ensures ours { pass_id pass.new ≡ pass_id pass.old }
+        ensures known { known_by pass.new ≡ reading id.0 (word_of result) (known_by pass.old) }
+        ensures closed { StaysClosed id.0 (word_of result) (known_by pass.old) }
+    {
+        let word = self
+            .table
+            .shared
+            .load::<Read>(&mut pass.seat, word_index(id, STATUS));
+        match Status::of(word) {
+            Some(status) => status,
+            None => unreachable!(),
+        }
+    }
+
+    /// Reads how many envelopes are counted as waiting, modulo 2^64 (this project's own profile: Akka asks the queue).
+    pub fn waiting(&self, pass: &mut Pass<H>, id: ActorId) -> u64
+        requires ours { pass_id pass.old ≡ gates_id self.now }
+        requires there { id.0 < actors_of self.now }
+        ensures ours { pass_id pass.new ≡ pass_id pass.old }
+        ensures known { known_by pass.new ≡ counting id.0 result (known_by pass.old) }
+    {
+        self.table
+            .shared
+            .load::<Count>(&mut pass.seat, word_index(id, WAITING))
+    }
+
+    /// Whether something is listed, or the last drain gave something, which may lie beside the cell still
+    /// (`hasSystemMessages`). One load.
+    pub fn has_system(&self, pass: &mut Pass<H>, id: ActorId) -> bool
+        requires ours { pass_id pass.old ≡ gates_id self.now }
+        requires there { id.0 < actors_of self.now }
+        ensures ours { pass_id pass.new ≡ pass_id pass.old }
+        ensures known { known_by pass.new ≡ looking id.0 result (known_by pass.old) }
+    {
+        let word = self
+            .table
+            .shared
+            .load::<Look>(&mut pass.seat, word_index(id, GATE));
+        word / 2 % 4 != 0
+    }
+}

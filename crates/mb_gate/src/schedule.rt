@@ -1,0 +1,110 @@
+//! A try to schedule an actor, which gives its claim.
+ghost use Rattle.std.specs.Prelude.{◌≡◌, ◌<◌, [], ◌∷◌, true};
+ghost use Rattle.mb_status.specs.Mailbox.{Mailbox, word_of};
+ghost use Rattle.mb_rule.specs.Layout.{slot_at};
+ghost use Rattle.mb_gate.specs.View.{claim_alone, without_claim};
+ghost use Rattle.mb_gate.specs.Claims.{is_busy};
+ghost use Rattle.mb_gate.specs.Tries.{IsFree, IsOf, IsExchanged, IsTried, Taken};
+ghost use Rattle.mb_gate.specs.Names.{gates_id, pass_id, claim_id, actors_of, known_by, known_of, held_actor, status_of};
+ghost use Rattle.mb_gate.specs.declared.slot.Slot.TheVariants.{Home};
+
+use crate::claim::Claim;
+use crate::gates::Gates;
+use crate::law::{Part, Schedule};
+use crate::layout::{CELL, STATUS, slot_index, word_index};
+use crate::pass::Pass;
+use crate::resident::Resident;
+use crate::slot::Slot;
+use crate::view::Knowledge;
+use atomic_table::Seat;
+use mb_msg::ActorId;
+use mb_status::Status;
+use std::mem;
+
+/// What became of a try to schedule an actor.
+pub enum Tried<H> {
+    /// The claim is the caller's.
+    Got(Claim<H>),
+    /// A worker holds the actor already.
+    Already,
+    /// The actor's mailbox is closed.
+    Closed,
+    /// Another step came between: the status that the exchange found.
+    Lost(Status),
+}
+
+impl<H: Resident> Gates<H> {
+    /// Tries to schedule the actor, and takes its cell where it wins (`Mailbox.setAsScheduled`).
+    ///
+    /// It reads the status, and answers `Closed` or `Already` as that says; else it exchanges the word that it read, and
+    /// answers `Lost` with the status that it found where another step came between.
+    pub fn try_schedule(&self, pass: &mut Pass<H>, id: ActorId) -> Tried<H>
+        requires ours { pass_id pass.old ≡ gates_id self.now }
+        requires there { id.0 < actors_of self.now }
+        ensures ours { (pass_id pass.new ≡ pass_id pass.old) × IsOf (gates_id self.now) result }
+        ensures answer { (seen : Mailbox) × IsTried H.is_of H.journal H.mailbox H.rested id.0 (known_by pass.old) (known_by pass.new) seen result }
+    {
+        let seen = self.status(pass, id);
+        if seen.closed() {
+            return Tried::Closed;
+        }
+        match seen.with_scheduled() {
+            Some(status) => self.exchange_status(pass, id, seen, status),
+            None => Tried::Already,
+        }
+    }
+
+    fn exchange_status(
+        &self,
+        pass: &mut Pass<H>,
+        id: ActorId,
+        seen: Status,
+        status: Status,
+    ) -> Tried<H>
+        requires ours { pass_id pass.old ≡ gates_id self.now }
+        requires there { id.0 < actors_of self.now }
+        requires free { IsFree seen }
+        requires scheduled { status ≡ record seen { scheduled = true } }
+        ensures ours { (pass_id pass.new ≡ pass_id pass.old) × IsOf (gates_id self.now) result }
+        ensures answer { IsExchanged H.is_of H.journal H.mailbox H.rested id.0 (known_by pass.old) (known_by pass.new) seen result }
+    {
+        let old = seen.word();
+        let new = status.word();
+        let found = self
+            .table
+            .shared
+            .compare_exchange::<Schedule>(&mut pass.seat, word_index(id, STATUS), old, new);
+        if found == old {
+            return Tried::Got(self.claim(&mut pass.seat, id, status));
+        }
+        match Status::of(found) {
+            Some(found) => Tried::Lost(found),
+            None => unreachable!(),
+        }
+    }
+
+    /// The claim goes to a seat of its own, with the cell.
+    fn claim(&self, seat: &mut Seat<Slot<H>, Knowledge>, id: ActorId, status: Status) -> Claim<H>
+        requires ours { seat.old.table_id ≡ gates_id self.now }
+        requires there { id.0 < actors_of self.now }
+        requires busy { is_busy (word_of status) ≡ true }
+        requires won { Taken H.journal id.0 status seat.old.me }
+        ensures ours { (seat.new.table_id ≡ seat.old.table_id) × (claim_id result ≡ seat.old.table_id) }
+        ensures rest { seat.new.me ≡ (without_claim seat.old.me.0, []) }
+        ensures claim { (known_of result ≡ claim_alone seat.old.me.0) × (held_actor result ≡ id.0) × (status_of result ≡ status) }
+        ensures home { seat.old.me.1 ≡ (slot_at id.0 0, Home result.home) ∷ [] }
+    {
+        let rest = self.table.shared.split_seat::<Part>(seat);
+        let mut mine = mem::replace(seat, rest);
+        let slot = slot_index(id, CELL);
+        match self.table.shared.exchange(&mut mine, slot, Slot::Empty) {
+            Slot::Home(home) => Claim {
+                home,
+                actor: id,
+                status,
+                seat: mine,
+            },
+            _ => unreachable!(),
+        }
+    }
+}

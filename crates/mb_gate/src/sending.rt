@@ -1,0 +1,54 @@
+//! The waiting count: how many envelopes were announced and not taken.
+ghost use Rattle.std.specs.Prelude.{◌≡◌, ◌<◌, IsTrue};
+ghost use Rattle.mb_gate.specs.View.{owes, sending, unsending};
+ghost use Rattle.mb_gate.specs.Names.{gates_id, pass_id, claim_id, actors_of, known_by, known_of, held_actor, status_of, SameTaken};
+
+use crate::claim::Claim;
+use crate::gates::Gates;
+use crate::law::{Send, Stay, Unsend};
+use crate::layout::{WAITING, word_index};
+use crate::pass::Pass;
+use crate::resident::Resident;
+use mb_msg::ActorId;
+
+impl<H: Resident> Gates<H> {
+    /// Counts an envelope that is about to be queued. From now on the pass owes the actor a look.
+    pub fn note_sent(&self, pass: &mut Pass<H>, id: ActorId)
+        requires ours { pass_id pass.old ≡ gates_id self.now }
+        requires there { id.0 < actors_of self.now }
+        ensures ours { pass_id pass.new ≡ pass_id pass.old }
+        ensures known { known_by pass.new ≡ sending id.0 (known_by pass.old) }
+    {
+        self.table
+            .shared
+            .fetch_add::<Send>(&mut pass.seat, word_index(id, WAITING), 1);
+    }
+
+    /// Takes back what `note_sent` counted, since the envelope was refused.
+    pub fn note_unsent(&self, pass: &mut Pass<H>, id: ActorId)
+        requires ours { pass_id pass.old ≡ gates_id self.now }
+        requires there { id.0 < actors_of self.now }
+        requires sending { IsTrue (owes id.0 (known_by pass.old)).sending }
+        ensures ours { pass_id pass.new ≡ pass_id pass.old }
+        ensures known { known_by pass.new ≡ unsending id.0 (known_by pass.old) }
+    {
+        self.table
+            .shared
+            .fetch_sub::<Unsend>(&mut pass.seat, word_index(id, WAITING), 1);
+    }
+
+    /// Counts an envelope of the claim's actor as taken.
+    pub fn note_taken(&self, claim: &mut Claim<H>)
+        requires ours { claim_id claim.old ≡ gates_id self.now }
+        requires there { held_actor claim.old < actors_of self.now }
+        ensures ours { claim_id claim.new ≡ claim_id claim.old }
+        ensures known { known_of claim.new ≡ known_of claim.old }
+        ensures same { (held_actor claim.new ≡ held_actor claim.old) × (status_of claim.new ≡ status_of claim.old) × (claim.new.home ≡ claim.old.home) }
+        ensures taken { SameTaken claim.old claim.new }
+    {
+        let index = word_index(claim.actor, WAITING);
+        self.table
+            .shared
+            .fetch_sub::<Stay>(&mut claim.seat, index, 1);
+    }
+}

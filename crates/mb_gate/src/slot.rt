@@ -1,0 +1,12 @@
+use mb_msg::SysMsg;
+use mb_syslist::SysList;
+
+/// What lies in a slot of the table: an actor's home or its list, or nothing while a seat has that out.
+#[derive(Drop)]
+pub enum Slot<H> {
+    Empty,
+    Home(H),
+    List(SysList),
+    /// A message that found its list ended. It lies in no slot: a step is told of it.
+    Note(SysMsg),
+}

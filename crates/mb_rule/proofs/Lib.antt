@@ -1,0 +1,5 @@
+pub mod LockedLemmas
+pub mod OwedLemmas
+pub mod SeenLemmas
+pub mod LayoutLemmas
+pub mod RuledLemmas

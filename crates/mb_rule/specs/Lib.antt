@@ -1,0 +1,5 @@
+pub mod Locked
+pub mod Owed
+pub mod Seen
+pub mod Layout
+pub mod Ruled
