@@ -13,15 +13,43 @@ use std::io::ErrorKind;
 
 fn main(rt: HostRuntime) -> io::Result<()> {
     let alloc = rt.alloc();
-    show(&rt, "unbounded", mailbox::alone(&rt, alloc, Kind::Unbounded, 0))?;
+    show(
+        &rt,
+        "unbounded",
+        mailbox::alone(&rt, alloc, Kind::Unbounded, 0),
+    )?;
     show(&rt, "plain unbounded", plain::unbounded_alone(&rt, alloc))?;
-    show(&rt, "bounded", mailbox::alone(&rt, alloc, Kind::Bounded(1_024), 0))?;
+    show(
+        &rt,
+        "bounded",
+        mailbox::alone(&rt, alloc, Kind::Bounded(1_024), 0),
+    )?;
     show(&rt, "plain bounded", plain::bounded_alone(&rt, alloc))?;
-    show(&rt, "unbounded, two threads", mailbox::paired(&rt, alloc, Kind::Unbounded))?;
-    show(&rt, "plain unbounded, two threads", plain::unbounded_paired(&rt, alloc))?;
-    show(&rt, "bounded, two threads", mailbox::paired(&rt, alloc, Kind::Bounded(1_024)))?;
-    show(&rt, "plain bounded, two threads", plain::bounded_paired(&rt, alloc))?;
-    show(&rt, "control-aware", mailbox::alone(&rt, alloc, Kind::Control, 0))?;
+    show(
+        &rt,
+        "unbounded, two threads",
+        mailbox::paired(&rt, alloc, Kind::Unbounded),
+    )?;
+    show(
+        &rt,
+        "plain unbounded, two threads",
+        plain::unbounded_paired(&rt, alloc),
+    )?;
+    show(
+        &rt,
+        "bounded, two threads",
+        mailbox::paired(&rt, alloc, Kind::Bounded(1_024)),
+    )?;
+    show(
+        &rt,
+        "plain bounded, two threads",
+        plain::bounded_paired(&rt, alloc),
+    )?;
+    show(
+        &rt,
+        "control-aware",
+        mailbox::alone(&rt, alloc, Kind::Control, 0),
+    )?;
     let Some(rows) = rows(alloc) else {
         return Err(ErrorKind::OutOfMemory.into());
     };

@@ -44,6 +44,7 @@ pub fn bounded_alone<R: Clock + Wait>(rt: &R, alloc: Global) -> Made {
 /// What can be pushed to and taken from by two threads.
 trait Shared {
     fn put<R: Wait>(&self, rt: &R, envelope: Envelope) -> bool;
+
     fn get<R: Wait>(&self, rt: &R) -> bool;
 }
 
