@@ -35,6 +35,7 @@ impl Blocks {
         Ok((Blocks { queue }, pass))
     }
 
+    #[inline]
     pub fn push<R: Wait>(
         &self,
         rt: &R,
@@ -50,6 +51,7 @@ impl Blocks {
         self.queue.push_as::<Pushed, R>(rt, pass, envelope)
     }
 
+    #[inline]
     pub fn take<R: Wait>(&self, rt: &R, pass: &mut BlocksPass) -> Option<Envelope>
         requires queue { IsSegPassOf self.now.queue pass.old }
         requires taker { IsTaker pass.old.me.view.client }

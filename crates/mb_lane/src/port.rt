@@ -66,6 +66,7 @@ impl Port {
     }
 
     /// Puts the envelope last, or gives it back.
+    #[inline]
     pub fn push<R: Wait>(&mut self, rt: &R, envelope: Envelope) -> Result<(), PushError>
         requires { MayPush envelope self.old.ledger }
         ensures pushed { MatchResult result (λ _. self.new ≡ record self.old { ledger = pushing self.old.ledger envelope })
@@ -85,6 +86,7 @@ impl Port {
     }
 
     /// Takes the first envelope. `None` only if the lane was empty at a moment of the call.
+    #[inline]
     pub fn take<R: Wait>(&mut self, rt: &R) -> Option<Envelope>
         requires { IsTaker self.old.ledger }
         ensures { MatchOption result ((self.new ≡ self.old) × FoundEmpty self.old.ledger)

@@ -31,6 +31,7 @@ impl Slots {
         Ok((Slots { queue }, pass))
     }
 
+    #[inline]
     pub fn push<R: Wait>(
         &self,
         rt: &R,
@@ -46,6 +47,7 @@ impl Slots {
         self.queue.push_as::<Pushed, R>(rt, pass, envelope)
     }
 
+    #[inline]
     pub fn take<R: Wait>(&self, rt: &R, pass: &mut SlotsPass) -> Option<Envelope>
         requires queue { IsPassOf self.now.queue pass.old }
         requires taker { IsTaker (view pass.old) }

@@ -35,6 +35,7 @@ impl SendPass {
 
     /// Puts an envelope of this sender last in the queue, or gives it back: `Full` only where the queue has a bound and was
     /// full at a moment of the call, `NoMemory` where a queue without a bound found no memory. Refused, it changes nothing.
+    #[inline]
     pub fn push<R: Wait>(&mut self, rt: &R, envelope: Envelope) -> Result<(), PushError>
         requires { envelope.by.0 ≡ self.old.by }
         ensures pushed { MatchResult result (λ _. self.new ≡ record self.old { pushed = self.old.pushed ++ envelope ∷ [] })
@@ -59,6 +60,7 @@ impl SendPass {
 }
 
 /// Whether it is a control message.
+#[inline]
 fn is_control(body: Body) -> bool
     ensures { result ≡ is_control_body body }
 {

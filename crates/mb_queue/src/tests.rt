@@ -8,6 +8,9 @@ use std::alloc::{AllocError, Global};
 use std::sync::Wait;
 use std::test::Fail;
 
+mod memory;
+mod threads;
+
 /// The two senders of every queue here.
 const NEAR: SenderId = SenderId(1);
 

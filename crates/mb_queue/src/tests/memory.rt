@@ -1,0 +1,73 @@
+//! Memory that is refused: run this with each allocation refused in turn (`tools/refuse_each_allocation_of_a_queue`).
+ghost use Rattle.std.specs.Prelude.{◌≡◌, IfOk};
+ghost use Rattle.mb_queue.specs.Made.{IsMakeable};
+
+use super::{NEAR, pushed, queue, ranked, taken, user};
+use crate::{Kind, PushError, SendPass, TakePass};
+use mb_msg::Envelope;
+use std::alloc::{AllocError, Global};
+use std::process::Abort;
+use std::sync::Wait;
+use std::test::Fail;
+
+/// Pushes the envelope. Where memory is refused it comes back, and the same push is done when it is made again.
+fn push_at_last<R: Wait + Abort>(rt: &R, pass: &mut SendPass, envelope: Envelope)
+    requires { envelope.by.0 ≡ pass.old.by }
+    ensures { (pass.new.queue ≡ pass.old.queue) × (pass.new.by ≡ pass.old.by) }
+{
+    if let Err(refused) = pass.push(rt, envelope) {
+        assert!(rt; refused == PushError::NoMemory(envelope));
+        assert!(rt; pushed(rt, pass, envelope) == Some(true));
+    }
+}
+
+/// A queue, made again where memory was refused.
+fn made_at_last(
+    alloc: Global,
+    has_control: bool,
+) -> Result<(TakePass, SendPass, SendPass), AllocError>
+    ensures { IfOk result (λ r. r.1.by ≡ 1) }
+{
+    if let Ok(made) = queue(alloc, kind_of(alloc, has_control)?) {
+        return Ok(made);
+    }
+    queue(alloc, kind_of(alloc, has_control)?)
+}
+
+fn kind_of(alloc: Global, has_control: bool) -> Result<Kind, AllocError>
+    ensures { IfOk result IsMakeable }
+{
+    if has_control {
+        return Ok(Kind::Control);
+    }
+    match ranked(alloc) {
+        Ok(kind) => Ok(kind),
+        Err(_) => ranked(alloc),
+    }
+}
+
+fn push_a_hundred<R: Wait + Abort>(rt: &R, pass: &mut SendPass)
+    requires { pass.old.by ≡ 1 }
+{
+    for number in 0..100 {
+        push_at_last(rt, pass, user(NEAR, number, 1, 0));
+    }
+}
+
+fn count_taken<R: Wait>(rt: &R, take: &mut TakePass) -> u64 {
+    let mut count = 0u64;
+    for _turn in 0..200 {
+        count = count.wrapping_add(u64::from(taken(rt, take).is_some()));
+    }
+    count
+}
+
+#[test]
+fn a_refused_push_can_be_made_again(rt: HostRuntime) -> Result<(), Fail> {
+    for has_control in [false, true] {
+        let (mut take, mut near, _) = made_at_last(rt.alloc(), has_control)?;
+        push_a_hundred(&rt, &mut near);
+        assert_eq!(rt; count_taken(&rt, &mut take), 100);
+    }
+    Ok(())
+}

@@ -1,0 +1,184 @@
+//! Two senders and a taker, each on its thread, for each kind of queue.
+ghost use Rattle.std.specs.Prelude.{◌≡◌, ◌<◌};
+ghost use Rattle.mb_queue.specs.Made.{IsMakeable};
+
+use super::{FAR, NEAR, control, pushed, queue, ranked, taken, user};
+use crate::{Kind, SendPass, TakePass};
+use mb_msg::{Envelope, SenderId};
+use std::alloc::{AllocError, Global};
+use std::process::Abort;
+use std::sync::Wait;
+use std::test::Fail;
+use std::thread;
+use std::thread::Threads;
+
+/// How many envelopes each sending thread pushes.
+const EACH: u64 = 1_000;
+
+/// How often a thread tries.
+const TURNS: u64 = 100_000_000;
+
+/// An envelope of a thread's: of even numbers control messages where `has_control`, else user messages of kind 9, and of
+/// odd numbers user messages of kind 1.
+fn nth(by: SenderId, number: u64, has_control: bool) -> Envelope
+    ensures { result.by ≡ by }
+{
+    if number % 2 == 1 {
+        user(by, number, 1, 0)
+    } else if has_control {
+        control(by, number)
+    } else {
+        user(by, number, 9, 0)
+    }
+}
+
+/// Pushes all of one sender, each as often as it takes.
+fn push_all<R: Wait>(rt: &R, mut pass: SendPass, by: SenderId, has_control: bool) -> SendPass
+    requires { pass.by ≡ by.0 }
+    ensures { result.queue ≡ pass.queue }
+{
+    for number in 0..EACH {
+        push_one(rt, &mut pass, nth(by, number, has_control));
+    }
+    pass
+}
+
+fn push_one<R: Wait>(rt: &R, pass: &mut SendPass, envelope: Envelope)
+    requires { envelope.by.0 ≡ pass.old.by }
+    ensures { (pass.new.queue ≡ pass.old.queue) × (pass.new.by ≡ pass.old.by) }
+{
+    for _turn in 0..TURNS {
+        if pushed(rt, pass, envelope) == Some(true) {
+            return;
+        }
+        thread::yield_now();
+    }
+}
+
+/// Takes until it has all of both senders.
+fn take_all<R: Wait>(
+    rt: &R,
+    mut take: TakePass,
+    mut into: Vec<Envelope>,
+) -> (TakePass, Vec<Envelope>)
+    ensures { result.0.queue ≡ take.queue }
+{
+    for _turn in 0..TURNS {
+        match taken(rt, &mut take) {
+            Some(envelope) => {
+                let _ = into.push(envelope);
+            }
+            None => thread::yield_now(),
+        }
+        if into.len() as u64 >= 2 * EACH {
+            break;
+        }
+    }
+    (take, into)
+}
+
+/// Two threads push and a third takes; then the passes are joined, and nothing is left. What was taken comes back.
+fn run_three<R: Threads + Wait + Abort + Sync>(
+    rt: &R,
+    alloc: Global,
+    kind: Kind,
+    has_control: bool,
+) -> Result<Vec<Envelope>, AllocError>
+    requires { IsMakeable kind }
+{
+    let (take, near, far) = queue(alloc, kind)?;
+    let into = Vec::with_capacity(alloc, 2 * EACH as usize)?;
+    let (near, (far, (mut take, all))) = thread::join(
+        rt,
+        move ||
+            requires { near.by ≡ 1 }
+            ensures { result.queue ≡ near.queue }
+        { push_all(rt, near, NEAR, has_control) },
+        move ||
+            requires { far.by ≡ 64 }
+            ensures { (result.0.queue ≡ far.queue) × (result.1.0.queue ≡ take.queue) }
+        { push_and_take(rt, far, take, into, has_control) },
+    );
+    take.join(near);
+    take.join(far);
+    assert_eq!(rt; taken(rt, &mut take), None);
+    Ok(all)
+}
+
+/// The second sender and the taker, each on its thread.
+fn push_and_take<R: Threads + Wait + Abort + Sync>(
+    rt: &R,
+    far: SendPass,
+    take: TakePass,
+    into: Vec<Envelope>,
+    has_control: bool,
+) -> (SendPass, (TakePass, Vec<Envelope>))
+    requires { far.by ≡ 64 }
+    ensures { (result.0.queue ≡ far.queue) × (result.1.0.queue ≡ take.queue) }
+{
+    thread::join(
+        rt,
+        move ||
+            requires { far.by ≡ 64 }
+            ensures { result.queue ≡ far.queue }
+        { push_all(rt, far, FAR, has_control) },
+        move ||
+            ensures { result.0.queue ≡ take.queue }
+        { take_all(rt, take, into) },
+    )
+}
+
+/// Whether the numbers of one sender come in order, all from `first` on by `step`.
+fn is_in_order(all: &[Envelope], by: SenderId, first: u64, step: u64) -> bool
+    requires { 0 < step }
+{
+    let mut next = first;
+    for envelope in all {
+        if envelope.by == by && envelope.number % step == first {
+            if envelope.number != next {
+                return false;
+            }
+            next = next.wrapping_add(step);
+        }
+    }
+    next == EACH.wrapping_add(first)
+}
+
+#[test]
+fn first_in_first_out_among_threads(rt: HostRuntime) -> Result<(), Fail> {
+    for bound in [None, Some(16)] {
+        let kind = match bound {
+            None => Kind::Unbounded,
+            Some(_) => Kind::Bounded(16),
+        };
+        let all = run_three(&rt, rt.alloc(), kind, false)?;
+        assert_eq!(rt; all.len() as u64, 2 * EACH);
+        assert!(rt; is_in_order(&all, NEAR, 0, 1));
+        assert!(rt; is_in_order(&all, FAR, 0, 1));
+    }
+    Ok(())
+}
+
+#[test]
+fn by_rank_among_threads(rt: HostRuntime) -> Result<(), Fail> {
+    let all = run_three(&rt, rt.alloc(), ranked(rt.alloc())?, false)?;
+    assert_in_order_of_parts(&rt, &all);
+    Ok(())
+}
+
+#[test]
+fn control_first_among_threads(rt: HostRuntime) -> Result<(), Fail> {
+    let all = run_three(&rt, rt.alloc(), Kind::Control, true)?;
+    assert_in_order_of_parts(&rt, &all);
+    Ok(())
+}
+
+/// Of each sender the even numbers and the odd ones come in order, each of them once.
+fn assert_in_order_of_parts(rt: &impl Abort, all: &[Envelope]) {
+    assert_eq!(rt; all.len() as u64, 2 * EACH);
+    for by in [NEAR, FAR] {
+        for first in 0..2 {
+            assert!(rt; is_in_order(all, by, first, 2));
+        }
+    }
+}
