@@ -1,5 +1,6 @@
 -- What holds of an actor stays so where only a view changes, or where the words that it speaks of do not.
-use Rattle.std.proofs.Common.{◌≡◌, ℕ, ◌%◌, ◌==◌, if◌then◌else◌, ◌⊎◌, inl, inr, ⊎_elim, true, false, ◌||◌, IsTrue, List, set, sym, refl, ap, ◌∙◌, subst, Option, Some, None}
+use Rattle.std.proofs.Common.{◌≡◌, ℕ, ◌%◌, ◌==◌, if◌then◌else◌, ◌⊎◌, inl, inr, ⊎_elim, true, false, ◌||◌, IsTrue, List, set, sym, refl, ap, ◌∙◌,
+    subst, Option, Some, None}
 use mathlib.Core.Option.{some}
 use lib.ListN.{get_elem?}
 use Rattle.mb_status.specs.Mailbox.{Mailbox}
@@ -13,7 +14,8 @@ use Rattle.mb_rule.proofs.OwedLemmas.{still_owed}
 use Rattle.mb_rule.proofs.SeenLemmas.{learns}
 use Rattle.mb_gate.specs.declared.slot.Slot.{Slot}
 use Rattle.mb_gate.specs.View.{View, Held, Lent}
-use Rattle.mb_gate.specs.Rule.{Word, Status, Flag, Gate, Waiting, word_offset, Shelf, CellShelf, ListShelf, Ghost, claim_for, list_for, Knows, MessageDue, SystemDue, PaysMessage, PaysSystem, gate_word, Keeping, Shelving, Fact}
+use Rattle.mb_gate.specs.Rule.{Word, Status, Flag, Gate, Waiting, word_offset, Shelf, CellShelf, ListShelf, Ghost, claim_for, list_for, Knows,
+    MessageDue, SystemDue, PaysMessage, PaysSystem, gate_word, Keeping, Shelving, Fact}
 use Rattle.mb_gate.proofs.Views.{Elsewhere}
 
 -- a word that is written as it was leaves the row as it was
@@ -45,7 +47,8 @@ module _ {H : Type 0} (is_of : ℕ → H → Type 0) (journal : H → List Entry
   abbrev Facts : Place → List View → Type 0
   Facts = Fact is_of journal mailbox rested actor
 
-  pub still_kept : (x y : Place) → y.row Status ≡ x.row Status → y.row Flag ≡ x.row Flag → y.slot CellShelf ≡ x.slot CellShelf → y.ghost.journal ≡ x.ghost.journal → y.ghost.gave ≡ x.ghost.gave
+  pub still_kept : (x y : Place) → y.row Status ≡ x.row Status → y.row Flag ≡ x.row Flag → y.slot CellShelf ≡ x.slot CellShelf → y.ghost.journal
+      ≡ x.ghost.journal → y.ghost.gave ≡ x.ghost.gave
       → (holder : Option (ℕ × Held)) → Keeping is_of journal mailbox rested actor x holder → Keeping is_of journal mailbox rested actor y holder
   still_kept x y status flag slot tale gave None k = record {
     home = k.home;
@@ -66,7 +69,8 @@ module _ {H : Type 0} (is_of : ℕ → H → Type 0) (journal : H → List Entry
     flag = flag ∙ k.flag;
   }
 
-  pub still_shelved : (x y : Place) → y.row Gate ≡ x.row Gate → y.slot ListShelf ≡ x.slot ListShelf → y.ghost.listed ≡ x.ghost.listed → y.ghost.gave ≡ x.ghost.gave
+  pub still_shelved : (x y : Place) → y.row Gate ≡ x.row Gate → y.slot ListShelf ≡ x.slot ListShelf → y.ghost.listed ≡ x.ghost.listed →
+      y.ghost.gave ≡ x.ghost.gave
       → (keeper : Option (ℕ × Lent)) → Shelving is_of journal mailbox rested x keeper → Shelving is_of journal mailbox rested y keeper
   still_shelved x y gate slot items gave None k = record {
     there = slot ∙ (k.there ∙ ap (λ (l : MessageList). some (some (Listing l))) (sym items));
@@ -79,8 +83,10 @@ module _ {H : Type 0} (is_of : ℕ → H → Type 0) (journal : H → List Entry
   }
 
   -- only the view of one seat changes
-  pub views_change : (x : Place) (vs : List View) (id : ℕ) (v w : View) → get_elem? vs id ≡ some v → claim_for actor w ≡ claim_for actor v → list_for actor w ≡ list_for actor v
-      → (MessageDue x → PaysMessage actor v → PaysMessage actor w) → (SystemDue x → PaysSystem actor v → PaysSystem actor w) → (Knows actor x v → Knows actor x w) → Facts x vs → Facts x (set vs id w)
+  pub views_change : (x : Place) (vs : List View) (id : ℕ) (v w : View) → get_elem? vs id ≡ some v → claim_for actor w ≡ claim_for actor v →
+      list_for actor w ≡ list_for actor v
+      → (MessageDue x → PaysMessage actor v → PaysMessage actor w) → (SystemDue x → PaysSystem actor v → PaysSystem actor w) → (Knows actor x v →
+          Knows actor x w) → Facts x vs → Facts x (set vs id w)
   views_change x vs id v w at claim list message system knows f = record {
     valid = f.valid;
     claims = stays_locked (claim_for actor) x.ghost.holder vs id v w at claim f.claims;
@@ -95,10 +101,13 @@ module _ {H : Type 0} (is_of : ℕ → H → Type 0) (journal : H → List Entry
   }
 
   -- the view of a seat that made a step elsewhere
-  pub elsewhere : (x : Place) (vs : List View) (id : ℕ) (v w : View) → get_elem? vs id ≡ some v → Elsewhere H actor v w → Facts x vs → Facts x (set vs id w)
+  pub elsewhere : (x : Place) (vs : List View) (id : ℕ) (v w : View) → get_elem? vs id ≡ some v → Elsewhere H actor v w → Facts x vs → Facts x
+      (set vs id w)
   elsewhere x vs id v w at same = views_change x vs id v w at same.claim same.list
-      (λ _. subst (λ (d : Debt). IsTrue (d.message || d.sending)) (sym same.debt)) (λ _. subst (λ (d : Debt). IsTrue d.system) (sym same.debt)) (same.knows x)
+      (λ _. subst (λ (d : Debt). IsTrue (d.message || d.sending)) (sym same.debt)) (λ _. subst (λ (d : Debt). IsTrue d.system) (sym same.debt))
+          (same.knows x)
 
   -- a load changes nothing but the view
-  pub load_here : (x : Place) (vs : List View) (name : Word) → Facts x vs → Facts (record { row = write word_offset x.row name (x.row name); slot = x.slot; ghost = x.ghost }) vs
+  pub load_here : (x : Place) (vs : List View) (name : Word) → Facts x vs → Facts (record { row = write word_offset x.row name (x.row name); slot
+      = x.slot; ghost = x.ghost }) vs
   load_here x vs name f = subst (λ (z : Place). Facts z vs) (λ i. record { row = sym (same_row x.row name) i; slot = x.slot; ghost = x.ghost }) f

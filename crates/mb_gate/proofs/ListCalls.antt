@@ -1,5 +1,6 @@
 -- A list that was taken out and given back, and its gate's words.
-use Rattle.std.proofs.Common.{◌≡◌, ◌≢◌, ℕ, ◌+◌, ◌/◌, ◌%◌, ◌==◌, ◌<◌, if◌then◌else◌, Bool, true, false, not, IsTrue, List, [], ◌∷◌, ◌++◌, sym, refl, ap, ◌∙◌, subst, Some, None, eq-eqb, ne_eqb, append-nil, arith}
+use Rattle.std.proofs.Common.{◌≡◌, ◌≢◌, ℕ, ◌+◌, ◌/◌, ◌%◌, ◌==◌, ◌<◌, if◌then◌else◌, Bool, true, false, not, IsTrue, List, [], ◌∷◌, ◌++◌, sym,
+    refl, ap, ◌∙◌, subst, Some, None, eq-eqb, ne_eqb, append-nil, arith}
 use mathlib.Core.Logic.{dite}
 use native.Mathlib.Decide.{ℕ_discrete}
 use Rattle.atomic_table.specs.Table.{Me, rest}
@@ -23,12 +24,14 @@ rest_same a b xs ys e = cc
 list_same : {H : Type 0} (a b : MessageList) → (let x : Slot H = Listing a in x ≡ Listing b) → a ≡ b
 list_same a b e = cc
 
-pub choose : {A : Type 0} (found word : ℕ) (now hit miss : A) → (found ≡ word → now ≡ hit) → (found ≢ word → now ≡ miss) → now ≡ (if found == word then hit else miss)
+pub choose : {A : Type 0} (found word : ℕ) (now hit miss : A) → (found ≡ word → now ≡ hit) → (found ≢ word → now ≡ miss) → now ≡ (if found ==
+    word then hit else miss)
 choose found word now hit miss won lost = dite (ℕ_discrete found word)
     (λ e. won e ∙ sym (ap (λ b. if b then hit else miss) (eq-eqb found word e)))
     (λ n. lost n ∙ sym (ap (λ b. if b then hit else miss) (ne_eqb found word n)))
 
-module _ {H : Type 0} (actor found slot : ℕ) (m m1 : Me (Slot H) View) (grip : Gripped actor found m m1) (r : Slot H) (carried : m1.1 ≡ (slot, r) ∷ rest m1.1) where
+module _ {H : Type 0} (actor found slot : ℕ) (m m1 : Me (Slot H) View) (grip : Gripped actor found m m1) (r : Slot H) (carried : m1.1 ≡ (slot, r)
+    ∷ rest m1.1) where
   carried_now : (slot, r) ∷ rest m1.1 ≡ (slot_at actor 1, Listing grip.listed) ∷ m.1
   carried_now = sym carried ∙ ap (λ (z : Me (Slot H) View). z.1) grip.now
 
@@ -36,21 +39,24 @@ module _ {H : Type 0} (actor found slot : ℕ) (m m1 : Me (Slot H) View) (grip :
   pub is_list : r ≡ Listing grip.listed
   is_list = ap (λ (z : ℕ × Slot H). z.1) (head_same _ _ _ _ carried_now)
 
-  pub lent_by : (word : ℕ) (list : MessageList) (m2 : Me (Slot H) View) → found ≡ word → r ≡ Listing list → m2 ≡ (m1.0, (slot, Empty) ∷ rest m1.1) → IsLentBy actor word list m m2
+  pub lent_by : (word : ℕ) (list : MessageList) (m2 : Me (Slot H) View) → found ≡ word → r ≡ Listing list → m2 ≡ (m1.0, (slot, Empty) ∷ rest
+      m1.1) → IsLentBy actor word list m m2
   lent_by word list m2 is_word is now =
       let same : grip.listed ≡ list = list_same {H = H} grip.listed list (sym is_list ∙ is) in
       let where_is : slot ≡ slot_at actor 1 = ap (λ (z : ℕ × Slot H). z.0) (head_same _ _ _ _ carried_now) in
       let others : rest m1.1 ≡ m.1 = rest_same _ _ _ _ carried_now in record {
         gave = grip.gave;
         found = sym is_word ∙ (grip.word ∙ ap (λ l. gate_word false l grip.gave) same);
-        now = now ∙ (λ i. ((ap (λ (z : Me (Slot H) View). z.0) grip.now ∙ ap (λ l. lending actor l grip.gave m.0) same) i, (where_is i, Empty) ∷ others i));
+        now = now ∙ (λ i. ((ap (λ (z : Me (Slot H) View). z.0) grip.now ∙ ap (λ l. lending actor l grip.gave m.0) same) i, (where_is i, Empty) ∷
+            others i));
       }
 
 more_items : (l : List SysMsg) (m : SysMsg) → is_some_item (l ++ m ∷ []) ≡ true
 more_items [] m = refl
 more_items (x ∷ xs) m = refl
 
-listed_bits : (a b c : Bool) → with_listed ((if a then 2 else 0) + (if b then 4 else 0) + (if c then 8 else 0)) ≡ 2 + (if b then 4 else 0) + (if c then 8 else 0)
+listed_bits : (a b c : Bool) → with_listed ((if a then 2 else 0) + (if b then 4 else 0) + (if c then 8 else 0)) ≡ 2 + (if b then 4 else 0) + (if
+    c then 8 else 0)
 listed_bits true true true = refl
 listed_bits true true false = refl
 listed_bits true false true = refl
@@ -61,15 +67,18 @@ listed_bits false false true = refl
 listed_bits false false false = refl
 
 -- the gate's word once a message more is listed
-pub word_listed : (word : ℕ) (l : MessageList) (gave : Bool) (m : SysMsg) → word ≡ gate_word false l gave → with_listed word ≡ gate_word false (with_last l m) gave
+pub word_listed : (word : ℕ) (l : MessageList) (gave : Bool) (m : SysMsg) → word ≡ gate_word false l gave → with_listed word ≡ gate_word false
+    (with_last l m) gave
 word_listed word l gave m e =
     ap with_listed (e ∙ zeros (is_some_item l.messages) gave l.closed) ∙ (listed_bits (is_some_item l.messages) gave l.closed
     ∙ sym (ap (λ b. 0 + (if b then 2 else 0) + (if gave then 4 else 0) + (if l.closed then 8 else 0)) (more_items l.messages m)))
   where
-    zeros : (a b c : Bool) → 0 + (if a then 2 else 0) + (if b then 4 else 0) + (if c then 8 else 0) ≡ (if a then 2 else 0) + (if b then 4 else 0) + (if c then 8 else 0)
+    zeros : (a b c : Bool) → 0 + (if a then 2 else 0) + (if b then 4 else 0) + (if c then 8 else 0) ≡ (if a then 2 else 0) + (if b then 4 else 0)
+        + (if c then 8 else 0)
     zeros a b c = omega arith
 
-drained_bits : (a b c d : Bool) → with_drained (0 + (if a then 2 else 0) + (if b then 4 else 0) + (if c then 8 else 0)) (not d) ≡ 0 + 0 + (if d then 4 else 0) + (if c then 8 else 0)
+drained_bits : (a b c d : Bool) → with_drained (0 + (if a then 2 else 0) + (if b then 4 else 0) + (if c then 8 else 0)) (not d) ≡ 0 + 0 + (if d
+    then 4 else 0) + (if c then 8 else 0)
 drained_bits true true true true = refl
 drained_bits true true true false = refl
 drained_bits true true false true = refl
@@ -88,7 +97,8 @@ drained_bits false false false true = refl
 drained_bits false false false false = refl
 
 -- once all was drained
-pub word_drained : (word : ℕ) (l : MessageList) (gave d : Bool) → word ≡ gate_word false l gave → with_drained word (not d) ≡ gate_word false (drained l) d
+pub word_drained : (word : ℕ) (l : MessageList) (gave d : Bool) → word ≡ gate_word false l gave → with_drained word (not d) ≡ gate_word false
+    (drained l) d
 word_drained word l gave d e = ap (λ w. with_drained w (not d)) e ∙ drained_bits (is_some_item l.messages) gave l.closed d
 
 ended_bits : (a b c : Bool) → with_ended (0 + (if a then 2 else 0) + (if b then 4 else 0) + (if c then 8 else 0)) ≡ 0 + 0 + (if b then 4 else 0) + 8
@@ -149,7 +159,8 @@ pub drains_nothing : (v : View) → v.claim ≡ Some (held_in v) → v.list ≡ 
 drains_nothing v has no_list gave i = record v { list = no_list i; claim = same i }
   where
     same : v.claim ≡ regiven [] false v.claim
-    same = has ∙ ((λ k. Some (record (held_in v) { gave = gave k; drained = sym (append-nil (held_in v).drained) k })) ∙ sym (ap (regiven [] false) has))
+    same = has ∙ ((λ k. Some (record (held_in v) { gave = gave k; drained = sym (append-nil (held_in v).drained) k })) ∙ sym (ap (regiven []
+        false) has))
 
 -- what was taken out is out
 pub lent_out : {H : Type 0} (actor word : ℕ) (l : MessageList) (m m' : Me (Slot H) View) → IsLentBy actor word l m m' → IsOut actor word l m'
@@ -157,11 +168,13 @@ lent_out actor word l m m' lent = record {
   gave = lent.gave;
   found = lent.found;
   has = ap (λ (z : Me (Slot _) View). z.0.list) lent.now;
-  carried = ap (λ (z : Me (Slot _) View). z.1) lent.now ∙ ap (λ c. (slot_at actor 1, Empty) ∷ rest c) (sym (ap (λ (z : Me (Slot _) View). z.1) lent.now));
+  carried = ap (λ (z : Me (Slot _) View). z.1) lent.now ∙ ap (λ c. (slot_at actor 1, Empty) ∷ rest c) (sym (ap (λ (z : Me (Slot _) View). z.1)
+      lent.now));
 }
 
 -- what was laid into the slot is carried
-pub laid_back : {H : Type 0} (actor : ℕ) (a b : MessageList) (m m' : Me (Slot H) View) → m' ≡ (m.0, (slot_at actor 1, Listing a) ∷ rest m.1) → a ≡ b → m'.1 ≡ (slot_at actor 1, Listing b) ∷ rest m'.1
+pub laid_back : {H : Type 0} (actor : ℕ) (a b : MessageList) (m m' : Me (Slot H) View) → m' ≡ (m.0, (slot_at actor 1, Listing a) ∷ rest m.1) → a
+    ≡ b → m'.1 ≡ (slot_at actor 1, Listing b) ∷ rest m'.1
 laid_back {H} actor a b m m' laid same =
     let now : m'.1 ≡ (slot_at actor 1, Listing a) ∷ rest m.1 = ap (λ (z : Me (Slot H) View). z.1) laid in
     now ∙ (λ i. (slot_at actor 1, Listing (same i)) ∷ rest (sym now i))

@@ -1,5 +1,6 @@
 -- Views that are cut in two, and views that are put together, keep the rule.
-use Rattle.std.proofs.Common.{◌≡◌, ℕ, ◌==◌, if◌then◌else◌, ◌⊎◌, inl, inr, Bool, true, false, ◌||◌, IsTrue, List, [], ◌∷◌, ◌++◌, set, sym, refl, ap, ◌∙◌, subst, None}
+use Rattle.std.proofs.Common.{◌≡◌, ℕ, ◌==◌, if◌then◌else◌, ◌⊎◌, inl, inr, Bool, true, false, ◌||◌, IsTrue, List, [], ◌∷◌, ◌++◌, set, sym, refl,
+    ap, ◌∙◌, subst, None}
 use mathlib.Core.Option.{some}
 use lib.ListN.{get_elem?}
 use Rattle.mb_status.specs.Mailbox.{Mailbox}
@@ -14,10 +15,13 @@ use Rattle.atomic_table.proofs.Lists.{set_else}
 use Rattle.std.proofs.lemmas.Bool.{eqb-true}
 use Rattle.mb_gate.specs.declared.slot.Slot.{Slot}
 use Rattle.mb_gate.specs.View.{View, debt_of, owes, blank, either_owes, added_debts, taking_over}
-use Rattle.mb_gate.specs.Rule.{Word, Shelf, Ghost, held_of, lent_of, claim_for, list_for, IsSo, IsTold, Knows, MessageDue, SystemDue, PaysMessage, PaysSystem, Fact}
+use Rattle.mb_gate.specs.Rule.{Word, Shelf, Ghost, held_of, lent_of, claim_for, list_for, IsSo, IsTold, Knows, MessageDue, SystemDue,
+    PaysMessage, PaysSystem, Fact}
 
-added_at : (actor : ℕ) (d : ℕ × Debt) (ds old : List (ℕ × Debt)) (b : Bool) → (d.0 == actor) ≡ b → debt_of actor (added_debts ds old) ≡ either_owes (debt_of actor ds) (debt_of actor old)
-    → (if b then either_owes d.1 (debt_of d.0 old) else debt_of actor (added_debts ds old)) ≡ either_owes (if b then d.1 else debt_of actor ds) (debt_of actor old)
+added_at : (actor : ℕ) (d : ℕ × Debt) (ds old : List (ℕ × Debt)) (b : Bool) → (d.0 == actor) ≡ b → debt_of actor (added_debts ds old) ≡
+    either_owes (debt_of actor ds) (debt_of actor old)
+    → (if b then either_owes d.1 (debt_of d.0 old) else debt_of actor (added_debts ds old)) ≡ either_owes (if b then d.1 else debt_of actor ds)
+        (debt_of actor old)
 added_at actor d ds old true is rest = ap (λ n. either_owes d.1 (debt_of n old)) (eqb-true d.0 actor is)
 added_at actor d ds old false is rest = rest
 
@@ -26,7 +30,8 @@ pub debt_of-added : (actor : ℕ) (ds old : List (ℕ × Debt)) → debt_of acto
 debt_of-added actor [] old = refl
 debt_of-added actor (d ∷ ds) old = added_at actor d ds old (d.0 == actor) refl (debt_of-added actor ds old)
 
-either_message : (a b : Debt) → IsTrue (a.message || a.sending) ⊎ IsTrue (b.message || b.sending) → IsTrue ((either_owes a b).message || (either_owes a b).sending)
+either_message : (a b : Debt) → IsTrue (a.message || a.sending) ⊎ IsTrue (b.message || b.sending) → IsTrue ((either_owes a b).message ||
+    (either_owes a b).sending)
 either_message a b h = cases a.message a.sending b.message b.sending h
   where
     cases : (p q r s : Bool) → IsTrue (p || q) ⊎ IsTrue (r || s) → IsTrue ((p || r) || (q || s))
@@ -55,21 +60,26 @@ module _ {H : Type 0} (is_of : ℕ → H → Type 0) (journal : H → List Entry
   Place = Spot Word Shelf (Slot H) Ghost
 
   -- a view is cut in two: the first keeps the claim, no list is out, and what was owed and seen is the second's
-  pub parts : (id : ℕ) (v left right : View) → left.claim ≡ v.claim → right.claim ≡ None → v.list ≡ None → left.list ≡ None → right.list ≡ None → right.debts ≡ v.debts → right.log ≡ v.log → right.said ≡ v.said
+  pub parts : (id : ℕ) (v left right : View) → left.claim ≡ v.claim → right.claim ≡ None → v.list ≡ None → left.list ≡ None → right.list ≡ None →
+      right.debts ≡ v.debts → right.log ≡ v.log → right.said ≡ v.said
       → ((actor : ℕ) (x : Place) → Knows actor x v → Knows actor x left)
       → (actor : ℕ) (x : Place) (vs : List View) → get_elem? vs id ≡ some v → F actor x vs → F actor x (set vs id left ++ right ∷ [])
   parts id v left right claim no_claim list no_list no_list_2 debts log said knows actor x vs at f = record {
     valid = f.valid;
     claims = splits_locked (claim_for actor) x.ghost.holder vs id v left right at (ap (held_of actor) claim) (ap (held_of actor) no_claim) f.claims;
     cell = f.cell;
-    lists = splits_locked (list_for actor) x.ghost.keeper vs id v left right at (ap (lent_of actor) no_list ∙ sym (ap (lent_of actor) list)) (ap (lent_of actor) no_list_2) f.lists;
+    lists = splits_locked (list_for actor) x.ghost.keeper vs id v left right at (ap (lent_of actor) no_list ∙ sym (ap (lent_of actor) list)) (ap
+        (lent_of actor) no_list_2) f.lists;
     shelf = f.shelf;
     ended = f.ended;
     listing = f.listing;
-    message = splits_owed (PaysMessage actor) (MessageDue x) vs id v left right at (λ p. inr (subst (λ ds. IsTrue ((debt_of actor ds).message || (debt_of actor ds).sending)) (sym debts) p)) f.message;
-    system = splits_owed (PaysSystem actor) (SystemDue x) vs id v left right at (λ p. inr (subst (λ ds. IsTrue (debt_of actor ds).system) (sym debts) p)) f.system;
+    message = splits_owed (PaysMessage actor) (MessageDue x) vs id v left right at (λ p. inr (subst (λ ds. IsTrue ((debt_of actor ds).message ||
+        (debt_of actor ds).sending)) (sym debts) p)) f.message;
+    system = splits_owed (PaysSystem actor) (SystemDue x) vs id v left right at (λ p. inr (subst (λ ds. IsTrue (debt_of actor ds).system) (sym
+        debts) p)) f.system;
     seen = splits_seen (Knows actor x) vs id left right (knows actor x (f.seen id v at))
-        (record { seen = subst (Each (IsSo actor x)) (sym log) (f.seen id v at).seen; said = subst (Each (IsTold actor x)) (sym said) (f.seen id v at).said }) f.seen;
+        (record { seen = subst (Each (IsSo actor x)) (sym log) (f.seen id v at).seen; said = subst (Each (IsTold actor x)) (sym said) (f.seen id
+            v at).said }) f.seen;
   }
 
   -- a seat takes over the view of one that has no claim and no list
@@ -87,11 +97,16 @@ module _ {H : Type 0} (is_of : ℕ → H → Type 0) (journal : H → List Entry
         ended = f.ended;
         listing = f.listing;
         message = joins_owed (PaysMessage actor) (MessageDue x) vs id other v w both blank at apart there
-            (λ p. subst (λ (d : Debt). IsTrue (d.message || d.sending)) (sym (debt_of-added actor w.debts v.debts)) (either_message (owes actor w) (owes actor v) (inr p)))
-            (λ p. subst (λ (d : Debt). IsTrue (d.message || d.sending)) (sym (debt_of-added actor w.debts v.debts)) (either_message (owes actor w) (owes actor v) (inl p))) f.message;
+            (λ p. subst (λ (d : Debt). IsTrue (d.message || d.sending)) (sym (debt_of-added actor w.debts v.debts)) (either_message (owes actor
+                w) (owes actor v) (inr p)))
+            (λ p. subst (λ (d : Debt). IsTrue (d.message || d.sending)) (sym (debt_of-added actor w.debts v.debts)) (either_message (owes actor
+                w) (owes actor v) (inl p))) f.message;
         system = joins_owed (PaysSystem actor) (SystemDue x) vs id other v w both blank at apart there
-            (λ p. subst (λ (d : Debt). IsTrue d.system) (sym (debt_of-added actor w.debts v.debts)) (either_system (owes actor w) (owes actor v) (inr p)))
-            (λ p. subst (λ (d : Debt). IsTrue d.system) (sym (debt_of-added actor w.debts v.debts)) (either_system (owes actor w) (owes actor v) (inl p))) f.system;
+            (λ p. subst (λ (d : Debt). IsTrue d.system) (sym (debt_of-added actor w.debts v.debts)) (either_system (owes actor w) (owes actor v)
+                (inr p)))
+            (λ p. subst (λ (d : Debt). IsTrue d.system) (sym (debt_of-added actor w.debts v.debts)) (either_system (owes actor w) (owes actor v)
+                (inl p))) f.system;
         seen = joins_seen (Knows actor x) vs id other both blank
-            (record { seen = each_append (IsSo actor x) w.log v.log (f.seen other w at_other).seen (f.seen id v at).seen; said = (f.seen id v at).said }) (record { seen = tt; said = tt }) f.seen;
+            (record { seen = each_append (IsSo actor x) w.log v.log (f.seen other w at_other).seen (f.seen id v at).seen; said = (f.seen id v
+                at).said }) (record { seen = tt; said = tt }) f.seen;
       }

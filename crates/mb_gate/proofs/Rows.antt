@@ -7,7 +7,8 @@ use Rattle.mb_gate.specs.declared.slot.Slot.TheVariants.{Empty, Home, List as Li
 use Rattle.mb_gate.specs.Starts.{no_messages, row_of, rows_of, shelves_of, homes_in}
 
 module _ {H : Type 0} where
-  pub rows_of-snoc : (mailbox : H → Mailbox) (hs : List H) (h : H) → rows_of mailbox (hs ++ h ∷ []) ≡ rows_of mailbox hs ++ row_of (word_of (mailbox h))
+  pub rows_of-snoc : (mailbox : H → Mailbox) (hs : List H) (h : H) → rows_of mailbox (hs ++ h ∷ []) ≡ rows_of mailbox hs ++ row_of (word_of
+      (mailbox h))
   rows_of-snoc mailbox [] h = append-nil (row_of (word_of (mailbox h)))
   rows_of-snoc mailbox (x ∷ xs) h = ap (λ z. row_of (word_of (mailbox x)) ++ z) (rows_of-snoc mailbox xs h)
 
@@ -38,14 +39,19 @@ module _ {H : Type 0} where
   pub shelves_moved : (hs : List H) (h : H) (slots all : List (Slot H)) → shelves_of (hs ++ h ∷ []) ++ reverse slots ≡ all
       → shelves_of hs ++ reverse ((slots ++ Listing no_messages ∷ []) ++ Home h ∷ []) ≡ all
   shelves_moved hs h slots all e =
-      ap (λ z. shelves_of hs ++ z) (reverse-append (slots ++ Listing no_messages ∷ []) (Home h ∷ []) ∙ ap (λ z. Home h ∷ z) (reverse-append slots (Listing no_messages ∷ [])))
-      ∙ (sym (append_assoc (shelves_of hs) (Home h ∷ Listing no_messages ∷ []) (reverse slots)) ∙ (ap (λ z. z ++ reverse slots) (sym (shelves_of-snoc hs h)) ∙ e))
+      ap (λ z. shelves_of hs ++ z) (reverse-append (slots ++ Listing no_messages ∷ []) (Home h ∷ []) ∙ ap (λ z. Home h ∷ z) (reverse-append slots
+          (Listing no_messages ∷ [])))
+      ∙ (sym (append_assoc (shelves_of hs) (Home h ∷ Listing no_messages ∷ []) (reverse slots)) ∙ (ap (λ z. z ++ reverse slots) (sym
+          (shelves_of-snoc hs h)) ∙ e))
 
   -- one slot more is gone through
-  pub homes_moved : (slots : List (Slot H)) (s : Slot H) (homes homes' all : List H) → homes' ≡ homes ++ homes_in (s ∷ []) → homes_in (slots ++ s ∷ []) ++ reverse homes ≡ all → homes_in slots ++ reverse homes' ≡ all
+  pub homes_moved : (slots : List (Slot H)) (s : Slot H) (homes homes' all : List H) → homes' ≡ homes ++ homes_in (s ∷ []) → homes_in (slots ++ s
+      ∷ []) ++ reverse homes ≡ all → homes_in slots ++ reverse homes' ≡ all
   homes_moved slots s homes homes' all is e =
-      ap (λ z. homes_in slots ++ reverse z) is ∙ (ap (λ z. homes_in slots ++ z) (reverse-append homes (homes_in (s ∷ [])) ∙ ap (λ z. z ++ reverse homes) (reversed s))
-      ∙ (sym (append_assoc (homes_in slots) (homes_in (s ∷ [])) (reverse homes)) ∙ (ap (λ z. z ++ reverse homes) (sym (homes_in-append slots (s ∷ []))) ∙ e)))
+      ap (λ z. homes_in slots ++ reverse z) is ∙ (ap (λ z. homes_in slots ++ z) (reverse-append homes (homes_in (s ∷ [])) ∙ ap (λ z. z ++ reverse
+          homes) (reversed s))
+      ∙ (sym (append_assoc (homes_in slots) (homes_in (s ∷ [])) (reverse homes)) ∙ (ap (λ z. z ++ reverse homes) (sym (homes_in-append slots (s ∷
+          []))) ∙ e)))
     where
       reversed : (t : Slot H) → reverse (homes_in (t ∷ [])) ≡ homes_in (t ∷ [])
       reversed (Home h) = refl

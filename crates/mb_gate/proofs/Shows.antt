@@ -1,5 +1,6 @@
 -- The table shows a state of the machine of which the machine's facts hold.
-use Rattle.std.proofs.Common.{◌≡◌, ◌≢◌, ℕ, zero, suc, ◌/◌, ◌%◌, ◌==◌, ◌<◌, if◌then◌else◌, ◌⊎◌, inl, inr, ⊎_elim, Bool, true, false, ◌||◌, IsTrue, IsFalse, IsSome, IsNone, List, [], ◌∷◌, ◌++◌, map, length, get_or, sym, refl, ap, ◌∙◌, subst, Option, Some, None, eq-eqb, arith, Any}
+use Rattle.std.proofs.Common.{◌≡◌, ◌≢◌, ℕ, zero, suc, ◌/◌, ◌%◌, ◌==◌, ◌<◌, if◌then◌else◌, ◌⊎◌, inl, inr, ⊎_elim, Bool, true, false, ◌||◌, IsTrue,
+    IsFalse, IsSome, IsNone, List, [], ◌∷◌, ◌++◌, map, length, get_or, sym, refl, ap, ◌∙◌, subst, Option, Some, None, eq-eqb, arith, Any}
 use Rattle.std.proofs.lemmas.Bool.Decides.{nat_tests}
 use mathlib.Core.Option.{some, some-ne-none, some-injective}
 use lib.ListN.{get_elem?, length-map}
@@ -25,19 +26,23 @@ inside_of ticket [] q t e = absurd (cc)
 inside_of ticket (v ∷ vs) zero t e = omega arith
 inside_of ticket (v ∷ vs) (suc q) t e = let i = inside_of ticket vs q t e in omega arith
 
-place_of : {A B : Type 0} (f : A → B) (xs : List A) (q : ℕ) (x : A) (d : B) → get_elem? xs q ≡ some x → (q < length (map f xs)) × (get_or (map f xs) q d ≡ f x)
+place_of : {A B : Type 0} (f : A → B) (xs : List A) (q : ℕ) (x : A) (d : B) → get_elem? xs q ≡ some x → (q < length (map f xs)) × (get_or (map f
+    xs) q d ≡ f x)
 place_of f [] q x d e = absurd (some-ne-none x (sym e))
 place_of f (y ∷ ys) zero x d e = (omega arith, ap f (some-injective y x e))
 place_of f (y ∷ ys) (suc q) x d e = let p = place_of f ys q x d e in (omega arith, p.1)
 
 -- who pays is among those that owe
 pays_among : (P : Debt → Type 0) (actor : ℕ) (vs : List View) → Payer (λ v. P (owes actor v)) vs → Any P (map (owes actor) vs)
-pays_among P actor vs p = let at = place_of (owes actor) vs p.seat p.view (owes actor p.view) p.there in (p.seat, owes actor p.view, at.0, at.1, p.pays)
+pays_among P actor vs p = let at = place_of (owes actor) vs p.seat p.view (owes actor p.view) p.there in (p.seat, owes actor p.view, at.0, at.1,
+    p.pays)
 
-work_there : (g : Ghost) (rest : List SysMsg) → (g.gave ≡ false → rest ≡ []) → IsTrue (machine.has_work (Some (rest ++ g.listed.messages))) → IsTrue (has_work g)
+work_there : (g : Ghost) (rest : List SysMsg) → (g.gave ≡ false → rest ≡ []) → IsTrue (machine.has_work (Some (rest ++ g.listed.messages))) →
+    IsTrue (has_work g)
 work_there g rest quiet h = cases g.listed.messages g.gave rest quiet h
   where
-    cases : (ms : List SysMsg) (b : Bool) (r : List SysMsg) → (b ≡ false → r ≡ []) → IsTrue (machine.has_work (Some (r ++ ms))) → IsTrue (is_some_item ms || b)
+    cases : (ms : List SysMsg) (b : Bool) (r : List SysMsg) → (b ≡ false → r ≡ []) → IsTrue (machine.has_work (Some (r ++ ms))) → IsTrue
+        (is_some_item ms || b)
     cases (m ∷ ms) b r q k = refl
     cases [] true r q k = refl
     cases [] false [] q k = k
@@ -54,15 +59,18 @@ scheduled_not_free w s (inl z) = grind (arith, nat_tests)
 scheduled_not_free w s (inr z) = grind (arith, nat_tests)
 
 module _ {H : Type 0} (is_of : ℕ → H → Type 0) (journal : H → List Entry) (mailbox : H → Mailbox) (rested : H → Type 0) where
-  held : (actor : ℕ) (x : Spot Word Shelf (Slot H) Ghost) (holder : Option (ℕ × Held)) → Keeping is_of journal mailbox rested actor x holder → IsTrue (mailbox_of (x.row Status)).scheduled → IsSome (holder_of holder)
+  held : (actor : ℕ) (x : Spot Word Shelf (Slot H) Ghost) (holder : Option (ℕ × Held)) → Keeping is_of journal mailbox rested actor x holder →
+      IsTrue (mailbox_of (x.row Status)).scheduled → IsSome (holder_of holder)
   held actor x None k s = absurd (scheduled_not_free (x.row Status) s k.idle)
   held actor x (Some h) k s = refl
 
-  free : (actor : ℕ) (x : Spot Word Shelf (Slot H) Ghost) (holder : Option (ℕ × Held)) → Keeping is_of journal mailbox rested actor x holder → x.row Status % 4 ≡ 0 → IsNone (holder_of holder)
+  free : (actor : ℕ) (x : Spot Word Shelf (Slot H) Ghost) (holder : Option (ℕ × Held)) → Keeping is_of journal mailbox rested actor x holder →
+      x.row Status % 4 ≡ 0 → IsNone (holder_of holder)
   free actor x None k z = refl
   free actor x (Some h) k z = absurd (⊎_elim (λ b. omega arith) (λ b. omega arith) k.busy)
 
-  there : (actor : ℕ) (vs : List View) (holder : Option (ℕ × Held)) → Locked (claim_for actor) holder vs → (p : ℕ) → holder_of holder ≡ Some p → p < length (map (owes actor) vs)
+  there : (actor : ℕ) (vs : List View) (holder : Option (ℕ × Held)) → Locked (claim_for actor) holder vs → (p : ℕ) → holder_of holder ≡ Some p →
+      p < length (map (owes actor) vs)
   there actor vs None l p e = absurd (cc)
   there actor vs (Some h) l p e =
       let same : h.0 ≡ p = some_same h.0 p e in
@@ -77,14 +85,17 @@ module _ {H : Type 0} (is_of : ℕ → H → Type 0) (journal : H → List Entry
   shows n s r actor inside rest quiet =
       let x = spot_of word_offset slot_offset s r.ghosts actor in
       let f = r.each actor inside in (
-        record { possible = valid_possible (x.row Status) f.valid; word_valid = subst (λ w. IsTrue (is_valid w)) (sym (word_of-mailbox_of (x.row Status) f.valid)) f.valid },
+        record { possible = valid_possible (x.row Status) f.valid; word_valid = subst (λ w. IsTrue (is_valid w)) (sym (word_of-mailbox_of (x.row
+            Status) f.valid)) f.valid },
         record {
           scheduled = held actor x x.ghost.holder f.cell;
           free = λ c z. free actor x x.ghost.holder f.cell (free_mod (x.row Status) f.valid c z);
           there = there actor s.views x.ghost.holder f.claims;
         },
         record {
-          system = λ c z work. pays_among (λ d. IsTrue d.system) actor s.views (f.system (free_mod (x.row Status) f.valid c z, work_there x.ghost rest quiet work));
-          message = λ c z quiet_yet waits. pays_among (λ d. IsTrue (d.message || d.sending)) actor s.views (f.message ((let m = free_mod (x.row Status) f.valid c z in let k : x.row Status / 4 ≡ 0 = quiet_yet in omega arith), waits));
+          system = λ c z work. pays_among (λ d. IsTrue d.system) actor s.views (f.system (free_mod (x.row Status) f.valid c z, work_there x.ghost
+              rest quiet work));
+          message = λ c z quiet_yet waits. pays_among (λ d. IsTrue (d.message || d.sending)) actor s.views (f.message ((let m = free_mod (x.row
+              Status) f.valid c z in let k : x.row Status / 4 ≡ 0 = quiet_yet in omega arith), waits));
         },
       )

@@ -1,5 +1,6 @@
 -- The rule holds as the gates begin.
-use Rattle.std.proofs.Common.{◌≡◌, ℕ, zero, suc, ◌+◌, ◌*◌, ◌%◌, ◌<◌, if◌then◌else◌, inl, false, IsTrue, List, [], ◌∷◌, ◌++◌, map, length, get_or, sym, refl, ap, ◌∙◌, subst, Option, Some, None, ne_eqb, arith, slice_get}
+use Rattle.std.proofs.Common.{◌≡◌, ℕ, zero, suc, ◌+◌, ◌*◌, ◌%◌, ◌<◌, if◌then◌else◌, inl, false, IsTrue, List, [], ◌∷◌, ◌++◌, map, length, get_or,
+    sym, refl, ap, ◌∙◌, subst, Option, Some, None, ne_eqb, arith, slice_get}
 use mathlib.Core.Option as maybe
 use mathlib.Core.Option.{none, some, some-ne-none, some-injective}
 use lib.ListN.{get_elem?, length-map}
@@ -35,9 +36,11 @@ module _ {H : Type 0} (journal : H → List Entry) (mailbox : H → Mailbox) whe
     list : get_elem? (map some (shelves_of hs)) (slot_at a 1) ≡ some (some (Listing no_messages))
 
   next_row : (w : ℕ) (rest : List ℕ) (i j : ℕ) → i ≡ j + 16 → get_or (row_of w ++ rest) i 0 ≡ get_or rest j 0
-  next_row w rest i j e = ap (λ k. get_or (row_of w ++ rest) k 0) (let n : i ≡ suc (suc (suc (suc (suc (suc (suc (suc (suc (suc (suc (suc (suc (suc (suc (suc j))))))))))))))) = omega arith in n)
+  next_row w rest i j e = ap (λ k. get_or (row_of w ++ rest) k 0) (let n : i ≡ suc (suc (suc (suc (suc (suc (suc (suc (suc (suc (suc (suc (suc
+      (suc (suc (suc j))))))))))))))) = omega arith in n)
 
-  next_shelves : (h : H) (rest : List (maybe.Option (Slot H))) (i j : ℕ) → i ≡ j + 2 → get_elem? (some (Home h) ∷ some (Listing no_messages) ∷ rest) i ≡ get_elem? rest j
+  next_shelves : (h : H) (rest : List (maybe.Option (Slot H))) (i j : ℕ) → i ≡ j + 2 → get_elem? (some (Home h) ∷ some (Listing no_messages) ∷
+      rest) i ≡ get_elem? rest j
   next_shelves h rest i j e = ap (λ k. get_elem? (some (Home h) ∷ some (Listing no_messages) ∷ rest) k) (let n : i ≡ suc (suc j) = omega arith in n)
 
   begun : (hs : List H) (a : ℕ) → a < length hs → (h : H) × Begun hs a h
@@ -73,7 +76,8 @@ module _ {H : Type 0} (is_of : ℕ → H → Type 0) (journal : H → List Entry
       → ((a : ℕ) (h : H) → slice_get hs a ≡ Some h → IsFresh is_of mailbox rested a h)
       → Ruled word_offset slot_offset n (Fact is_of journal mailbox rested) (opening words slots blank)
   starts n hs words slots many rows shelves fresh =
-      subst (λ (z : List ℕ × List (Slot H)). Ruled word_offset slot_offset n (Fact is_of journal mailbox rested) (opening z.0 z.1 blank)) (λ i. (sym rows i, sym shelves i)) record {
+      subst (λ (z : List ℕ × List (Slot H)). Ruled word_offset slot_offset n (Fact is_of journal mailbox rested) (opening z.0 z.1 blank)) (λ i.
+          (sym rows i, sym shelves i)) record {
         ghosts = begins hs;
         wide = length-rows_of mailbox hs ∙ ap (λ k. 16 * k) (sym many);
         deep = length-map (shelves_of hs) (λ (x : Slot H). some x) ∙ (length-shelves_of hs ∙ ap (λ k. 2 * k) (sym many));

@@ -1,5 +1,6 @@
 -- What a step at one actor leaves of a view towards the others.
-use Rattle.std.proofs.Common.{◌≡◌, ◌≢◌, ℕ, ◌+◌, ◌==◌, if◌then◌else◌, Bool, true, false, List, [], ◌++◌, sym, refl, ap, ◌∙◌, Some, None, eq-eqb, ne_eqb, append_assoc}
+use Rattle.std.proofs.Common.{◌≡◌, ◌≢◌, ℕ, ◌+◌, ◌==◌, if◌then◌else◌, Bool, true, false, List, [], ◌++◌, sym, refl, ap, ◌∙◌, Some, None, eq-eqb,
+    ne_eqb, append_assoc}
 use Rattle.mb_journal.specs.Entry.{Entry}
 use Rattle.mb_core.specs.declared.debt.Debt.{Debt}
 use Rattle.mb_core.specs.Actor.{nothing}
@@ -34,7 +35,8 @@ pub extends_self : (j : List Entry) → Extends j j
 extends_self j = record { newer = []; joined = refl }
 
 pub extends_more : (j k l : List Entry) → Extends j k → Extends k l → Extends j l
-extends_more j k l a b = record { newer = a.newer ++ b.newer; joined = a.joined ∙ (ap (λ z. a.newer ++ z) b.joined ∙ sym (append_assoc a.newer b.newer l)) }
+extends_more j k l a b = record { newer = a.newer ++ b.newer; joined = a.joined ∙ (ap (λ z. a.newer ++ z) b.joined ∙ sym (append_assoc a.newer
+    b.newer l)) }
 
 -- Towards this actor, w is as v: of its cell, its list and what is owed; and what it has seen is so where what v has seen is.
 pub record Elsewhere (H : Type 0) (actor : ℕ) (v w : View) : Type 0 where
@@ -45,7 +47,8 @@ pub record Elsewhere (H : Type 0) (actor : ℕ) (v w : View) : Type 0 where
 
 module _ {H : Type 0} where
   pub owing_elsewhere : (actor other : ℕ) (d : Debt) (v : View) → other ≢ actor → Elsewhere H other v (owing actor d v)
-  owing_elsewhere actor other d v n = record { claim = refl; list = refl; debt = owes_else actor other d v n; knows = λ x k. record { seen = k.seen; said = k.said } }
+  owing_elsewhere actor other d v n = record { claim = refl; list = refl; debt = owes_else actor other d v n; knows = λ x k. record { seen =
+      k.seen; said = k.said } }
 
   pub reading_elsewhere : (actor other word : ℕ) (v : View) → other ≢ actor → Elsewhere H other v (reading actor word v)
   reading_elsewhere actor other word v n = record {
@@ -55,23 +58,28 @@ module _ {H : Type 0} where
     knows = λ x k. record { seen = ((λ e _. absurd (n (sym e))), k.seen); said = k.said };
   }
 
-  pub taking_elsewhere : (actor other word : ℕ) (j : List Entry) (gave : Bool) (v : View) → other ≢ actor → v.claim ≡ None → Elsewhere H other v (taking actor j word gave v)
+  pub taking_elsewhere : (actor other word : ℕ) (j : List Entry) (gave : Bool) (v : View) → other ≢ actor → v.claim ≡ None → Elsewhere H other v
+      (taking actor j word gave v)
   taking_elsewhere actor other word j gave v n bare = record {
-    claim = held_else other (record { actor = actor; journal = j; word = word + 2; gave = gave; drained = [] }) (λ e. n (sym e)) ∙ sym (ap (held_of other) bare);
+    claim = held_else other (record { actor = actor; journal = j; word = word + 2; gave = gave; drained = [] }) (λ e. n (sym e)) ∙ sym (ap
+        (held_of other) bare);
     list = refl;
     debt = owes_else actor other nothing v n;
     knows = λ x k. record { seen = k.seen; said = k.said };
   }
 
-  pub writing_elsewhere : (actor other word : ℕ) (c : Held) (v : View) → other ≢ actor → v.claim ≡ Some c → c.actor ≡ actor → Elsewhere H other v (writing word v)
+  pub writing_elsewhere : (actor other word : ℕ) (c : Held) (v : View) → other ≢ actor → v.claim ≡ Some c → c.actor ≡ actor → Elsewhere H other v
+      (writing word v)
   writing_elsewhere actor other word c v n has of = record {
-    claim = ap (λ z. held_of other (rewritten word z)) has ∙ (held_else other (record c { word = word }) (λ e. n (sym e ∙ of)) ∙ sym (ap (held_of other) has ∙ held_else other c (λ e. n (sym e ∙ of))));
+    claim = ap (λ z. held_of other (rewritten word z)) has ∙ (held_else other (record c { word = word }) (λ e. n (sym e ∙ of)) ∙ sym (ap (held_of
+        other) has ∙ held_else other c (λ e. n (sym e ∙ of))));
     list = refl;
     debt = refl;
     knows = λ x k. record { seen = k.seen; said = k.said };
   }
 
-  pub idling_elsewhere : (actor other : ℕ) (j : List Entry) (c : Held) (v : View) → other ≢ actor → v.claim ≡ Some c → c.actor ≡ actor → Elsewhere H other v (idling actor j v)
+  pub idling_elsewhere : (actor other : ℕ) (j : List Entry) (c : Held) (v : View) → other ≢ actor → v.claim ≡ Some c → c.actor ≡ actor →
+      Elsewhere H other v (idling actor j v)
   idling_elsewhere actor other j c v n has of = record {
     claim = sym (ap (held_of other) has ∙ held_else other c (λ e. n (sym e ∙ of)));
     list = refl;
@@ -80,15 +88,18 @@ module _ {H : Type 0} where
   }
 
   -- what was known of a place is so where the place goes on
-  pub goes_on : (actor : ℕ) (x y : Spot Word Shelf (Slot H) Ghost) (v : View) → (x.row Status ≡ 1 → y.row Status ≡ 1) → Extends y.ghost.journal x.ghost.journal
+  pub goes_on : (actor : ℕ) (x y : Spot Word Shelf (Slot H) Ghost) (v : View) → (x.row Status ≡ 1 → y.row Status ≡ 1) → Extends y.ghost.journal
+      x.ghost.journal
       → ((s : Said) → IsTold actor x s → IsTold actor y s) → Knows actor x v → Knows actor y v
   goes_on actor x y v closed longer told k = record {
     seen = each_weaker (IsSo actor x) (IsSo actor y) v.log
-        (λ s. elim s as (λ z. IsSo actor x z → IsSo actor y z) [ Read a word ↦ (λ h e one. closed (h e one)) | Saw a j ↦ (λ h e. extends_more y.ghost.journal x.ghost.journal j longer (h e)) ]) k.seen;
+        (λ s. elim s as (λ z. IsSo actor x z → IsSo actor y z) [ Read a word ↦ (λ h e one. closed (h e one)) | Saw a j ↦ (λ h e. extends_more
+            y.ghost.journal x.ghost.journal j longer (h e)) ]) k.seen;
     said = each_weaker (IsTold actor x) (IsTold actor y) v.said told k.said;
   }
 
-chosen_rest : (b : Bool) (v w : View) → (w.claim ≡ v.claim) × (w.list ≡ v.list) → (let u = if b then w else v in (u.claim ≡ v.claim) × (u.list ≡ v.list))
+chosen_rest : (b : Bool) (v w : View) → (w.claim ≡ v.claim) × (w.list ≡ v.list) → (let u = if b then w else v in (u.claim ≡ v.claim) × (u.list ≡
+    v.list))
 chosen_rest true v w e = e
 chosen_rest false v w e = (refl, refl)
 

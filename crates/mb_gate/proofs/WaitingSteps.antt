@@ -13,7 +13,8 @@ use Rattle.mb_rule.proofs.OwedLemmas.{pays, still_owed}
 use Rattle.mb_rule.proofs.SeenLemmas.{learns}
 use Rattle.mb_gate.specs.declared.slot.Slot.{Slot}
 use Rattle.mb_gate.specs.View.{View, Held, owes, owing, sending, unsending, counting, looking}
-use Rattle.mb_gate.specs.Rule.{Word, Gate, Waiting, word_offset, Shelf, slot_offset, Ghost, claim_for, list_for, Knows, MessageDue, SystemDue, PaysMessage, PaysSystem, has_work, Fact}
+use Rattle.mb_gate.specs.Rule.{Word, Gate, Waiting, word_offset, Shelf, slot_offset, Ghost, claim_for, list_for, Knows, MessageDue, SystemDue,
+    PaysMessage, PaysSystem, has_work, Fact}
 use Rattle.mb_gate.proofs.Views.{owes_here, extends_self, owing_elsewhere, goes_on}
 use Rattle.mb_gate.proofs.Facts.{still_kept, still_shelved, views_change, elsewhere, load_here}
 use Rattle.mb_gate.proofs.StatusSteps.{is_held}
@@ -31,7 +32,8 @@ module _ {H : Type 0} (is_of : ℕ → H → Type 0) (journal : H → List Entry
 
   -- the waiting number changes, and the seat owes a wake-up where one is due
   recounts : (actor id n : ℕ) (d : Debt) (me : M) (tell : M → Type 0) (x : Place) (vs : List View) → F actor x vs → get_elem? vs id ≡ some me.0
-      → IsTrue (d.message || d.sending) → d.system ≡ (owes actor me.0).system → tell (owing actor d me.0, me.1) → Goes word_offset slot_offset F actor id me Waiting n tell x vs
+      → IsTrue (d.message || d.sending) → d.system ≡ (owes actor me.0).system → tell (owing actor d me.0, me.1) → Goes word_offset slot_offset F
+          actor id me Waiting n tell x vs
   recounts actor id n d me tell x vs f at owed same told =
       let v = me.0 in
       let w = owing actor d v in
@@ -48,10 +50,13 @@ module _ {H : Type 0} (is_of : ℕ → H → Type 0) (journal : H → List Entry
           shelf = still_shelved is_of journal mailbox rested actor x y refl refl refl refl x.ghost.keeper f.shelf;
           ended = f.ended;
           listing = f.listing;
-          message = pays (PaysMessage actor) (MessageDue y) vs id v w at (subst (λ (z : Debt). IsTrue (z.message || z.sending)) (sym (owes_here actor d v)) owed);
-          system = still_owed (PaysSystem actor) (SystemDue x) (SystemDue y) vs id v w at (λ due. due) (λ _ p. subst (λ (z : Debt). IsTrue z.system) (sym (owes_here actor d v)) (subst IsTrue (sym same) p)) f.system;
+          message = pays (PaysMessage actor) (MessageDue y) vs id v w at (subst (λ (z : Debt). IsTrue (z.message || z.sending)) (sym (owes_here
+              actor d v)) owed);
+          system = still_owed (PaysSystem actor) (SystemDue x) (SystemDue y) vs id v w at (λ due. due) (λ _ p. subst (λ (z : Debt). IsTrue
+              z.system) (sym (owes_here actor d v)) (subst IsTrue (sym same) p)) f.system;
           seen = let k = goes_on actor x y v (λ one. one) (extends_self x.ghost.journal) (λ s t. t) (f.seen id v at) in
-              learns (Knows actor x) (Knows actor y) vs id w (λ u. goes_on actor x y u (λ one. one) (extends_self x.ghost.journal) (λ s t. t)) (record { seen = k.seen; said = k.said }) f.seen;
+              learns (Knows actor x) (Knows actor y) vs id w (λ u. goes_on actor x y u (λ one. one) (extends_self x.ghost.journal) (λ s t. t))
+                  (record { seen = k.seen; said = k.said }) f.seen;
         };
         others = λ a z y g. elsewhere is_of journal mailbox rested a y vs id v w at (owing_elsewhere actor a d v z) g;
         tells = told;
@@ -62,15 +67,20 @@ module _ {H : Type 0} (is_of : ℕ → H → Type 0) (journal : H → List Entry
   or_true false = refl
 
   -- a seat counts one more, before it is queued
-  pub sends : (actor id n : ℕ) (me : M) (tell : M → Type 0) (x : Place) (vs : List View) → F actor x vs → get_elem? vs id ≡ some me.0 → tell (sending actor me.0, me.1) → Goes word_offset slot_offset F actor id me Waiting n tell x vs
-  sends actor id n me tell x vs f at told = recounts actor id n (record (owes actor me.0) { sending = true }) me tell x vs f at (or_true (owes actor me.0).message) refl told
+  pub sends : (actor id n : ℕ) (me : M) (tell : M → Type 0) (x : Place) (vs : List View) → F actor x vs → get_elem? vs id ≡ some me.0 → tell
+      (sending actor me.0, me.1) → Goes word_offset slot_offset F actor id me Waiting n tell x vs
+  sends actor id n me tell x vs f at told = recounts actor id n (record (owes actor me.0) { sending = true }) me tell x vs f at (or_true (owes
+      actor me.0).message) refl told
 
   -- a seat takes back what it counted
-  pub unsends : (actor id n : ℕ) (me : M) (tell : M → Type 0) (x : Place) (vs : List View) → F actor x vs → get_elem? vs id ≡ some me.0 → tell (unsending actor me.0, me.1) → Goes word_offset slot_offset F actor id me Waiting n tell x vs
-  unsends actor id n me tell x vs f at told = recounts actor id n (record (owes actor me.0) { message = true; sending = false }) me tell x vs f at refl refl told
+  pub unsends : (actor id n : ℕ) (me : M) (tell : M → Type 0) (x : Place) (vs : List View) → F actor x vs → get_elem? vs id ≡ some me.0 → tell
+      (unsending actor me.0, me.1) → Goes word_offset slot_offset F actor id me Waiting n tell x vs
+  unsends actor id n me tell x vs f at told = recounts actor id n (record (owes actor me.0) { message = true; sending = false }) me tell x vs f
+      at refl refl told
 
   -- the holder counts one less
-  pub takes_one : (actor id n : ℕ) (me : M) (c : Held) (tell : M → Type 0) (x : Place) (vs : List View) → F actor x vs → get_elem? vs id ≡ some me.0 → me.0.claim ≡ Some c → c.actor ≡ actor → tell me
+  pub takes_one : (actor id n : ℕ) (me : M) (c : Held) (tell : M → Type 0) (x : Place) (vs : List View) → F actor x vs → get_elem? vs id ≡ some
+      me.0 → me.0.claim ≡ Some c → c.actor ≡ actor → tell me
       → Goes word_offset slot_offset F actor id me Waiting n tell x vs
   takes_one actor id n me c tell x vs f at has of told =
       let v = me.0 in
@@ -91,15 +101,19 @@ module _ {H : Type 0} (is_of : ℕ → H → Type 0) (journal : H → List Entry
           message = λ due. absurd (let z = due.0 in ⊎_elim (λ b. omega arith) (λ b. omega arith) h.1.busy);
           system = still_owed (PaysSystem actor) (SystemDue x) (SystemDue y) vs id v v at (λ due. due) (λ _ p. p) f.system;
           seen = let k = goes_on actor x y v (λ one. one) (extends_self x.ghost.journal) (λ s t. t) (f.seen id v at) in
-              learns (Knows actor x) (Knows actor y) vs id v (λ u. goes_on actor x y u (λ one. one) (extends_self x.ghost.journal) (λ s t. t)) (record { seen = k.seen; said = k.said }) f.seen;
+              learns (Knows actor x) (Knows actor y) vs id v (λ u. goes_on actor x y u (λ one. one) (extends_self x.ghost.journal) (λ s t. t))
+                  (record { seen = k.seen; said = k.said }) f.seen;
         };
-        others = λ a z y g. elsewhere is_of journal mailbox rested a y vs id v v at (record { claim = refl; list = refl; debt = refl; knows = λ _ k. record { seen = k.seen; said = k.said } }) g;
+        others = λ a z y g. elsewhere is_of journal mailbox rested a y vs id v v at (record { claim = refl; list = refl; debt = refl; knows = λ _
+            k. record { seen = k.seen; said = k.said } }) g;
         tells = told;
       }
 
   -- a load after which the seat owes this actor no more than d, where what d leaves out is not due
-  pub finds : (actor id : ℕ) (name : Word) (d : Debt) (me : M) (tell : M → Type 0) (x : Place) (vs : List View) → F actor x vs → get_elem? vs id ≡ some me.0
-      → (MessageDue x → IsTrue ((owes actor me.0).message || (owes actor me.0).sending) → IsTrue (d.message || d.sending)) → (SystemDue x → IsTrue (owes actor me.0).system → IsTrue d.system)
+  pub finds : (actor id : ℕ) (name : Word) (d : Debt) (me : M) (tell : M → Type 0) (x : Place) (vs : List View) → F actor x vs → get_elem? vs id
+      ≡ some me.0
+      → (MessageDue x → IsTrue ((owes actor me.0).message || (owes actor me.0).sending) → IsTrue (d.message || d.sending)) → (SystemDue x →
+          IsTrue (owes actor me.0).system → IsTrue d.system)
       → tell (owing actor d me.0, me.1) → Goes word_offset slot_offset F actor id me name (x.row name) tell x vs
   finds actor id name d me tell x vs f at message system told = let v = me.0 in let w = owing actor d v in record {
     view = w;
@@ -114,30 +128,38 @@ module _ {H : Type 0} (is_of : ℕ → H → Type 0) (journal : H → List Entry
   }
 
   -- a load that changes nothing
-  pub glances : (actor id : ℕ) (name : Word) (me : M) (tell : M → Type 0) (x : Place) (vs : List View) → F actor x vs → get_elem? vs id ≡ some me.0 → tell me → Goes word_offset slot_offset F actor id me name (x.row name) tell x vs
+  pub glances : (actor id : ℕ) (name : Word) (me : M) (tell : M → Type 0) (x : Place) (vs : List View) → F actor x vs → get_elem? vs id ≡ some
+      me.0 → tell me → Goes word_offset slot_offset F actor id me name (x.row name) tell x vs
   glances actor id name me tell x vs f at told = let v = me.0 in record {
     view = v;
     deed = stays;
     kept = x.ghost;
     able = tt;
-    here = load_here is_of journal mailbox rested actor x (set vs id v) name (views_change is_of journal mailbox rested actor x vs id v v at refl refl (λ _ p. p) (λ _ p. p) (λ k. record { seen = k.seen; said = k.said }) f);
-    others = λ a n y g. elsewhere is_of journal mailbox rested a y vs id v v at (record { claim = refl; list = refl; debt = refl; knows = λ _ k. record { seen = k.seen; said = k.said } }) g;
+    here = load_here is_of journal mailbox rested actor x (set vs id v) name (views_change is_of journal mailbox rested actor x vs id v v at refl
+        refl (λ _ p. p) (λ _ p. p) (λ k. record { seen = k.seen; said = k.said }) f);
+    others = λ a n y g. elsewhere is_of journal mailbox rested a y vs id v v at (record { claim = refl; list = refl; debt = refl; knows = λ _ k.
+        record { seen = k.seen; said = k.said } }) g;
     tells = told;
   }
 
-  counts_as : (actor id : ℕ) (me : M) (tell : M → Type 0) (x : Place) (vs : List View) (b : Bool) → (x.row Waiting == 0) ≡ b → F actor x vs → get_elem? vs id ≡ some me.0
-      → tell ((if b then owing actor (record (owes actor me.0) { message = false }) me.0 else me.0), me.1) → Goes word_offset slot_offset F actor id me Waiting (x.row Waiting) tell x vs
+  counts_as : (actor id : ℕ) (me : M) (tell : M → Type 0) (x : Place) (vs : List View) (b : Bool) → (x.row Waiting == 0) ≡ b → F actor x vs →
+      get_elem? vs id ≡ some me.0
+      → tell ((if b then owing actor (record (owes actor me.0) { message = false }) me.0 else me.0), me.1) → Goes word_offset slot_offset F actor
+          id me Waiting (x.row Waiting) tell x vs
   counts_as actor id me tell x vs true is f at told = finds actor id Waiting (record (owes actor me.0) { message = false }) me tell x vs f at
       (λ due. absurd (let zero : x.row Waiting ≡ 0 = eqb-true (x.row Waiting) 0 is in let z = due.1 in omega arith)) (λ _ p. p) told
   counts_as actor id me tell x vs false is f at told = glances actor id Waiting me tell x vs f at told
 
   -- a seat reads the waiting number
-  pub counts : (actor id : ℕ) (me : M) (tell : M → Type 0) (x : Place) (vs : List View) → F actor x vs → get_elem? vs id ≡ some me.0 → tell (counting actor (x.row Waiting) me.0, me.1)
+  pub counts : (actor id : ℕ) (me : M) (tell : M → Type 0) (x : Place) (vs : List View) → F actor x vs → get_elem? vs id ≡ some me.0 → tell
+      (counting actor (x.row Waiting) me.0, me.1)
       → Goes word_offset slot_offset F actor id me Waiting (x.row Waiting) tell x vs
   counts actor id me tell x vs f at told = counts_as actor id me tell x vs (x.row Waiting == 0) refl f at told
 
   -- a seat looks at the list's gate
-  pub looks : (actor id : ℕ) (me : M) (b : Bool) (tell : M → Type 0) (x : Place) (vs : List View) → has_work x.ghost ≡ b → F actor x vs → get_elem? vs id ≡ some me.0 → tell (looking actor b me.0, me.1)
+  pub looks : (actor id : ℕ) (me : M) (b : Bool) (tell : M → Type 0) (x : Place) (vs : List View) → has_work x.ghost ≡ b → F actor x vs →
+      get_elem? vs id ≡ some me.0 → tell (looking actor b me.0, me.1)
       → Goes word_offset slot_offset F actor id me Gate (x.row Gate) tell x vs
   looks actor id me true tell x vs is f at told = glances actor id Gate me tell x vs f at told
-  looks actor id me false tell x vs is f at told = finds actor id Gate (record (owes actor me.0) { system = false }) me tell x vs f at (λ _ p. p) (λ due. absurd (let no = due.1 in cc)) told
+  looks actor id me false tell x vs is f at told = finds actor id Gate (record (owes actor me.0) { system = false }) me tell x vs f at (λ _ p. p)
+      (λ due. absurd (let no = due.1 in cc)) told

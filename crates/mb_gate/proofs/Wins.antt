@@ -1,5 +1,6 @@
 -- What a won exchange of a status word gives.
-use Rattle.std.proofs.Common.{◌≡◌, ℕ, ◌+◌, ◌*◌, ◌%◌, ◌==◌, if◌then◌else◌, ◌⊎◌, inl, inr, Bool, true, false, not, ◌&&◌, ◌||◌, nat_le, IsTrue, List, [], ◌∷◌, sym, refl, ap, ◌∙◌, subst, Some, None, arith}
+use Rattle.std.proofs.Common.{◌≡◌, ℕ, ◌+◌, ◌*◌, ◌%◌, ◌==◌, if◌then◌else◌, ◌⊎◌, inl, inr, Bool, true, false, not, ◌&&◌, ◌||◌, nat_le, IsTrue,
+    List, [], ◌∷◌, sym, refl, ap, ◌∙◌, subst, Some, None, arith}
 use Rattle.std.proofs.lemmas.Bool.Decides.{nat_tests}
 use Rattle.std.proofs.lemmas.Bool.{eqb-true}
 use Rattle.atomic_table.specs.Table.{Me}
@@ -38,21 +39,26 @@ free_mod m f = let w = free_word m f in omega arith
 pub scheduled_word : (m s : Mailbox) → IsFree m → s ≡ record m { scheduled = true } → word_of s ≡ word_of m + 2
 scheduled_word m s f e = ap word_of e ∙ (open_word (record m { scheduled = true }) f.open_yet ∙ ap (λ n. n + 2) (sym (free_word m f)))
 
-module _ {H : Type 0} (is_of : ℕ → H → Type 0) (journal : H → List Entry) (mailbox : H → Mailbox) (rested : H → Type 0) (actor found : ℕ) (m m' : Me (Slot H) View) (w : Won is_of journal mailbox rested actor found m m') where
+module _ {H : Type 0} (is_of : ℕ → H → Type 0) (journal : H → List Entry) (mailbox : H → Mailbox) (rested : H → Type 0) (actor found : ℕ) (m m' :
+    Me (Slot H) View) (w : Won is_of journal mailbox rested actor found m m') where
   -- the seat has the claim and the cell
   pub taken : (status : Mailbox) → word_of status ≡ found + 2 → m.1 ≡ [] → m.0.list ≡ None → Taken journal actor status m'
   taken status word bare no_list = record {
     home = w.home;
     carried = ap (λ (z : Me (Slot H) View). z.1) w.now ∙ ap (λ c. (slot_at actor 0, Home w.home) ∷ c) bare;
     gave = w.gave;
-    claim = ap (λ (z : Me (Slot H) View). z.0.claim) w.now ∙ (λ i. Some (record { actor = actor; journal = journal w.home; word = sym word i; gave = w.gave; drained = [] }));
+    claim = ap (λ (z : Me (Slot H) View). z.0.claim) w.now ∙ (λ i. Some (record { actor = actor; journal = journal w.home; word = sym word i;
+        gave = w.gave; drained = [] }));
     no_list = ap (λ (z : Me (Slot H) View). z.0.list) w.now ∙ no_list;
   }
 
-  pub got : (seen : Mailbox) (claim : Claim H) (after : View) → IsFree seen → found ≡ word_of seen → m.0.claim ≡ None → status_of claim ≡ record seen { scheduled = true } → held_actor claim ≡ actor
-      → known_of claim ≡ claim_alone m'.0 → m'.1 ≡ (slot_at actor 0, Home claim.home) ∷ [] → after ≡ without_claim m'.0 → IsGot is_of journal mailbox rested actor m.0 after seen claim
+  pub got : (seen : Mailbox) (claim : Claim H) (after : View) → IsFree seen → found ≡ word_of seen → m.0.claim ≡ None → status_of claim ≡ record
+      seen { scheduled = true } → held_actor claim ≡ actor
+      → known_of claim ≡ claim_alone m'.0 → m'.1 ≡ (slot_at actor 0, Home claim.home) ∷ [] → after ≡ without_claim m'.0 → IsGot is_of journal
+          mailbox rested actor m.0 after seen claim
   got seen claim after free is_seen bare status of known carried rest =
-      let same : w.home ≡ claim.home = home_same w.home claim.home (ap (λ (z : ℕ × Slot H). z.1) (head_same _ _ _ _ (sym (ap (λ (z : Me (Slot H) View). z.1) w.now) ∙ carried))) in
+      let same : w.home ≡ claim.home = home_same w.home claim.home (ap (λ (z : ℕ × Slot H). z.1) (head_same _ _ _ _ (sym (ap (λ (z : Me (Slot H)
+          View). z.1) w.now) ∙ carried))) in
       let all : known_of claim ≡ claimed actor (journal w.home) (found + 2) w.gave = known ∙ ap (λ (z : Me (Slot H) View). claim_alone z.0) w.now in
       let gave : gave_last claim ≡ w.gave = ap (λ v. (held_in v).gave) all in
       let word : found + 2 ≡ word_of (status_of claim) = ap (λ n. n + 2) is_seen ∙ sym (scheduled_word seen (status_of claim) free status) in record {
@@ -71,7 +77,8 @@ module _ {H : Type 0} (is_of : ℕ → H → Type 0) (journal : H → List Entry
 pub valid_word : (m : Mailbox) → IsTrue (is_possible m) → IsTrue (is_valid (word_of m))
 valid_word m p = cases m.closed m.scheduled p
   where
-    cases : (c s : Bool) → IsTrue (if c then not s && m.count == 0 else nat_le m.count most_suspensions) → IsTrue (is_valid (if c then 1 else 4 * m.count + (if s then 2 else 0)))
+    cases : (c s : Bool) → IsTrue (if c then not s && m.count == 0 else nat_le m.count most_suspensions) → IsTrue (is_valid (if c then 1 else 4 *
+        m.count + (if s then 2 else 0)))
     cases true s q = refl
     cases false true q = grind (arith, nat_tests)
     cases false false q = grind (arith, nat_tests)

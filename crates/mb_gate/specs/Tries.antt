@@ -35,7 +35,8 @@ abbrev pub IsOf : {H : Type 0} → TableId → Tried H → Type 0
 IsOf gates (Got claim) = claim_id claim ≡ gates
 IsOf gates _ = Unit {0}
 
-module _ {H : Type 0} (is_of : ℕ → H → Type 0) (journal : H → List Entry) (mailbox : H → Mailbox) (rested : H → Type 0) (actor : ℕ) (before after : View) (seen : Mailbox) where
+module _ {H : Type 0} (is_of : ℕ → H → Type 0) (journal : H → List Entry) (mailbox : H → Mailbox) (rested : H → Type 0) (actor : ℕ) (before after
+    : View) (seen : Mailbox) where
   -- The claim of the actor was got by the exchange of this status, which is now scheduled. Its cell is the actor's own, its word the
   -- one of its journal, and this goes on from all that the pass has seen; unless the last drain gave something, nothing is left beside
   -- the cell. The pass owes the actor nothing.
@@ -56,7 +57,8 @@ module _ {H : Type 0} (is_of : ℕ → H → Type 0) (journal : H → List Entry
   IsExchanged (Lost found) = IsFree seen × (word_of found ≢ word_of seen) × (after ≡ reading actor (word_of found) before)
   IsExchanged _ = ⊥
 
-module _ {H : Type 0} (is_of : ℕ → H → Type 0) (journal : H → List Entry) (mailbox : H → Mailbox) (rested : H → Type 0) (actor : ℕ) (before after : View) (seen : Mailbox) where
+module _ {H : Type 0} (is_of : ℕ → H → Type 0) (journal : H → List Entry) (mailbox : H → Mailbox) (rested : H → Type 0) (actor : ℕ) (before after
+    : View) (seen : Mailbox) where
   -- What the call answers, having read this status: Got by its own exchange; Already and Closed as it read; Lost with another word that
   -- its exchange found.
   abbrev pub IsTried : Tried H → Type 0

@@ -1,5 +1,6 @@
 -- What keeps a thing at home or with one seat.
-use Rattle.std.proofs.Common.{◌≡◌, ◌≢◌, ℕ, zero, suc, eqb, List, [], ◌∷◌, ◌++◌, length, set, sym, refl, ap, ◌∙◌, subst, Option, Some, None, eq-eqb, ne_eqb, arith, if◌then◌else◌, cond}
+use Rattle.std.proofs.Common.{◌≡◌, ◌≢◌, ℕ, zero, suc, eqb, List, [], ◌∷◌, ◌++◌, length, set, sym, refl, ap, ◌∙◌, subst, Option, Some, None,
+    eq-eqb, ne_eqb, arith, if◌then◌else◌, cond}
 use mathlib.Core.Logic.{dite}
 use mathlib.Core.Option.{some, some-ne-none, some-injective}
 use native.Mathlib.Decide.{ℕ_discrete}
@@ -40,8 +41,10 @@ module _ {V T : Type 0} (ticket : V → Option T) where
       (λ n. ticket_set_else vs id q w n ∙ (locked q ∙ others q n))
 
   -- one view changes, and not its ticket
-  pub stays_locked : (holder : Option (ℕ × T)) (vs : List V) (id : ℕ) (v w : V) → get_elem? vs id ≡ some v → ticket w ≡ ticket v → Locked ticket holder vs → Locked ticket holder (set vs id w)
-  stays_locked holder vs id v w at same locked = relock holder holder vs id v w at (λ q n. refl) (same ∙ (sym (ticket_here vs id v at) ∙ locked id)) locked
+  pub stays_locked : (holder : Option (ℕ × T)) (vs : List V) (id : ℕ) (v w : V) → get_elem? vs id ≡ some v → ticket w ≡ ticket v → Locked ticket
+      holder vs → Locked ticket holder (set vs id w)
+  stays_locked holder vs id v w at same locked = relock holder holder vs id v w at (λ q n. refl) (same ∙ (sym (ticket_here vs id v at) ∙ locked
+      id)) locked
 
   held_else : (id q : ℕ) (t : T) → q ≢ id → held_by (Some (id, t)) q ≡ None
   held_else id q t n = ap (λ b. if b then Some t else None) (ne_eqb id q (λ e. n (sym e)))
@@ -50,39 +53,47 @@ module _ {V T : Type 0} (ticket : V → Option T) where
   held_here id t = ap (λ b. if b then Some t else None) (eq-eqb id id refl)
 
   -- a seat takes what was at home
-  pub takes_up : (vs : List V) (id : ℕ) (v w : V) (t : T) → get_elem? vs id ≡ some v → ticket w ≡ Some t → Locked ticket None vs → Locked ticket (Some (id, t)) (set vs id w)
+  pub takes_up : (vs : List V) (id : ℕ) (v w : V) (t : T) → get_elem? vs id ≡ some v → ticket w ≡ Some t → Locked ticket None vs → Locked ticket
+      (Some (id, t)) (set vs id w)
   takes_up vs id v w t at has locked = relock None (Some (id, t)) vs id v w at (λ q n. sym (held_else id q t n)) (has ∙ sym (held_here id t)) locked
 
   -- the holder's ticket changes
-  pub turns_over : (vs : List V) (id : ℕ) (v w : V) (t u : T) → get_elem? vs id ≡ some v → ticket w ≡ Some u → Locked ticket (Some (id, t)) vs → Locked ticket (Some (id, u)) (set vs id w)
+  pub turns_over : (vs : List V) (id : ℕ) (v w : V) (t u : T) → get_elem? vs id ≡ some v → ticket w ≡ Some u → Locked ticket (Some (id, t)) vs →
+      Locked ticket (Some (id, u)) (set vs id w)
   turns_over vs id v w t u at has locked =
       relock (Some (id, t)) (Some (id, u)) vs id v w at (λ q n. held_else id q t n ∙ sym (held_else id q u n)) (has ∙ sym (held_here id u)) locked
 
   -- the holder puts it back
-  pub puts_back : (vs : List V) (id : ℕ) (v w : V) (t : T) → get_elem? vs id ≡ some v → ticket w ≡ None → Locked ticket (Some (id, t)) vs → Locked ticket None (set vs id w)
+  pub puts_back : (vs : List V) (id : ℕ) (v w : V) (t : T) → get_elem? vs id ≡ some v → ticket w ≡ None → Locked ticket (Some (id, t)) vs →
+      Locked ticket None (set vs id w)
   puts_back vs id v w t at has locked = relock (Some (id, t)) None vs id v w at (λ q n. held_else id q t n) has locked
 
   holder_of : (holder : Option (ℕ × T)) (id : ℕ) (t : T) (b : (h : ℕ × T) → Dec (h.0 ≡ id)) → held_by holder id ≡ Some t → holder ≡ Some (id, t)
   holder_of None id t b e = absurd (cc)
   holder_of (Some h) id t b e = dite (b h)
-      (λ same. let now : Some h.1 ≡ Some t = sym (ap (λ x. if x then Some h.1 else None) (eq-eqb h.0 id same)) ∙ e in ap Some (λ i. (same i, first now i)))
+      (λ same. let now : Some h.1 ≡ Some t = sym (ap (λ x. if x then Some h.1 else None) (eq-eqb h.0 id same)) ∙ e in ap Some (λ i. (same i,
+          first now i)))
       (λ other. let none : held_by (Some h) id ≡ None = ap (λ x. if x then Some h.1 else None) (ne_eqb h.0 id other) in absurd (cc))
     where
       first : {x y : T} → Some x ≡ Some y → x ≡ y
       first p = cc
 
   -- who has the ticket is the holder
-  pub is_holder : (holder : Option (ℕ × T)) (vs : List V) (id : ℕ) (v : V) (t : T) → get_elem? vs id ≡ some v → ticket v ≡ Some t → Locked ticket holder vs → holder ≡ Some (id, t)
+  pub is_holder : (holder : Option (ℕ × T)) (vs : List V) (id : ℕ) (v : V) (t : T) → get_elem? vs id ≡ some v → ticket v ≡ Some t → Locked ticket
+      holder vs → holder ≡ Some (id, t)
   is_holder holder vs id v t at has locked = holder_of holder id t (λ h. ℕ_discrete h.0 id) (sym (locked id) ∙ (ticket_here vs id v at ∙ has))
 
   -- a view is cut in two, and the first keeps the ticket
-  pub splits_locked : (holder : Option (ℕ × T)) (vs : List V) (id : ℕ) (v left right : V) → get_elem? vs id ≡ some v → ticket left ≡ ticket v → ticket right ≡ None
+  pub splits_locked : (holder : Option (ℕ × T)) (vs : List V) (id : ℕ) (v left right : V) → get_elem? vs id ≡ some v → ticket left ≡ ticket v →
+      ticket right ≡ None
       → Locked ticket holder vs → Locked ticket holder (set vs id left ++ right ∷ [])
   splits_locked holder vs id v left right at same bare locked q =
       ticket_more (set vs id left) right q bare ∙ stays_locked holder vs id v left at same locked q
 
   -- a seat with no ticket gives its view to another
-  pub joins_locked : (holder : Option (ℕ × T)) (vs : List V) (id other : ℕ) (v w both spent : V) → get_elem? vs id ≡ some v → get_elem? (set vs id both) other ≡ some w
-      → ticket both ≡ ticket v → ticket w ≡ None → ticket spent ≡ None → Locked ticket holder vs → Locked ticket holder (set (set vs id both) other spent)
+  pub joins_locked : (holder : Option (ℕ × T)) (vs : List V) (id other : ℕ) (v w both spent : V) → get_elem? vs id ≡ some v → get_elem? (set vs
+      id both) other ≡ some w
+      → ticket both ≡ ticket v → ticket w ≡ None → ticket spent ≡ None → Locked ticket holder vs → Locked ticket holder (set (set vs id both)
+          other spent)
   joins_locked holder vs id other v w both spent at there same bare empty locked =
       stays_locked holder (set vs id both) other w spent there (empty ∙ sym bare) (stays_locked holder vs id v both at same locked)

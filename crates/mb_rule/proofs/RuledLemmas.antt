@@ -1,5 +1,6 @@
 -- A step at one place keeps the rule of the table.
-use Rattle.std.proofs.Common.{◌≡◌, ◌≢◌, ℕ, ◌+◌, ◌*◌, ◌<◌, ◌==◌, List, [], ◌∷◌, ◌++◌, length, get_or, set, sym, refl, ap, ◌∙◌, subst, arith, length-set}
+use Rattle.std.proofs.Common.{◌≡◌, ◌≢◌, ℕ, ◌+◌, ◌*◌, ◌<◌, ◌==◌, List, [], ◌∷◌, ◌++◌, length, get_or, set, sym, refl, ap, ◌∙◌, subst, arith,
+    length-set}
 use mathlib.Core.Logic.{dite}
 use mathlib.Core.Option.{Option, none, some}
 use native.Mathlib.Decide.{ℕ_discrete}
@@ -11,7 +12,8 @@ use Rattle.mb_rule.specs.Layout.{word_at, slot_at, Spot, spot_of, write, fill, p
 use Rattle.mb_rule.specs.Ruled.{Ruled, Deed, stays, takes_from, gives_to, act_of, IsAble, slot_after, Goes}
 use Rattle.mb_rule.proofs.LayoutLemmas.{put_here, put_else, words_apart, slots_apart, word_inside, slot_inside, set_word, set_slot, same_spot}
 
-module _ {W P S G V : Type 0} (word_offset : W → ℕ) (slot_offset : P → ℕ) (words_few : (w : W) → word_offset w < 8) (slots_few : (p : P) → slot_offset p < 2) (places : ℕ) (Fact : ℕ → Spot W P S G → List V → Type 0) where
+module _ {W P S G V : Type 0} (word_offset : W → ℕ) (slot_offset : P → ℕ) (words_few : (w : W) → word_offset w < 8) (slots_few : (p : P) →
+    slot_offset p < 2) (places : ℕ) (Fact : ℕ → Spot W P S G → List V → Type 0) where
   abbrev Rule : State S V → Type 0
   Rule = Ruled word_offset slot_offset places Fact
 
@@ -28,17 +30,21 @@ module _ {W P S G V : Type 0} (word_offset : W → ℕ) (slot_offset : P → ℕ
       → Homes homes (set homes (slot_at place (slot_offset p)) x) place (fill slot_offset (λ q. get_elem? homes (slot_at place (slot_offset q))) p x)
   homes_set homes place p x inside deep = record {
     long = length-set homes (slot_at place (slot_offset p)) x;
-    mine = λ q. set_slot homes place (slot_offset p) (slot_offset q) x (let l = slot_inside place (slot_offset p) places (slots_few p) inside in omega arith);
-    others = λ a q n. set_else homes (slot_at place (slot_offset p)) (slot_at a (slot_offset q)) x (slots_apart a place (slot_offset q) (slot_offset p) (slots_few q) (slots_few p) n);
+    mine = λ q. set_slot homes place (slot_offset p) (slot_offset q) x (let l = slot_inside place (slot_offset p) places (slots_few p) inside in
+        omega arith);
+    others = λ a q n. set_else homes (slot_at place (slot_offset p)) (slot_at a (slot_offset q)) x (slots_apart a place (slot_offset q)
+        (slot_offset p) (slots_few q) (slots_few p) n);
   }
 
   homes_done : (homes : List (Option S)) (carried : List (ℕ × S)) (place : ℕ) (d : Deed P S) → place < places → length homes ≡ 2 * places
       → IsAble slot_offset place (λ q. get_elem? homes (slot_at place (slot_offset q))) carried d
-      → Homes homes (homes_after homes carried (act_of slot_offset place d)) place (slot_after slot_offset (λ q. get_elem? homes (slot_at place (slot_offset q))) d)
+      → Homes homes (homes_after homes carried (act_of slot_offset place d)) place (slot_after slot_offset (λ q. get_elem? homes (slot_at place
+          (slot_offset q))) d)
   homes_done homes carried place stays inside deep able = record { long = refl; mine = λ q. refl; others = λ a q n. refl }
   homes_done homes carried place (takes_from p x) inside deep able = homes_set homes place p none inside deep
   homes_done homes carried place (gives_to p x) inside deep able =
-      subst (λ c. Homes homes (put_back homes c) place (fill slot_offset (λ q. get_elem? homes (slot_at place (slot_offset q))) p (some x))) (sym able.1) (homes_set homes place p (some x) inside deep)
+      subst (λ c. Homes homes (put_back homes c) place (fill slot_offset (λ q. get_elem? homes (slot_at place (slot_offset q))) p (some x))) (sym
+          able.1) (homes_set homes place p (some x) inside deep)
 
   valid_done : (homes : List (Option S)) (carried : List (ℕ × S)) (place : ℕ) (d : Deed P S)
       → IsAble slot_offset place (λ q. get_elem? homes (slot_at place (slot_offset q))) carried d → Valid homes carried (act_of slot_offset place d)
@@ -46,25 +52,30 @@ module _ {W P S G V : Type 0} (word_offset : W → ℕ) (slot_offset : P → ℕ
   valid_done homes carried place (takes_from p x) able = able
   valid_done homes carried place (gives_to p x) able = tt
 
-  at_place : (s : State S V) (ghosts : ℕ → G) (place : ℕ) → place < places → length s.words ≡ 16 * places → (name : W) (n : ℕ) (g : G) (homes' : List (Option S)) (slot' : P → Option (Option S)) (vs' : List V)
+  at_place : (s : State S V) (ghosts : ℕ → G) (place : ℕ) → place < places → length s.words ≡ 16 * places → (name : W) (n : ℕ) (g : G) (homes' :
+      List (Option S)) (slot' : P → Option (Option S)) (vs' : List V)
       → Homes s.homes homes' place slot'
       → At record { words = set s.words (word_at place (word_offset name)) n; homes = homes'; views = vs' } (put ghosts place g) place
         ≡ record { row = write word_offset (At s ghosts place).row name n; slot = slot'; ghost = g }
   at_place s ghosts place inside wide name n g homes' slot' vs' moved = same_spot _ _
-      (λ i w. set_word s.words place (word_offset name) (word_offset w) n (let l = word_inside place (word_offset name) places (words_few name) inside in omega arith) i)
+      (λ i w. set_word s.words place (word_offset name) (word_offset w) n (let l = word_inside place (word_offset name) places (words_few name)
+          inside in omega arith) i)
       (λ i p. moved.mine p i)
       (put_here ghosts place g)
 
-  elsewhere : (s : State S V) (ghosts : ℕ → G) (place : ℕ) (name : W) (n : ℕ) (g : G) (homes' : List (Option S)) (slot' : P → Option (Option S)) (vs' : List V)
+  elsewhere : (s : State S V) (ghosts : ℕ → G) (place : ℕ) (name : W) (n : ℕ) (g : G) (homes' : List (Option S)) (slot' : P → Option (Option S))
+      (vs' : List V)
       → Homes s.homes homes' place slot' → (a : ℕ) → a ≢ place
       → At record { words = set s.words (word_at place (word_offset name)) n; homes = homes'; views = vs' } (put ghosts place g) a ≡ At s ghosts a
   elsewhere s ghosts place name n g homes' slot' vs' moved a other = same_spot _ _
-      (λ i w. get_or-set_other s.words (word_at place (word_offset name)) (word_at a (word_offset w)) n 0 (words_apart a place (word_offset w) (word_offset name) (words_few w) (words_few name) other) i)
+      (λ i w. get_or-set_other s.words (word_at place (word_offset name)) (word_at a (word_offset w)) n 0 (words_apart a place (word_offset w)
+          (word_offset name) (words_few w) (words_few name) other) i)
       (λ i p. moved.others a p other i)
       (put_else ghosts place g a other)
 
   -- one place changes: a word of it, its slots, what is kept of it, and the views
-  pub changes : (s : State S V) (r : Rule s) (place : ℕ) → place < places → (name : W) (n : ℕ) (g : G) (homes' : List (Option S)) (slot' : P → Option (Option S)) (vs' : List V)
+  pub changes : (s : State S V) (r : Rule s) (place : ℕ) → place < places → (name : W) (n : ℕ) (g : G) (homes' : List (Option S)) (slot' : P →
+      Option (Option S)) (vs' : List V)
       → Homes s.homes homes' place slot'
       → Fact place (record { row = write word_offset (At s r.ghosts place).row name n; slot = slot'; ghost = g }) vs'
       → ((a : ℕ) → a ≢ place → (y : Spot W P S G) → Fact a y s.views → Fact a y vs')
@@ -74,9 +85,11 @@ module _ {W P S G V : Type 0} (word_offset : W → ℕ) (slot_offset : P → ℕ
     wide = length-set s.words (word_at place (word_offset name)) n ∙ r.wide;
     deep = moved.long ∙ r.deep;
     each = λ a l. dite (ℕ_discrete a place)
-        (λ e. subst (λ z. Fact z (At record { words = set s.words (word_at place (word_offset name)) n; homes = homes'; views = vs' } (put r.ghosts place g) z) vs') (sym e)
+        (λ e. subst (λ z. Fact z (At record { words = set s.words (word_at place (word_offset name)) n; homes = homes'; views = vs' } (put
+            r.ghosts place g) z) vs') (sym e)
           (subst (λ y. Fact place y vs') (sym (at_place s r.ghosts place inside r.wide name n g homes' slot' vs' moved)) here))
-        (λ other. subst (λ y. Fact a y vs') (sym (elsewhere s r.ghosts place name n g homes' slot' vs' moved a other)) (others a other (At s r.ghosts a) (r.each a l)));
+        (λ other. subst (λ y. Fact a y vs') (sym (elsewhere s r.ghosts place name n g homes' slot' vs' moved a other)) (others a other (At s
+            r.ghosts a) (r.each a l)));
   }
 
   -- a step of one place is a step of the table
@@ -108,7 +121,8 @@ module _ {W P S G V : Type 0} (word_offset : W → ℕ) (slot_offset : P → ℕ
 
   -- a seat takes over another's view
   pub joins : (id : ℕ) (v : V) (other : ℕ) (w both spent : V)
-      → ((a : ℕ) (x : Spot W P S G) (vs : List V) → get_elem? vs id ≡ some v → ¬ (other ≡ id) → get_elem? (set vs id both) other ≡ some w → Fact a x vs → Fact a x (set (set vs id both) other spent))
+      → ((a : ℕ) (x : Spot W P S G) (vs : List V) → get_elem? vs id ≡ some v → ¬ (other ≡ id) → get_elem? (set vs id both) other ≡ some w → Fact
+          a x vs → Fact a x (set (set vs id both) other spent))
       → Joins Rule id v other w both spent
   joins id v other w both spent step s r at apart there = record {
     ghosts = r.ghosts;

@@ -5,7 +5,8 @@ use Rattle.atomic_table.specs.Table.{State, Me, Act, keeps, takes, gives, carrie
 use Rattle.mb_rule.specs.Layout.{slot_at, Spot, spot_of, write, fill}
 
 -- there are so many places, and of each the fact holds
-pub record Ruled {W P S G V : Type 0} (word_offset : W → ℕ) (slot_offset : P → ℕ) (places : ℕ) (Fact : ℕ → Spot W P S G → List V → Type 0) (s : State S V) : Type 0 where
+pub record Ruled {W P S G V : Type 0} (word_offset : W → ℕ) (slot_offset : P → ℕ) (places : ℕ) (Fact : ℕ → Spot W P S G → List V → Type 0) (s :
+    State S V) : Type 0 where
   pub ghosts : ℕ → G
   pub wide : length s.words ≡ 16 * places
   pub deep : length s.homes ≡ 2 * places
@@ -38,11 +39,13 @@ module _ {W P S G V : Type 0} (word_offset : W → ℕ) (slot_offset : P → ℕ
   -- The step of one seat at this place, which writes n into the word with this name: the view that the seat has after it, what it
   -- does with a slot, and what is kept of the place besides; the fact holds there again, and of the other places still; and what the
   -- step tells
-  pub record Goes (Fact : ℕ → Spot W P S G → List V → Type 0) (place id : ℕ) (me : Me S V) (name : W) (n : ℕ) (tell : Me S V → Type 0) (x : Spot W P S G) (vs : List V) : Type 0 where
+  pub record Goes (Fact : ℕ → Spot W P S G → List V → Type 0) (place id : ℕ) (me : Me S V) (name : W) (n : ℕ) (tell : Me S V → Type 0) (x : Spot
+      W P S G) (vs : List V) : Type 0 where
     pub view : V
     pub deed : Deed P S
     pub kept : G
     pub able : IsAble slot_offset place x.slot me.1 deed
-    pub here : Fact place (record { row = write word_offset x.row name n; slot = slot_after slot_offset x.slot deed; ghost = kept }) (slice_set vs id view)
+    pub here : Fact place (record { row = write word_offset x.row name n; slot = slot_after slot_offset x.slot deed; ghost = kept }) (slice_set
+        vs id view)
     pub others : (a : ℕ) → a ≢ place → (y : Spot W P S G) → Fact a y vs → Fact a y (slice_set vs id view)
     pub tells : tell (view, carried_after me.1 (act_of slot_offset place deed))

@@ -14,7 +14,9 @@ store-requires g c =
     let list = c.push.ensures.list ∙ ap (λ b. if b then c.args.list else with_last c.args.list c.args.node) c.requires.not_ended in (
       search rules,
       search rules,
-      enlists_allowed g.H.Resident.is_of g.H.Resident.journal g.H.Resident.mailbox g.H.Resident.rested _ _ _ _ c.args.id.0 _ (let k = c.args.self.now.keyed in let t = c.requires.there in omega arith) l c.args.node _ c.word_index-gate.ensures (ap (λ m. m.0.list) laid ∙ lent.has) refl (laid_back c.args.id.0 _ _ c.args.seat.now.me _ laid list)
+      enlists_allowed g.H.Resident.is_of g.H.Resident.journal g.H.Resident.mailbox g.H.Resident.rested _ _ _ _ c.args.id.0 _ (let k =
+          c.args.self.now.keyed in let t = c.requires.there in omega arith) l c.args.node _ c.word_index-gate.ensures (ap (λ m. m.0.list) laid ∙
+          lent.has) refl (laid_back c.args.id.0 _ _ c.args.seat.now.me _ laid list)
           (c.with_listed_bit-new.ensures ∙ word_listed c.args.word c.args.list lent.gave c.args.node lent.found),
     )
 
@@ -24,4 +26,5 @@ returns-clause-listed g c =
     let l : Lent = record { actor = c.args.id.0; listed = c.args.list; gave = lent.gave } in
     let laid = c.lay_list.ensures.carries in
     let list = c.push.ensures.list ∙ ap (λ b. if b then c.args.list else with_last c.args.list c.args.node) c.requires.not_ended in
-    c.store.ensures.2 c.args.id.0 l c.args.node (ap (λ m. m.0.list) laid ∙ lent.has) (laid_back c.args.id.0 _ _ c.args.seat.now.me _ laid list) ∙ ap (λ m. (enlisting c.args.id.0 c.args.node m.0, rest m.1)) laid
+    c.store.ensures.2 c.args.id.0 l c.args.node (ap (λ m. m.0.list) laid ∙ lent.has) (laid_back c.args.id.0 _ _ c.args.seat.now.me _ laid list) ∙
+        ap (λ m. (enlisting c.args.id.0 c.args.node m.0, rest m.1)) laid
