@@ -1,5 +1,5 @@
 -- The worked documents: what is found in each is computed from the definition.
-use Rattle.std.proofs.Common.{◌≡◌, ℕ, List, codes, Option, Some, None, option_map, refl}
+use Rattle.std.proofs.Common.{◌≡◌, ℕ, List, codes, Option, Some, option_map, refl}
 use Rattle.std.specs.Fmt.{digits}
 use Rattle.toml.proofs.OnLiterals.{toml_on_literals}
 use Rattle.toml.specs.Parse.{parse_document}
@@ -39,7 +39,8 @@ parent_unknown : found_in (codes "[[actor]]\nname = \"a\"\nparent = \"x\"\n") �
 unfolding toml_on_literals digits
 parent_unknown = refl
 
-parent_later : found_in (codes "[[actor]]\nname = \"a\"\nparent = \"b\"\n[[actor]]\nname = \"b\"\nparent = \"a\"\n") ≡ fault (codes "actor 1 parent") UnknownName
+parent_later : found_in (codes "[[actor]]\nname = \"a\"\nparent = \"b\"\n[[actor]]\nname = \"b\"\nparent = \"a\"\n")
+    ≡ fault (codes "actor 1 parent") UnknownName
 unfolding toml_on_literals digits
 parent_later = refl
 
@@ -47,7 +48,8 @@ capacity_zero : found_in (codes "[[actor]]\nname = \"a\"\nmailbox = \"bounded\"\
 unfolding toml_on_literals digits
 capacity_zero = refl
 
-add_with_a_number : found_in (codes "[[actor]]\nname = \"a\"\n[[actor.on]]\nkind = 1\ndo = [\"add 1\"]\n") ≡ fault (codes "actor 1 on 1 do 1") BadOp
+add_with_a_number : found_in (codes "[[actor]]\nname = \"a\"\n[[actor.on]]\nkind = 1\ndo = [\"add 1\"]\n")
+    ≡ fault (codes "actor 1 on 1 do 1") BadOp
 unfolding toml_on_literals digits
 add_with_a_number = refl
 

@@ -1,5 +1,5 @@
 -- What is wrong with a document: the checks, in their order (this project's own profile).
-use Rattle.std.specs.Prelude.{ℕ, ◌+◌, List, [], ◌∷◌, ◌++◌, map, codes, Bool, true, false, Option, Some, None, if◌then◌else◌, option_map, is_some}
+use Rattle.std.specs.Prelude.{ℕ, ◌+◌, List, [], ◌∷◌, ◌++◌, map, codes, Bool, Option, Some, None, if◌then◌else◌, option_map, is_some}
 use Rattle.std.specs.List.{list_any}
 use Rattle.std.specs.Str.{bytes_eq}
 use Rattle.toml.specs.Data.{Data, Items, no_items, item, Members, no_members, member, get_member, as_table, as_str}
@@ -7,7 +7,7 @@ use Rattle.mb_format.specs.Context.{Around, KinData}
 use Rattle.mb_format.specs.Format.{KeyData, top_keys, name_key, other_actor_keys, actor_keys, send_keys, row_keys}
 use Rattle.mb_format.specs.Name.{is_name}
 use Rattle.mb_format.specs.Operation.{op_of, op_reason}
-use Rattle.mb_format.specs.Place.{Fault, first, when, entry_text}
+use Rattle.mb_format.specs.Place.{Fault, first, entry_text}
 use Rattle.mb_format.specs.Value.{items_of, key_reason, text_of, text_or}
 use Rattle.mb_format.specs.declared.finding.Reason.{Reason}
 use Rattle.mb_format.specs.declared.finding.Reason.TheVariants.{UnknownKey, WrongType}

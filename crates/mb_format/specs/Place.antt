@@ -7,7 +7,8 @@ use Rattle.mb_format.specs.declared.finding.Finding.{Finding}
 use Rattle.mb_format.specs.declared.finding.Place.{Place}
 use Rattle.mb_format.specs.declared.finding.Place.TheVariants as place
 use Rattle.mb_format.specs.declared.finding.Reason.{Reason}
-use Rattle.mb_format.specs.declared.finding.Reason.TheVariants.{UnknownKey, Missing, WrongType, NotAllowed, OutOfRange, TooMany, UnknownName, RepeatedName, BadOp}
+use Rattle.mb_format.specs.declared.finding.Reason.TheVariants.{UnknownKey, Missing, WrongType, NotAllowed, OutOfRange, TooMany, UnknownName}
+use Rattle.mb_format.specs.declared.finding.Reason.TheVariants.{RepeatedName, BadOp}
 
 -- a position in an array, as it is printed
 abbrev pub entry_text : List ℕ → ℕ → List ℕ

@@ -1,5 +1,6 @@
 -- What is wrong with the value of a key (this project's own profile).
-use Rattle.std.specs.Prelude.{ℕ, ℤ, pos, negsuc, ◌+◌, List, [], ◌∷◌, codes, Bool, true, false, not, ◌&&◌, ◌||◌, nat_le, Option, Some, None, is_some, drop, take, unwrap_or}
+use Rattle.std.specs.Prelude.{ℕ, ℤ, pos, negsuc, ◌+◌, List, [], ◌∷◌, codes, Bool, true, false, not, ◌&&◌, ◌||◌, nat_le, Option, Some, None}
+use Rattle.std.specs.Prelude.{is_some, drop, take, unwrap_or}
 use Rattle.std.specs.List.{list_any}
 use Rattle.std.specs.Str.{bytes_eq}
 use Rattle.toml.specs.Data.{Data, Items, no_items, item, Members, get_member, as_str, as_integer, as_bool, as_array}

@@ -17,11 +17,9 @@ mod tables;
 mod unknown;
 mod value;
 
-pub use context::{Context, Kin};
+pub use context::Kin;
 pub use document::{check_document, items_at};
 pub use finding::{Finding, Place, Reason};
-pub use form::{Form, Only, Rows, Words};
-pub use key::Key;
 pub use kin::all_kin;
 pub use name::{is_name, is_text};
 pub use number::number_of;

@@ -1,5 +1,5 @@
 -- What a document that passes all checks says of the system (this project's own profile).
-use Rattle.std.specs.Prelude.{ℕ, ℤ, pos, negsuc, ◌+◌, ◌==◌, List, [], codes, Bool, false, Option, Some, None, drop, if◌then◌else◌, max, unwrap_or}
+use Rattle.std.specs.Prelude.{ℕ, ℤ, negsuc, ◌+◌, ◌==◌, List, codes, Bool, false, Option, Some, None, drop, if◌then◌else◌, max, unwrap_or}
 use Rattle.std.specs.Str.{bytes_eq}
 use Rattle.toml.specs.Data.{Data, Members, get_member}
 use Rattle.mb_format.specs.Check.{all_kin, items_in}
@@ -55,7 +55,8 @@ rank_of d = record { kind = number_or 0 (field (codes "kind") d); rank = number_
 abbrev pub mailbox_of : List ℕ → Data → KindData
 mailbox_of word d =
     if bytes_eq word (codes "bounded") then bounded (number_or 0 (field (codes "capacity") d))
-    else (if bytes_eq word (codes "priority") then priority (map_items rank_of (items_in (field (codes "rank") d))) (number_or 1 (field (codes "other") d))
+    else (if bytes_eq word (codes "priority")
+        then priority (map_items rank_of (items_in (field (codes "rank") d))) (number_or 1 (field (codes "other") d))
     else (if bytes_eq word (codes "control") then control
     else unbounded))
 

@@ -1,10 +1,10 @@
 -- The scripts of a document that passes all checks (this project's own profile).
-use Rattle.std.specs.Prelude.{ℕ, pos, List, [], codes, Option, Some, None, option_map}
+use Rattle.std.specs.Prelude.{ℕ, pos, List, codes, Option, Some, None, option_map}
 use Rattle.toml.specs.Data.{Data}
 use Rattle.mb_format.specs.Check.{items_in}
 use Rattle.mb_format.specs.Context.{KinData}
 use Rattle.mb_format.specs.Operation.{OpData, add, ignore, fail, about, op_of}
-use Rattle.mb_format.specs.Value.{items_of, text_of}
+use Rattle.mb_format.specs.Value.{text_of}
 use Rattle.mb_format.specs.declared.operation.Verb.{Verb}
 use Rattle.mb_format.specs.declared.operation.Verb.TheVariants as verb
 use Rattle.mb_msg.specs.declared.id.ActorId.{ActorId}

@@ -23,7 +23,8 @@ abbrev pub send_of : List KinData → Data → Sending
 send_of kin d = record {
   from = number_or 0 (field (codes "from") d);
   to = id_of kin (text_or (codes "") (field (codes "to") d));
-  what = what_of (text_or (codes "user") (field (codes "what") d)) (number_or 0 (field (codes "kind") d)) (integer_or (pos 0) (field (codes "value") d));
+  what = what_of (text_or (codes "user") (field (codes "what") d)) (number_or 0 (field (codes "kind") d)) (integer_or (pos 0) (field
+      (codes "value") d));
   times = number_or 1 (field (codes "times") d);
 }
 

@@ -5,7 +5,7 @@ use Rattle.mb_msg.specs.declared.system.SysMsg.{SysMsg}
 use Rattle.mb_msg.specs.declared.system.SysMsg.TheVariants as system
 use Rattle.mb_journal.specs.Entry.{Entry}
 use Rattle.mb_journal.specs.Entry.Entry.{Handled, System, Dropped}
-use Rattle.mb_journal.specs.Entry.Outcome.{Applied, SetAside}
+use Rattle.mb_journal.specs.Entry.Outcome.{Applied}
 use Rattle.mb_report.specs.declared.report.ActorReport.{ActorReport}
 use Rattle.mb_report.specs.declared.report.SenderReport.{SenderReport}
 

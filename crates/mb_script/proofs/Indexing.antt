@@ -1,5 +1,5 @@
 -- What an index of rows finds.
-use Rattle.std.proofs.Common.{◌≡◌, ℕ, ◌<◌, List, length, get_or, map, Option, Some, None, option_map, sym, ap, ◌∙◌, nat_cmp, BTreeMap}
+use Rattle.std.proofs.Common.{◌≡◌, ℕ, ◌<◌, List, length, get_or, map, Some, None, option_map, sym, ap, ◌∙◌, nat_cmp, BTreeMap}
 use Rattle.std.proofs.lemmas.List.{get_or-map}
 use Rattle.std.specs.BTreeMap.{get}
 use Rattle.mb_script.specs.Index.{IsIndexFrom}

@@ -7,7 +7,7 @@ use Rattle.mb_actor.specs.declared.answer.Answer.TheVariants.{Handled, Failed}
 use Rattle.mb_actor.specs.declared.effect.Effect.{Effect}
 use Rattle.mb_actor.specs.declared.effect.Effect.TheVariants as effect
 use Rattle.mb_script.specs.declared.operation.Operation.{Operation}
-use Rattle.mb_script.specs.declared.operation.Operation.TheVariants.{Add, Ignore, Fail, Tell, Control, Watch, Unwatch, Stop, Spawn}
+use Rattle.mb_script.specs.declared.operation.Operation.TheVariants.{Add, Fail, Tell, Control, Watch, Unwatch, Stop, Spawn}
 
 -- the operations that are done: those before the first `fail`
 abbrev pub done : List Operation → List Operation

@@ -1,5 +1,5 @@
 -- What a script does with the calls of its actor (this project's own profile: in Akka it is the actor's own code).
-use Rattle.std.specs.Prelude.{◌≡◌, ℕ, ℤ, pos, List, [], ◌∷◌, ◌==◌, fold, map, Option, Some, None, option_map, if◌then◌else◌}
+use Rattle.std.specs.Prelude.{◌≡◌, ℕ, ℤ, pos, List, [], ◌∷◌, ◌==◌, fold, Option, Some, None, option_map, if◌then◌else◌}
 use Rattle.mb_actor.specs.Behaviour.{Moment, Reply}
 use Rattle.mb_actor.specs.Tray.{Tray}
 use Rattle.mb_actor.specs.declared.answer.Answer.{Answer}

@@ -1,4 +1,4 @@
-ghost use Rattle.std.specs.Prelude.{◌≡◌, [], ◌∷◌, IfOk};
+ghost use Rattle.std.specs.Prelude.{◌≡◌, ◌<◌, [], ◌∷◌, IfOk};
 
 use super::*;
 use mb_actor::{Actor, Answer, Effect, Message, Outbox};
@@ -181,5 +181,35 @@ fn does_what_its_hooks_say(rt: HostRuntime) -> Result<(), Fail> {
         }]
         .as_slice()
     );
+    Ok(())
+}
+
+/// The state of an actor with so many rows, each of which adds, after a million messages of all kinds in turn.
+fn after_a_million(alloc: Global, kinds: u32) -> Result<i64, Fail>
+    requires { 0 < kinds }
+{
+    let mut rows = Vec::new(alloc);
+    for kind in 0..kinds {
+        let operations = vec![in alloc; Operation::Add]?;
+        rows.push(Row { kind, operations })?;
+    }
+    let mut script = with_rows(alloc, 0, rows)?;
+    let mut out = outbox(alloc)?;
+    for number in 0..1_000_000u32 {
+        out.clear();
+        let _ = script.receive(&user(number % kinds, 1), &mut out);
+    }
+    Ok(script.state())
+}
+
+#[test]
+fn finds_a_row_among_ten(rt: HostRuntime) -> Result<(), Fail> {
+    assert_eq!(rt; after_a_million(rt.alloc(), 10)?, 1_000_000);
+    Ok(())
+}
+
+#[test]
+fn finds_a_row_among_a_thousand(rt: HostRuntime) -> Result<(), Fail> {
+    assert_eq!(rt; after_a_million(rt.alloc(), 1_000)?, 1_000_000);
     Ok(())
 }

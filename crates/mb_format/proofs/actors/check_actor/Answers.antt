@@ -1,4 +1,4 @@
-use Rattle.std.proofs.Common.{◌+◌, Option, Some, codes, map, subst}
+use Rattle.std.proofs.Common.{◌+◌, Option, codes, map, subst}
 use Rattle.toml.specs.Data.{Members}
 use Rattle.toml.specs.View.{table_view, view}
 use Rattle.mb_format.specs.Check.{actor_table_check, around_actor, entry_check}

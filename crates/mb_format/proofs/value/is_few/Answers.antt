@@ -1,4 +1,4 @@
-use Rattle.std.proofs.Common.{length, nat_le, ap, sym, ◌∙◌}
+use Rattle.std.proofs.Common.{nat_le, ap, sym, ◌∙◌}
 use Rattle.toml.specs.View.{view}
 use Rattle.mb_format.proofs.Values.{item_count-view}
 use Rattle.mb_format.specs.Value.{item_count, is_few}

@@ -1,4 +1,4 @@
-use Rattle.std.proofs.Common.{◌≡◌, ◌++◌, drop, map}
+use Rattle.std.proofs.Common.{◌≡◌, ◌++◌, drop}
 use Rattle.toml.specs.View.{items_view}
 use Rattle.mb_reader.specs.Plans.{strategy_row_of}
 use Rattle.mb_reader.specs.Fields.{map_items}

@@ -1,4 +1,4 @@
-use Rattle.std.proofs.Common.{◌≡◌, ◌+◌, ◌≤◌, length, take, reverse, count_by, ap, ◌∙◌, arith}
+use Rattle.std.proofs.Common.{◌+◌, ◌≤◌, reverse, count_by, ap, ◌∙◌, arith}
 use Rattle.std.proofs.lemmas.List.{take_all, length-reverse}
 use Rattle.mb_journal.specs.Log.{entry_of}
 use Rattle.mb_report.proofs.Counted.{count_next, count_by-reverse}

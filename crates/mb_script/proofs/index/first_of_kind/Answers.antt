@@ -1,5 +1,4 @@
-use Rattle.std.proofs.Common.{[], ap, sym, ◌∙◌}
-use Rattle.std.specs.Option.{option_copied}
+use Rattle.std.proofs.Common.{[], sym}
 use Rattle.mb_script.proofs.Indexing.{index_finds, index_misses}
 use Rattle.mb_script.proofs.index.first_of_kind.Goals as goal
 

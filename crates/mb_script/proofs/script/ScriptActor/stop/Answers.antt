@@ -1,6 +1,5 @@
-use Rattle.std.proofs.Common.{ap, sym, refl}
+use Rattle.std.proofs.Common.{refl}
 use Rattle.mb_script.proofs.Keeping.{script_keeps}
-use Rattle.mb_script.specs.Script.{Scripted}
 use Rattle.mb_script.proofs.script.ScriptActor.stop.Goals as goal
 
 pub returns-clause-kept : goal.returns-clause-kept
