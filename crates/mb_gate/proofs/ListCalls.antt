@@ -1,6 +1,35 @@
 -- A list that was taken out and given back, and its gate's words.
-use Rattle.std.proofs.Common.{◌≡◌, ◌≢◌, ℕ, ◌+◌, ◌/◌, ◌%◌, ◌==◌, ◌<◌, if◌then◌else◌, Bool, true, false, not, IsTrue, List, [], ◌∷◌, ◌++◌, sym,
-    refl, ap, ◌∙◌, subst, Some, None, eq-eqb, ne_eqb, append-nil, arith}
+use Rattle.std.proofs.Common.{
+  ◌≡◌,
+  ◌≢◌,
+  ℕ,
+  ◌+◌,
+  ◌/◌,
+  ◌%◌,
+  ◌==◌,
+  ◌<◌,
+  if◌then◌else◌,
+  Bool,
+  true,
+  false,
+  not,
+  IsTrue,
+  List,
+  [],
+  ◌∷◌,
+  ◌++◌,
+  sym,
+  refl,
+  ap,
+  ◌∙◌,
+  subst,
+  Some,
+  None,
+  eq-eqb,
+  ne_eqb,
+  append-nil,
+  arith,
+}
 use mathlib.Core.Logic.{dite}
 use native.Mathlib.Decide.{ℕ_discrete}
 use Rattle.atomic_table.specs.Table.{Me, rest}
@@ -39,16 +68,22 @@ module _ {H : Type 0} (actor found slot : ℕ) (m m1 : Me (Slot H) View) (grip :
   pub is_list : r ≡ Listing grip.listed
   is_list = ap (λ (z : ℕ × Slot H). z.1) (head_same _ _ _ _ carried_now)
 
-  pub lent_by : (word : ℕ) (list : MessageList) (m2 : Me (Slot H) View) → found ≡ word → r ≡ Listing list → m2 ≡ (m1.0, (slot, Empty) ∷ rest
-      m1.1) → IsLentBy actor word list m m2
+  pub lent_by : (word : ℕ) (list : MessageList) (m2 : Me (Slot H) View) → found ≡ word → r ≡ Listing list → m2 ≡ (
+    m1.0,
+    (slot, Empty) ∷ rest
+        m1.1,
+  ) → IsLentBy actor word list m m2
   lent_by word list m2 is_word is now =
       let same : grip.listed ≡ list = list_same {H = H} grip.listed list (sym is_list ∙ is) in
       let where_is : slot ≡ slot_at actor 1 = ap (λ (z : ℕ × Slot H). z.0) (head_same _ _ _ _ carried_now) in
       let others : rest m1.1 ≡ m.1 = rest_same _ _ _ _ carried_now in record {
         gave = grip.gave;
         found = sym is_word ∙ (grip.word ∙ ap (λ l. gate_word false l grip.gave) same);
-        now = now ∙ (λ i. ((ap (λ (z : Me (Slot H) View). z.0) grip.now ∙ ap (λ l. lending actor l grip.gave m.0) same) i, (where_is i, Empty) ∷
-            others i));
+        now = now ∙ (λ i. (
+          (ap (λ (z : Me (Slot H) View). z.0) grip.now ∙ ap (λ l. lending actor l grip.gave m.0) same) i,
+          (where_is i, Empty) ∷
+              others i,
+        ));
       }
 
 more_items : (l : List SysMsg) (m : SysMsg) → is_some_item (l ++ m ∷ []) ≡ true

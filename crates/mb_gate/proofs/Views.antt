@@ -1,6 +1,27 @@
 -- What a step at one actor leaves of a view towards the others.
-use Rattle.std.proofs.Common.{◌≡◌, ◌≢◌, ℕ, ◌+◌, ◌==◌, if◌then◌else◌, Bool, true, false, List, [], ◌++◌, sym, refl, ap, ◌∙◌, Some, None, eq-eqb,
-    ne_eqb, append_assoc}
+use Rattle.std.proofs.Common.{
+  ◌≡◌,
+  ◌≢◌,
+  ℕ,
+  ◌+◌,
+  ◌==◌,
+  if◌then◌else◌,
+  Bool,
+  true,
+  false,
+  List,
+  [],
+  ◌++◌,
+  sym,
+  refl,
+  ap,
+  ◌∙◌,
+  Some,
+  None,
+  eq-eqb,
+  ne_eqb,
+  append_assoc,
+}
 use Rattle.mb_journal.specs.Entry.{Entry}
 use Rattle.mb_core.specs.declared.debt.Debt.{Debt}
 use Rattle.mb_core.specs.Actor.{nothing}
@@ -35,8 +56,11 @@ pub extends_self : (j : List Entry) → Extends j j
 extends_self j = record { newer = []; joined = refl }
 
 pub extends_more : (j k l : List Entry) → Extends j k → Extends k l → Extends j l
-extends_more j k l a b = record { newer = a.newer ++ b.newer; joined = a.joined ∙ (ap (λ z. a.newer ++ z) b.joined ∙ sym (append_assoc a.newer
-    b.newer l)) }
+extends_more j k l a b = record {
+  newer = a.newer ++ b.newer;
+  joined = a.joined ∙ (ap (λ z. a.newer ++ z) b.joined ∙ sym (append_assoc a.newer
+      b.newer l));
+}
 
 -- Towards this actor, w is as v: of its cell, its list and what is owed; and what it has seen is so where what v has seen is.
 pub record Elsewhere (H : Type 0) (actor : ℕ) (v w : View) : Type 0 where
@@ -47,8 +71,16 @@ pub record Elsewhere (H : Type 0) (actor : ℕ) (v w : View) : Type 0 where
 
 module _ {H : Type 0} where
   pub owing_elsewhere : (actor other : ℕ) (d : Debt) (v : View) → other ≢ actor → Elsewhere H other v (owing actor d v)
-  owing_elsewhere actor other d v n = record { claim = refl; list = refl; debt = owes_else actor other d v n; knows = λ x k. record { seen =
-      k.seen; said = k.said } }
+  owing_elsewhere actor other d v n = record {
+    claim = refl;
+    list = refl;
+    debt = owes_else actor other d v n;
+    knows = λ x k. record {
+      seen =
+          k.seen;
+      said = k.said;
+    };
+  }
 
   pub reading_elsewhere : (actor other word : ℕ) (v : View) → other ≢ actor → Elsewhere H other v (reading actor word v)
   reading_elsewhere actor other word v n = record {
@@ -93,8 +125,11 @@ module _ {H : Type 0} where
       → ((s : Said) → IsTold actor x s → IsTold actor y s) → Knows actor x v → Knows actor y v
   goes_on actor x y v closed longer told k = record {
     seen = each_weaker (IsSo actor x) (IsSo actor y) v.log
-        (λ s. elim s as (λ z. IsSo actor x z → IsSo actor y z) [ Read a word ↦ (λ h e one. closed (h e one)) | Saw a j ↦ (λ h e. extends_more
-            y.ghost.journal x.ghost.journal j longer (h e)) ]) k.seen;
+        (λ s. elim s as (λ z. IsSo actor x z → IsSo actor y z) [
+          | Read a word ↦ (λ h e one. closed (h e one))
+          | Saw a j ↦ (λ h e. extends_more
+              y.ghost.journal x.ghost.journal j longer (h e))
+        ]) k.seen;
     said = each_weaker (IsTold actor x) (IsTold actor y) v.said told k.said;
   }
 

@@ -13,8 +13,24 @@ use Rattle.mb_rule.proofs.OwedLemmas.{pays, still_owed}
 use Rattle.mb_rule.proofs.SeenLemmas.{learns}
 use Rattle.mb_gate.specs.declared.slot.Slot.{Slot}
 use Rattle.mb_gate.specs.View.{View, Held, owes, owing, sending, unsending, counting, looking}
-use Rattle.mb_gate.specs.Rule.{Word, Gate, Waiting, word_offset, Shelf, slot_offset, Ghost, claim_for, list_for, Knows, MessageDue, SystemDue,
-    PaysMessage, PaysSystem, has_work, Fact}
+use Rattle.mb_gate.specs.Rule.{
+  Word,
+  Gate,
+  Waiting,
+  word_offset,
+  Shelf,
+  slot_offset,
+  Ghost,
+  claim_for,
+  list_for,
+  Knows,
+  MessageDue,
+  SystemDue,
+  PaysMessage,
+  PaysSystem,
+  has_work,
+  Fact,
+}
 use Rattle.mb_gate.proofs.Views.{owes_here, extends_self, owing_elsewhere, goes_on}
 use Rattle.mb_gate.proofs.Facts.{still_kept, still_shelved, views_change, elsewhere, load_here}
 use Rattle.mb_gate.proofs.StatusSteps.{is_held}
@@ -33,7 +49,7 @@ module _ {H : Type 0} (is_of : ℕ → H → Type 0) (journal : H → List Entry
   -- the waiting number changes, and the seat owes a wake-up where one is due
   recounts : (actor id n : ℕ) (d : Debt) (me : M) (tell : M → Type 0) (x : Place) (vs : List View) → F actor x vs → get_elem? vs id ≡ some me.0
       → IsTrue (d.message || d.sending) → d.system ≡ (owes actor me.0).system → tell (owing actor d me.0, me.1) → Goes word_offset slot_offset F
-          actor id me Waiting n tell x vs
+      actor id me Waiting n tell x vs
   recounts actor id n d me tell x vs f at owed same told =
       let v = me.0 in
       let w = owing actor d v in
@@ -56,7 +72,7 @@ module _ {H : Type 0} (is_of : ℕ → H → Type 0) (journal : H → List Entry
               z.system) (sym (owes_here actor d v)) (subst IsTrue (sym same) p)) f.system;
           seen = let k = goes_on actor x y v (λ one. one) (extends_self x.ghost.journal) (λ s t. t) (f.seen id v at) in
               learns (Knows actor x) (Knows actor y) vs id w (λ u. goes_on actor x y u (λ one. one) (extends_self x.ghost.journal) (λ s t. t))
-                  (record { seen = k.seen; said = k.said }) f.seen;
+              (record { seen = k.seen; said = k.said }) f.seen;
         };
         others = λ a z y g. elsewhere is_of journal mailbox rested a y vs id v w at (owing_elsewhere actor a d v z) g;
         tells = told;
@@ -102,10 +118,15 @@ module _ {H : Type 0} (is_of : ℕ → H → Type 0) (journal : H → List Entry
           system = still_owed (PaysSystem actor) (SystemDue x) (SystemDue y) vs id v v at (λ due. due) (λ _ p. p) f.system;
           seen = let k = goes_on actor x y v (λ one. one) (extends_self x.ghost.journal) (λ s t. t) (f.seen id v at) in
               learns (Knows actor x) (Knows actor y) vs id v (λ u. goes_on actor x y u (λ one. one) (extends_self x.ghost.journal) (λ s t. t))
-                  (record { seen = k.seen; said = k.said }) f.seen;
+              (record { seen = k.seen; said = k.said }) f.seen;
         };
-        others = λ a z y g. elsewhere is_of journal mailbox rested a y vs id v v at (record { claim = refl; list = refl; debt = refl; knows = λ _
-            k. record { seen = k.seen; said = k.said } }) g;
+        others = λ a z y g. elsewhere is_of journal mailbox rested a y vs id v v at (record {
+          claim = refl;
+          list = refl;
+          debt = refl;
+          knows = λ _
+              k. record { seen = k.seen; said = k.said };
+        }) g;
         tells = told;
       }
 
@@ -113,7 +134,7 @@ module _ {H : Type 0} (is_of : ℕ → H → Type 0) (journal : H → List Entry
   pub finds : (actor id : ℕ) (name : Word) (d : Debt) (me : M) (tell : M → Type 0) (x : Place) (vs : List View) → F actor x vs → get_elem? vs id
       ≡ some me.0
       → (MessageDue x → IsTrue ((owes actor me.0).message || (owes actor me.0).sending) → IsTrue (d.message || d.sending)) → (SystemDue x →
-          IsTrue (owes actor me.0).system → IsTrue d.system)
+      IsTrue (owes actor me.0).system → IsTrue d.system)
       → tell (owing actor d me.0, me.1) → Goes word_offset slot_offset F actor id me name (x.row name) tell x vs
   finds actor id name d me tell x vs f at message system told = let v = me.0 in let w = owing actor d v in record {
     view = w;
@@ -137,15 +158,20 @@ module _ {H : Type 0} (is_of : ℕ → H → Type 0) (journal : H → List Entry
     able = tt;
     here = load_here is_of journal mailbox rested actor x (set vs id v) name (views_change is_of journal mailbox rested actor x vs id v v at refl
         refl (λ _ p. p) (λ _ p. p) (λ k. record { seen = k.seen; said = k.said }) f);
-    others = λ a n y g. elsewhere is_of journal mailbox rested a y vs id v v at (record { claim = refl; list = refl; debt = refl; knows = λ _ k.
-        record { seen = k.seen; said = k.said } }) g;
+    others = λ a n y g. elsewhere is_of journal mailbox rested a y vs id v v at (record {
+      claim = refl;
+      list = refl;
+      debt = refl;
+      knows = λ _ k.
+          record { seen = k.seen; said = k.said };
+    }) g;
     tells = told;
   }
 
   counts_as : (actor id : ℕ) (me : M) (tell : M → Type 0) (x : Place) (vs : List View) (b : Bool) → (x.row Waiting == 0) ≡ b → F actor x vs →
       get_elem? vs id ≡ some me.0
       → tell ((if b then owing actor (record (owes actor me.0) { message = false }) me.0 else me.0), me.1) → Goes word_offset slot_offset F actor
-          id me Waiting (x.row Waiting) tell x vs
+      id me Waiting (x.row Waiting) tell x vs
   counts_as actor id me tell x vs true is f at told = finds actor id Waiting (record (owes actor me.0) { message = false }) me tell x vs f at
       (λ due. absurd (let zero : x.row Waiting ≡ 0 = eqb-true (x.row Waiting) 0 is in let z = due.1 in omega arith)) (λ _ p. p) told
   counts_as actor id me tell x vs false is f at told = glances actor id Waiting me tell x vs f at told

@@ -10,8 +10,26 @@ use Rattle.mb_rule.specs.Layout.{word_at, slot_at}
 use Rattle.mb_rule.specs.Seen.{Each}
 use Rattle.mb_gate.specs.declared.slot.Slot.{Slot}
 use Rattle.mb_gate.specs.declared.slot.Slot.TheVariants.{Home, List as Listing, Note}
-use Rattle.mb_gate.specs.View.{View, Sight, Read, Saw, Held, Lent, reading, taking, writing, idling, sending, unsending, counting, looking,
-    lending, enlisting, refusing, draining}
+use Rattle.mb_gate.specs.View.{
+  View,
+  Sight,
+  Read,
+  Saw,
+  Held,
+  Lent,
+  reading,
+  taking,
+  writing,
+  idling,
+  sending,
+  unsending,
+  counting,
+  looking,
+  lending,
+  enlisting,
+  refusing,
+  draining,
+}
 use Rattle.mb_gate.specs.Rule.{Extends, is_some_item, gate_word}
 
 -- this sight allows that the actor is taken with this journal: it was not seen closed, and the journal goes on from each that was seen
@@ -77,8 +95,11 @@ module _ {H : Type 0} where
 
   -- the list was given back with a message more, the last that is in it
   abbrev pub Enlists : Step (Slot H) → Me (Slot H) View → ℕ → Me (Slot H) View → Type 0
-  Enlists st m n m' = (actor : ℕ) (l : Lent) (message : SysMsg) → m.0.list ≡ Some l → m.1 ≡ (slot_at actor 1, Listing (with_last l.listed
-      message)) ∷ rest m.1
+  Enlists st m n m' = (actor : ℕ) (l : Lent) (message : SysMsg) → m.0.list ≡ Some l → m.1 ≡ (
+    slot_at actor 1,
+    Listing (with_last l.listed
+        message),
+  ) ∷ rest m.1
       → m' ≡ (enlisting actor message m.0, rest m.1)
 
   -- the list was found ended

@@ -1,6 +1,26 @@
 -- The rule of the gates' table: what holds of each actor between any two atomic steps.
-use Rattle.std.specs.Prelude.{◌≡◌, ◌⊎◌, ℕ, ◌+◌, ◌<◌, ◌==◌, ◌%◌, Bool, true, false, ◌||◌, IsTrue, if◌then◌else◌, List, [], ◌∷◌, ◌++◌, Option,
-    Some, None}
+use Rattle.std.specs.Prelude.{
+  ◌≡◌,
+  ◌⊎◌,
+  ℕ,
+  ◌+◌,
+  ◌<◌,
+  ◌==◌,
+  ◌%◌,
+  Bool,
+  true,
+  false,
+  ◌||◌,
+  IsTrue,
+  if◌then◌else◌,
+  List,
+  [],
+  ◌∷◌,
+  ◌++◌,
+  Option,
+  Some,
+  None,
+}
 use mathlib.Core.Option.{some}
 use Rattle.mb_status.specs.Mailbox.{Mailbox, word_of, is_valid}
 use Rattle.mb_msg.specs.declared.system.SysMsg.{SysMsg}

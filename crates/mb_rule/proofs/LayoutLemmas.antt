@@ -1,6 +1,33 @@
 -- A step at one place leaves the words and slots of the others as they are.
-use Rattle.std.proofs.Common.{◌≡◌, ◌≢◌, ℕ, zero, suc, ◌+◌, ◌*◌, ◌<◌, eqb, ◌==◌, List, [], ◌∷◌, length, get_or, set, sym, refl, ap, ◌∙◌, subst,
-    eq-eqb, ne_eqb, arith, if◌then◌else◌, get_or-set_other, get_or-set_same}
+use Rattle.std.proofs.Common.{
+  ◌≡◌,
+  ◌≢◌,
+  ℕ,
+  zero,
+  suc,
+  ◌+◌,
+  ◌*◌,
+  ◌<◌,
+  eqb,
+  ◌==◌,
+  List,
+  [],
+  ◌∷◌,
+  length,
+  get_or,
+  set,
+  sym,
+  refl,
+  ap,
+  ◌∙◌,
+  subst,
+  eq-eqb,
+  ne_eqb,
+  arith,
+  if◌then◌else◌,
+  get_or-set_other,
+  get_or-set_same,
+}
 use mathlib.Core.Logic.{dite}
 use mathlib.Core.Option.{Option, none, some}
 use native.Mathlib.Decide.{ℕ_discrete}
@@ -34,18 +61,18 @@ pub set_word : (words : List ℕ) (a i j x : ℕ) → word_at a i < length words
     x else get_or words (word_at a j) 0)
 set_word words a i j x l = dite (ℕ_discrete j i)
     (λ e. subst (λ z. get_or (set words (word_at a i) x) (word_at a z) 0 ≡ (if z == i then x else get_or words (word_at a z) 0)) (sym e)
-      (get_or-set_same words (word_at a i) x 0 l ∙ sym (ap (λ b. if b then x else get_or words (word_at a i) 0) (eq-eqb i i refl))))
+    (get_or-set_same words (word_at a i) x 0 l ∙ sym (ap (λ b. if b then x else get_or words (word_at a i) 0) (eq-eqb i i refl))))
     (λ n. let other : word_at a j ≢ word_at a i = (λ e. n (omega arith)) in get_or-set_other words (word_at a i) (word_at a j) x 0 other ∙ sym
-        (ap (λ b. if b then x else get_or words (word_at a j) 0) (ne_eqb j i n)))
+    (ap (λ b. if b then x else get_or words (word_at a j) 0) (ne_eqb j i n)))
 
 -- a slot that was set, seen from its own place
 pub set_slot : {A : Type 0} (homes : List A) (a i j : ℕ) (x : A) → slot_at a i < length homes → get_elem? (set homes (slot_at a i) x) (slot_at a
     j) ≡ (if j == i then some x else get_elem? homes (slot_at a j))
 set_slot homes a i j x l = dite (ℕ_discrete j i)
     (λ e. subst (λ z. get_elem? (set homes (slot_at a i) x) (slot_at a z) ≡ (if z == i then some x else get_elem? homes (slot_at a z))) (sym e)
-      (set_here homes (slot_at a i) x l ∙ sym (ap (λ b. if b then some x else get_elem? homes (slot_at a i)) (eq-eqb i i refl))))
+    (set_here homes (slot_at a i) x l ∙ sym (ap (λ b. if b then some x else get_elem? homes (slot_at a i)) (eq-eqb i i refl))))
     (λ n. let other : slot_at a j ≢ slot_at a i = (λ e. n (omega arith)) in set_else homes (slot_at a i) (slot_at a j) x other ∙ sym (ap (λ b. if
-        b then some x else get_elem? homes (slot_at a j)) (ne_eqb j i n)))
+    b then some x else get_elem? homes (slot_at a j)) (ne_eqb j i n)))
 
 module _ {W P S G : Type 0} where
   -- what the spots of two states have to agree on, so that they are one

@@ -1,6 +1,31 @@
 -- What keeps a thing at home or with one seat.
-use Rattle.std.proofs.Common.{◌≡◌, ◌≢◌, ℕ, zero, suc, eqb, List, [], ◌∷◌, ◌++◌, length, set, sym, refl, ap, ◌∙◌, subst, Option, Some, None,
-    eq-eqb, ne_eqb, arith, if◌then◌else◌, cond}
+use Rattle.std.proofs.Common.{
+  ◌≡◌,
+  ◌≢◌,
+  ℕ,
+  zero,
+  suc,
+  eqb,
+  List,
+  [],
+  ◌∷◌,
+  ◌++◌,
+  length,
+  set,
+  sym,
+  refl,
+  ap,
+  ◌∙◌,
+  subst,
+  Option,
+  Some,
+  None,
+  eq-eqb,
+  ne_eqb,
+  arith,
+  if◌then◌else◌,
+  cond,
+}
 use mathlib.Core.Logic.{dite}
 use mathlib.Core.Option.{some, some-ne-none, some-injective}
 use native.Mathlib.Decide.{ℕ_discrete}
@@ -71,8 +96,10 @@ module _ {V T : Type 0} (ticket : V → Option T) where
   holder_of : (holder : Option (ℕ × T)) (id : ℕ) (t : T) (b : (h : ℕ × T) → Dec (h.0 ≡ id)) → held_by holder id ≡ Some t → holder ≡ Some (id, t)
   holder_of None id t b e = absurd (cc)
   holder_of (Some h) id t b e = dite (b h)
-      (λ same. let now : Some h.1 ≡ Some t = sym (ap (λ x. if x then Some h.1 else None) (eq-eqb h.0 id same)) ∙ e in ap Some (λ i. (same i,
-          first now i)))
+      (λ same. let now : Some h.1 ≡ Some t = sym (ap (λ x. if x then Some h.1 else None) (eq-eqb h.0 id same)) ∙ e in ap Some (λ i. (
+        same i,
+        first now i,
+      )))
       (λ other. let none : held_by (Some h) id ≡ None = ap (λ x. if x then Some h.1 else None) (ne_eqb h.0 id other) in absurd (cc))
     where
       first : {x y : T} → Some x ≡ Some y → x ≡ y
@@ -94,6 +121,6 @@ module _ {V T : Type 0} (ticket : V → Option T) where
   pub joins_locked : (holder : Option (ℕ × T)) (vs : List V) (id other : ℕ) (v w both spent : V) → get_elem? vs id ≡ some v → get_elem? (set vs
       id both) other ≡ some w
       → ticket both ≡ ticket v → ticket w ≡ None → ticket spent ≡ None → Locked ticket holder vs → Locked ticket holder (set (set vs id both)
-          other spent)
+      other spent)
   joins_locked holder vs id other v w both spent at there same bare empty locked =
       stays_locked holder (set vs id both) other w spent there (empty ∙ sym bare) (stays_locked holder vs id v both at same locked)

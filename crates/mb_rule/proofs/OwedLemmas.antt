@@ -25,7 +25,7 @@ module _ {V : Type 0} (Pays : V → Type 0) where
   payer_stays : (vs : List V) (id : ℕ) (v w : V) → get_elem? vs id ≡ some v → (Pays v → Pays w) → Payer Pays vs → Payer Pays (set vs id w)
   payer_stays vs id v w at keeps p = dite (ℕ_discrete p.seat id)
       (λ same. let is : p.view ≡ v = some-injective p.view v (sym p.there ∙ (ap (get_elem? vs) same ∙ at)) in
-        record { seat = id; view = w; there = set_at vs id v w at; pays = keeps (subst Pays is p.pays) })
+      record { seat = id; view = w; there = set_at vs id v w at; pays = keeps (subst Pays is p.pays) })
       (λ other. record { seat = p.seat; view = p.view; there = set_else vs id p.seat w other ∙ p.there; pays = p.pays })
 
   -- where it is due, the seat whose view changes owes no less than before, and no more is due
@@ -41,11 +41,16 @@ module _ {V : Type 0} (Pays : V → Type 0) where
       Owed Due Pays vs → Owed Due Pays (set vs id left ++ right ∷ [])
   splits_owed Due vs id v left right at keeps owed due = let p = owed due in dite (ℕ_discrete p.seat id)
       (λ same. let is : p.view ≡ v = some-injective p.view v (sym p.there ∙ (ap (get_elem? vs) same ∙ at)) in
-        ⊎_elim (λ l. payer_more (set vs id left) (right ∷ []) (record { seat = id; view = left; there = set_at vs id v left at; pays = l }))
-        (λ r. record { seat = length (set vs id left); view = right; there = new_last (set vs id left) right; pays = r }) (keeps (subst Pays is
-            p.pays)))
-      (λ other. payer_more (set vs id left) (right ∷ []) (record { seat = p.seat; view = p.view; there = set_else vs id p.seat left other ∙
-          p.there; pays = p.pays }))
+      ⊎_elim (λ l. payer_more (set vs id left) (right ∷ []) (record { seat = id; view = left; there = set_at vs id v left at; pays = l }))
+      (λ r. record { seat = length (set vs id left); view = right; there = new_last (set vs id left) right; pays = r }) (keeps (subst Pays is
+      p.pays)))
+      (λ other. payer_more (set vs id left) (right ∷ []) (record {
+        seat = p.seat;
+        view = p.view;
+        there = set_else vs id p.seat left other ∙
+            p.there;
+        pays = p.pays;
+      }))
 
   -- a seat takes over what another owes
   pub joins_owed : (Due : Type 0) (vs : List V) (id other : ℕ) (v w both spent : V) → get_elem? vs id ≡ some v → ¬ (other ≡ id) → get_elem? (set
@@ -54,8 +59,8 @@ module _ {V : Type 0} (Pays : V → Type 0) where
   joins_owed Due vs id other v w both spent at apart there keeps takes owed due =
       let p = payer_stays vs id v both at keeps (owed due) in
       let mine : get_elem? (set (set vs id both) other spent) id ≡ some both = set_else (set vs id both) other id spent (λ e. apart (sym e)) ∙
-          set_at vs id v both at in
+      set_at vs id v both at in
       dite (ℕ_discrete p.seat other)
       (λ same. let is : p.view ≡ w = some-injective p.view w (sym p.there ∙ (ap (get_elem? (set vs id both)) same ∙ there)) in
-        record { seat = id; view = both; there = mine; pays = takes (subst Pays is p.pays) })
+      record { seat = id; view = both; there = mine; pays = takes (subst Pays is p.pays) })
       (λ else. record { seat = p.seat; view = p.view; there = set_else (set vs id both) other p.seat spent else ∙ p.there; pays = p.pays })

@@ -1,6 +1,27 @@
 -- A step at one place keeps the rule of the table.
-use Rattle.std.proofs.Common.{◌≡◌, ◌≢◌, ℕ, ◌+◌, ◌*◌, ◌<◌, ◌==◌, List, [], ◌∷◌, ◌++◌, length, get_or, set, sym, refl, ap, ◌∙◌, subst, arith,
-    length-set}
+use Rattle.std.proofs.Common.{
+  ◌≡◌,
+  ◌≢◌,
+  ℕ,
+  ◌+◌,
+  ◌*◌,
+  ◌<◌,
+  ◌==◌,
+  List,
+  [],
+  ◌∷◌,
+  ◌++◌,
+  length,
+  get_or,
+  set,
+  sym,
+  refl,
+  ap,
+  ◌∙◌,
+  subst,
+  arith,
+  length-set,
+}
 use mathlib.Core.Logic.{dite}
 use mathlib.Core.Option.{Option, none, some}
 use native.Mathlib.Decide.{ℕ_discrete}
@@ -39,12 +60,12 @@ module _ {W P S G V : Type 0} (word_offset : W → ℕ) (slot_offset : P → ℕ
   homes_done : (homes : List (Option S)) (carried : List (ℕ × S)) (place : ℕ) (d : Deed P S) → place < places → length homes ≡ 2 * places
       → IsAble slot_offset place (λ q. get_elem? homes (slot_at place (slot_offset q))) carried d
       → Homes homes (homes_after homes carried (act_of slot_offset place d)) place (slot_after slot_offset (λ q. get_elem? homes (slot_at place
-          (slot_offset q))) d)
+      (slot_offset q))) d)
   homes_done homes carried place stays inside deep able = record { long = refl; mine = λ q. refl; others = λ a q n. refl }
   homes_done homes carried place (takes_from p x) inside deep able = homes_set homes place p none inside deep
   homes_done homes carried place (gives_to p x) inside deep able =
       subst (λ c. Homes homes (put_back homes c) place (fill slot_offset (λ q. get_elem? homes (slot_at place (slot_offset q))) p (some x))) (sym
-          able.1) (homes_set homes place p (some x) inside deep)
+      able.1) (homes_set homes place p (some x) inside deep)
 
   valid_done : (homes : List (Option S)) (carried : List (ℕ × S)) (place : ℕ) (d : Deed P S)
       → IsAble slot_offset place (λ q. get_elem? homes (slot_at place (slot_offset q))) carried d → Valid homes carried (act_of slot_offset place d)
@@ -56,10 +77,10 @@ module _ {W P S G V : Type 0} (word_offset : W → ℕ) (slot_offset : P → ℕ
       List (Option S)) (slot' : P → Option (Option S)) (vs' : List V)
       → Homes s.homes homes' place slot'
       → At record { words = set s.words (word_at place (word_offset name)) n; homes = homes'; views = vs' } (put ghosts place g) place
-        ≡ record { row = write word_offset (At s ghosts place).row name n; slot = slot'; ghost = g }
+      ≡ record { row = write word_offset (At s ghosts place).row name n; slot = slot'; ghost = g }
   at_place s ghosts place inside wide name n g homes' slot' vs' moved = same_spot _ _
       (λ i w. set_word s.words place (word_offset name) (word_offset w) n (let l = word_inside place (word_offset name) places (words_few name)
-          inside in omega arith) i)
+      inside in omega arith) i)
       (λ i p. moved.mine p i)
       (put_here ghosts place g)
 
@@ -69,7 +90,7 @@ module _ {W P S G V : Type 0} (word_offset : W → ℕ) (slot_offset : P → ℕ
       → At record { words = set s.words (word_at place (word_offset name)) n; homes = homes'; views = vs' } (put ghosts place g) a ≡ At s ghosts a
   elsewhere s ghosts place name n g homes' slot' vs' moved a other = same_spot _ _
       (λ i w. get_or-set_other s.words (word_at place (word_offset name)) (word_at a (word_offset w)) n 0 (words_apart a place (word_offset w)
-          (word_offset name) (words_few w) (words_few name) other) i)
+      (word_offset name) (words_few w) (words_few name) other) i)
       (λ i p. moved.others a p other i)
       (put_else ghosts place g a other)
 
@@ -86,16 +107,16 @@ module _ {W P S G V : Type 0} (word_offset : W → ℕ) (slot_offset : P → ℕ
     deep = moved.long ∙ r.deep;
     each = λ a l. dite (ℕ_discrete a place)
         (λ e. subst (λ z. Fact z (At record { words = set s.words (word_at place (word_offset name)) n; homes = homes'; views = vs' } (put
-            r.ghosts place g) z) vs') (sym e)
-          (subst (λ y. Fact place y vs') (sym (at_place s r.ghosts place inside r.wide name n g homes' slot' vs' moved)) here))
+        r.ghosts place g) z) vs') (sym e)
+        (subst (λ y. Fact place y vs') (sym (at_place s r.ghosts place inside r.wide name n g homes' slot' vs' moved)) here))
         (λ other. subst (λ y. Fact a y vs') (sym (elsewhere s r.ghosts place name n g homes' slot' vs' moved a other)) (others a other (At s
-            r.ghosts a) (r.each a l)));
+        r.ghosts a) (r.each a l)));
   }
 
   -- a step of one place is a step of the table
   pub allows : (slots id : ℕ) (me : Me S V) (place : ℕ) (name : W) (f : ℕ → ℕ) (then : ℕ → Me S V → Type 0) → place < places
       → ((x : Spot W P S G) (vs : List V) → Fact place x vs → get_elem? vs id ≡ some me.0 → x.row name < 18446744073709551616
-        → Goes word_offset slot_offset Fact place id me name (f (x.row name)) (then (x.row name)) x vs)
+      → Goes word_offset slot_offset Fact place id me name (f (x.row name)) (then (x.row name)) x vs)
       → Allows Rule slots id me (word_at place (word_offset name)) f then
   allows slots id me place name f then inside step s r deep at fits =
       let x = At s r.ghosts place in
@@ -104,7 +125,7 @@ module _ {W P S G V : Type 0} (word_offset : W → ℕ) (slot_offset : P → ℕ
         act_of slot_offset place g.deed,
         valid_done s.homes me.1 place g.deed g.able,
         changes s r place inside name (f (x.row name)) g.kept (homes_after s.homes me.1 (act_of slot_offset place g.deed))
-          (slot_after slot_offset x.slot g.deed) (set s.views id g.view) (homes_done s.homes me.1 place g.deed inside r.deep g.able) g.here g.others,
+            (slot_after slot_offset x.slot g.deed) (set s.views id g.view) (homes_done s.homes me.1 place g.deed inside r.deep g.able) g.here g.others,
         g.tells,
       )
 
@@ -122,7 +143,7 @@ module _ {W P S G V : Type 0} (word_offset : W → ℕ) (slot_offset : P → ℕ
   -- a seat takes over another's view
   pub joins : (id : ℕ) (v : V) (other : ℕ) (w both spent : V)
       → ((a : ℕ) (x : Spot W P S G) (vs : List V) → get_elem? vs id ≡ some v → ¬ (other ≡ id) → get_elem? (set vs id both) other ≡ some w → Fact
-          a x vs → Fact a x (set (set vs id both) other spent))
+      a x vs → Fact a x (set (set vs id both) other spent))
       → Joins Rule id v other w both spent
   joins id v other w both spent step s r at apart there = record {
     ghosts = r.ghosts;

@@ -17,7 +17,7 @@ module _ {V : Type 0} (Knows : V → Type 0) where
       right ∷ [])
   splits_seen vs id left right l r each q u at =
       ⊎_elim (λ (t : get_elem? (set vs id left) q ≡ some u). learns Knows Knows vs id left (λ v k. k) l each q u t) (λ (t : right ≡ u). subst
-          Knows t r) (at_snoc (set vs id left) right u q at)
+      Knows t r) (at_snoc (set vs id left) right u q at)
 
   -- a seat takes over what another knows
   pub joins_seen : (vs : List V) (id other : ℕ) (both spent : V) → Knows both → Knows spent → EachView Knows vs → EachView Knows (set (set vs id

@@ -16,7 +16,7 @@ store-requires g c =
       ends_allowed g.H.Resident.is_of g.H.Resident.journal g.H.Resident.mailbox g.H.Resident.rested _ _ _ _ c.args.id.0 _ (let k =
           c.args.self.now.keyed in let t = c.requires.there in omega arith) (held_in c.args.seat.now.me.0) l _ c.word_index-gate.ensures
           (ap (λ m. m.0.claim) laid ∙ c.requires.holder.has) c.requires.holder.of (ap (λ m. m.0.list) laid ∙ lent.has) refl (laid_back
-              c.args.id.0 _ _ c.args.seat.now.me _ laid c.close-chain.ensures.list)
+          c.args.id.0 _ _ c.args.seat.now.me _ laid c.close-chain.ensures.list)
           (c.with_ended_bits-new.ensures ∙ word_ended c.args.word c.args.list lent.gave lent.found) c.requires.closed,
     )
 

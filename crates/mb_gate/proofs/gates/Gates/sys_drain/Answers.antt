@@ -7,16 +7,20 @@ use Rattle.mb_gate.proofs.ListCalls.{drains_nothing}
 use Rattle.mb_gate.proofs.gates.Gates.sys_drain.Goals as goal
 
 pub load-word-requires : goal.load-word-requires
-load-word-requires g c = (search rules, search rules, glances_allowed g.H.Resident.is_of g.H.Resident.journal g.H.Resident.mailbox
-    g.H.Resident.rested _ _ _ _ c.args.claim.now.actor.0 _ (let k = c.args.self.now.keyed in let t = c.requires.there in omega arith)
-    c.word_index-gate.ensures)
+load-word-requires g c = (
+  search rules,
+  search rules,
+  glances_allowed g.H.Resident.is_of g.H.Resident.journal g.H.Resident.mailbox
+      g.H.Resident.rested _ _ _ _ c.args.claim.now.actor.0 _ (let k = c.args.self.now.keyed in let t = c.requires.there in omega arith)
+      c.word_index-gate.ensures,
+)
 
 pub returns-then-word-eq0-clause-known : goal.returns-then-word-eq0-clause-known
 returns-then-word-eq0-clause-known g c =
     let claim = c.args.claim.now in
     let told = c.load-word.ensures.2 in
     ap (λ m. m.0) told.0 ∙ (drains_nothing claim.seat.me.0 claim.has claim.no_list (told.1 claim.actor.0 c.word_index-gate.ensures
-        c.if-word-eq0.true (held_in claim.seat.me.0) claim.has claim.of)
+    c.if-word-eq0.true (held_in claim.seat.me.0) claim.has claim.of)
     ∙ ap (λ r. draining r (is_some_item r) claim.seat.me.0) (sym c.new.ensures))
 
 pub returns-then-word-eq0-clause-drained : goal.returns-then-word-eq0-clause-drained

@@ -4,8 +4,12 @@ use Rattle.mb_gate.proofs.Views.{counting_rest}
 use Rattle.mb_gate.proofs.gates.Gates.waiting.Goals as goal
 
 pub load-requires : goal.load-requires
-load-requires g c = (search rules, search rules, counts_allowed g.H.Resident.is_of g.H.Resident.journal g.H.Resident.mailbox g.H.Resident.rested
-    _ _ _ _ c.args.id.0 _ (let k = c.args.self.now.keyed in let t = c.requires.there in omega arith) c.word_index.ensures)
+load-requires g c = (
+  search rules,
+  search rules,
+  counts_allowed g.H.Resident.is_of g.H.Resident.journal g.H.Resident.mailbox g.H.Resident.rested
+      _ _ _ _ c.args.id.0 _ (let k = c.args.self.now.keyed in let t = c.requires.there in omega arith) c.word_index.ensures,
+)
 
 pub invariant_of-pass : goal.invariant_of-pass
 invariant_of-pass g c = let read = c.load.ensures.2 _ c.word_index.ensures in let was = c.args.pass.now.holds_nothing in let same = counting_rest
