@@ -125,9 +125,10 @@ pub fn begin<A: Actor, K: Behaviours>(
     ensures sent { IfOk result (λ begun. begun.post.envelopes.items ≡ sent 0 sends.now) }
 {
     let post = post_of(alloc, sends)?;
+    let status = Status::fresh();
     Ok(Running {
         cell: Cell::new(alloc, ACTOR, actor, journal_limit),
-        status: Status::fresh(),
+        status,
         post,
     })
 }
