@@ -56,7 +56,7 @@ abbrev pub mailbox_of : List ℕ → Data → KindData
 mailbox_of word d =
     if bytes_eq word (codes "bounded") then bounded (number_or 0 (field (codes "capacity") d))
     else (if bytes_eq word (codes "priority")
-        then priority (map_items rank_of (items_in (field (codes "rank") d))) (number_or 1 (field (codes "other") d))
+    then priority (map_items rank_of (items_in (field (codes "rank") d))) (number_or 1 (field (codes "other") d))
     else (if bytes_eq word (codes "control") then control
     else unbounded))
 
