@@ -11,7 +11,8 @@ returns-in-User-clause-kept c = script_keeps _ _ c.args.out.now c.do_kind.new.ou
 
 pub returns-in-Control-clause-kept : goal.returns-in-Control-clause-kept
 returns-in-Control-clause-kept c = script_keeps _ _ c.args.out.now c.do_kind-in-Control.new.out
-    (sym (ap (λ (s : Scripted). s.script) c.do_kind-in-Control.ensures.state)) c.do_kind-in-Control.ensures.actors c.do_kind-in-Control.ensures.unspawned
+    (sym (ap (λ (s : Scripted). s.script) c.do_kind-in-Control.ensures.state)) c.do_kind-in-Control.ensures.actors
+    c.do_kind-in-Control.ensures.unspawned
 
 pub returns-after-self-clause-kept : goal.returns-after-self-clause-kept
 returns-after-self-clause-kept c = elim c.match-self.branch [
