@@ -100,7 +100,8 @@ count-none who = refl
 
 -- a cell that nothing came to
 pub agrees-new : (who : Identity) (after : List Message → ℤ) (gives : Moment → Reply → Type 0) (content : ℤ) (tray : Tray) →
-    content ≡ after [] → tray ≡ record { effects = []; actors = who.actors; unspawned = who.prepared } → Agrees who [] after gives Fresh 1 content tray
+    content ≡ after [] → tray ≡ record { effects = []; actors = who.actors; unspawned = who.prepared } →
+    Agrees who [] after gives Fresh 1 content tray
 unfolding phase has_start messages unspawned
 agrees-new who after gives content tray content_is tray_is = record {
   lawful = lawful-none who (recorded gives);
@@ -318,7 +319,9 @@ module _ (this : ActorId) (old new : Log) (envelope : Envelope) (word reading : 
       (agrees-fields (childless this old.limit) (Handled envelope reading (Applied
       (Some a) []) ∷ old.entries) after gives p n n new_content tray new_tray refl tray_is
       (agrees-user
-      (childless this old.limit) old.entries after gives p n content tray kept envelope reading a kind value new_content well is_user refl addressed live open_reading given
+      (childless this old.limit) old.entries after gives p n content tray kept envelope reading a kind value new_content
+      well is_user refl addressed live
+      open_reading given
       (length-added old new (Handled envelope reading (Applied (Some a) [])) added_user within) content_is))
 
   pub user-handled : (now : Seen) (old_acts : List Act) →

@@ -29,7 +29,8 @@ again : (g : given.Over) (c : goal.After-push_system g) →
 again g c =
     keep.again-agrees c.self.inside.this c.self.inside.journal c.push_system.new.self c.args.number c.push_system.ensures.added
     (g.K.Behaviours.after c.self.inside.this.0) (g.K.Behaviours.gives c.self.inside.this.0) c.self.inside.phase c.self.inside.count
-    (g.A.Actor.content c.self.inside.actor.actor) c.self.inside.outbox c.self.invariant.3 (keep.not_fresh_is c.self.inside.phase c.in_default.not-Fresh)
+    (g.A.Actor.content c.self.inside.actor.actor) c.self.inside.outbox c.self.invariant.3
+    (keep.not_fresh_is c.self.inside.phase c.in_default.not-Fresh)
     (subst (λ (s : Seen). closed s.who s.journal ≡ false) (sym c.self.view_is) c.requires.not_ended)
     (c.requires.next ∙ ap (λ (s : Seen). next_number s.journal) (sym c.self.view_is))
     c.push_system.ensures.within
@@ -65,7 +66,8 @@ who g c = childless c.self.inside.this c.self.inside.journal.limit
 abbrev messages_before : (g : given.Over) (c : goal.After-clear g) → List Message
 messages_before g c = messages (who g c) c.self.inside.journal.entries
 
-same_after : (g : given.Over) (c : goal.After-clear g) → g.A.Actor.after c.call_start-answer.new.actor.actor ≡ g.K.Behaviours.after c.self.inside.this.0
+same_after : (g : given.Over) (c : goal.After-clear g) →
+    g.A.Actor.after c.call_start-answer.new.actor.actor ≡ g.K.Behaviours.after c.self.inside.this.0
 same_after g c = c.call_start-answer.ensures.kept.after_kept ∙ c.self.invariant.0
 
 same_gives : (g : given.Over) (c : goal.After-clear g) → AllowsSame (g.A.Actor.gives c.call_start-answer.new.actor.actor) (g.K.Behaviours.gives

@@ -28,7 +28,8 @@ who g c = childless c.self.inside.this c.self.inside.journal.limit
 abbrev messages_before : (g : given.Over) (c : goal.After-clear g) → List Message
 messages_before g c = messages (who g c) c.self.inside.journal.entries
 
-same_after : (g : given.Over) (c : goal.After-clear g) → g.A.Actor.after c.call_receive-answer.new.actor.actor ≡ g.K.Behaviours.after c.self.inside.this.0
+same_after : (g : given.Over) (c : goal.After-clear g) →
+    g.A.Actor.after c.call_receive-answer.new.actor.actor ≡ g.K.Behaviours.after c.self.inside.this.0
 same_after g c = c.call_receive-answer.ensures.kept.after_kept ∙ c.self.invariant.0
 
 same_gives : (g : given.Over) (c : goal.After-clear g) → AllowsSame (g.A.Actor.gives c.call_receive-answer.new.actor.actor)
@@ -118,7 +119,8 @@ returns-clause-handled g c =
     c.args.reading) c.call_receive-answer.result c.effects-effects.result.now c.args.kind c.args.value c.push_handled.ensures.added
     c.word.ensures.word c.call_receive-answer.ensures.not_failed
     (c.effects-effects.ensures.value ∙ none g c) c.requires.user
-    c.args.self.now (map act_of (option_to_list c.self.inside.act)) c.self.view_is (ap (λ (s : Seen). s.acts) c.self.view_is ∙ c.requires.carried_out)
+    c.args.self.now (map act_of (option_to_list c.self.inside.act)) c.self.view_is
+    (ap (λ (s : Seen). s.acts) c.self.view_is ∙ c.requires.carried_out)
 
 pub returns-clause-lawful : goal.returns-clause-lawful
 returns-clause-lawful g c = (kept g c).lawful
