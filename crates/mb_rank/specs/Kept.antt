@@ -16,7 +16,7 @@ abbrev pub arrivals : BinaryHeap (Reverse Arrival) Global → List Arrival
 arrivals heap = map (λ (x : Reverse Arrival). x.0) (heap_items heap)
 
 -- it is a heap, with room for all that may be held
-pub record IsKept (heap : BinaryHeap (Reverse Arrival) Global) : Type 0 where
+pub record IsTurnHeap (heap : BinaryHeap (Reverse Arrival) Global) : Type 0 where
   pub ordered : IsHeap turn_cmp (heap_items heap)
   pub room : 1024 ≤ heap_capacity heap
   pub few : length (heap_items heap) ≤ 1024

@@ -33,11 +33,11 @@ impl Model for Waiting {
 
     ghost Value = { List Arrival };
 
-    ghost use Rattle.mb_rank.specs.Kept.{arrivals, IsKept};
+    ghost use Rattle.mb_rank.specs.Kept.{arrivals, IsTurnHeap};
 
     ghost view = { λ w. arrivals w.heap };
 
-    ghost invariant = { λ w. IsKept w.heap };
+    ghost invariant = { λ w. IsTurnHeap w.heap };
 }
 
 impl Waiting {

@@ -3,5 +3,5 @@ use Rattle.mb_script.specs.Index.{IsIndexFrom}
 use Rattle.mb_script.specs.declared.script.Script.TheInside.{Inside}
 
 -- its index is that of its rows
-pub record IsKept (s : Inside) : Type 0 where
+pub record IsIndexed (s : Inside) : Type 0 where
   pub indexed : IsIndexFrom 0 s.rows.items s.index

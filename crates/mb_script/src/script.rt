@@ -41,7 +41,7 @@ impl Model for Script {
 
     ghost Value = { Scripted };
 
-    ghost use Rattle.mb_script.specs.Kept.{IsKept};
+    ghost use Rattle.mb_script.specs.Kept.{IsIndexed};
 
     ghost view = { λ s. record {
       script = record {
@@ -55,7 +55,7 @@ impl Model for Script {
       state = s.state;
     } };
 
-    ghost invariant = { IsKept };
+    ghost invariant = { IsIndexed };
 }
 
 impl Script {
