@@ -264,7 +264,7 @@ fn script(alloc: Global, initial: i64) -> Result<Script, Fail> {
 fn does_the_first_row_of_a_kind(rt: HostRuntime) -> Result<(), Fail> {
     let alloc = rt.alloc();
     let mut script = script(alloc, 10)?;
-    let mut out = Outbox::new(2, Vec::new(alloc));
+    let mut out = Outbox::new(2, &Vec::new(alloc));
     assert_eq!(rt; script.start(&mut out), Answer::Handled);
     out.clear();
     assert_eq!(rt;
@@ -302,7 +302,7 @@ fn does_the_first_row_of_a_kind(rt: HostRuntime) -> Result<(), Fail> {
 fn holds_at_the_ends(rt: HostRuntime) -> Result<(), Fail> {
     let alloc = rt.alloc();
     let mut script = script(alloc, 1)?;
-    let mut out = Outbox::new(2, Vec::new(alloc));
+    let mut out = Outbox::new(2, &Vec::new(alloc));
     script.receive(
         &Message::User {
             kind: 1,
