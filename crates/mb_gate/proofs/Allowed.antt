@@ -1,7 +1,39 @@
 -- Each step of the gates is one that the table allows.
-use Rattle.std.proofs.Common.{◌≡◌, ◌≢◌, ℕ, ◌+◌, ◌/◌, ◌%◌, ◌==◌, ◌<◌, if◌then◌else◌, ◌⊎◌, inl, inr, Bool, true, false, ◌||◌, IsTrue, List, [],
-    ◌∷◌, ◌++◌, sym, refl, ap, ◌∙◌, subst, Option, Some, None, arith}
+use Rattle.std.proofs.Common.{
+  ◌≡◌,
+  ◌≢◌,
+  ℕ,
+  ◌+◌,
+  ◌/◌,
+  ◌%◌,
+  ◌==◌,
+  ◌<◌,
+  if◌then◌else◌,
+  ◌⊎◌,
+  inl,
+  inr,
+  Bool,
+  true,
+  false,
+  ◌||◌,
+  IsTrue,
+  List,
+  [],
+  ◌∷◌,
+  ◌++◌,
+  sym,
+  refl,
+  ap,
+  ◌∙◌,
+  subst,
+  Option,
+  Some,
+  None,
+  arith,
+}
 use mathlib.Core.Option as maybe
+use mathlib.Core.Logic.{dite}
+use native.Mathlib.Decide.{ℕ_discrete}
 use mathlib.Core.Option.{none, some}
 use lib.ListN.{get_elem?}
 use prog.Atomic.{either}
@@ -18,14 +50,85 @@ use Rattle.mb_rule.proofs.RuledLemmas.{allows, splits, joins}
 use Rattle.mb_rule.proofs.SeenLemmas.{each_weaker}
 use Rattle.mb_gate.specs.declared.slot.Slot.{Slot}
 use Rattle.mb_gate.specs.declared.slot.Slot.TheVariants.{Home, List as Listing, Note}
-use Rattle.mb_gate.specs.View.{View, Read, Saw, Held, Lent, reading, taking, idling, sending, unsending, counting, looking, lending, enlisting,
-    refusing, draining, blank, claim_alone, without_claim, taking_over}
-use Rattle.mb_gate.specs.Rule.{Word, Status, Flag, Gate, Waiting, word_offset, Shelf, CellShelf, ListShelf, slot_offset, Ghost, Extends, IsSo,
-    Knows, has_work, is_some_item, gate_word, Shelving, Fact}
-use Rattle.mb_gate.specs.Plays.{IsBefore, GoesOn, IsWord, StaysClosed, shows_work, Reads, Writes, Sends, Unsends, Stays, Counts, Looks, Gripped,
-    Grips, Enlists, Refuses, Drains, Ends, IsEmpty, Glances, Won, Schedules, Idles}
+use Rattle.mb_gate.specs.View.{
+  View,
+  Read,
+  Saw,
+  Counted,
+  Looked,
+  Sent,
+  Unsent,
+  Took,
+  Drained,
+  Ended,
+  Held,
+  Lent,
+  reading,
+  taking,
+  idling,
+  sending,
+  unsending,
+  counting_off,
+  counting,
+  looking,
+  lending,
+  enlisting,
+  refusing,
+  draining,
+  ending,
+  blank,
+  claim_alone,
+  without_claim,
+  taking_over,
+}
+use Rattle.mb_gate.specs.Rule.{
+  Word,
+  Status,
+  Flag,
+  Gate,
+  Waiting,
+  word_offset,
+  Shelf,
+  CellShelf,
+  ListShelf,
+  slot_offset,
+  Ghost,
+  Extends,
+  IsSo,
+  Knows,
+  has_work,
+  is_some_item,
+  gate_word,
+  Shelving,
+  Fact,
+}
+use Rattle.mb_gate.specs.Plays.{
+  IsBefore,
+  GoesOn,
+  IsWord,
+  StaysClosed,
+  shows_work,
+  Reads,
+  Writes,
+  Sends,
+  Unsends,
+  CountsOff,
+  Counts,
+  Looks,
+  Gripped,
+  Grips,
+  Enlists,
+  Refuses,
+  Drains,
+  Ends,
+  Glances,
+  Won,
+  Schedules,
+  Idles,
+}
+use Rattle.mb_gate.proofs.Views.{drained_nothing}
 use Rattle.mb_gate.proofs.StatusSteps.{reads, is_home, is_held, schedules, writes, idles, idles_closed}
-use Rattle.mb_gate.proofs.WaitingSteps.{sends, unsends, takes_one, counts, looks, glances}
+use Rattle.mb_gate.proofs.WaitingSteps.{sends, unsends, takes_one, counts, looks, sees, glances}
 use Rattle.mb_gate.proofs.ListSteps.{is_shelved, is_lent, grips, enlists, unloads, refuses}
 use Rattle.mb_gate.proofs.Parting.{parts, takes_over}
 
@@ -132,14 +235,35 @@ module _ {H : Type 0} (is_of : ℕ → H → Type 0) (journal : H → List Entry
   abbrev Rule : ℕ → State (Slot H) View → Type 0
   Rule n = Ruled word_offset slot_offset n F
 
-  still_closed : (actor : ℕ) (x : Place) (v : View) → Knows actor x v → StaysClosed actor (x.row Status) v
-  still_closed actor x v k = each_weaker (IsSo actor x) (IsWord actor (x.row Status)) v.log
-      (λ s. elim s as (λ z. IsSo actor x z → IsWord actor (x.row Status) z) [ Read a word ↦ (λ h. h) | Saw a j ↦ (λ h. tt) ]) k.seen
+  still_closed : (actor : ℕ) (x : Place) (v : View) → (IsTrue x.ghost.listed.closed → x.row Status ≡ 1) → Knows actor x v → StaysClosed actor
+      (x.row Status) v
+  still_closed actor x v ended k = each_weaker (IsSo actor x) (IsWord actor (x.row Status)) v.log
+      (λ s. elim s as (λ z. IsSo actor x z → IsWord actor (x.row Status) z) [
+        | Read a word ↦ (λ h. h)
+        | Saw a j ↦ (λ h. tt)
+        | Counted a n ↦ (λ h. h)
+        | Looked a b ↦ (λ h. h)
+        | Sent a n ↦ (λ h. h)
+        | Unsent a n ↦ (λ h. h)
+        | Took a n ↦ (λ h. h)
+        | Drained a given ↦ (λ h. h)
+        | Ended a given ↦ (λ h e. ended (h e))
+      ]) k.seen
 
-  goes_further : (actor : ℕ) (x : Place) (v : View) → x.row Status ≢ 1 → Knows actor x v → GoesOn actor x.ghost.journal v
-  goes_further actor x v unshut k = each_weaker (IsSo actor x) (IsBefore actor x.ghost.journal) v.log
-      (λ s. elim s as (λ z. IsSo actor x z → IsBefore actor x.ghost.journal z) [ Read a word ↦ (λ h e one. unshut (h e one)) | Saw a j ↦ (λ h. h)
-          ]) k.seen
+  goes_further : (actor : ℕ) (x : Place) (v : View) → (IsTrue x.ghost.listed.closed → x.row Status ≡ 1) → x.row Status ≢ 1
+      → Knows actor x v → GoesOn actor x.ghost.journal v
+  goes_further actor x v ended unshut k = each_weaker (IsSo actor x) (IsBefore actor x.ghost.journal) v.log
+      (λ s. elim s as (λ z. IsSo actor x z → IsBefore actor x.ghost.journal z) [
+        | Read a word ↦ (λ h e one. unshut (h e one))
+        | Saw a j ↦ (λ h. h)
+        | Counted a n ↦ (λ h. h)
+        | Looked a b ↦ (λ h. h)
+        | Sent a n ↦ (λ h. h)
+        | Unsent a n ↦ (λ h. h)
+        | Took a n ↦ (λ h. h)
+        | Drained a given ↦ (λ h. h)
+        | Ended a given ↦ (λ h e. unshut (ended (h e)))
+      ]) k.seen
 
   shown_by : (x : Place) (keeper : Option (ℕ × Lent)) → Shelving is_of journal mailbox rested x keeper → has_work x.ghost ≡ shows_work (x.row Gate)
   shown_by x None k = sym (ap shows_work k.word ∙ marked false x.ghost.listed x.ghost.gave)
@@ -147,7 +271,8 @@ module _ {H : Type 0} (is_of : ℕ → H → Type 0) (journal : H → List Entry
 
   ends_by : (x : Place) (keeper : Option (ℕ × Lent)) → Shelving is_of journal mailbox rested x keeper → x.row Gate / 8 % 2 ≡ 1 → IsTrue
       x.ghost.listed.closed
-  ends_by x None k e = end_mark (is_some_item x.ghost.listed.messages) x.ghost.gave x.ghost.listed.closed false (ap (λ z. z / 8 % 2) (sym k.word) ∙ e)
+  ends_by x None k e = end_mark (is_some_item x.ghost.listed.messages) x.ghost.gave x.ghost.listed.closed false (ap (λ z. z / 8 % 2)
+      (sym k.word) ∙ e)
   ends_by x (Some h) k e = end_mark (is_some_item x.ghost.listed.messages) x.ghost.gave x.ghost.listed.closed true (ap (λ z. z / 8 % 2) (sym
       k.word) ∙ e)
 
@@ -159,24 +284,27 @@ module _ {H : Type 0} (is_of : ℕ → H → Type 0) (journal : H → List Entry
   module _ (n slots id : ℕ) (me : M) (actor i : ℕ) (inside : actor < n) where
     told_read : (x : Place) (vs : List View) → F actor x vs → get_elem? vs id ≡ some me.0 → (a : ℕ) → word_at actor 0 ≡ word_at a 0
         → (let now : M = (reading actor (x.row Status) me.0, me.1) in (now ≡ (reading a (x.row Status) me.0, me.1)) × IsTrue (is_valid (x.row
-            Status)) × StaysClosed a (x.row Status) me.0)
-    told_read x vs f at a e = subst (λ (b : ℕ). (let now : M = (reading actor (x.row Status) me.0, me.1) in (now ≡ (reading b (x.row Status)
-        me.0, me.1)) × IsTrue (is_valid (x.row Status)) × StaysClosed b (x.row Status) me.0))
-        (same_actor actor a 0 e) (refl, f.valid, still_closed actor x me.0 (f.seen id me.0 at))
+        Status)) × StaysClosed a (x.row Status) me.0)
+    told_read x vs f at a e = subst (λ (b : ℕ). (let now : M = (reading actor (x.row Status) me.0, me.1) in (now ≡ (
+      reading b (x.row Status)
+          me.0,
+      me.1,
+    )) × IsTrue (is_valid (x.row Status)) × StaysClosed b (x.row Status) me.0))
+        (same_actor actor a 0 e) (refl, f.valid, still_closed actor x me.0 f.ended (f.seen id me.0 at))
 
     pub reads_allowed : i ≡ word_at actor 0 → Allows (Rule n) slots id me i (λ k. k) (Reads (step slots i 0 0 none) me)
     reads_allowed e = subst (λ j. Allows (Rule n) slots id me j (λ k. k) (Reads (step slots j 0 0 none) me)) (sym e)
         (allows word_offset slot_offset words_few slots_few n F slots id me actor Status (λ k. k) (Reads (step slots (word_at actor 0) 0 0 none)
-            me) inside
+        me) inside
         (λ x vs f at fits. reads is_of journal mailbox rested actor id me (Reads (step slots (word_at actor 0) 0 0 none) me (x.row Status)) x vs
-            f at (told_read x vs f at)))
+        f at (told_read x vs f at)))
 
     pub schedules_allowed : (old new : ℕ) → i ≡ word_at actor 0 → old % 4 ≡ 0 → new ≡ old + 2 → me.0.claim ≡ None
         → Allows (Rule n) slots id me i (λ k. either (k == old) new k) (Schedules is_of journal mailbox rested (step slots i old new none) me)
     schedules_allowed old new e free is_new bare = subst (λ j. Allows (Rule n) slots id me j (λ k. either (k == old) new k) (Schedules is_of
         journal mailbox rested (step slots j old new none) me)) (sym e)
         (allows word_offset slot_offset words_few slots_few n F slots id me actor Status (λ k. either (k == old) new k) (Schedules is_of journal
-            mailbox rested (step slots (word_at actor 0) old new none) me) inside
+        mailbox rested (step slots (word_at actor 0) old new none) me) inside
         (λ x vs f at fits. let tell = Schedules is_of journal mailbox rested (step slots (word_at actor 0) old new none) me (x.row Status) in
         exchanged (x.row Status) old new (λ k. Goes word_offset slot_offset F actor id me Status k tell x vs)
         (λ hit. let here : x.row Status % 4 ≡ 0 = ap (λ k. k % 4) hit ∙ free in let h = is_home is_of journal mailbox rested actor x vs f here in
@@ -185,20 +313,23 @@ module _ {H : Type 0} (is_of : ℕ → H → Type 0) (journal : H → List Entry
         (λ a w. subst (λ (b : ℕ). (let now : M = (taking actor x.ghost.journal old x.ghost.gave me.0, (slot_at actor 0, Home h.1.home) ∷ me.1) in
         (x.row Status ≡ old → Won is_of journal mailbox rested b (x.row Status) me now)
         × (x.row Status ≢ old → (now ≡ (reading b (x.row Status) me.0, me.1)) × IsTrue (is_valid (x.row Status)) × StaysClosed b (x.row Status)
-            me.0))) (same_actor actor a 0 w) (
+        me.0))) (same_actor actor a 0 w) (
           (λ _. record {
             home = h.1.home;
             own = h.1.own;
             word = h.1.word;
             gave = x.ghost.gave;
             rest = λ no. h.1.rest (inr no);
-            seen = subst (λ j. GoesOn actor j me.0) (sym h.1.fold) (goes_further actor x me.0 (λ one. omega arith) (f.seen id me.0 at));
+            seen = subst (λ j. GoesOn actor j me.0) (sym h.1.fold) (goes_further actor x me.0 f.ended (λ one. omega arith) (f.seen id me.0 at));
             now = λ z. (taking actor (sym h.1.fold z) (sym hit z) x.ghost.gave me.0, (slot_at actor 0, Home h.1.home) ∷ me.1);
           }),
           (λ miss. absurd (miss hit)),
         ))))
-        (λ miss. reads is_of journal mailbox rested actor id me tell x vs f at (λ a w. ((λ hit. absurd (miss hit)), (λ _. told_read x vs f at a
-            w))))))
+        (λ miss. reads is_of journal mailbox rested actor id me tell x vs f at (λ a w. (
+          (λ hit. absurd (miss hit)),
+          (λ _. told_read x vs f at a
+              w),
+        )))))
 
     pub writes_allowed : (c : Held) (new : ℕ) → i ≡ word_at actor 0 → me.0.claim ≡ Some c → c.actor ≡ actor → IsTrue (is_valid new) → (new % 4 ≡
         2) ⊎ (new ≡ 1) → (c.word ≡ 1 → new ≡ 1)
@@ -206,9 +337,9 @@ module _ {H : Type 0} (is_of : ℕ → H → Type 0) (journal : H → List Entry
     writes_allowed c new e has of valid busy closed = subst (λ j. Allows (Rule n) slots id me j (λ _. new) (λ _. Writes (step slots j new 0 none)
         me new)) (sym e)
         (allows word_offset slot_offset words_few slots_few n F slots id me actor Status (λ _. new) (λ _. Writes (step slots (word_at actor 0)
-            new 0 none) me new) inside
+        new 0 none) me new) inside
         (λ x vs f at fits. writes is_of journal mailbox rested actor id me c new (Writes (step slots (word_at actor 0) new 0 none) me new) x vs f
-            at has of valid busy closed refl))
+        at has of valid busy closed refl))
 
     told_idle : (home : H) (st : Step (Slot H)) (k : ℕ) → me.1 ≡ (slot_at actor 0, Home home) ∷ [] → Idles is_of journal mailbox rested st me k
         (idling actor (journal home) me.0, [])
@@ -218,66 +349,72 @@ module _ {H : Type 0} (is_of : ℕ → H → Type 0) (journal : H → List Entry
         let what : home ≡ other = home_same home other (ap (λ (z : ℕ × Slot H). z.1) same) in
         let who : actor ≡ a = omega arith in (λ z. (idling (who z) (journal (what z)) me.0, []))
 
-    pub idles_allowed : (c : Held) (home : H) (new : ℕ) → i ≡ word_at actor 0 → me.0.claim ≡ Some c → c.actor ≡ actor → me.1 ≡ (slot_at actor 0,
-        Home home) ∷ [] → is_of actor home → Extends (journal home) c.journal
+    pub idles_allowed : (c : Held) (home : H) (new : ℕ) → i ≡ word_at actor 0 → me.0.claim ≡ Some c → c.actor ≡ actor → me.1 ≡ (
+      slot_at actor 0,
+      Home home,
+    ) ∷ [] → is_of actor home → Extends (journal home) c.journal
         → c.word ≢ 1 → IsTrue (is_valid new) → new % 4 ≡ 0 → new ≡ word_of (mailbox home) → (c.gave ≡ false → rested home)
         → Allows (Rule n) slots id me i (λ _. new) (λ _. Idles is_of journal mailbox rested (step slots i new 0 none) me new)
     idles_allowed c home new e has of carried own longer unshut valid free word rest = subst (λ j. Allows (Rule n) slots id me j (λ _. new) (λ _.
         Idles is_of journal mailbox rested (step slots j new 0 none) me new)) (sym e)
         (allows word_offset slot_offset words_few slots_few n F slots id me actor Status (λ _. new) (λ _. Idles is_of journal mailbox rested
-            (step slots (word_at actor 0) new 0 none) me new) inside
+        (step slots (word_at actor 0) new 0 none) me new) inside
         (λ x vs f at fits. idles is_of journal mailbox rested actor id me c home new (Idles is_of journal mailbox rested (step slots (word_at
-            actor 0) new 0 none) me new) x vs f at has of carried own longer unshut valid free word rest
+        actor 0) new 0 none) me new) x vs f at has of carried own longer unshut valid free word rest
         (told_idle home (step slots (word_at actor 0) new 0 none) new carried)))
 
-    pub idles_closed_allowed : (c : Held) (home : H) → i ≡ word_at actor 1 → me.0.claim ≡ Some c → c.actor ≡ actor → me.1 ≡ (slot_at actor 0,
-        Home home) ∷ [] → is_of actor home → Extends (journal home) c.journal
+    pub idles_closed_allowed : (c : Held) (home : H) → i ≡ word_at actor 1 → me.0.claim ≡ Some c → c.actor ≡ actor → me.1 ≡ (
+      slot_at actor 0,
+      Home home,
+    ) ∷ [] → is_of actor home → Extends (journal home) c.journal
         → c.word ≡ 1 → 1 ≡ word_of (mailbox home) → rested home
         → Allows (Rule n) slots id me i (λ _. 1) (λ _. Idles is_of journal mailbox rested (step slots i 1 0 none) me 1)
     idles_closed_allowed c home e has of carried own longer closed word rest = subst (λ j. Allows (Rule n) slots id me j (λ _. 1) (λ _. Idles
         is_of journal mailbox rested (step slots j 1 0 none) me 1)) (sym e)
         (allows word_offset slot_offset words_few slots_few n F slots id me actor Flag (λ _. 1) (λ _. Idles is_of journal mailbox rested (step
-            slots (word_at actor 1) 1 0 none) me 1) inside
+        slots (word_at actor 1) 1 0 none) me 1) inside
         (λ x vs f at fits. idles_closed is_of journal mailbox rested actor id me c home (Idles is_of journal mailbox rested (step slots (word_at
-            actor 1) 1 0 none) me 1) x vs f at has of carried own longer closed word rest
+        actor 1) 1 0 none) me 1) x vs f at has of carried own longer closed word rest
         (told_idle home (step slots (word_at actor 1) 1 0 none) 1 carried)))
 
     pub sends_allowed : (g : ℕ → ℕ) (k : ℕ) → i ≡ word_at actor 4 → Allows (Rule n) slots id me i g (Sends (step slots i k 0 none) me)
     sends_allowed g k e = subst (λ j. Allows (Rule n) slots id me j g (Sends (step slots j k 0 none) me)) (sym e)
         (allows word_offset slot_offset words_few slots_few n F slots id me actor Waiting g (Sends (step slots (word_at actor 4) k 0 none) me) inside
-        (λ x vs f at fits. sends is_of journal mailbox rested actor id (g (x.row Waiting)) me (Sends (step slots (word_at actor 4) k 0 none) me
-            (x.row Waiting)) x vs f at
-        (λ a w z. (sending (same_actor actor a 4 w z) me.0, me.1))))
+        (λ x vs f at fits. sends is_of journal mailbox rested actor id (g (x.row Waiting)) k me (Sends (step slots (word_at actor 4) k 0 none) me
+        (x.row Waiting)) x vs f at
+        (λ a w z. (sending (same_actor actor a 4 w z) k me.0, me.1))))
 
     pub unsends_allowed : (g : ℕ → ℕ) (k : ℕ) → i ≡ word_at actor 4 → Allows (Rule n) slots id me i g (Unsends (step slots i k 0 none) me)
     unsends_allowed g k e = subst (λ j. Allows (Rule n) slots id me j g (Unsends (step slots j k 0 none) me)) (sym e)
         (allows word_offset slot_offset words_few slots_few n F slots id me actor Waiting g (Unsends (step slots (word_at actor 4) k 0 none) me)
-            inside
-        (λ x vs f at fits. unsends is_of journal mailbox rested actor id (g (x.row Waiting)) me (Unsends (step slots (word_at actor 4) k 0 none)
-            me (x.row Waiting)) x vs f at
-        (λ a w z. (unsending (same_actor actor a 4 w z) me.0, me.1))))
+        inside
+        (λ x vs f at fits. unsends is_of journal mailbox rested actor id (g (x.row Waiting)) k me (Unsends (step slots (word_at actor 4) k 0 none)
+        me (x.row Waiting)) x vs f at
+        (λ a w z. (unsending (same_actor actor a 4 w z) k me.0, me.1))))
 
     pub takes_allowed : (c : Held) (g : ℕ → ℕ) (k : ℕ) → i ≡ word_at actor 4 → me.0.claim ≡ Some c → c.actor ≡ actor → Allows (Rule n) slots id
-        me i g (Stays (step slots i k 0 none) me)
-    takes_allowed c g k e has of = subst (λ j. Allows (Rule n) slots id me j g (Stays (step slots j k 0 none) me)) (sym e)
-        (allows word_offset slot_offset words_few slots_few n F slots id me actor Waiting g (Stays (step slots (word_at actor 4) k 0 none) me) inside
-        (λ x vs f at fits. takes_one is_of journal mailbox rested actor id (g (x.row Waiting)) me c (Stays (step slots (word_at actor 4) k 0
-            none) me (x.row Waiting)) x vs f at has of refl))
+        me i g (CountsOff (step slots i k 0 none) me)
+    takes_allowed c g k e has of = subst (λ j. Allows (Rule n) slots id me j g (CountsOff (step slots j k 0 none) me)) (sym e)
+        (allows word_offset slot_offset words_few slots_few n F slots id me actor Waiting g (CountsOff (step slots
+        (word_at actor 4) k 0 none) me) inside
+        (λ x vs f at fits. takes_one is_of journal mailbox rested actor id (g (x.row Waiting)) (Took actor k) me c (CountsOff
+        (step slots (word_at actor 4) k 0
+        none) me (x.row Waiting)) x vs (λ a y. tt) f at has of (λ a w z. (counting_off (same_actor actor a 4 w z) k me.0, me.1))))
 
     pub counts_allowed : i ≡ word_at actor 4 → Allows (Rule n) slots id me i (λ k. k) (Counts (step slots i 0 0 none) me)
     counts_allowed e = subst (λ j. Allows (Rule n) slots id me j (λ k. k) (Counts (step slots j 0 0 none) me)) (sym e)
         (allows word_offset slot_offset words_few slots_few n F slots id me actor Waiting (λ k. k) (Counts (step slots (word_at actor 4) 0 0
-            none) me) inside
+        none) me) inside
         (λ x vs f at fits. counts is_of journal mailbox rested actor id me (Counts (step slots (word_at actor 4) 0 0 none) me (x.row Waiting)) x
-            vs f at
+        vs f at
         (λ a w z. (counting (same_actor actor a 4 w z) (x.row Waiting) me.0, me.1))))
 
     pub looks_allowed : i ≡ word_at actor 2 → Allows (Rule n) slots id me i (λ k. k) (Looks (step slots i 0 0 none) me)
     looks_allowed e = subst (λ j. Allows (Rule n) slots id me j (λ k. k) (Looks (step slots j 0 0 none) me)) (sym e)
         (allows word_offset slot_offset words_few slots_few n F slots id me actor Gate (λ k. k) (Looks (step slots (word_at actor 2) 0 0 none)
-            me) inside
+        me) inside
         (λ x vs f at fits. looks is_of journal mailbox rested actor id me (shows_work (x.row Gate)) (Looks (step slots (word_at actor 2) 0 0
-            none) me (x.row Gate)) x vs (shown_by x x.ghost.keeper f.shelf) f at
+        none) me (x.row Gate)) x vs (shown_by x x.ghost.keeper f.shelf) f at
         (λ a w z. (looking (same_actor actor a 2 w z) (shows_work (x.row Gate)) me.0, me.1))))
 
     pub grips_allowed : (old new : ℕ) → i ≡ word_at actor 2 → old % 2 ≡ 0 → new ≡ old + 1 → me.0.list ≡ None → Allows (Rule n) slots id me i (λ
@@ -285,58 +422,81 @@ module _ {H : Type 0} (is_of : ℕ → H → Type 0) (journal : H → List Entry
     grips_allowed old new e even is_new bare = subst (λ j. Allows (Rule n) slots id me j (λ k. either (k == old) new k) (Grips (step slots j old
         new none) me)) (sym e)
         (allows word_offset slot_offset words_few slots_few n F slots id me actor Gate (λ k. either (k == old) new k) (Grips (step slots (word_at
-            actor 2) old new none) me) inside
+        actor 2) old new none) me) inside
         (λ x vs f at fits. let tell = Grips (step slots (word_at actor 2) old new none) me (x.row Gate) in
         exchanged (x.row Gate) old new (λ k. Goes word_offset slot_offset F actor id me Gate k tell x vs)
         (λ hit. let here : x.row Gate % 2 ≡ 0 = ap (λ k. k % 2) hit ∙ even in
         subst (λ k. Goes word_offset slot_offset F actor id me Gate k tell x vs) (sym is_new)
         (grips is_of journal mailbox rested actor id me old tell x vs f at here hit bare
-        (λ a w. subst (λ (b : ℕ). (let now : M = (lending actor x.ghost.listed x.ghost.gave me.0, (slot_at actor 1, Listing x.ghost.listed) ∷ me.1) in
-        (x.row Gate ≡ old → Gripped b (x.row Gate) me now) × (x.row Gate ≢ old → now ≡ me))) (same_actor actor a 2 w)
-        ((λ _. record { listed = x.ghost.listed; gave = x.ghost.gave; word = (is_shelved is_of journal mailbox rested actor x vs f here).1.word;
-            now = refl }), (λ miss. absurd (miss hit))))))
+        (λ a w. subst (λ (b : ℕ). (let now : M = (
+          lending actor x.ghost.listed x.ghost.gave me.0,
+          (slot_at actor 1, Listing x.ghost.listed) ∷ me.1,
+        ) in
+        (x.row Gate ≡ old → Gripped b (x.row Gate) me now) × (x.row Gate ≢ old → now ≡ me))) (same_actor actor a 2 w) (
+          (λ _. record {
+            listed = x.ghost.listed;
+            gave = x.ghost.gave;
+            word = (is_shelved is_of journal mailbox rested actor x vs f here).1.word;
+            now = refl;
+          }),
+          (λ miss. absurd (miss hit)),
+        ))))
         (λ miss. glances is_of journal mailbox rested actor id Gate me tell x vs f at (λ a w. ((λ hit. absurd (miss hit)), (λ _. refl))))))
 
-    told_enlist : (l : Lent) (m : SysMsg) (st : Step (Slot H)) (k : ℕ) → me.0.list ≡ Some l → l.actor ≡ actor → me.1 ≡ (slot_at actor 1, Listing
-        (with_last l.listed m)) ∷ tail_of me.1
+    told_enlist : (l : Lent) (m : SysMsg) (st : Step (Slot H)) (k : ℕ) → me.0.list ≡ Some l → l.actor ≡ actor → me.1 ≡ (
+      slot_at actor 1,
+      Listing
+          (with_last l.listed m),
+    ) ∷ tail_of me.1
         → Enlists st me k (enlisting actor m me.0, tail_of me.1)
     told_enlist l m st k has of carried a l' m' has' carried' =
         let same : (slot_at actor 1, Listing (with_last l.listed m)) ≡ (slot_at a 1, Listing (with_last l'.listed m')) = head_same _ _ _ _ (sym
-            carried ∙ carried') in
+        carried ∙ carried') in
         let where_is : slot_at actor 1 ≡ slot_at a 1 = ap (λ (z : ℕ × Slot H). z.0) same in
         let who : actor ≡ a = omega arith in
         let lent : l ≡ l' = some_same l l' (sym has ∙ has') in
         let lists : with_last l.listed m ≡ with_last l.listed m' = list_same {H = H} (with_last l.listed m) (with_last l.listed m') (ap (λ (z : ℕ
-            × Slot H). z.1) same ∙ (λ z. Listing (with_last (sym lent z).listed m'))) in
-        let what : m ≡ m' = snoc_same l.listed.messages m m' (ap (λ (z : MessageList). z.messages) lists) in (λ z. (enlisting (who z) (what z)
-            me.0, tail_of me.1))
+        × Slot H). z.1) same ∙ (λ z. Listing (with_last (sym lent z).listed m'))) in
+        let what : m ≡ m' = snoc_same l.listed.messages m m' (ap (λ (z : MessageList). z.messages) lists) in (λ z. (
+          enlisting (who z) (what z)
+              me.0,
+          tail_of me.1,
+        ))
 
-    pub enlists_allowed : (l : Lent) (m : SysMsg) (new : ℕ) → i ≡ word_at actor 2 → me.0.list ≡ Some l → l.actor ≡ actor → me.1 ≡ (slot_at actor
-        1, Listing (with_last l.listed m)) ∷ tail_of me.1
+    pub enlists_allowed : (l : Lent) (m : SysMsg) (new : ℕ) → i ≡ word_at actor 2 → me.0.list ≡ Some l → l.actor ≡ actor → me.1 ≡ (
+      slot_at actor
+          1,
+      Listing (with_last l.listed m),
+    ) ∷ tail_of me.1
         → new ≡ gate_word false (with_last l.listed m) l.gave → Allows (Rule n) slots id me i (λ _. new) (λ _. Enlists (step slots i new 0 none)
-            me new)
+        me new)
     enlists_allowed l m new e has of carried word = subst (λ j. Allows (Rule n) slots id me j (λ _. new) (λ _. Enlists (step slots j new 0 none)
         me new)) (sym e)
         (allows word_offset slot_offset words_few slots_few n F slots id me actor Gate (λ _. new) (λ _. Enlists (step slots (word_at actor 2) new
-            0 none) me new) inside
+        0 none) me new) inside
         (λ x vs f at fits. enlists is_of journal mailbox rested actor id new me l m (Enlists (step slots (word_at actor 2) new 0 none) me new) x
-            vs f at has of carried word
+        vs f at has of carried word
         (told_enlist l m (step slots (word_at actor 2) new 0 none) new has of carried)))
 
     pub drains_allowed : (c : Held) (l : Lent) (new : ℕ) → i ≡ word_at actor 2 → me.0.claim ≡ Some c → c.actor ≡ actor → me.0.list ≡ Some l →
         l.actor ≡ actor
         → me.1 ≡ (slot_at actor 1, Listing (drained l.listed)) ∷ tail_of me.1 → new ≡ gate_word false (drained l.listed) (is_some_item
-            l.listed.messages)
+        l.listed.messages)
         → Allows (Rule n) slots id me i (λ _. new) (λ _. Drains (step slots i new 0 none) me new)
     drains_allowed c l new e has of keeps of_list carried word = subst (λ j. Allows (Rule n) slots id me j (λ _. new) (λ _. Drains (step slots j
         new 0 none) me new)) (sym e)
         (allows word_offset slot_offset words_few slots_few n F slots id me actor Gate (λ _. new) (λ _. Drains (step slots (word_at actor 2) new
-            0 none) me new) inside
-        (λ x vs f at fits. unloads is_of journal mailbox rested actor id new me c l (drained l.listed) (listed l.listed) (is_some_item
-            l.listed.messages) (Drains (step slots (word_at actor 2) new 0 none) me new) x vs f at
-        has of keeps of_list carried word refl (λ e. e) (λ e. inl e)
-        (λ l' has' z. (draining (listed (some_same l l' (sym keeps ∙ has') z).listed) (is_some_item (some_same l l' (sym keeps ∙ has')
-            z).listed.messages) me.0, tail_of me.1))))
+        0 none) me new) inside
+        (λ x vs f at fits. unloads is_of journal mailbox rested actor id new (Drained actor (listed l.listed)) me c l (drained l.listed)
+        (listed l.listed) (is_some_item
+        l.listed.messages) (Drains (step slots (word_at actor 2) new 0 none) me new) x vs f at
+        has of keeps of_list carried word refl (λ e. e) (λ e. inl e) (λ a z e. tt)
+        (λ l' has' z. (
+          draining ((sym of_list ∙ ap (λ (h : Lent). h.actor) (some_same l l' (sym keeps
+              ∙ has'))) z) (listed (some_same l l' (sym keeps ∙ has') z).listed) (is_some_item (some_same l l' (sym keeps ∙ has')
+              z).listed.messages) me.0,
+          tail_of me.1,
+        ))))
 
     pub ends_allowed : (c : Held) (l : Lent) (new : ℕ) → i ≡ word_at actor 2 → me.0.claim ≡ Some c → c.actor ≡ actor → me.0.list ≡ Some l →
         l.actor ≡ actor
@@ -345,35 +505,44 @@ module _ {H : Type 0} (is_of : ℕ → H → Type 0) (journal : H → List Entry
     ends_allowed c l new e has of keeps of_list carried word closed = subst (λ j. Allows (Rule n) slots id me j (λ _. new) (λ _. Ends (step slots
         j new 0 none) me new)) (sym e)
         (allows word_offset slot_offset words_few slots_few n F slots id me actor Gate (λ _. new) (λ _. Ends (step slots (word_at actor 2) new 0
-            none) me new) inside
+        none) me new) inside
         (λ x vs f at fits.
         let gave : l.gave ≡ c.gave = (is_lent is_of journal mailbox rested actor id x vs me.0 l f at keeps of_list).1.gave ∙ sym (is_held is_of
-            journal mailbox rested actor id x vs me.0 c f at has of).1.gave in
-        unloads is_of journal mailbox rested actor id new me c l (ended l.listed) (listed l.listed) l.gave (Ends (step slots (word_at actor 2)
-            new 0 none) me new) x vs f at
-        has of keeps of_list carried word refl (λ e. refl) (λ e. inr closed)
-        (λ l' c' list' claim' z. (draining (listed (some_same l l' (sym keeps ∙ list') z).listed) ((gave ∙ ap (λ (h : Held). h.gave) (some_same c
-            c' (sym has ∙ claim'))) z) me.0, tail_of me.1))))
-
-    told_glance : (x : Place) (vs : List View) → F actor x vs → get_elem? vs id ≡ some me.0 → (a : ℕ) → word_at actor 2 ≡ word_at a 2 → IsEmpty a
-        (x.row Gate) me.0
-    told_glance x vs f at a w = subst (λ b. IsEmpty b (x.row Gate) me.0) (same_actor actor a 2 w)
-        (λ empty c has of. (is_held is_of journal mailbox rested actor id x vs me.0 c f at has of).1.gave ∙ (gave_by x x.ghost.keeper f.shelf
-            empty).1)
+        journal mailbox rested actor id x vs me.0 c f at has of).1.gave in
+        unloads is_of journal mailbox rested actor id new (Ended actor (listed l.listed)) me c l (ended l.listed)
+        (listed l.listed) l.gave (Ends (step slots (word_at actor 2)
+        new 0 none) me new) x vs f at
+        has of keeps of_list carried word refl (λ e. refl) (λ e. inr closed) (λ a z e w. ap (λ (m : MessageList). m.closed) (e (sym w)))
+        (λ l' c' list' claim' z. (
+          ending ((sym of_list ∙ ap (λ (h : Lent). h.actor) (some_same l l' (sym keeps ∙ list'))) z) (listed (some_same l l' (sym keeps
+              ∙ list') z).listed) ((gave ∙ ap (λ (h : Held). h.gave) (some_same c
+              c' (sym has ∙ claim'))) z) me.0,
+          tail_of me.1,
+        ))))
 
     pub glances_allowed : i ≡ word_at actor 2 → Allows (Rule n) slots id me i (λ k. k) (Glances (step slots i 0 0 none) me)
     glances_allowed e = subst (λ j. Allows (Rule n) slots id me j (λ k. k) (Glances (step slots j 0 0 none) me)) (sym e)
         (allows word_offset slot_offset words_few slots_few n F slots id me actor Gate (λ k. k) (Glances (step slots (word_at actor 2) 0 0 none)
-            me) inside
-        (λ x vs f at fits. glances is_of journal mailbox rested actor id Gate me (Glances (step slots (word_at actor 2) 0 0 none) me (x.row
-            Gate)) x vs f at (refl, told_glance x vs f at)))
+        me) inside
+        (λ x vs f at fits. let tell = Glances (step slots (word_at actor 2) 0 0 none) me (x.row Gate) in
+        dite (ℕ_discrete (x.row Gate % 8) 0)
+        (λ hit. sees is_of journal mailbox rested actor id Gate (Drained actor []) me tell x vs (λ a y. tt) f at
+        (λ a c w has of bare. let who : actor ≡ a = same_actor actor a 2 w in
+        let gave : c.gave ≡ false = (is_held is_of journal mailbox rested actor id x vs me.0 c f at has (of ∙ sym who)).1.gave ∙ (gave_by x
+        x.ghost.keeper f.shelf hit).1 in
+        ((λ _ z. ((drained_nothing actor c me.0 has bare gave ∙ (λ j. draining (who j) [] false me.0)) z, me.1)), (λ miss. absurd (miss hit)))))
+        (λ miss. glances is_of journal mailbox rested actor id Gate me tell x vs f at (λ a c w has of bare. (
+          (λ hit. absurd (miss hit)),
+          (λ _.
+              refl),
+        )))))
 
     pub refuses_allowed : (old : ℕ) (m : SysMsg) → i ≡ word_at actor 2 → old / 8 % 2 ≡ 1 → Allows (Rule n) slots id me i (λ k. either (k == old)
         old k) (Refuses (step slots i old old (some (Note m))) me)
     refuses_allowed old m e shut = subst (λ j. Allows (Rule n) slots id me j (λ k. either (k == old) old k) (Refuses (step slots j old old (some
         (Note m))) me)) (sym e)
         (allows word_offset slot_offset words_few slots_few n F slots id me actor Gate (λ k. either (k == old) old k) (Refuses (step slots
-            (word_at actor 2) old old (some (Note m))) me) inside
+        (word_at actor 2) old old (some (Note m))) me) inside
         (λ x vs f at fits. let tell = Refuses (step slots (word_at actor 2) old old (some (Note m))) me (x.row Gate) in
         exchanged (x.row Gate) old old (λ k. Goes word_offset slot_offset F actor id me Gate k tell x vs)
         (λ hit. subst (λ k. Goes word_offset slot_offset F actor id me Gate k tell x vs) hit
@@ -392,7 +561,7 @@ module _ {H : Type 0} (is_of : ℕ → H → Type 0) (journal : H → List Entry
     pub claims_allowed : (v : View) → v.list ≡ None → Splits (Rule n) id v (claim_alone v) (without_claim v)
     claims_allowed v no_list = splits word_offset slot_offset words_few slots_few n F id v (claim_alone v) (without_claim v)
         (parts is_of journal mailbox rested id v (claim_alone v) (without_claim v) refl refl no_list refl no_list refl refl refl (λ a x k. record
-            { seen = tt; said = tt }))
+        { seen = tt; said = tt }))
 
     pub joins_allowed : (v : View) (other : ℕ) (w : View) → w.claim ≡ None → w.list ≡ None → Joins (Rule n) id v other w (taking_over v w) blank
     joins_allowed v other w bare no_list = joins word_offset slot_offset words_few slots_few n F id v other w (taking_over v w) blank (takes_over

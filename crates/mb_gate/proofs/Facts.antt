@@ -1,6 +1,29 @@
 -- What holds of an actor stays so where only a view changes, or where the words that it speaks of do not.
-use Rattle.std.proofs.Common.{◌≡◌, ℕ, ◌%◌, ◌==◌, if◌then◌else◌, ◌⊎◌, inl, inr, ⊎_elim, true, false, ◌||◌, IsTrue, List, set, sym, refl, ap, ◌∙◌,
-    subst, Option, Some, None}
+use Rattle.std.proofs.Common.{
+  ◌≡◌,
+  ℕ,
+  ◌%◌,
+  ◌==◌,
+  if◌then◌else◌,
+  ◌⊎◌,
+  inl,
+  inr,
+  ⊎_elim,
+  true,
+  false,
+  ◌||◌,
+  IsTrue,
+  List,
+  set,
+  sym,
+  refl,
+  ap,
+  ◌∙◌,
+  subst,
+  Option,
+  Some,
+  None,
+}
 use mathlib.Core.Option.{some}
 use lib.ListN.{get_elem?}
 use Rattle.mb_status.specs.Mailbox.{Mailbox}
@@ -14,8 +37,29 @@ use Rattle.mb_rule.proofs.OwedLemmas.{still_owed}
 use Rattle.mb_rule.proofs.SeenLemmas.{learns}
 use Rattle.mb_gate.specs.declared.slot.Slot.{Slot}
 use Rattle.mb_gate.specs.View.{View, Held, Lent}
-use Rattle.mb_gate.specs.Rule.{Word, Status, Flag, Gate, Waiting, word_offset, Shelf, CellShelf, ListShelf, Ghost, claim_for, list_for, Knows,
-    MessageDue, SystemDue, PaysMessage, PaysSystem, gate_word, Keeping, Shelving, Fact}
+use Rattle.mb_gate.specs.Rule.{
+  Word,
+  Status,
+  Flag,
+  Gate,
+  Waiting,
+  word_offset,
+  Shelf,
+  CellShelf,
+  ListShelf,
+  Ghost,
+  claim_for,
+  list_for,
+  Knows,
+  MessageDue,
+  SystemDue,
+  PaysMessage,
+  PaysSystem,
+  gate_word,
+  Keeping,
+  Shelving,
+  Fact,
+}
 use Rattle.mb_gate.proofs.Views.{Elsewhere}
 
 -- a word that is written as it was leaves the row as it was
@@ -86,7 +130,7 @@ module _ {H : Type 0} (is_of : ℕ → H → Type 0) (journal : H → List Entry
   pub views_change : (x : Place) (vs : List View) (id : ℕ) (v w : View) → get_elem? vs id ≡ some v → claim_for actor w ≡ claim_for actor v →
       list_for actor w ≡ list_for actor v
       → (MessageDue x → PaysMessage actor v → PaysMessage actor w) → (SystemDue x → PaysSystem actor v → PaysSystem actor w) → (Knows actor x v →
-          Knows actor x w) → Facts x vs → Facts x (set vs id w)
+      Knows actor x w) → Facts x vs → Facts x (set vs id w)
   views_change x vs id v w at claim list message system knows f = record {
     valid = f.valid;
     claims = stays_locked (claim_for actor) x.ghost.holder vs id v w at claim f.claims;
@@ -105,9 +149,13 @@ module _ {H : Type 0} (is_of : ℕ → H → Type 0) (journal : H → List Entry
       (set vs id w)
   elsewhere x vs id v w at same = views_change x vs id v w at same.claim same.list
       (λ _. subst (λ (d : Debt). IsTrue (d.message || d.sending)) (sym same.debt)) (λ _. subst (λ (d : Debt). IsTrue d.system) (sym same.debt))
-          (same.knows x)
+      (same.knows x)
 
   -- a load changes nothing but the view
-  pub load_here : (x : Place) (vs : List View) (name : Word) → Facts x vs → Facts (record { row = write word_offset x.row name (x.row name); slot
-      = x.slot; ghost = x.ghost }) vs
+  pub load_here : (x : Place) (vs : List View) (name : Word) → Facts x vs → Facts (record {
+    row = write word_offset x.row name (x.row name);
+    slot
+        = x.slot;
+    ghost = x.ghost;
+  }) vs
   load_here x vs name f = subst (λ (z : Place). Facts z vs) (λ i. record { row = sym (same_row x.row name) i; slot = x.slot; ghost = x.ghost }) f

@@ -1,6 +1,32 @@
 -- A list that was taken out and given back, and its gate's words.
-use Rattle.std.proofs.Common.{◌≡◌, ◌≢◌, ℕ, ◌+◌, ◌/◌, ◌%◌, ◌==◌, ◌<◌, if◌then◌else◌, Bool, true, false, not, IsTrue, List, [], ◌∷◌, ◌++◌, sym,
-    refl, ap, ◌∙◌, subst, Some, None, eq-eqb, ne_eqb, append-nil, arith}
+use Rattle.std.proofs.Common.{
+  ◌≡◌,
+  ◌≢◌,
+  ℕ,
+  ◌+◌,
+  ◌/◌,
+  ◌%◌,
+  ◌==◌,
+  ◌<◌,
+  if◌then◌else◌,
+  Bool,
+  true,
+  false,
+  not,
+  IsTrue,
+  List,
+  [],
+  ◌∷◌,
+  ◌++◌,
+  sym,
+  refl,
+  ap,
+  ◌∙◌,
+  subst,
+  eq-eqb,
+  ne_eqb,
+  arith,
+}
 use mathlib.Core.Logic.{dite}
 use native.Mathlib.Decide.{ℕ_discrete}
 use Rattle.atomic_table.specs.Table.{Me, rest}
@@ -9,8 +35,7 @@ use Rattle.mb_syslist.specs.MessageList.{MessageList, with_last, drained, ended,
 use Rattle.mb_rule.specs.Layout.{slot_at}
 use Rattle.mb_gate.specs.declared.slot.Slot.{Slot}
 use Rattle.mb_gate.specs.declared.slot.Slot.TheVariants.{Empty, List as Listing}
-use Rattle.mb_gate.specs.View.{View, lending, regiven, draining}
-use Rattle.mb_gate.specs.Claims.{held_in}
+use Rattle.mb_gate.specs.View.{View, lending}
 use Rattle.mb_gate.specs.Rule.{is_some_item, gate_word}
 use Rattle.mb_gate.specs.Plays.{Gripped}
 use Rattle.mb_gate.specs.Lists.{IsLentBy, IsOut, with_listed, with_drained, with_ended}
@@ -39,16 +64,22 @@ module _ {H : Type 0} (actor found slot : ℕ) (m m1 : Me (Slot H) View) (grip :
   pub is_list : r ≡ Listing grip.listed
   is_list = ap (λ (z : ℕ × Slot H). z.1) (head_same _ _ _ _ carried_now)
 
-  pub lent_by : (word : ℕ) (list : MessageList) (m2 : Me (Slot H) View) → found ≡ word → r ≡ Listing list → m2 ≡ (m1.0, (slot, Empty) ∷ rest
-      m1.1) → IsLentBy actor word list m m2
+  pub lent_by : (word : ℕ) (list : MessageList) (m2 : Me (Slot H) View) → found ≡ word → r ≡ Listing list → m2 ≡ (
+    m1.0,
+    (slot, Empty) ∷ rest
+        m1.1,
+  ) → IsLentBy actor word list m m2
   lent_by word list m2 is_word is now =
       let same : grip.listed ≡ list = list_same {H = H} grip.listed list (sym is_list ∙ is) in
       let where_is : slot ≡ slot_at actor 1 = ap (λ (z : ℕ × Slot H). z.0) (head_same _ _ _ _ carried_now) in
       let others : rest m1.1 ≡ m.1 = rest_same _ _ _ _ carried_now in record {
         gave = grip.gave;
         found = sym is_word ∙ (grip.word ∙ ap (λ l. gate_word false l grip.gave) same);
-        now = now ∙ (λ i. ((ap (λ (z : Me (Slot H) View). z.0) grip.now ∙ ap (λ l. lending actor l grip.gave m.0) same) i, (where_is i, Empty) ∷
-            others i));
+        now = now ∙ (λ i. (
+          (ap (λ (z : Me (Slot H) View). z.0) grip.now ∙ ap (λ l. lending actor l grip.gave m.0) same) i,
+          (where_is i, Empty) ∷
+              others i,
+        ));
       }
 
 more_items : (l : List SysMsg) (m : SysMsg) → is_some_item (l ++ m ∷ []) ≡ true
@@ -153,14 +184,6 @@ some_listed l = items l.given l.messages
     items : (n : ℕ) (ms : List SysMsg) → is_some_item (numbered n ms) ≡ is_some_item ms
     items n [] = refl
     items n (m ∷ ms) = refl
-
--- a drain of nothing changes nothing, where the last drain gave nothing
-pub drains_nothing : (v : View) → v.claim ≡ Some (held_in v) → v.list ≡ None → (held_in v).gave ≡ false → v ≡ draining [] false v
-drains_nothing v has no_list gave i = record v { list = no_list i; claim = same i }
-  where
-    same : v.claim ≡ regiven [] false v.claim
-    same = has ∙ ((λ k. Some (record (held_in v) { gave = gave k; drained = sym (append-nil (held_in v).drained) k })) ∙ sym (ap (regiven []
-        false) has))
 
 -- what was taken out is out
 pub lent_out : {H : Type 0} (actor word : ℕ) (l : MessageList) (m m' : Me (Slot H) View) → IsLentBy actor word l m m' → IsOut actor word l m'

@@ -1,6 +1,34 @@
 -- The steps on the gate of an actor's list keep the rule.
-use Rattle.std.proofs.Common.{◌≡◌, ℕ, ◌+◌, ◌%◌, if◌then◌else◌, ◌⊎◌, ⊎_elim, Bool, true, false, ◌||◌, IsTrue, List, [], ◌∷◌, ◌++◌, set, sym, refl,
-    ap, ◌∙◌, subst, Option, Some, None, append_assoc, append-nil, arith}
+use Rattle.std.proofs.Common.{
+  ◌≡◌,
+  ℕ,
+  ◌+◌,
+  ◌%◌,
+  if◌then◌else◌,
+  ◌⊎◌,
+  ⊎_elim,
+  Bool,
+  true,
+  false,
+  ◌||◌,
+  IsTrue,
+  List,
+  [],
+  ◌∷◌,
+  ◌++◌,
+  set,
+  sym,
+  refl,
+  ap,
+  ◌∙◌,
+  subst,
+  Option,
+  Some,
+  None,
+  append_assoc,
+  append-nil,
+  arith,
+}
 use mathlib.Core.Option.{none, some}
 use lib.ListN.{get_elem?}
 use Rattle.mb_status.specs.Mailbox.{Mailbox}
@@ -18,9 +46,34 @@ use Rattle.mb_rule.proofs.OwedLemmas.{pays, still_owed}
 use Rattle.mb_rule.proofs.SeenLemmas.{learns}
 use Rattle.mb_gate.specs.declared.slot.Slot.{Slot}
 use Rattle.mb_gate.specs.declared.slot.Slot.TheVariants.{List as Listing}
-use Rattle.mb_gate.specs.View.{View, Held, Lent, owes, Said, lending, enlisting, refusing, regiven, draining}
-use Rattle.mb_gate.specs.Rule.{Word, Gate, word_offset, Shelf, ListShelf, slot_offset, Ghost, is_some_item, gate_word, held_of, lent_of,
-    claim_for, list_for, IsAmong, IsTold, Knows, MessageDue, SystemDue, PaysMessage, PaysSystem, IsShelved, IsLent, Shelving, Fact}
+use Rattle.mb_gate.specs.View.{View, Sight, Held, Lent, owes, Said, lending, enlisting, refusing, regiven, unloading}
+use Rattle.mb_gate.specs.Rule.{
+  Word,
+  Gate,
+  word_offset,
+  Shelf,
+  ListShelf,
+  slot_offset,
+  Ghost,
+  is_some_item,
+  gate_word,
+  held_of,
+  lent_of,
+  claim_for,
+  list_for,
+  IsSo,
+  IsAmong,
+  IsTold,
+  Knows,
+  MessageDue,
+  SystemDue,
+  PaysMessage,
+  PaysSystem,
+  IsShelved,
+  IsLent,
+  Shelving,
+  Fact,
+}
 use Rattle.mb_gate.proofs.Views.{held_here, held_else, lent_here, lent_else, owes_here, owes_else, extends_self, goes_on}
 use Rattle.mb_gate.proofs.Facts.{still_kept, views_change, elsewhere, load_here}
 use Rattle.mb_gate.proofs.StatusSteps.{is_held}
@@ -57,8 +110,12 @@ module _ {H : Type 0} (is_of : ℕ → H → Type 0) (journal : H → List Entry
       x.ghost.pushed ++ m ∷ [] → (s : Said) → IsTold actor x s → IsTold actor y s
   more_told actor x y m still longer s t e = (
     (λ ended. still ((t e).0 ended)),
-    (λ listed. let a = (t e).1 listed in record { before = a.before; after = a.after ++ m ∷ []; joined = longer ∙ (ap (λ z. z ++ m ∷ []) a.joined
-        ∙ append_assoc a.before (s.message ∷ a.after) (m ∷ [])) }),
+    (λ listed. let a = (t e).1 listed in record {
+      before = a.before;
+      after = a.after ++ m ∷ [];
+      joined = longer ∙ (ap (λ z. z ++ m ∷ []) a.joined
+          ∙ append_assoc a.before (s.message ∷ a.after) (m ∷ []));
+    }),
   )
 
   -- and where the list is ended
@@ -74,8 +131,11 @@ module _ {H : Type 0} (is_of : ℕ → H → Type 0) (journal : H → List Entry
   -- the list is in its slot where the gate's word is even
   pub is_shelved : (actor : ℕ) (x : Place) (vs : List View) → F actor x vs → x.row Gate % 2 ≡ 0 → (x.ghost.keeper ≡ None) × IsShelved is_of
       journal mailbox rested x
-  is_shelved actor x vs f even = let nobody = no_keeper x x.ghost.keeper even f.shelf in (nobody, subst (Shelving is_of journal mailbox rested x)
-      nobody f.shelf)
+  is_shelved actor x vs f even = let nobody = no_keeper x x.ghost.keeper even f.shelf in (
+    nobody,
+    subst (Shelving is_of journal mailbox rested x)
+        nobody f.shelf,
+  )
 
   -- who has the list is its keeper
   pub is_lent : (actor id : ℕ) (x : Place) (vs : List View) (v : View) (l : Lent) → F actor x vs → get_elem? vs id ≡ some v → v.list ≡ Some l →
@@ -111,13 +171,22 @@ module _ {H : Type 0} (is_of : ℕ → H → Type 0) (journal : H → List Entry
           listing = f.listing;
           message = still_owed (PaysMessage actor) (MessageDue x) (MessageDue y) vs id v w at (λ d. d) (λ _ p. p) f.message;
           system = still_owed (PaysSystem actor) (SystemDue x) (SystemDue y) vs id v w at (λ d. d) (λ _ p. p) f.system;
-          seen = let k = goes_on actor x y v (λ one. one) (extends_self x.ghost.journal) (λ s t. t) (f.seen id v at) in
-              learns (Knows actor x) (Knows actor y) vs id w (λ u. goes_on actor x y u (λ one. one) (extends_self x.ghost.journal) (λ s t. t))
-                  (record { seen = k.seen; said = k.said }) f.seen;
+          seen = let k = goes_on actor x y v (λ e. e) (λ one. one) (extends_self x.ghost.journal) (λ s t. t) (f.seen id v at) in
+              learns (Knows actor x) (Knows actor y) vs id w (λ u. goes_on actor x y u (λ e. e) (λ one. one)
+              (extends_self x.ghost.journal) (λ s t. t))
+              (record { seen = k.seen; said = k.said }) f.seen;
         };
         others = λ a n z k. elsewhere is_of journal mailbox rested a z vs id v w at
-            (record { claim = refl; list = lent_else a l (λ e. n (sym e)) ∙ sym (ap (lent_of a) bare); debt = refl; knows = λ _ s. record { seen
-                = s.seen; said = s.said } }) k;
+            (record {
+              claim = refl;
+              list = lent_else a l (λ e. n (sym e)) ∙ sym (ap (lent_of a) bare);
+              debt = refl;
+              knows = λ _ s. record {
+                seen
+                    = s.seen;
+                said = s.said;
+              };
+            }) k;
         tells = told;
       }
 
@@ -134,8 +203,12 @@ module _ {H : Type 0} (is_of : ℕ → H → Type 0) (journal : H → List Entry
       let u : View = record v { list = None; said = record { to = actor; message = m; was_ended = false } ∷ v.said } in
       let g : Ghost = record x.ghost { keeper = None; listed = with_last l.listed m; pushed = x.ghost.pushed ++ m ∷ [] } in
       let same_end : IsTrue x.ghost.listed.closed → IsTrue l.listed.closed = (λ e. ap (λ (z : MessageList). z.closed) h.1.taken ∙ e) in
-      let y : Place = record { row = write word_offset x.row Gate n; slot = fill slot_offset x.slot ListShelf (some (Listing (with_last l.listed
-          m))); ghost = g } in record {
+      let y : Place = record {
+        row = write word_offset x.row Gate n;
+        slot = fill slot_offset x.slot ListShelf (some (Listing (with_last l.listed
+            m)));
+        ghost = g;
+      } in record {
         view = w;
         deed = gives_to ListShelf (Listing (with_last l.listed m));
         kept = g;
@@ -147,39 +220,63 @@ module _ {H : Type 0} (is_of : ℕ → H → Type 0) (journal : H → List Entry
           lists = puts_back (list_for actor) vs id v w l at refl (subst (λ o. Locked (list_for actor) o vs) h.0 f.lists);
           shelf = record { there = refl; word = word ∙ ap (gate_word false (with_last l.listed m)) h.1.gave };
           ended = λ e. f.ended (ap (λ (z : MessageList). z.closed) (sym h.1.taken) ∙ e);
-          listing = (f.listing.0, ap (λ z. z ++ m ∷ []) f.listing.1 ∙ (append_assoc f.listing.0 x.ghost.listed.messages (m ∷ []) ∙ ap (λ (z :
-              MessageList). f.listing.0 ++ (z.messages ++ m ∷ [])) (sym h.1.taken)));
+          listing = (
+            f.listing.0,
+            ap (λ z. z ++ m ∷ []) f.listing.1 ∙ (append_assoc f.listing.0 x.ghost.listed.messages (m ∷ []) ∙ ap (λ (z :
+                MessageList). f.listing.0 ++ (z.messages ++ m ∷ [])) (sym h.1.taken)),
+          );
           message = still_owed (PaysMessage actor) (MessageDue x) (MessageDue y) vs id v w at (λ z. z) (λ _. subst (λ (z : Debt). IsTrue
               (z.message || z.sending)) (sym (owes_here actor d u))) f.message;
           system = pays (PaysSystem actor) (SystemDue y) vs id v w at (subst (λ (z : Debt). IsTrue z.system) (sym (owes_here actor d u)) refl);
-          seen = let k = goes_on actor x y v (λ one. one) (extends_self x.ghost.journal) (more_told actor x y m same_end refl) (f.seen id v at) in
-              learns (Knows actor x) (Knows actor y) vs id w (λ u. goes_on actor x y u (λ one. one) (extends_self x.ghost.journal) (more_told
-                  actor x y m same_end refl)) (record { seen = k.seen; said = ((λ _. ((λ e. absurd (cc)), (λ _. record { before = x.ghost.pushed;
-                  after = []; joined = refl }))), k.said) }) f.seen;
+          seen = let k = goes_on actor x y v same_end (λ one. one) (extends_self x.ghost.journal) (more_told actor x y m same_end refl)
+              (f.seen id v at) in
+              learns (Knows actor x) (Knows actor y) vs id w (λ u. goes_on actor x y u same_end (λ one. one)
+              (extends_self x.ghost.journal) (more_told
+              actor x y m same_end refl)) (record {
+                seen = k.seen;
+                said = (
+                  (λ _. (
+                    (λ e. absurd (cc)),
+                    (λ _. record {
+                      before = x.ghost.pushed;
+                      after = [];
+                      joined = refl;
+                    }),
+                  )),
+                  k.said,
+                );
+              }) f.seen;
         };
         others = λ a k z s. elsewhere is_of journal mailbox rested a z vs id v w at
-            (record { claim = refl; list = sym (ap (lent_of a) has ∙ lent_else a l (λ e. k (sym e ∙ of))); debt = owes_else actor a d u k; knows
-                = λ _ t. record { seen = t.seen; said = ((λ e. absurd (k (sym e))), t.said) } }) s;
+            (record {
+              claim = refl;
+              list = sym (ap (lent_of a) has ∙ lent_else a l (λ e. k (sym e ∙ of)));
+              debt = owes_else actor a d u k;
+              knows
+                  = λ _ t. record { seen = t.seen; said = ((λ e. absurd (k (sym e))), t.said) };
+            }) s;
         tells = told;
       }
 
   -- the holder gives back the list, to which it did this
-  pub unloads : (actor id n : ℕ) (me : M) (c : Held) (l : Lent) (new : MessageList) (given : List (ℕ × SysMsg)) (gave : Bool) (tell : M → Type 0)
+  pub unloads : (actor id n : ℕ) (s : Sight) (me : M) (c : Held) (l : Lent) (new : MessageList) (given : List (ℕ
+      × SysMsg)) (gave : Bool) (tell : M → Type 0)
       (x : Place) (vs : List View) → F actor x vs → get_elem? vs id ≡ some me.0
       → me.0.claim ≡ Some c → c.actor ≡ actor → me.0.list ≡ Some l → l.actor ≡ actor → me.1 ≡ (slot_at actor 1, Listing new) ∷ tail_of me.1 → n ≡
-          gate_word false new gave
+      gate_word false new gave
       → new.messages ≡ [] → (IsTrue l.listed.closed → IsTrue new.closed) → (IsTrue new.closed → IsTrue l.listed.closed ⊎ (c.word ≡ 1))
-      → tell (draining given gave me.0, tail_of me.1) → Goes word_offset slot_offset F actor id me Gate n tell x vs
-  unloads actor id n me c l new given gave tell x vs f at has of keeps of_list carried word empty stays_closed closed told =
+      → ((a : ℕ) (z : Place) → (a ≡ actor → z.ghost.listed ≡ new) → IsSo a z s) → tell (unloading s given gave me.0, tail_of me.1)
+      → Goes word_offset slot_offset F actor id me Gate n tell x vs
+  unloads actor id n s me c l new given gave tell x vs f at has of keeps of_list carried word empty stays_closed closed so told =
       let v = me.0 in
       let h = is_held is_of journal mailbox rested actor id x vs v c f at has of in
       let k = is_lent actor id x vs v l f at keeps of_list in
-      let w = draining given gave v in
+      let w = unloading s given gave v in
       let still : IsTrue x.ghost.listed.closed → IsTrue new.closed = (λ e. stays_closed (ap (λ (z : MessageList). z.closed) k.1.taken ∙ e)) in
       let c' : Held = record c { gave = gave; drained = c.drained ++ given } in
       let g : Ghost = record x.ghost { holder = Some (id, c'); keeper = None; listed = new; gave = gave } in
       let y : Place = record { row = write word_offset x.row Gate n; slot = fill slot_offset x.slot ListShelf (some (Listing new)); ghost = g }
-          in record {
+      in record {
         view = w;
         deed = gives_to ListShelf (Listing new);
         kept = g;
@@ -195,17 +292,17 @@ module _ {H : Type 0} (is_of : ℕ → H → Type 0) (journal : H → List Entry
           listing = (x.ghost.pushed, sym (append-nil x.ghost.pushed) ∙ ap (λ z. x.ghost.pushed ++ z) (sym empty));
           message = still_owed (PaysMessage actor) (MessageDue x) (MessageDue y) vs id v w at (λ z. z) (λ _ p. p) f.message;
           system = λ due. absurd (let z = due.0 in ⊎_elim (λ b. omega arith) (λ b. omega arith) h.1.busy);
-          seen = let k = goes_on actor x y v (λ one. one) (extends_self x.ghost.journal) (ended_told actor x y still refl) (f.seen id v at) in
-              learns (Knows actor x) (Knows actor y) vs id w (λ u. goes_on actor x y u (λ one. one) (extends_self x.ghost.journal) (ended_told
-                  actor x y still refl)) (record { seen = k.seen; said = k.said }) f.seen;
+          seen = let k = goes_on actor x y v still (λ one. one) (extends_self x.ghost.journal) (ended_told actor x y still refl) (f.seen id v at) in
+              learns (Knows actor x) (Knows actor y) vs id w (λ u. goes_on actor x y u still (λ one. one) (extends_self x.ghost.journal) (ended_told
+              actor x y still refl)) (record { seen = (so actor y (λ _. refl), k.seen); said = k.said }) f.seen;
         };
-        others = λ a i z s. elsewhere is_of journal mailbox rested a z vs id v w at (record {
+        others = λ a i z p. elsewhere is_of journal mailbox rested a z vs id v w at (record {
           claim = ap (λ z. held_of a (regiven given gave z)) has ∙ (held_else a c' (λ e. i (sym e ∙ of)) ∙ sym (ap (held_of a) has ∙ held_else a
               c (λ e. i (sym e ∙ of))));
           list = sym (ap (lent_of a) keeps ∙ lent_else a l (λ e. i (sym e ∙ of_list)));
           debt = refl;
-          knows = λ _ t. record { seen = t.seen; said = t.said };
-        }) s;
+          knows = λ q t. record { seen = (so a q (λ e. absurd (i e)), t.seen); said = t.said };
+        }) p;
         tells = told;
       }
 
@@ -220,7 +317,12 @@ module _ {H : Type 0} (is_of : ℕ → H → Type 0) (journal : H → List Entry
     able = tt;
     here = load_here is_of journal mailbox rested actor x (set vs id w) Gate (views_change is_of journal mailbox rested actor x vs id v w at refl
         refl (λ _ p. p) (λ _ p. p) (λ k. record { seen = k.seen; said = ((λ _. ((λ _. shut), (λ e. absurd (cc)))), k.said) }) f);
-    others = λ a n y g. elsewhere is_of journal mailbox rested a y vs id v w at (record { claim = refl; list = refl; debt = refl; knows = λ _ t.
-        record { seen = t.seen; said = ((λ e. absurd (n (sym e))), t.said) } }) g;
+    others = λ a n y g. elsewhere is_of journal mailbox rested a y vs id v w at (record {
+      claim = refl;
+      list = refl;
+      debt = refl;
+      knows = λ _ t.
+          record { seen = t.seen; said = ((λ e. absurd (n (sym e))), t.said) };
+    }) g;
     tells = told;
   }

@@ -1,6 +1,29 @@
 -- Views that are cut in two, and views that are put together, keep the rule.
-use Rattle.std.proofs.Common.{◌≡◌, ℕ, ◌==◌, if◌then◌else◌, ◌⊎◌, inl, inr, Bool, true, false, ◌||◌, IsTrue, List, [], ◌∷◌, ◌++◌, set, sym, refl,
-    ap, ◌∙◌, subst, None}
+use Rattle.std.proofs.Common.{
+  ◌≡◌,
+  ℕ,
+  ◌==◌,
+  if◌then◌else◌,
+  ◌⊎◌,
+  inl,
+  inr,
+  Bool,
+  true,
+  false,
+  ◌||◌,
+  IsTrue,
+  List,
+  [],
+  ◌∷◌,
+  ◌++◌,
+  set,
+  sym,
+  refl,
+  ap,
+  ◌∙◌,
+  subst,
+  None,
+}
 use mathlib.Core.Option.{some}
 use lib.ListN.{get_elem?}
 use Rattle.mb_status.specs.Mailbox.{Mailbox}
@@ -15,13 +38,28 @@ use Rattle.atomic_table.proofs.Lists.{set_else}
 use Rattle.std.proofs.lemmas.Bool.{eqb-true}
 use Rattle.mb_gate.specs.declared.slot.Slot.{Slot}
 use Rattle.mb_gate.specs.View.{View, debt_of, owes, blank, either_owes, added_debts, taking_over}
-use Rattle.mb_gate.specs.Rule.{Word, Shelf, Ghost, held_of, lent_of, claim_for, list_for, IsSo, IsTold, Knows, MessageDue, SystemDue,
-    PaysMessage, PaysSystem, Fact}
+use Rattle.mb_gate.specs.Rule.{
+  Word,
+  Shelf,
+  Ghost,
+  held_of,
+  lent_of,
+  claim_for,
+  list_for,
+  IsSo,
+  IsTold,
+  Knows,
+  MessageDue,
+  SystemDue,
+  PaysMessage,
+  PaysSystem,
+  Fact,
+}
 
 added_at : (actor : ℕ) (d : ℕ × Debt) (ds old : List (ℕ × Debt)) (b : Bool) → (d.0 == actor) ≡ b → debt_of actor (added_debts ds old) ≡
     either_owes (debt_of actor ds) (debt_of actor old)
     → (if b then either_owes d.1 (debt_of d.0 old) else debt_of actor (added_debts ds old)) ≡ either_owes (if b then d.1 else debt_of actor ds)
-        (debt_of actor old)
+    (debt_of actor old)
 added_at actor d ds old true is rest = ap (λ n. either_owes d.1 (debt_of n old)) (eqb-true d.0 actor is)
 added_at actor d ds old false is rest = rest
 
@@ -78,8 +116,11 @@ module _ {H : Type 0} (is_of : ℕ → H → Type 0) (journal : H → List Entry
     system = splits_owed (PaysSystem actor) (SystemDue x) vs id v left right at (λ p. inr (subst (λ ds. IsTrue (debt_of actor ds).system) (sym
         debts) p)) f.system;
     seen = splits_seen (Knows actor x) vs id left right (knows actor x (f.seen id v at))
-        (record { seen = subst (Each (IsSo actor x)) (sym log) (f.seen id v at).seen; said = subst (Each (IsTold actor x)) (sym said) (f.seen id
-            v at).said }) f.seen;
+        (record {
+          seen = subst (Each (IsSo actor x)) (sym log) (f.seen id v at).seen;
+          said = subst (Each (IsTold actor x)) (sym said) (f.seen id
+              v at).said;
+        }) f.seen;
   }
 
   -- a seat takes over the view of one that has no claim and no list
@@ -98,15 +139,18 @@ module _ {H : Type 0} (is_of : ℕ → H → Type 0) (journal : H → List Entry
         listing = f.listing;
         message = joins_owed (PaysMessage actor) (MessageDue x) vs id other v w both blank at apart there
             (λ p. subst (λ (d : Debt). IsTrue (d.message || d.sending)) (sym (debt_of-added actor w.debts v.debts)) (either_message (owes actor
-                w) (owes actor v) (inr p)))
+            w) (owes actor v) (inr p)))
             (λ p. subst (λ (d : Debt). IsTrue (d.message || d.sending)) (sym (debt_of-added actor w.debts v.debts)) (either_message (owes actor
-                w) (owes actor v) (inl p))) f.message;
+            w) (owes actor v) (inl p))) f.message;
         system = joins_owed (PaysSystem actor) (SystemDue x) vs id other v w both blank at apart there
             (λ p. subst (λ (d : Debt). IsTrue d.system) (sym (debt_of-added actor w.debts v.debts)) (either_system (owes actor w) (owes actor v)
-                (inr p)))
+            (inr p)))
             (λ p. subst (λ (d : Debt). IsTrue d.system) (sym (debt_of-added actor w.debts v.debts)) (either_system (owes actor w) (owes actor v)
-                (inl p))) f.system;
+            (inl p))) f.system;
         seen = joins_seen (Knows actor x) vs id other both blank
-            (record { seen = each_append (IsSo actor x) w.log v.log (f.seen other w at_other).seen (f.seen id v at).seen; said = (f.seen id v
-                at).said }) (record { seen = tt; said = tt }) f.seen;
+            (record {
+              seen = each_append (IsSo actor x) w.log v.log (f.seen other w at_other).seen (f.seen id v at).seen;
+              said = (f.seen id v
+                  at).said;
+            }) (record { seen = tt; said = tt }) f.seen;
       }

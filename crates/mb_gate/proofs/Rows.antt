@@ -40,18 +40,18 @@ module _ {H : Type 0} where
       → shelves_of hs ++ reverse ((slots ++ Listing no_messages ∷ []) ++ Home h ∷ []) ≡ all
   shelves_moved hs h slots all e =
       ap (λ z. shelves_of hs ++ z) (reverse-append (slots ++ Listing no_messages ∷ []) (Home h ∷ []) ∙ ap (λ z. Home h ∷ z) (reverse-append slots
-          (Listing no_messages ∷ [])))
+      (Listing no_messages ∷ [])))
       ∙ (sym (append_assoc (shelves_of hs) (Home h ∷ Listing no_messages ∷ []) (reverse slots)) ∙ (ap (λ z. z ++ reverse slots) (sym
-          (shelves_of-snoc hs h)) ∙ e))
+      (shelves_of-snoc hs h)) ∙ e))
 
   -- one slot more is gone through
   pub homes_moved : (slots : List (Slot H)) (s : Slot H) (homes homes' all : List H) → homes' ≡ homes ++ homes_in (s ∷ []) → homes_in (slots ++ s
       ∷ []) ++ reverse homes ≡ all → homes_in slots ++ reverse homes' ≡ all
   homes_moved slots s homes homes' all is e =
       ap (λ z. homes_in slots ++ reverse z) is ∙ (ap (λ z. homes_in slots ++ z) (reverse-append homes (homes_in (s ∷ [])) ∙ ap (λ z. z ++ reverse
-          homes) (reversed s))
+      homes) (reversed s))
       ∙ (sym (append_assoc (homes_in slots) (homes_in (s ∷ [])) (reverse homes)) ∙ (ap (λ z. z ++ reverse homes) (sym (homes_in-append slots (s ∷
-          []))) ∙ e)))
+      []))) ∙ e)))
     where
       reversed : (t : Slot H) → reverse (homes_in (t ∷ [])) ≡ homes_in (t ∷ [])
       reversed (Home h) = refl

@@ -1,6 +1,46 @@
 -- The table shows a state of the machine of which the machine's facts hold.
-use Rattle.std.proofs.Common.{◌≡◌, ◌≢◌, ℕ, zero, suc, ◌/◌, ◌%◌, ◌==◌, ◌<◌, if◌then◌else◌, ◌⊎◌, inl, inr, ⊎_elim, Bool, true, false, ◌||◌, IsTrue,
-    IsFalse, IsSome, IsNone, List, [], ◌∷◌, ◌++◌, map, length, get_or, sym, refl, ap, ◌∙◌, subst, Option, Some, None, eq-eqb, arith, Any}
+use Rattle.std.proofs.Common.{
+  ◌≡◌,
+  ◌≢◌,
+  ℕ,
+  zero,
+  suc,
+  ◌/◌,
+  ◌%◌,
+  ◌==◌,
+  ◌<◌,
+  if◌then◌else◌,
+  ◌⊎◌,
+  inl,
+  inr,
+  ⊎_elim,
+  Bool,
+  true,
+  false,
+  ◌||◌,
+  IsTrue,
+  IsFalse,
+  IsSome,
+  IsNone,
+  List,
+  [],
+  ◌∷◌,
+  ◌++◌,
+  map,
+  length,
+  get_or,
+  sym,
+  refl,
+  ap,
+  ◌∙◌,
+  subst,
+  Option,
+  Some,
+  None,
+  eq-eqb,
+  arith,
+  Any,
+}
 use Rattle.std.proofs.lemmas.Bool.Decides.{nat_tests}
 use mathlib.Core.Option.{some, some-ne-none, some-injective}
 use lib.ListN.{get_elem?, length-map}
@@ -34,8 +74,13 @@ place_of f (y ∷ ys) (suc q) x d e = let p = place_of f ys q x d e in (omega ar
 
 -- who pays is among those that owe
 pays_among : (P : Debt → Type 0) (actor : ℕ) (vs : List View) → Payer (λ v. P (owes actor v)) vs → Any P (map (owes actor) vs)
-pays_among P actor vs p = let at = place_of (owes actor) vs p.seat p.view (owes actor p.view) p.there in (p.seat, owes actor p.view, at.0, at.1,
-    p.pays)
+pays_among P actor vs p = let at = place_of (owes actor) vs p.seat p.view (owes actor p.view) p.there in (
+  p.seat,
+  owes actor p.view,
+  at.0,
+  at.1,
+  p.pays,
+)
 
 work_there : (g : Ghost) (rest : List SysMsg) → (g.gave ≡ false → rest ≡ []) → IsTrue (machine.has_work (Some (rest ++ g.listed.messages))) →
     IsTrue (has_work g)
@@ -85,17 +130,26 @@ module _ {H : Type 0} (is_of : ℕ → H → Type 0) (journal : H → List Entry
   shows n s r actor inside rest quiet =
       let x = spot_of word_offset slot_offset s r.ghosts actor in
       let f = r.each actor inside in (
-        record { possible = valid_possible (x.row Status) f.valid; word_valid = subst (λ w. IsTrue (is_valid w)) (sym (word_of-mailbox_of (x.row
-            Status) f.valid)) f.valid },
+        record {
+          possible = valid_possible (x.row Status) f.valid;
+          word_valid = subst (λ w. IsTrue (is_valid w)) (sym (word_of-mailbox_of (x.row
+              Status) f.valid)) f.valid;
+        },
         record {
           scheduled = held actor x x.ghost.holder f.cell;
           free = λ c z. free actor x x.ghost.holder f.cell (free_mod (x.row Status) f.valid c z);
           there = there actor s.views x.ghost.holder f.claims;
         },
         record {
-          system = λ c z work. pays_among (λ d. IsTrue d.system) actor s.views (f.system (free_mod (x.row Status) f.valid c z, work_there x.ghost
-              rest quiet work));
-          message = λ c z quiet_yet waits. pays_among (λ d. IsTrue (d.message || d.sending)) actor s.views (f.message ((let m = free_mod (x.row
-              Status) f.valid c z in let k : x.row Status / 4 ≡ 0 = quiet_yet in omega arith), waits));
+          system = λ c z work. pays_among (λ d. IsTrue d.system) actor s.views (f.system (
+            free_mod (x.row Status) f.valid c z,
+            work_there x.ghost
+                rest quiet work,
+          ));
+          message = λ c z quiet_yet waits. pays_among (λ d. IsTrue (d.message || d.sending)) actor s.views (f.message (
+            (let m = free_mod (x.row
+                Status) f.valid c z in let k : x.row Status / 4 ≡ 0 = quiet_yet in omega arith),
+            waits,
+          ));
         },
       )

@@ -1,6 +1,36 @@
 -- The rule holds as the gates begin.
-use Rattle.std.proofs.Common.{◌≡◌, ℕ, zero, suc, ◌+◌, ◌*◌, ◌%◌, ◌<◌, if◌then◌else◌, inl, false, IsTrue, List, [], ◌∷◌, ◌++◌, map, length, get_or,
-    sym, refl, ap, ◌∙◌, subst, Option, Some, None, ne_eqb, arith, slice_get}
+use Rattle.std.proofs.Common.{
+  ◌≡◌,
+  ℕ,
+  zero,
+  suc,
+  ◌+◌,
+  ◌*◌,
+  ◌%◌,
+  ◌<◌,
+  if◌then◌else◌,
+  inl,
+  false,
+  IsTrue,
+  List,
+  [],
+  ◌∷◌,
+  ◌++◌,
+  map,
+  length,
+  get_or,
+  sym,
+  refl,
+  ap,
+  ◌∙◌,
+  subst,
+  Option,
+  Some,
+  None,
+  ne_eqb,
+  arith,
+  slice_get,
+}
 use mathlib.Core.Option as maybe
 use mathlib.Core.Option.{none, some, some-ne-none, some-injective}
 use lib.ListN.{get_elem?, length-map}
@@ -45,7 +75,20 @@ module _ {H : Type 0} (journal : H → List Entry) (mailbox : H → Mailbox) whe
 
   begun : (hs : List H) (a : ℕ) → a < length hs → (h : H) × Begun hs a h
   begun [] a l = absurd (omega arith)
-  begun (h ∷ hs) zero l = (h, record { there = refl; tale = refl; status = refl; flag = refl; gate = refl; waiting = refl; cell = refl; list = refl })
+  begun (h ∷ hs) zero l = (
+    h,
+    record {
+      there = refl;
+      tale = refl;
+      status = refl;
+      flag = refl;
+      gate = refl;
+      waiting = refl;
+      cell =
+          refl;
+      list = refl;
+    },
+  )
   begun (h ∷ hs) (suc a) l = let b = begun hs a (omega arith) in let w = word_of (mailbox h) in (
     b.0,
     record {
@@ -77,7 +120,7 @@ module _ {H : Type 0} (is_of : ℕ → H → Type 0) (journal : H → List Entry
       → Ruled word_offset slot_offset n (Fact is_of journal mailbox rested) (opening words slots blank)
   starts n hs words slots many rows shelves fresh =
       subst (λ (z : List ℕ × List (Slot H)). Ruled word_offset slot_offset n (Fact is_of journal mailbox rested) (opening z.0 z.1 blank)) (λ i.
-          (sym rows i, sym shelves i)) record {
+      (sym rows i, sym shelves i)) record {
         ghosts = begins hs;
         wide = length-rows_of mailbox hs ∙ ap (λ k. 16 * k) (sym many);
         deep = length-map (shelves_of hs) (λ (x : Slot H). some x) ∙ (length-shelves_of hs ∙ ap (λ k. 2 * k) (sym many));

@@ -1,6 +1,35 @@
 -- The steps on an actor's status word keep the rule.
-use Rattle.std.proofs.Common.{◌≡◌, ◌≢◌, ℕ, ◌+◌, ◌%◌, if◌then◌else◌, ◌⊎◌, inl, inr, ⊎_elim, true, false, ◌||◌, IsTrue, List, [], ◌∷◌, set, sym,
-    refl, ap, ◌∙◌, subst, Option, Some, None, eq-eqb, ne_eqb, arith}
+use Rattle.std.proofs.Common.{
+  ◌≡◌,
+  ◌≢◌,
+  ℕ,
+  ◌+◌,
+  ◌%◌,
+  if◌then◌else◌,
+  ◌⊎◌,
+  inl,
+  inr,
+  ⊎_elim,
+  true,
+  false,
+  ◌||◌,
+  IsTrue,
+  List,
+  [],
+  ◌∷◌,
+  set,
+  sym,
+  refl,
+  ap,
+  ◌∙◌,
+  subst,
+  Option,
+  Some,
+  None,
+  eq-eqb,
+  ne_eqb,
+  arith,
+}
 use mathlib.Core.Option.{none, some}
 use lib.ListN.{get_elem?}
 use Rattle.mb_status.specs.Mailbox.{Mailbox, mailbox_of, word_of, is_valid}
@@ -18,10 +47,39 @@ use Rattle.mb_rule.proofs.SeenLemmas.{learns}
 use Rattle.mb_gate.specs.declared.slot.Slot.{Slot}
 use Rattle.mb_gate.specs.declared.slot.Slot.TheVariants.{Home}
 use Rattle.mb_gate.specs.View.{View, Saw, rewritten, Held, owes, reading, taking, writing, idling}
-use Rattle.mb_gate.specs.Rule.{Word, Status, Flag, word_offset, Shelf, CellShelf, slot_offset, Ghost, held_of, claim_for, list_for, Extends,
-    Knows, MessageDue, SystemDue, PaysMessage, PaysSystem, IsHome, IsHeld, Keeping, Fact}
-use Rattle.mb_gate.proofs.Views.{held_here, owes_here, extends_self, reading_elsewhere, taking_elsewhere, writing_elsewhere, idling_elsewhere,
-    goes_on}
+use Rattle.mb_gate.specs.Rule.{
+  Word,
+  Status,
+  Flag,
+  word_offset,
+  Shelf,
+  CellShelf,
+  slot_offset,
+  Ghost,
+  held_of,
+  claim_for,
+  list_for,
+  Extends,
+  Knows,
+  MessageDue,
+  SystemDue,
+  PaysMessage,
+  PaysSystem,
+  IsHome,
+  IsHeld,
+  Keeping,
+  Fact,
+}
+use Rattle.mb_gate.proofs.Views.{
+  held_here,
+  owes_here,
+  extends_self,
+  reading_elsewhere,
+  taking_elsewhere,
+  writing_elsewhere,
+  idling_elsewhere,
+  goes_on,
+}
 use Rattle.mb_gate.proofs.Facts.{still_shelved, views_change, elsewhere, load_here}
 use Rattle.mb_gate.proofs.Words.{scheduled_valid, reading_pays_message, reading_pays_system}
 
@@ -47,9 +105,9 @@ module _ {H : Type 0} (is_of : ℕ → H → Type 0) (journal : H → List Entry
     here = load_here is_of journal mailbox rested actor x (set vs id (reading actor r v)) Status
         (views_change is_of journal mailbox rested actor x vs id v (reading actor r v) at refl refl
         (λ due owed. subst (λ (d : Debt). IsTrue (d.message || d.sending)) (sym (owes_here actor (after_reading (mailbox_of r) (owes actor v))
-            v)) (reading_pays_message r (owes actor v) due.0 owed))
+        v)) (reading_pays_message r (owes actor v) due.0 owed))
         (λ due owed. subst (λ (d : Debt). IsTrue d.system) (sym (owes_here actor (after_reading (mailbox_of r) (owes actor v)) v))
-            (reading_pays_system r (owes actor v) due.0 owed))
+        (reading_pays_system r (owes actor v) due.0 owed))
         (λ k. record { seen = ((λ _ one. one), k.seen); said = k.said }) f);
     others = λ a n y g. elsewhere is_of journal mailbox rested a y vs id v (reading actor r v) at (reading_elsewhere actor a r v n) g;
     tells = told;
@@ -63,8 +121,11 @@ module _ {H : Type 0} (is_of : ℕ → H → Type 0) (journal : H → List Entry
   -- nobody holds an actor whose word is neither closed nor scheduled, and its cell is at home
   pub is_home : (actor : ℕ) (x : Place) (vs : List View) → F actor x vs → x.row Status % 4 ≡ 0 → (x.ghost.holder ≡ None) × IsHome is_of journal
       mailbox rested actor x
-  is_home actor x vs f free = let none = nobody actor x x.ghost.holder free f.cell in (none, subst (Keeping is_of journal mailbox rested actor x)
-      none f.cell)
+  is_home actor x vs f free = let none = nobody actor x x.ghost.holder free f.cell in (
+    none,
+    subst (Keeping is_of journal mailbox rested actor x)
+        none f.cell,
+  )
 
   -- who has the claim holds the actor
   pub is_held : (actor id : ℕ) (x : Place) (vs : List View) (v : View) (c : Held) → F actor x vs → get_elem? vs id ≡ some v → v.claim ≡ Some c →
@@ -84,8 +145,12 @@ module _ {H : Type 0} (is_of : ℕ → H → Type 0) (journal : H → List Entry
       let h = is_home actor x vs f free in
       let c : Held = record { actor = actor; journal = x.ghost.journal; word = old + 2; gave = x.ghost.gave; drained = [] } in
       let w = taking actor x.ghost.journal old x.ghost.gave v in
-      let y : Place = record { row = write word_offset x.row Status (old + 2); slot = fill slot_offset x.slot CellShelf none; ghost = record
-          x.ghost { holder = Some (id, c) } } in record {
+      let y : Place = record {
+        row = write word_offset x.row Status (old + 2);
+        slot = fill slot_offset x.slot CellShelf none;
+        ghost = record
+            x.ghost { holder = Some (id, c) };
+      } in record {
         view = w;
         deed = takes_from CellShelf (Home h.1.home);
         kept = record x.ghost { holder = Some (id, c) };
@@ -93,17 +158,24 @@ module _ {H : Type 0} (is_of : ℕ → H → Type 0) (journal : H → List Entry
         here = record {
           valid = subst (λ n. IsTrue (is_valid (n + 2))) is (scheduled_valid (x.row Status) free f.valid);
           claims = takes_up (claim_for actor) vs id v w c at (held_here actor c refl) (subst (λ o. Locked (claim_for actor) o vs) h.0 f.claims);
-          cell = record { own = refl; taken = refl; gave = refl; word = refl; busy = inl (omega arith); flag = h.1.flag ∙ ap (λ b. if b then 1
-              else 0) (ne_eqb (x.row Status) 1 (λ e. omega arith)) };
+          cell = record {
+            own = refl;
+            taken = refl;
+            gave = refl;
+            word = refl;
+            busy = inl (omega arith);
+            flag = h.1.flag ∙ ap (λ b. if b then 1
+                else 0) (ne_eqb (x.row Status) 1 (λ e. omega arith));
+          };
           lists = stays_locked (list_for actor) x.ghost.keeper vs id v w at refl f.lists;
           shelf = still_shelved is_of journal mailbox rested actor x y refl refl refl refl x.ghost.keeper f.shelf;
           ended = λ e. absurd (let one = f.ended e in omega arith);
           listing = f.listing;
           message = λ due. absurd (let z = due.0 in omega arith);
           system = λ due. absurd (let z = due.0 in omega arith);
-          seen = let k = goes_on actor x y v (λ one. absurd (omega arith)) (extends_self x.ghost.journal) (λ s t. t) (f.seen id v at) in
-              learns (Knows actor x) (Knows actor y) vs id w (λ u. goes_on actor x y u (λ one. absurd (omega arith)) (extends_self
-                  x.ghost.journal) (λ s t. t)) (record { seen = k.seen; said = k.said }) f.seen;
+          seen = let k = goes_on actor x y v (λ e. e) (λ one. absurd (omega arith)) (extends_self x.ghost.journal) (λ s t. t) (f.seen id v at) in
+              learns (Knows actor x) (Knows actor y) vs id w (λ u. goes_on actor x y u (λ e. e) (λ one. absurd (omega arith)) (extends_self
+              x.ghost.journal) (λ s t. t)) (record { seen = k.seen; said = k.said }) f.seen;
         };
         others = λ a n z g. elsewhere is_of journal mailbox rested a z vs id v w at (taking_elsewhere actor a old x.ghost.journal x.ghost.gave v
             n bare) g;
@@ -114,7 +186,7 @@ module _ {H : Type 0} (is_of : ℕ → H → Type 0) (journal : H → List Entry
   pub writes : (actor id : ℕ) (me : M) (c : Held) (new : ℕ) (tell : M → Type 0) (x : Place) (vs : List View) → F actor x vs → get_elem? vs id ≡
       some me.0 → me.0.claim ≡ Some c → c.actor ≡ actor
       → IsTrue (is_valid new) → (new % 4 ≡ 2) ⊎ (new ≡ 1) → (c.word ≡ 1 → new ≡ 1) → tell (writing new me.0, me.1) → Goes word_offset slot_offset
-          F actor id me Status new tell x vs
+      F actor id me Status new tell x vs
   writes actor id me c new tell x vs f at has of valid busy closed told =
       let v = me.0 in
       let h = is_held actor id x vs v c f at has of in
@@ -137,9 +209,12 @@ module _ {H : Type 0} (is_of : ℕ → H → Type 0) (journal : H → List Entry
           listing = f.listing;
           message = λ due. absurd (let z : new ≡ 0 = due.0 in ⊎_elim (λ b. omega arith) (λ b. omega arith) busy);
           system = λ due. absurd (let z : new % 4 ≡ 0 = due.0 in ⊎_elim (λ b. omega arith) (λ b. omega arith) busy);
-          seen = let k = goes_on actor x y v shut (extends_self x.ghost.journal) (λ s t. t) (f.seen id v at) in
-              learns (Knows actor x) (Knows actor y) vs id w (λ u. goes_on actor x y u shut (extends_self x.ghost.journal) (λ s t. t)) (record {
-                  seen = k.seen; said = k.said }) f.seen;
+          seen = let k = goes_on actor x y v (λ e. e) shut (extends_self x.ghost.journal) (λ s t. t) (f.seen id v at) in
+              learns (Knows actor x) (Knows actor y) vs id w (λ u. goes_on actor x y u (λ e. e) shut (extends_self x.ghost.journal)
+              (λ s t. t)) (record {
+                seen = k.seen;
+                said = k.said;
+              }) f.seen;
         };
         others = λ a n z g. elsewhere is_of journal mailbox rested a z vs id v w at (writing_elsewhere actor a new c v n has of) g;
         tells = told;
@@ -149,7 +224,7 @@ module _ {H : Type 0} (is_of : ℕ → H → Type 0) (journal : H → List Entry
   pub idles : (actor id : ℕ) (me : M) (c : Held) (home : H) (new : ℕ) (tell : M → Type 0) (x : Place) (vs : List View) → F actor x vs → get_elem?
       vs id ≡ some me.0 → me.0.claim ≡ Some c → c.actor ≡ actor
       → me.1 ≡ (slot_at actor 0, Home home) ∷ [] → is_of actor home → Extends (journal home) c.journal → c.word ≢ 1 → IsTrue (is_valid new) → new
-          % 4 ≡ 0 → new ≡ word_of (mailbox home) → (c.gave ≡ false → rested home)
+      % 4 ≡ 0 → new ≡ word_of (mailbox home) → (c.gave ≡ false → rested home)
       → tell (idling actor (journal home) me.0, []) → Goes word_offset slot_offset F actor id me Status new tell x vs
   idles actor id me c home new tell x vs f at has of carried own longer unshut valid free word rest told =
       let v = me.0 in
@@ -186,9 +261,15 @@ module _ {H : Type 0} (is_of : ℕ → H → Type 0) (journal : H → List Entry
               actor debt (record v { log = Saw actor j ∷ v.log; claim = None }))) refl);
           system = pays (PaysSystem actor) (SystemDue y) vs id v w at (subst (λ (d : Debt). IsTrue d.system) (sym (owes_here actor debt (record v
               { log = Saw actor j ∷ v.log; claim = None }))) refl);
-          seen = let k = goes_on actor x y v shut grown (λ s t. t) (f.seen id v at) in
-              learns (Knows actor x) (Knows actor y) vs id w (λ u. goes_on actor x y u shut grown (λ s t. t)) (record { seen = ((λ _.
-                  extends_self j), k.seen); said = k.said }) f.seen;
+          seen = let k = goes_on actor x y v (λ e. e) shut grown (λ s t. t) (f.seen id v at) in
+              learns (Knows actor x) (Knows actor y) vs id w (λ u. goes_on actor x y u (λ e. e) shut grown (λ s t. t)) (record {
+                seen = (
+                  (λ _.
+                      extends_self j),
+                  k.seen,
+                );
+                said = k.said;
+              }) f.seen;
         };
         others = λ a n z k. elsewhere is_of journal mailbox rested a z vs id v w at (idling_elsewhere actor a j c v n has of) k;
         tells = subst (λ l. tell (w, tail_of l)) (sym carried) told;
@@ -198,7 +279,7 @@ module _ {H : Type 0} (is_of : ℕ → H → Type 0) (journal : H → List Entry
   pub idles_closed : (actor id : ℕ) (me : M) (c : Held) (home : H) (tell : M → Type 0) (x : Place) (vs : List View) → F actor x vs → get_elem? vs
       id ≡ some me.0 → me.0.claim ≡ Some c → c.actor ≡ actor
       → me.1 ≡ (slot_at actor 0, Home home) ∷ [] → is_of actor home → Extends (journal home) c.journal → c.word ≡ 1 → 1 ≡ word_of (mailbox home)
-          → rested home
+      → rested home
       → tell (idling actor (journal home) me.0, []) → Goes word_offset slot_offset F actor id me Flag 1 tell x vs
   idles_closed actor id me c home tell x vs f at has of carried own longer closed word rest told =
       let v = me.0 in
@@ -235,9 +316,15 @@ module _ {H : Type 0} (is_of : ℕ → H → Type 0) (journal : H → List Entry
               actor debt (record v { log = Saw actor j ∷ v.log; claim = None }))) refl);
           system = pays (PaysSystem actor) (SystemDue y) vs id v w at (subst (λ (d : Debt). IsTrue d.system) (sym (owes_here actor debt (record v
               { log = Saw actor j ∷ v.log; claim = None }))) refl);
-          seen = let k = goes_on actor x y v (λ one. one) grown (λ s t. t) (f.seen id v at) in
-              learns (Knows actor x) (Knows actor y) vs id w (λ u. goes_on actor x y u (λ one. one) grown (λ s t. t)) (record { seen = ((λ _.
-                  extends_self j), k.seen); said = k.said }) f.seen;
+          seen = let k = goes_on actor x y v (λ e. e) (λ one. one) grown (λ s t. t) (f.seen id v at) in
+              learns (Knows actor x) (Knows actor y) vs id w (λ u. goes_on actor x y u (λ e. e) (λ one. one) grown (λ s t. t)) (record {
+                seen = (
+                  (λ _.
+                      extends_self j),
+                  k.seen,
+                );
+                said = k.said;
+              }) f.seen;
         };
         others = λ a n z k. elsewhere is_of journal mailbox rested a z vs id v w at (idling_elsewhere actor a j c v n has of) k;
         tells = subst (λ l. tell (w, tail_of l)) (sym carried) told;

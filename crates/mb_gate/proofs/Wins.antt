@@ -1,6 +1,35 @@
 -- What a won exchange of a status word gives.
-use Rattle.std.proofs.Common.{◌≡◌, ℕ, ◌+◌, ◌*◌, ◌%◌, ◌==◌, if◌then◌else◌, ◌⊎◌, inl, inr, Bool, true, false, not, ◌&&◌, ◌||◌, nat_le, IsTrue,
-    List, [], ◌∷◌, sym, refl, ap, ◌∙◌, subst, Some, None, arith}
+use Rattle.std.proofs.Common.{
+  ◌≡◌,
+  ℕ,
+  ◌+◌,
+  ◌*◌,
+  ◌%◌,
+  ◌==◌,
+  if◌then◌else◌,
+  ◌⊎◌,
+  inl,
+  inr,
+  Bool,
+  true,
+  false,
+  not,
+  ◌&&◌,
+  ◌||◌,
+  nat_le,
+  IsTrue,
+  List,
+  [],
+  ◌∷◌,
+  sym,
+  refl,
+  ap,
+  ◌∙◌,
+  subst,
+  Some,
+  None,
+  arith,
+}
 use Rattle.std.proofs.lemmas.Bool.Decides.{nat_tests}
 use Rattle.std.proofs.lemmas.Bool.{eqb-true}
 use Rattle.atomic_table.specs.Table.{Me}
@@ -47,21 +76,27 @@ module _ {H : Type 0} (is_of : ℕ → H → Type 0) (journal : H → List Entry
     home = w.home;
     carried = ap (λ (z : Me (Slot H) View). z.1) w.now ∙ ap (λ c. (slot_at actor 0, Home w.home) ∷ c) bare;
     gave = w.gave;
-    claim = ap (λ (z : Me (Slot H) View). z.0.claim) w.now ∙ (λ i. Some (record { actor = actor; journal = journal w.home; word = sym word i;
-        gave = w.gave; drained = [] }));
+    claim = ap (λ (z : Me (Slot H) View). z.0.claim) w.now ∙ (λ i. Some (record {
+      actor = actor;
+      journal = journal w.home;
+      word = sym word i;
+      gave = w.gave;
+      drained = [];
+    }));
     no_list = ap (λ (z : Me (Slot H) View). z.0.list) w.now ∙ no_list;
   }
 
   pub got : (seen : Mailbox) (claim : Claim H) (after : View) → IsFree seen → found ≡ word_of seen → m.0.claim ≡ None → status_of claim ≡ record
       seen { scheduled = true } → held_actor claim ≡ actor
       → known_of claim ≡ claim_alone m'.0 → m'.1 ≡ (slot_at actor 0, Home claim.home) ∷ [] → after ≡ without_claim m'.0 → IsGot is_of journal
-          mailbox rested actor m.0 after seen claim
+      mailbox rested actor m.0 after seen claim
   got seen claim after free is_seen bare status of known carried rest =
       let same : w.home ≡ claim.home = home_same w.home claim.home (ap (λ (z : ℕ × Slot H). z.1) (head_same _ _ _ _ (sym (ap (λ (z : Me (Slot H)
-          View). z.1) w.now) ∙ carried))) in
+      View). z.1) w.now) ∙ carried))) in
       let all : known_of claim ≡ claimed actor (journal w.home) (found + 2) w.gave = known ∙ ap (λ (z : Me (Slot H) View). claim_alone z.0) w.now in
       let gave : gave_last claim ≡ w.gave = ap (λ v. (held_in v).gave) all in
-      let word : found + 2 ≡ word_of (status_of claim) = ap (λ n. n + 2) is_seen ∙ sym (scheduled_word seen (status_of claim) free status) in record {
+      let word : found + 2 ≡ word_of (status_of claim) = ap (λ n. n + 2) is_seen
+      ∙ sym (scheduled_word seen (status_of claim) free status) in record {
         found = free;
         of = of;
         status = status;

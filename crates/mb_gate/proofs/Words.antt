@@ -29,8 +29,11 @@ reading_pays_message r d e h = subst (λ (n : ℕ). IsTrue ((after_reading (mail
 
 after_open : (m : Mailbox) (d : Debt) (a b c : Bool) → IsTrue d.system
     → a ≡ false → b ≡ false
-    → IsTrue (if a || b then nothing else (if c then record d { message = false; sending = false } else record d { message = d.message ||
-        d.sending; sending = false })).system
+    → IsTrue (if a || b then nothing else (if c then record d { message = false; sending = false } else record d {
+      message = d.message ||
+          d.sending;
+      sending = false;
+    })).system
 after_open m d true b c h p q = absurd (cc)
 after_open m d false true c h p q = absurd (cc)
 after_open m d false false true h p q = h

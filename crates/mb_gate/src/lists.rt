@@ -4,7 +4,7 @@ ghost use Rattle.atomic_table.specs.Table.{rest};
 ghost use Rattle.mb_syslist.specs.MessageList.{MessageList};
 ghost use Rattle.mb_rule.specs.Layout.{slot_at};
 ghost use Rattle.mb_gate.specs.declared.slot.Slot.TheVariants.{Empty, List};
-ghost use Rattle.mb_gate.specs.View.{enlisting, refusing, draining};
+ghost use Rattle.mb_gate.specs.View.{enlisting, refusing, draining, ending};
 ghost use Rattle.mb_gate.specs.Rule.{is_some_item};
 ghost use Rattle.mb_gate.specs.Claims.{held_in};
 ghost use Rattle.mb_gate.specs.Lists.{IsLentBy, IsOut, HasClaim, with_listed, with_drained, with_ended};
@@ -221,6 +221,21 @@ impl<H: Resident> Gates<H> {
         self.table.shared.store::<Enlist>(seat, gate, new);
     }
 
+    // Whether nothing is listed and the last drain gave nothing, by the gate's word: then this load is a drain that gives
+    // nothing.
+    fn is_drained(&self, seat: &mut Seat<Slot<H>, Knowledge>, id: ActorId) -> bool
+        requires ours { seat.old.table_id ≡ gates_id self.now }
+        requires there { id.0 < actors_of self.now }
+        requires holder { HasClaim id.0 seat.old.me }
+        requires no_list { seat.old.me.0.list ≡ None }
+        ensures ours { seat.new.table_id ≡ seat.old.table_id }
+        ensures answer { seat.new.me ≡ (if result then (draining id.0 [] false seat.old.me.0, seat.old.me.1) else seat.old.me) }
+    {
+        let gate = word_index(id, GATE);
+        let word = self.table.shared.load::<Glance>(seat, gate);
+        word % 8 == 0
+    }
+
     // Takes all out of the list that is out, and gives it back.
     fn drain_list(
         &self,
@@ -234,7 +249,7 @@ impl<H: Resident> Gates<H> {
         requires lent { IsOut id.0 word list seat.old.me }
         requires holder { HasClaim id.0 seat.old.me }
         ensures ours { seat.new.table_id ≡ seat.old.table_id }
-        ensures drained { seat.new.me ≡ (draining result (is_some_item result) seat.old.me.0, rest seat.old.me.1) }
+        ensures drained { seat.new.me ≡ (draining id.0 result (is_some_item result) seat.old.me.0, rest seat.old.me.1) }
     {
         let gate = word_index(id, GATE);
         let chain = list.drain();
@@ -258,7 +273,7 @@ impl<H: Resident> Gates<H> {
         requires holder { HasClaim id.0 seat.old.me }
         requires closed { (held_in seat.old.me.0).word ≡ 1 }
         ensures ours { seat.new.table_id ≡ seat.old.table_id }
-        ensures drained { seat.new.me ≡ (draining result (held_in seat.old.me.0).gave seat.old.me.0, rest seat.old.me.1) }
+        ensures drained { seat.new.me ≡ (ending id.0 result (held_in seat.old.me.0).gave seat.old.me.0, rest seat.old.me.1) }
     {
         let gate = word_index(id, GATE);
         let chain = list.close();
@@ -275,13 +290,11 @@ impl<H: Resident> Gates<H> {
         requires ours { claim_id claim.old ≡ gates_id self.now }
         requires there { held_actor claim.old < actors_of self.now }
         ensures ours { (claim_id claim.new ≡ claim_id claim.old) × (held_actor claim.new ≡ held_actor claim.old) }
-        ensures known { known_of claim.new ≡ draining result (is_some_item result) (known_of claim.old) }
+        ensures known { known_of claim.new ≡ draining (held_actor claim.old) result (is_some_item result) (known_of claim.old) }
         ensures same { (status_of claim.new ≡ status_of claim.old) × (claim.new.home ≡ claim.old.home) }
         ensures drained { (taken_with claim.new ≡ taken_with claim.old) × (gave_last claim.new ≡ is_some_item result) × (drained_by claim.new ≡ drained_by claim.old ++ result) }
     {
-        let gate = word_index(claim.actor, GATE);
-        let word = self.table.shared.load::<Glance>(&mut claim.seat, gate);
-        if word % 8 == 0 {
+        if self.is_drained(&mut claim.seat, claim.actor) {
             return Chain::new();
         }
         let (word, list) = self.grip(rt, &mut claim.seat, claim.actor);
@@ -295,11 +308,11 @@ impl<H: Resident> Gates<H> {
         requires there { held_actor claim.old < actors_of self.now }
         requires closed { (status_of claim.old).closed ≡ true }
         ensures ours { (claim_id claim.new ≡ claim_id claim.old) × (held_actor claim.new ≡ held_actor claim.old) }
-        ensures known { known_of claim.new ≡ draining result (gave_last claim.old) (known_of claim.old) }
+        ensures known { known_of claim.new ≡ ending (held_actor claim.old) result (gave_last claim.old) (known_of claim.old) }
         ensures same { (status_of claim.new ≡ status_of claim.old) × (claim.new.home ≡ claim.old.home) }
         ensures drained { (taken_with claim.new ≡ taken_with claim.old) × (gave_last claim.new ≡ gave_last claim.old) × (drained_by claim.new ≡ drained_by claim.old ++ result) }
     {
-        let (word, list) = self.grip(rt, &mut claim.seat, claim.actor);
-        self.end_list(&mut claim.seat, claim.actor, word, list)
+        let (shown, list) = self.grip(rt, &mut claim.seat, claim.actor);
+        self.end_list(&mut claim.seat, claim.actor, shown, list)
     }
 }

@@ -5,7 +5,7 @@ use Rattle.mb_gate.proofs.new.unshelve.Given as goal
 abbrev pub invariant-loop-slot : goal.invariant-loop-slot
 invariant-loop-slot g l =
     (homes_in l.slots.items ++ reverse l.homes.items ≡ homes_in l.initial.slots.items) × (length (homes_in l.slots.items) + vec_len l.homes ≤
-        vec_capacity l.homes)
+    vec_capacity l.homes)
 
 abbrev pub decreases-loop-slot : goal.decreases-loop-slot
 decreases-loop-slot g l = vec_len l.slots

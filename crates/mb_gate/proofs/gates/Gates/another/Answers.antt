@@ -3,5 +3,9 @@ use Rattle.mb_gate.proofs.Allowed.{copies_allowed}
 use Rattle.mb_gate.proofs.gates.Gates.another.Goals as goal
 
 pub split_seat-seat-requires : goal.split_seat-seat-requires
-split_seat-seat-requires g c = (search rules, search rules, copies_allowed g.H.Resident.is_of g.H.Resident.journal g.H.Resident.mailbox
-    g.H.Resident.rested _ _ _ c.args.pass.now.holds_nothing.1 c.args.pass.now.holds_nothing.2)
+split_seat-seat-requires g c = (
+  search rules,
+  search rules,
+  copies_allowed g.H.Resident.is_of g.H.Resident.journal g.H.Resident.mailbox
+      g.H.Resident.rested _ _ _ c.args.pass.now.holds_nothing.1 c.args.pass.now.holds_nothing.2,
+)

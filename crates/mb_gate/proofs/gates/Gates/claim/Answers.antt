@@ -5,8 +5,12 @@ use Rattle.mb_gate.proofs.Allowed.{claims_allowed}
 use Rattle.mb_gate.proofs.gates.Gates.claim.Goals as goal
 
 pub split_seat-rest-requires : goal.split_seat-rest-requires
-split_seat-rest-requires g c = (search rules, search rules, claims_allowed g.H.Resident.is_of g.H.Resident.journal g.H.Resident.mailbox
-    g.H.Resident.rested _ _ _ c.requires.won.no_list)
+split_seat-rest-requires g c = (
+  search rules,
+  search rules,
+  claims_allowed g.H.Resident.is_of g.H.Resident.journal g.H.Resident.mailbox
+      g.H.Resident.rested _ _ _ c.requires.won.no_list,
+)
 
 pub exchange-requires : goal.exchange-requires
 exchange-requires g c =

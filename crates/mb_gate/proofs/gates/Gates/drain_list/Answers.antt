@@ -18,9 +18,9 @@ store-requires g c =
       drains_allowed g.H.Resident.is_of g.H.Resident.journal g.H.Resident.mailbox g.H.Resident.rested _ _ _ _ c.args.id.0 _ (let k =
           c.args.self.now.keyed in let t = c.requires.there in omega arith) _ l _ c.word_index-gate.ensures
           (ap (λ m. m.0.claim) laid ∙ c.requires.holder.has) c.requires.holder.of (ap (λ m. m.0.list) laid ∙ lent.has) refl (laid_back
-              c.args.id.0 _ _ c.args.seat.now.me _ laid c.drain-chain.ensures.list)
+          c.args.id.0 _ _ c.args.seat.now.me _ laid c.drain-chain.ensures.list)
           (c.with_drained_bits-new.ensures ∙ (ap (with_drained c.args.word) (empty_is c.is_empty.result c.drain-chain.result c.is_empty.ensures ∙
-              ap not some) ∙ word_drained c.args.word c.args.list lent.gave _ lent.found)),
+          ap not some) ∙ word_drained c.args.word c.args.list lent.gave _ lent.found)),
     )
 
 pub returns-clause-drained : goal.returns-clause-drained
@@ -29,5 +29,8 @@ returns-clause-drained g c =
     let l : Lent = record { actor = c.args.id.0; listed = c.args.list; gave = lent.gave } in
     let laid = c.lay_list.ensures.carries in
     let some = ap is_some_item c.drain-chain.ensures.chain ∙ some_listed c.args.list in
-    c.store.ensures.2 l (ap (λ m. m.0.list) laid ∙ lent.has) ∙ (λ i. (draining (sym c.drain-chain.ensures.chain i) (sym some i) (laid i).0, rest
-        (laid i).1))
+    c.store.ensures.2 l (ap (λ m. m.0.list) laid ∙ lent.has) ∙ (λ i. (
+      draining c.args.id.0 (sym c.drain-chain.ensures.chain i) (sym some i) (laid i).0,
+      rest
+          (laid i).1,
+    ))

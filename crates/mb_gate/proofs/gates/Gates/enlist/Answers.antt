@@ -27,4 +27,4 @@ returns-clause-listed g c =
     let laid = c.lay_list.ensures.carries in
     let list = c.push.ensures.list ∙ ap (λ b. if b then c.args.list else with_last c.args.list c.args.node) c.requires.not_ended in
     c.store.ensures.2 c.args.id.0 l c.args.node (ap (λ m. m.0.list) laid ∙ lent.has) (laid_back c.args.id.0 _ _ c.args.seat.now.me _ laid list) ∙
-        ap (λ m. (enlisting c.args.id.0 c.args.node m.0, rest m.1)) laid
+    ap (λ m. (enlisting c.args.id.0 c.args.node m.0, rest m.1)) laid

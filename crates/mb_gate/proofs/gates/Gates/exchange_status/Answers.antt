@@ -11,26 +11,32 @@ compare_exchange-found-requires g c = (
       c.args.self.now.keyed in let t = c.requires.there in omega arith) _ _ c.word_index.ensures
       (ap (λ n. n % 4) c.word-old.ensures.word ∙ free_mod c.args.seen c.requires.free)
       (c.word-new.ensures.word ∙ (scheduled_word c.args.seen c.args.status c.requires.free c.requires.scheduled ∙ ap (λ n. n + 2) (sym
-          c.word-old.ensures.word))) c.args.pass.now.holds_nothing.1,
+      c.word-old.ensures.word))) c.args.pass.now.holds_nothing.1,
 )
 
 pub claim-requires-clause-won : goal.claim-requires-clause-won
 claim-requires-clause-won g c = taken g.H.Resident.is_of g.H.Resident.journal g.H.Resident.mailbox g.H.Resident.rested _ _ _ _
     ((c.compare_exchange-found.ensures.2 _ c.word_index.ensures).0 c.if-found-old.true) c.args.status
     (scheduled_word c.args.seen c.args.status c.requires.free c.requires.scheduled ∙ ap (λ n. n + 2) (sym (c.if-found-old.true ∙
-        c.word-old.ensures.word))) c.args.pass.now.holds_nothing.0 c.args.pass.now.holds_nothing.2
+    c.word-old.ensures.word))) c.args.pass.now.holds_nothing.0 c.args.pass.now.holds_nothing.2
 
 pub invariant_of-pass : goal.invariant_of-pass
 invariant_of-pass g c = let me = c.claim.ensures.rest in let won = (c.compare_exchange-found.ensures.2 _ c.word_index.ensures).0
     c.if-found-old.true in
-    record { holds_nothing = (ap (λ m. m.1) me, ap (λ m. m.0.claim) me, ap (λ m. m.0.list) me ∙ (ap (λ m. m.0.list) won.now ∙
-        c.args.pass.now.holds_nothing.2)) }
+    record {
+      holds_nothing = (
+        ap (λ m. m.1) me,
+        ap (λ m. m.0.claim) me,
+        ap (λ m. m.0.list) me ∙ (ap (λ m. m.0.list) won.now ∙
+            c.args.pass.now.holds_nothing.2),
+      );
+    }
 
 pub returns-then-found-old-clause-answer : goal.returns-then-found-old-clause-answer
 returns-then-found-old-clause-answer g c = got g.H.Resident.is_of g.H.Resident.journal g.H.Resident.mailbox g.H.Resident.rested _ _ _ _
     ((c.compare_exchange-found.ensures.2 _ c.word_index.ensures).0 c.if-found-old.true) c.args.seen c.claim.result _ c.requires.free
     (c.if-found-old.true ∙ c.word-old.ensures.word) c.args.pass.now.holds_nothing.1 (c.claim.ensures.claim.2 ∙ c.requires.scheduled)
-        c.claim.ensures.claim.1 c.claim.ensures.claim.0 c.claim.ensures.home (ap (λ m. m.0) c.claim.ensures.rest)
+    c.claim.ensures.claim.1 c.claim.ensures.claim.0 c.claim.ensures.home (ap (λ m. m.0) c.claim.ensures.rest)
 
 pub invariant_of-pass-else-found-old : goal.invariant_of-pass-else-found-old
 invariant_of-pass-else-found-old g c = let read = ((c.compare_exchange-found.ensures.2 _ c.word_index.ensures).1 c.if-found-old.false).0 in let

@@ -26,6 +26,6 @@ store-requires-2 g c =
           c.args.self.now.keyed in let t = c.requires.there in omega arith) _ r.home _ c.word_index-index.ensures r.has r.of r.carried r.own
           r.longer
           (λ one. let no = one_closed c.args.status (sym r.word ∙ one) in absurd (cc)) (subst (λ n. IsTrue (is_valid n)) (sym
-              c.word.ensures.word) (valid_word c.idle.result c.word.ensures.possible))
+          c.word.ensures.word) (valid_word c.idle.result c.word.ensures.possible))
           (subst (λ n. n % 4 ≡ 0) is (idle_free c.args.status unshut)) (sym is ∙ sym r.fold) (λ no. r.rest (inr no)),
     )

@@ -7,12 +7,12 @@ use Rattle.mb_gate.proofs.gates.Gates.new.Goals as goal
 pub new-requires : goal.new-requires
 new-requires g c = starts g.H.Resident.is_of g.H.Resident.journal g.H.Resident.mailbox g.H.Resident.rested _ c.args.homes.items _ _ (omega arith)
     (c.deref-2.ensures.value ∙ (c.in-Ok.ensures ∙ ap (rows_of g.H.Resident.mailbox) c.deref.ensures.value)) c.shelve-slots.ensures.slots
-        c.requires.fresh
+    c.requires.fresh
 
 pub invariant_of-result : goal.invariant_of-result
 invariant_of-result g c =
     let words = ap length (c.deref-2.ensures.value ∙ (c.in-Ok.ensures ∙ ap (rows_of g.H.Resident.mailbox) c.deref.ensures.value)) ∙
-        length-rows_of g.H.Resident.mailbox c.args.homes.items in
+    length-rows_of g.H.Resident.mailbox c.args.homes.items in
     let slots = ap length c.shelve-slots.ensures.slots ∙ length-shelves_of c.args.homes.items in
     let made = c.in-Ok-new.ensures.ok in
     record { wide = made.0 ∙ (words ∙ (omega arith)); deep = made.1 ∙ (slots ∙ (omega arith)); keyed = made.5; some = (omega arith, omega arith) }
@@ -20,7 +20,7 @@ invariant_of-result g c =
 pub unshelve-requires-clause-room : goal.unshelve-requires-clause-room
 unshelve-requires-clause-room g c =
     let back = ap length (ap homes_in (c.in-Err.ensures.err ∙ c.shelve-slots.ensures.slots) ∙ homes_in-shelves_of c.args.homes.items) in let room
-        = c.shelve-slots.ensures.homes.1 in omega arith
+    = c.shelve-slots.ensures.homes.1 in omega arith
 
 pub returns-clause-err : goal.returns-clause-err
 returns-clause-err g c = c.unshelve.ensures ∙ (ap homes_in (c.in-Err.ensures.err ∙ c.shelve-slots.ensures.slots) ∙ homes_in-shelves_of

@@ -5,8 +5,12 @@ use Rattle.mb_gate.proofs.Allowed.{reads_allowed}
 use Rattle.mb_gate.proofs.gates.Gates.status.Goals as goal
 
 pub load-word-requires : goal.load-word-requires
-load-word-requires g c = (search rules, search rules, reads_allowed g.H.Resident.is_of g.H.Resident.journal g.H.Resident.mailbox
-    g.H.Resident.rested _ _ _ _ c.args.id.0 _ (let k = c.args.self.now.keyed in let t = c.requires.there in omega arith) c.word_index.ensures)
+load-word-requires g c = (
+  search rules,
+  search rules,
+  reads_allowed g.H.Resident.is_of g.H.Resident.journal g.H.Resident.mailbox
+      g.H.Resident.rested _ _ _ _ c.args.id.0 _ (let k = c.args.self.now.keyed in let t = c.requires.there in omega arith) c.word_index.ensures,
+)
 
 pub invariant_of-pass : goal.invariant_of-pass
 invariant_of-pass g c = let read = (c.load-word.ensures.2 _ c.word_index.ensures).0 in let was = c.args.pass.now.holds_nothing in

@@ -6,9 +6,13 @@ use Rattle.mb_gate.proofs.ListCalls.{is_list, lent_by}
 use Rattle.mb_gate.proofs.gates.Gates.try_grip.Goals as goal
 
 pub compare_exchange-found-requires : goal.compare_exchange-found-requires
-compare_exchange-found-requires g c = (search rules, search rules, grips_allowed g.H.Resident.is_of g.H.Resident.journal g.H.Resident.mailbox
-    g.H.Resident.rested _ _ _ _ c.args.id.0 _ (let k = c.args.self.now.keyed in let t = c.requires.there in omega arith) _ _
-    c.word_index-gate.ensures c.requires.in_slot refl c.requires.no_list)
+compare_exchange-found-requires g c = (
+  search rules,
+  search rules,
+  grips_allowed g.H.Resident.is_of g.H.Resident.journal g.H.Resident.mailbox
+      g.H.Resident.rested _ _ _ _ c.args.id.0 _ (let k = c.args.self.now.keyed in let t = c.requires.there in omega arith) _ _
+      c.word_index-gate.ensures c.requires.in_slot refl c.requires.no_list,
+)
 
 pub returns-then-found-word-clause-answer : goal.returns-then-found-word-clause-answer
 returns-then-found-word-clause-answer g c = (c.compare_exchange-found.ensures.2 _ c.word_index-gate.ensures).1 c.if-found-word.true

@@ -4,9 +4,13 @@ use Rattle.mb_gate.proofs.ListCalls.{choose}
 use Rattle.mb_gate.proofs.gates.Gates.try_refuse.Goals as goal
 
 pub compare_exchange_with-found-requires : goal.compare_exchange_with-found-requires
-compare_exchange_with-found-requires g c = (search rules, search rules, refuses_allowed g.H.Resident.is_of g.H.Resident.journal
-    g.H.Resident.mailbox g.H.Resident.rested _ _ _ _ c.args.id.0 _ (let k = c.args.self.now.keyed in let t = c.requires.there in omega arith) _
-    c.args.message c.word_index-gate.ensures c.requires.ended)
+compare_exchange_with-found-requires g c = (
+  search rules,
+  search rules,
+  refuses_allowed g.H.Resident.is_of g.H.Resident.journal
+      g.H.Resident.mailbox g.H.Resident.rested _ _ _ _ c.args.id.0 _ (let k = c.args.self.now.keyed in let t = c.requires.there in omega arith) _
+      c.args.message c.word_index-gate.ensures c.requires.ended,
+)
 
 pub returns-clause-answer : goal.returns-clause-answer
 returns-clause-answer g c = let told = c.compare_exchange_with-found.ensures.2 _ c.args.message c.word_index-gate.ensures refl in choose _ _ _ _
