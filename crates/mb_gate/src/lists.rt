@@ -8,7 +8,8 @@ ghost use Rattle.mb_gate.specs.View.{enlisting, refusing, draining, ending};
 ghost use Rattle.mb_gate.specs.Rule.{is_some_item};
 ghost use Rattle.mb_gate.specs.Claims.{held_in};
 ghost use Rattle.mb_gate.specs.Lists.{IsLentBy, IsOut, HasClaim, with_listed, with_drained, with_ended};
-ghost use Rattle.mb_gate.specs.Names.{gates_id, pass_id, claim_id, actors_of, known_by, known_of, held_actor, status_of, taken_with, gave_last, drained_by};
+ghost use Rattle.mb_gate.specs.Names.{gates_id, pass_id, claim_id, actors_of, known_by};
+ghost use Rattle.mb_gate.specs.Names.{known_of, held_actor, status_of, taken_with, gave_last, drained_by};
 
 use crate::claim::Claim;
 use crate::gates::Gates;
@@ -292,7 +293,9 @@ impl<H: Resident> Gates<H> {
         ensures ours { (claim_id claim.new ≡ claim_id claim.old) × (held_actor claim.new ≡ held_actor claim.old) }
         ensures known { known_of claim.new ≡ draining (held_actor claim.old) result (is_some_item result) (known_of claim.old) }
         ensures same { (status_of claim.new ≡ status_of claim.old) × (claim.new.home ≡ claim.old.home) }
-        ensures drained { (taken_with claim.new ≡ taken_with claim.old) × (gave_last claim.new ≡ is_some_item result) × (drained_by claim.new ≡ drained_by claim.old ++ result) }
+        ensures taken { taken_with claim.new ≡ taken_with claim.old }
+        ensures gave { gave_last claim.new ≡ is_some_item result }
+        ensures drained { drained_by claim.new ≡ drained_by claim.old ++ result }
     {
         if self.is_drained(&mut claim.seat, claim.actor) {
             return Chain::new();
@@ -310,7 +313,9 @@ impl<H: Resident> Gates<H> {
         ensures ours { (claim_id claim.new ≡ claim_id claim.old) × (held_actor claim.new ≡ held_actor claim.old) }
         ensures known { known_of claim.new ≡ ending (held_actor claim.old) result (gave_last claim.old) (known_of claim.old) }
         ensures same { (status_of claim.new ≡ status_of claim.old) × (claim.new.home ≡ claim.old.home) }
-        ensures drained { (taken_with claim.new ≡ taken_with claim.old) × (gave_last claim.new ≡ gave_last claim.old) × (drained_by claim.new ≡ drained_by claim.old ++ result) }
+        ensures taken { taken_with claim.new ≡ taken_with claim.old }
+        ensures gave { gave_last claim.new ≡ gave_last claim.old }
+        ensures drained { drained_by claim.new ≡ drained_by claim.old ++ result }
     {
         let (shown, list) = self.grip(rt, &mut claim.seat, claim.actor);
         self.end_list(&mut claim.seat, claim.actor, shown, list)

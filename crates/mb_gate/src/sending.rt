@@ -47,7 +47,8 @@ impl<H: Resident> Gates<H> {
         requires there { held_actor claim.old < actors_of self.now }
         ensures ours { claim_id claim.new ≡ claim_id claim.old }
         ensures known { known_of claim.new ≡ counting_off (held_actor claim.old) 1 (known_of claim.old) }
-        ensures same { (held_actor claim.new ≡ held_actor claim.old) × (status_of claim.new ≡ status_of claim.old) × (claim.new.home ≡ claim.old.home) }
+        ensures actor { held_actor claim.new ≡ held_actor claim.old }
+        ensures same { (status_of claim.new ≡ status_of claim.old) × (claim.new.home ≡ claim.old.home) }
         ensures taken { SameTaken claim.old claim.new }
     {
         self.count_off(&mut claim.seat, claim.actor);
