@@ -11,11 +11,13 @@
 #![tactic(auto)]
 
 mod claim;
+mod finish;
 mod gates;
 mod holding;
 mod law;
 mod laws;
 mod layout;
+mod left;
 mod lists;
 mod new;
 mod pass;
@@ -32,6 +34,7 @@ mod view;
 pub use claim::Claim;
 pub use gates::Gates;
 pub use laws::words_show_the_machine;
+pub use left::Left;
 pub use new::NoGates;
 pub use pass::Pass;
 pub use resident::Resident;
