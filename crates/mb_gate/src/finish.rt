@@ -15,8 +15,9 @@ use atomic_table::Closed;
 use std::alloc::Global;
 
 impl<H: Resident> Gates<H> {
-    /// Ends the gates: what is left of each actor, the first with the number 0, and `None` of one that a claim has. The
-    /// pass has taken over all others. It takes no memory: the room is the caller's.
+    /// Ends the gates: what is left of each actor, the first with the number 0, and `None` of one that a claim has. Each
+    /// home is its actor's own, with the word of its journal, and goes on from all that the pass has seen, which may have
+    /// taken over all others. It takes no memory: the room is the caller's (this project's own profile).
     pub fn finish(self, pass: Pass<H>, room: Vec<Option<Left<H>>>) -> Vec<Option<Left<H>>>
         requires ours { pass_id pass ≡ gates_id self }
         requires empty { room.items ≡ [] }
