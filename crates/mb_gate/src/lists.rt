@@ -1,5 +1,5 @@
 //! The lists of system messages, each behind a gate that is taken for one list step and given back.
-ghost use Rattle.std.specs.Prelude.{◌≡◌, ◌+◌, ◌*◌, ◌/◌, ◌%◌, ◌<◌, ◌==◌, [], ◌∷◌, ◌++◌, false, true, None, IfErr, IfOk, MatchOption, if◌then◌else◌};
+ghost use Rattle.std.specs.Prelude.{◌≡◌, ◌+◌, ◌*◌, ◌/◌, ◌%◌, ◌<◌, ◌==◌, [], ◌∷◌, ◌++◌, false, true, None, IfErr, IfOk, IfSome, MatchOption, if◌then◌else◌};
 ghost use Rattle.atomic_table.specs.Table.{rest};
 ghost use Rattle.mb_syslist.specs.MessageList.{MessageList};
 ghost use Rattle.mb_rule.specs.Layout.{slot_at};
@@ -114,7 +114,8 @@ impl<H: Resident> Gates<H> {
         requires there { id.0 < actors_of self.now }
         requires no_list { seat.old.me.0.list ≡ None }
         ensures ours { seat.new.table_id ≡ seat.old.table_id }
-        ensures answer { MatchOption result (seat.new.me ≡ (refusing id.0 message seat.old.me.0, seat.old.me.1)) (λ got. IsLentBy id.0 got.0 got.1 seat.old.me seat.new.me × (got.1.closed ≡ false)) }
+        ensures refused { result ≡ None → seat.new.me ≡ (refusing id.0 message seat.old.me.0, seat.old.me.1) }
+        ensures lent { IfSome result (λ got. IsLentBy id.0 got.0 got.1 seat.old.me seat.new.me × (got.1.closed ≡ false)) }
     {
         for _ in rt.forever() {
             let word = self.table.shared.peek(word_index(id, GATE));

@@ -184,7 +184,8 @@ fn attempt(gates: &Gates<Desk>, pass: &mut Pass<Desk>, id: ActorId) -> Option<Cl
     requires ours { pass_id pass.old ≡ gates_id gates.now }
     requires there { id.0 < actors_of gates.now }
     ensures ours { pass_id pass.new ≡ pass_id pass.old }
-    ensures got { IfSome result (λ claim. (claim_id claim ≡ gates_id gates.now) × (held_actor claim ≡ id.0) × (claim.home.actor ≡ id.0) × (taken_with claim ≡ [])) }
+    ensures got { IfSome result (λ claim. (claim_id claim ≡ gates_id gates.now) × (held_actor claim ≡ id.0)) }
+    ensures own { IfSome result (λ claim. (claim.home.actor ≡ id.0) × (taken_with claim ≡ [])) }
 {
     match gates.try_schedule(pass, id) {
         Tried::Got(claim) => Some(claim),
