@@ -32,6 +32,8 @@ use Rattle.std.proofs.Common.{
   arith,
 }
 use mathlib.Core.Option as maybe
+use mathlib.Core.Logic.{dite}
+use native.Mathlib.Decide.{ℕ_discrete}
 use mathlib.Core.Option.{none, some}
 use lib.ListN.{get_elem?}
 use prog.Atomic.{either}
@@ -52,6 +54,13 @@ use Rattle.mb_gate.specs.View.{
   View,
   Read,
   Saw,
+  Counted,
+  Looked,
+  Sent,
+  Unsent,
+  Took,
+  Drained,
+  Ended,
   Held,
   Lent,
   reading,
@@ -59,12 +68,14 @@ use Rattle.mb_gate.specs.View.{
   idling,
   sending,
   unsending,
+  counting_off,
   counting,
   looking,
   lending,
   enlisting,
   refusing,
   draining,
+  ending,
   blank,
   claim_alone,
   without_claim,
@@ -101,7 +112,7 @@ use Rattle.mb_gate.specs.Plays.{
   Writes,
   Sends,
   Unsends,
-  Stays,
+  CountsOff,
   Counts,
   Looks,
   Gripped,
@@ -110,14 +121,14 @@ use Rattle.mb_gate.specs.Plays.{
   Refuses,
   Drains,
   Ends,
-  IsEmpty,
   Glances,
   Won,
   Schedules,
   Idles,
 }
+use Rattle.mb_gate.proofs.Views.{drained_nothing}
 use Rattle.mb_gate.proofs.StatusSteps.{reads, is_home, is_held, schedules, writes, idles, idles_closed}
-use Rattle.mb_gate.proofs.WaitingSteps.{sends, unsends, takes_one, counts, looks, glances}
+use Rattle.mb_gate.proofs.WaitingSteps.{sends, unsends, takes_one, counts, looks, sees, glances}
 use Rattle.mb_gate.proofs.ListSteps.{is_shelved, is_lent, grips, enlists, unloads, refuses}
 use Rattle.mb_gate.proofs.Parting.{parts, takes_over}
 
@@ -224,15 +235,34 @@ module _ {H : Type 0} (is_of : ℕ → H → Type 0) (journal : H → List Entry
   abbrev Rule : ℕ → State (Slot H) View → Type 0
   Rule n = Ruled word_offset slot_offset n F
 
-  still_closed : (actor : ℕ) (x : Place) (v : View) → Knows actor x v → StaysClosed actor (x.row Status) v
-  still_closed actor x v k = each_weaker (IsSo actor x) (IsWord actor (x.row Status)) v.log
-      (λ s. elim s as (λ z. IsSo actor x z → IsWord actor (x.row Status) z) [ Read a word ↦ (λ h. h) | Saw a j ↦ (λ h. tt) ]) k.seen
+  still_closed : (actor : ℕ) (x : Place) (v : View) → (IsTrue x.ghost.listed.closed → x.row Status ≡ 1) → Knows actor x v → StaysClosed actor
+      (x.row Status) v
+  still_closed actor x v ended k = each_weaker (IsSo actor x) (IsWord actor (x.row Status)) v.log
+      (λ s. elim s as (λ z. IsSo actor x z → IsWord actor (x.row Status) z) [
+        | Read a word ↦ (λ h. h)
+        | Saw a j ↦ (λ h. tt)
+        | Counted a n ↦ (λ h. h)
+        | Looked a b ↦ (λ h. h)
+        | Sent a n ↦ (λ h. h)
+        | Unsent a n ↦ (λ h. h)
+        | Took a n ↦ (λ h. h)
+        | Drained a given ↦ (λ h. h)
+        | Ended a given ↦ (λ h e. ended (h e))
+      ]) k.seen
 
-  goes_further : (actor : ℕ) (x : Place) (v : View) → x.row Status ≢ 1 → Knows actor x v → GoesOn actor x.ghost.journal v
-  goes_further actor x v unshut k = each_weaker (IsSo actor x) (IsBefore actor x.ghost.journal) v.log
+  goes_further : (actor : ℕ) (x : Place) (v : View) → (IsTrue x.ghost.listed.closed → x.row Status ≡ 1) → x.row Status ≢ 1
+      → Knows actor x v → GoesOn actor x.ghost.journal v
+  goes_further actor x v ended unshut k = each_weaker (IsSo actor x) (IsBefore actor x.ghost.journal) v.log
       (λ s. elim s as (λ z. IsSo actor x z → IsBefore actor x.ghost.journal z) [
         | Read a word ↦ (λ h e one. unshut (h e one))
         | Saw a j ↦ (λ h. h)
+        | Counted a n ↦ (λ h. h)
+        | Looked a b ↦ (λ h. h)
+        | Sent a n ↦ (λ h. h)
+        | Unsent a n ↦ (λ h. h)
+        | Took a n ↦ (λ h. h)
+        | Drained a given ↦ (λ h. h)
+        | Ended a given ↦ (λ h e. unshut (ended (h e)))
       ]) k.seen
 
   shown_by : (x : Place) (keeper : Option (ℕ × Lent)) → Shelving is_of journal mailbox rested x keeper → has_work x.ghost ≡ shows_work (x.row Gate)
@@ -241,7 +271,8 @@ module _ {H : Type 0} (is_of : ℕ → H → Type 0) (journal : H → List Entry
 
   ends_by : (x : Place) (keeper : Option (ℕ × Lent)) → Shelving is_of journal mailbox rested x keeper → x.row Gate / 8 % 2 ≡ 1 → IsTrue
       x.ghost.listed.closed
-  ends_by x None k e = end_mark (is_some_item x.ghost.listed.messages) x.ghost.gave x.ghost.listed.closed false (ap (λ z. z / 8 % 2) (sym k.word) ∙ e)
+  ends_by x None k e = end_mark (is_some_item x.ghost.listed.messages) x.ghost.gave x.ghost.listed.closed false (ap (λ z. z / 8 % 2)
+      (sym k.word) ∙ e)
   ends_by x (Some h) k e = end_mark (is_some_item x.ghost.listed.messages) x.ghost.gave x.ghost.listed.closed true (ap (λ z. z / 8 % 2) (sym
       k.word) ∙ e)
 
@@ -259,7 +290,7 @@ module _ {H : Type 0} (is_of : ℕ → H → Type 0) (journal : H → List Entry
           me.0,
       me.1,
     )) × IsTrue (is_valid (x.row Status)) × StaysClosed b (x.row Status) me.0))
-        (same_actor actor a 0 e) (refl, f.valid, still_closed actor x me.0 (f.seen id me.0 at))
+        (same_actor actor a 0 e) (refl, f.valid, still_closed actor x me.0 f.ended (f.seen id me.0 at))
 
     pub reads_allowed : i ≡ word_at actor 0 → Allows (Rule n) slots id me i (λ k. k) (Reads (step slots i 0 0 none) me)
     reads_allowed e = subst (λ j. Allows (Rule n) slots id me j (λ k. k) (Reads (step slots j 0 0 none) me)) (sym e)
@@ -289,7 +320,7 @@ module _ {H : Type 0} (is_of : ℕ → H → Type 0) (journal : H → List Entry
             word = h.1.word;
             gave = x.ghost.gave;
             rest = λ no. h.1.rest (inr no);
-            seen = subst (λ j. GoesOn actor j me.0) (sym h.1.fold) (goes_further actor x me.0 (λ one. omega arith) (f.seen id me.0 at));
+            seen = subst (λ j. GoesOn actor j me.0) (sym h.1.fold) (goes_further actor x me.0 f.ended (λ one. omega arith) (f.seen id me.0 at));
             now = λ z. (taking actor (sym h.1.fold z) (sym hit z) x.ghost.gave me.0, (slot_at actor 0, Home h.1.home) ∷ me.1);
           }),
           (λ miss. absurd (miss hit)),
@@ -349,24 +380,26 @@ module _ {H : Type 0} (is_of : ℕ → H → Type 0) (journal : H → List Entry
     pub sends_allowed : (g : ℕ → ℕ) (k : ℕ) → i ≡ word_at actor 4 → Allows (Rule n) slots id me i g (Sends (step slots i k 0 none) me)
     sends_allowed g k e = subst (λ j. Allows (Rule n) slots id me j g (Sends (step slots j k 0 none) me)) (sym e)
         (allows word_offset slot_offset words_few slots_few n F slots id me actor Waiting g (Sends (step slots (word_at actor 4) k 0 none) me) inside
-        (λ x vs f at fits. sends is_of journal mailbox rested actor id (g (x.row Waiting)) me (Sends (step slots (word_at actor 4) k 0 none) me
+        (λ x vs f at fits. sends is_of journal mailbox rested actor id (g (x.row Waiting)) k me (Sends (step slots (word_at actor 4) k 0 none) me
         (x.row Waiting)) x vs f at
-        (λ a w z. (sending (same_actor actor a 4 w z) me.0, me.1))))
+        (λ a w z. (sending (same_actor actor a 4 w z) k me.0, me.1))))
 
     pub unsends_allowed : (g : ℕ → ℕ) (k : ℕ) → i ≡ word_at actor 4 → Allows (Rule n) slots id me i g (Unsends (step slots i k 0 none) me)
     unsends_allowed g k e = subst (λ j. Allows (Rule n) slots id me j g (Unsends (step slots j k 0 none) me)) (sym e)
         (allows word_offset slot_offset words_few slots_few n F slots id me actor Waiting g (Unsends (step slots (word_at actor 4) k 0 none) me)
         inside
-        (λ x vs f at fits. unsends is_of journal mailbox rested actor id (g (x.row Waiting)) me (Unsends (step slots (word_at actor 4) k 0 none)
+        (λ x vs f at fits. unsends is_of journal mailbox rested actor id (g (x.row Waiting)) k me (Unsends (step slots (word_at actor 4) k 0 none)
         me (x.row Waiting)) x vs f at
-        (λ a w z. (unsending (same_actor actor a 4 w z) me.0, me.1))))
+        (λ a w z. (unsending (same_actor actor a 4 w z) k me.0, me.1))))
 
     pub takes_allowed : (c : Held) (g : ℕ → ℕ) (k : ℕ) → i ≡ word_at actor 4 → me.0.claim ≡ Some c → c.actor ≡ actor → Allows (Rule n) slots id
-        me i g (Stays (step slots i k 0 none) me)
-    takes_allowed c g k e has of = subst (λ j. Allows (Rule n) slots id me j g (Stays (step slots j k 0 none) me)) (sym e)
-        (allows word_offset slot_offset words_few slots_few n F slots id me actor Waiting g (Stays (step slots (word_at actor 4) k 0 none) me) inside
-        (λ x vs f at fits. takes_one is_of journal mailbox rested actor id (g (x.row Waiting)) me c (Stays (step slots (word_at actor 4) k 0
-        none) me (x.row Waiting)) x vs f at has of refl))
+        me i g (CountsOff (step slots i k 0 none) me)
+    takes_allowed c g k e has of = subst (λ j. Allows (Rule n) slots id me j g (CountsOff (step slots j k 0 none) me)) (sym e)
+        (allows word_offset slot_offset words_few slots_few n F slots id me actor Waiting g (CountsOff (step slots
+        (word_at actor 4) k 0 none) me) inside
+        (λ x vs f at fits. takes_one is_of journal mailbox rested actor id (g (x.row Waiting)) (Took actor k) me c (CountsOff
+        (step slots (word_at actor 4) k 0
+        none) me (x.row Waiting)) x vs (λ a y. tt) f at has of (λ a w z. (counting_off (same_actor actor a 4 w z) k me.0, me.1))))
 
     pub counts_allowed : i ≡ word_at actor 4 → Allows (Rule n) slots id me i (λ k. k) (Counts (step slots i 0 0 none) me)
     counts_allowed e = subst (λ j. Allows (Rule n) slots id me j (λ k. k) (Counts (step slots j 0 0 none) me)) (sym e)
@@ -395,7 +428,10 @@ module _ {H : Type 0} (is_of : ℕ → H → Type 0) (journal : H → List Entry
         (λ hit. let here : x.row Gate % 2 ≡ 0 = ap (λ k. k % 2) hit ∙ even in
         subst (λ k. Goes word_offset slot_offset F actor id me Gate k tell x vs) (sym is_new)
         (grips is_of journal mailbox rested actor id me old tell x vs f at here hit bare
-        (λ a w. subst (λ (b : ℕ). (let now : M = (lending actor x.ghost.listed x.ghost.gave me.0, (slot_at actor 1, Listing x.ghost.listed) ∷ me.1) in
+        (λ a w. subst (λ (b : ℕ). (let now : M = (
+          lending actor x.ghost.listed x.ghost.gave me.0,
+          (slot_at actor 1, Listing x.ghost.listed) ∷ me.1,
+        ) in
         (x.row Gate ≡ old → Gripped b (x.row Gate) me now) × (x.row Gate ≢ old → now ≡ me))) (same_actor actor a 2 w) (
           (λ _. record {
             listed = x.ghost.listed;
@@ -451,11 +487,13 @@ module _ {H : Type 0} (is_of : ℕ → H → Type 0) (journal : H → List Entry
         new 0 none) me new)) (sym e)
         (allows word_offset slot_offset words_few slots_few n F slots id me actor Gate (λ _. new) (λ _. Drains (step slots (word_at actor 2) new
         0 none) me new) inside
-        (λ x vs f at fits. unloads is_of journal mailbox rested actor id new me c l (drained l.listed) (listed l.listed) (is_some_item
+        (λ x vs f at fits. unloads is_of journal mailbox rested actor id new (Drained actor (listed l.listed)) me c l (drained l.listed)
+        (listed l.listed) (is_some_item
         l.listed.messages) (Drains (step slots (word_at actor 2) new 0 none) me new) x vs f at
-        has of keeps of_list carried word refl (λ e. e) (λ e. inl e)
+        has of keeps of_list carried word refl (λ e. e) (λ e. inl e) (λ a z e. tt)
         (λ l' has' z. (
-          draining (listed (some_same l l' (sym keeps ∙ has') z).listed) (is_some_item (some_same l l' (sym keeps ∙ has')
+          draining ((sym of_list ∙ ap (λ (h : Lent). h.actor) (some_same l l' (sym keeps
+              ∙ has'))) z) (listed (some_same l l' (sym keeps ∙ has') z).listed) (is_some_item (some_same l l' (sym keeps ∙ has')
               z).listed.messages) me.0,
           tail_of me.1,
         ))))
@@ -471,27 +509,33 @@ module _ {H : Type 0} (is_of : ℕ → H → Type 0) (journal : H → List Entry
         (λ x vs f at fits.
         let gave : l.gave ≡ c.gave = (is_lent is_of journal mailbox rested actor id x vs me.0 l f at keeps of_list).1.gave ∙ sym (is_held is_of
         journal mailbox rested actor id x vs me.0 c f at has of).1.gave in
-        unloads is_of journal mailbox rested actor id new me c l (ended l.listed) (listed l.listed) l.gave (Ends (step slots (word_at actor 2)
+        unloads is_of journal mailbox rested actor id new (Ended actor (listed l.listed)) me c l (ended l.listed)
+        (listed l.listed) l.gave (Ends (step slots (word_at actor 2)
         new 0 none) me new) x vs f at
-        has of keeps of_list carried word refl (λ e. refl) (λ e. inr closed)
+        has of keeps of_list carried word refl (λ e. refl) (λ e. inr closed) (λ a z e w. ap (λ (m : MessageList). m.closed) (e (sym w)))
         (λ l' c' list' claim' z. (
-          draining (listed (some_same l l' (sym keeps ∙ list') z).listed) ((gave ∙ ap (λ (h : Held). h.gave) (some_same c
+          ending ((sym of_list ∙ ap (λ (h : Lent). h.actor) (some_same l l' (sym keeps ∙ list'))) z) (listed (some_same l l' (sym keeps
+              ∙ list') z).listed) ((gave ∙ ap (λ (h : Held). h.gave) (some_same c
               c' (sym has ∙ claim'))) z) me.0,
           tail_of me.1,
         ))))
-
-    told_glance : (x : Place) (vs : List View) → F actor x vs → get_elem? vs id ≡ some me.0 → (a : ℕ) → word_at actor 2 ≡ word_at a 2 → IsEmpty a
-        (x.row Gate) me.0
-    told_glance x vs f at a w = subst (λ b. IsEmpty b (x.row Gate) me.0) (same_actor actor a 2 w)
-        (λ empty c has of. (is_held is_of journal mailbox rested actor id x vs me.0 c f at has of).1.gave ∙ (gave_by x x.ghost.keeper f.shelf
-        empty).1)
 
     pub glances_allowed : i ≡ word_at actor 2 → Allows (Rule n) slots id me i (λ k. k) (Glances (step slots i 0 0 none) me)
     glances_allowed e = subst (λ j. Allows (Rule n) slots id me j (λ k. k) (Glances (step slots j 0 0 none) me)) (sym e)
         (allows word_offset slot_offset words_few slots_few n F slots id me actor Gate (λ k. k) (Glances (step slots (word_at actor 2) 0 0 none)
         me) inside
-        (λ x vs f at fits. glances is_of journal mailbox rested actor id Gate me (Glances (step slots (word_at actor 2) 0 0 none) me (x.row
-        Gate)) x vs f at (refl, told_glance x vs f at)))
+        (λ x vs f at fits. let tell = Glances (step slots (word_at actor 2) 0 0 none) me (x.row Gate) in
+        dite (ℕ_discrete (x.row Gate % 8) 0)
+        (λ hit. sees is_of journal mailbox rested actor id Gate (Drained actor []) me tell x vs (λ a y. tt) f at
+        (λ a c w has of bare. let who : actor ≡ a = same_actor actor a 2 w in
+        let gave : c.gave ≡ false = (is_held is_of journal mailbox rested actor id x vs me.0 c f at has (of ∙ sym who)).1.gave ∙ (gave_by x
+        x.ghost.keeper f.shelf hit).1 in
+        ((λ _ z. ((drained_nothing actor c me.0 has bare gave ∙ (λ j. draining (who j) [] false me.0)) z, me.1)), (λ miss. absurd (miss hit)))))
+        (λ miss. glances is_of journal mailbox rested actor id Gate me tell x vs f at (λ a c w has of bare. (
+          (λ hit. absurd (miss hit)),
+          (λ _.
+              refl),
+        )))))
 
     pub refuses_allowed : (old : ℕ) (m : SysMsg) → i ≡ word_at actor 2 → old / 8 % 2 ≡ 1 → Allows (Rule n) slots id me i (λ k. either (k == old)
         old k) (Refuses (step slots i old old (some (Note m))) me)

@@ -11,3 +11,4 @@ pub mod Rows
 pub mod Starting
 pub mod ListCalls
 pub mod Shows
+pub mod Leaving

@@ -23,11 +23,8 @@ use Rattle.std.proofs.Common.{
   ap,
   ◌∙◌,
   subst,
-  Some,
-  None,
   eq-eqb,
   ne_eqb,
-  append-nil,
   arith,
 }
 use mathlib.Core.Logic.{dite}
@@ -38,8 +35,7 @@ use Rattle.mb_syslist.specs.MessageList.{MessageList, with_last, drained, ended,
 use Rattle.mb_rule.specs.Layout.{slot_at}
 use Rattle.mb_gate.specs.declared.slot.Slot.{Slot}
 use Rattle.mb_gate.specs.declared.slot.Slot.TheVariants.{Empty, List as Listing}
-use Rattle.mb_gate.specs.View.{View, lending, regiven, draining}
-use Rattle.mb_gate.specs.Claims.{held_in}
+use Rattle.mb_gate.specs.View.{View, lending}
 use Rattle.mb_gate.specs.Rule.{is_some_item, gate_word}
 use Rattle.mb_gate.specs.Plays.{Gripped}
 use Rattle.mb_gate.specs.Lists.{IsLentBy, IsOut, with_listed, with_drained, with_ended}
@@ -188,14 +184,6 @@ some_listed l = items l.given l.messages
     items : (n : ℕ) (ms : List SysMsg) → is_some_item (numbered n ms) ≡ is_some_item ms
     items n [] = refl
     items n (m ∷ ms) = refl
-
--- a drain of nothing changes nothing, where the last drain gave nothing
-pub drains_nothing : (v : View) → v.claim ≡ Some (held_in v) → v.list ≡ None → (held_in v).gave ≡ false → v ≡ draining [] false v
-drains_nothing v has no_list gave i = record v { list = no_list i; claim = same i }
-  where
-    same : v.claim ≡ regiven [] false v.claim
-    same = has ∙ ((λ k. Some (record (held_in v) { gave = gave k; drained = sym (append-nil (held_in v).drained) k })) ∙ sym (ap (regiven []
-        false) has))
 
 -- what was taken out is out
 pub lent_out : {H : Type 0} (actor word : ℕ) (l : MessageList) (m m' : Me (Slot H) View) → IsLentBy actor word l m m' → IsOut actor word l m'

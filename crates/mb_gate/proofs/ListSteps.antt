@@ -46,7 +46,7 @@ use Rattle.mb_rule.proofs.OwedLemmas.{pays, still_owed}
 use Rattle.mb_rule.proofs.SeenLemmas.{learns}
 use Rattle.mb_gate.specs.declared.slot.Slot.{Slot}
 use Rattle.mb_gate.specs.declared.slot.Slot.TheVariants.{List as Listing}
-use Rattle.mb_gate.specs.View.{View, Held, Lent, owes, Said, lending, enlisting, refusing, regiven, draining}
+use Rattle.mb_gate.specs.View.{View, Sight, Held, Lent, owes, Said, lending, enlisting, refusing, regiven, unloading}
 use Rattle.mb_gate.specs.Rule.{
   Word,
   Gate,
@@ -61,6 +61,7 @@ use Rattle.mb_gate.specs.Rule.{
   lent_of,
   claim_for,
   list_for,
+  IsSo,
   IsAmong,
   IsTold,
   Knows,
@@ -170,8 +171,9 @@ module _ {H : Type 0} (is_of : ℕ → H → Type 0) (journal : H → List Entry
           listing = f.listing;
           message = still_owed (PaysMessage actor) (MessageDue x) (MessageDue y) vs id v w at (λ d. d) (λ _ p. p) f.message;
           system = still_owed (PaysSystem actor) (SystemDue x) (SystemDue y) vs id v w at (λ d. d) (λ _ p. p) f.system;
-          seen = let k = goes_on actor x y v (λ one. one) (extends_self x.ghost.journal) (λ s t. t) (f.seen id v at) in
-              learns (Knows actor x) (Knows actor y) vs id w (λ u. goes_on actor x y u (λ one. one) (extends_self x.ghost.journal) (λ s t. t))
+          seen = let k = goes_on actor x y v (λ e. e) (λ one. one) (extends_self x.ghost.journal) (λ s t. t) (f.seen id v at) in
+              learns (Knows actor x) (Knows actor y) vs id w (λ u. goes_on actor x y u (λ e. e) (λ one. one)
+              (extends_self x.ghost.journal) (λ s t. t))
               (record { seen = k.seen; said = k.said }) f.seen;
         };
         others = λ a n z k. elsewhere is_of journal mailbox rested a z vs id v w at
@@ -226,8 +228,10 @@ module _ {H : Type 0} (is_of : ℕ → H → Type 0) (journal : H → List Entry
           message = still_owed (PaysMessage actor) (MessageDue x) (MessageDue y) vs id v w at (λ z. z) (λ _. subst (λ (z : Debt). IsTrue
               (z.message || z.sending)) (sym (owes_here actor d u))) f.message;
           system = pays (PaysSystem actor) (SystemDue y) vs id v w at (subst (λ (z : Debt). IsTrue z.system) (sym (owes_here actor d u)) refl);
-          seen = let k = goes_on actor x y v (λ one. one) (extends_self x.ghost.journal) (more_told actor x y m same_end refl) (f.seen id v at) in
-              learns (Knows actor x) (Knows actor y) vs id w (λ u. goes_on actor x y u (λ one. one) (extends_self x.ghost.journal) (more_told
+          seen = let k = goes_on actor x y v same_end (λ one. one) (extends_self x.ghost.journal) (more_told actor x y m same_end refl)
+              (f.seen id v at) in
+              learns (Knows actor x) (Knows actor y) vs id w (λ u. goes_on actor x y u same_end (λ one. one)
+              (extends_self x.ghost.journal) (more_told
               actor x y m same_end refl)) (record {
                 seen = k.seen;
                 said = (
@@ -255,17 +259,19 @@ module _ {H : Type 0} (is_of : ℕ → H → Type 0) (journal : H → List Entry
       }
 
   -- the holder gives back the list, to which it did this
-  pub unloads : (actor id n : ℕ) (me : M) (c : Held) (l : Lent) (new : MessageList) (given : List (ℕ × SysMsg)) (gave : Bool) (tell : M → Type 0)
+  pub unloads : (actor id n : ℕ) (s : Sight) (me : M) (c : Held) (l : Lent) (new : MessageList) (given : List (ℕ
+      × SysMsg)) (gave : Bool) (tell : M → Type 0)
       (x : Place) (vs : List View) → F actor x vs → get_elem? vs id ≡ some me.0
       → me.0.claim ≡ Some c → c.actor ≡ actor → me.0.list ≡ Some l → l.actor ≡ actor → me.1 ≡ (slot_at actor 1, Listing new) ∷ tail_of me.1 → n ≡
       gate_word false new gave
       → new.messages ≡ [] → (IsTrue l.listed.closed → IsTrue new.closed) → (IsTrue new.closed → IsTrue l.listed.closed ⊎ (c.word ≡ 1))
-      → tell (draining given gave me.0, tail_of me.1) → Goes word_offset slot_offset F actor id me Gate n tell x vs
-  unloads actor id n me c l new given gave tell x vs f at has of keeps of_list carried word empty stays_closed closed told =
+      → ((a : ℕ) (z : Place) → (a ≡ actor → z.ghost.listed ≡ new) → IsSo a z s) → tell (unloading s given gave me.0, tail_of me.1)
+      → Goes word_offset slot_offset F actor id me Gate n tell x vs
+  unloads actor id n s me c l new given gave tell x vs f at has of keeps of_list carried word empty stays_closed closed so told =
       let v = me.0 in
       let h = is_held is_of journal mailbox rested actor id x vs v c f at has of in
       let k = is_lent actor id x vs v l f at keeps of_list in
-      let w = draining given gave v in
+      let w = unloading s given gave v in
       let still : IsTrue x.ghost.listed.closed → IsTrue new.closed = (λ e. stays_closed (ap (λ (z : MessageList). z.closed) k.1.taken ∙ e)) in
       let c' : Held = record c { gave = gave; drained = c.drained ++ given } in
       let g : Ghost = record x.ghost { holder = Some (id, c'); keeper = None; listed = new; gave = gave } in
@@ -286,17 +292,17 @@ module _ {H : Type 0} (is_of : ℕ → H → Type 0) (journal : H → List Entry
           listing = (x.ghost.pushed, sym (append-nil x.ghost.pushed) ∙ ap (λ z. x.ghost.pushed ++ z) (sym empty));
           message = still_owed (PaysMessage actor) (MessageDue x) (MessageDue y) vs id v w at (λ z. z) (λ _ p. p) f.message;
           system = λ due. absurd (let z = due.0 in ⊎_elim (λ b. omega arith) (λ b. omega arith) h.1.busy);
-          seen = let k = goes_on actor x y v (λ one. one) (extends_self x.ghost.journal) (ended_told actor x y still refl) (f.seen id v at) in
-              learns (Knows actor x) (Knows actor y) vs id w (λ u. goes_on actor x y u (λ one. one) (extends_self x.ghost.journal) (ended_told
-              actor x y still refl)) (record { seen = k.seen; said = k.said }) f.seen;
+          seen = let k = goes_on actor x y v still (λ one. one) (extends_self x.ghost.journal) (ended_told actor x y still refl) (f.seen id v at) in
+              learns (Knows actor x) (Knows actor y) vs id w (λ u. goes_on actor x y u still (λ one. one) (extends_self x.ghost.journal) (ended_told
+              actor x y still refl)) (record { seen = (so actor y (λ _. refl), k.seen); said = k.said }) f.seen;
         };
-        others = λ a i z s. elsewhere is_of journal mailbox rested a z vs id v w at (record {
+        others = λ a i z p. elsewhere is_of journal mailbox rested a z vs id v w at (record {
           claim = ap (λ z. held_of a (regiven given gave z)) has ∙ (held_else a c' (λ e. i (sym e ∙ of)) ∙ sym (ap (held_of a) has ∙ held_else a
               c (λ e. i (sym e ∙ of))));
           list = sym (ap (lent_of a) keeps ∙ lent_else a l (λ e. i (sym e ∙ of_list)));
           debt = refl;
-          knows = λ _ t. record { seen = t.seen; said = t.said };
-        }) s;
+          knows = λ q t. record { seen = (so a q (λ e. absurd (i e)), t.seen); said = t.said };
+        }) p;
         tells = told;
       }
 

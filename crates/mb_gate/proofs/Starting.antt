@@ -75,7 +75,20 @@ module _ {H : Type 0} (journal : H → List Entry) (mailbox : H → Mailbox) whe
 
   begun : (hs : List H) (a : ℕ) → a < length hs → (h : H) × Begun hs a h
   begun [] a l = absurd (omega arith)
-  begun (h ∷ hs) zero l = (h, record { there = refl; tale = refl; status = refl; flag = refl; gate = refl; waiting = refl; cell = refl; list = refl })
+  begun (h ∷ hs) zero l = (
+    h,
+    record {
+      there = refl;
+      tale = refl;
+      status = refl;
+      flag = refl;
+      gate = refl;
+      waiting = refl;
+      cell =
+          refl;
+      list = refl;
+    },
+  )
   begun (h ∷ hs) (suc a) l = let b = begun hs a (omega arith) in let w = word_of (mailbox h) in (
     b.0,
     record {

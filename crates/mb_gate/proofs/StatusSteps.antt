@@ -173,8 +173,8 @@ module _ {H : Type 0} (is_of : ℕ → H → Type 0) (journal : H → List Entry
           listing = f.listing;
           message = λ due. absurd (let z = due.0 in omega arith);
           system = λ due. absurd (let z = due.0 in omega arith);
-          seen = let k = goes_on actor x y v (λ one. absurd (omega arith)) (extends_self x.ghost.journal) (λ s t. t) (f.seen id v at) in
-              learns (Knows actor x) (Knows actor y) vs id w (λ u. goes_on actor x y u (λ one. absurd (omega arith)) (extends_self
+          seen = let k = goes_on actor x y v (λ e. e) (λ one. absurd (omega arith)) (extends_self x.ghost.journal) (λ s t. t) (f.seen id v at) in
+              learns (Knows actor x) (Knows actor y) vs id w (λ u. goes_on actor x y u (λ e. e) (λ one. absurd (omega arith)) (extends_self
               x.ghost.journal) (λ s t. t)) (record { seen = k.seen; said = k.said }) f.seen;
         };
         others = λ a n z g. elsewhere is_of journal mailbox rested a z vs id v w at (taking_elsewhere actor a old x.ghost.journal x.ghost.gave v
@@ -209,8 +209,9 @@ module _ {H : Type 0} (is_of : ℕ → H → Type 0) (journal : H → List Entry
           listing = f.listing;
           message = λ due. absurd (let z : new ≡ 0 = due.0 in ⊎_elim (λ b. omega arith) (λ b. omega arith) busy);
           system = λ due. absurd (let z : new % 4 ≡ 0 = due.0 in ⊎_elim (λ b. omega arith) (λ b. omega arith) busy);
-          seen = let k = goes_on actor x y v shut (extends_self x.ghost.journal) (λ s t. t) (f.seen id v at) in
-              learns (Knows actor x) (Knows actor y) vs id w (λ u. goes_on actor x y u shut (extends_self x.ghost.journal) (λ s t. t)) (record {
+          seen = let k = goes_on actor x y v (λ e. e) shut (extends_self x.ghost.journal) (λ s t. t) (f.seen id v at) in
+              learns (Knows actor x) (Knows actor y) vs id w (λ u. goes_on actor x y u (λ e. e) shut (extends_self x.ghost.journal)
+              (λ s t. t)) (record {
                 seen = k.seen;
                 said = k.said;
               }) f.seen;
@@ -260,8 +261,8 @@ module _ {H : Type 0} (is_of : ℕ → H → Type 0) (journal : H → List Entry
               actor debt (record v { log = Saw actor j ∷ v.log; claim = None }))) refl);
           system = pays (PaysSystem actor) (SystemDue y) vs id v w at (subst (λ (d : Debt). IsTrue d.system) (sym (owes_here actor debt (record v
               { log = Saw actor j ∷ v.log; claim = None }))) refl);
-          seen = let k = goes_on actor x y v shut grown (λ s t. t) (f.seen id v at) in
-              learns (Knows actor x) (Knows actor y) vs id w (λ u. goes_on actor x y u shut grown (λ s t. t)) (record {
+          seen = let k = goes_on actor x y v (λ e. e) shut grown (λ s t. t) (f.seen id v at) in
+              learns (Knows actor x) (Knows actor y) vs id w (λ u. goes_on actor x y u (λ e. e) shut grown (λ s t. t)) (record {
                 seen = (
                   (λ _.
                       extends_self j),
@@ -315,8 +316,8 @@ module _ {H : Type 0} (is_of : ℕ → H → Type 0) (journal : H → List Entry
               actor debt (record v { log = Saw actor j ∷ v.log; claim = None }))) refl);
           system = pays (PaysSystem actor) (SystemDue y) vs id v w at (subst (λ (d : Debt). IsTrue d.system) (sym (owes_here actor debt (record v
               { log = Saw actor j ∷ v.log; claim = None }))) refl);
-          seen = let k = goes_on actor x y v (λ one. one) grown (λ s t. t) (f.seen id v at) in
-              learns (Knows actor x) (Knows actor y) vs id w (λ u. goes_on actor x y u (λ one. one) grown (λ s t. t)) (record {
+          seen = let k = goes_on actor x y v (λ e. e) (λ one. one) grown (λ s t. t) (f.seen id v at) in
+              learns (Knows actor x) (Knows actor y) vs id w (λ u. goes_on actor x y u (λ e. e) (λ one. one) grown (λ s t. t)) (record {
                 seen = (
                   (λ _.
                       extends_self j),

@@ -8,9 +8,11 @@ use Rattle.std.proofs.Common.{
   if◌then◌else◌,
   Bool,
   true,
+  IsTrue,
   false,
   List,
   [],
+  ◌∷◌,
   ◌++◌,
   sym,
   refl,
@@ -21,6 +23,7 @@ use Rattle.std.proofs.Common.{
   eq-eqb,
   ne_eqb,
   append_assoc,
+  append-nil,
 }
 use Rattle.mb_journal.specs.Entry.{Entry}
 use Rattle.mb_core.specs.declared.debt.Debt.{Debt}
@@ -30,7 +33,34 @@ use Rattle.mb_status.specs.Mailbox.{mailbox_of}
 use Rattle.mb_rule.specs.Layout.{Spot}
 use Rattle.mb_rule.proofs.SeenLemmas.{each_weaker}
 use Rattle.mb_gate.specs.declared.slot.Slot.{Slot}
-use Rattle.mb_gate.specs.View.{View, Read, Saw, Held, Lent, Said, owes, owing, reading, taking, rewritten, writing, idling, counting, looking}
+use Rattle.mb_gate.specs.View.{
+  View,
+  Sight,
+  Read,
+  Saw,
+  Counted,
+  Looked,
+  Sent,
+  Unsent,
+  Took,
+  Drained,
+  Ended,
+  Held,
+  Lent,
+  Said,
+  owes,
+  owing,
+  seeing,
+  reading,
+  taking,
+  rewritten,
+  writing,
+  idling,
+  counting,
+  looking,
+  regiven,
+  draining,
+}
 use Rattle.mb_gate.specs.Rule.{Word, Shelf, Ghost, Status, held_of, lent_of, claim_for, list_for, Extends, IsSo, IsTold, Knows}
 
 pub held_here : (actor : ℕ) (c : Held) → c.actor ≡ actor → held_of actor (Some c) ≡ Some c
@@ -62,6 +92,14 @@ extends_more j k l a b = record {
       b.newer l));
 }
 
+-- a drain of nothing is seen alone, where the last drain gave nothing
+pub drained_nothing : (actor : ℕ) (c : Held) (v : View) → v.claim ≡ Some c → v.list ≡ None → c.gave ≡ false → seeing (Drained actor []) v ≡
+    draining actor [] false v
+drained_nothing actor c v has no_list gave i = record v { log = Drained actor [] ∷ v.log; list = no_list i; claim = same i }
+  where
+    same : v.claim ≡ regiven [] false v.claim
+    same = has ∙ ((λ k. Some (record c { gave = gave k; drained = sym (append-nil c.drained) k })) ∙ sym (ap (regiven [] false) has))
+
 -- Towards this actor, w is as v: of its cell, its list and what is owed; and what it has seen is so where what v has seen is.
 pub record Elsewhere (H : Type 0) (actor : ℕ) (v w : View) : Type 0 where
   pub claim : claim_for actor w ≡ claim_for actor v
@@ -69,15 +107,32 @@ pub record Elsewhere (H : Type 0) (actor : ℕ) (v w : View) : Type 0 where
   pub debt : owes actor w ≡ owes actor v
   pub knows : (x : Spot Word Shelf (Slot H) Ghost) → Knows actor x v → Knows actor x w
 
+-- a sight that is so of every actor, whatever its place is like
+abbrev pub IsQuiet : Type 0 → Sight → Type 0
+IsQuiet H s = (a : ℕ) (x : Spot Word Shelf (Slot H) Ghost) → IsSo a x s
+
 module _ {H : Type 0} where
-  pub owing_elsewhere : (actor other : ℕ) (d : Debt) (v : View) → other ≢ actor → Elsewhere H other v (owing actor d v)
-  owing_elsewhere actor other d v n = record {
+  pub seeing_elsewhere : (other : ℕ) (s : Sight) (v : View) → IsQuiet H s → Elsewhere H other v (seeing s v)
+  seeing_elsewhere other s v so = record {
+    claim = refl;
+    list = refl;
+    debt = refl;
+    knows = λ x k. record {
+      seen = (so other x, k.seen);
+      said =
+          k.said;
+    };
+  }
+
+  pub owing_elsewhere : (actor other : ℕ) (d : Debt) (s : Sight) (v : View) → other ≢ actor → IsQuiet H s → Elsewhere H other v (owing actor d
+      (seeing s v))
+  owing_elsewhere actor other d s v n so = record {
     claim = refl;
     list = refl;
     debt = owes_else actor other d v n;
     knows = λ x k. record {
       seen =
-          k.seen;
+          (so other x, k.seen);
       said = k.said;
     };
   }
@@ -120,27 +175,35 @@ module _ {H : Type 0} where
   }
 
   -- what was known of a place is so where the place goes on
-  pub goes_on : (actor : ℕ) (x y : Spot Word Shelf (Slot H) Ghost) (v : View) → (x.row Status ≡ 1 → y.row Status ≡ 1) → Extends y.ghost.journal
+  pub goes_on : (actor : ℕ) (x y : Spot Word Shelf (Slot H) Ghost) (v : View) → (IsTrue x.ghost.listed.closed → IsTrue y.ghost.listed.closed)
+      → (x.row Status ≡ 1 → y.row Status ≡ 1) → Extends y.ghost.journal
       x.ghost.journal
       → ((s : Said) → IsTold actor x s → IsTold actor y s) → Knows actor x v → Knows actor y v
-  goes_on actor x y v closed longer told k = record {
+  goes_on actor x y v still closed longer told k = record {
     seen = each_weaker (IsSo actor x) (IsSo actor y) v.log
         (λ s. elim s as (λ z. IsSo actor x z → IsSo actor y z) [
           | Read a word ↦ (λ h e one. closed (h e one))
-          | Saw a j ↦ (λ h e. extends_more
-              y.ghost.journal x.ghost.journal j longer (h e))
+          | Saw a j ↦ (λ h e. extends_more y.ghost.journal x.ghost.journal j longer (h e))
+          | Counted a n ↦ (λ h. h)
+          | Looked a b ↦ (λ h. h)
+          | Sent a n ↦ (λ h. h)
+          | Unsent a n ↦ (λ h. h)
+          | Took a n ↦ (λ h. h)
+          | Drained a given ↦ (λ h. h)
+          | Ended a given ↦ (λ h e. still (h e))
         ]) k.seen;
     said = each_weaker (IsTold actor x) (IsTold actor y) v.said told k.said;
   }
 
-chosen_rest : (b : Bool) (v w : View) → (w.claim ≡ v.claim) × (w.list ≡ v.list) → (let u = if b then w else v in (u.claim ≡ v.claim) × (u.list ≡
-    v.list))
-chosen_rest true v w e = e
-chosen_rest false v w e = (refl, refl)
+chosen_rest : (b : Bool) (v w u : View) → (w.claim ≡ v.claim) × (w.list ≡ v.list) → (u.claim ≡ v.claim) × (u.list ≡ v.list)
+    → (let z = if b then w else u in (z.claim ≡ v.claim) × (z.list ≡ v.list))
+chosen_rest true v w u e f = e
+chosen_rest false v w u e f = f
 
 -- a look at the waiting number or the list's gate leaves the claim and the list
 pub counting_rest : (actor n : ℕ) (v : View) → ((counting actor n v).claim ≡ v.claim) × ((counting actor n v).list ≡ v.list)
-counting_rest actor n v = chosen_rest (n == 0) v (owing actor (record (owes actor v) { message = false }) v) (refl, refl)
+counting_rest actor n v = chosen_rest (n == 0) v (owing actor (record (owes actor v) { message = false }) (seeing (Counted actor n) v)) (seeing
+    (Counted actor n) v) (refl, refl) (refl, refl)
 
 pub looking_rest : (actor : ℕ) (b : Bool) (v : View) → ((looking actor b v).claim ≡ v.claim) × ((looking actor b v).list ≡ v.list)
 looking_rest actor true v = (refl, refl)

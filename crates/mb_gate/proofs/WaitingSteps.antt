@@ -12,7 +12,7 @@ use Rattle.mb_rule.proofs.LockedLemmas.{stays_locked}
 use Rattle.mb_rule.proofs.OwedLemmas.{pays, still_owed}
 use Rattle.mb_rule.proofs.SeenLemmas.{learns}
 use Rattle.mb_gate.specs.declared.slot.Slot.{Slot}
-use Rattle.mb_gate.specs.View.{View, Held, owes, owing, sending, unsending, counting, looking}
+use Rattle.mb_gate.specs.View.{View, Sight, Counted, Looked, Sent, Unsent, Held, owes, owing, seeing, sending, unsending, counting, looking}
 use Rattle.mb_gate.specs.Rule.{
   Word,
   Gate,
@@ -31,7 +31,7 @@ use Rattle.mb_gate.specs.Rule.{
   has_work,
   Fact,
 }
-use Rattle.mb_gate.proofs.Views.{owes_here, extends_self, owing_elsewhere, goes_on}
+use Rattle.mb_gate.proofs.Views.{owes_here, extends_self, IsQuiet, seeing_elsewhere, owing_elsewhere, goes_on}
 use Rattle.mb_gate.proofs.Facts.{still_kept, still_shelved, views_change, elsewhere, load_here}
 use Rattle.mb_gate.proofs.StatusSteps.{is_held}
 use Rattle.std.proofs.lemmas.Bool.{eqb-true}
@@ -47,12 +47,16 @@ module _ {H : Type 0} (is_of : ℕ → H → Type 0) (journal : H → List Entry
   Place = Spot Word Shelf (Slot H) Ghost
 
   -- the waiting number changes, and the seat owes a wake-up where one is due
-  recounts : (actor id n : ℕ) (d : Debt) (me : M) (tell : M → Type 0) (x : Place) (vs : List View) → F actor x vs → get_elem? vs id ≡ some me.0
-      → IsTrue (d.message || d.sending) → d.system ≡ (owes actor me.0).system → tell (owing actor d me.0, me.1) → Goes word_offset slot_offset F
+  recounts : (actor id n : ℕ) (d : Debt) (s : Sight) (me : M) (tell : M → Type 0) (x : Place) (vs : List View) → IsQuiet H s → F actor x vs
+      → get_elem? vs id ≡ some me.0 → IsTrue (d.message || d.sending) → d.system ≡ (owes actor me.0).system → tell (
+        owing actor d (seeing s
+            me.0),
+        me.1,
+      ) → Goes word_offset slot_offset F
       actor id me Waiting n tell x vs
-  recounts actor id n d me tell x vs f at owed same told =
+  recounts actor id n d s me tell x vs so f at owed same told =
       let v = me.0 in
-      let w = owing actor d v in
+      let w = owing actor d (seeing s v) in
       let y : Place = record { row = write word_offset x.row Waiting n; slot = x.slot; ghost = x.ghost } in record {
         view = w;
         deed = stays;
@@ -70,11 +74,12 @@ module _ {H : Type 0} (is_of : ℕ → H → Type 0) (journal : H → List Entry
               actor d v)) owed);
           system = still_owed (PaysSystem actor) (SystemDue x) (SystemDue y) vs id v w at (λ due. due) (λ _ p. subst (λ (z : Debt). IsTrue
               z.system) (sym (owes_here actor d v)) (subst IsTrue (sym same) p)) f.system;
-          seen = let k = goes_on actor x y v (λ one. one) (extends_self x.ghost.journal) (λ s t. t) (f.seen id v at) in
-              learns (Knows actor x) (Knows actor y) vs id w (λ u. goes_on actor x y u (λ one. one) (extends_self x.ghost.journal) (λ s t. t))
-              (record { seen = k.seen; said = k.said }) f.seen;
+          seen = let k = goes_on actor x y v (λ e. e) (λ one. one) (extends_self x.ghost.journal) (λ s t. t) (f.seen id v at) in
+              learns (Knows actor x) (Knows actor y) vs id w (λ u. goes_on actor x y u (λ e. e) (λ one. one)
+              (extends_self x.ghost.journal) (λ s t. t))
+              (record { seen = (so actor y, k.seen); said = k.said }) f.seen;
         };
-        others = λ a z y g. elsewhere is_of journal mailbox rested a y vs id v w at (owing_elsewhere actor a d v z) g;
+        others = λ a z y g. elsewhere is_of journal mailbox rested a y vs id v w at (owing_elsewhere actor a d s v z so) g;
         tells = told;
       }
 
@@ -83,68 +88,80 @@ module _ {H : Type 0} (is_of : ℕ → H → Type 0) (journal : H → List Entry
   or_true false = refl
 
   -- a seat counts one more, before it is queued
-  pub sends : (actor id n : ℕ) (me : M) (tell : M → Type 0) (x : Place) (vs : List View) → F actor x vs → get_elem? vs id ≡ some me.0 → tell
-      (sending actor me.0, me.1) → Goes word_offset slot_offset F actor id me Waiting n tell x vs
-  sends actor id n me tell x vs f at told = recounts actor id n (record (owes actor me.0) { sending = true }) me tell x vs f at (or_true (owes
-      actor me.0).message) refl told
+  pub sends : (actor id n k : ℕ) (me : M) (tell : M → Type 0) (x : Place) (vs : List View) → F actor x vs → get_elem? vs id ≡ some me.0 → tell
+      (sending actor k me.0, me.1) → Goes word_offset slot_offset F actor id me Waiting n tell x vs
+  sends actor id n k me tell x vs f at told = recounts actor id n (record (owes actor me.0) { sending = true }) (Sent actor k) me tell x vs (λ a y.
+      tt) f at (or_true (owes actor me.0).message) refl told
 
   -- a seat takes back what it counted
-  pub unsends : (actor id n : ℕ) (me : M) (tell : M → Type 0) (x : Place) (vs : List View) → F actor x vs → get_elem? vs id ≡ some me.0 → tell
-      (unsending actor me.0, me.1) → Goes word_offset slot_offset F actor id me Waiting n tell x vs
-  unsends actor id n me tell x vs f at told = recounts actor id n (record (owes actor me.0) { message = true; sending = false }) me tell x vs f
-      at refl refl told
+  pub unsends : (actor id n k : ℕ) (me : M) (tell : M → Type 0) (x : Place) (vs : List View) → F actor x vs → get_elem? vs id ≡ some me.0 → tell
+      (unsending actor k me.0, me.1) → Goes word_offset slot_offset F actor id me Waiting n tell x vs
+  unsends actor id n k me tell x vs f at told = recounts actor id n (record (owes actor me.0) { message = true; sending = false }) (Unsent actor k)
+      me tell x vs (λ a y. tt) f at refl refl told
 
-  -- the holder counts one less
-  pub takes_one : (actor id n : ℕ) (me : M) (c : Held) (tell : M → Type 0) (x : Place) (vs : List View) → F actor x vs → get_elem? vs id ≡ some
-      me.0 → me.0.claim ≡ Some c → c.actor ≡ actor → tell me
+  -- the holder counts less
+  pub takes_one : (actor id n : ℕ) (s : Sight) (me : M) (c : Held) (tell : M → Type 0) (x : Place) (vs : List View) → IsQuiet H s → F actor
+      x vs → get_elem? vs id ≡ some me.0 → me.0.claim ≡ Some c → c.actor ≡ actor → tell (seeing s me.0, me.1)
       → Goes word_offset slot_offset F actor id me Waiting n tell x vs
-  takes_one actor id n me c tell x vs f at has of told =
+  takes_one actor id n s me c tell x vs so f at has of told =
       let v = me.0 in
+      let w = seeing s v in
       let h = is_held is_of journal mailbox rested actor id x vs v c f at has of in
       let y : Place = record { row = write word_offset x.row Waiting n; slot = x.slot; ghost = x.ghost } in record {
-        view = v;
+        view = w;
         deed = stays;
         kept = x.ghost;
         able = tt;
         here = record {
           valid = f.valid;
-          claims = stays_locked (claim_for actor) x.ghost.holder vs id v v at refl f.claims;
+          claims = stays_locked (claim_for actor) x.ghost.holder vs id v w at refl f.claims;
           cell = still_kept is_of journal mailbox rested actor x y refl refl refl refl refl x.ghost.holder f.cell;
-          lists = stays_locked (list_for actor) x.ghost.keeper vs id v v at refl f.lists;
+          lists = stays_locked (list_for actor) x.ghost.keeper vs id v w at refl f.lists;
           shelf = still_shelved is_of journal mailbox rested actor x y refl refl refl refl x.ghost.keeper f.shelf;
           ended = f.ended;
           listing = f.listing;
           message = λ due. absurd (let z = due.0 in ⊎_elim (λ b. omega arith) (λ b. omega arith) h.1.busy);
-          system = still_owed (PaysSystem actor) (SystemDue x) (SystemDue y) vs id v v at (λ due. due) (λ _ p. p) f.system;
-          seen = let k = goes_on actor x y v (λ one. one) (extends_self x.ghost.journal) (λ s t. t) (f.seen id v at) in
-              learns (Knows actor x) (Knows actor y) vs id v (λ u. goes_on actor x y u (λ one. one) (extends_self x.ghost.journal) (λ s t. t))
-              (record { seen = k.seen; said = k.said }) f.seen;
+          system = still_owed (PaysSystem actor) (SystemDue x) (SystemDue y) vs id v w at (λ due. due) (λ _ p. p) f.system;
+          seen = let k = goes_on actor x y v (λ e. e) (λ one. one) (extends_self x.ghost.journal) (λ s t. t) (f.seen id v at) in
+              learns (Knows actor x) (Knows actor y) vs id w (λ u. goes_on actor x y u (λ e. e) (λ one. one)
+              (extends_self x.ghost.journal) (λ s t. t))
+              (record { seen = (so actor y, k.seen); said = k.said }) f.seen;
         };
-        others = λ a z y g. elsewhere is_of journal mailbox rested a y vs id v v at (record {
-          claim = refl;
-          list = refl;
-          debt = refl;
-          knows = λ _
-              k. record { seen = k.seen; said = k.said };
-        }) g;
+        others = λ a z y g. elsewhere is_of journal mailbox rested a y vs id v w at (seeing_elsewhere a s v so) g;
         tells = told;
       }
 
   -- a load after which the seat owes this actor no more than d, where what d leaves out is not due
-  pub finds : (actor id : ℕ) (name : Word) (d : Debt) (me : M) (tell : M → Type 0) (x : Place) (vs : List View) → F actor x vs → get_elem? vs id
-      ≡ some me.0
+  pub finds : (actor id : ℕ) (name : Word) (d : Debt) (s : Sight) (me : M) (tell : M → Type 0) (x : Place) (vs : List View) → IsQuiet H s → F
+      actor x vs → get_elem? vs id ≡ some me.0
       → (MessageDue x → IsTrue ((owes actor me.0).message || (owes actor me.0).sending) → IsTrue (d.message || d.sending)) → (SystemDue x →
       IsTrue (owes actor me.0).system → IsTrue d.system)
-      → tell (owing actor d me.0, me.1) → Goes word_offset slot_offset F actor id me name (x.row name) tell x vs
-  finds actor id name d me tell x vs f at message system told = let v = me.0 in let w = owing actor d v in record {
+      → tell (owing actor d (seeing s me.0), me.1) → Goes word_offset slot_offset F actor id me name (x.row name) tell x vs
+  finds actor id name d s me tell x vs so f at message system told = let v = me.0 in let w = owing actor d (seeing s v) in record {
     view = w;
     deed = stays;
     kept = x.ghost;
     able = tt;
-    here = load_here is_of journal mailbox rested actor x (set vs id w) name (views_change is_of journal mailbox rested actor x vs id v w at refl refl
+    here = load_here is_of journal mailbox rested actor x (set vs id w) name
+        (views_change is_of journal mailbox rested actor x vs id v w at refl refl
         (λ due p. subst (λ (z : Debt). IsTrue (z.message || z.sending)) (sym (owes_here actor d v)) (message due p))
-        (λ due p. subst (λ (z : Debt). IsTrue z.system) (sym (owes_here actor d v)) (system due p)) (λ k. record { seen = k.seen; said = k.said }) f);
-    others = λ a n y g. elsewhere is_of journal mailbox rested a y vs id v w at (owing_elsewhere actor a d v n) g;
+        (λ due p. subst (λ (z : Debt). IsTrue z.system) (sym (owes_here actor d v)) (system due p))
+        (λ k. record { seen = (so actor x, k.seen); said = k.said }) f);
+    others = λ a n y g. elsewhere is_of journal mailbox rested a y vs id v w at (owing_elsewhere actor a d s v n so) g;
+    tells = told;
+  }
+
+  -- a load of which the seat keeps what it saw
+  pub sees : (actor id : ℕ) (name : Word) (s : Sight) (me : M) (tell : M → Type 0) (x : Place) (vs : List View) → IsQuiet H s → F actor x vs
+      → get_elem? vs id ≡ some me.0 → tell (seeing s me.0, me.1) → Goes word_offset slot_offset F actor id me name (x.row name) tell x vs
+  sees actor id name s me tell x vs so f at told = let v = me.0 in let w = seeing s v in record {
+    view = w;
+    deed = stays;
+    kept = x.ghost;
+    able = tt;
+    here = load_here is_of journal mailbox rested actor x (set vs id w) name (views_change is_of journal mailbox rested actor x vs id v w at refl
+        refl (λ _ p. p) (λ _ p. p) (λ k. record { seen = (so actor x, k.seen); said = k.said }) f);
+    others = λ a n y g. elsewhere is_of journal mailbox rested a y vs id v w at (seeing_elsewhere a s v so) g;
     tells = told;
   }
 
@@ -170,11 +187,15 @@ module _ {H : Type 0} (is_of : ℕ → H → Type 0) (journal : H → List Entry
 
   counts_as : (actor id : ℕ) (me : M) (tell : M → Type 0) (x : Place) (vs : List View) (b : Bool) → (x.row Waiting == 0) ≡ b → F actor x vs →
       get_elem? vs id ≡ some me.0
-      → tell ((if b then owing actor (record (owes actor me.0) { message = false }) me.0 else me.0), me.1) → Goes word_offset slot_offset F actor
-      id me Waiting (x.row Waiting) tell x vs
-  counts_as actor id me tell x vs true is f at told = finds actor id Waiting (record (owes actor me.0) { message = false }) me tell x vs f at
+      → tell (
+        (let s = Counted actor (x.row Waiting) in if b then owing actor (record (owes actor me.0) { message = false }) (seeing s me.0) else
+            seeing s me.0),
+        me.1,
+      ) → Goes word_offset slot_offset F actor id me Waiting (x.row Waiting) tell x vs
+  counts_as actor id me tell x vs true is f at told = finds actor id Waiting (record (owes actor me.0) { message = false }) (Counted actor (x.row
+      Waiting)) me tell x vs (λ a y. tt) f at
       (λ due. absurd (let zero : x.row Waiting ≡ 0 = eqb-true (x.row Waiting) 0 is in let z = due.1 in omega arith)) (λ _ p. p) told
-  counts_as actor id me tell x vs false is f at told = glances actor id Waiting me tell x vs f at told
+  counts_as actor id me tell x vs false is f at told = sees actor id Waiting (Counted actor (x.row Waiting)) me tell x vs (λ a y. tt) f at told
 
   -- a seat reads the waiting number
   pub counts : (actor id : ℕ) (me : M) (tell : M → Type 0) (x : Place) (vs : List View) → F actor x vs → get_elem? vs id ≡ some me.0 → tell
@@ -186,6 +207,6 @@ module _ {H : Type 0} (is_of : ℕ → H → Type 0) (journal : H → List Entry
   pub looks : (actor id : ℕ) (me : M) (b : Bool) (tell : M → Type 0) (x : Place) (vs : List View) → has_work x.ghost ≡ b → F actor x vs →
       get_elem? vs id ≡ some me.0 → tell (looking actor b me.0, me.1)
       → Goes word_offset slot_offset F actor id me Gate (x.row Gate) tell x vs
-  looks actor id me true tell x vs is f at told = glances actor id Gate me tell x vs f at told
-  looks actor id me false tell x vs is f at told = finds actor id Gate (record (owes actor me.0) { system = false }) me tell x vs f at (λ _ p. p)
-      (λ due. absurd (let no = due.1 in cc)) told
+  looks actor id me true tell x vs is f at told = sees actor id Gate (Looked actor true) me tell x vs (λ a y. tt) f at told
+  looks actor id me false tell x vs is f at told = finds actor id Gate (record (owes actor me.0) { system = false }) (Looked actor false) me tell x
+      vs (λ a y. tt) f at (λ _ p. p) (λ due. absurd (let no = due.1 in cc)) told

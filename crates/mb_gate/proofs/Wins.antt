@@ -95,7 +95,8 @@ module _ {H : Type 0} (is_of : ℕ → H → Type 0) (journal : H → List Entry
       View). z.1) w.now) ∙ carried))) in
       let all : known_of claim ≡ claimed actor (journal w.home) (found + 2) w.gave = known ∙ ap (λ (z : Me (Slot H) View). claim_alone z.0) w.now in
       let gave : gave_last claim ≡ w.gave = ap (λ v. (held_in v).gave) all in
-      let word : found + 2 ≡ word_of (status_of claim) = ap (λ n. n + 2) is_seen ∙ sym (scheduled_word seen (status_of claim) free status) in record {
+      let word : found + 2 ≡ word_of (status_of claim) = ap (λ n. n + 2) is_seen
+      ∙ sym (scheduled_word seen (status_of claim) free status) in record {
         found = free;
         of = of;
         status = status;

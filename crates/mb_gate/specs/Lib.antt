@@ -7,3 +7,4 @@ pub mod Tries
 pub mod Starts
 pub mod Lists
 pub mod Shown
+pub mod Leaves

@@ -1,5 +1,5 @@
 -- What each step of the gates tells the seat that makes it. A step does not know its actor, so it is told of it by the word's place.
-use Rattle.std.specs.Prelude.{◌≡◌, ◌≢◌, ℕ, ◌/◌, ◌%◌, ◌==◌, Bool, false, not, IsTrue, List, [], ◌∷◌, Some}
+use Rattle.std.specs.Prelude.{◌≡◌, ◌≢◌, ℕ, ◌/◌, ◌%◌, ◌==◌, Bool, false, not, IsTrue, List, [], ◌∷◌, Some, None}
 use mathlib.Core.Option.{some}
 use Rattle.atomic_table.specs.Table.{Me, Step, rest}
 use Rattle.mb_status.specs.Mailbox.{Mailbox, word_of, is_valid}
@@ -15,6 +15,13 @@ use Rattle.mb_gate.specs.View.{
   Sight,
   Read,
   Saw,
+  Counted,
+  Looked,
+  Sent,
+  Unsent,
+  Took,
+  Drained,
+  Ended,
   Held,
   Lent,
   reading,
@@ -23,28 +30,45 @@ use Rattle.mb_gate.specs.View.{
   idling,
   sending,
   unsending,
+  counting_off,
   counting,
   looking,
   lending,
   enlisting,
   refusing,
   draining,
+  ending,
 }
 use Rattle.mb_gate.specs.Rule.{Extends, is_some_item, gate_word}
 
--- this sight allows that the actor is taken with this journal: it was not seen closed, and the journal goes on from each that was seen
+-- this sight allows that the actor is taken with this journal: it was not seen closed, nor was its list ended, and the journal goes on
+-- from each that was seen
 abbrev pub IsBefore : ℕ → List Entry → Sight → Type 0
 IsBefore actor journal (Read a word) = a ≡ actor → word ≢ 1
 IsBefore actor journal (Saw a before) = a ≡ actor → Extends journal before
+IsBefore actor journal (Ended a given) = a ≢ actor
+IsBefore actor journal (Counted a n) = Unit {0}
+IsBefore actor journal (Looked a has_work) = Unit {0}
+IsBefore actor journal (Sent a n) = Unit {0}
+IsBefore actor journal (Unsent a n) = Unit {0}
+IsBefore actor journal (Took a n) = Unit {0}
+IsBefore actor journal (Drained a given) = Unit {0}
 
 -- the journal goes on from all that the view has seen of the actor, which was not seen closed
 abbrev pub GoesOn : ℕ → List Entry → View → Type 0
 GoesOn actor journal v = Each (IsBefore actor journal) v.log
 
--- this sight allows that the actor's status is this word: closed, if it was seen closed
+-- this sight allows that the actor's status is this word: closed, if it was seen closed or its list was ended
 abbrev pub IsWord : ℕ → ℕ → Sight → Type 0
 IsWord actor now (Read a word) = a ≡ actor → word ≡ 1 → now ≡ 1
+IsWord actor now (Ended a given) = a ≡ actor → now ≡ 1
 IsWord actor now (Saw a before) = Unit {0}
+IsWord actor now (Counted a n) = Unit {0}
+IsWord actor now (Looked a has_work) = Unit {0}
+IsWord actor now (Sent a n) = Unit {0}
+IsWord actor now (Unsent a n) = Unit {0}
+IsWord actor now (Took a n) = Unit {0}
+IsWord actor now (Drained a given) = Unit {0}
 
 abbrev pub StaysClosed : ℕ → ℕ → View → Type 0
 StaysClosed actor word v = Each (IsWord actor word) v.log
@@ -52,10 +76,6 @@ StaysClosed actor word v = Each (IsWord actor word) v.log
 -- there is system work, by the word of the list's gate
 abbrev pub shows_work : ℕ → Bool
 shows_work word = not (word / 2 % 4 == 0)
-
--- The holder finds nothing listed, and that the last drain gave nothing.
-abbrev pub IsEmpty : ℕ → ℕ → View → Type 0
-IsEmpty actor found v = found % 8 ≡ 0 → (c : Held) → v.claim ≡ Some c → c.actor ≡ actor → c.gave ≡ false
 
 module _ {H : Type 0} where
   -- a status word was read
@@ -68,14 +88,13 @@ module _ {H : Type 0} where
   Writes st m n m' = m' ≡ (writing n m.0, m.1)
 
   abbrev pub Sends : Step (Slot H) → Me (Slot H) View → ℕ → Me (Slot H) View → Type 0
-  Sends st m found m' = (actor : ℕ) → st.word ≡ word_at actor 4 → m' ≡ (sending actor m.0, m.1)
+  Sends st m found m' = (actor : ℕ) → st.word ≡ word_at actor 4 → m' ≡ (sending actor st.first m.0, m.1)
 
   abbrev pub Unsends : Step (Slot H) → Me (Slot H) View → ℕ → Me (Slot H) View → Type 0
-  Unsends st m found m' = (actor : ℕ) → st.word ≡ word_at actor 4 → m' ≡ (unsending actor m.0, m.1)
+  Unsends st m found m' = (actor : ℕ) → st.word ≡ word_at actor 4 → m' ≡ (unsending actor st.first m.0, m.1)
 
-  -- nothing is told
-  abbrev pub Stays : Step (Slot H) → Me (Slot H) View → ℕ → Me (Slot H) View → Type 0
-  Stays st m found m' = m' ≡ m
+  abbrev pub CountsOff : Step (Slot H) → Me (Slot H) View → ℕ → Me (Slot H) View → Type 0
+  CountsOff st m found m' = (actor : ℕ) → st.word ≡ word_at actor 4 → m' ≡ (counting_off actor st.first m.0, m.1)
 
   abbrev pub Counts : Step (Slot H) → Me (Slot H) View → ℕ → Me (Slot H) View → Type 0
   Counts st m found m' = (actor : ℕ) → st.word ≡ word_at actor 4 → m' ≡ (counting actor found m.0, m.1)
@@ -109,15 +128,17 @@ module _ {H : Type 0} where
 
   -- all that was listed was taken out
   abbrev pub Drains : Step (Slot H) → Me (Slot H) View → ℕ → Me (Slot H) View → Type 0
-  Drains st m n m' = (l : Lent) → m.0.list ≡ Some l → m' ≡ (draining (listed l.listed) (is_some_item l.listed.messages) m.0, rest m.1)
+  Drains st m n m' = (l : Lent) → m.0.list ≡ Some l → m' ≡ (draining l.actor (listed l.listed) (is_some_item l.listed.messages) m.0, rest m.1)
 
   -- and the list was ended
   abbrev pub Ends : Step (Slot H) → Me (Slot H) View → ℕ → Me (Slot H) View → Type 0
-  Ends st m n m' = (l : Lent) (c : Held) → m.0.list ≡ Some l → m.0.claim ≡ Some c → m' ≡ (draining (listed l.listed) c.gave m.0, rest m.1)
+  Ends st m n m' = (l : Lent) (c : Held) → m.0.list ≡ Some l → m.0.claim ≡ Some c → m' ≡ (ending l.actor (listed l.listed) c.gave m.0, rest m.1)
 
-  -- the gate's word was read by the holder
+  -- The gate's word was read by the holder: where it shows that nothing is listed and that the last drain gave nothing, this is a drain
+  -- that gives nothing.
   abbrev pub Glances : Step (Slot H) → Me (Slot H) View → ℕ → Me (Slot H) View → Type 0
-  Glances st m found m' = (m' ≡ m) × ((actor : ℕ) → st.word ≡ word_at actor 2 → IsEmpty actor found m.0)
+  Glances st m found m' = (actor : ℕ) (c : Held) → st.word ≡ word_at actor 2 → m.0.claim ≡ Some c → c.actor ≡ actor → m.0.list ≡ None
+      → (found % 8 ≡ 0 → m' ≡ (draining actor [] false m.0, m.1)) × (found % 8 ≢ 0 → m' ≡ m)
 
 module _ {H : Type 0} (is_of : ℕ → H → Type 0) (journal : H → List Entry) (mailbox : H → Mailbox) (rested : H → Type 0) where
   -- The actor was scheduled by an exchange that found this word, and its cell was taken: it is the actor's own, its journal goes on

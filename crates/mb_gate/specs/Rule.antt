@@ -30,7 +30,7 @@ use Rattle.mb_rule.specs.Layout.{Spot}
 use Rattle.mb_rule.specs.Locked.{Locked}
 use Rattle.mb_rule.specs.Owed.{Owed}
 use Rattle.mb_rule.specs.Seen.{EachView, Each}
-use Rattle.mb_gate.specs.View.{View, Sight, Read, Saw, Held, Lent, Said, owes}
+use Rattle.mb_gate.specs.View.{View, Sight, Read, Saw, Counted, Looked, Sent, Unsent, Took, Drained, Ended, Held, Lent, Said, owes}
 use Rattle.mb_gate.specs.declared.slot.Slot.{Slot}
 use Rattle.mb_gate.specs.declared.slot.Slot.TheVariants.{Home, List as Listing}
 
@@ -114,10 +114,17 @@ PaysMessage actor v = IsTrue ((owes actor v).message || (owes actor v).sending)
 abbrev pub PaysSystem : ℕ → View → Type 0
 PaysSystem actor v = IsTrue (owes actor v).system
 
--- what was seen closed is closed, and the journal goes on from each that was seen
+-- what was seen closed is closed, the journal goes on from each that was seen, and a list that was ended is ended
 abbrev pub IsSo : {H : Type 0} → ℕ → Spot Word Shelf (Slot H) Ghost → Sight → Type 0
 IsSo actor x (Read a word) = a ≡ actor → word ≡ 1 → x.row Status ≡ 1
 IsSo actor x (Saw a journal) = a ≡ actor → Extends x.ghost.journal journal
+IsSo actor x (Ended a given) = a ≡ actor → IsTrue x.ghost.listed.closed
+IsSo actor x (Counted a n) = Unit {0}
+IsSo actor x (Looked a has_work) = Unit {0}
+IsSo actor x (Sent a n) = Unit {0}
+IsSo actor x (Unsent a n) = Unit {0}
+IsSo actor x (Took a n) = Unit {0}
+IsSo actor x (Drained a given) = Unit {0}
 
 -- the message stands in the list
 pub record IsAmong (message : SysMsg) (messages : List SysMsg) : Type 0 where

@@ -9,10 +9,20 @@ use Rattle.mb_core.specs.declared.debt.Debt.{Debt}
 use Rattle.mb_core.specs.Actor.{nothing}
 use Rattle.mb_core.specs.Run.{after_reading}
 
--- one thing that was seen: an actor's status word, or its journal
+-- One thing that a seat saw or did at an actor, whose number stands first: it read its status word; it saw its journal; it read how many
+-- are counted as waiting; it looked at the list's gate, which showed system work or none; it counted so many as waiting, took so many
+-- back that were refused, and so many as taken; it drained the list, which gave this, with the numbers; and it ended the list, which
+-- gave this.
 pub data Sight : Type 0 where
   Read : ℕ → ℕ → Sight
   Saw : ℕ → List Entry → Sight
+  Counted : ℕ → ℕ → Sight
+  Looked : ℕ → Bool → Sight
+  Sent : ℕ → ℕ → Sight
+  Unsent : ℕ → ℕ → Sight
+  Took : ℕ → ℕ → Sight
+  Drained : ℕ → List (ℕ × SysMsg) → Sight
+  Ended : ℕ → List (ℕ × SysMsg) → Sight
 
 -- a claim: its actor, the journal with which it was taken, the status word as it knows it, whether the actor's last drain gave
 -- something, and all that was drained since it was taken, with the numbers
@@ -35,7 +45,7 @@ pub record Said : Type 0 where
   pub message : SysMsg
   pub was_ended : Bool
 
--- what was seen, the newest first; what is owed, by the actor, of which the newest counts; what was said, the newest first;
+-- what was seen and done, the newest first; what is owed, by the actor, of which the newest counts; what was said, the newest first;
 -- and the claim and the list that it has, if any
 pub record View : Type 0 where
   pub log : List Sight
@@ -60,9 +70,13 @@ blank = record { log = []; debts = []; said = []; claim = None; list = None }
 abbrev pub owing : ℕ → Debt → View → View
 owing actor debt v = record v { debts = (actor, debt) ∷ v.debts }
 
+-- this was seen or done
+abbrev pub seeing : Sight → View → View
+seeing s v = record v { log = s ∷ v.log }
+
 -- a status word was read
 abbrev pub reading : ℕ → ℕ → View → View
-reading actor word v = owing actor (after_reading (mailbox_of word) (owes actor v)) (record v { log = Read actor word ∷ v.log })
+reading actor word v = owing actor (after_reading (mailbox_of word) (owes actor v)) (seeing (Read actor word) v)
 
 -- the actor was scheduled, by an exchange that found this word, and its cell was taken
 abbrev pub taking : ℕ → List Entry → ℕ → Bool → View → View
@@ -91,21 +105,28 @@ idling actor journal v =
     owing actor (record (owes actor v) { system = true; message = true })
     (record v { log = Saw actor journal ∷ v.log; claim = None })
 
--- one was counted as waiting, before its envelope is queued
-abbrev pub sending : ℕ → View → View
-sending actor v = owing actor (record (owes actor v) { sending = true }) v
+-- so many were counted as waiting, before their envelopes are queued
+abbrev pub sending : ℕ → ℕ → View → View
+sending actor n v = owing actor (record (owes actor v) { sending = true }) (seeing (Sent actor n) v)
 
--- it was taken back, since the envelope was refused
-abbrev pub unsending : ℕ → View → View
-unsending actor v = owing actor (record (owes actor v) { message = true; sending = false }) v
+-- they were taken back, since the envelopes were refused
+abbrev pub unsending : ℕ → ℕ → View → View
+unsending actor n v = owing actor (record (owes actor v) { message = true; sending = false }) (seeing (Unsent actor n) v)
+
+-- the holder counted so many as taken
+abbrev pub counting_off : ℕ → ℕ → View → View
+counting_off actor n v = seeing (Took actor n) v
 
 -- the waiting number was read
 abbrev pub counting : ℕ → ℕ → View → View
-counting actor waiting v = if waiting == 0 then owing actor (record (owes actor v) { message = false }) v else v
+counting actor waiting v =
+    if waiting == 0 then owing actor (record (owes actor v) { message = false }) (seeing (Counted actor waiting) v) else seeing (Counted actor
+    waiting) v
 
 -- the list's gate was read, and showed system work or none
 abbrev pub looking : ℕ → Bool → View → View
-looking actor has_work v = if has_work then v else owing actor (record (owes actor v) { system = false }) v
+looking actor has_work v =
+    if has_work then seeing (Looked actor true) v else owing actor (record (owes actor v) { system = false }) (seeing (Looked actor false) v)
 
 -- what is owed by either of two
 abbrev pub either_owes : Debt → Debt → Debt
@@ -140,5 +161,13 @@ regiven given gave None = None
 regiven given gave (Some c) = Some (record c { gave = gave; drained = c.drained ++ given })
 
 -- the holder gave the list back, without what it took out of it
-abbrev pub draining : List (ℕ × SysMsg) → Bool → View → View
-draining given gave v = record v { list = None; claim = regiven given gave v.claim }
+abbrev pub unloading : Sight → List (ℕ × SysMsg) → Bool → View → View
+unloading s given gave v = record v { log = s ∷ v.log; list = None; claim = regiven given gave v.claim }
+
+-- it drained it
+abbrev pub draining : ℕ → List (ℕ × SysMsg) → Bool → View → View
+draining actor given gave v = unloading (Drained actor given) given gave v
+
+-- it ended it, and knows of the last drain what it knew
+abbrev pub ending : ℕ → List (ℕ × SysMsg) → Bool → View → View
+ending actor given gave v = unloading (Ended actor given) given gave v

@@ -5,7 +5,8 @@ ghost use Rattle.mb_rule.specs.Layout.{slot_at};
 ghost use Rattle.mb_gate.specs.View.{idling, taking_over, writing};
 ghost use Rattle.mb_gate.specs.Claims.{is_busy, IsReady, Idled};
 ghost use Rattle.mb_gate.specs.Rule.{Extends};
-ghost use Rattle.mb_gate.specs.Names.{gates_id, pass_id, claim_id, actors_of, known_by, known_of, held_actor, status_of, taken_with, gave_last, SameTaken};
+ghost use Rattle.mb_gate.specs.Names.{gates_id, pass_id, claim_id, actors_of, known_by};
+ghost use Rattle.mb_gate.specs.Names.{known_of, held_actor, status_of, taken_with, gave_last, SameTaken};
 ghost use Rattle.mb_gate.specs.declared.slot.Slot.TheVariants.{Empty, Home};
 
 use crate::claim::Claim;

@@ -1,7 +1,8 @@
 ghost use Rattle.mb_rule.specs.Ruled.{Ruled};
 ghost use Rattle.mb_gate.specs.View.{blank, claim_alone, without_claim, taking_over};
 ghost use Rattle.mb_gate.specs.Rule.{word_offset, slot_offset, Fact};
-ghost use Rattle.mb_gate.specs.Plays.{Reads, Writes, Sends, Unsends, Stays, Counts, Looks, Grips, Enlists, Refuses, Drains, Ends, Glances, Schedules, Idles};
+ghost use Rattle.mb_gate.specs.Plays.{Reads, Writes, Sends, Unsends, CountsOff, Counts, Looks};
+ghost use Rattle.mb_gate.specs.Plays.{Grips, Enlists, Refuses, Drains, Ends, Glances, Schedules, Idles};
 
 use crate::resident::Resident;
 use crate::slot::Slot;
@@ -56,10 +57,10 @@ impl<H> Play<Slot<H>, Knowledge> for Unsend {
     ghost then = { Unsends };
 }
 
-pub struct Stay;
+pub struct CountOff;
 
-impl<H> Play<Slot<H>, Knowledge> for Stay {
-    ghost then = { Stays };
+impl<H> Play<Slot<H>, Knowledge> for CountOff {
+    ghost then = { CountsOff };
 }
 
 pub struct Count;

@@ -6,17 +6,19 @@
 //! cell at home is its actor's own, and its word is the one of its journal, which goes on from all that any pass has seen;
 //! what was seen closed is closed; an open actor that nobody holds is owed a look by some pass where it has system work,
 //! and a wake-up where it may handle envelopes and some are counted as waiting. What each call adds to what its pass or
-//! claim knows is said. No clause says that a try ever wins, or that a debt is ever paid; that `waiting`, `has_system`,
-//! `note_taken` and `sys_close` make their step where they tell nothing, and how many a waiting count counts, is tested
-//! alone.
+//! claim knows is said exactly, and each step leaves a trace there, so that a body that makes no step meets no clause. At
+//! the end each cell that no claim has comes out. No clause says that a try ever wins, or that a debt is ever paid; how
+//! many a waiting count counts is tested alone.
 #![tactic(auto)]
 
 mod claim;
+mod finish;
 mod gates;
 mod holding;
 mod law;
 mod laws;
 mod layout;
+mod left;
 mod lists;
 mod new;
 mod pass;
@@ -33,6 +35,7 @@ mod view;
 pub use claim::Claim;
 pub use gates::Gates;
 pub use laws::words_show_the_machine;
+pub use left::Left;
 pub use new::NoGates;
 pub use pass::Pass;
 pub use resident::Resident;

@@ -1,14 +1,15 @@
 //! The lists of system messages, each behind a gate that is taken for one list step and given back.
-ghost use Rattle.std.specs.Prelude.{◌≡◌, ◌+◌, ◌*◌, ◌/◌, ◌%◌, ◌<◌, ◌==◌, [], ◌∷◌, ◌++◌, false, true, None, IfErr, IfOk, MatchOption, if◌then◌else◌};
+ghost use Rattle.std.specs.Prelude.{◌≡◌, ◌+◌, ◌*◌, ◌/◌, ◌%◌, ◌<◌, ◌==◌, [], ◌∷◌, ◌++◌, false, true, None, IfErr, IfOk, IfSome, MatchOption, if◌then◌else◌};
 ghost use Rattle.atomic_table.specs.Table.{rest};
 ghost use Rattle.mb_syslist.specs.MessageList.{MessageList};
 ghost use Rattle.mb_rule.specs.Layout.{slot_at};
 ghost use Rattle.mb_gate.specs.declared.slot.Slot.TheVariants.{Empty, List};
-ghost use Rattle.mb_gate.specs.View.{enlisting, refusing, draining};
+ghost use Rattle.mb_gate.specs.View.{enlisting, refusing, draining, ending};
 ghost use Rattle.mb_gate.specs.Rule.{is_some_item};
 ghost use Rattle.mb_gate.specs.Claims.{held_in};
 ghost use Rattle.mb_gate.specs.Lists.{IsLentBy, IsOut, HasClaim, with_listed, with_drained, with_ended};
-ghost use Rattle.mb_gate.specs.Names.{gates_id, pass_id, claim_id, actors_of, known_by, known_of, held_actor, status_of, taken_with, gave_last, drained_by};
+ghost use Rattle.mb_gate.specs.Names.{gates_id, pass_id, claim_id, actors_of, known_by};
+ghost use Rattle.mb_gate.specs.Names.{known_of, held_actor, status_of, taken_with, gave_last, drained_by};
 
 use crate::claim::Claim;
 use crate::gates::Gates;
@@ -113,7 +114,8 @@ impl<H: Resident> Gates<H> {
         requires there { id.0 < actors_of self.now }
         requires no_list { seat.old.me.0.list ≡ None }
         ensures ours { seat.new.table_id ≡ seat.old.table_id }
-        ensures answer { MatchOption result (seat.new.me ≡ (refusing id.0 message seat.old.me.0, seat.old.me.1)) (λ got. IsLentBy id.0 got.0 got.1 seat.old.me seat.new.me × (got.1.closed ≡ false)) }
+        ensures refused { result ≡ None → seat.new.me ≡ (refusing id.0 message seat.old.me.0, seat.old.me.1) }
+        ensures lent { IfSome result (λ got. IsLentBy id.0 got.0 got.1 seat.old.me seat.new.me × (got.1.closed ≡ false)) }
     {
         for _ in rt.forever() {
             let word = self.table.shared.peek(word_index(id, GATE));
@@ -221,6 +223,21 @@ impl<H: Resident> Gates<H> {
         self.table.shared.store::<Enlist>(seat, gate, new);
     }
 
+    // Whether nothing is listed and the last drain gave nothing, by the gate's word: then this load is a drain that gives
+    // nothing.
+    fn is_drained(&self, seat: &mut Seat<Slot<H>, Knowledge>, id: ActorId) -> bool
+        requires ours { seat.old.table_id ≡ gates_id self.now }
+        requires there { id.0 < actors_of self.now }
+        requires holder { HasClaim id.0 seat.old.me }
+        requires no_list { seat.old.me.0.list ≡ None }
+        ensures ours { seat.new.table_id ≡ seat.old.table_id }
+        ensures answer { seat.new.me ≡ (if result then (draining id.0 [] false seat.old.me.0, seat.old.me.1) else seat.old.me) }
+    {
+        let gate = word_index(id, GATE);
+        let word = self.table.shared.load::<Glance>(seat, gate);
+        word % 8 == 0
+    }
+
     // Takes all out of the list that is out, and gives it back.
     fn drain_list(
         &self,
@@ -234,7 +251,7 @@ impl<H: Resident> Gates<H> {
         requires lent { IsOut id.0 word list seat.old.me }
         requires holder { HasClaim id.0 seat.old.me }
         ensures ours { seat.new.table_id ≡ seat.old.table_id }
-        ensures drained { seat.new.me ≡ (draining result (is_some_item result) seat.old.me.0, rest seat.old.me.1) }
+        ensures drained { seat.new.me ≡ (draining id.0 result (is_some_item result) seat.old.me.0, rest seat.old.me.1) }
     {
         let gate = word_index(id, GATE);
         let chain = list.drain();
@@ -258,7 +275,7 @@ impl<H: Resident> Gates<H> {
         requires holder { HasClaim id.0 seat.old.me }
         requires closed { (held_in seat.old.me.0).word ≡ 1 }
         ensures ours { seat.new.table_id ≡ seat.old.table_id }
-        ensures drained { seat.new.me ≡ (draining result (held_in seat.old.me.0).gave seat.old.me.0, rest seat.old.me.1) }
+        ensures drained { seat.new.me ≡ (ending id.0 result (held_in seat.old.me.0).gave seat.old.me.0, rest seat.old.me.1) }
     {
         let gate = word_index(id, GATE);
         let chain = list.close();
@@ -275,13 +292,13 @@ impl<H: Resident> Gates<H> {
         requires ours { claim_id claim.old ≡ gates_id self.now }
         requires there { held_actor claim.old < actors_of self.now }
         ensures ours { (claim_id claim.new ≡ claim_id claim.old) × (held_actor claim.new ≡ held_actor claim.old) }
-        ensures known { known_of claim.new ≡ draining result (is_some_item result) (known_of claim.old) }
+        ensures known { known_of claim.new ≡ draining (held_actor claim.old) result (is_some_item result) (known_of claim.old) }
         ensures same { (status_of claim.new ≡ status_of claim.old) × (claim.new.home ≡ claim.old.home) }
-        ensures drained { (taken_with claim.new ≡ taken_with claim.old) × (gave_last claim.new ≡ is_some_item result) × (drained_by claim.new ≡ drained_by claim.old ++ result) }
+        ensures taken { taken_with claim.new ≡ taken_with claim.old }
+        ensures gave { gave_last claim.new ≡ is_some_item result }
+        ensures drained { drained_by claim.new ≡ drained_by claim.old ++ result }
     {
-        let gate = word_index(claim.actor, GATE);
-        let word = self.table.shared.load::<Glance>(&mut claim.seat, gate);
-        if word % 8 == 0 {
+        if self.is_drained(&mut claim.seat, claim.actor) {
             return Chain::new();
         }
         let (word, list) = self.grip(rt, &mut claim.seat, claim.actor);
@@ -295,11 +312,13 @@ impl<H: Resident> Gates<H> {
         requires there { held_actor claim.old < actors_of self.now }
         requires closed { (status_of claim.old).closed ≡ true }
         ensures ours { (claim_id claim.new ≡ claim_id claim.old) × (held_actor claim.new ≡ held_actor claim.old) }
-        ensures known { known_of claim.new ≡ draining result (gave_last claim.old) (known_of claim.old) }
+        ensures known { known_of claim.new ≡ ending (held_actor claim.old) result (gave_last claim.old) (known_of claim.old) }
         ensures same { (status_of claim.new ≡ status_of claim.old) × (claim.new.home ≡ claim.old.home) }
-        ensures drained { (taken_with claim.new ≡ taken_with claim.old) × (gave_last claim.new ≡ gave_last claim.old) × (drained_by claim.new ≡ drained_by claim.old ++ result) }
+        ensures taken { taken_with claim.new ≡ taken_with claim.old }
+        ensures gave { gave_last claim.new ≡ gave_last claim.old }
+        ensures drained { drained_by claim.new ≡ drained_by claim.old ++ result }
     {
-        let (word, list) = self.grip(rt, &mut claim.seat, claim.actor);
-        self.end_list(&mut claim.seat, claim.actor, word, list)
+        let (shown, list) = self.grip(rt, &mut claim.seat, claim.actor);
+        self.end_list(&mut claim.seat, claim.actor, shown, list)
     }
 }

@@ -11,6 +11,9 @@ use crate::law::{Count, Look, Read};
 use crate::layout::{GATE, STATUS, WAITING, word_index};
 use crate::pass::Pass;
 use crate::resident::Resident;
+use crate::slot::Slot;
+use crate::view::Knowledge;
+use atomic_table::Seat;
 use mb_msg::ActorId;
 use mb_status::Status;
 
@@ -42,9 +45,18 @@ impl<H: Resident> Gates<H> {
         ensures ours { pass_id pass.new ≡ pass_id pass.old }
         ensures known { known_by pass.new ≡ counting id.0 result (known_by pass.old) }
     {
+        self.count(&mut pass.seat, id)
+    }
+
+    fn count(&self, seat: &mut Seat<Slot<H>, Knowledge>, id: ActorId) -> u64
+        requires ours { seat.old.table_id ≡ gates_id self.now }
+        requires there { id.0 < actors_of self.now }
+        ensures ours { seat.new.table_id ≡ seat.old.table_id }
+        ensures known { seat.new.me ≡ (counting id.0 result seat.old.me.0, seat.old.me.1) }
+    {
         self.table
             .shared
-            .load::<Count>(&mut pass.seat, word_index(id, WAITING))
+            .load::<Count>(seat, word_index(id, WAITING))
     }
 
     /// Whether something is listed, or the last drain gave something, which may lie beside the cell still
@@ -55,10 +67,16 @@ impl<H: Resident> Gates<H> {
         ensures ours { pass_id pass.new ≡ pass_id pass.old }
         ensures known { known_by pass.new ≡ looking id.0 result (known_by pass.old) }
     {
-        let word = self
-            .table
-            .shared
-            .load::<Look>(&mut pass.seat, word_index(id, GATE));
+        self.look(&mut pass.seat, id)
+    }
+
+    fn look(&self, seat: &mut Seat<Slot<H>, Knowledge>, id: ActorId) -> bool
+        requires ours { seat.old.table_id ≡ gates_id self.now }
+        requires there { id.0 < actors_of self.now }
+        ensures ours { seat.new.table_id ≡ seat.old.table_id }
+        ensures known { seat.new.me ≡ (looking id.0 result seat.old.me.0, seat.old.me.1) }
+    {
+        let word = self.table.shared.load::<Look>(seat, word_index(id, GATE));
         word / 2 % 4 != 0
     }
 }

@@ -1,14 +1,18 @@
 //! The waiting count: how many envelopes were announced and not taken.
 ghost use Rattle.std.specs.Prelude.{◌≡◌, ◌<◌, IsTrue};
-ghost use Rattle.mb_gate.specs.View.{owes, sending, unsending};
+ghost use Rattle.mb_gate.specs.View.{owes, sending, unsending, counting_off};
+ghost use Rattle.mb_gate.specs.Lists.{HasClaim};
 ghost use Rattle.mb_gate.specs.Names.{gates_id, pass_id, claim_id, actors_of, known_by, known_of, held_actor, status_of, SameTaken};
 
 use crate::claim::Claim;
 use crate::gates::Gates;
-use crate::law::{Send, Stay, Unsend};
+use crate::law::{CountOff, Send, Unsend};
 use crate::layout::{WAITING, word_index};
 use crate::pass::Pass;
 use crate::resident::Resident;
+use crate::slot::Slot;
+use crate::view::Knowledge;
+use atomic_table::Seat;
 use mb_msg::ActorId;
 
 impl<H: Resident> Gates<H> {
@@ -17,7 +21,7 @@ impl<H: Resident> Gates<H> {
         requires ours { pass_id pass.old ≡ gates_id self.now }
         requires there { id.0 < actors_of self.now }
         ensures ours { pass_id pass.new ≡ pass_id pass.old }
-        ensures known { known_by pass.new ≡ sending id.0 (known_by pass.old) }
+        ensures known { known_by pass.new ≡ sending id.0 1 (known_by pass.old) }
     {
         self.table
             .shared
@@ -30,7 +34,7 @@ impl<H: Resident> Gates<H> {
         requires there { id.0 < actors_of self.now }
         requires sending { IsTrue (owes id.0 (known_by pass.old)).sending }
         ensures ours { pass_id pass.new ≡ pass_id pass.old }
-        ensures known { known_by pass.new ≡ unsending id.0 (known_by pass.old) }
+        ensures known { known_by pass.new ≡ unsending id.0 1 (known_by pass.old) }
     {
         self.table
             .shared
@@ -42,13 +46,23 @@ impl<H: Resident> Gates<H> {
         requires ours { claim_id claim.old ≡ gates_id self.now }
         requires there { held_actor claim.old < actors_of self.now }
         ensures ours { claim_id claim.new ≡ claim_id claim.old }
-        ensures known { known_of claim.new ≡ known_of claim.old }
-        ensures same { (held_actor claim.new ≡ held_actor claim.old) × (status_of claim.new ≡ status_of claim.old) × (claim.new.home ≡ claim.old.home) }
+        ensures known { known_of claim.new ≡ counting_off (held_actor claim.old) 1 (known_of claim.old) }
+        ensures actor { held_actor claim.new ≡ held_actor claim.old }
+        ensures same { (status_of claim.new ≡ status_of claim.old) × (claim.new.home ≡ claim.old.home) }
         ensures taken { SameTaken claim.old claim.new }
     {
-        let index = word_index(claim.actor, WAITING);
+        self.count_off(&mut claim.seat, claim.actor);
+    }
+
+    fn count_off(&self, seat: &mut Seat<Slot<H>, Knowledge>, id: ActorId)
+        requires ours { seat.old.table_id ≡ gates_id self.now }
+        requires there { id.0 < actors_of self.now }
+        requires holder { HasClaim id.0 seat.old.me }
+        ensures ours { seat.new.table_id ≡ seat.old.table_id }
+        ensures known { seat.new.me ≡ (counting_off id.0 1 seat.old.me.0, seat.old.me.1) }
+    {
         self.table
             .shared
-            .fetch_sub::<Stay>(&mut claim.seat, index, 1);
+            .fetch_sub::<CountOff>(seat, word_index(id, WAITING), 1);
     }
 }

@@ -2,7 +2,7 @@ ghost use Rattle.std.specs.Prelude.{◌≡◌, ◌<◌, [], IfOk, IfSome};
 ghost use Rattle.mb_status.specs.Mailbox.{Mailbox, word_of, idle};
 ghost use Rattle.mb_gate.specs.Names.{gates_id, pass_id, claim_id, actors_of, known_by, held_actor, status_of, taken_with, gave_last};
 
-use crate::{Claim, Gates, Pass, Resident, Tried};
+use crate::{Claim, Gates, Left, Pass, Resident, Tried};
 use mb_msg::{ActorId, SysMsg};
 use mb_status::Status;
 use mb_syslist::Node;
@@ -133,6 +133,49 @@ fn one_actor(rt: HostRuntime) -> Result<(), Fail> {
     let node = Node::new(alloc, SysMsg::Terminate)?;
     assert!(rt; gates.sys_enqueue(&rt, &mut a, id, node).is_err());
     gates.absorb(&mut a, b);
+    let room = Vec::with_capacity(alloc, 1)?;
+    let mut left = gates.finish(a, room);
+    match left.pop() {
+        Some(Some(Left { home, given })) => {
+            assert!(rt; home.status.closed());
+            assert_eq!(rt; given, 0);
+        }
+        Some(None) | None => panic!(rt; "the cell is at home"),
+    }
+    assert!(rt; left.is_empty());
+    Ok(())
+}
+
+#[test]
+fn a_held_cell_is_not_left(rt: HostRuntime) -> Result<(), Fail> {
+    let alloc = rt.alloc();
+    let (gates, mut pass) = gates_of_one(alloc)?;
+    let room = Vec::with_capacity(alloc, 1)?;
+    let claim = got(&rt, &gates, &mut pass, GUARDIAN);
+    let mut left = gates.finish(pass, room);
+    assert!(rt; matches!(left.pop(), Some(None)));
+    claim.abandon();
+    Ok(())
+}
+
+#[test]
+fn what_was_drained_is_counted(rt: HostRuntime) -> Result<(), Fail> {
+    let alloc = rt.alloc();
+    let (gates, mut pass) = gates_of_one(alloc)?;
+    let node = Node::new(alloc, SysMsg::Create)?;
+    assert!(rt; gates.sys_enqueue(&rt, &mut pass, GUARDIAN, node).is_ok());
+    let mut claim = got(&rt, &gates, &mut pass, GUARDIAN);
+    assert!(rt; !gates.sys_drain(&rt, &mut claim).is_empty());
+    give(&gates, claim, &mut pass);
+    let room = Vec::with_capacity(alloc, 1)?;
+    let mut left = gates.finish(pass, room);
+    match left.pop() {
+        Some(Some(Left { home, given })) => {
+            assert_eq!(rt; home.status.word(), 4);
+            assert_eq!(rt; given, 1);
+        }
+        Some(None) | None => panic!(rt; "the cell is at home"),
+    }
     Ok(())
 }
 
@@ -141,7 +184,8 @@ fn attempt(gates: &Gates<Desk>, pass: &mut Pass<Desk>, id: ActorId) -> Option<Cl
     requires ours { pass_id pass.old ≡ gates_id gates.now }
     requires there { id.0 < actors_of gates.now }
     ensures ours { pass_id pass.new ≡ pass_id pass.old }
-    ensures got { IfSome result (λ claim. (claim_id claim ≡ gates_id gates.now) × (held_actor claim ≡ id.0) × (claim.home.actor ≡ id.0) × (taken_with claim ≡ [])) }
+    ensures got { IfSome result (λ claim. (claim_id claim ≡ gates_id gates.now) × (held_actor claim ≡ id.0)) }
+    ensures own { IfSome result (λ claim. (claim.home.actor ≡ id.0) × (taken_with claim ≡ [])) }
 {
     match gates.try_schedule(pass, id) {
         Tried::Got(claim) => Some(claim),

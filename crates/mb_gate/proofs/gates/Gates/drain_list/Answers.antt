@@ -30,7 +30,7 @@ returns-clause-drained g c =
     let laid = c.lay_list.ensures.carries in
     let some = ap is_some_item c.drain-chain.ensures.chain ∙ some_listed c.args.list in
     c.store.ensures.2 l (ap (λ m. m.0.list) laid ∙ lent.has) ∙ (λ i. (
-      draining (sym c.drain-chain.ensures.chain i) (sym some i) (laid i).0,
+      draining c.args.id.0 (sym c.drain-chain.ensures.chain i) (sym some i) (laid i).0,
       rest
           (laid i).1,
     ))

@@ -1,6 +1,6 @@
 use Rattle.std.proofs.Common.{rules, ap, sym, ◌∙◌, refl, arith}
 use Rattle.atomic_table.specs.Table.{rest}
-use Rattle.mb_gate.specs.View.{Lent, draining}
+use Rattle.mb_gate.specs.View.{Lent, ending}
 use Rattle.mb_gate.specs.Claims.{held_in}
 use Rattle.mb_gate.proofs.Allowed.{ends_allowed}
 use Rattle.mb_gate.proofs.ListCalls.{word_ended, laid_back}
@@ -26,4 +26,4 @@ returns-clause-drained g c =
     let l : Lent = record { actor = c.args.id.0; listed = c.args.list; gave = lent.gave } in
     let laid = c.lay_list.ensures.carries in
     c.store.ensures.2 l (held_in c.args.seat.now.me.0) (ap (λ m. m.0.list) laid ∙ lent.has) (ap (λ m. m.0.claim) laid ∙ c.requires.holder.has)
-    ∙ (λ i. (draining (sym c.close-chain.ensures.chain i) (held_in c.args.seat.now.me.0).gave (laid i).0, rest (laid i).1))
+    ∙ (λ i. (ending c.args.id.0 (sym c.close-chain.ensures.chain i) (held_in c.args.seat.now.me.0).gave (laid i).0, rest (laid i).1))

@@ -1,12 +1,12 @@
 use Rattle.std.proofs.Common.{rules, ◌+◌, ◌-◌, ◌%◌, ◌^◌, arith}
 use Rattle.mb_gate.proofs.Allowed.{takes_allowed}
-use Rattle.mb_gate.proofs.gates.Gates.note_taken.Goals as goal
+use Rattle.mb_gate.proofs.gates.Gates.count_off.Goals as goal
 
 pub fetch_sub-requires : goal.fetch_sub-requires
 fetch_sub-requires g c = (
   search rules,
   search rules,
   takes_allowed g.H.Resident.is_of g.H.Resident.journal g.H.Resident.mailbox
-      g.H.Resident.rested _ _ _ _ c.args.claim.now.actor.0 _ (let k = c.args.self.now.keyed in let t = c.requires.there in omega arith) _ (λ n. (n
-      + (2 ^ 64 - 1)) % 2 ^ 64) 1 c.word_index-index.ensures c.args.claim.now.has c.args.claim.now.of,
+      g.H.Resident.rested _ _ _ _ c.args.id.0 _ (let k = c.args.self.now.keyed in let t = c.requires.there in omega arith) _ (λ n. (n
+      + (2 ^ 64 - 1)) % 2 ^ 64) 1 c.word_index.ensures c.requires.holder.has c.requires.holder.of,
 )

@@ -1,0 +1,64 @@
+-- What the gates leave at their end.
+use Rattle.std.specs.Prelude.{◌≡◌, ◌≢◌, ◌⊎◌, ℕ, ◌%◌, ◌<◌, List, length, Option, Some, None, slice_get}
+use mathlib.Core.Option.{some}
+use lib.ListN.{get_elem?}
+use Rattle.atomic_table.specs.Table.{State}
+use Rattle.mb_status.specs.Mailbox.{Mailbox, word_of}
+use Rattle.mb_syslist.specs.MessageList.{MessageList}
+use Rattle.mb_journal.specs.Entry.{Entry}
+use Rattle.mb_rule.specs.Layout.{Spot, spot_of, word_at, slot_at}
+use Rattle.mb_rule.specs.Ruled.{Ruled}
+use Rattle.mb_rule.specs.Seen.{Each}
+use Rattle.mb_gate.specs.declared.slot.Slot.{Slot}
+use Rattle.mb_gate.specs.declared.slot.Slot.TheVariants.{Home, List as Listing}
+use Rattle.mb_gate.specs.declared.left.Left.{Left}
+use Rattle.mb_gate.specs.View.{View, Sight, Read, Saw, Counted, Looked, Sent, Unsent, Took, Drained, Ended}
+use Rattle.mb_gate.specs.Rule.{Word, Status, word_offset, Shelf, slot_offset, Ghost, Extends, Fact}
+
+-- by its words, the actor's cell and its list are at home: it is not scheduled, or a closed one's flag tells it; and its gate is not taken
+pub record TellsHome (words : List ℕ) (actor : ℕ) : Type 0 where
+  pub status : ℕ
+  pub flag : ℕ
+  pub gate : ℕ
+  pub status_is : get_elem? words (word_at actor 0) ≡ some status
+  pub flag_is : get_elem? words (word_at actor 1) ≡ some flag
+  pub gate_is : get_elem? words (word_at actor 2) ≡ some gate
+  pub cell : (status % 4 ≡ 0) ⊎ (flag ≡ 1)
+  pub list : gate % 2 ≡ 0
+
+-- what was taken out of the words and slots of the actor
+abbrev pub IsTakenOut : {H : Type 0} → List ℕ → List (Slot H) → ℕ → Option (Left H) → Type 0
+IsTakenOut words slots actor (Some left) = TellsHome words actor × (get_elem? slots (slot_at actor 0) ≡ some (Home left.home))
+    × ((list : MessageList) × (get_elem? slots (slot_at actor 1) ≡ some (Listing list)) × (left.given ≡ list.given))
+IsTakenOut {H} words slots actor None = (home : H) (list : MessageList) → TellsHome words actor → get_elem? slots (slot_at actor 0) ≡ some (Home
+    home) → get_elem? slots (slot_at actor 1) ≡ some (Listing list) → ⊥
+
+-- this sight is so of an actor that is left with this journal and word
+abbrev pub IsKept : ℕ → List Entry → ℕ → Sight → Type 0
+IsKept actor journal word (Read a seen) = a ≡ actor → seen ≡ 1 → word ≡ 1
+IsKept actor journal word (Saw a before) = a ≡ actor → Extends journal before
+IsKept actor journal word (Ended a given) = a ≡ actor → word ≡ 1
+IsKept actor journal word (Counted a n) = Unit {0}
+IsKept actor journal word (Looked a has_work) = Unit {0}
+IsKept actor journal word (Sent a n) = Unit {0}
+IsKept actor journal word (Unsent a n) = Unit {0}
+IsKept actor journal word (Took a n) = Unit {0}
+IsKept actor journal word (Drained a given) = Unit {0}
+
+module _ {H : Type 0} (is_of : ℕ → H → Type 0) (journal : H → List Entry) (mailbox : H → Mailbox) (rested : H → Type 0) where
+  -- What is left of an actor whose words and slots these are: its home, which is its own; its word is the one of its journal, which goes
+  -- on from all that was seen; and how many its list gave. There is none only where a claim has the cell, or a seat the list.
+  abbrev pub IsLeft : ℕ → Spot Word Shelf (Slot H) Ghost → View → Option (Left H) → Type 0
+  IsLeft actor x v (Some left) = is_of actor left.home × (x.row Status ≡ word_of (mailbox left.home)) × Each (IsKept actor (journal left.home)
+      (x.row Status)) v.log × (left.given ≡ x.ghost.listed.given)
+  IsLeft actor x v None = (x.ghost.holder ≢ None) ⊎ (x.ghost.keeper ≢ None)
+
+  -- of each actor, in a last state of the table that meets the rule, in which the pass has this view
+  pub record AreLeft (actors : ℕ) (v : View) (all : List (Option (Left H))) : Type 0 where
+    pub state : State (Slot H) View
+    pub rule : Ruled word_offset slot_offset actors (Fact is_of journal mailbox rested) state
+    pub seat : ℕ
+    pub known : get_elem? state.views seat ≡ some v
+    pub many : length all ≡ actors
+    pub each : (actor : ℕ) (left : Option (Left H)) → actor < actors → slice_get all actor ≡ Some left
+        → IsLeft actor (spot_of word_offset slot_offset state rule.ghosts actor) v left

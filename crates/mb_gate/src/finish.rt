@@ -1,0 +1,67 @@
+//! How the gates end.
+ghost use Rattle.std.specs.Prelude.{◌≡◌, ◌+◌, ◌*◌, ◌<◌, ◌≤◌, [], true, false, slice_index_or, slice_set, vec_capacity};
+ghost use Rattle.std.specs.Mem.Slots.{slots_items, slots_filled, slots_len, IsFull};
+ghost use Rattle.mb_rule.specs.Layout.{slot_at};
+ghost use Rattle.mb_gate.specs.Leaves.{AreLeft, IsTakenOut};
+ghost use Rattle.mb_gate.specs.Names.{gates_id, pass_id, actors_of, known_by};
+
+use crate::gates::Gates;
+use crate::layout::{CELL, FLAG, GATE, LIST, STATUS};
+use crate::left::Left;
+use crate::pass::Pass;
+use crate::resident::Resident;
+use crate::slot::Slot;
+use atomic_table::Closed;
+use std::alloc::Global;
+
+impl<H: Resident> Gates<H> {
+    /// Ends the gates: what is left of each actor, the first with the number 0, and `None` of one that a claim has. Each
+    /// home is its actor's own, with the word of its journal, and goes on from all that the pass has seen, which may have
+    /// taken over all others. It takes no memory: the room is the caller's (this project's own profile).
+    pub fn finish(self, pass: Pass<H>, room: Vec<Option<Left<H>>>) -> Vec<Option<Left<H>>>
+        requires ours { pass_id pass ≡ gates_id self }
+        requires empty { room.items ≡ [] }
+        requires room { actors_of self ≤ vec_capacity room }
+        ensures left { AreLeft H.is_of H.journal H.mailbox H.rested (actors_of self) (known_by pass) result.items }
+    {
+        let Gates { table, actors } = self;
+        let Pass { seat } = pass;
+        let mut closed = table.close_with(seat);
+        let mut all = room;
+        for actor in 0..actors {
+            let left = take_out(&mut closed, actor);
+            all.push_reserved(left);
+        }
+        closed.free();
+        all
+    }
+}
+
+// What is left of one actor, out of its words and slots.
+fn take_out<H: Resident>(closed: &mut Closed<Slot<H>, Global>, actor: usize) -> Option<Left<H>>
+    requires words { (16 * actor + 16 ≤ slots_len closed.old.words) × IsFull closed.old.words }
+    requires slots { 2 * actor + 2 ≤ slots_len closed.old.slots }
+    requires filled { (slice_index_or (slots_filled closed.old.slots) (slot_at actor 0) false ≡ true) × (slice_index_or (slots_filled closed.old.slots) (slot_at actor 1) false ≡ true) }
+    ensures words { closed.new.words ≡ closed.old.words }
+    ensures items { slots_items closed.new.slots ≡ slots_items closed.old.slots }
+    ensures count { slots_len closed.new.slots ≡ slots_len closed.old.slots }
+    ensures filled { slots_filled closed.new.slots ≡ slice_set (slice_set (slots_filled closed.old.slots) (slot_at actor 0) false) (slot_at actor 1) false }
+    ensures left { IsTakenOut (slots_items closed.old.words) (slots_items closed.old.slots) actor result }
+{
+    let first = 16 * actor + 8;
+    let status = closed.word(first + STATUS);
+    let flag = closed.word(first + FLAG);
+    let gate = closed.word(first + GATE);
+    let cell = closed.take(2 * actor + CELL);
+    let list = closed.take(2 * actor + LIST);
+    if status % 4 != 0 && flag != 1 || gate % 2 != 0 {
+        return None;
+    }
+    match (cell, list) {
+        (Slot::Home(home), Slot::List(list)) => Some(Left {
+            home,
+            given: list.given(),
+        }),
+        _ => None,
+    }
+}
