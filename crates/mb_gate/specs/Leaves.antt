@@ -1,5 +1,5 @@
 -- What the gates leave at their end.
-use Rattle.std.specs.Prelude.{◌≡◌, ◌≢◌, ◌⊎◌, ℕ, ◌%◌, ◌<◌, List, length, Option, Some, None, slice_get}
+use Rattle.std.specs.Prelude.{◌≡◌, ◌≢◌, ◌⊎◌, ℕ, ◌%◌, ◌<◌, Bool, false, List, length, Option, Some, None, slice_get, slice_set}
 use mathlib.Core.Option.{some}
 use lib.ListN.{get_elem?}
 use Rattle.atomic_table.specs.Table.{State}
@@ -25,6 +25,10 @@ pub record TellsHome (words : List ℕ) (actor : ℕ) : Type 0 where
   pub gate_is : get_elem? words (word_at actor 2) ≡ some gate
   pub cell : (status % 4 ≡ 0) ⊎ (flag ≡ 1)
   pub list : gate % 2 ≡ 0
+
+-- which slots are filled, once the actor's two were emptied
+abbrev pub emptied_at : ℕ → List Bool → List Bool
+emptied_at actor filled = slice_set (slice_set filled (slot_at actor 0) false) (slot_at actor 1) false
 
 -- what was taken out of the words and slots of the actor
 abbrev pub IsTakenOut : {H : Type 0} → List ℕ → List (Slot H) → ℕ → Option (Left H) → Type 0

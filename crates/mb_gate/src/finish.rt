@@ -1,8 +1,8 @@
 //! How the gates end.
-ghost use Rattle.std.specs.Prelude.{◌≡◌, ◌+◌, ◌*◌, ◌<◌, ◌≤◌, [], true, false, slice_index_or, slice_set, vec_capacity};
+ghost use Rattle.std.specs.Prelude.{◌≡◌, ◌+◌, ◌*◌, ◌<◌, ◌≤◌, [], true, false, slice_index_or, vec_capacity};
 ghost use Rattle.std.specs.Mem.Slots.{slots_items, slots_filled, slots_len, IsFull};
 ghost use Rattle.mb_rule.specs.Layout.{slot_at};
-ghost use Rattle.mb_gate.specs.Leaves.{AreLeft, IsTakenOut};
+ghost use Rattle.mb_gate.specs.Leaves.{AreLeft, IsTakenOut, emptied_at};
 ghost use Rattle.mb_gate.specs.Names.{gates_id, pass_id, actors_of, known_by};
 
 use crate::gates::Gates;
@@ -41,11 +41,12 @@ impl<H: Resident> Gates<H> {
 fn take_out<H: Resident>(closed: &mut Closed<Slot<H>, Global>, actor: usize) -> Option<Left<H>>
     requires words { (16 * actor + 16 ≤ slots_len closed.old.words) × IsFull closed.old.words }
     requires slots { 2 * actor + 2 ≤ slots_len closed.old.slots }
-    requires filled { (slice_index_or (slots_filled closed.old.slots) (slot_at actor 0) false ≡ true) × (slice_index_or (slots_filled closed.old.slots) (slot_at actor 1) false ≡ true) }
+    requires cell { slice_index_or (slots_filled closed.old.slots) (slot_at actor 0) false ≡ true }
+    requires list { slice_index_or (slots_filled closed.old.slots) (slot_at actor 1) false ≡ true }
     ensures words { closed.new.words ≡ closed.old.words }
     ensures items { slots_items closed.new.slots ≡ slots_items closed.old.slots }
     ensures count { slots_len closed.new.slots ≡ slots_len closed.old.slots }
-    ensures filled { slots_filled closed.new.slots ≡ slice_set (slice_set (slots_filled closed.old.slots) (slot_at actor 0) false) (slot_at actor 1) false }
+    ensures filled { slots_filled closed.new.slots ≡ emptied_at actor (slots_filled closed.old.slots) }
     ensures left { IsTakenOut (slots_items closed.old.words) (slots_items closed.old.slots) actor result }
 {
     let first = 16 * actor + 8;

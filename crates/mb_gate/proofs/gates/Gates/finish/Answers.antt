@@ -35,15 +35,19 @@ take_out-left-requires-clause-slots g c =
     let deep = c.args.self.deep in
     let here = c.loop-actor-test.true in (omega arith)
 
-pub take_out-left-requires-clause-filled : goal.take_out-left-requires-clause-filled
-take_out-left-requires-clause-filled g c =
+pub take_out-left-requires-clause-cell : goal.take_out-left-requires-clause-cell
+take_out-left-requires-clause-cell g c =
     let same = c.loop-actor.invariant.2 in
     let count = c.close_with-closed.ensures.counts.1 in
     let deep = c.args.self.deep in
-    let here = c.loop-actor-test.true in (
-      c.loop-actor.invariant.3 (slot_at c.loop-actor.actor 0) (omega arith) (omega arith),
-      c.loop-actor.invariant.3 (slot_at c.loop-actor.actor 1) (omega arith) (omega arith),
-    )
+    let here = c.loop-actor-test.true in c.loop-actor.invariant.3 (slot_at c.loop-actor.actor 0) (omega arith) (omega arith)
+
+pub take_out-left-requires-clause-list : goal.take_out-left-requires-clause-list
+take_out-left-requires-clause-list g c =
+    let same = c.loop-actor.invariant.2 in
+    let count = c.close_with-closed.ensures.counts.1 in
+    let deep = c.args.self.deep in
+    let here = c.loop-actor-test.true in c.loop-actor.invariant.3 (slot_at c.loop-actor.actor 1) (omega arith) (omega arith)
 
 pub push_reserved-requires : goal.push_reserved-requires
 push_reserved-requires g c =
