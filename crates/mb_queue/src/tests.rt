@@ -1,5 +1,5 @@
 //! A queue alone, by one thread and by three.
-ghost use Rattle.std.specs.Prelude.{◌≡◌, ◌<◌, IfOk};
+ghost use Rattle.std.specs.Prelude.{◌≡◌, ◌<◌, [], ◌∷◌, IfOk};
 ghost use Rattle.mb_queue.specs.Made.{IsMakeable};
 
 use crate::{Kind, MailQueue, PushError, RankRow, Ranks, SendPass, TakePass};
@@ -47,6 +47,7 @@ fn queue(alloc: Global, kind: Kind) -> Result<(TakePass, SendPass, SendPass), Al
     ensures queue { IfOk result (λ r. (r.1.queue ≡ r.0.queue) × (r.2.queue ≡ r.0.queue)) }
     ensures senders { IfOk result (λ r. (r.1.by ≡ 1) × (r.2.by ≡ 64)) }
     ensures actor { IfOk result (λ r. r.0.queue.to ≡ 2) }
+    ensures all { IfOk result (λ r. r.0.queue.senders ≡ 1 ∷ 64 ∷ []) }
 {
     let (take, mut sends) = MailQueue::new(alloc, kind, ME, &[NEAR, FAR])?;
     let Some(far) = sends.pop() else {

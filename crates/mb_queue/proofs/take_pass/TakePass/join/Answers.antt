@@ -1,11 +1,13 @@
 use Rattle.std.proofs.Common.{◌≡◌, ℕ, List, [], ◌∷◌, ◌++◌, subst, sym, ap, ◌∙◌, Option, Some, None}
 use Rattle.mb_msg.specs.declared.envelope.Envelope.{Envelope}
 use Rattle.mb_lane.specs.declared.ledger.Account.{Account}
-use Rattle.mb_lane.specs.Ledger.{home}
+use Rattle.mb_lane.specs.Ledger.{account, home}
+use Rattle.mb_lane.proofs.Lists.{account-other, account-same}
 use Rattle.mb_lane.specs.Port.{Known}
 use Rattle.mb_queue.specs.declared.order.Order.{Order}
 use Rattle.mb_queue.specs.declared.order.Order.TheVariants.{ControlFirst, FirstInFirstOut, ByRank}
 use Rattle.mb_queue.specs.declared.take_pass.TakePass.TheInside.{Inside}
+use Rattle.mb_queue.specs.Passes.{Sending, Taking}
 use Rattle.mb_queue.specs.Kept.{IsSending, IsTaking}
 use Rattle.mb_queue.proofs.Joins.{control_joined, fifo_joined, joined, rank_joined}
 use Rattle.mb_queue.proofs.take_pass.TakePass.join.Goals as goal
@@ -43,3 +45,21 @@ invariant_of-self c =
           back (ByRank choice) _ (λ k. record { main = c.join.new.self; order = w.in-ByRank-None.is-0 k; taken = i.taken; accounts = i.accounts }) w.self-inside-is
           (rank_joined i.main p.main i.taken i.accounts by p.pushed choice (kept (ByRank choice) w.in-ByRank-None.is-0) (sent None w.in-ByRank-None.is-1))
     ]
+
+pub returns-clause-account : goal.returns-clause-account
+returns-clause-account c = let p = c.pass.inside in
+    ap (λ l. account l c.args.pass.by) c.add.ensures
+    ∙ account-same c.match-self.self-inside.accounts (home p.by.0 p.pushed) c.args.pass.by (ap (λ (x : Sending). x.by) c.pass.view_is)
+    ∙ ap (λ (x : Sending). Some x.pushed) c.pass.view_is
+
+pub returns-clause-others : goal.returns-clause-others
+returns-clause-others c = λ sender ne.
+    let p = c.pass.inside in let i = c.self.inside in
+    let kept : c.match-self.self-inside.accounts ≡ i.accounts = elim c.match-self.branch [
+      | in-ControlFirst-Some w ↦ ap (λ (j : Inside). j.accounts) w.self-inside-is
+      | in-FirstInFirstOut-None w ↦ ap (λ (j : Inside). j.accounts) w.self-inside-is
+      | in-ByRank-None w ↦ ap (λ (j : Inside). j.accounts) w.self-inside-is
+    ] in
+    ap (λ l. account l sender) c.add.ensures
+    ∙ account-other c.match-self.self-inside.accounts (home p.by.0 p.pushed) sender (λ same. ne (sym same ∙ ap (λ (x : Sending). x.by) c.pass.view_is))
+    ∙ ap (λ l. account l sender) kept ∙ ap (λ (t : Taking). account t.accounts sender) c.self.view_is
