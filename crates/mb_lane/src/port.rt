@@ -125,7 +125,8 @@ impl Port {
     pub fn lend(&mut self, by: SenderId) -> Result<Port, AllocError>
         requires { MayLend by.0 self.old.ledger }
         ensures { MatchResult result
-            (λ port. (self.new ≡ record self.old { ledger = lending by.0 self.old.ledger }) × (port ≡ record self.old { ledger = borrowing by.0 self.old.ledger }))
+            (λ port. (self.new ≡ record self.old { ledger = lending by.0 self.old.ledger })
+            × (port ≡ record self.old { ledger = borrowing by.0 self.old.ledger }))
             (λ _. self.new ≡ self.old) }
     {
         self.lend_as::<Brand>(by)
@@ -135,7 +136,8 @@ impl Port {
         requires may { MayLend by.0 self.old.ledger }
         requires this { N.by ≡ by.0 }
         ensures { MatchResult result
-            (λ port. (self.new ≡ record self.old { ledger = lending by.0 self.old.ledger }) × (port ≡ record self.old { ledger = borrowing by.0 self.old.ledger }))
+            (λ port. (self.new ≡ record self.old { ledger = lending by.0 self.old.ledger })
+            × (port ≡ record self.old { ledger = borrowing by.0 self.old.ledger }))
             (λ _. self.new ≡ self.old) }
     {
         let _ = by;

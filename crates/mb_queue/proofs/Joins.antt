@@ -22,12 +22,14 @@ abbrev pub joined : Known → Known → Known
 joined port own = record port { ledger = joining port.ledger own.ledger }
 
 joined_took : (scope scope' : Scope) (part : Part) (out pushed : List Envelope) (accounts : List Account) (by : ℕ) (port own : Known)
-    → Took port scope part out accounts → own.ledger ≡ Sender scope' by pushed → Took (joined port own) scope part out (accounts ++ home by pushed ∷ [])
+    → Took port scope part out accounts → own.ledger ≡ Sender scope' by pushed
+    → Took (joined port own) scope part out (accounts ++ home by pushed ∷ [])
 joined_took scope scope' part out pushed accounts by port own took sent i = joining (took i) (sent i)
 
 joined_part : (part : List Envelope → List Envelope) (by : ℕ) (pushed : List Envelope) (accounts : List Account)
     → accounts_of part accounts ++ home by (part pushed) ∷ [] ≡ accounts_of part (accounts ++ home by pushed ∷ [])
-joined_part part by pushed accounts = sym (map-append (λ (a : Account). record { by = a.by; pushed = option_map part a.pushed }) accounts (home by pushed ∷ []))
+joined_part part by pushed accounts = sym
+    (map-append (λ (a : Account). record { by = a.by; pushed = option_map part a.pushed }) accounts (home by pushed ∷ []))
 
 module _ (main own : Known) (taken : List Envelope) (accounts : List Account) (by : ℕ) (pushed : List Envelope) where
   abbrev all : List Account
@@ -35,7 +37,8 @@ module _ (main own : Known) (taken : List Envelope) (accounts : List Account) (b
 
   pub fifo_joined : IsTaking main FirstInFirstOut taken accounts → IsSending by own None pushed → IsTaking (joined main own) FirstInFirstOut taken all
   fifo_joined kept sent =
-      settled (scope_in main.ledger) Whole taken all (joined main own) (joined_took (scope_in main.ledger) _ Whole taken pushed accounts by main own kept sent)
+      settled (scope_in main.ledger) Whole taken all (joined main own)
+      (joined_took (scope_in main.ledger) _ Whole taken pushed accounts by main own kept sent)
 
   pub control_joined : (control his : Known) → IsTaking main (ControlFirst control) taken accounts → IsSending by own (Some his) pushed
       → IsTaking (joined main own) (ControlFirst (joined control his)) taken all
@@ -51,11 +54,13 @@ module _ (main own : Known) (taken : List Envelope) (accounts : List Account) (b
         kept.3,
       )
 
-  pub rank_joined : (choice : Choice) → IsTaking main (ByRank choice) taken accounts → IsSending by own None pushed → IsTaking (joined main own) (ByRank choice) taken all
+  pub rank_joined : (choice : Choice) → IsTaking main (ByRank choice) taken accounts → IsSending by own None pushed
+      → IsTaking (joined main own) (ByRank choice) taken all
   rank_joined choice kept sent =
       let scope = scope_in main.ledger in let gone = gone_of main.ledger in
       let took = joined_took scope _ Whole gone pushed accounts by main own kept.0 sent in let same = sym (ap gone_of took) in (
-        subst (λ l. Took (joined main own) (scope_in (joined main own).ledger) Whole l all) same (settled scope Whole gone all (joined main own) took),
+        subst (λ l. Took (joined main own) (scope_in (joined main own).ledger) Whole l all) same
+            (settled scope Whole gone all (joined main own) took),
         kept.1 ∙ ap length same,
         subst (λ l. IsSameBag l (taken ++ envelopes_of choice.waiting)) same kept.2,
         subst (λ s. All (Belongs s) (envelopes_of choice.waiting)) (sym (ap scope_in took ∙ sym (ap scope_in kept.0))) kept.3,

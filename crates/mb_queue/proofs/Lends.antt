@@ -28,7 +28,8 @@ main_lent s main = record main { ledger = lending s main.ledger }
 abbrev pub own_lent : ℕ → Known → Known
 own_lent s main = record main { ledger = borrowing s main.ledger }
 
-module _ (s : ℕ) (scope : Scope) (part : Part) (out : List Envelope) (accounts : List Account) (port : Known) (took : Took port scope part out accounts) where
+module _ (s : ℕ) (scope : Scope) (part : Part) (out : List Envelope) (accounts : List Account) (port : Known)
+    (took : Took port scope part out accounts) where
   may : Contains scope.senders s → account accounts s ≡ Some [] → MayLend s port.ledger
   may known home = subst (MayLend s) (sym took) (known, home)
 
@@ -47,33 +48,41 @@ module _ (s : ℕ) (scope : Scope) (part : Part) (out : List Envelope) (accounts
   own_scope : scope_in (borrowing s port.ledger) ≡ scope_in port.ledger
   own_scope = ap scope_in own_ledger ∙ sym (ap scope_in took)
 
-lent_part : (part : List Envelope → List Envelope) (s : ℕ) (accounts : List Account) → accounts_of part (accounts ++ lent s ∷ []) ≡ accounts_of part accounts ++ lent s ∷ []
+lent_part : (part : List Envelope → List Envelope) (s : ℕ) (accounts : List Account)
+    → accounts_of part (accounts ++ lent s ∷ []) ≡ accounts_of part accounts ++ lent s ∷ []
 lent_part part s accounts = map-append (λ (a : Account). record { by = a.by; pushed = option_map part a.pushed }) accounts (lent s ∷ [])
 
-pub main_may : (s : ℕ) (main : Known) (order : Order) (taken : List Envelope) (accounts : List Account) → IsTaking main order taken accounts → Contains (scope_in main.ledger).senders s → account accounts s ≡ Some []
+pub main_may : (s : ℕ) (main : Known) (order : Order) (taken : List Envelope) (accounts : List Account) → IsTaking main order taken accounts
+    → Contains (scope_in main.ledger).senders s → account accounts s ≡ Some []
     → MayLend s main.ledger
 main_may s main FirstInFirstOut taken accounts kept known home = may s (scope_in main.ledger) Whole taken accounts main kept known home
 main_may s main (ControlFirst control) taken accounts kept known home =
-    may s (scope_in main.ledger) Others (others taken) (accounts_of others accounts) main kept.0 known (part_of_account others refl accounts s [] home)
-main_may s main (ByRank choice) taken accounts kept known home = may s (scope_in main.ledger) Whole (gone_of main.ledger) accounts main kept.0 known home
+    may s (scope_in main.ledger) Others (others taken) (accounts_of others accounts) main kept.0 known
+    (part_of_account others refl accounts s [] home)
+main_may s main (ByRank choice) taken accounts kept known home =
+    may s (scope_in main.ledger) Whole (gone_of main.ledger) accounts main kept.0 known home
 
-pub control_may : (s : ℕ) (main : Known) (order : Order) (taken : List Envelope) (accounts : List Account) → IsTaking main order taken accounts → Contains (scope_in main.ledger).senders s → account accounts s ≡ Some []
+pub control_may : (s : ℕ) (main : Known) (order : Order) (taken : List Envelope) (accounts : List Account) → IsTaking main order taken accounts
+    → Contains (scope_in main.ledger).senders s → account accounts s ≡ Some []
     → MayLendControl s order
 control_may s main FirstInFirstOut taken accounts kept known home = tt
 control_may s main (ControlFirst control) taken accounts kept known home =
-    may s (scope_in main.ledger) Controls (controls taken) (accounts_of controls accounts) control kept.1 known (part_of_account controls refl accounts s [] home)
+    may s (scope_in main.ledger) Controls (controls taken) (accounts_of controls accounts) control kept.1 known
+    (part_of_account controls refl accounts s [] home)
 control_may s main (ByRank choice) taken accounts kept known home = tt
 
 pub take_kept : (s : ℕ) (main : Known) (order : Order) (taken : List Envelope) (accounts : List Account) → IsTaking main order taken accounts
     → IsTaking (main_lent s main) (order_lent s order) taken (accounts ++ lent s ∷ [])
 take_kept s main FirstInFirstOut taken accounts kept =
     let ss = scope_in main.ledger in
-    subst (λ l. Took (main_lent s main) l Whole taken (accounts ++ lent s ∷ [])) (sym (lent_scope s ss Whole taken accounts main kept)) (lent_took s ss Whole taken accounts main kept)
+    subst (λ l. Took (main_lent s main) l Whole taken (accounts ++ lent s ∷ [])) (sym (lent_scope s ss Whole taken accounts main kept))
+    (lent_took s ss Whole taken accounts main kept)
 take_kept s main (ControlFirst control) taken accounts kept =
     let ss = scope_in main.ledger in let same = sym (lent_scope s ss Others (others taken) (accounts_of others accounts) main kept.0) in (
       subst (λ (y : Scope × List Account). Took (main_lent s main) y.0 Others (others taken) y.1) (λ i. (same i, sym (lent_part others s accounts) i))
           (lent_took s ss Others (others taken) (accounts_of others accounts) main kept.0),
-      subst (λ (y : Scope × List Account). Took (main_lent s control) y.0 Controls (controls taken) y.1) (λ i. (same i, sym (lent_part controls s accounts) i))
+      subst (λ (y : Scope × List Account). Took (main_lent s control) y.0 Controls (controls taken) y.1)
+          (λ i. (same i, sym (lent_part controls s accounts) i))
           (lent_took s ss Controls (controls taken) (accounts_of controls accounts) control kept.1),
       kept.2,
       kept.3,
@@ -81,13 +90,15 @@ take_kept s main (ControlFirst control) taken accounts kept =
 take_kept s main (ByRank choice) taken accounts kept =
     let ss = scope_in main.ledger in let gone = gone_of main.ledger in
     let same = sym (lent_scope s ss Whole gone accounts main kept.0) in let out = sym (lent_gone s ss Whole gone accounts main kept.0) in (
-      subst (λ (y : Scope × List Envelope). Took (main_lent s main) y.0 Whole y.1 (accounts ++ lent s ∷ [])) (λ i. (same i, out i)) (lent_took s ss Whole gone accounts main kept.0),
+      subst (λ (y : Scope × List Envelope). Took (main_lent s main) y.0 Whole y.1 (accounts ++ lent s ∷ [])) (λ i. (same i, out i))
+          (lent_took s ss Whole gone accounts main kept.0),
       kept.1 ∙ ap length out,
       subst (λ l. IsSameBag l (taken ++ envelopes_of choice.waiting)) out kept.2,
       subst (λ l. All (Belongs l) (envelopes_of choice.waiting)) same kept.3,
     )
 
-pub send_kept : (s : ℕ) (main : Known) (order : Order) (taken : List Envelope) (accounts : List Account) → IsTaking main order taken accounts → IsSending s (own_lent s main) (port_lent s order) []
+pub send_kept : (s : ℕ) (main : Known) (order : Order) (taken : List Envelope) (accounts : List Account) → IsTaking main order taken accounts
+    → IsSending s (own_lent s main) (port_lent s order) []
 send_kept s main FirstInFirstOut taken accounts kept =
     let ss = scope_in main.ledger in
     own_ledger s ss Whole taken accounts main kept ∙ ap (λ l. Sender (parted l Whole) s []) (sym (own_scope s ss Whole taken accounts main kept))
@@ -104,11 +115,19 @@ send_kept s main (ByRank choice) taken accounts kept =
 
 -- as contracts see it
 pub take_is : (s : ℕ) (main : Known) (order : Order) (taken : List Envelope) (accounts : List Account) → IsTaking main order taken accounts
-    → taking_of (main_lent s main) (order_lent s order) taken (accounts ++ lent s ∷ []) ≡ record (taking_of main order taken accounts) { accounts = accounts ++ lent s ∷ [] }
-take_is s main FirstInFirstOut taken accounts kept = ap (λ l. record (taking_of main FirstInFirstOut taken (accounts ++ lent s ∷ [])) { queue = record (queue_of main None) { senders = l.senders; to = l.to } })
+    → taking_of (main_lent s main) (order_lent s order) taken (accounts ++ lent s ∷ [])
+    ≡ record (taking_of main order taken accounts) { accounts = accounts ++ lent s ∷ [] }
+take_is s main FirstInFirstOut taken accounts kept =
+    ap (λ l. record (taking_of main FirstInFirstOut taken (accounts ++ lent s ∷ [])) {
+      queue =
+          record (queue_of main None) { senders = l.senders; to = l.to };
+    })
     (lent_scope s (scope_in main.ledger) Whole taken accounts main kept)
 take_is s main (ControlFirst control) taken accounts kept =
-    ap (λ l. record (taking_of main (ControlFirst control) taken (accounts ++ lent s ∷ [])) { queue = record (queue_of main (Some control)) { senders = l.senders; to = l.to } })
+    ap (λ l. record (taking_of main (ControlFirst control) taken (accounts ++ lent s ∷ [])) {
+      queue =
+          record (queue_of main (Some control)) { senders = l.senders; to = l.to };
+    })
     (lent_scope s (scope_in main.ledger) Others (others taken) (accounts_of others accounts) main kept.0)
 take_is s main (ByRank choice) taken accounts kept =
     let ss = scope_in main.ledger in let gone = gone_of main.ledger in
@@ -122,7 +141,12 @@ take_is s main (ByRank choice) taken accounts kept =
 
 pub send_is : (s : ℕ) (main : Known) (order : Order) (taken : List Envelope) (accounts : List Account) → IsTaking main order taken accounts
     → sending s (own_lent s main) (port_lent s order) [] ≡ unused (queue_of main (control_of order)) s
-send_is s main FirstInFirstOut taken accounts kept = ap (λ l. unused (record (queue_of main None) { senders = l.senders; to = l.to }) s) (own_scope s (scope_in main.ledger) Whole taken accounts main kept)
+send_is s main FirstInFirstOut taken accounts kept =
+    ap (λ l. unused (record (queue_of main None) { senders = l.senders; to = l.to }) s)
+    (own_scope s (scope_in main.ledger) Whole taken accounts main kept)
 send_is s main (ControlFirst control) taken accounts kept =
-    ap (λ l. unused (record (queue_of main (Some control)) { senders = l.senders; to = l.to }) s) (own_scope s (scope_in main.ledger) Others (others taken) (accounts_of others accounts) main kept.0)
-send_is s main (ByRank choice) taken accounts kept = ap (λ l. unused (record (queue_of main None) { senders = l.senders; to = l.to }) s) (own_scope s (scope_in main.ledger) Whole (gone_of main.ledger) accounts main kept.0)
+    ap (λ l. unused (record (queue_of main (Some control)) { senders = l.senders; to = l.to }) s)
+    (own_scope s (scope_in main.ledger) Others (others taken) (accounts_of others accounts) main kept.0)
+send_is s main (ByRank choice) taken accounts kept =
+    ap (λ l. unused (record (queue_of main None) { senders = l.senders; to = l.to }) s)
+    (own_scope s (scope_in main.ledger) Whole (gone_of main.ledger) accounts main kept.0)

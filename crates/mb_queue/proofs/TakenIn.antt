@@ -1,5 +1,6 @@
 -- Taking in, one envelope after another.
-use Rattle.std.proofs.Common.{◌≡◌, ◌⊎◌, ℕ, zero, ◌+◌, List, [], ◌∷◌, ◌++◌, length, refl, sym, ap, ◌∙◌, subst, inl, inr, append_assoc, arith, length-append, Option, Some, None, IsPermutation}
+use Rattle.std.proofs.Common.{◌≡◌, ◌⊎◌, ℕ, zero, ◌+◌, List, [], ◌∷◌, ◌++◌, length, refl, sym, ap, ◌∙◌, subst, inl, inr, append_assoc, arith}
+use Rattle.std.proofs.Common.{length-append, Option, Some, None, IsPermutation}
 use Rattle.std.proofs.lemmas.List.{append-nil}
 use Rattle.std.proofs.lemmas.List.Elements.{All-nil, All-push}
 use Rattle.std.proofs.lemmas.List.Sorted.{IsPermutation-refl, IsPermutation-trans, IsPermutation-push_more, IsPermutation-sym}
@@ -28,11 +29,14 @@ taking_all-more (Taker scope taken accounts) es e = ap (λ t. Taker scope t acco
 taking_all-more Spent es e = refl
 
 pub arrivals_from-more : (rows : List RankRow) (other number : ℕ) (es : List Envelope) (e : Envelope)
-    → arrivals_from rows other number (es ++ e ∷ []) ≡ arrivals_from rows other number es ++ record { rank = rank_of rows other e.body; number = number + length es; envelope = e } ∷ []
-arrivals_from-more rows other number [] e = let n : number ≡ number + 0 = omega arith in ap (λ k. record { rank = rank_of rows other e.body; number = k; envelope = e } ∷ []) n
+    → arrivals_from rows other number (es ++ e ∷ []) ≡ arrivals_from rows other number es
+    ++ record { rank = rank_of rows other e.body; number = number + length es; envelope = e } ∷ []
+arrivals_from-more rows other number [] e = let n : number ≡ number + 0 = omega arith in
+    ap (λ k. record { rank = rank_of rows other e.body; number = k; envelope = e } ∷ []) n
 arrivals_from-more rows other number (x ∷ es) e = let n : (number + 1) + length es ≡ number + length (x ∷ es) = omega arith in
     ap (λ l. record { rank = rank_of rows other x.body; number = number; envelope = x } ∷ l)
-    (arrivals_from-more rows other (number + 1) es e ∙ ap (λ k. arrivals_from rows other (number + 1) es ++ record { rank = rank_of rows other e.body; number = k; envelope = e } ∷ []) n)
+    (arrivals_from-more rows other (number + 1) es e
+    ∙ ap (λ k. arrivals_from rows other (number + 1) es ++ record { rank = rank_of rows other e.body; number = k; envelope = e } ∷ []) n)
 
 begins_next : (l : Ledger) (e : Envelope) → lane.FoundNext l e → Begins (taking l e)
 begins_next (Sender scope by pushed) e found = found
@@ -67,7 +71,8 @@ starts c port = record {
   held = subst (λ l. IsPermutation l c.waiting) (sym (append-nil c.waiting)) (IsPermutation-refl c.waiting);
 }
 
-pub one_more : (old : Choice) (port : Known) (mid : Choice) (port' : Known) (new : Choice) (port'' : Known) → TakesMore old port mid port' → OneMore mid port' new port'' → TakesMore old port new port''
+pub one_more : (old : Choice) (port : Known) (mid : Choice) (port' : Known) (new : Choice) (port'' : Known) → TakesMore old port mid port'
+    → OneMore mid port' new port'' → TakesMore old port new port''
 one_more old port mid port' new port'' m o =
     let led : port'.ledger ≡ taking_all port.ledger m.fresh = ap (λ (p : Known). p.ledger) m.came in
     let lan : port'.lane ≡ port.lane = ap (λ (p : Known). p.lane) m.came in

@@ -27,7 +27,13 @@ abbrev pub lane_of : Known → Lane
 lane_of port = port.lane
 
 abbrev pub queue_of : Known → Option Known → Queue
-queue_of main control = record { main = main.lane; control = option_map lane_of control; senders = (scope_in main.ledger).senders; to = (scope_in main.ledger).to }
+queue_of main control = record {
+  main = main.lane;
+  control = option_map lane_of control;
+  senders = (scope_in main.ledger).senders;
+  to =
+      (scope_in main.ledger).to;
+}
 
 abbrev pub sending : ℕ → Known → Option Known → List Envelope → Sending
 sending by main control pushed = record { queue = queue_of main control; by = by; pushed = pushed }

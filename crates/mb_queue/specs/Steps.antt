@@ -38,7 +38,12 @@ pub record OneMore (old : Choice) (port : Known) (new : Choice) (port' : Known) 
   pub other : new.other ≡ old.other
   pub next : new.next ≡ old.next + 1
   pub came : TakesOf port (Some envelope) port'
-  pub held : IsPermutation (record { rank = rank_of old.ranks old.other envelope.body; number = old.next; envelope = envelope } ∷ old.waiting) new.waiting
+  pub held : IsPermutation (record {
+    rank = rank_of old.ranks old.other envelope.body;
+    number = old.next;
+    envelope =
+        envelope;
+  } ∷ old.waiting) new.waiting
 
 -- the lane was empty, and nothing changed
 abbrev pub NoMore : Choice → Known → Choice → Known → Type 0
@@ -75,7 +80,8 @@ TakesOfTwo control main (Some e) control' main' =
 -- one take, of the lanes of any kind of queue
 abbrev pub IsStep : Known → Order → Option Envelope → Known → Order → Type 0
 IsStep main FirstInFirstOut result main' order' = (order' ≡ FirstInFirstOut) × TakesOf main result main'
-IsStep main (ControlFirst control) result main' order' = (control' : Known) × (order' ≡ ControlFirst control') × TakesOfTwo control main result control' main'
+IsStep main (ControlFirst control) result main' order' = (control' : Known) × (order' ≡ ControlFirst control')
+    × TakesOfTwo control main result control' main'
 IsStep main (ByRank choice) result main' order' = (choice' : Choice) × (order' ≡ ByRank choice') × RankTakes choice main result choice' main'
 
 -- all the ports that there are take

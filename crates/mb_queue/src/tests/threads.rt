@@ -1,5 +1,5 @@
 //! Two senders and a taker, each on its thread, for each kind of queue.
-ghost use Rattle.std.specs.Prelude.{◌≡◌, ◌<◌};
+ghost use Rattle.std.specs.Prelude.{◌≡◌, ◌<◌, IfOk};
 ghost use Rattle.mb_queue.specs.Fates.{AllJoined, InOrder};
 ghost use Rattle.mb_queue.specs.Made.{IsMakeable};
 ghost use Rattle.mb_queue.specs.Passes.{first_in_first_out};

@@ -36,14 +36,29 @@ invariant_of-self c =
             taken = i.taken;
             accounts = i.accounts;
           }) w.self-inside-is
-          (control_joined i.main p.main i.taken i.accounts by p.pushed own his (kept (ControlFirst own) w.in-ControlFirst-Some.is-0) (sent (Some his) w.in-ControlFirst-Some.is-1))
+          (control_joined i.main p.main i.taken i.accounts by p.pushed own his (kept (ControlFirst own) w.in-ControlFirst-Some.is-0)
+          (sent (Some his) w.in-ControlFirst-Some.is-1))
       | in-FirstInFirstOut-None w ↦
-          back FirstInFirstOut _ (λ k. record { main = c.join.new.self; order = w.in-FirstInFirstOut-None.is-0 k; taken = i.taken; accounts = i.accounts }) w.self-inside-is
-          (fifo_joined i.main p.main i.taken i.accounts by p.pushed (kept FirstInFirstOut w.in-FirstInFirstOut-None.is-0) (sent None w.in-FirstInFirstOut-None.is-1))
+          back FirstInFirstOut _ (λ k. record {
+            main = c.join.new.self;
+            order = w.in-FirstInFirstOut-None.is-0 k;
+            taken = i.taken;
+            accounts =
+                i.accounts;
+          }) w.self-inside-is
+          (fifo_joined i.main p.main i.taken i.accounts by p.pushed (kept FirstInFirstOut w.in-FirstInFirstOut-None.is-0)
+          (sent None w.in-FirstInFirstOut-None.is-1))
       | in-ByRank-None w ↦
           let choice = w.in-ByRank-None.field-0-0 in
-          back (ByRank choice) _ (λ k. record { main = c.join.new.self; order = w.in-ByRank-None.is-0 k; taken = i.taken; accounts = i.accounts }) w.self-inside-is
-          (rank_joined i.main p.main i.taken i.accounts by p.pushed choice (kept (ByRank choice) w.in-ByRank-None.is-0) (sent None w.in-ByRank-None.is-1))
+          back (ByRank choice) _ (λ k. record {
+            main = c.join.new.self;
+            order = w.in-ByRank-None.is-0 k;
+            taken = i.taken;
+            accounts =
+                i.accounts;
+          }) w.self-inside-is
+          (rank_joined i.main p.main i.taken i.accounts by p.pushed choice (kept (ByRank choice) w.in-ByRank-None.is-0)
+          (sent None w.in-ByRank-None.is-1))
     ]
 
 pub returns-clause-account : goal.returns-clause-account
@@ -61,5 +76,6 @@ returns-clause-others c = λ sender ne.
       | in-ByRank-None w ↦ ap (λ (j : Inside). j.accounts) w.self-inside-is
     ] in
     ap (λ l. account l sender) c.add.ensures
-    ∙ account-other c.match-self.self-inside.accounts (home p.by.0 p.pushed) sender (λ same. ne (sym same ∙ ap (λ (x : Sending). x.by) c.pass.view_is))
+    ∙ account-other c.match-self.self-inside.accounts (home p.by.0 p.pushed) sender
+    (λ same. ne (sym same ∙ ap (λ (x : Sending). x.by) c.pass.view_is))
     ∙ ap (λ l. account l sender) kept ∙ ap (λ (t : Taking). account t.accounts sender) c.self.view_is

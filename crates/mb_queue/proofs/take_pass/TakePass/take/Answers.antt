@@ -27,7 +27,8 @@ returns-in-Some-clause-addressed g c = let i = c.self.inside in let next = c.tak
 
 pub returns-in-Some-clause-turn : goal.returns-in-Some-clause-turn
 returns-in-Some-clause-turn g c = let i = c.self.inside in let next = c.take_next-next.new in let e = c.in-Some.envelope in
-    subst (λ (y : Taking × _). IsTake y.0.turns y.0 (Some e) (taking_of next.main next.order y.1 i.accounts)) (λ k. (c.self.view_is k, sym c.add.ensures k))
+    subst (λ (y : Taking × _). IsTake y.0.turns y.0 (Some e) (taking_of next.main next.order y.1 i.accounts))
+    (λ k. (c.self.view_is k, sym c.add.ensures k))
     (turn_some i.main i.order i.taken i.accounts e next.main next.order c.self.invariant c.in-Some.ensures)
 
 pub returns-in-None-clause-turn : goal.returns-in-None-clause-turn
