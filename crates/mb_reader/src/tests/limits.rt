@@ -101,7 +101,7 @@ fn answers_great_texts(rt: HostRuntime) -> Result<(), Fail> {
 fn answers_many_keys(rt: HostRuntime) -> Result<(), Fail> {
     let alloc = rt.alloc();
     let mut keys = String::new(alloc);
-    for number in 0..90_000u32 {
+    for number in 0..9_000u32 {
         let line = format!(in alloc; "k{number} = 1\n")?;
         keys.push_str(line.as_str())?;
     }
