@@ -1,6 +1,11 @@
+pub mod ActQueue
 pub mod Agrees
-pub mod Identity
-pub mod Message
-pub mod NextAct
-pub mod Recorded
+pub mod Books
+pub mod BooksRecord
+pub mod MayHandle
+pub mod Nothing
+pub mod Place
+pub mod Queue
+pub mod Requests
+pub mod Rows
 pub mod Seen

@@ -6,10 +6,18 @@
 #![tactic(auto)]
 
 mod act;
-mod call;
+mod act_queue;
+mod actor_list;
+mod books;
 mod cell;
-#[cfg(test)]
-mod tests;
+mod effects;
+mod end;
+mod fail;
+mod place;
+mod retries;
 
 pub use act::Act;
 pub use cell::Cell;
+
+#[cfg(test)]
+mod tests;
