@@ -4,7 +4,6 @@ pub mod CellLaws
 pub mod CreateRow
 pub mod DiedRow
 pub mod DispatchLemmas
-pub mod EffectLemmas
 pub mod EndRow
 pub mod EndingRow
 pub mod FailedRow
@@ -18,7 +17,6 @@ pub mod QuietEnvelope
 pub mod QuietRows
 pub mod RecreateRow
 pub mod ResumeRow
-pub mod RetryLemmas
 pub mod RowLaws
 pub mod RunLaws
 pub mod SilentRow
