@@ -13,6 +13,7 @@ pub mod HandledRow
 pub mod NewLaw
 pub mod NothingRow
 pub mod NumberLemmas
+pub mod OpenLaws
 pub mod QuietEnvelope
 pub mod QuietRows
 pub mod RecreateRow

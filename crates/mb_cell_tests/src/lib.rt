@@ -2,6 +2,8 @@
 #![tactic(auto)]
 
 #[cfg(test)]
+mod crowd;
+#[cfg(test)]
 mod ending;
 #[cfg(test)]
 mod envelopes;
@@ -9,6 +11,8 @@ mod envelopes;
 mod player;
 #[cfg(test)]
 mod restart;
+#[cfg(test)]
+mod rows;
 #[cfg(test)]
 mod stage;
 #[cfg(test)]

@@ -1,8 +1,10 @@
 //! A cell that is given messages one by one, with what it asks for compared at once.
 
-ghost use Rattle.std.specs.Prelude.{◌≡◌, [], true};
+ghost use Rattle.std.specs.Prelude.{◌≡◌, ◌<◌, ◌≤◌, [], true, length};
+ghost use Rattle.std.specs.List.{All};
+ghost use Rattle.mb_msg.specs.Limits.{most_actors};
 
-use crate::player::{Counting, Plan, Player};
+use crate::player::{Counting, Plan, Player, QUIET};
 use mb_actor::{Effect, Phase};
 use mb_cell::{Act, Cell};
 use mb_journal::{Arrival, Pattern, ReadyError, Strategy};
@@ -76,26 +78,60 @@ impl Model for Stage {
 }
 
 /// The cell of actor 1, a child of the guardian, which may start the actors 2 and 3.
-#[tactic(auto, unfolding(mb_journal::specs::Aside::next_number))]
 pub(crate) fn actor(alloc: Global, plan: Plan, strategy: Strategy) -> Result<Stage, AllocError> {
     let prepared = vec![in alloc; ActorId(2), ActorId(3)]?;
+    Ok(placed(alloc, 1, 0, plan, prepared, strategy))
+}
+
+/// The cell of an actor that starts no others.
+pub(crate) fn leaf(alloc: Global, this: u32, parent: u32, plan: Plan) -> Stage {
+    let strategy = Strategy {
+        rows: Vec::new(alloc),
+        retries: -1,
+        all_for_one: false,
+    };
+    placed(alloc, this, parent, plan, Vec::new(alloc), strategy)
+}
+
+/// The cell of actor 1, a child of the guardian, which may start all the others: 2 to 63.
+pub(crate) fn crowded(alloc: Global, strategy: Strategy) -> Result<Stage, AllocError> {
+    let mut prepared = Vec::new(alloc);
+    for id in 2..64 {
+        prepared.push(ActorId(id))?;
+    }
+    Ok(placed(alloc, 1, 0, QUIET, prepared, strategy))
+}
+
+/// The cell of an actor in its place.
+#[tactic(auto, unfolding(mb_journal::specs::Aside::next_number))]
+fn placed(
+    alloc: Global,
+    this: u32,
+    parent: u32,
+    plan: Plan,
+    prepared: Vec<ActorId>,
+    strategy: Strategy,
+) -> Stage
+    requires few { length prepared.items ≤ 64 }
+    requires numbered { All (λ x. x.0 < most_actors) prepared.items }
+{
     let player = Player { plan, count: 0 };
     let cell = Cell::new(
         alloc,
-        ActorId(1),
-        8,
-        Some(ActorId(0)),
+        ActorId(this),
+        64,
+        Some(ActorId(parent)),
         Some(player),
         prepared,
         strategy,
-        100,
+        1000,
     );
-    Ok(Stage {
+    Stage {
         cell,
         next: 0,
-        this: 1,
+        this,
         is_guardian: false,
-    })
+    }
 }
 
 /// The cell of the guardian, which may start the actors 2 and 3.
@@ -113,6 +149,19 @@ pub(crate) fn guardian(alloc: Global) -> Result<Stage, AllocError> {
         next: 0,
         this: 0,
         is_guardian: true,
+    })
+}
+
+/// No limit of retries, and one for one: what the pattern is about is treated so.
+pub(crate) fn ruled(
+    alloc: Global,
+    pattern: Pattern,
+    directive: Directive,
+) -> Result<Strategy, AllocError> {
+    Ok(Strategy {
+        rows: vec![in alloc; (pattern, directive)]?,
+        retries: -1,
+        all_for_one: false,
     })
 }
 
