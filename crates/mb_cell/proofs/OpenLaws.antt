@@ -1,13 +1,13 @@
 -- An open mailbox is a Live actor's: an actor in any other phase is suspended at least once, until it has ended. And an entry
 -- suspends at most once.
-use Rattle.std.proofs.Common.{◌≡◌, ℕ, ◌+◌, ◌-◌, ◌<◌, ◌≤◌, List, [], ◌∷◌, ◌++◌, length, Bool, true, false, refl, ap, sym, ◌∙◌, subst, arith}
+use Rattle.std.proofs.Common.{◌≡◌, ℕ, ◌+◌, ◌-◌, ◌≤◌, List, [], ◌∷◌, ◌++◌, length, Bool, true, false, refl, ap, sym, ◌∙◌, subst, arith}
 use Rattle.std.specs.Prelude.{nat_lt, not, ◌&&◌, ◌||◌, if◌then◌else◌}
 use Rattle.mb_msg.specs.declared.system.SysMsg.{SysMsg}
 use Rattle.mb_msg.specs.declared.system.SysMsg.TheVariants as system
 use Rattle.mb_actor.specs.Behaviour.{Moment, Reply}
 use Rattle.mb_actor.specs.declared.phase.Phase.{Phase}
 use Rattle.mb_actor.specs.declared.phase.Phase.TheVariants.{Fresh, Live, Broken, Ending, Ended}
-use Rattle.mb_journal.specs.Aside.{sets_aside, waits_for_the_end, is_child_failure}
+use Rattle.mb_journal.specs.Aside.{waits_for_the_end, is_child_failure}
 use Rattle.mb_journal.specs.Effects.{applies}
 use Rattle.mb_journal.specs.Entry.{Entry, Outcome, is_applied, answered_failed}
 use Rattle.mb_journal.specs.Entry.Entry.{Handled, System, Dropped}
@@ -15,7 +15,7 @@ use Rattle.mb_journal.specs.Failure.{is_nobody, fails_by_envelope}
 use Rattle.mb_journal.specs.Identity.{Identity, is_guardian}
 use Rattle.mb_journal.specs.Lawful.{AreLawful, IsSystem, IsLawfulEntry}
 use Rattle.mb_journal.specs.Entry.Outcome.{Applied, SetAside}
-use Rattle.mb_journal.specs.Life.{phase, closed, has_start, is_create, is_recreate, is_resume, is_restart_in}
+use Rattle.mb_journal.specs.Life.{phase, closed, is_create, is_recreate, is_resume}
 use Rattle.mb_journal.specs.Phase.{phase_is}
 use Rattle.mb_journal.specs.Suspension.{Mark, mark_if, marks, count, count_after, is_suspend}
 use Rattle.mb_journal.specs.Suspension.Mark.{Plus, Minus}
