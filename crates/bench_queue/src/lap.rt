@@ -88,7 +88,7 @@ fn elapsed<R: Clock>(rt: &R, begin: Option<Instant>) -> u64 {
 }
 
 /// Times a queue of a mailbox and a plain one in turn, and tells both.
-pub fn compare<R, A: Lapped, B: Lapped>(
+pub(crate) fn compare<R, A: Lapped, B: Lapped>(
     rt: &R,
     alloc: Global,
     course: Course,
@@ -115,7 +115,7 @@ where
 }
 
 /// Times one queue.
-pub fn measure<R, A: Lapped>(
+pub(crate) fn measure<R, A: Lapped>(
     rt: &R,
     alloc: Global,
     course: Course,

@@ -41,7 +41,12 @@ fn nth(number: u64) -> Envelope
 
 impl Mail {
     /// A queue of this kind that holds so many.
-    pub fn new<R: Wait>(rt: &R, alloc: Global, kind: Kind, held: u64) -> Result<Mail, AllocError>
+    pub(crate) fn new<R: Wait>(
+        rt: &R,
+        alloc: Global,
+        kind: Kind,
+        held: u64,
+    ) -> Result<Mail, AllocError>
         requires { IsMakeable kind }
     {
         let (take, mut sends) = MailQueue::new(alloc, kind, RECEIVER, &[SENDER])?;

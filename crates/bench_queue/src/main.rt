@@ -14,57 +14,71 @@ use mb_queue::{Kind, RankRow, Ranks};
 use plain::{Bounded, BoundedPair, Unbounded, UnboundedPair};
 use std::alloc::{AllocError, Global};
 use std::io;
+use std::sync::Wait;
+use std::thread::Threads;
+use std::time::Clock;
 
 fn main(rt: HostRuntime) -> io::Result<()> {
     let alloc = rt.alloc();
-    compare(
-        &rt,
-        alloc,
-        ALONE,
-        "unbounded",
-        Mail::new(&rt, alloc, Kind::Unbounded, 0)?,
-        Unbounded::new(alloc)?,
-    )?;
-    compare(
-        &rt,
-        alloc,
-        ALONE,
-        "bounded",
-        Mail::new(&rt, alloc, Kind::Bounded(1_024), 0)?,
-        Bounded::new(alloc)?,
-    )?;
-    compare(
-        &rt,
-        alloc,
-        PAIRED,
-        "unbounded, two threads",
-        MailPair(Mail::new(&rt, alloc, Kind::Unbounded, 0)?),
-        UnboundedPair(Unbounded::new(alloc)?),
-    )?;
-    compare(
-        &rt,
-        alloc,
-        PAIRED,
-        "bounded, two threads",
-        MailPair(Mail::new(&rt, alloc, Kind::Bounded(1_024), 0)?),
-        BoundedPair(Bounded::new(alloc)?),
-    )?;
-    measure(
-        &rt,
-        alloc,
-        ALONE,
-        "control-aware",
-        Mail::new(&rt, alloc, Kind::Control, 0)?,
-    )?;
+    unbounded(&rt, alloc)?;
+    bounded(&rt, alloc)?;
+    unbounded_paired(&rt, alloc)?;
+    bounded_paired(&rt, alloc)?;
+    control(&rt, alloc)?;
+    priority(&rt, alloc)
+}
+
+fn unbounded<R: Clock + Threads + Wait + Sync + Print + Eprint>(
+    rt: &R,
+    alloc: Global,
+) -> io::Result<()> {
+    let mail = Mail::new(rt, alloc, Kind::Unbounded, 0)?;
+    let plain = Unbounded::new(alloc)?;
+    compare(rt, alloc, ALONE, "unbounded", mail, plain)
+}
+
+fn bounded<R: Clock + Threads + Wait + Sync + Print + Eprint>(
+    rt: &R,
+    alloc: Global,
+) -> io::Result<()> {
+    let mail = Mail::new(rt, alloc, Kind::Bounded(1_024), 0)?;
+    let plain = Bounded::new(alloc)?;
+    compare(rt, alloc, ALONE, "bounded", mail, plain)
+}
+
+fn unbounded_paired<R: Clock + Threads + Wait + Sync + Print + Eprint>(
+    rt: &R,
+    alloc: Global,
+) -> io::Result<()> {
+    let mail = MailPair(Mail::new(rt, alloc, Kind::Unbounded, 0)?);
+    let plain = UnboundedPair(Unbounded::new(alloc)?);
+    compare(rt, alloc, PAIRED, "unbounded, two threads", mail, plain)
+}
+
+fn bounded_paired<R: Clock + Threads + Wait + Sync + Print + Eprint>(
+    rt: &R,
+    alloc: Global,
+) -> io::Result<()> {
+    let mail = MailPair(Mail::new(rt, alloc, Kind::Bounded(1_024), 0)?);
+    let plain = BoundedPair(Bounded::new(alloc)?);
+    compare(rt, alloc, PAIRED, "bounded, two threads", mail, plain)
+}
+
+fn control<R: Clock + Threads + Wait + Sync + Print + Eprint>(
+    rt: &R,
+    alloc: Global,
+) -> io::Result<()> {
+    let mail = Mail::new(rt, alloc, Kind::Control, 0)?;
+    measure(rt, alloc, ALONE, "control-aware", mail)
+}
+
+fn priority<R: Clock + Threads + Wait + Sync + Print + Eprint>(
+    rt: &R,
+    alloc: Global,
+) -> io::Result<()> {
     let rows = ranks(alloc)?;
-    let kind = Kind::Priority { rows, other: 9 };
-    measure(
-        &rt,
-        alloc,
-        ALONE,
-        "priority, 1000 held",
-        Mail::new(&rt, alloc, kind, 1_000)?,
-    )
+    let mail = Mail::new(rt, alloc, Kind::Priority { rows, other: 9 }, 1_000)?;
+    measure(rt, alloc, ALONE, "priority, 1000 held", mail)
 }
 
 /// Of the four kinds of message that are pushed three have rows, in no order.

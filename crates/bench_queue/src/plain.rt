@@ -16,13 +16,13 @@ pub struct Unbounded(SegQueue<Envelope>);
 pub struct Bounded(ArrayQueue<Envelope>);
 
 impl Unbounded {
-    pub fn new(alloc: Global) -> Result<Unbounded, AllocError> {
+    pub(crate) fn new(alloc: Global) -> Result<Unbounded, AllocError> {
         Ok(Unbounded(SegQueue::new(alloc)?))
     }
 }
 
 impl Bounded {
-    pub fn new(alloc: Global) -> Result<Bounded, AllocError> {
+    pub(crate) fn new(alloc: Global) -> Result<Bounded, AllocError> {
         Ok(Bounded(ArrayQueue::new(alloc, 1_024)?))
     }
 }
