@@ -6,13 +6,13 @@ ghost use Rattle.mb_script.specs.Script.{row_data, row_for};
 
 use crate::operation::Row;
 use std::alloc::{AllocError, Global};
-use std::collections::BTreeMap;
+use std::collections::HashMap;
 
 /// Where the first row of each kind stands.
-pub(crate) fn index_of(alloc: Global, rows: &[Row]) -> Result<BTreeMap<u32, usize>, AllocError>
+pub(crate) fn index_of(alloc: Global, rows: &[Row]) -> Result<HashMap<u32, usize>, AllocError>
     ensures { IfOk result (λ index. IsIndexFrom 0 rows.now index) }
 {
-    let mut index = BTreeMap::new(alloc);
+    let mut index = HashMap::new(alloc);
     // From the last row on, so that the first of a kind stays.
     let mut place = rows.len();
     while place > 0 {
@@ -25,7 +25,7 @@ pub(crate) fn index_of(alloc: Global, rows: &[Row]) -> Result<BTreeMap<u32, usiz
 /// The first row for messages of the kind.
 pub(crate) fn first_of_kind<'a>(
     rows: &'a [Row],
-    index: &BTreeMap<u32, usize>,
+    index: &HashMap<u32, usize>,
     kind: u32,
 ) -> Option<&'a Row>
     requires { IsIndexFrom 0 rows.now index.now }

@@ -7,7 +7,7 @@ use crate::perform::{Performed, perform};
 use mb_actor::{Actor, Answer, Message, Outbox};
 use mb_msg::Cause;
 use std::alloc::{AllocError, Global};
-use std::collections::BTreeMap;
+use std::collections::HashMap;
 use std::marker::Model;
 
 /// What a script does beside its rows.
@@ -31,7 +31,7 @@ pub struct Script {
     initial: i64,
     hooks: Hooks,
     rows: Vec<Row>,
-    index: BTreeMap<u32, usize>,
+    index: HashMap<u32, usize>,
     state: i64,
 }
 
@@ -86,6 +86,23 @@ impl Script {
             index,
             state: initial,
         })
+    }
+
+    /// What it does beside its rows.
+    pub fn hooks(&self) -> &Hooks
+        ensures start { result.now.start.items ≡ self.now.script.start }
+        ensures restart { result.now.restart.items ≡ self.now.script.restart }
+        ensures stop { result.now.stop.items ≡ self.now.script.stop }
+        ensures terminated { option_map (λ operations. operations.items) result.now.terminated ≡ self.now.script.terminated }
+    {
+        &self.hooks
+    }
+
+    /// What it does with the messages of each kind: of two rows of a kind the first counts.
+    pub fn rows(&self) -> &[Row]
+        ensures { map row_data result.now ≡ self.now.script.rows }
+    {
+        &self.rows
     }
 
     /// Does what the first row of the kind says.
