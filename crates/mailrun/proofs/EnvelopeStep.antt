@@ -26,6 +26,7 @@ use Rattle.mb_journal.specs.Reading.{IsOpen}
 use Rattle.mb_journal.specs.Run.{IsTurns}
 use Rattle.mb_journal.proofs.EnvelopeLemmas.{acts-user-well, count-handled, ever_aside-handled, failure_of-user, messages-handled, phase-handled}
 use Rattle.mb_journal.proofs.LawfulLemmas.{next_front-none}
+use Rattle.mb_cell.specs.MayHandle.{MayHandle}
 use Rattle.mb_cell.specs.Seen.{IsOf, Seen, TakesEnvelope, with_entry}
 use Rattle.mb_cell.proofs.RunLaws.{turn-more}
 use Rattle.mailrun.specs.Begun.{open_mailbox}
@@ -145,3 +146,28 @@ envelope_step gives w ready cell envelope envelopes reading quiet rest is_ready 
     subst (λ (s : Seen). EnvelopeStep w (world s envelopes)) (sym is)
     (handled_by (gives who.this.0) w envelope envelopes reading took.entry user.0 user.1 quiet rest some user.2 took.of_it
     (last_entry who (gives who.this.0) w.cell.journal took.entry there))
+
+-- room changes nothing of what is at rest
+pub readied_rest : (w : World) → IsAtRest w → IsAtRest (world (record w.cell { is_ready = true }) w.envelopes)
+readied_rest w rest = record {
+  no_acts = rest.no_acts;
+  an_actor = rest.an_actor;
+  running = rest.running;
+  addressed = rest.addressed;
+  users = rest.users;
+  heard = rest.heard;
+  no_restart = rest.no_restart;
+}
+
+-- an envelope that waits may be handled
+pub may_handle : (w : World) (ready : Seen) (envelope : Envelope) (envelopes : List Envelope) (m : Mailbox) → IsAtRest w →
+    ready ≡ record w.cell { is_ready = true } → w.envelopes ≡ envelope ∷ envelopes → m ≡ open_mailbox → MayHandle ready envelope (word_of m)
+may_handle w ready envelope envelopes m rest is_ready some opened =
+    subst (λ (s : Seen). MayHandle s envelope (word_of m)) (sym is_ready) (record {
+      ready = refl;
+      carried_out = rest.no_acts;
+      an_actor = rest.an_actor;
+      addressed = (subst (AllByRecursion (λ (x : Envelope). x.to ≡ w.cell.who.this)) some rest.addressed).0;
+      live = rest.running.live;
+      open_reading = running-open w.cell.who w.cell.journal m rest.running opened;
+    })

@@ -1,4 +1,13 @@
+pub mod Endings
 pub mod EnvelopeStep
 pub mod InputLemmas
+pub mod Outcomes
+pub mod Refusals
+pub mod RunSteps
+pub mod Runs
+pub mod ScopeLemmas
+pub mod ScriptLemmas
+pub mod SentLemmas
 pub mod StartSteps
+pub mod Starting
 pub mod WrittenLemmas

@@ -31,7 +31,10 @@ pub fn answer(alloc: Global, text: &[u8]) -> Result<String, Failure>
         sends,
         quiet: _,
     } = scenario;
-    let (Some(actor), Some(script)) = (plan.actors.pop(), scripts.pop()) else {
+    let Some(actor) = plan.actors.pop() else {
+        unreachable!();
+    };
+    let Some(script) = scripts.pop() else {
         unreachable!();
     };
     let rules = Rules {

@@ -33,7 +33,8 @@ pub fn run_mailbox<A: Actor, K: Behaviours>(
 {
     let mut handled = 0;
     for _ in 0..throughput.max(1) {
-        if !handle_next(cell, status, envelopes)? {
+        let took = handle_next(cell, status, envelopes)?;
+        if !took {
             return Ok(handled);
         }
         handled += 1;

@@ -77,15 +77,16 @@ pub fn run<A: Actor, K: Behaviours>(
 }
 
 /// What waits for the actor before its first run: an envelope for each send.
-fn post_of(alloc: Global, sends: &[Sending]) -> Result<VecDeque<Envelope>, AllocError>
+pub fn post_of(alloc: Global, sends: &[Sending]) -> Result<VecDeque<Envelope>, AllocError>
     requires plain { list_all is_plain_send sends.now ≡ true }
     ensures { IfOk result (λ envelopes. envelopes.items ≡ sent 0 (bodies sends.now)) }
 {
     let mut envelopes = VecDeque::with_capacity(alloc, sends.len())?;
     for (number, send) in sends.iter().enumerate() {
-        if let What::Envelope(body) = send.what {
-            envelopes.push_back(envelope_of(number as u64, body))?;
-        }
+        let What::Envelope(body) = send.what else {
+            unreachable!();
+        };
+        envelopes.push_back(envelope_of(number as u64, body))?;
     }
     Ok(envelopes)
 }

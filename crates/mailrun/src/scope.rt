@@ -57,7 +57,7 @@ fn add_alone(scripts: &[Script]) -> bool
 }
 
 /// Whether the script only adds up what its actor is sent.
-fn adds_alone(script: &Script) -> bool
+pub fn adds_alone(script: &Script) -> bool
     ensures { result ≡ adds_alone script.now.script }
 {
     let hooks = script.hooks();
@@ -92,7 +92,7 @@ fn is_add(operation: Operation) -> bool
 }
 
 /// Whether all sends are plain.
-fn are_plain_sends(sends: &[Sending]) -> bool
+pub fn are_plain_sends(sends: &[Sending]) -> bool
     ensures { result ≡ list_all is_plain_send sends.now }
 {
     sends.iter().all(|send| is_plain_send(send))
