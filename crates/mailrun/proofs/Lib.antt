@@ -1,12 +1,13 @@
-pub mod Counted
 pub mod Endings
 pub mod EnvelopeStep
 pub mod InputLemmas
-pub mod Lines
+pub mod Outcomes
 pub mod Refusals
 pub mod RunSteps
 pub mod Runs
+pub mod ScopeLemmas
+pub mod ScriptLemmas
 pub mod SentLemmas
-pub mod Starts
-pub mod SystemStep
+pub mod StartSteps
+pub mod Starting
 pub mod WrittenLemmas
