@@ -2,8 +2,6 @@
 #![tactic(auto)]
 
 #[cfg(test)]
-mod crowd;
-#[cfg(test)]
 mod ending;
 #[cfg(test)]
 mod envelopes;

@@ -4,7 +4,7 @@ ghost use Rattle.std.specs.Prelude.{◌≡◌, ◌<◌, ◌≤◌, [], true, len
 ghost use Rattle.std.specs.List.{All};
 ghost use Rattle.mb_msg.specs.Limits.{most_actors};
 
-use crate::player::{Counting, Plan, Player, QUIET};
+use crate::player::{Counting, Plan, Player};
 use mb_actor::{Effect, Phase};
 use mb_cell::{Act, Cell};
 use mb_journal::{Arrival, Pattern, ReadyError, Strategy};
@@ -91,15 +91,6 @@ pub(crate) fn leaf(alloc: Global, this: u32, parent: u32, plan: Plan) -> Stage {
         all_for_one: false,
     };
     placed(alloc, this, parent, plan, Vec::new(alloc), strategy)
-}
-
-/// The cell of actor 1, a child of the guardian, which may start all the others: 2 to 63.
-pub(crate) fn crowded(alloc: Global, strategy: Strategy) -> Result<Stage, AllocError> {
-    let mut prepared = Vec::new(alloc);
-    for id in 2..64 {
-        prepared.push(ActorId(id))?;
-    }
-    Ok(placed(alloc, 1, 0, QUIET, prepared, strategy))
 }
 
 /// The cell of an actor in its place.
