@@ -274,6 +274,7 @@ fn reads_the_defaults(rt: HostRuntime) -> Result<(), Fail> {
     assert_eq!(rt; (quiet.quiet, quiet.plan.workers), (true, 1));
     let text = b"actor = [{ name = 'a', mailbox = 'priority' }]\nsend = [{ to = 'a', kind = 1 }]";
     let one = read(rt.alloc(), text)?;
+    assert_eq!(rt; one.plan.actors.len(), 1);
     match &one.plan.actors[0].mailbox {
         Kind::Priority { rows, other } => assert_eq!(rt; (rows.len(), *other), (0, 1)),
         _ => assert!(rt; false),
