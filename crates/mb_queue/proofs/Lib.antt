@@ -1,6 +1,5 @@
 pub mod Bags
 pub mod Distinct
-pub mod Joined
 pub mod Joins
 pub mod Lends
 pub mod Pairs
