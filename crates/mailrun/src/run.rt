@@ -12,7 +12,7 @@ ghost use Rattle.mailrun.specs.Told.{AreRuns, IsTold};
 
 use crate::mailbox::run_mailbox;
 use crate::reporting::report_on;
-use crate::start::{ACTOR, Started, start};
+use crate::start::{ACTOR, start};
 use mb_actor::{Actor, Behaviours};
 use mb_cell::Cell;
 use mb_journal::{ReadyError, Strategy};
@@ -65,13 +65,10 @@ pub fn run<A: Actor, K: Behaviours>(
     let Ok(mut envelopes) = post_of(alloc, sends) else {
         return Err(ReadyError::NoMemory);
     };
-    let Started {
-        guardian,
-        mut cell,
-        status,
-    } = start::<A, K>(alloc, actor, strategy, journal_limit)?;
-    run_all(&mut cell, status, &mut envelopes, throughput)?;
-    match report_on(alloc, guardian, cell, sends.len()) {
+    let mut started = start::<A, K>(alloc, actor, strategy, journal_limit)?;
+    let status = started.status;
+    run_all(&mut started.cell, status, &mut envelopes, throughput)?;
+    match report_on(alloc, started.guardian, started.cell, sends.len()) {
         Ok(report) => Ok(report),
         Err(_) => Err(ReadyError::NoMemory),
     }

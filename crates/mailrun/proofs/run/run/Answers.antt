@@ -10,8 +10,8 @@ use Rattle.mailrun.proofs.run.run.Goals as goal
 
 pub run_all-requires-clause-rest : goal.run_all-requires-clause-rest
 run_all-requires-clause-rest g c =
-    begun_rest c.in_ok-start.started.cell (strategy_data c.args.rules.strategy) c.args.rules.journal_limit c.args.sends.now
-    c.in-Ok.envelopes.items c.in_ok-start.ensures.begun c.in_ok-start.ensures.who c.in-Ok.ensures c.requires.plain
+    begun_rest c.in_ok-started.started.cell (strategy_data c.args.rules.strategy) c.args.rules.journal_limit c.args.sends.now
+    c.in-Ok.envelopes.items c.in_ok-started.ensures.begun c.in_ok-started.ensures.who c.in-Ok.ensures c.requires.plain
 
 pub run_all-requires-clause-started : goal.run_all-requires-clause-started
-run_all-requires-clause-started g c = begun_block c.in_ok-start.started.cell c.in_ok-start.ensures.begun
+run_all-requires-clause-started g c = begun_block c.in_ok-started.started.cell c.in_ok-started.ensures.begun
