@@ -11,10 +11,11 @@ SOURCES := crates.txt HANDLES $(shell find crates -path '*/out' -prune -o \( -na
 run: $(PROGRAM)
 	@$(PROGRAM) < $(SCENARIO)
 
-# The gate: the list of definitions, every proof from nothing, the must-fail edits, the tests, the program by two
-# compilers, and the program as a user runs it.
+# The gate: the list of definitions, the examples, every proof from nothing, the must-fail edits, the tests, the program by
+# two compilers, and the program as a user runs it.
 test:
 	tools/check_definitions
+	tools/check_examples
 	rt ci
 	@$(MAKE) --no-print-directory $(PROGRAM)
 	tools/check_program $(PROGRAM)

@@ -1,64 +1,91 @@
-//! `bench_queue`: what a push with its take costs, beside the kit's plain queues. What was taken goes to standard output, the
-//! figures to standard error.
+//! `bench_queue`: what a push with its take costs in the queues of mailboxes, beside the kit's plain ones.
+//!
+//! The two of a comparison are timed in turn, lap by lap, so that what else the machine does falls on both alike. What was
+//! taken goes to standard output, the medians to standard error.
 #![tactic(auto)]
 
-mod mailbox;
+mod lap;
+mod mail;
 mod plain;
-mod shown;
 
+use lap::{ALONE, PAIRED, compare, measure};
+use mail::{Mail, MailPair};
 use mb_queue::{Kind, RankRow, Ranks};
-use shown::{Made, show};
+use plain::{Bounded, BoundedPair, Unbounded, UnboundedPair};
+use std::alloc::{AllocError, Global};
 use std::io;
-use std::io::ErrorKind;
+use std::sync::Wait;
+use std::thread::Threads;
+use std::time::Clock;
 
 fn main(rt: HostRuntime) -> io::Result<()> {
     let alloc = rt.alloc();
-    show(
-        &rt,
-        "unbounded",
-        mailbox::alone(&rt, alloc, Kind::Unbounded, 0),
-    )?;
-    show(&rt, "plain unbounded", plain::unbounded_alone(&rt, alloc))?;
-    show(
-        &rt,
-        "bounded",
-        mailbox::alone(&rt, alloc, Kind::Bounded(1_024), 0),
-    )?;
-    show(&rt, "plain bounded", plain::bounded_alone(&rt, alloc))?;
-    show(
-        &rt,
-        "unbounded, two threads",
-        mailbox::paired(&rt, alloc, Kind::Unbounded),
-    )?;
-    show(
-        &rt,
-        "plain unbounded, two threads",
-        plain::unbounded_paired(&rt, alloc),
-    )?;
-    show(
-        &rt,
-        "bounded, two threads",
-        mailbox::paired(&rt, alloc, Kind::Bounded(1_024)),
-    )?;
-    show(
-        &rt,
-        "plain bounded, two threads",
-        plain::bounded_paired(&rt, alloc),
-    )?;
-    show(
-        &rt,
-        "control-aware",
-        mailbox::alone(&rt, alloc, Kind::Control, 0),
-    )?;
-    let Some(rows) = rows(alloc) else {
-        return Err(ErrorKind::OutOfMemory.into());
-    };
-    let made: Made = mailbox::alone(&rt, alloc, Kind::Priority { rows, other: 1 }, 1_000);
-    show(&rt, "priority, 1000 held", made)
+    unbounded(&rt, alloc)?;
+    bounded(&rt, alloc)?;
+    unbounded_paired(&rt, alloc)?;
+    bounded_paired(&rt, alloc)?;
+    control(&rt, alloc)?;
+    priority(&rt, alloc)
 }
 
-fn rows(alloc: std::alloc::Global) -> Option<Ranks> {
+fn unbounded<R: Clock + Threads + Wait + Sync + Print + Eprint>(
+    rt: &R,
+    alloc: Global,
+) -> io::Result<()> {
+    let mail = Mail::new(rt, alloc, Kind::Unbounded, 0)?;
+    let plain = Unbounded::new(alloc)?;
+    compare(rt, alloc, ALONE, "unbounded", mail, plain)
+}
+
+fn bounded<R: Clock + Threads + Wait + Sync + Print + Eprint>(
+    rt: &R,
+    alloc: Global,
+) -> io::Result<()> {
+    let mail = Mail::new(rt, alloc, Kind::Bounded(1_024), 0)?;
+    let plain = Bounded::new(alloc)?;
+    compare(rt, alloc, ALONE, "bounded", mail, plain)
+}
+
+fn unbounded_paired<R: Clock + Threads + Wait + Sync + Print + Eprint>(
+    rt: &R,
+    alloc: Global,
+) -> io::Result<()> {
+    let mail = MailPair(Mail::new(rt, alloc, Kind::Unbounded, 0)?);
+    let plain = UnboundedPair(Unbounded::new(alloc)?);
+    compare(rt, alloc, PAIRED, "unbounded, two threads", mail, plain)
+}
+
+fn bounded_paired<R: Clock + Threads + Wait + Sync + Print + Eprint>(
+    rt: &R,
+    alloc: Global,
+) -> io::Result<()> {
+    let mail = MailPair(Mail::new(rt, alloc, Kind::Bounded(1_024), 0)?);
+    let plain = BoundedPair(Bounded::new(alloc)?);
+    compare(rt, alloc, PAIRED, "bounded, two threads", mail, plain)
+}
+
+fn control<R: Clock + Threads + Wait + Sync + Print + Eprint>(
+    rt: &R,
+    alloc: Global,
+) -> io::Result<()> {
+    let mail = Mail::new(rt, alloc, Kind::Control, 0)?;
+    measure(rt, alloc, ALONE, "control-aware", mail)
+}
+
+fn priority<R: Clock + Threads + Wait + Sync + Print + Eprint>(
+    rt: &R,
+    alloc: Global,
+) -> io::Result<()> {
+    let rows = ranks(alloc)?;
+    let mail = Mail::new(rt, alloc, Kind::Priority { rows, other: 9 }, 1_000)?;
+    measure(rt, alloc, ALONE, "priority, 1000 held", mail)
+}
+
+/// Of the four kinds of message that are pushed three have rows, in no order.
+fn ranks(alloc: Global) -> Result<Ranks, AllocError> {
     let mut rows = Vec::new(alloc);
-    rows.push(RankRow { kind: 9, rank: 0 }).ok()?;
-    Some(Ranks::new(rows))
+    for (kind, rank) in [(1, 7), (2, 3), (3, 5)] {
+        rows.push(RankRow { kind, rank })?;
+    }
+    Ok(Ranks::new(rows))
 }

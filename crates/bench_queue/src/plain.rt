@@ -1,90 +1,128 @@
 //! The kit's plain queues.
-use crate::shown::{Figure, Made, ROUNDS, TRIES, elapsed};
+use crate::lap::{Lapped, TRIES};
 use crossbeam_queue::{ArrayQueue, SegQueue};
 use mb_msg::{ActorId, Body, Envelope, SenderId};
-use std::alloc::Global;
+use std::alloc::{AllocError, Global};
 use std::sync::Wait;
 use std::thread;
 use std::thread::Threads;
-use std::time::{Clock, Instant};
+
+/// The unbounded one.
+#[derive(Drop)]
+pub struct Unbounded(SegQueue<Envelope>);
+
+/// The one with a bound.
+#[derive(Drop)]
+pub struct Bounded(ArrayQueue<Envelope>);
+
+impl Unbounded {
+    pub(crate) fn new(alloc: Global) -> Result<Unbounded, AllocError> {
+        Ok(Unbounded(SegQueue::new(alloc)?))
+    }
+}
+
+impl Bounded {
+    pub(crate) fn new(alloc: Global) -> Result<Bounded, AllocError> {
+        Ok(Bounded(ArrayQueue::new(alloc, 1_024)?))
+    }
+}
 
 fn nth(number: u64) -> Envelope {
     Envelope {
         by: SenderId(1),
         to: ActorId(2),
         number,
-        body: Body::User { kind: 1, value: 1 },
+        body: Body::User {
+            kind: (number % 4) as u32,
+            value: 1,
+        },
     }
 }
 
-pub fn unbounded_alone<R: Clock + Wait>(rt: &R, alloc: Global) -> Made {
-    let queue = SegQueue::new(alloc).ok()?;
-    let begin = Instant::now(rt).ok();
-    let mut taken = 0u64;
-    for number in 0..ROUNDS {
-        queue.push(rt, nth(number)).ok()?;
-        taken = taken.wrapping_add(u64::from(queue.pop(rt).is_some()));
+impl Lapped for Unbounded {
+    fn lap<R: Threads + Wait + Sync>(self, rt: &R, rounds: u64) -> (Unbounded, u64) {
+        let queue = self;
+        let mut taken = 0u64;
+        for number in 0..rounds {
+            let _ = queue.0.push(rt, nth(number));
+            taken = taken.wrapping_add(u64::from(queue.0.pop(rt).is_some()));
+        }
+        (queue, taken)
     }
-    let time = elapsed(rt, begin);
-    Some(Figure { taken, time })
 }
 
-pub fn bounded_alone<R: Clock + Wait>(rt: &R, alloc: Global) -> Made {
-    let queue = ArrayQueue::new(alloc, 1_024).ok()?;
-    let begin = Instant::now(rt).ok();
-    let mut taken = 0u64;
-    for number in 0..ROUNDS {
-        queue.push(rt, nth(number)).ok()?;
-        taken = taken.wrapping_add(u64::from(queue.pop(rt).is_some()));
+impl Lapped for Bounded {
+    fn lap<R: Threads + Wait + Sync>(self, rt: &R, rounds: u64) -> (Bounded, u64) {
+        let queue = self;
+        let mut taken = 0u64;
+        for number in 0..rounds {
+            let _ = queue.0.push(rt, nth(number));
+            taken = taken.wrapping_add(u64::from(queue.0.pop(rt).is_some()));
+        }
+        (queue, taken)
     }
-    let time = elapsed(rt, begin);
-    Some(Figure { taken, time })
 }
 
-/// What can be pushed to and taken from by two threads.
+/// What two threads can use, of which one pushes and one takes.
 trait Shared {
     fn put<R: Wait>(&self, rt: &R, envelope: Envelope) -> bool;
 
     fn get<R: Wait>(&self, rt: &R) -> bool;
 }
 
-impl Shared for SegQueue<Envelope> {
+impl Shared for Unbounded {
     fn put<R: Wait>(&self, rt: &R, envelope: Envelope) -> bool {
-        self.push(rt, envelope).is_ok()
+        self.0.push(rt, envelope).is_ok()
     }
 
     fn get<R: Wait>(&self, rt: &R) -> bool {
-        self.pop(rt).is_some()
+        self.0.pop(rt).is_some()
     }
 }
 
-impl Shared for ArrayQueue<Envelope> {
+impl Shared for Bounded {
     fn put<R: Wait>(&self, rt: &R, envelope: Envelope) -> bool {
-        self.push(rt, envelope).is_ok()
+        self.0.push(rt, envelope).is_ok()
     }
 
     fn get<R: Wait>(&self, rt: &R) -> bool {
-        self.pop(rt).is_some()
+        self.0.pop(rt).is_some()
     }
 }
 
-pub fn unbounded_paired<R: Clock + Wait + Threads + Sync>(rt: &R, alloc: Global) -> Made {
-    paired(rt, &SegQueue::new(alloc).ok()?)
+/// The unbounded one for two threads.
+#[derive(Drop)]
+pub struct UnboundedPair(pub Unbounded);
+
+impl Lapped for UnboundedPair {
+    fn lap<R: Threads + Wait + Sync>(self, rt: &R, rounds: u64) -> (UnboundedPair, u64) {
+        let taken = paired(rt, &self.0, rounds);
+        (self, taken)
+    }
 }
 
-pub fn bounded_paired<R: Clock + Wait + Threads + Sync>(rt: &R, alloc: Global) -> Made {
-    paired(rt, &ArrayQueue::new(alloc, 1_024).ok()?)
+/// The one with a bound for two threads.
+#[derive(Drop)]
+pub struct BoundedPair(pub Bounded);
+
+impl Lapped for BoundedPair {
+    fn lap<R: Threads + Wait + Sync>(self, rt: &R, rounds: u64) -> (BoundedPair, u64) {
+        let taken = paired(rt, &self.0, rounds);
+        (self, taken)
+    }
 }
 
-fn paired<R: Clock + Wait + Threads + Sync, Q: Shared + Sync>(rt: &R, queue: &Q) -> Made {
-    let begin = Instant::now(rt).ok();
-    let (_, taken) = thread::join(rt, || put_all(rt, queue), || get_all(rt, queue));
-    let time = elapsed(rt, begin);
-    Some(Figure { taken, time })
+fn paired<R: Threads + Wait + Sync, Q: Shared + Sync>(rt: &R, queue: &Q, rounds: u64) -> u64 {
+    let (_, taken) = thread::join(
+        rt,
+        || put_all(rt, queue, rounds),
+        || get_all(rt, queue, rounds),
+    );
+    taken
 }
 
-fn put_all<R: Wait, Q: Shared>(rt: &R, queue: &Q) {
-    for number in 0..ROUNDS {
+fn put_all<R: Wait, Q: Shared>(rt: &R, queue: &Q, rounds: u64) {
+    for number in 0..rounds {
         for _ in 0..TRIES {
             if queue.put(rt, nth(number)) {
                 break;
@@ -94,12 +132,12 @@ fn put_all<R: Wait, Q: Shared>(rt: &R, queue: &Q) {
     }
 }
 
-fn get_all<R: Wait, Q: Shared>(rt: &R, queue: &Q) -> u64 {
+fn get_all<R: Wait, Q: Shared>(rt: &R, queue: &Q, rounds: u64) -> u64 {
     let mut taken = 0u64;
     for _ in 0..TRIES {
         if queue.get(rt) {
             taken = taken.wrapping_add(1);
-            if taken == ROUNDS {
+            if taken == rounds {
                 break;
             }
         } else {

@@ -26,10 +26,10 @@ use Rattle.mb_journal.specs.Suspension.{count, marks, pluses, minuses, greatest_
 use Rattle.mb_journal.proofs.CreateLemmas.{acts-create-well, count-create, messages-create, phase-create, sets_aside-create}
 use Rattle.mb_journal.proofs.LawfulLemmas.{ever_aside-applied}
 use Rattle.mb_journal.proofs.TestLemmas.{if_false, if_true}
-use Rattle.mb_cell.specs.ActQueue.{act_of}
+use Rattle.mb_books.specs.ActQueue.{act_of}
 use Rattle.mb_cell.specs.Seen.{MayTake, Seen, TakesSystem, with_entry}
-use Rattle.mb_cell.specs.declared.act.Act.{Act as Handed}
-use Rattle.mb_cell.specs.declared.act.Act.TheVariants as handed
+use Rattle.mb_books.specs.declared.act.Act.{Act as Handed}
+use Rattle.mb_books.specs.declared.act.Act.TheVariants as handed
 use Rattle.mailrun.specs.Begun.{IsBegun, started_guardian, the_guardian}
 use Rattle.mailrun.specs.Calm.{IsQuiet, IsRunning}
 

@@ -1,12 +1,12 @@
 -- The worked documents: what is found in each is computed from the definition.
-use Rattle.std.proofs.Common.{◌≡◌, ℕ, List, codes, Option, Some, option_map, refl}
+use Rattle.std.proofs.Common.{◌≡◌, ℕ, List, codes, Option, Some, None, option_map, refl}
 use Rattle.std.specs.Fmt.{digits}
 use Rattle.toml.proofs.OnLiterals.{toml_on_literals}
 use Rattle.toml.specs.Parse.{parse_document}
 use Rattle.mb_format.specs.Check.{document_check}
 use Rattle.mb_format.specs.Place.{Fault}
 use Rattle.mb_format.specs.declared.finding.Reason.{Reason}
-use Rattle.mb_format.specs.declared.finding.Reason.TheVariants.{UnknownKey, WrongType, OutOfRange, UnknownName, RepeatedName, BadOp}
+use Rattle.mb_format.specs.declared.finding.Reason.TheVariants.{UnknownKey, WrongType, OutOfRange, TooMany, UnknownName, RepeatedName, BadOp}
 
 -- what is found in a text that is a document
 abbrev found_in : List ℕ → Option (Option Fault)
@@ -56,3 +56,18 @@ add_with_a_number = refl
 times_zero : found_in (codes "[[actor]]\nname = \"a\"\n[[send]]\nto = \"a\"\nkind = 1\ntimes = 0\n") ≡ fault (codes "send 1 times") OutOfRange
 unfolding toml_on_literals digits
 times_zero = refl
+
+no_document : found_in (codes "[[actor") ≡ None
+unfolding toml_on_literals digits
+no_document = refl
+
+-- a document in which nothing is wrong
+nothing_wrong : found_in (codes "[[actor]]\nname = \"a\"\n[[actor.on]]\nkind = 1\ndo = [\"add\"]\n[[send]]\nto = \"a\"\nkind = 1\n") ≡ Some None
+unfolding toml_on_literals digits
+nothing_wrong = refl
+
+-- 64 actors
+actors_many : found_in (codes "actor=[{},{},{},{},{},{},{},{},{},{},{},{},{},{},{},{},{},{},{},{},{},{},{},{},{},{},{},{},{},{},{},{},{},{},{},{},{},{},{},{},{},{},{},{},{},{},{},{},{},{},{},{},{},{},{},{},{},{},{},{},{},{},{},{}]\n")
+    ≡ fault (codes "actor") TooMany
+unfolding toml_on_literals digits
+actors_many = refl

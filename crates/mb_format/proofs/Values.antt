@@ -1,5 +1,6 @@
 -- The numbers that digits write.
-use Rattle.std.proofs.Common.{◌≡◌, ℕ, ◌+◌, ◌-◌, ◌*◌, ◌^◌, ◌≤◌, List, [], ◌∷◌, nat_lt, if◌then◌else◌, Some, None, arith, length, refl}
+use Rattle.std.proofs.Common.{◌≡◌, ℕ, ◌+◌, ◌-◌, ◌*◌, ◌^◌, ◌≤◌, List, [], ◌∷◌, nat_lt, if◌then◌else◌}
+use Rattle.std.proofs.Common.{Some, None, arith, length, refl}
 use Rattle.toml.specs.View.{items_view}
 use Rattle.toml.specs.declared.value.Value.{Value}
 use Rattle.mb_format.specs.Value.{item_count}
@@ -11,7 +12,8 @@ pub value_from-grows : (n : ℕ) (digits : List ℕ) → n ≤ value_from n digi
 value_from-grows n [] = omega arith
 value_from-grows n (digit ∷ digits) = let more = value_from-grows (n * 10 + (digit - 48)) digits in omega arith
 
-pub too_great : (n all : ℕ) (digits : List ℕ) → 2 ^ 32 ≤ n → value_from n digits ≡ all → None ≡ (if nat_lt all (2 ^ 32) then Some all else None)
+pub too_great : (n all : ℕ) (digits : List ℕ) → 2 ^ 32 ≤ n → value_from n digits ≡ all
+    → None ≡ (if nat_lt all (2 ^ 32) then Some all else None)
 too_great n all digits great same = let more = value_from-grows n digits in grind (arith, nat_tests)
 
 -- there are as many items as values

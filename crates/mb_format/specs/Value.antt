@@ -1,5 +1,6 @@
 -- What is wrong with the value of a key (this project's own profile).
-use Rattle.std.specs.Prelude.{ℕ, ℤ, pos, negsuc, ◌+◌, List, [], ◌∷◌, codes, Bool, true, false, not, ◌&&◌, ◌||◌, nat_le, Option, Some, None}
+use Rattle.std.specs.Prelude.{ℕ, ℤ, pos, negsuc, ◌+◌, List, [], ◌∷◌, codes, Bool, true, false, not, ◌&&◌, ◌||◌}
+use Rattle.std.specs.Prelude.{nat_le, Option, Some, None}
 use Rattle.std.specs.Prelude.{is_some, drop, take, unwrap_or}
 use Rattle.std.specs.List.{list_any}
 use Rattle.std.specs.Str.{bytes_eq}
@@ -40,18 +41,18 @@ abbrev pub text_or : List ℕ → Option Data → List ℕ
 text_or default None = default
 text_or default (Some d) = text_of d
 
-abbrev pub mailbox_of : Members → List ℕ
-mailbox_of ms = text_or (codes "unbounded") (get_member (codes "mailbox") ms)
+abbrev pub mailbox_word : Members → List ℕ
+mailbox_word ms = text_or (codes "unbounded") (get_member (codes "mailbox") ms)
 
-abbrev pub what_of : Members → List ℕ
-what_of ms = text_or (codes "user") (get_member (codes "what") ms)
+abbrev pub what_word : Members → List ℕ
+what_word ms = text_or (codes "user") (get_member (codes "what") ms)
 
 -- the key may stand in this table
 abbrev pub may_stand : Only → Members → Bool
 may_stand Always ms = true
-may_stand Bounded ms = bytes_eq (mailbox_of ms) (codes "bounded")
-may_stand Priority ms = bytes_eq (mailbox_of ms) (codes "priority")
-may_stand Message ms = bytes_eq (what_of ms) (codes "user") || bytes_eq (what_of ms) (codes "control")
+may_stand Bounded ms = bytes_eq (mailbox_word ms) (codes "bounded")
+may_stand Priority ms = bytes_eq (mailbox_word ms) (codes "priority")
+may_stand Message ms = bytes_eq (what_word ms) (codes "user") || bytes_eq (what_word ms) (codes "control")
 
 -- the integer is from the one number to the other
 abbrev pub is_from_to : ℕ → ℕ → Option ℤ → Bool
@@ -80,7 +81,7 @@ is_in_range (Word set) ms d = is_among (words set) (text_of d)
 is_in_range Cause ms d = is_cause (text_of d)
 is_in_range Name ms d = is_name (text_of d)
 is_in_range Parent ms d = is_name (text_of d) || is_guardian (text_of d)
-is_in_range Receiver ms d = is_name (text_of d) || (is_guardian (text_of d) && bytes_eq (what_of ms) (codes "stop"))
+is_in_range Receiver ms d = is_name (text_of d) || (is_guardian (text_of d) && bytes_eq (what_word ms) (codes "stop"))
 is_in_range _ ms d = true
 
 -- how many items there are

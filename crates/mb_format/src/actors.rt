@@ -105,7 +105,8 @@ fn check_actor_keys<'a>(
     context: &Context<'_>,
     table: &'a Table,
 ) -> Result<(), Finding<'a>>
-    ensures { Finds result (first (map (actor_key_check (path_text (Path.Actor actor)) (around context.now) (table_view table.now)) (map key_data keys.now))) }
+    ensures { Finds result (first (map
+        (actor_key_check (path_text (Path.Actor actor)) (around context.now) (table_view table.now)) (map key_data keys.now))) }
 {
     for key in keys {
         check_actor_key(actor, key, context, table)?;
@@ -132,7 +133,8 @@ fn check_rows_at<'a>(
     context: &Context<'_>,
     found: Option<&'a Value>,
 ) -> Result<(), Finding<'a>>
-    ensures { Finds result (rows_check (around context.now) (path_text (Path.Actor actor) ++ key.now.name.now) key.now.form (option_map (λ v. view v.now) found.entry)) }
+    ensures { Finds result (rows_check (around context.now) (path_text (Path.Actor actor) ++ key.now.name.now) key.now.form
+        (option_map (λ v. view v.now) found.entry)) }
 {
     match found {
         Some(value) => match key.form {

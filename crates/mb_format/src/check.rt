@@ -38,7 +38,8 @@ pub(crate) fn check_table<'a>(
     context: &Context<'_>,
     table: &'a Table,
 ) -> Result<(), Finding<'a>>
-    ensures { Finds result (table_check (map key_data known.now) (map key_data keys.now) (path_text path) (around context.now) (table_view table.now)) }
+    ensures { Finds result (table_check
+        (map key_data known.now) (map key_data keys.now) (path_text path) (around context.now) (table_view table.now)) }
 {
     check_unknown(path, known, table)?;
     check_keys(path, keys, context, table)
@@ -82,7 +83,8 @@ fn check_ops<'a>(
     context: &Context<'_>,
     found: Option<&'a Value>,
 ) -> Result<(), Finding<'a>>
-    ensures { Finds result (ops_check (around context.now) (path_text path ++ key.now.name.now) key.now.form (option_map (λ v. view v.now) found.entry)) }
+    ensures { Finds result (ops_check (around context.now) (path_text path ++ key.now.name.now) key.now.form
+        (option_map (λ v. view v.now) found.entry)) }
 {
     match found {
         Some(value) => match key.form {
@@ -115,7 +117,9 @@ fn check_each_op<'a>(
 
 /// What is wrong with an operation.
 fn reason_of_op(context: &Context<'_>, adds: bool, value: &Value) -> Option<Reason>
-    ensures { result ≡ (if is_some (as_str (view value.now)) then op_reason (around context.now) adds (op_of (text_of (view value.now))) else Some Reason.WrongType) }
+    ensures { result ≡ (if is_some (as_str (view value.now))
+        then op_reason (around context.now) adds (op_of (text_of (view value.now)))
+        else Some Reason.WrongType) }
 {
     if value.as_str().is_none() {
         return Some(Reason::WrongType);

@@ -2,7 +2,8 @@
 
 ghost use Rattle.std.specs.Prelude.{◌≡◌, ◌<◌, true, codes, length, option_map, Some, IfSome};
 ghost use Rattle.mb_format.specs.Context.{around};
-ghost use Rattle.mb_format.specs.Operation.{op_alone, op_of, op_of_three, op_of_two, op_after, verb_of_both, verb_of_name, about_name, space_in, is_spawn, op_reason, about};
+ghost use Rattle.mb_format.specs.Operation.{op_alone, op_of, op_of_three, op_of_two, op_after, verb_of_both};
+ghost use Rattle.mb_format.specs.Operation.{verb_of_name, about_name, space_in, is_spawn, op_reason, about};
 ghost use Rattle.mb_format.specs.OpView.{op_data};
 
 use crate::context::Context;

@@ -7,7 +7,9 @@ ghost use Rattle.toml.specs.View.{view, items_view, table_view};
 ghost use Rattle.mb_format.specs.Context.{around};
 ghost use Rattle.mb_format.specs.Format.{key_data, words};
 ghost use Rattle.mb_format.specs.Name.{is_name, is_guardian};
-ghost use Rattle.mb_format.specs.Value.{has_type, text_of, text_or, mailbox_of, what_of, may_stand, is_from_to, is_among, is_error_of, is_cause, is_in_range, is_few, items_of, is_known, is_fresh, value_reason, key_reason};
+ghost use Rattle.mb_format.specs.Value.{has_type, text_of, text_or, mailbox_word, what_word, may_stand, is_from_to};
+ghost use Rattle.mb_format.specs.Value.{is_among, is_error_of, is_cause, is_in_range, is_few, items_of, is_known};
+ghost use Rattle.mb_format.specs.Value.{is_fresh, value_reason, key_reason};
 
 use crate::context::Context;
 use crate::finding::Reason;
@@ -104,14 +106,14 @@ pub fn value_at<'a>(table: &'a Table, key: &str) -> Option<&'a Value>
     table.get(key)
 }
 
-fn mailbox_of(table: &Table) -> &[u8]
-    ensures { result.now ≡ mailbox_of (table_view table.now) }
+fn mailbox_word(table: &Table) -> &[u8]
+    ensures { result.now ≡ mailbox_word (table_view table.now) }
 {
     text_or(b"unbounded", value_at(table, "mailbox"))
 }
 
-fn what_of(table: &Table) -> &[u8]
-    ensures { result.now ≡ what_of (table_view table.now) }
+fn what_word(table: &Table) -> &[u8]
+    ensures { result.now ≡ what_word (table_view table.now) }
 {
     text_or(b"user", value_at(table, "what"))
 }
@@ -122,9 +124,11 @@ fn may_stand(only: Only, table: &Table) -> bool
 {
     match only {
         Only::Always => true,
-        Only::Bounded => is_text(mailbox_of(table), b"bounded"),
-        Only::Priority => is_text(mailbox_of(table), b"priority"),
-        Only::Message => { is_text(what_of(table), b"user") || is_text(what_of(table), b"control") }
+        Only::Bounded => is_text(mailbox_word(table), b"bounded"),
+        Only::Priority => is_text(mailbox_word(table), b"priority"),
+        Only::Message => {
+            is_text(what_word(table), b"user") || is_text(what_word(table), b"control")
+        }
     }
 }
 
@@ -210,9 +214,9 @@ fn is_in_range(form: Form, table: &Table, value: &Value) -> bool
 
 /// Whether a send may name this.
 fn is_receiver(table: &Table, text: &[u8]) -> bool
-    ensures { result ≡ (is_name text.now || (is_guardian text.now && bytes_eq (what_of (table_view table.now)) (codes "stop"))) }
+    ensures { result ≡ (is_name text.now || (is_guardian text.now && bytes_eq (what_word (table_view table.now)) (codes "stop"))) }
 {
-    is_name(text) || (is_guardian(text) && is_text(what_of(table), b"stop"))
+    is_name(text) || (is_guardian(text) && is_text(what_word(table), b"stop"))
 }
 
 /// Whether there are no more than there may be.

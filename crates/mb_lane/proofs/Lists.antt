@@ -1,5 +1,6 @@
 -- On the views of all ports, and on the envelopes of one sender.
-use Rattle.std.proofs.Common.{◌≡◌, ◌≢◌, ℕ, zero, suc, ◌==◌, Bool, true, false, cond, List, [], ◌∷◌, ◌++◌, length, set, sym, refl, ap, ◌∙◌, subst, ⊎_elim, ◌⊎◌, inl, inr, append_assoc, arith, filter, Option, Some, None}
+use Rattle.std.proofs.Common.{◌≡◌, ◌≢◌, ℕ, zero, suc, ◌==◌, Bool, true, false, cond, List, [], ◌∷◌, ◌++◌, length, set, sym, refl, ap, ◌∙◌, subst}
+use Rattle.std.proofs.Common.{⊎_elim, ◌⊎◌, inl, inr, append_assoc, arith, filter, Option, Some, None}
 use Rattle.std.specs.Bool.{Decides}
 use Rattle.std.proofs.lemmas.Bool.Decides.{nat_tests, Decides-eqb}
 use Rattle.std.proofs.lemmas.List.Elements.{filter-append, All-contains}
@@ -20,12 +21,14 @@ module _ {V : Type 0} where
   Each F views = (port : ℕ) (v : V) → get_elem? views port ≡ some v → F port v
 
   -- one view changes
-  pub each_set : (F : ℕ → V → Type 0) (views : List V) (port : ℕ) (w : V) → F port w → ((j : ℕ) (u : V) → j ≢ port → get_elem? views j ≡ some u → F j u) → Each F (set views port w)
+  pub each_set : (F : ℕ → V → Type 0) (views : List V) (port : ℕ) (w : V) → F port w
+      → ((j : ℕ) (u : V) → j ≢ port → get_elem? views j ≡ some u → F j u) → Each F (set views port w)
   each_set F views port w mine others j u e = ⊎_elim (λ (x : (j ≡ port) × (w ≡ u)). subst (λ (y : ℕ × V). F y.0 y.1) (λ i. (sym x.0 i, x.1 i)) mine)
       (λ (x : (j ≢ port) × (get_elem? views j ≡ some u)). others j u x.0 x.1) (at_set views port j w u e)
 
   -- a view that is not among the first ones is the last
-  pub at_end : (views : List V) (v u : V) (j : ℕ) → get_elem? (views ++ v ∷ []) j ≡ some u → (get_elem? views j ≡ some u) ⊎ ((j ≡ length views) × (v ≡ u))
+  pub at_end : (views : List V) (v u : V) (j : ℕ) → get_elem? (views ++ v ∷ []) j ≡ some u
+      → (get_elem? views j ≡ some u) ⊎ ((j ≡ length views) × (v ≡ u))
   at_end [] v u zero e = inr (refl, some-injective v u e)
   at_end [] v u (suc j) e = absurd (some-ne-none u (sym e))
   at_end (x ∷ views) v u zero e = inl e
@@ -33,7 +36,8 @@ module _ {V : Type 0} where
 
   -- one more view
   pub each_more : (F : ℕ → V → Type 0) (views : List V) (v : V) → Each F views → F (length views) v → Each F (views ++ v ∷ [])
-  each_more F views v old new j u e = ⊎_elim (λ h. old j u h) (λ h. subst (λ (y : ℕ × V). F y.0 y.1) (λ i. (sym h.0 i, h.1 i)) new) (at_end views v u j e)
+  each_more F views v old new j u e = ⊎_elim (λ h. old j u h) (λ h. subst (λ (y : ℕ × V). F y.0 y.1) (λ i. (sym h.0 i, h.1 i)) new)
+      (at_end views v u j e)
 
 -- the holder of each account, after the account of one sender went to this port
 abbrev pub handed : (ℕ → ℕ) → ℕ → ℕ → ℕ → ℕ
@@ -51,9 +55,11 @@ sent_by-mine sender xs e is = let same : (e.by.0 == sender) ≡ true = grind (ar
 
 pub sent_by-other : (sender : ℕ) (xs : List Envelope) (e : Envelope) → sender ≢ e.by.0 → sent_by sender (xs ++ e ∷ []) ≡ sent_by sender xs
 sent_by-other sender xs e ne = let other : (e.by.0 == sender) ≡ false = grind (arith, nat_tests) in
-    filter-append (λ (x : Envelope). x.by.0 == sender) xs (e ∷ []) ∙ ap (λ (b : Bool). sent_by sender xs ++ cond b (e ∷ []) []) other ∙ append-nil (sent_by sender xs)
+    filter-append (λ (x : Envelope). x.by.0 == sender) xs (e ∷ []) ∙ ap (λ (b : Bool). sent_by sender xs ++ cond b (e ∷ []) []) other
+    ∙ append-nil (sent_by sender xs)
 
-pub account_after-append : (before : Option (List Envelope)) (xs ys : List Account) (sender : ℕ) → account_after before (xs ++ ys) sender ≡ account_after (account_after before xs sender) ys sender
+pub account_after-append : (before : Option (List Envelope)) (xs ys : List Account) (sender : ℕ)
+    → account_after before (xs ++ ys) sender ≡ account_after (account_after before xs sender) ys sender
 account_after-append before [] ys sender = refl
 account_after-append before (a ∷ xs) ys sender = account_after-append (cond (a.by == sender) a.pushed before) xs ys sender
 
@@ -61,7 +67,8 @@ pub account-same : (accounts : List Account) (a : Account) (sender : ℕ) → a.
 account-same accounts a sender is = let same : (a.by == sender) ≡ true = grind (arith, nat_tests) in
     account_after-append (Some []) accounts (a ∷ []) sender ∙ ap (λ (b : Bool). cond b a.pushed (account accounts sender)) same
 
-pub account-other : (accounts : List Account) (a : Account) (sender : ℕ) → a.by ≢ sender → account (accounts ++ a ∷ []) sender ≡ account accounts sender
+pub account-other : (accounts : List Account) (a : Account) (sender : ℕ) → a.by ≢ sender
+    → account (accounts ++ a ∷ []) sender ≡ account accounts sender
 account-other accounts a sender ne = let other : (a.by == sender) ≡ false = grind (arith, nat_tests) in
     account_after-append (Some []) accounts (a ∷ []) sender ∙ ap (λ (b : Bool). cond b a.pushed (account accounts sender)) other
 
@@ -80,7 +87,8 @@ account-cases accounts a sender pushed is = ⊎_elim (λ (same : sender ≡ a.by
 
 pub none_known : (scope : Scope) (all : List Envelope) → scope.senders ≡ [] → All (Belongs scope) all → all ≡ []
 none_known scope [] is known = refl
-none_known scope (e ∷ all) is known = let c : Belongs scope e = All-contains (Belongs scope) (e ∷ all) e known (0, omega arith, refl) in absurd (omega (arith, c.0.1, ap length is))
+none_known scope (e ∷ all) is known = let c : Belongs scope e = All-contains (Belongs scope) (e ∷ all) e known (0, omega arith, refl) in
+    absurd (omega (arith, c.0.1, ap length is))
 
 pub none_within : (senders : List ℕ) (sender : ℕ) → senders ≡ [] → Contains senders sender → ⊥
 none_within senders sender is c = omega (arith, c.1, ap length is)

@@ -1,5 +1,6 @@
 -- Each step of a lane keeps its rule.
-use Rattle.std.proofs.Common.{◌≡◌, ◌≢◌, ℕ, ◌+◌, ◌==◌, Bool, true, cond, List, [], ◌∷◌, ◌++◌, length, set, sym, refl, ap, ◌∙◌, subst, ⊎_elim, ◌⊎◌, append_assoc, arith, Option, Some, None}
+use Rattle.std.proofs.Common.{◌≡◌, ◌≢◌, ℕ, ◌+◌, ◌==◌, Bool, true, cond, List, [], ◌∷◌, ◌++◌, length, set, sym, refl, ap, ◌∙◌, subst, ⊎_elim, ◌⊎◌}
+use Rattle.std.proofs.Common.{append_assoc, arith, Option, Some, None}
 use Rattle.std.specs.List.{All, Contains}
 use Rattle.std.proofs.lemmas.Bool.Decides.{nat_tests}
 use Rattle.std.proofs.lemmas.List.{append-nil, length-set}
@@ -13,9 +14,11 @@ use Rattle.mb_lane.specs.declared.ledger.Account.{Account}
 use Rattle.mb_lane.specs.declared.ledger.Ledger.{Ledger}
 use Rattle.mb_lane.specs.declared.ledger.Scope.{Scope}
 use Rattle.mb_lane.specs.declared.ledger.Ledger.TheVariants.{Sender, Taker, Spent}
-use Rattle.mb_lane.specs.Ledger.{sent_by, account, lent, home, IsOfPart, IsSender, IsTaker, MayLend, MayPush, unsettled, pushing, taking, lending, borrowing, joining}
+use Rattle.mb_lane.specs.Ledger.{sent_by, account, lent, home, IsOfPart, IsSender, IsTaker, MayLend, MayPush, unsettled, pushing, taking, lending}
+use Rattle.mb_lane.specs.Ledger.{borrowing, joining}
 use Rattle.mb_lane.specs.Rule.{Belongs, Fits, Kept, FoundFull, FoundEmpty, FoundNext, AllOut}
-use Rattle.mb_lane.proofs.Lists.{Each, each_set, each_more, at_end, handed, handed-same, handed-other, sent_by-mine, sent_by-other, account-cases, none_known, none_within}
+use Rattle.mb_lane.proofs.Lists.{Each, each_set, each_more, at_end, handed, handed-same, handed-other, sent_by-mine, sent_by-other, account-cases}
+use Rattle.mb_lane.proofs.Lists.{none_known, none_within}
 
 module _ (scope : Scope) (holder : ℕ → ℕ) (taker : ℕ) (taken all : List Envelope) where
   abbrev Now : ℕ → Ledger → Type 0
@@ -23,8 +26,10 @@ module _ (scope : Scope) (holder : ℕ → ℕ) (taker : ℕ) (taken all : List 
 
   -- a push by the holder of its sender's account is none of the other ports' business
   push_else : (e : Envelope) (port j : ℕ) (u : Ledger) → port ≡ holder e.by.0 → j ≢ port → Now j u → Fits scope holder taker taken (all ++ e ∷ []) j u
-  push_else e port j (Sender ours by pushed) at ne f = (f.0, f.1, f.2, f.3 ∙ sym (sent_by-other by all e (λ same. ne (f.2 ∙ ap holder same ∙ sym at))))
-  push_else e port j (Taker ours gone accounts) at ne f = (f.0, f.1, f.2, λ s l is. let r = f.3 s l is in (r.0, r.1 ∙ sym (sent_by-other s all e (λ same. ne (r.0 ∙ ap holder same ∙ sym at)))))
+  push_else e port j (Sender ours by pushed) at ne f =
+      (f.0, f.1, f.2, f.3 ∙ sym (sent_by-other by all e (λ same. ne (f.2 ∙ ap holder same ∙ sym at))))
+  push_else e port j (Taker ours gone accounts) at ne f =
+      (f.0, f.1, f.2, λ s l is. let r = f.3 s l is in (r.0, r.1 ∙ sym (sent_by-other s all e (λ same. ne (r.0 ∙ ap holder same ∙ sym at)))))
   push_else e port j Spent at ne f = tt
 
   -- a take is none of theirs
@@ -35,13 +40,16 @@ module _ (scope : Scope) (holder : ℕ → ℕ) (taker : ℕ) (taken all : List 
 
   -- nor is that an account goes to another port than these
   hand_else : (s from to j : ℕ) (u : Ledger) → from ≡ holder s → j ≢ from → Now j u → Fits scope (handed holder s to) taker taken all j u
-  hand_else s from to j (Sender ours by pushed) at ne f = (f.0, f.1, f.2 ∙ handed-other holder s to by (λ same. ne (f.2 ∙ ap holder same ∙ sym at)), f.3)
-  hand_else s from to j (Taker ours gone accounts) at ne f = (f.0, f.1, f.2, λ x l is. let r = f.3 x l is in (r.0 ∙ handed-other holder s to x (λ same. ne (r.0 ∙ ap holder same ∙ sym at)), r.1))
+  hand_else s from to j (Sender ours by pushed) at ne f =
+      (f.0, f.1, f.2 ∙ handed-other holder s to by (λ same. ne (f.2 ∙ ap holder same ∙ sym at)), f.3)
+  hand_else s from to j (Taker ours gone accounts) at ne f =
+      (f.0, f.1, f.2, λ x l is. let r = f.3 x l is in (r.0 ∙ handed-other holder s to x (λ same. ne (r.0 ∙ ap holder same ∙ sym at)), r.1))
   hand_else s from to j Spent at ne f = tt
 
 module _ (scope before : Scope) (holder : ℕ → ℕ) (taker : ℕ) (taken all : List Envelope) where
   -- before the senders are settled no other port knows anything
-  open_else : (port j : ℕ) (u : Ledger) → before.senders ≡ [] → port ≡ taker → j ≢ port → Fits before holder taker taken all j u → Fits scope holder taker taken all j u
+  open_else : (port j : ℕ) (u : Ledger) → before.senders ≡ [] → port ≡ taker → j ≢ port → Fits before holder taker taken all j u
+      → Fits scope holder taker taken all j u
   open_else port j (Sender ours by pushed) none at ne f = absurd (none_within before.senders by none f.1)
   open_else port j (Taker ours gone accounts) none at ne f = absurd (ne (f.1 ∙ sym at))
   open_else port j Spent none at ne f = tt
@@ -57,7 +65,9 @@ begins = record {
   taker = 0;
   taken = [];
   known = λ k x h. absurd (omega arith);
-  fits = λ port u e. ⊎_elim (λ h. absurd (some-ne-none u (sym h))) (λ h. subst (λ (y : ℕ × Ledger). Fits unsettled (λ _. 0) 0 [] [] y.0 y.1) (λ i. (sym h.0 i, h.1 i)) (refl, refl, refl, λ s l is. (refl, let q : Some [] ≡ Some l = is in cc))) (at_end [] (Taker unsettled [] []) u port e);
+  fits = λ port u e. ⊎_elim (λ h. absurd (some-ne-none u (sym h)))
+      (λ h. subst (λ (y : ℕ × Ledger). Fits unsettled (λ _. 0) 0 [] [] y.0 y.1) (λ i. (sym h.0 i, h.1 i))
+      (refl, refl, refl, λ s l is. (refl, let q : Some [] ≡ Some l = is in cc))) (at_end [] (Taker unsettled [] []) u port e);
 }
 
 pub pushes : (n port : ℕ) (v : Ledger) (x : Envelope) → MayPush x v → Pushes Kept n port v x (λ w. w ≡ pushing v x)
@@ -73,7 +83,11 @@ pushes n port (Sender ours by pushed) x may = λ items views room h at.
         holder = h.holder;
         taker = h.taker;
         taken = h.taken;
-        known = subst (All (Belongs h.scope)) (sym more) (All-push (Belongs h.scope) all x h.known (subst (Contains h.scope.senders) may.0 mine.1, subst (λ (l : Scope). IsOfPart l.part x) mine.0 may.1));
+        known = subst (All (Belongs h.scope)) (sym more) (All-push (Belongs h.scope) all x h.known (
+          subst (Contains h.scope.senders) may.0 mine.1,
+          subst (λ (l : Scope). x.to.0 ≡ l.to) mine.0 may.1,
+          subst (λ (l : Scope). IsOfPart l.part x) mine.0 may.2,
+        ));
         fits = subst (λ l. Each (F l) (set views port (Sender ours by (pushed ++ x ∷ [])))) (sym more)
             (each_set (F (all ++ x ∷ [])) views port (Sender ours by (pushed ++ x ∷ []))
             (mine.0, mine.1, mine.2, ap (λ l. l ++ x ∷ []) mine.3 ∙ sym (sent_by-mine by all x may.0))
@@ -107,7 +121,8 @@ takes port (Taker ours gone accounts) is = λ x items views h at.
       (
         refl,
         (
-          subst (λ (l : Scope). Belongs l x) (sym mine.0) (All-contains (Belongs h.scope) all x h.known (Contains-append_right h.taken (x ∷ items) x (0, omega arith, refl))),
+          subst (λ (l : Scope). Belongs l x) (sym mine.0)
+              (All-contains (Belongs h.scope) all x h.known (Contains-append_right h.taken (x ∷ items) x (0, omega arith, refl))),
           λ s pushed its. (
             sent_by s items,
             (mine.3 s pushed its).1 ∙ ap (sent_by s) more ∙ filter-append (λ (e : Envelope). e.by.0 == s) taken items
@@ -130,7 +145,8 @@ opens scope port v is items views h at' =
       taken = h.taken;
       known = subst (All (Belongs scope)) (sym (none_known h.scope all none h.known)) (λ k x lt. absurd (omega arith));
       fits = each_more F (set views port left) Spent
-          (each_set F views port left (refl, mine.1, mine.2, mine.3) (λ j u ne e. open_else scope h.scope h.holder h.taker h.taken all port j u none mine.1 ne (h.fits j u e))) tt;
+          (each_set F views port left (refl, mine.1, mine.2, mine.3)
+          (λ j u ne e. open_else scope h.scope h.holder h.taker h.taken all port j u none mine.1 ne (h.fits j u e))) tt;
     }
 
 pub lends : (s port : ℕ) (v : Ledger) → MayLend s v → Forks Kept port v (lending s v) (borrowing s v)
@@ -163,7 +179,8 @@ joins port (Sender ours by pushed) other w is by_s = absurd is
 joins port (Taker ours gone accounts) other (Sender ours' by pushed) is by_s = λ items views h at two at'.
     let both : Ledger = Taker ours gone (accounts ++ home by pushed ∷ []) in
     let mine = h.fits port (Taker ours gone accounts) at in
-    let was : get_elem? views other ≡ some (Sender ours' by pushed) = ⊎_elim (λ x. absurd (two x.0)) (λ x. x.1) (at_set views port other both (Sender ours' by pushed) at') in
+    let was : get_elem? views other ≡ some (Sender ours' by pushed) =
+    ⊎_elim (λ x. absurd (two x.0)) (λ x. x.1) (at_set views port other both (Sender ours' by pushed) at') in
     let theirs = h.fits other (Sender ours' by pushed) was in
     let all : List Envelope = h.taken ++ items in
     let F : ℕ → Ledger → Type 0 = Fits h.scope (handed h.holder by port) h.taker h.taken all in

@@ -13,4 +13,8 @@ IsTied (Bounded slots pass) = IsPassOf slots.value.queue pass
 
 abbrev pub known : End → Known
 known (Unbounded blocks pass) = record { lane = record { place = blocks_at pass.web; capacity = None }; ledger = pass.me.view.client }
-known (Bounded slots pass) = record { lane = record { place = slots_at pass.table_id; capacity = Some (ruled_capacity slots.value.queue) }; ledger = view pass }
+known (Bounded slots pass) = record {
+  lane = record { place = slots_at pass.table_id; capacity = Some (ruled_capacity slots.value.queue) };
+  ledger =
+      view pass;
+}

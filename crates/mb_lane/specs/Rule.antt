@@ -11,9 +11,9 @@ use Rattle.mb_lane.specs.declared.refused.PushError.{PushError}
 use Rattle.mb_lane.specs.declared.refused.PushError.TheVariants.{Full, NoMemory}
 use Rattle.mb_lane.specs.Ledger.{IsOfPart, sent_by, account}
 
--- the envelope is one that a lane of this scope has: by one of its senders, and of its part
+-- the envelope is one that a lane of this scope has: by one of its senders, to its actor, and of its part
 abbrev pub Belongs : Scope → Envelope → Type 0
-Belongs scope e = Contains scope.senders e.by.0 × IsOfPart scope.part e
+Belongs scope e = Contains scope.senders e.by.0 × (e.to.0 ≡ scope.to) × IsOfPart scope.part e
 
 -- What a port knows is so. The account of each sender is with one port, its holder, and says what was taken of that
 -- sender and then what is in the lane of it. `all` is what was taken and then what is in the lane.
@@ -38,7 +38,8 @@ pub record Kept (items : List Envelope) (ledgers : List Ledger) : Type 0 where
 -- pushed, in its order, and are all such as the lane has. (Of a lane with one sender this says how much that has pushed.)
 abbrev pub WasFull : ℕ → Scope → ℕ → List Envelope → Type 0
 WasFull capacity scope by pushed =
-    (taken : List Envelope) × (items : List Envelope) × (length items ≡ capacity) × All (Belongs scope) (taken ++ items) × (pushed ≡ sent_by by (taken ++ items))
+    (taken : List Envelope) × (items : List Envelope) × (length items ≡ capacity) × All (Belongs scope) (taken ++ items)
+    × (pushed ≡ sent_by by (taken ++ items))
 
 -- the same, of what a port knows
 abbrev pub FoundFull : ℕ → Ledger → Type 0
@@ -58,7 +59,8 @@ FoundEmpty Spent = ⊥
 
 -- each account that is at home begins with what came out of its sender's
 abbrev pub AllBegin : List Account → List Envelope → Type 0
-AllBegin accounts taken = (sender : ℕ) (pushed : List Envelope) → account accounts sender ≡ Some pushed → (rest : List Envelope) × (pushed ≡ sent_by sender taken ++ rest)
+AllBegin accounts taken = (sender : ℕ) (pushed : List Envelope) → account accounts sender ≡ Some pushed
+    → (rest : List Envelope) × (pushed ≡ sent_by sender taken ++ rest)
 
 -- The envelope is one that the lane has, and it is the one that comes next.
 abbrev pub FoundNext : Ledger → Envelope → Type 0

@@ -1,10 +1,13 @@
 -- Counting envelopes that pass a test.
-use Rattle.std.proofs.Common.{◌≡◌, ◌==◌, ℕ, ◌+◌, Bool, true, false, cond, not, ◌&&◌, List, [], ◌∷◌, ◌++◌, map, filter, refl, sym, ap, ◌∙◌, subst, arith, Option, Some, None, count_by, sum_by, IsPermutation}
+use Rattle.std.proofs.Common.{◌≡◌, ◌==◌, ℕ, ◌+◌, Bool, true, false, cond, not, ◌&&◌, List, [], ◌∷◌, ◌++◌, map, filter, refl, sym, ap, ◌∙◌, subst}
+use Rattle.std.proofs.Common.{arith, Option, Some, None, count_by, sum_by, IsPermutation}
 use Rattle.std.proofs.lemmas.List.{append-nil}
 use Rattle.std.proofs.lemmas.List.Filters.{sum_by-filter_both}
 use Rattle.std.proofs.lemmas.List.Sums.{sum_by-append, sum_by-cons}
 use Rattle.std.proofs.lemmas.List.{map-append}
-use Rattle.std.proofs.lemmas.List.Sorted.{sum_by-IsPermutation, IsPermutation-map}
+use Rattle.std.proofs.lemmas.List.Elements.{All-append, All-head, All-tail}
+use Rattle.std.proofs.lemmas.List.Sorted.{All-permutation, sum_by-IsPermutation, IsPermutation-map}
+use Rattle.std.specs.List.{All}
 use Rattle.mb_msg.specs.declared.envelope.Envelope.{Envelope}
 use Rattle.mb_lane.specs.declared.ledger.Account.{Account}
 use Rattle.mb_lane.specs.Ledger.{account, is_control, sent_by}
@@ -14,7 +17,8 @@ use Rattle.mb_queue.specs.Kept.{envelopes_of}
 use Rattle.mb_queue.specs.Parts.{controls, others, whole}
 use Rattle.mb_queue.specs.Takes.{AllOut, IsSameBag, arrivals_from, Chooses}
 
-filter-cond : (f : Envelope → Bool) (b : Bool) (x : Envelope) (l : List Envelope) → filter f (cond b (x ∷ l) l) ≡ cond b (cond (f x) (x ∷ filter f l) (filter f l)) (filter f l)
+filter-cond : (f : Envelope → Bool) (b : Bool) (x : Envelope) (l : List Envelope)
+    → filter f (cond b (x ∷ l) l) ≡ cond b (cond (f x) (x ∷ filter f l) (filter f l)) (filter f l)
 filter-cond f true x l = refl
 filter-cond f false x l = refl
 
@@ -45,7 +49,8 @@ module _ (sender : ℕ) (pushed : List Envelope) where
   pub once_of_whole : (taken : List Envelope) → pushed ≡ sent_by sender taken → IsSameBag pushed (sent_by sender taken)
   once_of_whole taken is test = ap (count_by test) is
 
-  pub once_of_parts : (taken : List Envelope) → controls pushed ≡ sent_by sender (controls taken) → others pushed ≡ sent_by sender (others taken) → IsSameBag pushed (sent_by sender taken)
+  pub once_of_parts : (taken : List Envelope) → controls pushed ≡ sent_by sender (controls taken) → others pushed ≡ sent_by sender (others taken)
+      → IsSameBag pushed (sent_by sender taken)
   once_of_parts taken c o test =
       let f : Envelope → ℕ = λ e. cond (test e) 1 0 in
       let no : Envelope → Bool = λ e. not (is_control e) in
@@ -55,7 +60,8 @@ module _ (sender : ℕ) (pushed : List Envelope) where
       ∙ (λ i. count_by test (filter-swap mine is_control taken i) + count_by test (filter-swap mine no taken i))
       ∙ sum_by-filter_both is_control no (λ e. refl) f (sent_by sender taken)
 
-  pub once_by_rank : (arrived taken : List Envelope) → IsSameBag arrived taken → pushed ≡ sent_by sender arrived → IsSameBag pushed (sent_by sender taken)
+  pub once_by_rank : (arrived taken : List Envelope) → IsSameBag arrived taken → pushed ≡ sent_by sender arrived
+      → IsSameBag pushed (sent_by sender taken)
   once_by_rank arrived taken bag is test =
       let mine : Envelope → Bool = λ e. e.by.0 == sender in
       ap (count_by test) is ∙ count-filter test mine arrived ∙ bag (λ e. mine e && test e) ∙ sym (count-filter test mine taken)
@@ -65,11 +71,34 @@ envelopes-arrivals : (rows : List RankRow) (other number : ℕ) (es : List Envel
 envelopes-arrivals rows other number [] = refl
 envelopes-arrivals rows other number (e ∷ es) = ap (λ l. e ∷ l) (envelopes-arrivals rows other (number + 1) es)
 
+-- what holds of those that were held and of those that came in holds of all that are held then
+pub all_held : (P : Envelope → Type 0) (rows : List RankRow) (other number : ℕ) (waiting : List Arrival) (fresh : List Envelope) (held : List Arrival)
+    → IsPermutation (waiting ++ arrivals_from rows other number fresh) held → All P (envelopes_of waiting) → All P fresh → All P (envelopes_of held)
+all_held P rows other number waiting fresh held same old new =
+    let in' = arrivals_from rows other number fresh in
+    let all : envelopes_of (waiting ++ in') ≡ envelopes_of waiting ++ fresh =
+    map-append (λ (x : Arrival). x.envelope) waiting in' ∙ ap (λ l. envelopes_of waiting ++ l) (envelopes-arrivals rows other number fresh) in
+    All-permutation P (envelopes_of (waiting ++ in')) (envelopes_of held) (IsPermutation-map (λ (x : Arrival). x.envelope) (waiting ++ in') held same)
+    (subst (All P) (sym all) (All-append P (envelopes_of waiting) fresh old new))
+
+-- and of the one that is chosen, and those that stay
+pub all_chosen : (P : Envelope → Type 0) (held : List Arrival) (e : Envelope) (rest : List Arrival) → Chooses held (Some e) rest
+    → All P (envelopes_of held)
+    → P e × All P (envelopes_of rest)
+all_chosen P held e rest choice all =
+    let first = choice.0 in
+    let now : All P (first.envelope ∷ envelopes_of rest) =
+    All-permutation P (envelopes_of held) (envelopes_of (first ∷ rest))
+    (IsPermutation-map (λ (x : Arrival). x.envelope) held (first ∷ rest) choice.2) all in
+    (subst P choice.1 (All-head P (first.envelope) (envelopes_of rest) now), All-tail P first.envelope (envelopes_of rest) now)
+
 count-held : (test : Envelope → Bool) (xs ys : List Arrival) → IsPermutation xs ys → count_by test (envelopes_of ys) ≡ count_by test (envelopes_of xs)
-count-held test xs ys same = sum_by-IsPermutation (λ e. cond (test e) 1 0) (envelopes_of xs) (envelopes_of ys) (IsPermutation-map (λ (a : Arrival). a.envelope) xs ys same)
+count-held test xs ys same = sum_by-IsPermutation (λ e. cond (test e) 1 0) (envelopes_of xs) (envelopes_of ys)
+    (IsPermutation-map (λ (a : Arrival). a.envelope) xs ys same)
 
 module _ (rows : List RankRow) (other number : ℕ) (gone fresh taken : List Envelope) (waiting held rest : List Arrival) where
-  bag_in : IsSameBag gone (taken ++ envelopes_of waiting) → IsPermutation (waiting ++ arrivals_from rows other number fresh) held → (test : Envelope → Bool)
+  bag_in : IsSameBag gone (taken ++ envelopes_of waiting) → IsPermutation (waiting ++ arrivals_from rows other number fresh) held
+      → (test : Envelope → Bool)
       → count_by test (gone ++ fresh) ≡ count_by test taken + count_by test (envelopes_of held)
   bag_in bag came test =
       let f : Envelope → ℕ = λ e. cond (test e) 1 0 in
@@ -82,7 +111,8 @@ module _ (rows : List RankRow) (other number : ℕ) (gone fresh taken : List Env
       omega (arith, a, b, c, d, e)
 
   -- what came in is what was given and what is held, after one more is given
-  pub bag_given : (e : Envelope) → IsSameBag gone (taken ++ envelopes_of waiting) → IsPermutation (waiting ++ arrivals_from rows other number fresh) held → Chooses held (Some e) rest
+  pub bag_given : (e : Envelope) → IsSameBag gone (taken ++ envelopes_of waiting)
+      → IsPermutation (waiting ++ arrivals_from rows other number fresh) held → Chooses held (Some e) rest
       → IsSameBag (gone ++ fresh) ((taken ++ e ∷ []) ++ envelopes_of rest)
   bag_given e bag came choice test =
       let f : Envelope → ℕ = λ x. cond (test x) 1 0 in
@@ -93,7 +123,8 @@ module _ (rows : List RankRow) (other number : ℕ) (gone fresh taken : List Env
       omega (arith, a, b, c, d, g, h, k)
 
   -- or none, as none is held
-  pub bag_none : IsSameBag gone (taken ++ envelopes_of waiting) → IsPermutation (waiting ++ arrivals_from rows other number fresh) held → Chooses held None rest
+  pub bag_none : IsSameBag gone (taken ++ envelopes_of waiting) → IsPermutation (waiting ++ arrivals_from rows other number fresh) held
+      → Chooses held None rest
       → IsSameBag (gone ++ fresh) (taken ++ envelopes_of rest)
   bag_none bag came choice test =
       let f : Envelope → ℕ = λ x. cond (test x) 1 0 in

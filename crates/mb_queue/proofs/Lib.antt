@@ -1,5 +1,7 @@
 pub mod Bags
 pub mod Distinct
+pub mod Joined
+pub mod Joins
 pub mod Lends
 pub mod Pairs
 pub mod Refused

@@ -1,5 +1,6 @@
 -- What a take of a lane says of the pass: of one lane, and of an account's part.
-use Rattle.std.proofs.Common.{◌≡◌, ◌==◌, ℕ, Bool, true, false, cond, not, List, [], ◌∷◌, ◌++◌, map, filter, refl, sym, ap, ◌∙◌, subst, Option, Some, None, option_map}
+use Rattle.std.proofs.Common.{◌≡◌, ◌==◌, ℕ, Bool, true, false, cond, not, List, [], ◌∷◌, ◌++◌, map, filter, refl, sym, ap, ◌∙◌, subst, Option, Some}
+use Rattle.std.proofs.Common.{None, option_map}
 use Rattle.std.proofs.lemmas.List.{append-nil}
 use Rattle.std.proofs.lemmas.List.Elements.{filter-append}
 use Rattle.mb_msg.specs.declared.envelope.Envelope.{Envelope}
@@ -7,30 +8,32 @@ use Rattle.mb_lane.specs.declared.ledger.Account.{Account}
 use Rattle.mb_lane.specs.declared.ledger.Ledger.{Ledger}
 use Rattle.mb_lane.specs.declared.ledger.Ledger.TheVariants.{Taker}
 use Rattle.mb_lane.specs.declared.ledger.Part.{Part}
+use Rattle.mb_lane.specs.declared.ledger.Scope.{Scope}
 use Rattle.mb_lane.specs.Ledger.{account, account_after, sent_by, taking}
 use Rattle.mb_lane.specs.Port.{Known}
 use Rattle.mb_lane.specs.Rule as lane
-use Rattle.mb_queue.specs.Kept.{Took, scoped, senders_of, gone_of}
+use Rattle.mb_queue.specs.Kept.{Took, parted, scope_in, gone_of}
 use Rattle.mb_queue.specs.Parts.{accounts_of}
 use Rattle.mb_queue.specs.Steps.{TakesOf}
 use Rattle.mb_queue.specs.Takes.{AllBegin, AllOut}
 
-module _ (senders : List ℕ) (part : Part) (out : List Envelope) (accounts : List Account) where
-  -- the senders are those that the port says
-  pub settled : (port : Known) → Took port senders part out accounts → Took port (senders_of port.ledger) part out accounts
-  settled port took = took ∙ ap (λ l. Taker (scoped l part) out accounts) (sym (ap senders_of took))
+module _ (scope : Scope) (part : Part) (out : List Envelope) (accounts : List Account) where
+  -- the scope is the one that the port says
+  pub settled : (port : Known) → Took port scope part out accounts → Took port (scope_in port.ledger) part out accounts
+  settled port took = took ∙ ap (λ l. Taker (parted l part) out accounts) (sym (ap scope_in took))
 
-  pub took_next : (port : Known) (e : Envelope) (port' : Known) → Took port senders part out accounts → TakesOf port (Some e) port' → Took port' senders part (out ++ e ∷ []) accounts
+  pub took_next : (port : Known) (e : Envelope) (port' : Known) → Took port scope part out accounts → TakesOf port (Some e) port'
+      → Took port' scope part (out ++ e ∷ []) accounts
   took_next port e port' took step = ap (λ (p : Known). p.ledger) step.0 ∙ ap (λ l. taking l e) took
 
-  pub found_next : (port : Known) (e : Envelope) (port' : Known) → Took port senders part out accounts → TakesOf port (Some e) port'
-      → lane.Belongs (scoped senders part) e × lane.AllBegin accounts (out ++ e ∷ [])
+  pub found_next : (port : Known) (e : Envelope) (port' : Known) → Took port scope part out accounts → TakesOf port (Some e) port'
+      → lane.Belongs (parted scope part) e × lane.AllBegin accounts (out ++ e ∷ [])
   found_next port e port' took step = subst (λ l. lane.FoundNext l e) took step.1
 
-  pub took_none : (port port' : Known) → Took port senders part out accounts → TakesOf port None port' → Took port' senders part out accounts
+  pub took_none : (port port' : Known) → Took port scope part out accounts → TakesOf port None port' → Took port' scope part out accounts
   took_none port port' took step = ap (λ (p : Known). p.ledger) step.0 ∙ took
 
-  pub found_empty : (port : Known) → Took port senders part out accounts → lane.FoundEmpty port.ledger → lane.AllOut accounts out
+  pub found_empty : (port : Known) → Took port scope part out accounts → lane.FoundEmpty port.ledger → lane.AllOut accounts out
   found_empty port took found = subst lane.FoundEmpty took found
 
 module _ (part : List Envelope → List Envelope) where
@@ -38,20 +41,25 @@ module _ (part : List Envelope → List Envelope) where
   cond_part true x y = refl
   cond_part false x y = refl
 
-  account_after-part : (before : Option (List Envelope)) (accounts : List Account) (sender : ℕ) → account_after (option_map part before) (accounts_of part accounts) sender ≡ option_map part (account_after before accounts sender)
+  account_after-part : (before : Option (List Envelope)) (accounts : List Account) (sender : ℕ)
+      → account_after (option_map part before) (accounts_of part accounts) sender ≡ option_map part (account_after before accounts sender)
   account_after-part before [] sender = refl
   account_after-part before (a ∷ accounts) sender =
       ap (λ b. account_after b (accounts_of part accounts) sender) (cond_part (a.by == sender) a.pushed before)
       ∙ account_after-part (cond (a.by == sender) a.pushed before) accounts sender
 
   -- what a lane says of a part of each account
-  pub part_of_account : part [] ≡ [] → (accounts : List Account) (sender : ℕ) (pushed : List Envelope) → account accounts sender ≡ Some pushed → account (accounts_of part accounts) sender ≡ Some (part pushed)
-  part_of_account none accounts sender pushed is = ap (λ l. account_after (Some l) (accounts_of part accounts) sender) (sym none) ∙ account_after-part (Some []) accounts sender ∙ ap (option_map part) is
+  pub part_of_account : part [] ≡ [] → (accounts : List Account) (sender : ℕ) (pushed : List Envelope) → account accounts sender ≡ Some pushed
+      → account (accounts_of part accounts) sender ≡ Some (part pushed)
+  part_of_account none accounts sender pushed is = ap (λ l. account_after (Some l) (accounts_of part accounts) sender) (sym none)
+      ∙ account_after-part (Some []) accounts sender ∙ ap (option_map part) is
 
-  pub all_out : part [] ≡ [] → (accounts : List Account) (out : List Envelope) → lane.AllOut (accounts_of part accounts) (part out) → AllOut part accounts out
+  pub all_out : part [] ≡ [] → (accounts : List Account) (out : List Envelope) → lane.AllOut (accounts_of part accounts) (part out)
+      → AllOut part accounts out
   all_out none accounts out all sender pushed is = all sender (part pushed) (part_of_account none accounts sender pushed is)
 
-  pub all_begin : part [] ≡ [] → (accounts : List Account) (out : List Envelope) → lane.AllBegin (accounts_of part accounts) (part out) → AllBegin part accounts out
+  pub all_begin : part [] ≡ [] → (accounts : List Account) (out : List Envelope) → lane.AllBegin (accounts_of part accounts) (part out)
+      → AllBegin part accounts out
   all_begin none accounts out all sender pushed is = all sender (part pushed) (part_of_account none accounts sender pushed is)
 
 pub filter-more : (p : Envelope → Bool) (xs : List Envelope) (e : Envelope) → p e ≡ true → filter p (xs ++ e ∷ []) ≡ filter p xs ++ e ∷ []

@@ -1,3 +1,4 @@
+pub mod Fates
 pub mod Kept
 pub mod Lent
 pub mod Made

@@ -1,5 +1,5 @@
 -- What a take does to the ports of the lanes.
-use Rattle.std.specs.Prelude.{◌≡◌, ℕ, ◌+◌, ◌⊎◌, List, [], ◌∷◌, ◌++◌, length, Option, Some, None, IsPermutation}
+use Rattle.std.specs.Prelude.{◌≡◌, ℕ, ◌+◌, ◌⊎◌, List, [], ◌∷◌, ◌++◌, length, Option, Some, None, IsPermutation, All}
 use Rattle.mb_msg.specs.declared.envelope.Envelope.{Envelope}
 use Rattle.mb_lane.specs.declared.ledger.Ledger.{Ledger}
 use Rattle.mb_lane.specs.declared.ledger.Ledger.TheVariants.{Sender, Taker, Spent}
@@ -11,6 +11,7 @@ use Rattle.mb_rank.specs.Rank.{rank_of}
 use Rattle.mb_queue.specs.declared.choice.Choice.{Choice}
 use Rattle.mb_queue.specs.declared.order.Order.{Order}
 use Rattle.mb_queue.specs.declared.order.Order.TheVariants.{FirstInFirstOut, ControlFirst, ByRank}
+use Rattle.mb_queue.specs.Kept.{scope_in}
 use Rattle.mb_queue.specs.Takes.{arrivals_from, Chooses}
 
 -- after several takes
@@ -37,13 +38,18 @@ pub record OneMore (old : Choice) (port : Known) (new : Choice) (port' : Known) 
   pub other : new.other ≡ old.other
   pub next : new.next ≡ old.next + 1
   pub came : TakesOf port (Some envelope) port'
-  pub held : IsPermutation (record { rank = rank_of old.ranks old.other envelope.body; number = old.next; envelope = envelope } ∷ old.waiting) new.waiting
+  pub held : IsPermutation (record {
+    rank = rank_of old.ranks old.other envelope.body;
+    number = old.next;
+    envelope =
+        envelope;
+  } ∷ old.waiting) new.waiting
 
 -- the lane was empty, and nothing changed
 abbrev pub NoMore : Choice → Known → Choice → Known → Type 0
 NoMore old port new port' = (new ≡ old) × TakesOf port None port'
 
--- some were taken in
+-- some were taken in, all such as the lane has
 pub record TakesMore (old : Choice) (port : Known) (new : Choice) (port' : Known) : Type 0 where
   pub fresh : List Envelope
   pub ranks : new.ranks ≡ old.ranks
@@ -51,6 +57,7 @@ pub record TakesMore (old : Choice) (port : Known) (new : Choice) (port' : Known
   pub next : new.next ≡ old.next + length fresh
   pub came : port' ≡ record port { ledger = taking_all port.ledger fresh }
   pub begins : (fresh ≡ []) ⊎ Begins port'.ledger
+  pub known : All (lane.Belongs (scope_in port.ledger)) fresh
   pub held : IsPermutation (old.waiting ++ arrivals_from old.ranks old.other old.next fresh) new.waiting
 
 -- so many that as many are held as may be, or the lane was empty
@@ -73,7 +80,8 @@ TakesOfTwo control main (Some e) control' main' =
 -- one take, of the lanes of any kind of queue
 abbrev pub IsStep : Known → Order → Option Envelope → Known → Order → Type 0
 IsStep main FirstInFirstOut result main' order' = (order' ≡ FirstInFirstOut) × TakesOf main result main'
-IsStep main (ControlFirst control) result main' order' = (control' : Known) × (order' ≡ ControlFirst control') × TakesOfTwo control main result control' main'
+IsStep main (ControlFirst control) result main' order' = (control' : Known) × (order' ≡ ControlFirst control')
+    × TakesOfTwo control main result control' main'
 IsStep main (ByRank choice) result main' order' = (choice' : Choice) × (order' ≡ ByRank choice') × RankTakes choice main result choice' main'
 
 -- all the ports that there are take

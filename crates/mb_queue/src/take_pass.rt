@@ -1,6 +1,8 @@
 //! The mailbox's way into its queue.
-ghost use Rattle.std.specs.Prelude.{◌≡◌, [], ◌∷◌, ◌++◌, IfNone, option_to_list};
+ghost use Rattle.std.specs.Prelude.{◌≡◌, ◌≢◌, ℕ, Some, [], ◌∷◌, ◌++◌, Contains, IfNone, IfSome, option_to_list};
 ghost use Rattle.mb_lane.specs.Ledger.{home};
+ghost use Rattle.mb_queue.specs.Fates.{InOrder, pushed_by};
+ghost use Rattle.mb_queue.specs.Passes.{first_in_first_out};
 ghost use Rattle.mb_queue.specs.Takes.{EachOnce, IsTake};
 
 use crate::order::{Order, take_next};
@@ -41,8 +43,11 @@ impl TakePass {
     pub fn take<R: Wait>(&mut self, rt: &R) -> Option<Envelope>
         ensures taken { self.new.taken ≡ self.old.taken ++ option_to_list result }
         ensures same { (self.new.queue ≡ self.old.queue) × (self.new.turns ≡ self.old.turns) × (self.new.accounts ≡ self.old.accounts) }
+        ensures sender { IfSome result (λ e. Contains self.old.queue.senders e.by.0) }
+        ensures addressed { IfSome result (λ e. e.to.0 ≡ self.old.queue.to) }
         ensures turn { IsTake self.old.turns self.old result self.new }
         ensures each_once { IfNone result (EachOnce self.new) }
+        ensures in_order { IfNone result (self.old.turns ≡ first_in_first_out → InOrder self.new) }
     {
         let next = take_next(rt, &mut self.main, &mut self.order);
         match next {
@@ -57,7 +62,9 @@ impl TakePass {
     /// Takes a send pass of this queue in: from now on it is known here what that pushed.
     pub fn join(&mut self, pass: SendPass)
         requires { pass.queue ≡ self.old.queue }
-        ensures { self.new ≡ record self.old { accounts = self.old.accounts ++ home pass.by pass.pushed ∷ [] } }
+        ensures joined { self.new ≡ record self.old { accounts = self.old.accounts ++ home pass.by pass.pushed ∷ [] } }
+        ensures account { pushed_by self.new pass.by ≡ Some pass.pushed }
+        ensures others { (sender : ℕ) → sender ≢ pass.by → pushed_by self.new sender ≡ pushed_by self.old sender }
     {
         let SendPass {
             by,

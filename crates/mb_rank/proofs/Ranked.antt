@@ -5,7 +5,9 @@ use Rattle.mb_msg.specs.declared.envelope.Body.TheVariants.{User}
 use Rattle.mb_rank.specs.declared.ranks.RankRow.{RankRow}
 use Rattle.mb_rank.specs.Rank.{rank_of}
 
-pub ranked : (kept rows : List RankRow) (other kind : ℕ) (value : ℤ) (body : Body) (found : Option RankRow) → body ≡ User kind value → kept ≡ rows → found ≡ find (λ (row : RankRow). row.kind == kind) kept
+pub ranked : (kept rows : List RankRow) (other kind : ℕ) (value : ℤ) (body : Body) (found : Option RankRow) → body ≡ User kind value → kept ≡ rows
+    → found ≡ find (λ (row : RankRow). row.kind == kind) kept
     → unwrap_or (option_map (λ (row : RankRow). row.rank) found) other ≡ rank_of rows other body
 ranked kept rows other kind value body found is same eq =
-    ap (λ f. unwrap_or (option_map (λ (row : RankRow). row.rank) f) other) (eq ∙ ap (find (λ (row : RankRow). row.kind == kind)) same) ∙ ap (rank_of rows other) (sym is)
+    ap (λ f. unwrap_or (option_map (λ (row : RankRow). row.rank) f) other) (eq ∙ ap (find (λ (row : RankRow). row.kind == kind)) same)
+    ∙ ap (rank_of rows other) (sym is)

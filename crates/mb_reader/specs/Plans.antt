@@ -1,5 +1,6 @@
 -- What a document that passes all checks says of the system (this project's own profile).
-use Rattle.std.specs.Prelude.{ℕ, ℤ, negsuc, ◌+◌, ◌==◌, List, codes, Bool, false, Option, Some, None, drop, if◌then◌else◌, max, unwrap_or}
+use Rattle.std.specs.Prelude.{ℕ, ℤ, negsuc, ◌+◌, ◌==◌, List, codes, Bool, false, Option, Some, None, drop}
+use Rattle.std.specs.Prelude.{if◌then◌else◌, max, unwrap_or}
 use Rattle.std.specs.Str.{bytes_eq}
 use Rattle.toml.specs.Data.{Data, Members, get_member}
 use Rattle.mb_format.specs.Check.{all_kin, items_in}
@@ -48,15 +49,15 @@ pub record PlanData : Type 0 where
   pub actors : List ActorData
 
 -- a row of a priority mailbox
-abbrev pub rank_of : Data → Rank
-rank_of d = record { kind = number_or 0 (field (codes "kind") d); rank = number_or 0 (field (codes "rank") d) }
+abbrev pub planned_rank : Data → Rank
+planned_rank d = record { kind = number_or 0 (field (codes "kind") d); rank = number_or 0 (field (codes "rank") d) }
 
 -- the mailbox that a word names, in an actor
-abbrev pub mailbox_of : List ℕ → Data → KindData
-mailbox_of word d =
+abbrev pub planned_mailbox : List ℕ → Data → KindData
+planned_mailbox word d =
     if bytes_eq word (codes "bounded") then bounded (number_or 0 (field (codes "capacity") d))
     else (if bytes_eq word (codes "priority")
-    then priority (map_items rank_of (items_in (field (codes "rank") d))) (number_or 1 (field (codes "other") d))
+    then priority (map_items planned_rank (items_in (field (codes "rank") d))) (number_or 1 (field (codes "other") d))
     else (if bytes_eq word (codes "control") then control
     else unbounded))
 
@@ -92,10 +93,10 @@ strategy_of d = record {
   all_for_one = truth_or false (field (codes "all_for_one") d);
 }
 
-abbrev pub actor_of : List KinData → Data → ActorData
-actor_of kin d = record {
+abbrev pub planned_actor : List KinData → Data → ActorData
+planned_actor kin d = record {
   parent = id_of kin (text_or (codes "guardian") (field (codes "parent") d));
-  mailbox = mailbox_of (text_or (codes "unbounded") (field (codes "mailbox") d)) d;
+  mailbox = planned_mailbox (text_or (codes "unbounded") (field (codes "mailbox") d)) d;
   strategy = strategy_of d;
 }
 
@@ -126,7 +127,7 @@ plan_of top = record {
   pool = pool_of (text_or (codes "shared") (get_member (codes "pool") top));
   senders = small (senders_of (sends_in top));
   journal_limit = number_or 4294967295 (get_member (codes "journal_limit") top);
-  actors = map_items (actor_of (all_kin (items_in (get_member (codes "actor") top)))) (items_in (get_member (codes "actor") top));
+  actors = map_items (planned_actor (all_kin (items_in (get_member (codes "actor") top)))) (items_in (get_member (codes "actor") top));
 }
 
 abbrev pub name_of : Data → List ℕ

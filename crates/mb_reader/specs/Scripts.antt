@@ -33,8 +33,8 @@ operation_of kin (Some (about verb name number)) = operation_on (id_of kin name)
 abbrev pub operations_in : List KinData → Option Data → List Operation
 operations_in kin found = map_items (λ d. operation_of kin (op_of (text_of d))) (items_in found)
 
-abbrev pub row_of : List KinData → Data → RowData
-row_of kin d = record { kind = number_or 0 (field (codes "kind") d); operations = operations_in kin (field (codes "do") d) }
+abbrev pub scripted_row : List KinData → Data → RowData
+scripted_row kin d = record { kind = number_or 0 (field (codes "kind") d); operations = operations_in kin (field (codes "do") d) }
 
 abbrev pub script_of : List KinData → Data → ScriptData
 script_of kin d = record {
@@ -43,7 +43,7 @@ script_of kin d = record {
   restart = operations_in kin (field (codes "restart") d);
   stop = operations_in kin (field (codes "stop") d);
   terminated = option_map (λ t. operations_in kin (Some t)) (field (codes "terminated") d);
-  rows = map_items (row_of kin) (items_in (field (codes "on") d));
+  rows = map_items (scripted_row kin) (items_in (field (codes "on") d));
 }
 
 -- an actor that has not begun yet

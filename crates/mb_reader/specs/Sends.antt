@@ -11,8 +11,8 @@ use Rattle.mb_reader.specs.declared.scenario.What.{What}
 use Rattle.mb_reader.specs.declared.scenario.What.TheVariants.{Envelope, Stop}
 
 -- what is sent by this word, with this kind and value
-abbrev pub what_of : List ℕ → ℕ → ℤ → What
-what_of word kind value =
+abbrev pub what_sent : List ℕ → ℕ → ℤ → What
+what_sent word kind value =
     if bytes_eq word (codes "poison") then Envelope PoisonPill
     else (if bytes_eq word (codes "kill") then Envelope Kill
     else (if bytes_eq word (codes "stop") then Stop
@@ -23,7 +23,7 @@ abbrev pub send_of : List KinData → Data → Sending
 send_of kin d = record {
   from = number_or 0 (field (codes "from") d);
   to = id_of kin (text_or (codes "") (field (codes "to") d));
-  what = what_of (text_or (codes "user") (field (codes "what") d)) (number_or 0 (field (codes "kind") d)) (integer_or (pos 0) (field
+  what = what_sent (text_or (codes "user") (field (codes "what") d)) (number_or 0 (field (codes "kind") d)) (integer_or (pos 0) (field
       (codes "value") d));
   times = number_or 1 (field (codes "times") d);
 }

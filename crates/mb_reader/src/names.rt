@@ -26,12 +26,12 @@ fn name_of(alloc: Global, value: &Value) -> Result<String, AllocError>
     ensures { IfOk result (λ name. string_bytes name ≡ name_of (view value.now)) }
 {
     match field(value, "name") {
-        Some(found) => text_of(alloc, found),
+        Some(found) => owned_text(alloc, found),
         None => Ok(String::new(alloc)),
     }
 }
 
-fn text_of(alloc: Global, value: &Value) -> Result<String, AllocError>
+fn owned_text(alloc: Global, value: &Value) -> Result<String, AllocError>
     ensures { IfOk result (λ text. string_bytes text ≡ text_of (view value.now)) }
 {
     match value.as_str() {

@@ -9,7 +9,7 @@ ghost use Rattle.mb_format.specs.Operation.{op_of};
 ghost use Rattle.mb_format.specs.Value.{text_of};
 ghost use Rattle.mb_script.specs.Script.{row_data};
 ghost use Rattle.mb_reader.specs.Fields.{map_items};
-ghost use Rattle.mb_reader.specs.Scripts.{operation_of, operation_on, operations_in, row_of, scripted_of};
+ghost use Rattle.mb_reader.specs.Scripts.{operation_of, operation_on, operations_in, scripted_row, scripted_of};
 
 use crate::fields::{field, id_of, integer_or, number_or};
 use mb_format::{Kin, Op, Verb, items_of, op_of, text_of};
@@ -28,12 +28,12 @@ pub(crate) fn script_of(alloc: Global, kin: &[Kin<'_>], value: &Value) -> Result
         stop: operations_in(alloc, kin, field(value, "stop"))?,
         terminated: terminated_of(alloc, kin, field(value, "terminated"))?,
     };
-    let rows = rows_of(alloc, kin, items_at(field(value, "on")))?;
+    let rows = rows_of(alloc, kin, items_found(field(value, "on")))?;
     Script::new(alloc, integer_or(0, field(value, "initial")), hooks, rows)
 }
 
 /// The items that are there.
-pub(crate) fn items_at(found: Option<&Value>) -> &[Value]
+pub(crate) fn items_found(found: Option<&Value>) -> &[Value]
     ensures { items_view result.now ≡ items_in (option_map (λ v. view v.now) found.entry) }
 {
     match found {
@@ -61,18 +61,18 @@ fn terminated_of(
 
 /// The rows of a script.
 fn rows_of(alloc: Global, kin: &[Kin<'_>], values: &[Value]) -> Result<Vec<Row>, AllocError>
-    ensures { IfOk result (λ rows. map row_data rows.items ≡ map_items (row_of (map kin_data kin.now)) (items_view values.now)) }
+    ensures { IfOk result (λ rows. map row_data rows.items ≡ map_items (scripted_row (map kin_data kin.now)) (items_view values.now)) }
 {
     let mut rows = Vec::new(alloc);
     for value in values {
-        let row = row_of(alloc, kin, value)?;
+        let row = scripted_row(alloc, kin, value)?;
         rows.push(row)?;
     }
     Ok(rows)
 }
 
-fn row_of(alloc: Global, kin: &[Kin<'_>], value: &Value) -> Result<Row, AllocError>
-    ensures { IfOk result (λ row. row_data row ≡ row_of (map kin_data kin.now) (view value.now)) }
+fn scripted_row(alloc: Global, kin: &[Kin<'_>], value: &Value) -> Result<Row, AllocError>
+    ensures { IfOk result (λ row. row_data row ≡ scripted_row (map kin_data kin.now) (view value.now)) }
 {
     let kind = number_or(0, field(value, "kind"));
     let operations = operations_in(alloc, kin, field(value, "do"))?;
@@ -87,7 +87,7 @@ fn operations_in(
 ) -> Result<Vec<Operation>, AllocError>
     ensures { IfOk result (λ operations. operations.items ≡ operations_in (map kin_data kin.now) (option_map (λ v. view v.now) found.entry)) }
 {
-    each_operation(alloc, kin, items_at(found))
+    each_operation(alloc, kin, items_found(found))
 }
 
 fn each_operation(

@@ -4,7 +4,7 @@ ghost use Rattle.std.specs.Prelude.{◌≡◌, IfOk, map};
 ghost use Rattle.toml.specs.View.{view, items_view};
 ghost use Rattle.mb_format.specs.Context.{kin_data};
 ghost use Rattle.mb_reader.specs.Fields.{map_items, small};
-ghost use Rattle.mb_reader.specs.Sends.{send_of, senders_of, what_of};
+ghost use Rattle.mb_reader.specs.Sends.{send_of, senders_of, what_sent};
 
 use crate::fields::{field, id_of, integer_or, number_or, small};
 use crate::scenario::{Sending, What};
@@ -37,13 +37,13 @@ fn send_of(kin: &[Kin<'_>], value: &Value) -> Sending
     Sending {
         from: number_or(0, field(value, "from")),
         to: id_of(kin, text_or(b"", field(value, "to"))),
-        what: what_of(word, kind, number),
+        what: what_sent(word, kind, number),
         times: number_or(1, field(value, "times")),
     }
 }
 
-fn what_of(word: &[u8], kind: u32, value: i64) -> What
-    ensures { result ≡ what_of word.now kind value }
+fn what_sent(word: &[u8], kind: u32, value: i64) -> What
+    ensures { result ≡ what_sent word.now kind value }
 {
     if is_text(word, b"poison") {
         return What::Envelope(Body::PoisonPill);

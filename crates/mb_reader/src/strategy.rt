@@ -7,7 +7,7 @@ ghost use Rattle.mb_reader.specs.Plans.{directive_of, error_number, pattern_of, 
 ghost use Rattle.mb_reader.specs.View.{strategy_data};
 
 use crate::fields::{field, integer_or, truth_or};
-use crate::scripts::items_at;
+use crate::scripts::items_found;
 use mb_format::{is_text, number_of, space_in, text_or};
 use mb_journal::{Pattern, Strategy};
 use mb_msg::Directive;
@@ -18,7 +18,7 @@ use toml::Value;
 pub(crate) fn strategy_of(alloc: Global, value: &Value) -> Result<Strategy, AllocError>
     ensures { IfOk result (λ strategy. strategy_data strategy ≡ strategy_of (view value.now)) }
 {
-    let rows = strategy_rows(alloc, items_at(field(value, "strategy")))?;
+    let rows = strategy_rows(alloc, items_found(field(value, "strategy")))?;
     Ok(Strategy {
         rows,
         retries: integer_or(-1, field(value, "retries")),

@@ -41,20 +41,20 @@ fn plus_if(count: usize, is_so: bool) -> usize
 }
 
 /// Whether the entry tells of an envelope.
-fn tells_of_envelope(record: &Record<'_>) -> bool
-    ensures { result ≡ tells_of_envelope (entry_of record.now) }
+fn tells_of_envelope(entry: &Record<'_>) -> bool
+    ensures { result ≡ tells_of_envelope (entry_of entry.now) }
 {
-    match record.arrival {
+    match entry.arrival {
         Arrival::Handled { .. } | Arrival::Dropped { .. } => true,
         Arrival::System { .. } | Arrival::SetAside { .. } => false,
     }
 }
 
 /// Whether the entry tells of a restart.
-fn tells_of_restart(record: &Record<'_>) -> bool
-    ensures { result ≡ tells_of_restart (entry_of record.now) }
+fn tells_of_restart(entry: &Record<'_>) -> bool
+    ensures { result ≡ tells_of_restart (entry_of entry.now) }
 {
-    match record.arrival {
+    match entry.arrival {
         Arrival::System {
             answer: Some(_),
             number: _,

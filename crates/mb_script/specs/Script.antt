@@ -83,7 +83,8 @@ effects_with moment work = (asked_with work (record { effects = []; actors = mom
 
 -- a call gives exactly that answer and these effects
 abbrev pub gives_of : ScriptData → Moment → Reply → Type 0
-gives_of script moment reply = (reply.answer ≡ answer_to script moment.call) × (reply.effects ≡ effects_with moment (work_for script moment.call))
+gives_of script moment reply =
+    (reply.answer ≡ answer_to script moment.call) × (reply.effects ≡ effects_with moment (work_for script moment.call))
 
 -- the state after the messages of a kind are handled: their adds alone change it
 abbrev pub after_work : ℤ → Option Work → ℤ

@@ -3,7 +3,7 @@ ghost use Rattle.std.specs.Prelude.{◌≡◌, ◌<◌, [], ◌∷◌, IfOk};
 use super::*;
 use mb_actor::{Actor, Answer, Effect, Message, Outbox};
 use mb_msg::{ActorId, Cause};
-use std::alloc::Global;
+use std::alloc::{AllocError, Global};
 use std::test::Fail;
 
 fn user(kind: u32, value: i64) -> Message {
@@ -11,18 +11,18 @@ fn user(kind: u32, value: i64) -> Message {
 }
 
 /// An actor with these rows that does nothing else.
-fn with_rows(alloc: Global, initial: i64, rows: Vec<Row>) -> Result<Script, Fail> {
+fn with_rows(alloc: Global, initial: i64, rows: Vec<Row>) -> Result<Script, AllocError> {
     let hooks = Hooks {
         start: Vec::new(alloc),
         restart: Vec::new(alloc),
         stop: Vec::new(alloc),
         terminated: None,
     };
-    Ok(Script::new(alloc, initial, hooks, rows)?)
+    Script::new(alloc, initial, hooks, rows)
 }
 
 /// An outbox among three actors, of which number 2 may be spawned.
-fn outbox(alloc: Global) -> Result<Outbox, Fail>
+fn outbox(alloc: Global) -> Result<Outbox, AllocError>
     ensures { IfOk result (λ out. out ≡ record { effects = []; actors = 3; unspawned = (record { 0 = 2 }) ∷ [] }) }
 {
     let prepared = vec![in alloc; ActorId(2)]?;
@@ -181,6 +181,47 @@ fn does_what_its_hooks_say(rt: HostRuntime) -> Result<(), Fail> {
         }]
         .as_slice()
     );
+    Ok(())
+}
+
+/// An actor with two rows of a kind, of which the first adds, and with one of another kind.
+fn adder(alloc: Global) -> Result<Script, AllocError> {
+    let rows = vec![in alloc;
+        Row {
+            kind: 7,
+            operations: vec![in alloc; Operation::Add]?
+        },
+        Row {
+            kind: 7,
+            operations: vec![in alloc; Operation::Fail(1)]?
+        },
+        Row {
+            kind: 0,
+            operations: vec![in alloc; Operation::Ignore]?
+        },
+    ]?;
+    with_rows(alloc, 1, rows)
+}
+
+/// Run with each allocation refused in turn (`tools/refuse_each_allocation_of_scenarios`).
+#[test]
+fn a_refused_script_can_be_made_again(rt: HostRuntime) -> Result<(), Fail> {
+    let alloc = rt.alloc();
+    let mut script = match adder(alloc) {
+        Ok(script) => script,
+        Err(_) => adder(alloc)?,
+    };
+    let mut out = match outbox(alloc) {
+        Ok(out) => out,
+        Err(_) => outbox(alloc)?,
+    };
+    assert_eq!(rt; script.receive(&user(7, 2), &mut out), Answer::Handled);
+    out.clear();
+    assert_eq!(rt; script.receive(&user(0, 2), &mut out), Answer::Handled);
+    out.clear();
+    assert_eq!(rt; script.receive(&user(1, 2), &mut out), Answer::Unhandled);
+    assert_eq!(rt; script.state(), 3);
+    assert_eq!(rt; (script.rows().len(), script.hooks().start.len()), (3, 0));
     Ok(())
 }
 

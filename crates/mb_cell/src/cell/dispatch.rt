@@ -23,14 +23,14 @@ impl<A: Actor, K: Behaviours> Cell<A, K> {
         }
         match message {
             SysMsg::Create => self.dispatch_create(number),
-            SysMsg::Recreate(cause) => self.dispatch_recreate(cause, number),
+            SysMsg::Recreate(cause) => self.dispatch_recreate(number, cause),
             SysMsg::Suspend => self.dispatch_suspend(number),
-            SysMsg::Resume { of_failure } => self.dispatch_resume(of_failure, number),
+            SysMsg::Resume { of_failure } => self.dispatch_resume(number, of_failure),
             SysMsg::Terminate => self.dispatch_terminate(number),
             SysMsg::Watch(watcher) => self.apply_watch(number, watcher),
             SysMsg::Unwatch(watcher) => self.apply_unwatch(number, watcher),
-            SysMsg::Failed(child, cause) => self.dispatch_failed(child, cause, number),
-            SysMsg::Died(id) => self.dispatch_died(id, number),
+            SysMsg::Failed(child, cause) => self.dispatch_failed(number, child, cause),
+            SysMsg::Died(id) => self.dispatch_died(number, id),
         }
     }
 
@@ -49,7 +49,7 @@ impl<A: Actor, K: Behaviours> Cell<A, K> {
     }
 
     /// `Recreate`: nothing to an actor that was not started, nor to the guardian.
-    fn dispatch_recreate(&mut self, cause: Cause, number: u64)
+    fn dispatch_recreate(&mut self, number: u64, cause: Cause)
         requires may_take { MayTake self.old number (SysMsg.Recreate cause) }
         requires applied { sets_aside self.old.who self.old.journal (SysMsg.Recreate cause) ≡ false }
         ensures taken { TakesSystem self.old self.new number (SysMsg.Recreate cause) }
@@ -58,7 +58,7 @@ impl<A: Actor, K: Behaviours> Cell<A, K> {
         if self.is_fresh() || self.is_guardian() {
             self.apply_nothing(number, SysMsg::Recreate(cause));
         } else {
-            self.apply_recreate(cause, number);
+            self.apply_recreate(number, cause);
         }
     }
 
@@ -77,7 +77,7 @@ impl<A: Actor, K: Behaviours> Cell<A, K> {
     }
 
     /// `Resume`: nothing to an actor that was not started; one whose last start or restart failed is started afresh.
-    fn dispatch_resume(&mut self, of_failure: bool, number: u64)
+    fn dispatch_resume(&mut self, number: u64, of_failure: bool)
         requires may_take { MayTake self.old number (SysMsg.Resume of_failure) }
         requires applied { sets_aside self.old.who self.old.journal (SysMsg.Resume of_failure) ≡ false }
         ensures taken { TakesSystem self.old self.new number (SysMsg.Resume of_failure) }
@@ -86,7 +86,7 @@ impl<A: Actor, K: Behaviours> Cell<A, K> {
         if self.is_fresh() {
             self.apply_nothing(number, SysMsg::Resume { of_failure });
         } else if self.is_broken() {
-            self.apply_resume_broken(of_failure, number);
+            self.apply_resume_broken(number, of_failure);
         } else {
             self.apply_resume(number, of_failure);
         }
@@ -111,7 +111,7 @@ impl<A: Actor, K: Behaviours> Cell<A, K> {
     }
 
     /// `Failed`: nothing to an actor that was not started, and nothing of one that is no child.
-    fn dispatch_failed(&mut self, child: ActorId, cause: Cause, number: u64)
+    fn dispatch_failed(&mut self, number: u64, child: ActorId, cause: Cause)
         requires may_take { MayTake self.old number (SysMsg.Failed child cause) }
         requires applied { sets_aside self.old.who self.old.journal (SysMsg.Failed child cause) ≡ false }
         ensures taken { TakesSystem self.old self.new number (SysMsg.Failed child cause) }
@@ -125,7 +125,7 @@ impl<A: Actor, K: Behaviours> Cell<A, K> {
     }
 
     /// `Died`: nothing to an actor that was not started; that of the last child ends an actor that waits for it.
-    fn dispatch_died(&mut self, id: ActorId, number: u64)
+    fn dispatch_died(&mut self, number: u64, id: ActorId)
         requires may_take { MayTake self.old number (SysMsg.Died id) }
         requires applied { sets_aside self.old.who self.old.journal (SysMsg.Died id) ≡ false }
         ensures taken { TakesSystem self.old self.new number (SysMsg.Died id) }
@@ -136,9 +136,9 @@ impl<A: Actor, K: Behaviours> Cell<A, K> {
         } else if !(self.is_ending() && self.is_last_child(id)) {
             self.apply_died(number, id);
         } else if !self.is_guardian() && self.was_live() {
-            self.apply_last_stop(id, number);
+            self.apply_last_stop(number, id);
         } else {
-            self.apply_last_end(id, number);
+            self.apply_last_end(number, id);
         }
     }
 }

@@ -50,7 +50,7 @@ impl<A: Actor, K: Behaviours> Cell<A, K> {
     }
 
     /// `Died` of the last child of an actor that was Live when it was told to end: its `stop` is called, and it ends.
-    pub(super) fn apply_last_stop(&mut self, id: ActorId, number: u64)
+    pub(super) fn apply_last_stop(&mut self, number: u64, id: ActorId)
         requires may_take { MayTake self.old number (SysMsg.Died id) }
         requires applied { sets_aside self.old.who self.old.journal (SysMsg.Died id) ≡ false }
         requires an_actor { is_guardian self.old.who ≡ false }
@@ -71,7 +71,7 @@ impl<A: Actor, K: Behaviours> Cell<A, K> {
     }
 
     /// `Died` of the last child of another actor that ends.
-    pub(super) fn apply_last_end(&mut self, id: ActorId, number: u64)
+    pub(super) fn apply_last_end(&mut self, number: u64, id: ActorId)
         requires may_take { MayTake self.old number (SysMsg.Died id) }
         requires applied { sets_aside self.old.who self.old.journal (SysMsg.Died id) ≡ false }
         requires silent { (not (is_guardian self.old.who) && was_live_at self.old.who self.old.journal) ≡ false }

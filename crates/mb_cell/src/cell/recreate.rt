@@ -13,7 +13,7 @@ use mb_msg::{Cause, SysMsg};
 
 impl<A: Actor, K: Behaviours> Cell<A, K> {
     /// `Recreate` of an actor that is Live or Broken: it is started afresh.
-    pub(super) fn apply_recreate(&mut self, cause: Cause, number: u64)
+    pub(super) fn apply_recreate(&mut self, number: u64, cause: Cause)
         requires may_take { MayTake self.old number (SysMsg.Recreate cause) }
         requires applied { sets_aside self.old.who self.old.journal (SysMsg.Recreate cause) ≡ false }
         requires an_actor { is_guardian self.old.who ≡ false }
@@ -35,7 +35,7 @@ impl<A: Actor, K: Behaviours> Cell<A, K> {
     }
 
     /// `Resume` of a Broken actor: it is started afresh too (this project's own profile).
-    pub(super) fn apply_resume_broken(&mut self, of_failure: bool, number: u64)
+    pub(super) fn apply_resume_broken(&mut self, number: u64, of_failure: bool)
         requires may_take { MayTake self.old number (SysMsg.Resume of_failure) }
         requires applied { sets_aside self.old.who self.old.journal (SysMsg.Resume of_failure) ≡ false }
         requires an_actor { is_guardian self.old.who ≡ false }

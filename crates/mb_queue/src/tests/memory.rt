@@ -12,7 +12,7 @@ use std::test::Fail;
 
 /// Pushes the envelope. Where memory is refused it comes back, and the same push is done when it is made again.
 fn push_at_last<R: Wait + Abort>(rt: &R, pass: &mut SendPass, envelope: Envelope)
-    requires { envelope.by.0 ≡ pass.old.by }
+    requires { (envelope.by.0 ≡ pass.old.by) × (envelope.to.0 ≡ pass.old.queue.to) }
     ensures { (pass.new.queue ≡ pass.old.queue) × (pass.new.by ≡ pass.old.by) }
 {
     if let Err(refused) = pass.push(rt, envelope) {
@@ -21,33 +21,32 @@ fn push_at_last<R: Wait + Abort>(rt: &R, pass: &mut SendPass, envelope: Envelope
     }
 }
 
-/// A queue, made again where memory was refused.
-fn made_at_last(
-    alloc: Global,
-    has_control: bool,
-) -> Result<(TakePass, SendPass, SendPass), AllocError>
-    ensures { IfOk result (λ r. r.1.by ≡ 1) }
+/// A queue of the `which`th kind, made again where memory was refused.
+fn made_at_last(alloc: Global, which: u32) -> Result<(TakePass, SendPass, SendPass), AllocError>
+    ensures { IfOk result (λ r. (r.1.by ≡ 1) × (r.1.queue.to ≡ 2)) }
 {
-    if let Ok(made) = queue(alloc, kind_of(alloc, has_control)?) {
+    if let Ok(made) = queue(alloc, kind_of(alloc, which)?) {
         return Ok(made);
     }
-    queue(alloc, kind_of(alloc, has_control)?)
+    queue(alloc, kind_of(alloc, which)?)
 }
 
-fn kind_of(alloc: Global, has_control: bool) -> Result<Kind, AllocError>
+fn kind_of(alloc: Global, which: u32) -> Result<Kind, AllocError>
     ensures { IfOk result IsMakeable }
 {
-    if has_control {
-        return Ok(Kind::Control);
-    }
-    match ranked(alloc) {
-        Ok(kind) => Ok(kind),
-        Err(_) => ranked(alloc),
+    match which {
+        0 => Ok(Kind::Unbounded),
+        1 => Ok(Kind::Bounded(128)),
+        2 => Ok(Kind::Control),
+        _ => match ranked(alloc) {
+            Ok(kind) => Ok(kind),
+            Err(_) => ranked(alloc),
+        },
     }
 }
 
 fn push_a_hundred<R: Wait + Abort>(rt: &R, pass: &mut SendPass)
-    requires { pass.old.by ≡ 1 }
+    requires { (pass.old.by ≡ 1) × (pass.old.queue.to ≡ 2) }
 {
     for number in 0..100 {
         push_at_last(rt, pass, user(NEAR, number, 1, 0));
@@ -64,8 +63,8 @@ fn count_taken<R: Wait>(rt: &R, take: &mut TakePass) -> u64 {
 
 #[test]
 fn a_refused_push_can_be_made_again(rt: HostRuntime) -> Result<(), Fail> {
-    for has_control in [false, true] {
-        let (mut take, mut near, _) = made_at_last(rt.alloc(), has_control)?;
+    for which in 0..4 {
+        let (mut take, mut near, _) = made_at_last(rt.alloc(), which)?;
         push_a_hundred(&rt, &mut near);
         assert_eq!(rt; count_taken(&rt, &mut take), 100);
     }

@@ -1,6 +1,9 @@
 //! Two senders and a taker, each on its thread, for each kind of queue.
-ghost use Rattle.std.specs.Prelude.{◌≡◌, ◌<◌};
+ghost use Rattle.std.specs.Prelude.{◌≡◌, ◌<◌, IfOk};
+ghost use Rattle.mb_queue.specs.Fates.{AllJoined, InOrder};
 ghost use Rattle.mb_queue.specs.Made.{IsMakeable};
+ghost use Rattle.mb_queue.specs.Passes.{first_in_first_out};
+ghost use Rattle.mb_queue.specs.Takes.{EachOnce};
 
 use super::{FAR, NEAR, control, pushed, queue, ranked, taken, user};
 use crate::{Kind, SendPass, TakePass};
@@ -21,7 +24,7 @@ const TURNS: u64 = 100_000_000;
 /// An envelope of a thread's: of even numbers control messages where `has_control`, else user messages of kind 9, and of
 /// odd numbers user messages of kind 1.
 fn nth(by: SenderId, number: u64, has_control: bool) -> Envelope
-    ensures { result.by ≡ by }
+    ensures { (result.by ≡ by) × (result.to.0 ≡ 2) }
 {
     if number % 2 == 1 {
         user(by, number, 1, 0)
@@ -34,8 +37,8 @@ fn nth(by: SenderId, number: u64, has_control: bool) -> Envelope
 
 /// Pushes all of one sender, each as often as it takes.
 fn push_all<R: Wait>(rt: &R, mut pass: SendPass, by: SenderId, has_control: bool) -> SendPass
-    requires { pass.by ≡ by.0 }
-    ensures { result.queue ≡ pass.queue }
+    requires { (pass.by ≡ by.0) × (pass.queue.to ≡ 2) }
+    ensures { (result.queue ≡ pass.queue) × (result.by ≡ pass.by) }
 {
     for number in 0..EACH {
         push_one(rt, &mut pass, nth(by, number, has_control));
@@ -44,7 +47,7 @@ fn push_all<R: Wait>(rt: &R, mut pass: SendPass, by: SenderId, has_control: bool
 }
 
 fn push_one<R: Wait>(rt: &R, pass: &mut SendPass, envelope: Envelope)
-    requires { envelope.by.0 ≡ pass.old.by }
+    requires { (envelope.by.0 ≡ pass.old.by) × (envelope.to.0 ≡ pass.old.queue.to) }
     ensures { (pass.new.queue ≡ pass.old.queue) × (pass.new.by ≡ pass.old.by) }
 {
     for _turn in 0..TURNS {
@@ -77,32 +80,37 @@ fn take_all<R: Wait>(
     (take, into)
 }
 
-/// Two threads push and a third takes; then the passes are joined, and nothing is left. What was taken comes back.
+/// Two threads push and a third takes; then the passes are joined, and nothing is left. So of both senders each envelope
+/// was taken once, first in, first out in the sender's order. What was taken comes back.
 fn run_three<R: Threads + Wait + Abort + Sync>(
     rt: &R,
     alloc: Global,
     kind: Kind,
     has_control: bool,
-) -> Result<Vec<Envelope>, AllocError>
+) -> Result<(TakePass, Vec<Envelope>), AllocError>
     requires { IsMakeable kind }
+    ensures each_once { IfOk result (λ r. AllJoined r.0 × EachOnce r.0) }
+    ensures in_order { IfOk result (λ r. r.0.turns ≡ first_in_first_out → InOrder r.0) }
 {
     let (take, near, far) = queue(alloc, kind)?;
     let into = Vec::with_capacity(alloc, 2 * EACH as usize)?;
     let (near, (far, (mut take, all))) = thread::join(
         rt,
         move ||
-            requires { near.by ≡ 1 }
-            ensures { result.queue ≡ near.queue }
+            requires { (near.by ≡ 1) × (near.queue.to ≡ 2) }
+            ensures { (result.queue ≡ near.queue) × (result.by ≡ near.by) }
         { push_all(rt, near, NEAR, has_control) },
         move ||
-            requires { far.by ≡ 64 }
-            ensures { (result.0.queue ≡ far.queue) × (result.1.0.queue ≡ take.queue) }
+            requires { (far.by ≡ 64) × (far.queue.to ≡ 2) }
+            ensures { (result.0.queue ≡ far.queue) × (result.0.by ≡ far.by) × (result.1.0.queue ≡ take.queue) }
         { push_and_take(rt, far, take, into, has_control) },
     );
     take.join(near);
     take.join(far);
-    assert_eq!(rt; taken(rt, &mut take), None);
-    Ok(all)
+    let None = take.take(rt) else {
+        panic!(rt; "an envelope is left");
+    };
+    Ok((take, all))
 }
 
 /// The second sender and the taker, each on its thread.
@@ -113,14 +121,14 @@ fn push_and_take<R: Threads + Wait + Abort + Sync>(
     into: Vec<Envelope>,
     has_control: bool,
 ) -> (SendPass, (TakePass, Vec<Envelope>))
-    requires { far.by ≡ 64 }
-    ensures { (result.0.queue ≡ far.queue) × (result.1.0.queue ≡ take.queue) }
+    requires { (far.by ≡ 64) × (far.queue.to ≡ 2) }
+    ensures { (result.0.queue ≡ far.queue) × (result.0.by ≡ far.by) × (result.1.0.queue ≡ take.queue) }
 {
     thread::join(
         rt,
         move ||
-            requires { far.by ≡ 64 }
-            ensures { result.queue ≡ far.queue }
+            requires { (far.by ≡ 64) × (far.queue.to ≡ 2) }
+            ensures { (result.queue ≡ far.queue) × (result.by ≡ far.by) }
         { push_all(rt, far, FAR, has_control) },
         move ||
             ensures { result.0.queue ≡ take.queue }
@@ -151,7 +159,7 @@ fn first_in_first_out_among_threads(rt: HostRuntime) -> Result<(), Fail> {
             None => Kind::Unbounded,
             Some(_) => Kind::Bounded(16),
         };
-        let all = run_three(&rt, rt.alloc(), kind, false)?;
+        let (_, all) = run_three(&rt, rt.alloc(), kind, false)?;
         assert_eq!(rt; all.len() as u64, 2 * EACH);
         assert!(rt; is_in_order(&all, NEAR, 0, 1));
         assert!(rt; is_in_order(&all, FAR, 0, 1));
@@ -161,14 +169,14 @@ fn first_in_first_out_among_threads(rt: HostRuntime) -> Result<(), Fail> {
 
 #[test]
 fn by_rank_among_threads(rt: HostRuntime) -> Result<(), Fail> {
-    let all = run_three(&rt, rt.alloc(), ranked(rt.alloc())?, false)?;
+    let (_, all) = run_three(&rt, rt.alloc(), ranked(rt.alloc())?, false)?;
     assert_in_order_of_parts(&rt, &all);
     Ok(())
 }
 
 #[test]
 fn control_first_among_threads(rt: HostRuntime) -> Result<(), Fail> {
-    let all = run_three(&rt, rt.alloc(), Kind::Control, true)?;
+    let (_, all) = run_three(&rt, rt.alloc(), Kind::Control, true)?;
     assert_in_order_of_parts(&rt, &all);
     Ok(())
 }

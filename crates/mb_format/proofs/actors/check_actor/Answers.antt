@@ -12,5 +12,6 @@ returns-in-Some c =
     let P : Around → Type 0 = λ a. Finds c.check_actor_table.result
     (actor_table_check a (path_text (Actor (c.args.earlier + 1))) (table_view c.in-Some.table.now)) in
     let Q : Option Members → Type 0 = λ o. Finds c.check_actor_table.result
-    (entry_check (actor_table_check (around_actor (map kin_data c.args.kin.now) c.args.earlier (view c.args.value.now))) (codes "actor") c.args.earlier o) in
+    (entry_check (actor_table_check (around_actor (map kin_data c.args.kin.now) c.args.earlier (view c.args.value.now)))
+    (codes "actor") c.args.earlier o) in
     subst Q c.in-Some.ensures (subst P c.context_of-context.ensures c.check_actor_table.ensures)

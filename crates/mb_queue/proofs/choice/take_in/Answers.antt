@@ -6,7 +6,8 @@ use Rattle.mb_queue.proofs.TakenIn.{one_more, still_taker}
 use Rattle.mb_queue.proofs.choice.take_in.Goals as goal
 
 pub loop-choice-smaller : goal.loop-choice-smaller
-loop-choice-smaller g c = let most = c.if-is_full.ensures.most in let not : length c.loop-choice.choice.waiting ≡ 1024 → ⊥ = λ e. (let h : false ≡ true = c.if-is_full.ensures.full.1 e in cc) in
+loop-choice-smaller g c = let most = c.if-is_full.ensures.most in let not : length c.loop-choice.choice.waiting ≡ 1024
+    → ⊥ = λ e. (let h : false ≡ true = c.if-is_full.ensures.full.1 e in cc) in
     omega (arith, not, most, length_permutation _ _ c.if-not-take_one_in.ensures.held)
 
 pub loop-choice-preserved : goal.loop-choice-preserved

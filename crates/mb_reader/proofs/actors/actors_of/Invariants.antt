@@ -1,7 +1,7 @@
 use Rattle.std.proofs.Common.{◌≡◌, ◌++◌, drop, map}
 use Rattle.toml.specs.View.{items_view}
 use Rattle.mb_format.specs.Context.{kin_data}
-use Rattle.mb_reader.specs.Plans.{actor_of}
+use Rattle.mb_reader.specs.Plans.{planned_actor}
 use Rattle.mb_reader.specs.View.{actor_data}
 use Rattle.mb_reader.specs.Fields.{map_items}
 use Rattle.mb_reader.proofs.actors.actors_of.Given as goal
@@ -9,5 +9,5 @@ use Rattle.mb_reader.proofs.actors.actors_of.Given as goal
 -- those so far and those that are left are all
 abbrev pub invariant-loop-value : goal.invariant-loop-value
 invariant-loop-value l =
-    map actor_data l.actors.items ++ map_items (actor_of (map kin_data l.kin)) (items_view (drop l.value-index l.values))
-    ≡ map_items (actor_of (map kin_data l.kin)) (items_view l.values)
+    map actor_data l.actors.items ++ map_items (planned_actor (map kin_data l.kin)) (items_view (drop l.value-index l.values))
+    ≡ map_items (planned_actor (map kin_data l.kin)) (items_view l.values)

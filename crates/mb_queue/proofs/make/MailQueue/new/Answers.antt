@@ -14,7 +14,8 @@ loop-sender-init c = (ap (λ a. record c.in_ok-take.take { accounts = a }) c.in_
 
 pub lend-requires-clause-known : goal.lend-requires-clause-known
 lend-requires-clause-known c = let i = c.loop-sender.sender-index in let all = c.args.senders.now in
-    subst (λ l. Contains l (this all i c.loop-sender-test.true)) (sym (ap (λ (t : Taking). t.queue.senders) c.loop-sender.invariant.0 ∙ c.in_ok-take.ensures.empty.senders_are))
+    subst (λ l. Contains l (this all i c.loop-sender-test.true))
+    (sym (ap (λ (t : Taking). t.queue.senders) c.loop-sender.invariant.0 ∙ c.in_ok-take.ensures.empty.senders_are))
     (this_known all i c.loop-sender-test.true)
 
 pub lend-requires-clause-home : goal.lend-requires-clause-home
@@ -23,19 +24,32 @@ lend-requires-clause-home c = let i = c.loop-sender.sender-index in let all = c.
     (this_home all i c.loop-sender-test.true c.requires.distinct)
 
 pub loop-sender-preserved : goal.loop-sender-preserved
-loop-sender-preserved c = let i = c.loop-sender.sender-index in let all = c.args.senders.now in let t = c.in_ok-take.take in let at = c.loop-sender-test.true in
+loop-sender-preserved c = let i = c.loop-sender.sender-index in let all = c.args.senders.now in let t = c.in_ok-take.take in
+    let at = c.loop-sender-test.true in
     let q = ap (λ (x : Taking). x.queue) c.loop-sender.invariant.0 in (
       c.in_ok-rest.ensures.0 ∙ ap (λ (x : Taking). record x { accounts = x.accounts ++ lent (this all i at) ∷ [] }) c.loop-sender.invariant.0
           ∙ ap (λ a. record t { accounts = a }) (sym (map_more all i at lent)),
-      c.in_ok-push.ensures.items ∙ (λ k. c.loop-sender.invariant.1 k ++ (c.in_ok-rest.ensures.1 ∙ ap (λ x. unused x (this all i at)) q) k ∷ []) ∙ sym (map_more all i at (unused t.queue)),
+      c.in_ok-push.ensures.items ∙ (λ k. c.loop-sender.invariant.1 k ++ (c.in_ok-rest.ensures.1 ∙ ap (λ x. unused x (this all i at)) q) k ∷ [])
+          ∙ sym (map_more all i at (unused t.queue)),
     )
 
 pub returns : goal.returns
 returns c = let i = c.loop-sender.sender-index in let all = c.args.senders.now in let t = c.in_ok-take.take in
-    let whole : take i (numbers_of all) ≡ numbers_of all = take_all i (numbers_of all) (omega (arith, length-map all (λ (s : SenderId). s.0), c.loop-sender-test.false)) in
+    let whole : take i (numbers_of all) ≡ numbers_of all =
+    take_all i (numbers_of all) (omega (arith, length-map all (λ (s : SenderId). s.0), c.loop-sender-test.false)) in
     let is = c.loop-sender.invariant.0 ∙ ap (λ l. record t { accounts = map lent l }) whole in
     let e = c.in_ok-take.ensures.empty in record {
-      empty = subst (IsEmpty c.args.kind (numbers_of all)) (sym is) (record { senders_are = e.senders_are; turns = e.turns; bound = e.bound; arrived = e.arrived; waiting = e.waiting; taken = e.taken });
+      empty = subst (IsEmpty c.args.kind c.args.to.0 (numbers_of all)) (sym is)
+          (record {
+            senders_are = e.senders_are;
+            actor = e.actor;
+            turns = e.turns;
+            bound = e.bound;
+            arrived = e.arrived;
+            waiting = e.waiting;
+            taken =
+                e.taken;
+          });
       accounts = ap (λ (x : Taking). x.accounts) is;
       passes = c.loop-sender.invariant.1 ∙ (λ k. map (unused ((sym (ap (λ (x : Taking). x.queue) is)) k)) (whole k));
     }

@@ -1,0 +1,138 @@
+//! How queues are timed.
+use std::alloc::{AllocError, Global};
+use std::io;
+use std::sync::Wait;
+use std::thread::Threads;
+use std::time::{Clock, Instant};
+
+/// How many laps are timed, and how many pushes and takes a lap has.
+#[derive(Clone, Copy)]
+pub struct Course {
+    laps: u64,
+    rounds: u64,
+}
+
+/// On one thread a lap is so short that little falls into it.
+pub const ALONE: Course = Course {
+    laps: 400,
+    rounds: 1_000,
+};
+
+/// With two threads it is so long that to start them costs little beside it.
+pub const PAIRED: Course = Course {
+    laps: 25,
+    rounds: 10_000,
+};
+
+/// How often a thread tries before it gives up.
+pub const TRIES: u64 = 100_000_000;
+
+/// A queue that laps can be timed on.
+pub trait Lapped: Drop {
+    /// So many pushes and takes. It gives itself back and how many were taken.
+    fn lap<R: Threads + Wait + Sync>(self, rt: &R, rounds: u64) -> (Self, u64);
+}
+
+/// How many were taken in all, and the nanoseconds of each lap.
+#[derive(Drop)]
+struct Laps {
+    taken: u64,
+    times: Vec<u64>,
+}
+
+impl Laps {
+    fn new(alloc: Global) -> Laps {
+        Laps {
+            taken: 0,
+            times: Vec::new(alloc),
+        }
+    }
+
+    fn add(&mut self, taken: u64, time: u64) -> Result<(), AllocError> {
+        self.taken = self.taken.wrapping_add(taken);
+        self.times.push(time)?;
+        Ok(())
+    }
+
+    /// The median, for one push with its take.
+    fn each(&mut self, rounds: u64) -> u64 {
+        self.times.sort_unstable();
+        let middle = self.times.len() / 2;
+        let median = self.times.get(middle).copied().unwrap_or(0);
+        median.checked_div(rounds).unwrap_or(0)
+    }
+}
+
+/// Times one lap.
+fn timed<R: Clock + Threads + Wait + Sync, Q: Lapped>(
+    rt: &R,
+    queue: Q,
+    rounds: u64,
+    laps: &mut Laps,
+) -> Result<Q, AllocError> {
+    let begin = Instant::now(rt).ok();
+    let (queue, taken) = queue.lap(rt, rounds);
+    laps.add(taken, elapsed(rt, begin))?;
+    Ok(queue)
+}
+
+/// The nanoseconds since then; 0 where the system does not say.
+fn elapsed<R: Clock>(rt: &R, begin: Option<Instant>) -> u64 {
+    let Some(begin) = begin else {
+        return 0;
+    };
+    match begin.elapsed(rt) {
+        Ok(time) => u64::try_from(time.as_nanos()).unwrap_or(0),
+        Err(_) => 0,
+    }
+}
+
+/// Times a queue of a mailbox and a plain one in turn, and tells both.
+pub(crate) fn compare<R, A: Lapped, B: Lapped>(
+    rt: &R,
+    alloc: Global,
+    course: Course,
+    what: &str,
+    mut ours: A,
+    mut plain: B,
+) -> io::Result<()>
+where
+    R: Clock + Threads + Wait + Sync + Print + Eprint,
+{
+    let mut our_laps = Laps::new(alloc);
+    let mut plain_laps = Laps::new(alloc);
+    for _ in 0..course.laps {
+        ours = timed(rt, ours, course.rounds, &mut our_laps)?;
+        plain = timed(rt, plain, course.rounds, &mut plain_laps)?;
+    }
+    println!(rt;
+        "{what}: {} taken, plain {} taken",
+        our_laps.taken, plain_laps.taken
+    )?;
+    let (ours, plain) = (our_laps.each(course.rounds), plain_laps.each(course.rounds));
+    let _ = eprintln!(rt; "{what}: {ours} ns a push with its take, plain {plain} ns");
+    Ok(())
+}
+
+/// Times one queue.
+pub(crate) fn measure<R, A: Lapped>(
+    rt: &R,
+    alloc: Global,
+    course: Course,
+    what: &str,
+    mut ours: A,
+) -> io::Result<()>
+where
+    R: Clock + Threads + Wait + Sync + Print + Eprint,
+{
+    let mut laps = Laps::new(alloc);
+    for _ in 0..course.laps {
+        ours = timed(rt, ours, course.rounds, &mut laps)?;
+    }
+    println!(rt; "{what}: {} taken", laps.taken)?;
+    let _ = eprintln!(rt;
+        "{what}: {} ns a push with its take",
+        laps.each(course.rounds)
+    );
+    Ok(())
+}

@@ -1,0 +1,77 @@
+-- The worked scenario: what it says of a whole small document is computed from the definitions.
+use Rattle.std.proofs.Common.{◌≡◌, ℕ, pos, negsuc, List, [], ◌∷◌, codes, Option, Some, None, option_map, false, true, refl}
+use Rattle.std.specs.Fmt.{digits}
+use Rattle.toml.proofs.OnLiterals.{toml_on_literals}
+use Rattle.toml.specs.Parse.{parse_document}
+use Rattle.mb_journal.specs.declared.strategy.Pattern.TheVariants.{AnyError}
+use Rattle.mb_msg.specs.declared.envelope.Body.TheVariants.{User}
+use Rattle.mb_msg.specs.declared.supervision.Directive.TheVariants.{Resume}
+use Rattle.mb_plan.specs.declared.plan.Pool.TheVariants.{Shared, Stealing}
+use Rattle.mb_script.specs.declared.operation.Operation.TheVariants.{Add, Spawn}
+use Rattle.mb_reader.specs.Plans.{ScenarioData, StrategyData, scenario_of, unbounded, bounded}
+use Rattle.mb_reader.specs.declared.scenario.What.TheVariants.{Envelope, Stop}
+
+-- the scenario that a text is, where it is a document
+abbrev says : List ℕ → Option ScenarioData
+says text = option_map scenario_of (parse_document text)
+
+-- where an actor has no rows, a child that fails with an error is started afresh without a limit
+abbrev no_strategy : StrategyData
+no_strategy = record { rows = []; retries = negsuc 0; all_for_one = false }
+
+counter : says (codes "workers = 0\n[[actor]]\nname = \"a\"\n[[actor.on]]\nkind = 1\ndo = [\"add\"]\n[[send]]\nto = \"a\"\nkind = 1\nvalue = 7\n")
+    ≡ Some (record {
+      plan = record {
+        throughput = 5;
+        workers = 1;
+        pool = Shared;
+        senders = 1;
+        journal_limit = 4294967295;
+        actors = record { parent = record { 0 = 0 }; mailbox = unbounded; strategy = no_strategy } ∷ [];
+      };
+      names = codes "a" ∷ [];
+      scripts = record {
+        script = record {
+          initial = pos 0;
+          start = [];
+          restart = [];
+          stop = [];
+          terminated = None;
+          rows = record { kind = 1; operations = Add ∷ [] } ∷ [];
+        };
+        state = pos 0;
+      } ∷ [];
+      sends = record { from = 0; to = record { 0 = 1 }; what = Envelope (User 1 (pos 7)); times = 1 } ∷ [];
+      quiet = true;
+    })
+unfolding toml_on_literals digits
+counter = refl
+
+-- a parent and its child, with other values than those that stand for absent keys
+family : says (codes "throughput = 2\npool = \"stealing\"\n[[actor]]\nname = \"p\"\nstart = [\"spawn c\"]\nretries = 3\n[[actor.strategy]]\ncause = \"error\"\nthen = \"resume\"\n[[actor]]\nname = \"c\"\nparent = \"p\"\nmailbox = \"bounded\"\ncapacity = 8\ninitial = -1\n[[send]]\nfrom = 2\nto = \"guardian\"\nwhat = \"stop\"\ntimes = 9\n")
+    ≡ Some (record {
+      plan = record {
+        throughput = 2;
+        workers = 1;
+        pool = Stealing;
+        senders = 3;
+        journal_limit = 4294967295;
+        actors = record {
+          parent = record { 0 = 0 };
+          mailbox = unbounded;
+          strategy = record { rows = (AnyError, Resume) ∷ []; retries = pos 3; all_for_one = false };
+        } ∷ record { parent = record { 0 = 1 }; mailbox = bounded 8; strategy = no_strategy } ∷ [];
+      };
+      names = codes "p" ∷ codes "c" ∷ [];
+      scripts = record {
+        script = record { initial = pos 0; start = Spawn (record { 0 = 2 }) ∷ []; restart = []; stop = []; terminated = None; rows = [] };
+        state = pos 0;
+      } ∷ record {
+        script = record { initial = negsuc 0; start = []; restart = []; stop = []; terminated = None; rows = [] };
+        state = negsuc 0;
+      } ∷ [];
+      sends = record { from = 2; to = record { 0 = 0 }; what = Stop; times = 9 } ∷ [];
+      quiet = false;
+    })
+unfolding toml_on_literals digits
+family = refl

@@ -1,0 +1,166 @@
+//! The keys of an actor: each reason that can come, and what may stand.
+
+use super::{behind, told, told_of_actor};
+use std::test::Fail;
+
+#[test]
+fn tells_the_faults_of_names(rt: HostRuntime) -> Result<(), Fail> {
+    let alloc = rt.alloc();
+    let cases = [
+        ("{}", "actor 1 name: missing"),
+        ("{ name = 1 }", "actor 1 name: wrong type"),
+        ("{ name = [\"a\"] }", "actor 1 name: wrong type"),
+        ("{ name = \"\" }", "actor 1 name: out of range"),
+        ("{ name = \"A\" }", "actor 1 name: out of range"),
+        ("{ name = \"1a\" }", "actor 1 name: out of range"),
+        ("{ name = \"_a\" }", "actor 1 name: out of range"),
+        ("{ name = \"a-b\" }", "actor 1 name: out of range"),
+        ("{ name = \"a b\" }", "actor 1 name: out of range"),
+        ("{ name = \"guardian\" }", "actor 1 name: out of range"),
+        ("{ name = \"guardians\" }", ""),
+        ("{ name = \"z_9\" }", ""),
+        ("{ name = \"abcdefghijklmnopqrstuvwxyz_01234\" }", ""),
+        (
+            "{ name = \"abcdefghijklmnopqrstuvwxyz_012345\" }",
+            "actor 1 name: out of range",
+        ),
+        (
+            "{ name = \"a\" }, { name = \"b\" }, { name = \"a\" }",
+            "actor 3 name: repeated name",
+        ),
+        ("{ name = \"a\" }, { name = \"ab\" }", ""),
+    ];
+    for (entries, expected) in &cases {
+        let text = format!(in alloc; "actor = [{entries}]")?;
+        let found = told(alloc, text.as_bytes())?;
+        assert_eq!(rt; behind(found.as_str()), *expected);
+    }
+    Ok(())
+}
+
+#[test]
+fn tells_the_faults_of_parents(rt: HostRuntime) -> Result<(), Fail> {
+    let alloc = rt.alloc();
+    let cases = [
+        ("parent = 1", "actor 1 parent: wrong type"),
+        ("parent = \"B\"", "actor 1 parent: out of range"),
+        ("parent = \"\"", "actor 1 parent: out of range"),
+        ("parent = \"Guardian\"", "actor 1 parent: out of range"),
+        // Itself, one that comes later, and one that is not there.
+        ("parent = \"a\"", "actor 1 parent: unknown name"),
+        ("parent = \"b\"", "actor 1 parent: unknown name"),
+        ("parent = \"c\"", "actor 1 parent: unknown name"),
+        ("parent = \"guardian\"", ""),
+        ("", ""),
+    ];
+    for (lines, expected) in &cases {
+        let found = told_of_actor(alloc, lines)?;
+        assert_eq!(rt; behind(found.as_str()), *expected);
+    }
+    Ok(())
+}
+
+#[test]
+fn tells_the_faults_of_mailboxes(rt: HostRuntime) -> Result<(), Fail> {
+    let alloc = rt.alloc();
+    let cases = [
+        ("mailbox = true", "actor 1 mailbox: wrong type"),
+        ("mailbox = \"big\"", "actor 1 mailbox: out of range"),
+        ("mailbox = \"\"", "actor 1 mailbox: out of range"),
+        ("mailbox = \"unbounded\"", ""),
+        ("mailbox = \"control\"", ""),
+        ("mailbox = \"bounded\"", "actor 1 capacity: missing"),
+        ("capacity = 1", "actor 1 capacity: not allowed"),
+        (
+            "mailbox = \"control\"\ncapacity = 1",
+            "actor 1 capacity: not allowed",
+        ),
+        ("capacity = \"1\"", "actor 1 capacity: wrong type"),
+        (
+            "mailbox = \"bounded\"\ncapacity = -1",
+            "actor 1 capacity: out of range",
+        ),
+        (
+            "mailbox = \"bounded\"\ncapacity = 65537",
+            "actor 1 capacity: out of range",
+        ),
+        ("mailbox = \"bounded\"\ncapacity = 1", ""),
+        ("mailbox = \"bounded\"\ncapacity = 65536", ""),
+        ("rank = 1", "actor 1 rank: wrong type"),
+        ("rank = []", "actor 1 rank: not allowed"),
+        (
+            "mailbox = \"bounded\"\ncapacity = 1\nrank = []",
+            "actor 1 rank: not allowed",
+        ),
+        ("mailbox = \"priority\"\nrank = []", ""),
+        ("mailbox = \"priority\"", ""),
+        ("other = \"1\"", "actor 1 other: wrong type"),
+        ("other = 1", "actor 1 other: not allowed"),
+        (
+            "mailbox = \"priority\"\nother = -1",
+            "actor 1 other: out of range",
+        ),
+        (
+            "mailbox = \"priority\"\nother = 4294967296",
+            "actor 1 other: out of range",
+        ),
+        ("mailbox = \"priority\"\nother = 0", ""),
+        ("mailbox = \"priority\"\nother = 4294967295", ""),
+    ];
+    for (lines, expected) in &cases {
+        let found = told_of_actor(alloc, lines)?;
+        assert_eq!(rt; behind(found.as_str()), *expected);
+    }
+    Ok(())
+}
+
+#[test]
+fn tells_the_faults_of_what_actors_do(rt: HostRuntime) -> Result<(), Fail> {
+    let alloc = rt.alloc();
+    let cases = [
+        ("initial = \"0\"", "actor 1 initial: wrong type"),
+        ("initial = 1.5", "actor 1 initial: wrong type"),
+        ("initial = -9223372036854775808", ""),
+        ("initial = 9223372036854775808", "11 NotToml"),
+        ("start = \"ignore\"", "actor 1 start: wrong type"),
+        ("start = [\"ignore\", 1]", "actor 1 start 2: wrong type"),
+        ("start = [\"add\"]", "actor 1 start 1: bad op"),
+        ("start = [\"stop c\"]", "actor 1 start 1: unknown name"),
+        ("start = []", ""),
+        ("restart = 1", "actor 1 restart: wrong type"),
+        ("restart = [[]]", "actor 1 restart 1: wrong type"),
+        ("restart = [\"add\"]", "actor 1 restart 1: bad op"),
+        (
+            "restart = [\"watch b\", \"watch c\"]",
+            "actor 1 restart 2: unknown name",
+        ),
+        ("stop = {}", "actor 1 stop: wrong type"),
+        ("stop = [true]", "actor 1 stop 1: wrong type"),
+        ("stop = [\"ignore\", \"add\"]", "actor 1 stop 2: bad op"),
+        ("stop = [\"tell c 1\"]", "actor 1 stop 1: unknown name"),
+        ("terminated = 1", "actor 1 terminated: wrong type"),
+        ("terminated = [1.5]", "actor 1 terminated 1: wrong type"),
+        ("terminated = [\"add\"]", "actor 1 terminated 1: bad op"),
+        (
+            "terminated = [\"unwatch c\"]",
+            "actor 1 terminated 1: unknown name",
+        ),
+        ("terminated = []", ""),
+        ("on = 1", "actor 1 on: wrong type"),
+        ("on = []", ""),
+        ("strategy = \"any\"", "actor 1 strategy: wrong type"),
+        ("strategy = []", ""),
+        ("retries = \"1\"", "actor 1 retries: wrong type"),
+        ("retries = -9223372036854775808", ""),
+        ("all_for_one = 1", "actor 1 all_for_one: wrong type"),
+        ("all_for_one = true\nretries = -5", ""),
+        ("zone = 1", "actor 1 zone: unknown key"),
+        ("Zone = 1", "actor 1 ?: unknown key"),
+        ("guardian = 1", "actor 1 ?: unknown key"),
+    ];
+    for (lines, expected) in &cases {
+        let found = told_of_actor(alloc, lines)?;
+        assert_eq!(rt; behind(found.as_str()), *expected);
+    }
+    Ok(())
+}
