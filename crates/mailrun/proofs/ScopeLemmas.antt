@@ -1,5 +1,5 @@
 -- What is so of a scenario that can be run.
-use Rattle.std.proofs.Common.{◌≡◌, ℕ, ◌+◌, ◌<◌, Bool, true, false, ◌&&◌, List, [], ◌∷◌, length, map, refl, ap, sym, ◌∙◌, subst, arith}
+use Rattle.std.proofs.Common.{◌≡◌, ℕ, ◌+◌, ◌<◌, Bool, true, ◌&&◌, ◌==◌, List, [], ◌∷◌, length, map, refl, ap, sym, ◌∙◌, subst, arith}
 use Rattle.std.specs.List.{list_all}
 use Rattle.std.proofs.lemmas.Bool.{eqb-true, ltb-true}
 use Rattle.toml.specs.Data.{Data, Items, no_items, item}
@@ -9,7 +9,7 @@ use Rattle.mb_reader.specs.Plans.{ScenarioData}
 use Rattle.mb_reader.specs.Reading.{IsReadAs}
 use Rattle.mb_reader.specs.Scripts.{scripted_of}
 use Rattle.mb_script.specs.Script.{Scripted}
-use Rattle.mailrun.specs.Scope.{adds_alone, can_run, is_plain_send}
+use Rattle.mailrun.specs.Scope.{adds_alone, can_run, has_room, is_of_one, is_plain, is_plain_actor, is_plain_send}
 use Rattle.mailrun.proofs.ScriptLemmas.{and-true}
 
 pub record Runs (scenario : ScenarioData) : Type 0 where
@@ -22,20 +22,21 @@ pub record Runs (scenario : ScenarioData) : Type 0 where
 
 pub runs : (scenario : ScenarioData) → can_run scenario ≡ true → Runs scenario
 runs scenario can =
-    let a = and-true _ _ can in
-    let b = and-true _ _ a.1 in
-    let c = and-true _ _ b.1 in
-    let d = and-true _ _ c.1 in
-    let e = and-true _ _ d.1 in
-    let f = and-true _ _ e.1 in
-    let h = and-true _ _ f.1 in
+    let outer = and-true (scenario.quiet && is_of_one scenario && is_plain scenario) (has_room scenario) can in
+    let middle = and-true (scenario.quiet && is_of_one scenario) (is_plain scenario) outer.0 in
+    let one = (and-true scenario.quiet (is_of_one scenario) middle.0).1 in
+    let ones = and-true (length scenario.plan.actors == 1 && length scenario.names == 1) (length scenario.scripts == 1) one in
+    let first = and-true (length scenario.plan.actors == 1) (length scenario.names == 1) ones.0 in
+    let plain = and-true (list_all is_plain_actor scenario.plan.actors && list_all (λ (s : Scripted). adds_alone s.script) scenario.scripts)
+    (list_all is_plain_send scenario.sends) middle.1 in
+    let adds = and-true (list_all is_plain_actor scenario.plan.actors) (list_all (λ (s : Scripted). adds_alone s.script) scenario.scripts) plain.0 in
     record {
-      one_actor = eqb-true _ _ b.0;
-      one_name = eqb-true _ _ c.0;
-      one_script = eqb-true _ _ d.0;
-      adds = f.0;
-      plain = h.0;
-      room = ltb-true _ _ h.1;
+      one_actor = eqb-true _ _ first.0;
+      one_name = eqb-true _ _ first.1;
+      one_script = eqb-true _ _ ones.1;
+      adds = adds.1;
+      plain = plain.1;
+      room = ltb-true _ _ outer.1;
     }
 
 -- the only script adds alone

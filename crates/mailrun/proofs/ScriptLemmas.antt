@@ -14,7 +14,7 @@ use Rattle.mb_script.specs.Script.{RowData, ScriptData, Work, answer_to, answer_
 use Rattle.mb_script.specs.declared.operation.Operation.{Operation}
 use Rattle.mb_script.specs.declared.operation.Operation.TheVariants as operation
 use Rattle.mailrun.specs.Calm.{IsQuiet}
-use Rattle.mailrun.specs.Scope.{adds_alone, are_adds, is_add, is_nothing}
+use Rattle.mailrun.specs.Scope.{adds_alone, are_adds, has_no_hooks, is_add, is_nothing}
 
 pub and-true : (a b : Bool) → (a && b) ≡ true → (a ≡ true) × (b ≡ true)
 and-true true b e = (refl, e)
@@ -53,16 +53,17 @@ abbrev IsAdding : Option Work → Type 0
 IsAdding None = Unit {0}
 IsAdding (Some work) = list_all is_add work.operations ≡ true
 
+adding_first : (row : RowData) (rows : List RowData) (kind : ℕ) (value : ℤ) → list_all is_add row.operations ≡ true →
+    IsAdding (work_of_kind rows kind value) → (b : Bool) →
+    IsAdding (option_map (λ (r : RowData). work_with value r.operations) (if b then Some row else row_for kind rows))
+adding_first row rows kind value here there true = here
+adding_first row rows kind value here there false = there
+
 adding-row : (rows : List RowData) → are_adds rows ≡ true → (kind : ℕ) (value : ℤ) → IsAdding (work_of_kind rows kind value)
 adding-row [] all kind value = tt
-adding-row (row ∷ rows) all kind value = by_test (row.kind == kind)
-  where
-    both : (list_all is_add row.operations ≡ true) × (are_adds rows ≡ true)
-    both = and-true (list_all is_add row.operations) (are_adds rows) all
-
-    by_test : (b : Bool) → IsAdding (option_map (λ (r : RowData). work_with value r.operations) (if b then Some row else row_for kind rows))
-    by_test true = both.0
-    by_test false = adding-row rows both.1 kind value
+adding-row (row ∷ rows) all kind value =
+    let both = and-true (list_all is_add row.operations) (are_adds rows) all in
+    adding_first row rows kind value both.0 (adding-row rows both.1 kind value) (row.kind == kind)
 
 adding-none : (f : List Operation → Work) (o : Option (List Operation)) → is_none o ≡ true → IsAdding (option_map f o)
 adding-none f None none = tt
@@ -78,16 +79,16 @@ record Adds (script : ScriptData) : Type 0 where
 
 adds : (script : ScriptData) → adds_alone script ≡ true → Adds script
 adds script alone =
-    let a = and-true _ _ alone in
-    let b = and-true _ _ a.1 in
-    let c = and-true _ _ b.1 in
-    let d = and-true _ _ c.1 in
+    let outer = and-true (has_no_hooks script) (are_adds script.rows) alone in
+    let hooks = and-true (is_nothing script.start && is_nothing script.restart && is_nothing script.stop) (is_none script.terminated) outer.0 in
+    let three = and-true (is_nothing script.start && is_nothing script.restart) (is_nothing script.stop) hooks.0 in
+    let two = and-true (is_nothing script.start) (is_nothing script.restart) three.0 in
     record {
-      start = nothing-adds script.start a.0;
-      restart = nothing-adds script.restart b.0;
-      stop = nothing-adds script.stop c.0;
-      terminated = d.0;
-      rows = d.1;
+      start = nothing-adds script.start two.0;
+      restart = nothing-adds script.restart two.1;
+      stop = nothing-adds script.stop three.1;
+      terminated = hooks.1;
+      rows = outer.1;
     }
 
 adding : (script : ScriptData) → Adds script → (call : Call) → IsAdding (work_for script call)

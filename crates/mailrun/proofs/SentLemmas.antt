@@ -23,7 +23,9 @@ carries (what.Envelope (body.Terminated x)) is = cc
 carries what.Stop is = cc
 
 pub carried_by : (send : Sending) → is_plain_send send ≡ true → (b : Body) × (send.what ≡ what.Envelope b) × IsUser b
-carried_by send plain = carries send.what (and-true _ _ (and-true _ _ (and-true _ _ plain).1).1).0
+carried_by send plain =
+    let three = and-true (send.from == 0 && send.to.0 == 1 && is_message send.what) (send.times == 1) plain in
+    carries send.what (and-true (send.from == 0 && send.to.0 == 1) (is_message send.what) three.0).1
 
 -- the first of plain sends and the others
 pub first_plain : (send : Sending) (sends : List Sending) → list_all is_plain_send (send ∷ sends) ≡ true →

@@ -22,10 +22,13 @@ is_nothing (operation ∷ operations) = false
 abbrev pub are_adds : List RowData → Bool
 are_adds rows = list_all (λ (row : RowData). list_all is_add row.operations) rows
 
+-- the script does nothing at a start, a restart and its end, and handles no end of another
+abbrev pub has_no_hooks : ScriptData → Bool
+has_no_hooks script = is_nothing script.start && is_nothing script.restart && is_nothing script.stop && is_none script.terminated
+
 -- the script adds up what its actor is sent, and does nothing else
 abbrev pub adds_alone : ScriptData → Bool
-adds_alone script =
-    is_nothing script.start && is_nothing script.restart && is_nothing script.stop && is_none script.terminated && are_adds script.rows
+adds_alone script = has_no_hooks script && are_adds script.rows
 
 abbrev pub is_unbounded : KindData → Bool
 is_unbounded unbounded = true
@@ -44,15 +47,21 @@ is_message _ = false
 abbrev pub is_plain_send : Sending → Bool
 is_plain_send send = send.from == 0 && send.to.0 == 1 && is_message send.what && send.times == 1
 
--- a quiet scenario of one actor with an unbounded mailbox, whose script only adds up what the one sender sends it, each
--- message once, and whose journal has room for its start, all that is sent, and one entry more
-abbrev pub can_run : ScenarioData → Bool
-can_run scenario =
-    scenario.quiet
-    && length scenario.plan.actors == 1
-    && length scenario.names == 1
-    && length scenario.scripts == 1
-    && list_all is_plain_actor scenario.plan.actors
-    && list_all (λ (s : Scripted). adds_alone s.script) scenario.scripts
+-- the scenario has one actor
+abbrev pub is_of_one : ScenarioData → Bool
+is_of_one scenario = length scenario.plan.actors == 1 && length scenario.names == 1 && length scenario.scripts == 1
+
+-- its actors, their scripts and what is sent are plain
+abbrev pub is_plain : ScenarioData → Bool
+is_plain scenario =
+    list_all is_plain_actor scenario.plan.actors && list_all (λ (s : Scripted). adds_alone s.script) scenario.scripts
     && list_all is_plain_send scenario.sends
-    && nat_lt (length scenario.sends + 1) scenario.plan.journal_limit
+
+-- a journal has room for a start, all that is sent, and one entry more
+abbrev pub has_room : ScenarioData → Bool
+has_room scenario = nat_lt (length scenario.sends + 1) scenario.plan.journal_limit
+
+-- a quiet scenario of one actor with an unbounded mailbox, whose script only adds up what the one sender sends it, each
+-- message once, and whose journal has room for all of that
+abbrev pub can_run : ScenarioData → Bool
+can_run scenario = scenario.quiet && is_of_one scenario && is_plain scenario && has_room scenario

@@ -1,8 +1,8 @@
 //! What is reported of a run that has come to its end.
 
-ghost use Rattle.std.specs.Prelude.{◌≡◌, [], ◌∷◌, IfOk, false};
+ghost use Rattle.std.specs.Prelude.{◌≡◌, IfOk, false};
 ghost use Rattle.mb_journal.specs.Identity.{is_guardian};
-ghost use Rattle.mailrun.specs.Reported.{AreSenders, IsReportedOf, Reports};
+ghost use Rattle.mailrun.specs.Reported.{IsReportedOf, IsSender, Reports};
 
 use mb_actor::{Actor, Behaviours};
 use mb_cell::Cell;
@@ -24,13 +24,20 @@ pub fn report_on<A: Actor, K: Behaviours>(
     actors.push(actor_report(alloc, guardian, None))?;
     actors.push(actor_report(alloc, cell, state))?;
     let mut senders = Vec::new(alloc);
-    for sent in [0, 0, sent as u64] {
-        senders.push(SenderReport {
-            sent,
-            dead: Vec::new(alloc),
-        })?;
-    }
+    senders.push(sender_report(alloc, 0))?;
+    senders.push(sender_report(alloc, 0))?;
+    senders.push(sender_report(alloc, sent as u64))?;
     Ok(Report { actors, senders })
+}
+
+/// What is reported of a sender that sent so many envelopes, each of which was taken.
+fn sender_report(alloc: Global, sent: u64) -> SenderReport
+    ensures { IsSender sent result }
+{
+    SenderReport {
+        sent,
+        dead: Vec::new(alloc),
+    }
 }
 
 /// What is reported of an actor with this state: nothing is left in its mailbox, nothing is dead.

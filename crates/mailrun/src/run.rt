@@ -1,21 +1,25 @@
-ghost use Rattle.std.specs.Prelude.{◌≡◌, ◌+◌, ◌≤◌, [], true, length, IfOk, Err};
+ghost use Rattle.std.specs.Prelude.{◌≡◌, ◌+◌, ◌≤◌, [], true, length, IfOk, OnOk, IsErrOf, Err};
 ghost use Rattle.std.specs.List.{list_all};
 ghost use Rattle.mb_actor.specs.Behaviour.{AllowsSame};
 ghost use Rattle.mb_reader.specs.View.{strategy_data};
-ghost use Rattle.mailrun.specs.Begun.{the_actor};
+ghost use Rattle.mb_journal.specs.Run.{IsBlock};
+ghost use Rattle.mailrun.specs.Begun.{open_mailbox, the_actor};
 ghost use Rattle.mailrun.specs.Calm.{IsQuiet};
+ghost use Rattle.mailrun.specs.Rest.{IsAtRest, IsKept, world};
 ghost use Rattle.mailrun.specs.Scope.{is_plain_send};
 ghost use Rattle.mailrun.specs.Sent.{bodies, envelope_of, sent};
-ghost use Rattle.mailrun.specs.Told.{IsTold};
+ghost use Rattle.mailrun.specs.Told.{AreRuns, IsTold};
 
 use crate::mailbox::run_mailbox;
 use crate::reporting::report_on;
-use crate::start::{ACTOR, Started, start};
+use crate::start::{ACTOR, start};
 use mb_actor::{Actor, Behaviours};
+use mb_cell::Cell;
 use mb_journal::{ReadyError, Strategy};
 use mb_msg::{Body, Envelope, SenderId, limits};
 use mb_reader::{Sending, What};
 use mb_report::Report;
+use mb_status::Status;
 use std::alloc::{AllocError, Global};
 use std::collections::VecDeque;
 
@@ -61,19 +65,37 @@ pub fn run<A: Actor, K: Behaviours>(
     let Ok(mut envelopes) = post_of(alloc, sends) else {
         return Err(ReadyError::NoMemory);
     };
-    let Started {
-        guardian,
-        mut cell,
-        status,
-    } = start::<A, K>(alloc, actor, strategy, journal_limit)?;
-    run_mailbox(&mut cell, status, &mut envelopes, throughput)?;
-    while !envelopes.is_empty() {
-        run_mailbox(&mut cell, status, &mut envelopes, throughput)?;
-    }
-    match report_on(alloc, guardian, cell, sends.len()) {
+    let mut started = start::<A, K>(alloc, actor, strategy, journal_limit)?;
+    let status = started.status;
+    run_all(&mut started.cell, status, &mut envelopes, throughput)?;
+    match report_on(alloc, started.guardian, started.cell, sends.len()) {
         Ok(report) => Ok(report),
         Err(_) => Err(ReadyError::NoMemory),
     }
+}
+
+/// Runs the mailbox of an actor that was just started, again and again until nothing waits.
+fn run_all<A: Actor, K: Behaviours>(
+    cell: &mut Cell<A, K>,
+    status: Status,
+    envelopes: &mut VecDeque<Envelope>,
+    throughput: u32,
+) -> Result<(), ReadyError>
+    requires rest { IsAtRest (world cell.old envelopes.old.items) }
+    requires started { IsBlock cell.old.who [] cell.old.journal }
+    requires quiet { IsQuiet (K.gives cell.old.who.this.0) }
+    requires open { status ≡ open_mailbox }
+    ensures rest { IsAtRest (world cell.new envelopes.new.items) }
+    ensures kept { IsKept (world cell.old envelopes.old.items) (world cell.new envelopes.new.items) }
+    ensures none_left { OnOk result (envelopes.new.items ≡ []) }
+    ensures runs { OnOk result (AreRuns cell.old.who throughput cell.new.journal) }
+    ensures full { IsErrOf result ReadyError.JournalFull → cell.new.who.limit ≤ length cell.new.journal }
+{
+    run_mailbox(cell, status, envelopes, throughput)?;
+    while !envelopes.is_empty() {
+        run_mailbox(cell, status, envelopes, throughput)?;
+    }
+    Ok(())
 }
 
 /// What waits for the actor before its first run: an envelope for each send.

@@ -3,7 +3,7 @@
 ghost use Rattle.std.specs.Prelude.{◌≡◌};
 ghost use Rattle.std.specs.List.{list_all};
 ghost use Rattle.mb_reader.specs.View.{actor_data, kind_data, scenario_data};
-ghost use Rattle.mailrun.specs.Scope.{adds_alone, can_run, is_add, is_message, is_plain_actor, is_plain_send, is_unbounded};
+ghost use Rattle.mailrun.specs.Scope.{adds_alone, can_run, has_no_hooks, has_room, is_add, is_message, is_of_one, is_plain, is_plain_actor, is_plain_send, is_unbounded};
 
 use mb_msg::Body;
 use mb_plan::{ActorPlan, Kind};
@@ -15,14 +15,30 @@ use mb_script::{Operation, Row, Script};
 pub fn can_run(scenario: &Scenario) -> bool
     ensures { result ≡ can_run (scenario_data scenario.now) }
 {
-    scenario.quiet
-        && scenario.plan.actors.len() == 1
-        && scenario.names.len() == 1
-        && scenario.scripts.len() == 1
-        && are_plain_actors(&scenario.plan.actors)
+    scenario.quiet && is_of_one(scenario) && is_plain(scenario) && has_room(scenario)
+}
+
+/// Whether the scenario has one actor.
+fn is_of_one(scenario: &Scenario) -> bool
+    ensures { result ≡ is_of_one (scenario_data scenario.now) }
+{
+    scenario.plan.actors.len() == 1 && scenario.names.len() == 1 && scenario.scripts.len() == 1
+}
+
+/// Whether its actors, their scripts and what is sent are plain.
+fn is_plain(scenario: &Scenario) -> bool
+    ensures { result ≡ is_plain (scenario_data scenario.now) }
+{
+    are_plain_actors(&scenario.plan.actors)
         && add_alone(&scenario.scripts)
         && are_plain_sends(&scenario.sends)
-        && scenario.sends.len() + 1 < scenario.plan.journal_limit as usize
+}
+
+/// Whether a journal has room for a start, all that is sent, and one entry more.
+fn has_room(scenario: &Scenario) -> bool
+    ensures { result ≡ has_room (scenario_data scenario.now) }
+{
+    scenario.sends.len() + 1 < scenario.plan.journal_limit as usize
 }
 
 /// Whether all actors are plain.
@@ -60,12 +76,18 @@ fn add_alone(scripts: &[Script]) -> bool
 pub fn adds_alone(script: &Script) -> bool
     ensures { result ≡ adds_alone script.now.script }
 {
+    has_no_hooks(script) && are_adds(script.rows())
+}
+
+/// Whether it does nothing at a start, a restart and its end, and handles no end of another.
+fn has_no_hooks(script: &Script) -> bool
+    ensures { result ≡ has_no_hooks script.now.script }
+{
     let hooks = script.hooks();
     hooks.start.is_empty()
         && hooks.restart.is_empty()
         && hooks.stop.is_empty()
         && hooks.terminated.is_none()
-        && are_adds(script.rows())
 }
 
 /// Whether all rows only add.
