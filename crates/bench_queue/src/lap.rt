@@ -18,15 +18,6 @@ pub const ALONE: Course = Course {
     rounds: 1_000,
 };
 
-/// With two threads it is so long that to start them costs little beside it.
-pub const PAIRED: Course = Course {
-    laps: 25,
-    rounds: 10_000,
-};
-
-/// How often a thread tries before it gives up.
-pub const TRIES: u64 = 100_000_000;
-
 /// A queue that laps can be timed on.
 pub trait Lapped: Drop {
     /// So many pushes and takes. It gives itself back and how many were taken.

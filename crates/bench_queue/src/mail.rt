@@ -2,12 +2,11 @@
 ghost use Rattle.std.specs.Prelude.{◌≡◌, ◌<◌};
 ghost use Rattle.mb_queue.specs.Made.{IsMakeable};
 
-use crate::lap::{Lapped, TRIES};
+use crate::lap::Lapped;
 use mb_msg::{ActorId, Body, Envelope, SenderId};
 use mb_queue::{Kind, MailQueue, SendPass, TakePass};
 use std::alloc::{AllocError, Global};
 use std::sync::Wait;
-use std::thread;
 use std::thread::Threads;
 
 /// The one sender.
@@ -80,61 +79,4 @@ impl Lapped for Mail {
         }
         (mail, taken)
     }
-}
-
-/// A queue for two threads, of which one pushes and one takes.
-#[derive(Drop)]
-pub struct MailPair(pub Mail);
-
-impl Lapped for MailPair {
-    fn lap<R: Threads + Wait + Sync>(self, rt: &R, rounds: u64) -> (MailPair, u64) {
-        let MailPair(Mail { take, send }) = self;
-        let (send, (take, taken)) = thread::join(
-            rt,
-            move ||
-                requires { (send.by ≡ 1) × (send.queue.to ≡ 2) }
-                ensures { (result.by ≡ 1) × (result.queue.to ≡ 2) }
-            { push_all(rt, send, rounds) },
-            move || take_all(rt, take, rounds),
-        );
-        (MailPair(Mail { take, send }), taken)
-    }
-}
-
-fn push_all<R: Wait>(rt: &R, send: SendPass, rounds: u64) -> SendPass
-    requires { (send.by ≡ 1) × (send.queue.to ≡ 2) }
-    ensures { (result.by ≡ 1) × (result.queue.to ≡ 2) }
-{
-    let mut send = send;
-    for number in 0..rounds {
-        push_at_last(rt, &mut send, number);
-    }
-    send
-}
-
-fn push_at_last<R: Wait>(rt: &R, send: &mut SendPass, number: u64)
-    requires { (send.old.by ≡ 1) × (send.old.queue.to ≡ 2) }
-    ensures { (send.new.by ≡ 1) × (send.new.queue.to ≡ 2) }
-{
-    for _ in 0..TRIES {
-        if send.push(rt, nth(number)).is_ok() {
-            return;
-        }
-        thread::yield_now();
-    }
-}
-
-fn take_all<R: Wait>(rt: &R, mut take: TakePass, rounds: u64) -> (TakePass, u64) {
-    let mut taken = 0u64;
-    for _ in 0..TRIES {
-        if take.take(rt).is_some() {
-            taken = taken.wrapping_add(1);
-            if taken == rounds {
-                break;
-            }
-        } else {
-            thread::yield_now();
-        }
-    }
-    (take, taken)
 }

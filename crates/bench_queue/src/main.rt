@@ -8,10 +8,10 @@ mod lap;
 mod mail;
 mod plain;
 
-use lap::{ALONE, PAIRED, compare, measure};
-use mail::{Mail, MailPair};
+use lap::{ALONE, compare, measure};
+use mail::Mail;
 use mb_queue::{Kind, RankRow, Ranks};
-use plain::{Bounded, BoundedPair, Unbounded, UnboundedPair};
+use plain::{Bounded, Unbounded};
 use std::alloc::{AllocError, Global};
 use std::io;
 use std::sync::Wait;
@@ -22,8 +22,6 @@ fn main(rt: HostRuntime) -> io::Result<()> {
     let alloc = rt.alloc();
     unbounded(&rt, alloc)?;
     bounded(&rt, alloc)?;
-    unbounded_paired(&rt, alloc)?;
-    bounded_paired(&rt, alloc)?;
     control(&rt, alloc)?;
     priority(&rt, alloc)
 }
@@ -44,24 +42,6 @@ fn bounded<R: Clock + Threads + Wait + Sync + Print + Eprint>(
     let mail = Mail::new(rt, alloc, Kind::Bounded(1_024), 0)?;
     let plain = Bounded::new(alloc)?;
     compare(rt, alloc, ALONE, "bounded", mail, plain)
-}
-
-fn unbounded_paired<R: Clock + Threads + Wait + Sync + Print + Eprint>(
-    rt: &R,
-    alloc: Global,
-) -> io::Result<()> {
-    let mail = MailPair(Mail::new(rt, alloc, Kind::Unbounded, 0)?);
-    let plain = UnboundedPair(Unbounded::new(alloc)?);
-    compare(rt, alloc, PAIRED, "unbounded, two threads", mail, plain)
-}
-
-fn bounded_paired<R: Clock + Threads + Wait + Sync + Print + Eprint>(
-    rt: &R,
-    alloc: Global,
-) -> io::Result<()> {
-    let mail = MailPair(Mail::new(rt, alloc, Kind::Bounded(1_024), 0)?);
-    let plain = BoundedPair(Bounded::new(alloc)?);
-    compare(rt, alloc, PAIRED, "bounded, two threads", mail, plain)
 }
 
 fn control<R: Clock + Threads + Wait + Sync + Print + Eprint>(

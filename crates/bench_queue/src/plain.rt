@@ -1,10 +1,9 @@
 //! The kit's plain queues.
-use crate::lap::{Lapped, TRIES};
+use crate::lap::Lapped;
 use crossbeam_queue::{ArrayQueue, SegQueue};
 use mb_msg::{ActorId, Body, Envelope, SenderId};
 use std::alloc::{AllocError, Global};
 use std::sync::Wait;
-use std::thread;
 use std::thread::Threads;
 
 /// The unbounded one.
@@ -61,88 +60,4 @@ impl Lapped for Bounded {
         }
         (queue, taken)
     }
-}
-
-/// What two threads can use, of which one pushes and one takes.
-trait Shared {
-    fn put<R: Wait>(&self, rt: &R, envelope: Envelope) -> bool;
-
-    fn get<R: Wait>(&self, rt: &R) -> bool;
-}
-
-impl Shared for Unbounded {
-    fn put<R: Wait>(&self, rt: &R, envelope: Envelope) -> bool {
-        self.0.push(rt, envelope).is_ok()
-    }
-
-    fn get<R: Wait>(&self, rt: &R) -> bool {
-        self.0.pop(rt).is_some()
-    }
-}
-
-impl Shared for Bounded {
-    fn put<R: Wait>(&self, rt: &R, envelope: Envelope) -> bool {
-        self.0.push(rt, envelope).is_ok()
-    }
-
-    fn get<R: Wait>(&self, rt: &R) -> bool {
-        self.0.pop(rt).is_some()
-    }
-}
-
-/// The unbounded one for two threads.
-#[derive(Drop)]
-pub struct UnboundedPair(pub Unbounded);
-
-impl Lapped for UnboundedPair {
-    fn lap<R: Threads + Wait + Sync>(self, rt: &R, rounds: u64) -> (UnboundedPair, u64) {
-        let taken = paired(rt, &self.0, rounds);
-        (self, taken)
-    }
-}
-
-/// The one with a bound for two threads.
-#[derive(Drop)]
-pub struct BoundedPair(pub Bounded);
-
-impl Lapped for BoundedPair {
-    fn lap<R: Threads + Wait + Sync>(self, rt: &R, rounds: u64) -> (BoundedPair, u64) {
-        let taken = paired(rt, &self.0, rounds);
-        (self, taken)
-    }
-}
-
-fn paired<R: Threads + Wait + Sync, Q: Shared + Sync>(rt: &R, queue: &Q, rounds: u64) -> u64 {
-    let (_, taken) = thread::join(
-        rt,
-        || put_all(rt, queue, rounds),
-        || get_all(rt, queue, rounds),
-    );
-    taken
-}
-
-fn put_all<R: Wait, Q: Shared>(rt: &R, queue: &Q, rounds: u64) {
-    for number in 0..rounds {
-        for _ in 0..TRIES {
-            if queue.put(rt, nth(number)) {
-                break;
-            }
-            thread::yield_now();
-        }
-    }
-}
-
-fn get_all<R: Wait, Q: Shared>(rt: &R, queue: &Q, rounds: u64) -> u64 {
-    let mut taken = 0u64;
-    for _ in 0..TRIES {
-        if queue.get(rt) {
-            taken = taken.wrapping_add(1);
-            if taken == rounds {
-                break;
-            }
-        } else {
-            thread::yield_now();
-        }
-    }
-    taken
 }
