@@ -138,6 +138,13 @@ impl Books {
         &self.aside
     }
 
+    /// What is set aside; the rest is let go.
+    pub(crate) fn into_aside(self) -> Vec<(u64, SysMsg)>
+        ensures { result.items ≡ self.aside }
+    {
+        self.aside
+    }
+
     /// Where the actor stands in its life.
     pub(crate) fn phase(&self) -> Phase
         ensures { result ≡ self.now.phase }

@@ -20,6 +20,7 @@ mod failed;
 mod front;
 mod handle;
 mod nothing;
+pub(crate) mod parts;
 mod quiet;
 mod recreate;
 mod resume;

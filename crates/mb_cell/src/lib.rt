@@ -18,6 +18,7 @@ mod retries;
 
 pub use act::Act;
 pub use cell::Cell;
+pub use cell::parts::Parts;
 
 #[cfg(test)]
 mod tests;
