@@ -7,20 +7,20 @@ use Rattle.mb_cell.specs.Seen.{Seen}
 use Rattle.mb_queue.specs.Passes.{Sending, Taking}
 use Rattle.mb_home.specs.Roll.{Enrolled}
 
--- The cell; the pass that takes from the actor's queue; the passes that push for it, one for each other number but the guardian's, in
--- order of the numbers from 1 on; what was drained and not applied, in order, with the numbers that the list gave; the number of the
--- next system message; how many envelopes the actor sent, modulo 2^64; which of them are dead letters, in order; the envelopes that
--- were still queued when it ended, in order; how many system messages were never applied and are dead; how many dead letters more
--- there is room for; and who the actors are. (In Akka a cell and a mailbox have such fields; all else is this project's own profile.)
+-- The cell; the pass that takes from the actor's queue; the passes that push for it, one for each number but the guardian's, in order
+-- from 1 on; what was drained and not applied, in order, with the numbers; how many envelopes the actor sent, modulo 2^64; which of them
+-- are dead letters, in order; the envelopes that were still queued when it ended, in order; how many system messages were set aside
+-- when it ended; how many more came to it then and were dropped, modulo 2^64; how many dead letters more there is room for; and who the
+-- actors are. (A cell and its mailbox are Akka's; all else is this project's own profile.)
 pub record Contents : Type 0 where
   pub cell : Seen
   pub take : Taking
   pub sends : List Sending
   pub rest : List (ℕ × SysMsg)
-  pub next : ℕ
   pub sent : ℕ
   pub dead : List DeadLetter
   pub cleaned : List Envelope
-  pub dead_system : ℕ
+  pub aside_dead : ℕ
+  pub dropped : ℕ
   pub room : ℕ
   pub roll : List Enrolled

@@ -1,3 +1,4 @@
 pub mod Contents
 pub mod Roll
 pub mod Settled
+pub mod Steps

@@ -16,11 +16,11 @@ pub struct Home<A: Actor, K: Behaviours> {
     take: TakePass,
     sends: Vec<SendPass>,
     rest: Chain,
-    next: u64,
     sent: u64,
     dead: Vec<DeadLetter>,
     cleaned: Vec<Envelope>,
-    dead_system: u64,
+    aside_dead: u64,
+    dropped: u64,
     roll: Snapshot<Vec<Named<A, K>>>,
 }
 
@@ -35,11 +35,11 @@ impl<A: Actor, K: Behaviours> Model for Home<A, K> {
       take = h.take;
       sends = h.sends.items;
       rest = h.rest;
-      next = h.next;
       sent = h.sent;
       dead = h.dead.items;
       cleaned = h.cleaned.items;
-      dead_system = h.dead_system;
+      aside_dead = h.aside_dead;
+      dropped = h.dropped;
       room = vec_capacity h.dead - vec_len h.dead;
       roll = map (λ n. record { who = n.cell.value.who; queue = n.take.value.queue }) h.roll.value.items;
     } };
