@@ -75,11 +75,9 @@ module _ (who : Identity) (gives : Moment → Reply → Type 0) (before : List E
   by_create : (a : Option Answer) (effects : List Effect) → IsHeld who effects → Few (create_acts who before a effects)
   by_create a effects held = by_test (is_guardian who)
     where
-      failing : List Act
-      failing = fail_acts who (failed who before) (children who before ++ spawns_of effects) cause.Init []
       by_test : (b : Bool) → Few (if b then ResumeSelf ∷ to_each system.Create who.prepared
-      else ResumeSelf ∷ effect_acts who.this (watching who before) effects
-      ++ (if is_failed a then fail_acts who (failed who before) (children who before ++ spawns_of effects) cause.Init [] else []))
+          else ResumeSelf ∷ effect_acts who.this (watching who before) effects
+          ++ (if is_failed a then fail_acts who (failed who before) (children who before ++ spawns_of effects) cause.Init [] else []))
       by_test true = silent (ResumeSelf ∷ to_each system.Create who.prepared) (tells-to_each system.Create who.prepared)
       by_test false =
           resumed _ (effects_then effects _ held (fails (is_failed a) _ (tells-fail who (failed who before) (children who before ++ spawns_of effects) cause.Init [])))
@@ -88,8 +86,8 @@ module _ (who : Identity) (gives : Moment → Reply → Type 0) (before : List E
   by_restart c a effects held = by_test (is_failed a)
     where
       by_test : (b : Bool) → Few (ResumeSelf ∷ effect_acts who.this (watching who before) effects
-      ++ (if b then fail_acts who Nobody (children who before ++ spawns_of effects) cause.Init (children who before)
-      else to_each (system.Recreate c) (children who before)))
+          ++ (if b then fail_acts who Nobody (children who before ++ spawns_of effects) cause.Init (children who before)
+          else to_each (system.Recreate c) (children who before)))
       by_test true =
           resumed _ (effects_then effects _ held
           (few-silent who.actors _ (tells-fail who Nobody (children who before ++ spawns_of effects) cause.Init (children who before))))
@@ -98,8 +96,11 @@ module _ (who : Identity) (gives : Moment → Reply → Type 0) (before : List E
   by_terminate : (effects : List Effect) → IsHeld who effects → Few (terminate_acts who before effects)
   by_terminate effects held =
       few-more who.actors (0 + 0 + length effects) 17 _ (omega (arith, held.1))
-      (few-append who.actors (0 + 0) (length effects) _ _
-      (few-append who.actors 0 0 _ _ (few-silent who.actors _ (tells-to_each (system.Unwatch who.this) (watching who before)))
+      (few-append who.actors (0 + 0) (length effects)
+      (to_each (system.Unwatch who.this) (watching who before) ++ to_each system.Terminate (children who before))
+      (if is_empty (children who before) then end_acts who (watchers before) effects else SuspendSelf ∷ [])
+      (few-append who.actors 0 0 (to_each (system.Unwatch who.this) (watching who before)) (to_each system.Terminate (children who before))
+      (few-silent who.actors _ (tells-to_each (system.Unwatch who.this) (watching who before)))
       (few-silent who.actors _ (tells-to_each system.Terminate (children who before))))
       (by_test (is_empty (children who before))))
     where
@@ -111,7 +112,8 @@ module _ (who : Identity) (gives : Moment → Reply → Type 0) (before : List E
       Few (died_acts who before x effects)
   by_died x effects held some less =
       few-more who.actors (1 + length effects) 17 _ (omega (arith, held.1))
-      (few-append who.actors 1 (length effects) _ _ (by_watch (has (watching who before) x) some) (by_end (phase_is (phase who before) Ending && is_alone (children who before) x)))
+      (few-append who.actors 1 (length effects) (if has (watching who before) x then Tell who.this (body.Terminated x) ∷ [] else [])
+      (if phase_is (phase who before) Ending && is_alone (children who before) x then end_acts who (watchers before) effects else []) (by_watch (has (watching who before) x) some) (by_end (phase_is (phase who before) Ending && is_alone (children who before) x)))
     where
       by_watch : (b : Bool) → (b ≡ true → 0 < who.this.0) → AreFew who.actors 1 (if b then Tell who.this (body.Terminated x) ∷ [] else [])
       by_watch true above = few-tell who.actors 0 who.this (body.Terminated x) [] (above refl) less (few-none who.actors)
@@ -126,9 +128,9 @@ module _ (who : Identity) (gives : Moment → Reply → Type 0) (before : List E
   by_directive x c directive.Stop = silent _ (tells-to_each system.Terminate (meant_by who before x))
   by_directive x c directive.Escalate = silent _ (tells-fail who (failed who before) (children who before) c (x ∷ []))
 
-  if_few : (b : Bool) (yes no : List Act) → Few yes → Few no → Few (if b then yes else no)
-  if_few true yes no y n = y
-  if_few false yes no y n = n
+  if_few : (b : Bool) (first second : List Act) → Few first → Few second → Few (if b then first else second)
+  if_few true first second y n = y
+  if_few false first second y n = n
 
   nothing : Few []
   nothing = silent [] refl
@@ -138,11 +140,15 @@ module _ (who : Identity) (gives : Moment → Reply → Type 0) (before : List E
   by_system system.Create a effects held some less = nothing
   by_system system.Suspend a effects held some less = silent _ (tells-to_each system.Suspend (children who before))
   by_system (system.Resume f) a effects held some less =
-      if_few _ _ _ (silent _ (tells-to_some (λ x. system.Resume (f && is_child (failed who before) x)) (children who before)))
-      (if_few _ _ _ (by_restart cause.Init a effects held) nothing)
-  by_system (system.Recreate c) a effects held some less = if_few _ _ _ nothing (by_restart c a effects held)
-  by_system (system.Failed x c) a effects held some less = if_few _ _ _ (by_directive x c (carried_out who before x c)) nothing
-  by_system system.Terminate a effects held some less = if_few _ _ _ nothing (by_terminate effects held)
+      if_few (phase_is (phase who before) Live) (resume_acts who before f)
+      (if phase_is (phase who before) Broken && not (is_guardian who) then restart_acts who before cause.Init a effects else [])
+      (silent (resume_acts who before f) (tells-to_some (λ x. system.Resume (f && is_child (failed who before) x)) (children who before)))
+      (if_few (phase_is (phase who before) Broken && not (is_guardian who)) (restart_acts who before cause.Init a effects) []
+      (by_restart cause.Init a effects held) nothing)
+  by_system (system.Recreate c) a effects held some less = if_few (is_guardian who) [] (restart_acts who before c a effects) nothing (by_restart c a effects held)
+  by_system (system.Failed x c) a effects held some less = if_few (has (children who before) x) (supervision_acts who before x c (carried_out who before x c)) []
+      (by_directive x c (carried_out who before x c)) nothing
+  by_system system.Terminate a effects held some less = if_few (phase_is (phase who before) Ending) [] (terminate_acts who before effects) nothing (by_terminate effects held)
   by_system (system.Watch w) a effects held some less = nothing
   by_system (system.Unwatch w) a effects held some less = nothing
   by_system (system.Died x) a effects held some less = by_died x effects held (some x) less
@@ -177,6 +183,6 @@ module _ (who : Identity) (gives : Moment → Reply → Type 0) (before : List E
   few-acts (Handled envelope reading SetAside) lawful some less = absurd lawful
   few-acts (System number m (Applied a effects)) lawful some less =
       let held = held-given (call_of who before (System number m (Applied a effects))) a effects lawful.1 in
-      if_few (phase_is (phase who before) Fresh) _ _ (by_fresh m a effects held) (by_system m a effects held some less)
+      if_few (phase_is (phase who before) Fresh) (fresh_acts who before m a effects) (system_acts who before m a effects) (by_fresh m a effects held) (by_system m a effects held some less)
   few-acts (System number m SetAside) lawful some less = nothing
   few-acts (Dropped envelope) lawful some less = nothing

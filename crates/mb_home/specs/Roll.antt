@@ -15,6 +15,6 @@ queues_of = map (λ (n : Enrolled). n.queue)
 
 -- the actor of this number has a queue that refuses what finds it full
 pub record IsBounded (roll : List Enrolled) (actor : ℕ) : Type 0 where
-  pub enrolled : Enrolled
-  pub there : slice_get roll actor ≡ Some enrolled
-  pub bounded : IsSome enrolled.queue.main.capacity
+  pub queue : Queue
+  pub there : slice_get (queues_of roll) actor ≡ Some queue
+  pub bounded : IsSome queue.main.capacity

@@ -1,5 +1,5 @@
 -- When the books beside a cell agree with its journal.
-use Rattle.std.specs.Prelude.{◌≡◌, ℕ, ◌+◌, ◌%◌, ◌^◌, ◌<◌, ◌≤◌, true, false, if◌then◌else◌, List, [], ◌++◌, All, length, map, drop, slice_get, Some}
+use Rattle.std.specs.Prelude.{◌≡◌, ℕ, ◌+◌, ◌%◌, ◌^◌, ◌<◌, ◌≤◌, true, false, if◌then◌else◌, List, [], ◌∷◌, ◌++◌, All, length, map, drop, slice_get, Some}
 use Rattle.mb_msg.specs.declared.dead_letter.DeadLetter.{DeadLetter}
 use Rattle.mb_msg.specs.declared.dead_letter.Why.{Why}
 use Rattle.mb_msg.specs.declared.dead_letter.Why.TheVariants as why
@@ -7,8 +7,9 @@ use Rattle.mb_msg.specs.declared.system.SysMsg.{SysMsg}
 use Rattle.mb_syslist.specs.MessageList.{numbered}
 use Rattle.mb_actor.specs.Behaviour.{Moment, Reply}
 use Rattle.mb_journal.specs.Acts.{Act}
-use Rattle.mb_journal.specs.Aside.{ever_aside, next_number}
-use Rattle.mb_journal.specs.Identity.{is_guardian}
+use Rattle.mb_journal.specs.Aside.{aside, next_number}
+use Rattle.mb_journal.specs.Entry.{Entry}
+use Rattle.mb_journal.specs.Identity.{Identity, is_guardian}
 use Rattle.mb_journal.specs.Lawful.{IsLawful}
 use Rattle.mb_journal.specs.Life.{closed}
 use Rattle.mb_queue.specs.Passes.{Sending}
@@ -28,6 +29,8 @@ pub record IsOwn (h : Contents) : Type 0 where
   pub not_zero : is_guardian h.cell.who ≡ false → 0 < h.cell.who.this.0
   pub queues : map (λ (p : Sending). p.queue) h.sends ≡ drop 1 (queues_of h.roll)
   pub by : All (λ (p : Sending). p.by ≡ h.cell.who.this.0) h.sends
+  pub receivers : (place : ℕ) (p : Sending) → slice_get h.sends place ≡ Some p → p.queue.to ≡ place + 1
+  pub receiver : h.take.queue.to ≡ h.cell.who.this.0
   pub nobody : is_guardian h.cell.who ≡ true → h.take.queue.senders ≡ []
 
 -- Each of what these acts tell is to an actor that has a queue to push into, and there is room for all as dead letters.
@@ -49,11 +52,16 @@ pub record IsPosted (pending : List Act) (h : Contents) : Type 0 where
 abbrev pub messages_of : List (ℕ × SysMsg) → List SysMsg
 messages_of = map (λ (m : ℕ × SysMsg). m.1)
 
+-- how many messages were set aside when the actor ended, with its last entry
+abbrev pub aside_at_end : Identity → List Entry → ℕ
+aside_at_end who [] = 0
+aside_at_end who (e ∷ before) = if closed who (e ∷ before) then length (aside who before) else 0
+
 -- The system messages that came: those that have an entry, and those that were dropped once the actor ended; what is drained and not
 -- applied goes on from these. All that were set aside when the actor ended are counted.
 pub record IsCounted (h : Contents) : Type 0 where
   pub rest : h.rest ≡ numbered ((next_number h.cell.journal + h.dropped) % 2 ^ 64) (messages_of h.rest)
-  pub aside : h.aside_dead ≡ (if closed h.cell.who h.cell.journal then length (ever_aside h.cell.journal) else 0)
+  pub aside : h.aside_dead ≡ aside_at_end h.cell.who h.cell.journal
   pub none : closed h.cell.who h.cell.journal ≡ false → h.dropped ≡ 0
 
 -- why a sent envelope is dead: as full only where its receiver's queue has a bound, and never as cleaned up

@@ -6,7 +6,7 @@
 #![tactic(auto)]
 
 mod home;
-mod roll;
+mod named;
 
-pub use home::Home;
-pub use roll::Named;
+pub use home::{Home, Parts};
+pub use named::Named;
