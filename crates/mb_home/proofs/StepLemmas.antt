@@ -1,6 +1,6 @@
 -- What each step makes of a settled home.
 use Rattle.std.proofs.Common.{◌≡◌, ◌⊎◌, inl, inr, ℕ, ◌+◌, ◌%◌, ◌^◌, ◌<◌, ◌≤◌, Bool, true, false, List, [], ◌∷◌, ◌++◌, length, refl, sym, ap, ◌∙◌, subst, arith, append-nil}
-use Rattle.std.specs.Prelude.{All, if◌then◌else◌, ◌&&◌, slice_get, Option, Some, None, IsSome, IsTrue}
+use Rattle.std.specs.Prelude.{All, if◌then◌else◌, ◌==◌, not, ◌&&◌, slice_get, Option, Some, None, IsSome, IsTrue}
 use Rattle.std.proofs.Math.Nat.{mod-eq_of_lt}
 use Rattle.std.proofs.lemmas.List.Elements.{All-nil}
 use Rattle.std.proofs.lemmas.Option.{slice_get_within, get_or_from_slice_get}
@@ -12,7 +12,8 @@ use Rattle.mb_actor.specs.Behaviour.{Moment, Reply}
 use Rattle.mb_actor.specs.declared.phase.Phase.{Phase}
 use Rattle.mb_actor.specs.declared.phase.Phase.TheVariants.{Fresh, Live, Broken, Ending, Ended}
 use Rattle.mb_journal.specs.Acts.{Act, acts}
-use Rattle.mb_journal.specs.Aside.{aside, next_front, next_number}
+use Rattle.mb_journal.specs.Aside.{aside, ever_aside, first_of_list, next_front, next_number}
+use Rattle.mb_journal.specs.Suspension.{count}
 use Rattle.mb_journal.specs.Entry.{Entry, Outcome}
 use Rattle.mb_journal.specs.Entry.Entry.{Handled, System, Dropped}
 use Rattle.mb_journal.specs.Identity.{Identity, is_guardian}
@@ -187,3 +188,13 @@ settled-first gives cell take sends room roll untouched none_taken none_pushed o
   counted = record { rest = refl; aside = ap (λ j. aside_at_end cell.who j) (sym untouched); none = λ _. refl };
   reasons = All-nil (λ (d : DeadLetter). IsReason roll d.why d.envelope.to.0);
 }
+
+-- nothing is to be applied to an actor to which nothing came
+pub rested-first : (cell : Seen) → cell.journal ≡ [] → next_front cell.who cell.journal ≡ None
+unfolding next_front aside ever_aside
+rested-first cell untouched = ap (λ j. next_front cell.who j) untouched ∙ by_tests (count cell.who [] == 0 && not (phase_is (phase cell.who []) Ending)) (closed cell.who [])
+  where
+    by_tests : (b c : Bool) → (if b then first_of_list (if c then [] else []) else None) ≡ None
+    by_tests false c = refl
+    by_tests true true = refl
+    by_tests true false = refl
