@@ -20,11 +20,11 @@ use Rattle.mb_journal.proofs.Fold.{Queries, queries, queries-fold}
 use Rattle.mb_journal.proofs.SetAsideSteps.{set_aside-tests, set_aside-step}
 use Rattle.mb_journal.proofs.Steps.{none_passed, passed}
 use Rattle.mb_cell.specs.Agrees.{Agrees}
-use Rattle.mb_cell.specs.BooksRecord.{Books}
-use Rattle.mb_cell.specs.Place.{identity_of}
-use Rattle.mb_cell.specs.Rows.{put_aside}
+use Rattle.mb_books.specs.BooksRecord.{Books}
+use Rattle.mb_books.specs.Place.{identity_of}
+use Rattle.mb_books.specs.Rows.{put_aside}
 use Rattle.mb_cell.specs.Seen.{Seen, MayTake, TakesSystem}
-use Rattle.mb_cell.specs.declared.place.Place.{Place}
+use Rattle.mb_books.specs.declared.place.Place.{Place}
 use Rattle.mb_cell.proofs.CellLaws.{Kept, longer, kept-silent, taken-system, length-added}
 use Rattle.mb_cell.proofs.RowLaws.{agrees-more, blank-before, booked-open, books_of, books-after, call-by, no_call}
 

@@ -20,10 +20,10 @@ use Rattle.mb_journal.specs.Log.{Log}
 use Rattle.mb_journal.proofs.Fold.{Queries, queries, next_queries, queries-fold}
 use Rattle.mb_journal.proofs.LawfulLemmas.{calls-called}
 use Rattle.mb_cell.specs.Agrees.{Agrees, Plays}
-use Rattle.mb_cell.specs.BooksRecord.{Books}
-use Rattle.mb_cell.specs.Requests.{requests_kept}
-use Rattle.mb_cell.specs.Place.{identity_of}
-use Rattle.mb_cell.specs.declared.place.Place.{Place}
+use Rattle.mb_books.specs.BooksRecord.{Books}
+use Rattle.mb_books.specs.Requests.{requests_kept}
+use Rattle.mb_books.specs.Place.{identity_of}
+use Rattle.mb_books.specs.declared.place.Place.{Place}
 use Rattle.mb_cell.proofs.CellLaws.{longer, length-added, kept-called}
 use Rattle.mb_cell.proofs.RowLaws.{IsBlank, books_of, agrees-more}
 

@@ -21,10 +21,10 @@ use Rattle.mb_journal.specs.Suspension.{count, count_after, marks}
 use Rattle.mb_journal.proofs.LawfulLemmas.{calls-silent}
 use Rattle.mb_journal.proofs.SizeLemmas.{sizes}
 use Rattle.mb_cell.specs.Agrees.{Agrees, Plays}
-use Rattle.mb_cell.specs.BooksRecord.{Books}
-use Rattle.mb_cell.specs.Place.{identity_of}
+use Rattle.mb_books.specs.BooksRecord.{Books}
+use Rattle.mb_books.specs.Place.{identity_of}
 use Rattle.mb_cell.specs.Seen.{Seen, with_entry, IsOf, TakesEnvelope, TakesSystem}
-use Rattle.mb_cell.specs.declared.place.Place.{Place}
+use Rattle.mb_books.specs.declared.place.Place.{Place}
 
 -- the journal with an entry more
 abbrev pub longer : Log → Entry → Log

@@ -23,8 +23,8 @@ use Rattle.mb_journal.proofs.Fold.{Queries, queries}
 use Rattle.mb_journal.proofs.Steps.{none_passed, passed}
 use Rattle.mb_journal.proofs.TestLemmas.{and-false, if_false}
 use Rattle.mb_cell.specs.Agrees.{Agrees}
-use Rattle.mb_cell.specs.BooksRecord.{Books}
-use Rattle.mb_cell.specs.Rows.{told_of_death}
+use Rattle.mb_books.specs.BooksRecord.{Books}
+use Rattle.mb_books.specs.Rows.{told_of_death}
 use Rattle.mb_cell.proofs.RowLaws.{books-after, booked-open, not-fresh}
 use Rattle.mb_cell.proofs.SilentRow.{IsSilentRow, silent, silent-call}
 

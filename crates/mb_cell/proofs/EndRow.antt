@@ -31,8 +31,8 @@ use Rattle.mb_journal.proofs.Steps.{none_passed, passed}
 use Rattle.mb_journal.proofs.TerminateSteps.{terminate_entry, ended-tests, ended-step}
 use Rattle.mb_journal.proofs.TestLemmas.{if_true, if_false, if_same}
 use Rattle.mb_cell.specs.Agrees.{Agrees}
-use Rattle.mb_cell.specs.BooksRecord.{Books}
-use Rattle.mb_cell.specs.Rows.{ended, ended_at_once, told_of_death}
+use Rattle.mb_books.specs.BooksRecord.{Books}
+use Rattle.mb_books.specs.Rows.{ended, ended_at_once, told_of_death}
 use Rattle.mb_cell.proofs.CallingRow.{IsCallingRow}
 use Rattle.mb_cell.proofs.RowLaws.{books_of, open_books, booked-open, call-by}
 use Rattle.mb_cell.proofs.SilentRow.{IsSilentRow}

@@ -20,8 +20,8 @@ use Rattle.mb_journal.proofs.Steps.{none_passed, passed}
 use Rattle.mb_journal.proofs.TerminateSteps.{terminate_entry, ending-tests, ending-step}
 use Rattle.mb_journal.proofs.TestLemmas.{and-false, if_same}
 use Rattle.mb_cell.specs.Agrees.{Agrees}
-use Rattle.mb_cell.specs.BooksRecord.{Books}
-use Rattle.mb_cell.specs.Rows.{ending}
+use Rattle.mb_books.specs.BooksRecord.{Books}
+use Rattle.mb_books.specs.Rows.{ending}
 use Rattle.mb_cell.proofs.EndRow.{unended}
 use Rattle.mb_cell.proofs.RowLaws.{books-after, booked-open}
 use Rattle.mb_cell.proofs.SilentRow.{IsSilentRow, silent, silent-call}

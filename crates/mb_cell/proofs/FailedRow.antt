@@ -25,9 +25,9 @@ use Rattle.mb_journal.proofs.Fold.{Queries, queries, next_queries, asked_on}
 use Rattle.mb_journal.proofs.Steps.{none_passed, passed}
 use Rattle.mb_journal.proofs.TestLemmas.{and-false, if_true, if_false}
 use Rattle.mb_cell.specs.Agrees.{Agrees}
-use Rattle.mb_cell.specs.BooksRecord.{Books}
-use Rattle.mb_cell.specs.Requests.{requests_kept}
-use Rattle.mb_cell.specs.Rows.{supervised, supervised_by, given_now, asked_now, carried_out_now, taken}
+use Rattle.mb_books.specs.BooksRecord.{Books}
+use Rattle.mb_books.specs.Requests.{requests_kept}
+use Rattle.mb_books.specs.Rows.{supervised, supervised_by, given_now, asked_now, carried_out_now, taken}
 use Rattle.mb_cell.proofs.HandledRow.{and-true, both_true, nobody-is}
 use Rattle.mb_cell.proofs.RowLaws.{open_books, books-after, booked-open, not-fresh}
 use Rattle.mb_cell.proofs.SilentRow.{IsSilentRow, silent, silent-call}

@@ -34,8 +34,8 @@ use Rattle.mb_journal.proofs.EnvelopeSteps.{handled_entry, handled-step, handled
 use Rattle.mb_journal.proofs.Fold.{Queries, queries, next_queries}
 use Rattle.mb_journal.proofs.TestLemmas.{and-false}
 use Rattle.mb_cell.specs.Agrees.{Agrees}
-use Rattle.mb_cell.specs.BooksRecord.{Books}
-use Rattle.mb_cell.specs.Rows.{handled, failing_if, with_effects, due_told}
+use Rattle.mb_books.specs.BooksRecord.{Books}
+use Rattle.mb_books.specs.Rows.{handled, failing_if, with_effects, due_told}
 use Rattle.mb_cell.proofs.CallingRow.{IsCallingRow}
 use Rattle.mb_cell.proofs.RowLaws.{books_of, open_books, books-after, booked-open}
 

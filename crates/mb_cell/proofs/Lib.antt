@@ -4,7 +4,6 @@ pub mod CellLaws
 pub mod CreateRow
 pub mod DiedRow
 pub mod DispatchLemmas
-pub mod EffectLemmas
 pub mod EndRow
 pub mod EndingRow
 pub mod FailedRow
@@ -14,11 +13,11 @@ pub mod HandledRow
 pub mod NewLaw
 pub mod NothingRow
 pub mod NumberLemmas
+pub mod OpenLaws
 pub mod QuietEnvelope
 pub mod QuietRows
 pub mod RecreateRow
 pub mod ResumeRow
-pub mod RetryLemmas
 pub mod RowLaws
 pub mod RunLaws
 pub mod SilentRow

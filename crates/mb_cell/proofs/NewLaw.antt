@@ -20,10 +20,10 @@ use Rattle.mb_journal.specs.Watching.{watchers, watching, due}
 use Rattle.mb_journal.proofs.LawfulLemmas.{lawful-none, calls-none}
 use Rattle.mb_journal.proofs.TestLemmas.{if_same}
 use Rattle.mb_cell.specs.Agrees.{Agrees, Plays, books_at}
-use Rattle.mb_cell.specs.BooksRecord.{Books}
-use Rattle.mb_cell.specs.Place.{identity_of}
-use Rattle.mb_cell.specs.Requests.{requests_kept}
-use Rattle.mb_cell.specs.declared.place.Place.{Place}
+use Rattle.mb_books.specs.BooksRecord.{Books}
+use Rattle.mb_books.specs.Place.{identity_of}
+use Rattle.mb_books.specs.Requests.{requests_kept}
+use Rattle.mb_books.specs.declared.place.Place.{Place}
 
 -- the books of a cell that nothing came to
 abbrev pub first_books : ℕ → Books

@@ -22,11 +22,11 @@ use Rattle.mb_journal.proofs.Steps.{tests_of, none_passed, passed}
 use Rattle.mb_journal.proofs.TerminateSteps.{ending_again-tests, ending_again-step}
 use Rattle.mb_journal.proofs.TestLemmas.{if_true, if_false, if_same}
 use Rattle.mb_cell.specs.Agrees.{Agrees}
-use Rattle.mb_cell.specs.BooksRecord.{Books}
+use Rattle.mb_books.specs.BooksRecord.{Books}
 use Rattle.mb_cell.specs.Nothing.{DoesNothing}
 use Rattle.mb_cell.specs.Nothing.DoesNothing.{started_already, fresh_recreate, fresh_suspend, fresh_resume, fresh_failed, fresh_died}
 use Rattle.mb_cell.specs.Nothing.DoesNothing.{of_guardian, of_no_child, ends_already}
-use Rattle.mb_cell.specs.Rows.{passed_by}
+use Rattle.mb_books.specs.Rows.{passed_by}
 use Rattle.mb_cell.proofs.RowLaws.{open_books, books-after, booked-open, blank-before}
 use Rattle.mb_cell.proofs.SilentRow.{IsSilentRow, silent, silent-call}
 use Rattle.mb_cell.proofs.StartLemmas.{started-once}

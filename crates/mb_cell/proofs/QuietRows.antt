@@ -24,8 +24,8 @@ use Rattle.mb_journal.proofs.EnvelopeSteps.{handled_entry, handled-step, dropped
 use Rattle.mb_journal.proofs.Fold.{Queries, queries, next_queries}
 use Rattle.mb_journal.proofs.TestLemmas.{and-false, none_excepted}
 use Rattle.mb_cell.specs.Agrees.{Agrees}
-use Rattle.mb_cell.specs.BooksRecord.{Books}
-use Rattle.mb_cell.specs.Rows.{handled, poisoned, let_go, due_told}
+use Rattle.mb_books.specs.BooksRecord.{Books}
+use Rattle.mb_books.specs.Rows.{handled, poisoned, let_go, due_told}
 use Rattle.mb_cell.proofs.HandledRow.{handled_after, handled_acts_of, handled-by, handled-booked, told-due, acted, as_before, not_ended}
 use Rattle.mb_cell.proofs.QuietEnvelope.{IsQuietEnvelope}
 use Rattle.mb_cell.proofs.RowLaws.{books-after}

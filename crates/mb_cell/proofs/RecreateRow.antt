@@ -32,8 +32,8 @@ use Rattle.mb_journal.proofs.Fold.{Queries, queries}
 use Rattle.mb_journal.proofs.Steps.{passed}
 use Rattle.mb_journal.proofs.TestLemmas.{if_true, if_false}
 use Rattle.mb_cell.specs.Agrees.{Agrees}
-use Rattle.mb_cell.specs.BooksRecord.{Books}
-use Rattle.mb_cell.specs.Rows.{recreated, with_effects, taken, failing}
+use Rattle.mb_books.specs.BooksRecord.{Books}
+use Rattle.mb_books.specs.Rows.{recreated, with_effects, taken, failing}
 use Rattle.mb_cell.proofs.CallingRow.{IsCallingRow}
 use Rattle.mb_cell.proofs.RowLaws.{books_of, open_books, books-after, booked-open, call-by}
 

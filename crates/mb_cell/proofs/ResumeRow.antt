@@ -19,8 +19,8 @@ use Rattle.mb_journal.proofs.ResumeSteps.{resume_entry, resume_tests, resume-tes
 use Rattle.mb_journal.proofs.Steps.{passed}
 use Rattle.mb_journal.proofs.TestLemmas.{if_true, if_false}
 use Rattle.mb_cell.specs.Agrees.{Agrees}
-use Rattle.mb_cell.specs.BooksRecord.{Books}
-use Rattle.mb_cell.specs.Rows.{resumed}
+use Rattle.mb_books.specs.BooksRecord.{Books}
+use Rattle.mb_books.specs.Rows.{resumed}
 use Rattle.mb_cell.proofs.RowLaws.{books-after, booked-open, not-fresh}
 use Rattle.mb_cell.proofs.SilentRow.{IsSilentRow, silent, silent-call}
 

@@ -26,8 +26,8 @@ use Rattle.mb_journal.proofs.LawfulLemmas.{lawful-more}
 use Rattle.mb_journal.proofs.Steps.{Tests, tests_of}
 use Rattle.mb_journal.proofs.TestLemmas.{if_same}
 use Rattle.mb_cell.specs.Agrees.{Agrees, books_at}
-use Rattle.mb_cell.specs.BooksRecord.{Books}
-use Rattle.mb_cell.specs.Requests.{requests_kept}
+use Rattle.mb_books.specs.BooksRecord.{Books}
+use Rattle.mb_books.specs.Requests.{requests_kept}
 
 -- the books that these queries say
 abbrev pub books_of : Queries → List ActorId → List Act → ℕ → Bool → Books

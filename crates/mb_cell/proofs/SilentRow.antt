@@ -20,11 +20,11 @@ use Rattle.mb_journal.specs.Log.{Log}
 use Rattle.mb_journal.proofs.Fold.{Queries, queries, next_queries, queries-fold}
 use Rattle.mb_journal.proofs.Steps.{Tests, tests_of}
 use Rattle.mb_cell.specs.Agrees.{Agrees}
-use Rattle.mb_cell.specs.BooksRecord.{Books}
-use Rattle.mb_cell.specs.Requests.{requests_kept}
-use Rattle.mb_cell.specs.Place.{identity_of}
+use Rattle.mb_books.specs.BooksRecord.{Books}
+use Rattle.mb_books.specs.Requests.{requests_kept}
+use Rattle.mb_books.specs.Place.{identity_of}
 use Rattle.mb_cell.specs.Seen.{Seen, MayTake, TakesSystem}
-use Rattle.mb_cell.specs.declared.place.Place.{Place}
+use Rattle.mb_books.specs.declared.place.Place.{Place}
 use Rattle.mb_cell.proofs.CellLaws.{Kept, longer, kept-silent, taken-system, length-added}
 use Rattle.mb_cell.proofs.RowLaws.{IsBlank, books_of, agrees-more, call-by, no_call, lawful-silent}
 

@@ -14,8 +14,8 @@ use Rattle.mb_journal.proofs.Fold.{Queries, queries}
 use Rattle.mb_journal.proofs.Steps.{none_passed, passed, suspend_entry, suspend-tests, suspend-step}
 use Rattle.mb_journal.proofs.TestLemmas.{if_false}
 use Rattle.mb_cell.specs.Agrees.{Agrees}
-use Rattle.mb_cell.specs.BooksRecord.{Books}
-use Rattle.mb_cell.specs.Rows.{suspended}
+use Rattle.mb_books.specs.BooksRecord.{Books}
+use Rattle.mb_books.specs.Rows.{suspended}
 use Rattle.mb_cell.proofs.RowLaws.{books-after, booked-open, not-fresh}
 use Rattle.mb_cell.proofs.SilentRow.{IsSilentRow, silent, silent-call}
 

@@ -18,8 +18,8 @@ use Rattle.mb_journal.proofs.Steps.{none_passed, passed}
 use Rattle.mb_journal.proofs.TestLemmas.{and-false, if_same}
 use Rattle.mb_journal.proofs.WatchSteps.{watch-tests, watch-step, unwatch-tests, unwatch-step}
 use Rattle.mb_cell.specs.Agrees.{Agrees}
-use Rattle.mb_cell.specs.BooksRecord.{Books}
-use Rattle.mb_cell.specs.Rows.{watched_by, no_longer_watched_by}
+use Rattle.mb_books.specs.BooksRecord.{Books}
+use Rattle.mb_books.specs.Rows.{watched_by, no_longer_watched_by}
 use Rattle.mb_cell.proofs.RowLaws.{books-after, booked-open, blank-before}
 use Rattle.mb_cell.proofs.SilentRow.{IsSilentRow, silent, silent-call}
 

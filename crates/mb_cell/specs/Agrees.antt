@@ -18,8 +18,8 @@ use Rattle.mb_journal.specs.Life.{phase, children}
 use Rattle.mb_journal.specs.Retries.{requests}
 use Rattle.mb_journal.specs.Suspension.{count}
 use Rattle.mb_journal.specs.Watching.{watchers, watching, due}
-use Rattle.mb_cell.specs.BooksRecord.{Books}
-use Rattle.mb_cell.specs.Requests.{requests_kept}
+use Rattle.mb_books.specs.BooksRecord.{Books}
+use Rattle.mb_books.specs.Requests.{requests_kept}
 
 -- the books that a journal says, with these acts
 abbrev pub books_at : Identity → List Entry → List ActorId → List Act → ℕ → Bool → Books

@@ -1,11 +1,4 @@
-pub mod ActQueue
 pub mod Agrees
-pub mod Books
-pub mod BooksRecord
 pub mod MayHandle
 pub mod Nothing
-pub mod Place
-pub mod Queue
-pub mod Requests
-pub mod Rows
 pub mod Seen

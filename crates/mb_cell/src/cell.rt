@@ -8,7 +8,7 @@ ghost use Rattle.mb_journal.specs.Incarnation.{messages};
 ghost use Rattle.mb_journal.specs.Lawful.{IsLawful};
 ghost use Rattle.mb_journal.specs.Life.{phase as phase_of};
 ghost use Rattle.mb_journal.specs.Suspension.{count as count_of};
-ghost use Rattle.mb_cell.specs.ActQueue.{act_of};
+ghost use Rattle.mb_books.specs.ActQueue.{act_of};
 
 mod apply;
 mod create;
@@ -30,10 +30,8 @@ mod suspend;
 mod unwatch;
 mod watch;
 
-use crate::act::Act;
-use crate::books::Books;
-use crate::place::Place;
 use mb_actor::{Actor, Behaviours, Called, Outbox, Phase};
+use mb_books::{Act, Books, Place};
 use mb_journal::{Journal, ReadyError, Strategy};
 use mb_msg::{ActorId, SysMsg};
 use std::alloc::Global;
@@ -60,7 +58,7 @@ impl<A: Actor, K: Behaviours> Model for Cell<A, K> {
 
     ghost use Rattle.mb_journal.specs.Identity.{is_guardian};
     ghost use Rattle.mb_cell.specs.Agrees.{Agrees, Plays};
-    ghost use Rattle.mb_cell.specs.Place.{identity_of};
+    ghost use Rattle.mb_books.specs.Place.{identity_of};
 
     ghost view = { λ c. record {
       who = identity_of c.place c.journal.limit;

@@ -5,20 +5,8 @@
 //! cell shows is a query of its journal.
 #![tactic(auto)]
 
-mod act;
-mod act_queue;
-mod actor_list;
-mod books;
 mod cell;
-mod effects;
-mod end;
-mod fail;
-mod place;
-mod retries;
 
-pub use act::Act;
 pub use cell::Cell;
 pub use cell::parts::Parts;
-
-#[cfg(test)]
-mod tests;
+pub use mb_books::Act;

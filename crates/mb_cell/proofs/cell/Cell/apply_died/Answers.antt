@@ -4,7 +4,7 @@ use Rattle.mb_msg.specs.declared.system.SysMsg.TheVariants as system
 use Rattle.mb_actor.specs.declared.phase.Phase.TheVariants.{Fresh, Ending}
 use Rattle.mb_journal.specs.Life.{phase, closed, children, is_alone}
 use Rattle.mb_journal.specs.Phase.{phase_is}
-use Rattle.mb_cell.specs.Place.{identity_of}
+use Rattle.mb_books.specs.Place.{identity_of}
 use Rattle.mb_cell.specs.Seen.{Seen}
 use Rattle.mb_cell.proofs.DiedRow.{died-row, died-applied}
 use Rattle.mb_cell.proofs.SilentRow as silent

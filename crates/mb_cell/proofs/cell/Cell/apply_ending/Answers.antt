@@ -3,7 +3,7 @@ use Rattle.mb_msg.specs.declared.system.SysMsg.TheVariants as system
 use Rattle.mb_actor.specs.declared.phase.Phase.TheVariants.{Ending}
 use Rattle.mb_journal.specs.Life.{phase, closed, children, is_empty}
 use Rattle.mb_journal.specs.Phase.{phase_is}
-use Rattle.mb_cell.specs.Place.{identity_of}
+use Rattle.mb_books.specs.Place.{identity_of}
 use Rattle.mb_cell.specs.Seen.{Seen}
 use Rattle.mb_cell.proofs.CellLaws.{count-small}
 use Rattle.mb_cell.proofs.EndingRow.{ending-row, terminate-applied}

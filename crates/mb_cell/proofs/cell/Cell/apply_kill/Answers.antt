@@ -6,7 +6,7 @@ use Rattle.mb_journal.specs.Entry.Entry.{Handled}
 use Rattle.mb_journal.specs.Entry.Outcome.{Applied}
 use Rattle.mb_journal.specs.Reading.{IsOpen}
 use Rattle.mb_cell.specs.MayHandle.{MayHandle}
-use Rattle.mb_cell.specs.Place.{identity_of}
+use Rattle.mb_books.specs.Place.{identity_of}
 use Rattle.mb_cell.specs.Seen.{Seen}
 use Rattle.mb_cell.proofs.CellLaws.{count-small}
 use Rattle.mb_cell.proofs.QuietEnvelope as quiet

@@ -6,7 +6,7 @@ use Rattle.mb_journal.specs.Identity.{is_guardian}
 use Rattle.mb_journal.specs.Lawful.{was_live}
 use Rattle.mb_journal.specs.Life.{phase, closed, children, is_alone}
 use Rattle.mb_journal.specs.Phase.{phase_is}
-use Rattle.mb_cell.specs.Place.{identity_of}
+use Rattle.mb_books.specs.Place.{identity_of}
 use Rattle.mb_cell.specs.Seen.{Seen}
 use Rattle.mb_cell.proofs.SilentRow as silent
 use Rattle.mb_cell.proofs.SilentRow.{IsSilentRow}

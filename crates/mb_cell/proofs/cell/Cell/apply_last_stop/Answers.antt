@@ -12,8 +12,8 @@ use Rattle.mb_journal.specs.Lawful.{IsNumbered, was_live}
 use Rattle.mb_journal.specs.Life.{phase, closed, children, is_alone}
 use Rattle.mb_journal.specs.Phase.{phase_is}
 use Rattle.mb_cell.specs.Agrees.{Plays}
-use Rattle.mb_cell.specs.BooksRecord.{Books}
-use Rattle.mb_cell.specs.Place.{identity_of}
+use Rattle.mb_books.specs.BooksRecord.{Books}
+use Rattle.mb_books.specs.Place.{identity_of}
 use Rattle.mb_cell.specs.Seen.{Seen}
 use Rattle.mb_cell.proofs.CallingRow as calling
 use Rattle.mb_cell.proofs.CallingRow.{IsCallingRow, IsCalled}

@@ -11,9 +11,9 @@ use Rattle.mb_journal.specs.Lawful.{IsExpected}
 use Rattle.mb_journal.specs.Reading.{IsOpen}
 use Rattle.mb_journal.proofs.Fold.{queries}
 use Rattle.mb_cell.specs.Agrees.{Plays}
-use Rattle.mb_cell.specs.BooksRecord.{Books}
+use Rattle.mb_books.specs.BooksRecord.{Books}
 use Rattle.mb_cell.specs.MayHandle.{MayHandle}
-use Rattle.mb_cell.specs.Place.{identity_of}
+use Rattle.mb_books.specs.Place.{identity_of}
 use Rattle.mb_cell.specs.Seen.{Seen}
 use Rattle.mb_cell.proofs.CallingRow as calling
 use Rattle.mb_cell.proofs.CallingRow.{IsCallingRow, IsCalled}

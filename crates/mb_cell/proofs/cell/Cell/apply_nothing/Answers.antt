@@ -2,7 +2,7 @@ use Rattle.std.proofs.Common.{◌≡◌, false, sym, subst}
 use Rattle.std.specs.Prelude.{[]}
 use Rattle.mb_journal.specs.Life.{closed}
 use Rattle.mb_cell.specs.Nothing.{DoesNothing}
-use Rattle.mb_cell.specs.Place.{identity_of}
+use Rattle.mb_books.specs.Place.{identity_of}
 use Rattle.mb_cell.specs.Seen.{Seen}
 use Rattle.mb_cell.proofs.NothingRow.{nothing-row}
 use Rattle.mb_cell.proofs.SilentRow as silent

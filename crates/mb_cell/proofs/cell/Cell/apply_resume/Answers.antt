@@ -2,7 +2,7 @@ use Rattle.std.proofs.Common.{◌≡◌, sym, subst}
 use Rattle.mb_msg.specs.declared.system.SysMsg.TheVariants as system
 use Rattle.mb_actor.specs.declared.phase.Phase.TheVariants.{Live}
 use Rattle.mb_journal.specs.Life.{phase}
-use Rattle.mb_cell.specs.Place.{identity_of}
+use Rattle.mb_books.specs.Place.{identity_of}
 use Rattle.mb_cell.specs.Seen.{Seen}
 use Rattle.mb_cell.proofs.ResumeRow.{resume-row, resume-applied}
 use Rattle.mb_cell.proofs.SilentRow as silent

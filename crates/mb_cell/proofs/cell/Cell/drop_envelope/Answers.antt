@@ -4,7 +4,7 @@ use Rattle.mb_journal.specs.Entry.{Entry}
 use Rattle.mb_journal.specs.Entry.Entry.{Dropped}
 use Rattle.mb_journal.specs.Lawful.{IsUnexpected}
 use Rattle.mb_cell.specs.MayHandle.{MayHandle}
-use Rattle.mb_cell.specs.Place.{identity_of}
+use Rattle.mb_books.specs.Place.{identity_of}
 use Rattle.mb_cell.specs.Seen.{Seen}
 use Rattle.mb_cell.proofs.QuietEnvelope as quiet
 use Rattle.mb_cell.proofs.QuietEnvelope.{IsQuietEnvelope}

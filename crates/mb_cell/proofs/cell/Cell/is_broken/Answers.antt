@@ -1,6 +1,6 @@
 use Rattle.std.proofs.Common.{ap, sym, ◌∙◌}
 use Rattle.mb_journal.specs.Identity.{is_guardian}
-use Rattle.mb_cell.specs.BooksRecord.{Books}
+use Rattle.mb_books.specs.BooksRecord.{Books}
 use Rattle.mb_cell.specs.Seen.{Seen}
 use Rattle.mb_cell.proofs.GuardianLemmas.{broken-actor}
 use Rattle.mb_cell.proofs.cell.Cell.is_broken.Goals as goal

@@ -2,7 +2,7 @@ use Rattle.std.proofs.Common.{◌≡◌, ℕ, [], true, false, refl, ap, sym, �
 use Rattle.std.specs.Prelude.{Option, Some, None, is_some, is_none, IfSome}
 use Rattle.mb_actor.specs.Behaviour.{AllowsSame}
 use Rattle.mb_actor.specs.Called.{Called}
-use Rattle.mb_cell.specs.BooksRecord.{Books}
+use Rattle.mb_books.specs.BooksRecord.{Books}
 use Rattle.mb_cell.proofs.NewLaw.{first_books, agrees-new, plays-new}
 use Rattle.mb_cell.proofs.cell.Cell.new.Given as given
 use Rattle.mb_cell.proofs.cell.Cell.new.Goals as goal
