@@ -5,3 +5,4 @@ pub mod SettleLemmas
 pub mod StepLemmas
 pub mod TellLaw
 pub mod TellLemmas
+pub mod TellSteps

@@ -1,6 +1,6 @@
 -- What each step makes of a settled home.
 use Rattle.std.proofs.Common.{◌≡◌, ◌⊎◌, inl, inr, ℕ, ◌+◌, ◌%◌, ◌^◌, ◌<◌, ◌≤◌, Bool, true, false, List, [], ◌∷◌, ◌++◌, length, refl, sym, ap, ◌∙◌, subst, arith, append-nil}
-use Rattle.std.specs.Prelude.{All, if◌then◌else◌, ◌==◌, not, ◌&&◌, slice_get, Option, Some, None, IsSome, IsTrue}
+use Rattle.std.specs.Prelude.{All, Contains, if◌then◌else◌, ◌==◌, not, ◌&&◌, slice_get, Option, Some, None, IsSome, IsTrue}
 use Rattle.std.proofs.Math.Nat.{mod-eq_of_lt}
 use Rattle.std.proofs.lemmas.List.Elements.{All-nil}
 use Rattle.std.proofs.lemmas.Option.{slice_get_within, get_or_from_slice_get}
@@ -13,14 +13,17 @@ use Rattle.mb_actor.specs.declared.phase.Phase.{Phase}
 use Rattle.mb_actor.specs.declared.phase.Phase.TheVariants.{Fresh, Live, Broken, Ending, Ended}
 use Rattle.mb_journal.specs.Acts.{Act, acts}
 use Rattle.mb_journal.specs.Aside.{aside, ever_aside, first_of_list, next_front, next_number}
+use Rattle.mb_journal.specs.Reading.{IsOpen}
 use Rattle.mb_journal.specs.Suspension.{count}
+use Rattle.mb_cell.proofs.OpenLaws.{open-live}
+use Rattle.std.proofs.lemmas.Bool.Decides.{nat_tests}
 use Rattle.mb_journal.specs.Entry.{Entry, Outcome}
 use Rattle.mb_journal.specs.Entry.Entry.{Handled, System, Dropped}
 use Rattle.mb_journal.specs.Identity.{Identity, is_guardian}
 use Rattle.mb_journal.specs.Lawful.{IsLawful, IsNumbered}
 use Rattle.mb_journal.specs.Life.{closed, phase, phase_after}
 use Rattle.mb_journal.specs.Phase.{phase_is}
-use Rattle.mb_cell.specs.Seen.{Seen, IsOf, TakesSystem, TakesEnvelope, with_entry}
+use Rattle.mb_cell.specs.Seen.{Seen, IsOf, MayTake, TakesSystem, TakesEnvelope, with_entry}
 use Rattle.mb_queue.specs.Passes.{Sending, Taking}
 use Rattle.mb_fates.specs.Accepted.{to_actor}
 use Rattle.mb_fates.specs.Fates.{begun}
@@ -28,7 +31,7 @@ use Rattle.mb_fates.specs.Told.{Telling, tells, told}
 use Rattle.mb_home.specs.Contents.{Contents}
 use Rattle.mb_home.specs.Roll.{Enrolled}
 use Rattle.mb_home.specs.Settled.{IsOwn, IsCounted, IsReason, IsSettled, messages_of, aside_at_end}
-use Rattle.mb_home.specs.Steps.{most_tells, at_first, IsDue}
+use Rattle.mb_home.specs.Steps.{most_tells, at_first, AppliesNext, IsDue}
 use Rattle.mb_home.proofs.CountLemmas.{aside-below, few-numbers, front-of, next-new, next-again, rest-first}
 use Rattle.mb_home.proofs.SettleLemmas.{with_more, settled-more}
 
@@ -78,7 +81,7 @@ module _ (h : Contents) (gives : Moment → Reply → Type 0) (s : IsSettled giv
           ∙ ap (λ n. numbered ((n + h.dropped) % 2 ^ 64) (messages_of h.rest)) (sym (next-again h.cell.journal number m outcome less))
           ∙ ap (λ l. numbered ((next_number (System number m outcome ∷ h.cell.journal) + h.dropped) % 2 ^ 64) (messages_of l)) (sym is.1)
 
-  -- after the message that was due
+  -- then the message that was due
   pub settled-next : (new : Seen) (number : ℕ) (m : SysMsg) (left : List (ℕ × SysMsg)) (aside_dead : ℕ) → most_tells ≤ h.room →
       TakesSystem h.cell new number m → IsDue (next_front h.cell.who h.cell.journal) h.rest number m left → IsLawful new.who gives new.journal →
       aside_dead ≡ (if closed new.who new.journal then length (aside h.cell.who h.cell.journal) else 0) →
@@ -127,11 +130,11 @@ begun-one before (Handled x r o) envelope reading of_it = ap (λ (y : Envelope).
 begun-one before (System n m o) envelope reading of_it = absurd of_it
 begun-one before (Dropped x) envelope reading of_it = ap (λ (y : Envelope). begun before ++ y ∷ []) of_it
 
-open-aside : (who : Identity) (journal : List Entry) → closed who journal ≡ false → aside_at_end who journal ≡ 0
+pub open-aside : (who : Identity) (journal : List Entry) → closed who journal ≡ false → aside_at_end who journal ≡ 0
 open-aside who [] not_ended = refl
 open-aside who (e ∷ before) not_ended = ap (λ b. if b then length (aside who before) else 0) not_ended
 
--- after an envelope that was begun
+-- then an envelope that was begun
 pub settled-begun : (h : Contents) (gives : Moment → Reply → Type 0) (new : Seen) (take : Taking) (envelope : Envelope) (reading : ℕ) → IsSettled gives [] h →
     closed h.cell.who h.cell.journal ≡ false → most_tells ≤ h.room → TakesEnvelope h.cell new envelope reading → IsLawful new.who gives new.journal →
     take.queue ≡ h.take.queue → take.taken ≡ h.take.taken ++ envelope ∷ [] → IsSettled gives new.acts (record h { cell = new; take = take })
@@ -198,3 +201,75 @@ rested-first cell untouched = ap (λ j. next_front cell.who j) untouched ∙ by_
     by_tests false c = refl
     by_tests true true = refl
     by_tests true false = refl
+
+-- an open reading is of a Live actor
+pub open-phase : (h : Contents) (gives : Moment → Reply → Type 0) (reading : ℕ) → IsSettled gives [] h → IsOpen h.cell.who h.cell.journal reading →
+    (closed h.cell.who h.cell.journal ≡ false) × (phase h.cell.who h.cell.journal ≡ Live)
+open-phase h gives reading s is_open =
+    let tests : (closed h.cell.who h.cell.journal ≡ false) × (count h.cell.who h.cell.journal ≡ 0) =
+    (grind (arith, nat_tests, is_open.open_word, is_open.same_count, is_open.same_closing), grind (arith, nat_tests, is_open.open_word, is_open.same_count, is_open.same_closing)) in
+    (tests.0, open-live h.cell.who gives h.cell.journal s.lawful.entries tests.1 tests.0)
+
+-- the guardian is given no envelope: nobody pushes for it
+pub an-actor : (h : Contents) (gives : Moment → Reply → Type 0) (by : ℕ) → IsSettled gives [] h → Contains h.take.queue.senders by → is_guardian h.cell.who ≡ false
+an-actor h gives by s known = by_test (is_guardian h.cell.who) refl
+  where
+    by_test : (b : Bool) → is_guardian h.cell.who ≡ b → b ≡ false
+    by_test false an_actor = refl
+    by_test true guardian = absurd (let none : Contains [] by = subst (λ (l : List ℕ). Contains l by) (s.own.nobody guardian) known in omega (arith, none.1))
+
+-- ---- a system message that is due
+
+-- the cell may be given it
+pub may-take : (h : Contents) (gives : Moment → Reply → Type 0) → IsSettled gives [] h → closed h.cell.who h.cell.journal ≡ false →
+    (mid : Contents) (number : ℕ) (m : SysMsg) → IsTrue h.cell.is_ready → h.cell.acts ≡ [] →
+    IsDue (next_front h.cell.who h.cell.journal) h.rest number m mid.rest → mid ≡ record h { rest = mid.rest } → MayTake mid.cell number m
+may-take h gives s not_ended mid number m ready none due same =
+    subst (λ (x : Contents). MayTake x.cell number m) (sym same)
+    (record { ready = ready; carried_out = none; not_ended = not_ended; numbered = number-due h gives s not_ended number m mid.rest due })
+
+cell-kept : (h mid : Contents) → mid ≡ record h { rest = mid.rest } → mid.cell ≡ h.cell
+cell-kept h mid same = ap (λ (x : Contents). x.cell) same
+
+whole : (h mid new : Contents) → mid ≡ record h { rest = mid.rest } → new ≡ record mid { cell = new.cell; aside_dead = new.aside_dead } →
+    new ≡ record h { cell = new.cell; rest = mid.rest; aside_dead = new.aside_dead }
+whole h mid new same later =
+    later ∙ ap (λ (x : Contents). record x { cell = new.cell; aside_dead = new.aside_dead }) same
+
+rest-kept : (h mid new : Contents) → mid ≡ record h { rest = mid.rest } → new ≡ record mid { cell = new.cell; aside_dead = new.aside_dead } →
+    mid.rest ≡ new.rest
+rest-kept h mid new same later = sym (ap (λ (x : Contents). x.rest) later)
+
+-- it was taken
+pub applies-next : (h mid new : Contents) (number : ℕ) (m : SysMsg) → IsDue (next_front h.cell.who h.cell.journal) h.rest number m mid.rest →
+    mid ≡ record h { rest = mid.rest } → TakesSystem mid.cell new.cell number m → new ≡ record mid { cell = new.cell; aside_dead = new.aside_dead } →
+    AppliesNext h new
+applies-next h mid new number m due same took later = record {
+  number = number;
+  message = m;
+  due = subst (λ l. IsDue (next_front h.cell.who h.cell.journal) h.rest number m l) (rest-kept h mid new same later) due;
+  taken = subst (λ (x : Seen). TakesSystem x new.cell number m) (cell-kept h mid same) took;
+  same = whole h mid new same later ∙ ap (λ l. record h { cell = new.cell; rest = l; aside_dead = new.aside_dead }) (rest-kept h mid new same later);
+}
+
+-- and the books are settled but for its acts
+pub settled-applied : (h mid new : Contents) (gives : ℕ → Moment → Reply → Type 0) (number : ℕ) (m : SysMsg) →
+    IsSettled (gives h.cell.who.this.0) [] h → closed h.cell.who h.cell.journal ≡ false → most_tells ≤ h.room →
+    IsDue (next_front h.cell.who h.cell.journal) h.rest number m mid.rest → mid ≡ record h { rest = mid.rest } →
+    TakesSystem mid.cell new.cell number m → IsLawful new.cell.who (gives new.cell.who.this.0) new.cell.journal →
+    new.aside_dead ≡ (if closed new.cell.who new.cell.journal then length (aside mid.cell.who mid.cell.journal) else mid.aside_dead) →
+    new ≡ record mid { cell = new.cell; aside_dead = new.aside_dead } → IsSettled (gives new.cell.who.this.0) new.cell.acts new
+settled-applied h mid new gives number m s not_ended room due same took lawful counted later =
+    let took' : TakesSystem h.cell new.cell number m = subst (λ (x : Seen). TakesSystem x new.cell number m) (cell-kept h mid same) took in
+    let who : new.cell.who ≡ h.cell.who = ap (λ (x : Seen). x.who) took'.adds in
+    let lawful' : IsLawful new.cell.who (gives h.cell.who.this.0) new.cell.journal =
+    subst (λ (w : Identity). IsLawful new.cell.who (gives w.this.0) new.cell.journal) who lawful in
+    let counted' : new.aside_dead ≡ (if closed new.cell.who new.cell.journal then length (aside h.cell.who h.cell.journal) else 0) =
+    counted
+    ∙ ap (λ (x : Contents). if closed new.cell.who new.cell.journal then length (aside x.cell.who x.cell.journal) else x.aside_dead) same
+    ∙ ap (λ n. if closed new.cell.who new.cell.journal then length (aside h.cell.who h.cell.journal) else n)
+    (s.counted.aside ∙ open-aside h.cell.who h.cell.journal not_ended) in
+    let done =
+    settled-next h (gives h.cell.who.this.0) s not_ended new.cell number m mid.rest new.aside_dead room took' due lawful' counted' in
+    subst (λ (w : Identity). IsSettled (gives w.this.0) new.cell.acts new) (sym who)
+    (subst (λ (x : Contents). IsSettled (gives h.cell.who.this.0) new.cell.acts x) (sym (whole h mid new same later)) done)

@@ -12,6 +12,7 @@ use Rattle.mb_journal.specs.Aside.{next_front}
 use Rattle.mb_journal.specs.Entry.{Entry}
 use Rattle.mb_cell.specs.Seen.{Seen, TakesSystem, TakesEnvelope}
 use Rattle.mb_queue.specs.Passes.{Sending, Taking}
+use Rattle.mb_queue.specs.Pushes.{IsRefusal}
 use Rattle.mb_queue.specs.Takes.{IsTake, EachOnce}
 use Rattle.mb_home.specs.Contents.{Contents}
 use Rattle.mb_home.specs.Roll.{Enrolled}
@@ -89,6 +90,31 @@ pub record Buries (old new : Contents) (to : ActorId) (body : Body) (reason : Wh
 abbrev pub reason_of : PushError → Why
 reason_of (Full e) = why.Full
 reason_of (NoMemory e) = why.NoMemory
+
+-- the envelope may be pushed by this pass: it is of its sender, and to the receiver of its queue
+abbrev pub Fits : Envelope → Sending → Type 0
+Fits e p = (e.by.0 ≡ p.by) × (e.to.0 ≡ p.queue.to)
+
+-- it was pushed by the pass of this place, and no other changed
+pub record PushesInto (old new : List Sending) (place : ℕ) (e : Envelope) : Type 0 where
+  pub pass : Sending
+  pub was : slice_get old place ≡ Some pass
+  pub same : new ≡ slice_set old place (with_pushed e pass)
+
+-- it was refused by the pass of this place: as full only by a queue that has a bound
+pub record IsRefusedBy (old : List Sending) (place : ℕ) (refused : PushError) : Type 0 where
+  pub pass : Sending
+  pub was : slice_get old place ≡ Some pass
+  pub refusal : IsRefusal pass refused
+
+abbrev pub Refuses : Contents → ℕ → PushError → Type 0
+Refuses h place refused = IsRefusedBy h.sends place refused
+
+-- it was pushed, and is counted
+pub record Delivers (old new : Contents) (place : ℕ) (e : Envelope) : Type 0 where
+  pub pass : Sending
+  pub was : slice_get old.sends place ≡ Some pass
+  pub same : new ≡ record old { sends = slice_set old.sends place (with_pushed e pass); sent = (old.sent + 1) % 2 ^ 64 }
 
 -- an envelope was taken, and begun at this reading
 pub record Begins (old new : Contents) (reading : ℕ) : Type 0 where

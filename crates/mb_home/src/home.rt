@@ -98,6 +98,22 @@ impl<A: Actor, K: Behaviours> Home<A, K> {
         ensures rested { IsRested result }
     {
         let _ = cell.journal();
+        Self::unused(alloc, id, cell, take, sends, roll)
+    }
+
+    /// The fields of an unused home.
+    fn unused(
+        alloc: Global,
+        id: ActorId,
+        cell: Cell<A, K>,
+        take: TakePass,
+        sends: Vec<SendPass>,
+        roll: &Vec<Named<A, K>>,
+    ) -> Self
+        requires { id ≡ cell.who.this }
+        ensures { result ≡ at_first cell take sends.items result.room
+            (map (λ n. record { who = n.cell.value.who; queue = n.take.value.queue }) roll.now.items) }
+    {
         Home {
             id,
             cell,

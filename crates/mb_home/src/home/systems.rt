@@ -1,15 +1,20 @@
 //! System messages: what is drained, and which goes next.
 
-ghost use Rattle.std.specs.Prelude.{◌≡◌, ◌+◌, ◌%◌, ◌^◌, ◌≤◌, ◌↔◌, [], false, length, IsTrue, IsErrOf, MatchBool, OnOk, OnErr};
+ghost use Rattle.std.specs.Prelude.{◌≡◌, ◌+◌, ◌%◌, ◌^◌, ◌≤◌, ◌↔◌, [], false, length, IsTrue, IsErrOf, MatchBool, OnOk, OnErr, if◌then◌else◌};
 ghost use Rattle.mb_syslist.specs.MessageList.{numbered};
-ghost use Rattle.mb_journal.specs.Aside.{next_number};
+ghost use Rattle.mb_actor.specs.declared.phase.Phase.TheVariants.{Ended};
+ghost use Rattle.mb_journal.specs.Aside.{aside, next_front, next_number};
+ghost use Rattle.mb_journal.specs.Lawful.{IsLawful};
+ghost use Rattle.mb_journal.specs.Phase.{phase_is};
+ghost use Rattle.mb_cell.specs.Seen.{MayTake, TakesSystem};
 ghost use Rattle.mb_journal.specs.Life.{closed};
 ghost use Rattle.mb_home.specs.Settled.{IsSettled, messages_of};
-ghost use Rattle.mb_home.specs.Steps.{HasNext, IsRested, AppliesNext, most_tells};
+ghost use Rattle.mb_home.specs.Steps.{HasNext, IsRested, AppliesNext, IsDue, most_tells};
 
 use super::Home;
 use mb_actor::{Actor, Behaviours, Phase};
 use mb_journal::ReadyError;
+use mb_msg::SysMsg;
 use mb_msg::limits::EFFECTS;
 use mb_syslist::Chain;
 
@@ -64,16 +69,46 @@ impl<A: Actor, K: Behaviours> Home<A, K> {
         ensures applied { AppliesNext self.old self.new }
         ensures settled { IsSettled (K.gives self.new.cell.who.this.0) self.new.cell.acts self.new }
     {
+        let (number, message) = self.next_due();
+        self.apply(number, message);
+    }
+
+    /// Takes out the message that is due.
+    fn next_due(&mut self) -> (u64, SysMsg)
+        requires due { HasNext self.old }
+        ensures due { IsDue (next_front self.old.cell.who self.old.cell.journal) self.old.rest result.0 result.1 self.new.rest }
+        ensures same { self.new ≡ record self.old { rest = self.new.rest } }
+    {
+        if let Some(front) = self.cell.next_front() {
+            return front;
+        }
+        match self.rest.next() {
+            Some((number, node)) => (number, node.msg()),
+            None => unreachable!(),
+        }
+    }
+
+    /// Gives it to the cell, and counts what was set aside if the actor ended.
+    fn apply(&mut self, number: u64, message: SysMsg)
+        requires may_take { MayTake self.old.cell number message }
+        ensures taken { TakesSystem self.old.cell self.new.cell number message }
+        ensures lawful { IsLawful self.new.cell.who (K.gives self.new.cell.who.this.0) self.new.cell.journal }
+        ensures aside { self.new.aside_dead ≡ (if closed self.new.cell.who self.new.cell.journal
+            then length (aside self.old.cell.who self.old.cell.journal) else self.old.aside_dead) }
+        ensures same { self.new ≡ record self.old { cell = self.new.cell; aside_dead = self.new.aside_dead } }
+    {
         let aside = self.cell.aside().len() as u64;
-        match self.cell.next_front() {
-            Some((number, message)) => self.cell.apply_system(number, message),
-            None => match self.rest.next() {
-                Some((number, node)) => self.cell.apply_system(number, node.msg()),
-                None => unreachable!(),
-            },
-        }
-        if matches!(self.cell.phase(), Phase::Ended) {
-            self.aside_dead = aside;
-        }
+        self.cell.apply_system(number, message);
+        self.aside_dead = counted(self.cell.phase(), aside, self.aside_dead);
+    }
+}
+
+/// How many that were set aside are dead: these, if the actor ended, else as before.
+fn counted(phase: Phase, aside: u64, before: u64) -> u64
+    ensures { result ≡ (if phase_is phase Ended then aside else before) }
+{
+    match phase {
+        Phase::Ended => aside,
+        Phase::Fresh | Phase::Live | Phase::Broken | Phase::Ending => before,
     }
 }
