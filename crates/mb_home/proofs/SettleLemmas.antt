@@ -290,26 +290,28 @@ settled-pushed h gives to body left place pass s place_is was =
     by_place : (k : ℕ) (p : Sending) → slice_get (slice_set h.sends place (with_pushed (next_envelope h to body) pass)) k ≡ Some p →
         ((k ≡ place) × (p ≡ with_pushed (next_envelope h to body) pass)) ⊎ ((k ≢ place) × (slice_get h.sends k ≡ Some p))
     by_place k p there = get-set h.sends place k pass (with_pushed (next_envelope h to body) pass) p was there
+
     receivers : (k : ℕ) (p : Sending) → slice_get (slice_set h.sends place (with_pushed (next_envelope h to body) pass)) k ≡ Some p → p.queue.to ≡ k + 1
     receivers k p there =
         elim (by_place k p there) [
-          inl here ↦ ap (λ (q : Sending). q.queue.to) here.1 ∙ s.own.receivers place pass was ∙ ap (λ n. n + 1) (sym here.0)
+          | inl here ↦ ap (λ (q : Sending). q.queue.to) here.1 ∙ s.own.receivers place pass was ∙ ap (λ n. n + 1) (sym here.0)
           | inr other ↦ s.own.receivers k p other.1
         ]
+
     pushed : (k : ℕ) (p : Sending) → slice_get (slice_set h.sends place (with_pushed (next_envelope h to body) pass)) k ≡ Some p →
         p.pushed ≡ to_actor (k + 1) (queued (s.posted.postings ++ posting (next_envelope h to body) None ∷ []))
     pushed k p there =
         elim (by_place k p there) [
-          inl here ↦
-          ap (λ (q : Sending). q.pushed) here.1
-          ∙ ap (λ l. l ++ next_envelope h to body ∷ []) (s.posted.pushed place pass was)
-          ∙ sym (to-more (place + 1) (queued s.posted.postings) (next_envelope h to body) (is-one to.0 (place + 1) place_is))
-          ∙ ap (to_actor (place + 1)) (sym (queued-more s.posted.postings (next_envelope h to body)))
-          ∙ ap (λ n. to_actor (n + 1) (queued (s.posted.postings ++ posting (next_envelope h to body) None ∷ []))) (sym here.0)
+          | inl here ↦
+              ap (λ (q : Sending). q.pushed) here.1
+              ∙ ap (λ l. l ++ next_envelope h to body ∷ []) (s.posted.pushed place pass was)
+              ∙ sym (to-more (place + 1) (queued s.posted.postings) (next_envelope h to body) (is-one to.0 (place + 1) place_is))
+              ∙ ap (to_actor (place + 1)) (sym (queued-more s.posted.postings (next_envelope h to body)))
+              ∙ ap (λ n. to_actor (n + 1) (queued (s.posted.postings ++ posting (next_envelope h to body) None ∷ []))) (sym here.0)
           | inr other ↦
-          s.posted.pushed k p other.1
-          ∙ sym (to-same (k + 1) (queued s.posted.postings) (next_envelope h to body) (is-other to.0 (k + 1) (λ e. other.0 (omega (arith, e, place_is)))))
-          ∙ ap (to_actor (k + 1)) (sym (queued-more s.posted.postings (next_envelope h to body)))
+              s.posted.pushed k p other.1
+              ∙ sym (to-same (k + 1) (queued s.posted.postings) (next_envelope h to body) (is-other to.0 (k + 1) (λ e. other.0 (omega (arith, e, place_is)))))
+              ∙ ap (to_actor (k + 1)) (sym (queued-more s.posted.postings (next_envelope h to body)))
         ]
 
 get-drop : {X : Type 0} (xs : List X) (i : ℕ) → slice_get (drop 1 xs) i ≡ slice_get xs (suc i)

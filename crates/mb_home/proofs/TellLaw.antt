@@ -118,6 +118,7 @@ module _ (who : Identity) (gives : Moment → Reply → Type 0) (before : List E
       by_watch : (b : Bool) → (b ≡ true → 0 < who.this.0) → AreFew who.actors 1 (if b then Tell who.this (body.Terminated x) ∷ [] else [])
       by_watch true above = few-tell who.actors 0 who.this (body.Terminated x) [] (above refl) less (few-none who.actors)
       by_watch false above = few-more who.actors 0 1 [] (omega arith) (few-none who.actors)
+
       by_end : (b : Bool) → AreFew who.actors (length effects) (if b then end_acts who (watchers before) effects else [])
       by_end true = few-end (tray_of who) who (watchers before) effects held.0
       by_end false = few-more who.actors 0 (length effects) [] (omega arith) (few-none who.actors)

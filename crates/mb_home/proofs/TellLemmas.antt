@@ -177,6 +177,7 @@ tells-fail who by own c except = by_test (is_nobody by)
         tells-append (SuspendSelf ∷ to_each system.Suspend (filter (λ x. not (has except x)) own)) (report who c ∷ [])
         ∙ ap (λ l. l ++ tells (report who c ∷ [])) (tells-to_each system.Suspend (filter (λ x. not (has except x)) own))
         ∙ tells-report who c
+
     by_test : (b : Bool) → tells (if b then SuspendSelf ∷ to_each system.Suspend (filter (λ x. not (has except x)) own) ++ report who c ∷ [] else []) ≡ []
     by_test true = all
     by_test false = refl

@@ -1,6 +1,6 @@
 -- What a tell and an envelope make of a settled home, in the forms of the calls.
-use Rattle.std.proofs.Common.{◌≡◌, ℕ, ◌+◌, ◌-◌, ◌%◌, ◌^◌, ◌<◌, ◌≤◌, false, List, [], ◌∷◌, ◌++◌, length, refl, sym, ap, ◌∙◌, subst, arith}
-use Rattle.std.specs.Prelude.{All, Contains, IsTrue, slice_get, slice_set, Option, Some, None}
+use Rattle.std.proofs.Common.{◌≡◌, ℕ, zero, suc, ◌+◌, ◌-◌, ◌%◌, ◌^◌, ◌<◌, ◌≤◌, false, List, [], ◌∷◌, ◌++◌, length, refl, sym, ap, ◌∙◌, subst, arith}
+use Rattle.std.specs.Prelude.{All, Contains, IsTrue, slice_get, slice_set, Option, Some, None, Result, Ok, Err, MatchResult, IfErr}
 use Rattle.std.proofs.lemmas.List.Elements.{All-head}
 use Rattle.std.proofs.lemmas.Option.{slice_get_within, get_or_from_slice_get}
 use Rattle.mb_msg.specs.declared.dead_letter.Why.{Why}
@@ -16,6 +16,7 @@ use Rattle.mb_journal.specs.Life.{closed}
 use Rattle.mb_journal.specs.Reading.{IsOpen}
 use Rattle.mb_lane.specs.declared.refused.PushError.{PushError}
 use Rattle.mb_lane.specs.declared.refused.PushError.TheVariants.{Full, NoMemory}
+use Rattle.mb_lane.specs.Rule.{given_back}
 use Rattle.mb_cell.specs.MayHandle.{MayHandle}
 use Rattle.mb_cell.specs.Seen.{Seen, TakesEnvelope}
 use Rattle.mb_queue.specs.Passes.{Sending, Taking}
@@ -24,7 +25,7 @@ use Rattle.mb_fates.specs.Told.{Telling, tells}
 use Rattle.mb_home.specs.Contents.{Contents}
 use Rattle.mb_home.specs.Roll.{Enrolled, IsBounded}
 use Rattle.mb_home.specs.Settled.{IsOwn, IsReason, IsSettled}
-use Rattle.mb_home.specs.Steps.{most_tells, next_envelope, reason_of, with_pushed, Fits, Delivers, Pushes, Refuses}
+use Rattle.mb_home.specs.Steps.{most_tells, next_envelope, reason_of, with_pushed, Fits, Delivers, IsRefusedBy, Pushes, PushesInto, Refuses}
 use Rattle.mb_home.proofs.SettleLemmas.{settled-dead, settled-pushed, bounded-to}
 use Rattle.mb_home.proofs.StepLemmas.{an-actor, open-phase, settled-begun}
 
@@ -91,3 +92,44 @@ settled-taken h gives new take e reading s is_open room took lawful same taken =
     let lawful' : IsLawful new.who (gives h.cell.who.this.0) new.journal = subst (λ (w : Identity). IsLawful new.who (gives w.this.0) new.journal) who lawful in
     subst (λ (w : Identity). IsSettled (gives w.this.0) new.acts (record h { cell = new; take = take })) (sym who)
     (settled-begun h (gives h.cell.who.this.0) new take e reading s (open-phase h (gives h.cell.who.this.0) reading s is_open).0 room took lawful' same taken)
+
+-- ---- a push into one of the queues
+
+set-same : {X : Type 0} (xs : List X) (i : ℕ) (x : X) → slice_get xs i ≡ Some x → slice_set xs i x ≡ xs
+set-same [] i x there = refl
+set-same (y ∷ xs) zero x there = let is : y ≡ x = cc there in ap (λ z. z ∷ xs) (sym is)
+set-same (y ∷ xs) (suc i) x there = ap (λ l. y ∷ l) (set-same xs i x there)
+
+pub pushed-into : (sends : List Sending) (place : ℕ) (e : Envelope) (old new : Sending) (r : Result (Unit {0}) PushError) → slice_get sends place ≡ Some old →
+    MatchResult r (λ _. new ≡ with_pushed e old) (λ refused. (given_back refused ≡ e) × (new ≡ old)) → IfErr r (IsRefusal old) →
+    MatchResult r (λ _. PushesInto sends (slice_set sends place new) place e)
+    (λ refused. (given_back refused ≡ e) × (slice_set sends place new ≡ sends) × IsRefusedBy sends place refused)
+pushed-into sends place e old new (Ok done) was pushed refusal = record { pass = old; was = was; same = ap (slice_set sends place) pushed }
+pushed-into sends place e old new (Err refused) was pushed refusal = (
+  pushed.0,
+  ap (slice_set sends place) pushed.1 ∙ set-same sends place old was,
+  record { pass = old; was = was; refusal = refusal },
+)
+
+pub settled-pushes : (h new : Contents) (gives : ℕ → Moment → Reply → Type 0) (to : ActorId) (told : Body) →
+    IsSettled (gives h.cell.who.this.0) (Tell to told ∷ h.cell.acts) h → Delivers h new (to.0 - 1) (next_envelope h to told) →
+    IsSettled (gives new.cell.who.this.0) new.cell.acts new
+settled-pushes h new gives to told s d =
+    subst (λ (x : Contents). IsSettled (gives x.cell.who.this.0) x.cell.acts x) (sym d.same)
+    (settled-pushed h (gives h.cell.who.this.0) to told h.cell.acts (to.0 - 1) d.pass s (place-is h (gives h.cell.who.this.0) to told h.cell.acts s) d.was)
+
+pub settled-buries : (h mid new : Contents) (gives : ℕ → Moment → Reply → Type 0) (to : ActorId) (told : Body) (refused : PushError) (e : Envelope) (why : Why) →
+    IsSettled (gives h.cell.who.this.0) (Tell to told ∷ h.cell.acts) h → mid ≡ h → Refuses h (to.0 - 1) refused → e ≡ next_envelope h to told →
+    why ≡ reason_of refused →
+    new ≡ record mid { dead = mid.dead ++ record { envelope = e; why = why } ∷ []; sent = (mid.sent + 1) % 2 ^ 64; room = new.room } →
+    mid.room ≡ new.room + 1 → IsSettled (gives new.cell.who.this.0) new.cell.acts new
+settled-buries h mid new gives to told refused e why s same r e_is why_is buried room =
+    let at_h : new ≡ record h { dead = h.dead ++ record { envelope = next_envelope h to told; why = reason_of refused } ∷ []; sent = (h.sent + 1) % 2 ^ 64; room = new.room } =
+    buried
+    ∙ ap (λ (x : Contents). record x { dead = x.dead ++ record { envelope = e; why = why } ∷ []; sent = (x.sent + 1) % 2 ^ 64; room = new.room }) same
+    ∙ ap (λ (x : Envelope). record h { dead = h.dead ++ record { envelope = x; why = why } ∷ []; sent = (h.sent + 1) % 2 ^ 64; room = new.room }) e_is
+    ∙ ap (λ (x : Why). record h { dead = h.dead ++ record { envelope = next_envelope h to told; why = x } ∷ []; sent = (h.sent + 1) % 2 ^ 64; room = new.room }) why_is in
+    let left : h.room ≡ new.room + 1 = sym (ap (λ (x : Contents). x.room) same) ∙ room in
+    subst (λ (x : Contents). IsSettled (gives x.cell.who.this.0) x.cell.acts x) (sym at_h)
+    (settled-dead h (gives h.cell.who.this.0) to told h.cell.acts (reason_of refused) new.room s left
+    (reason-next h (gives h.cell.who.this.0) to told h.cell.acts s refused r))

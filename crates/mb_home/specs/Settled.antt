@@ -83,4 +83,3 @@ pub record IsSettled (gives : Moment → Reply → Type 0) (pending : List Act) 
   pub posted : IsPosted pending h
   pub counted : IsCounted h
   pub reasons : All (λ (d : DeadLetter). IsReason h.roll d.why d.envelope.to.0) h.dead
-

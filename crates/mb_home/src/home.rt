@@ -1,4 +1,4 @@
-ghost use Rattle.std.specs.Prelude.{◌≡◌, [], All, map};
+ghost use Rattle.std.specs.Prelude.{◌≡◌, ◌+◌, ◌%◌, ◌^◌, [], All, map};
 ghost use Rattle.mb_queue.specs.Passes.{Sending};
 ghost use Rattle.mb_home.specs.Settled.{IsOwn, IsSettled};
 ghost use Rattle.mb_home.specs.Steps.{IsRested, at_first};
@@ -126,6 +126,38 @@ impl<A: Actor, K: Behaviours> Home<A, K> {
             aside_dead: 0,
             dropped: 0,
             roll: Snapshot::of(roll),
+        }
+    }
+
+    /// What the home leaves at the end.
+    pub fn into_parts(self) -> Parts<A, K>
+        ensures cell { result.cell ≡ self.cell }
+        ensures passes { (result.take ≡ self.take) × (result.sends.items ≡ self.sends) }
+        ensures sent { (result.sent ≡ self.sent) × (result.dead.items ≡ self.dead) }
+        ensures cleaned { result.cleaned.items ≡ self.cleaned }
+        ensures dead_system { result.dead_system ≡ (self.aside_dead + self.dropped) % 2 ^ 64 }
+    {
+        let Home {
+            id: _,
+            cell,
+            take,
+            sends,
+            rest: _,
+            sent,
+            dead,
+            cleaned,
+            aside_dead,
+            dropped,
+            roll: _,
+        } = self;
+        Parts {
+            cell,
+            take,
+            sends,
+            sent,
+            dead,
+            cleaned,
+            dead_system: aside_dead.wrapping_add(dropped),
         }
     }
 }

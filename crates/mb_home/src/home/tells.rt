@@ -50,7 +50,12 @@ impl<A: Actor, K: Behaviours> Home<A, K> {
     }
 
     /// Pushes an envelope by the pass of this place.
-    fn deliver<R: Wait>(&mut self, rt: &R, place: usize, envelope: Envelope) -> Result<(), PushError>
+    fn deliver<R: Wait>(
+        &mut self,
+        rt: &R,
+        place: usize,
+        envelope: Envelope,
+    ) -> Result<(), PushError>
         requires there { place < length self.old.sends }
         requires fits { (p : Sending) → slice_get self.old.sends place ≡ Some p → Fits envelope p }
         ensures delivered { MatchResult result (λ _. Delivers self.old self.new place envelope)

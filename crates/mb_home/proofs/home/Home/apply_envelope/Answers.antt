@@ -13,11 +13,13 @@ pub apply_envelope-requires : goal.apply_envelope-requires
 apply_envelope-requires g c =
     let h : Contents = c.args.self.now in
     let e : Envelope = c.in-Some.envelope in
-    record { may_handle =
-        subst (λ (x : Contents). MayHandle x.cell e (word_of c.args.reading)) (sym c.self.view_is)
-        (may-handle h (g.K.Behaviours.gives h.cell.who.this.0) e (word_of c.args.reading) c.requires.settled c.requires.open c.requires.ready
-        c.requires.carried_out (subst (λ (x : Contents). Contains x.take.queue.senders e.by.0) c.self.view_is c.in-Some.ensures.sender)
-        (c.in-Some.ensures.addressed ∙ ap (λ (x : Contents). x.take.queue.to) c.self.view_is)) }
+    record {
+      may_handle =
+          subst (λ (x : Contents). MayHandle x.cell e (word_of c.args.reading)) (sym c.self.view_is)
+          (may-handle h (g.K.Behaviours.gives h.cell.who.this.0) e (word_of c.args.reading) c.requires.settled c.requires.open c.requires.ready
+          c.requires.carried_out (subst (λ (x : Contents). Contains x.take.queue.senders e.by.0) c.self.view_is c.in-Some.ensures.sender)
+          (c.in-Some.ensures.addressed ∙ ap (λ (x : Contents). x.take.queue.to) c.self.view_is));
+    }
 
 pub returns-clause-settled : goal.returns-clause-settled
 returns-clause-settled g c =
