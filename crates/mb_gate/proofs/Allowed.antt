@@ -29,6 +29,8 @@ use Rattle.std.proofs.Common.{
   Option,
   Some,
   None,
+  length,
+  ◌^◌,
   arith,
 }
 use mathlib.Core.Option as maybe
@@ -37,9 +39,10 @@ use native.Mathlib.Decide.{ℕ_discrete}
 use mathlib.Core.Option.{none, some}
 use lib.ListN.{get_elem?}
 use prog.Atomic.{either}
+use Rattle.std.specs.declared.snapshot.Snapshot.{Snapshot}
 use Rattle.mb_status.specs.Mailbox.{Mailbox, word_of, is_valid}
 use Rattle.mb_msg.specs.declared.system.SysMsg.{SysMsg}
-use Rattle.mb_syslist.specs.MessageList.{MessageList, with_last, listed, drained, ended}
+use Rattle.mb_syslist.specs.MessageList.{MessageList, with_last, listed, pushed, drained, ended}
 use Rattle.mb_journal.specs.Entry.{Entry}
 use Rattle.atomic_table.specs.Table.{State, Me, Step, step, Allows, Splits, Joins}
 use Rattle.atomic_table.specs.Table.{rest as tail_of}
@@ -49,7 +52,7 @@ use Rattle.mb_rule.specs.Ruled.{Ruled, Goes}
 use Rattle.mb_rule.proofs.RuledLemmas.{allows, splits, joins}
 use Rattle.mb_rule.proofs.SeenLemmas.{each_weaker}
 use Rattle.mb_gate.specs.declared.slot.Slot.{Slot}
-use Rattle.mb_gate.specs.declared.slot.Slot.TheVariants.{Home, List as Listing, Note}
+use Rattle.mb_gate.specs.declared.slot.Slot.TheVariants.{Home, List as Listing, Note, First}
 use Rattle.mb_gate.specs.View.{
   View,
   Read,
@@ -59,6 +62,7 @@ use Rattle.mb_gate.specs.View.{
   Sent,
   Unsent,
   Took,
+  Pushed,
   Drained,
   Ended,
   Held,
@@ -80,6 +84,8 @@ use Rattle.mb_gate.specs.View.{
   claim_alone,
   without_claim,
   taking_over,
+  taking_in,
+  given_after,
 }
 use Rattle.mb_gate.specs.Rule.{
   Word,
@@ -99,6 +105,7 @@ use Rattle.mb_gate.specs.Rule.{
   has_work,
   is_some_item,
   gate_word,
+  all_numbered,
   Shelving,
   Fact,
 }
@@ -126,6 +133,9 @@ use Rattle.mb_gate.specs.Plays.{
   Schedules,
   Idles,
 }
+use Rattle.mb_rule.specs.Seen.{Each}
+use Rattle.mb_gate.specs.Claims.{IsKnownClosed}
+use Rattle.mb_gate.proofs.Numbers.{length_numbered}
 use Rattle.mb_gate.proofs.Views.{drained_nothing}
 use Rattle.mb_gate.proofs.StatusSteps.{reads, is_home, is_held, schedules, writes, idles, idles_closed}
 use Rattle.mb_gate.proofs.WaitingSteps.{sends, unsends, takes_one, counts, looks, sees, glances}
@@ -156,6 +166,9 @@ home_same a b e = cc
 
 list_same : {H : Type 0} (a b : MessageList) → (let x : Slot H = Listing a in x ≡ Listing b) → a ≡ b
 list_same a b e = cc
+
+first_same_home : {H : Type 0} (a b : Snapshot H) → (let x : maybe.Option (Slot H) = some (First a) in x ≡ some (First b)) → a ≡ b
+first_same_home a b e = cc
 
 note_same : {H : Type 0} (a b : SysMsg) → (let x : maybe.Option (Slot H) = some (Note a) in x ≡ some (Note b)) → a ≡ b
 note_same a b e = cc
@@ -218,13 +231,17 @@ no_marks false true false false e = absurd (cc)
 no_marks false false true false e = (refl, refl)
 no_marks false false false false e = (refl, refl)
 
+-- all that is listed counts as given once it is taken out
+given_listed : (l : MessageList) → (l.given + length l.messages) % 2 ^ 64 ≡ given_after l.given (listed l)
+given_listed l = ap (λ k. (l.given + k) % 2 ^ 64) (sym (length_numbered l.given l.messages))
+
 -- a gate's word shows whether there is system work, also while the list is out
 pub marked : (out : Bool) (l : MessageList) (gave : Bool) → shows_work (gate_word out l gave) ≡ (is_some_item l.messages || gave)
 marked out l gave = marks (is_some_item l.messages) gave l.closed out
 
-module _ {H : Type 0} (is_of : ℕ → H → Type 0) (journal : H → List Entry) (mailbox : H → Mailbox) (rested : H → Type 0) where
+module _ {H : Type 0} (is_of : ℕ → H → Type 0) (journal : H → List Entry) (mailbox : H → Mailbox) (rested : H → Type 0) (given_by : H → ℕ) (closed_to : H → List ℕ) where
   abbrev F : ℕ → Spot Word Shelf (Slot H) Ghost → List View → Type 0
-  F = Fact is_of journal mailbox rested
+  F = Fact is_of journal mailbox rested given_by closed_to
 
   abbrev M : Type 0
   M = Me (Slot H) View
@@ -246,8 +263,9 @@ module _ {H : Type 0} (is_of : ℕ → H → Type 0) (journal : H → List Entry
         | Sent a n ↦ (λ h. h)
         | Unsent a n ↦ (λ h. h)
         | Took a n ↦ (λ h. h)
-        | Drained a given ↦ (λ h. h)
-        | Ended a given ↦ (λ h e. ended (h e))
+        | Pushed a n m ↦ (λ h. tt)
+        | Drained a given ↦ (λ h. tt)
+        | Ended a given ↦ (λ h e. ended (h e).0)
       ]) k.seen
 
   goes_further : (actor : ℕ) (x : Place) (v : View) → (IsTrue x.ghost.listed.closed → x.row Status ≡ 1) → x.row Status ≢ 1
@@ -261,25 +279,36 @@ module _ {H : Type 0} (is_of : ℕ → H → Type 0) (journal : H → List Entry
         | Sent a n ↦ (λ h. h)
         | Unsent a n ↦ (λ h. h)
         | Took a n ↦ (λ h. h)
-        | Drained a given ↦ (λ h. h)
-        | Ended a given ↦ (λ h e. unshut (ended (h e)))
+        | Pushed a n m ↦ (λ h. tt)
+        | Drained a given ↦ (λ h. tt)
+        | Ended a given ↦ (λ h e. unshut (ended (h e).0))
       ]) k.seen
 
-  shown_by : (x : Place) (keeper : Option (ℕ × Lent)) → Shelving is_of journal mailbox rested x keeper → has_work x.ghost ≡ shows_work (x.row Gate)
+  shown_by : (x : Place) (keeper : Option (ℕ × Lent)) → Shelving is_of journal mailbox rested given_by closed_to x keeper → has_work x.ghost ≡ shows_work (x.row Gate)
   shown_by x None k = sym (ap shows_work k.word ∙ marked false x.ghost.listed x.ghost.gave)
   shown_by x (Some h) k = sym (ap shows_work k.word ∙ marked true x.ghost.listed x.ghost.gave)
 
-  ends_by : (x : Place) (keeper : Option (ℕ × Lent)) → Shelving is_of journal mailbox rested x keeper → x.row Gate / 8 % 2 ≡ 1 → IsTrue
+  ends_by : (x : Place) (keeper : Option (ℕ × Lent)) → Shelving is_of journal mailbox rested given_by closed_to x keeper → x.row Gate / 8 % 2 ≡ 1 → IsTrue
       x.ghost.listed.closed
   ends_by x None k e = end_mark (is_some_item x.ghost.listed.messages) x.ghost.gave x.ghost.listed.closed false (ap (λ z. z / 8 % 2)
       (sym k.word) ∙ e)
   ends_by x (Some h) k e = end_mark (is_some_item x.ghost.listed.messages) x.ghost.gave x.ghost.listed.closed true (ap (λ z. z / 8 % 2) (sym
       k.word) ∙ e)
 
-  gave_by : (x : Place) (keeper : Option (ℕ × Lent)) → Shelving is_of journal mailbox rested x keeper → x.row Gate % 8 ≡ 0 → (is_some_item
+  gave_by : (x : Place) (keeper : Option (ℕ × Lent)) → Shelving is_of journal mailbox rested given_by closed_to x keeper → x.row Gate % 8 ≡ 0 → (is_some_item
       x.ghost.listed.messages ≡ false) × (x.ghost.gave ≡ false)
   gave_by x None k e = no_marks (is_some_item x.ghost.listed.messages) x.ghost.gave x.ghost.listed.closed false (ap (λ z. z % 8) (sym k.word) ∙ e)
   gave_by x (Some h) k e = no_marks (is_some_item x.ghost.listed.messages) x.ghost.gave x.ghost.listed.closed true (ap (λ z. z % 8) (sym k.word) ∙ e)
+
+  -- the claim knows how many were given of the list that is out
+  same_given : (actor id : ℕ) (me : M) (x : Place) (vs : List View) (c : Held) (l : Lent) → F actor x vs → get_elem? vs id ≡ some me.0
+      → me.0.claim ≡ Some c → c.actor ≡ actor → me.0.list ≡ Some l → l.actor ≡ actor → (l' : Lent) (c' : Held) → me.0.list ≡ Some l' → me.0.claim
+      ≡ Some c' → l'.listed.given ≡ c'.given
+  same_given actor id me x vs c l f at has of keeps of_list l' c' list' claim' =
+      ap (λ (h : Lent). h.listed.given) (some_same l' l (sym list' ∙ keeps))
+      ∙ (ap (λ (z : MessageList). z.given) (is_lent is_of journal mailbox rested given_by closed_to actor id x vs me.0 l f at keeps of_list).1.taken
+      ∙ (sym (is_held is_of journal mailbox rested given_by closed_to actor id x vs me.0 c f at has of).1.count ∙ ap (λ (h : Held). h.given)
+      (some_same c c' (sym has ∙ claim'))))
 
   module _ (n slots id : ℕ) (me : M) (actor i : ℕ) (inside : actor < n) where
     told_read : (x : Place) (vs : List View) → F actor x vs → get_elem? vs id ≡ some me.0 → (a : ℕ) → word_at actor 0 ≡ word_at a 0
@@ -296,40 +325,8 @@ module _ {H : Type 0} (is_of : ℕ → H → Type 0) (journal : H → List Entry
     reads_allowed e = subst (λ j. Allows (Rule n) slots id me j (λ k. k) (Reads (step slots j 0 0 none) me)) (sym e)
         (allows word_offset slot_offset words_few slots_few n F slots id me actor Status (λ k. k) (Reads (step slots (word_at actor 0) 0 0 none)
         me) inside
-        (λ x vs f at fits. reads is_of journal mailbox rested actor id me (Reads (step slots (word_at actor 0) 0 0 none) me (x.row Status)) x vs
+        (λ x vs f at fits. reads is_of journal mailbox rested given_by closed_to actor id me (Reads (step slots (word_at actor 0) 0 0 none) me (x.row Status)) x vs
         f at (told_read x vs f at)))
-
-    pub schedules_allowed : (old new : ℕ) → i ≡ word_at actor 0 → old % 4 ≡ 0 → new ≡ old + 2 → me.0.claim ≡ None
-        → Allows (Rule n) slots id me i (λ k. either (k == old) new k) (Schedules is_of journal mailbox rested (step slots i old new none) me)
-    schedules_allowed old new e free is_new bare = subst (λ j. Allows (Rule n) slots id me j (λ k. either (k == old) new k) (Schedules is_of
-        journal mailbox rested (step slots j old new none) me)) (sym e)
-        (allows word_offset slot_offset words_few slots_few n F slots id me actor Status (λ k. either (k == old) new k) (Schedules is_of journal
-        mailbox rested (step slots (word_at actor 0) old new none) me) inside
-        (λ x vs f at fits. let tell = Schedules is_of journal mailbox rested (step slots (word_at actor 0) old new none) me (x.row Status) in
-        exchanged (x.row Status) old new (λ k. Goes word_offset slot_offset F actor id me Status k tell x vs)
-        (λ hit. let here : x.row Status % 4 ≡ 0 = ap (λ k. k % 4) hit ∙ free in let h = is_home is_of journal mailbox rested actor x vs f here in
-        subst (λ k. Goes word_offset slot_offset F actor id me Status k tell x vs) (sym is_new)
-        (schedules is_of journal mailbox rested actor id me old tell x vs f at here hit bare
-        (λ a w. subst (λ (b : ℕ). (let now : M = (taking actor x.ghost.journal old x.ghost.gave me.0, (slot_at actor 0, Home h.1.home) ∷ me.1) in
-        (x.row Status ≡ old → Won is_of journal mailbox rested b (x.row Status) me now)
-        × (x.row Status ≢ old → (now ≡ (reading b (x.row Status) me.0, me.1)) × IsTrue (is_valid (x.row Status)) × StaysClosed b (x.row Status)
-        me.0))) (same_actor actor a 0 w) (
-          (λ _. record {
-            home = h.1.home;
-            own = h.1.own;
-            word = h.1.word;
-            gave = x.ghost.gave;
-            rest = λ no. h.1.rest (inr no);
-            seen = subst (λ j. GoesOn actor j me.0) (sym h.1.fold) (goes_further actor x me.0 f.ended (λ one. omega arith) (f.seen id me.0 at));
-            now = λ z. (taking actor (sym h.1.fold z) (sym hit z) x.ghost.gave me.0, (slot_at actor 0, Home h.1.home) ∷ me.1);
-          }),
-          (λ miss. absurd (miss hit)),
-        ))))
-        (λ miss. reads is_of journal mailbox rested actor id me tell x vs f at (λ a w. (
-          (λ hit. absurd (miss hit)),
-          (λ _. told_read x vs f at a
-              w),
-        )))))
 
     pub writes_allowed : (c : Held) (new : ℕ) → i ≡ word_at actor 0 → me.0.claim ≡ Some c → c.actor ≡ actor → IsTrue (is_valid new) → (new % 4 ≡
         2) ⊎ (new ≡ 1) → (c.word ≡ 1 → new ≡ 1)
@@ -338,10 +335,10 @@ module _ {H : Type 0} (is_of : ℕ → H → Type 0) (journal : H → List Entry
         me new)) (sym e)
         (allows word_offset slot_offset words_few slots_few n F slots id me actor Status (λ _. new) (λ _. Writes (step slots (word_at actor 0)
         new 0 none) me new) inside
-        (λ x vs f at fits. writes is_of journal mailbox rested actor id me c new (Writes (step slots (word_at actor 0) new 0 none) me new) x vs f
+        (λ x vs f at fits. writes is_of journal mailbox rested given_by closed_to actor id me c new (Writes (step slots (word_at actor 0) new 0 none) me new) x vs f
         at has of valid busy closed refl))
 
-    told_idle : (home : H) (st : Step (Slot H)) (k : ℕ) → me.1 ≡ (slot_at actor 0, Home home) ∷ [] → Idles is_of journal mailbox rested st me k
+    told_idle : (home : H) (st : Step (Slot H)) (k : ℕ) → me.1 ≡ (slot_at actor 0, Home home) ∷ [] → Idles journal st me k
         (idling actor (journal home) me.0, [])
     told_idle home st k carried a other other_carried =
         let same : (slot_at actor 0, Home home) ≡ (slot_at a 0, Home other) = first_same _ _ (sym carried ∙ other_carried) in
@@ -352,35 +349,34 @@ module _ {H : Type 0} (is_of : ℕ → H → Type 0) (journal : H → List Entry
     pub idles_allowed : (c : Held) (home : H) (new : ℕ) → i ≡ word_at actor 0 → me.0.claim ≡ Some c → c.actor ≡ actor → me.1 ≡ (
       slot_at actor 0,
       Home home,
-    ) ∷ [] → is_of actor home → Extends (journal home) c.journal
+    ) ∷ [] → is_of actor home → Extends (journal home) c.journal → given_by home ≡ c.given → Each (λ b. IsKnownClosed b c.closed_to me.0) (closed_to home)
         → c.word ≢ 1 → IsTrue (is_valid new) → new % 4 ≡ 0 → new ≡ word_of (mailbox home) → (c.gave ≡ false → rested home)
-        → Allows (Rule n) slots id me i (λ _. new) (λ _. Idles is_of journal mailbox rested (step slots i new 0 none) me new)
-    idles_allowed c home new e has of carried own longer unshut valid free word rest = subst (λ j. Allows (Rule n) slots id me j (λ _. new) (λ _.
-        Idles is_of journal mailbox rested (step slots j new 0 none) me new)) (sym e)
-        (allows word_offset slot_offset words_few slots_few n F slots id me actor Status (λ _. new) (λ _. Idles is_of journal mailbox rested
+        → Allows (Rule n) slots id me i (λ _. new) (λ _. Idles journal (step slots i new 0 none) me new)
+    idles_allowed c home new e has of carried own longer count known unshut valid free word rest = subst (λ j. Allows (Rule n) slots id me j (λ _. new) (λ _.
+        Idles journal (step slots j new 0 none) me new)) (sym e)
+        (allows word_offset slot_offset words_few slots_few n F slots id me actor Status (λ _. new) (λ _. Idles journal
         (step slots (word_at actor 0) new 0 none) me new) inside
-        (λ x vs f at fits. idles is_of journal mailbox rested actor id me c home new (Idles is_of journal mailbox rested (step slots (word_at
-        actor 0) new 0 none) me new) x vs f at has of carried own longer unshut valid free word rest
+        (λ x vs f at fits. idles is_of journal mailbox rested given_by closed_to actor id me c home new (Idles journal (step slots (word_at
+        actor 0) new 0 none) me new) x vs f at has of carried own longer count known unshut valid free word rest
         (told_idle home (step slots (word_at actor 0) new 0 none) new carried)))
 
     pub idles_closed_allowed : (c : Held) (home : H) → i ≡ word_at actor 1 → me.0.claim ≡ Some c → c.actor ≡ actor → me.1 ≡ (
       slot_at actor 0,
       Home home,
-    ) ∷ [] → is_of actor home → Extends (journal home) c.journal
+    ) ∷ [] → is_of actor home → Extends (journal home) c.journal → given_by home ≡ c.given → Each (λ b. IsKnownClosed b c.closed_to me.0) (closed_to home)
         → c.word ≡ 1 → 1 ≡ word_of (mailbox home) → rested home
-        → Allows (Rule n) slots id me i (λ _. 1) (λ _. Idles is_of journal mailbox rested (step slots i 1 0 none) me 1)
-    idles_closed_allowed c home e has of carried own longer closed word rest = subst (λ j. Allows (Rule n) slots id me j (λ _. 1) (λ _. Idles
-        is_of journal mailbox rested (step slots j 1 0 none) me 1)) (sym e)
-        (allows word_offset slot_offset words_few slots_few n F slots id me actor Flag (λ _. 1) (λ _. Idles is_of journal mailbox rested (step
+        → Allows (Rule n) slots id me i (λ _. 1) (λ _. Idles journal (step slots i 1 0 none) me 1)
+    idles_closed_allowed c home e has of carried own longer count known closed word rest = subst (λ j. Allows (Rule n) slots id me j (λ _. 1) (λ _. Idles journal (step slots j 1 0 none) me 1)) (sym e)
+        (allows word_offset slot_offset words_few slots_few n F slots id me actor Flag (λ _. 1) (λ _. Idles journal (step
         slots (word_at actor 1) 1 0 none) me 1) inside
-        (λ x vs f at fits. idles_closed is_of journal mailbox rested actor id me c home (Idles is_of journal mailbox rested (step slots (word_at
-        actor 1) 1 0 none) me 1) x vs f at has of carried own longer closed word rest
+        (λ x vs f at fits. idles_closed is_of journal mailbox rested given_by closed_to actor id me c home (Idles journal (step slots (word_at
+        actor 1) 1 0 none) me 1) x vs f at has of carried own longer count known closed word rest
         (told_idle home (step slots (word_at actor 1) 1 0 none) 1 carried)))
 
     pub sends_allowed : (g : ℕ → ℕ) (k : ℕ) → i ≡ word_at actor 4 → Allows (Rule n) slots id me i g (Sends (step slots i k 0 none) me)
     sends_allowed g k e = subst (λ j. Allows (Rule n) slots id me j g (Sends (step slots j k 0 none) me)) (sym e)
         (allows word_offset slot_offset words_few slots_few n F slots id me actor Waiting g (Sends (step slots (word_at actor 4) k 0 none) me) inside
-        (λ x vs f at fits. sends is_of journal mailbox rested actor id (g (x.row Waiting)) k me (Sends (step slots (word_at actor 4) k 0 none) me
+        (λ x vs f at fits. sends is_of journal mailbox rested given_by closed_to actor id (g (x.row Waiting)) k me (Sends (step slots (word_at actor 4) k 0 none) me
         (x.row Waiting)) x vs f at
         (λ a w z. (sending (same_actor actor a 4 w z) k me.0, me.1))))
 
@@ -388,7 +384,7 @@ module _ {H : Type 0} (is_of : ℕ → H → Type 0) (journal : H → List Entry
     unsends_allowed g k e = subst (λ j. Allows (Rule n) slots id me j g (Unsends (step slots j k 0 none) me)) (sym e)
         (allows word_offset slot_offset words_few slots_few n F slots id me actor Waiting g (Unsends (step slots (word_at actor 4) k 0 none) me)
         inside
-        (λ x vs f at fits. unsends is_of journal mailbox rested actor id (g (x.row Waiting)) k me (Unsends (step slots (word_at actor 4) k 0 none)
+        (λ x vs f at fits. unsends is_of journal mailbox rested given_by closed_to actor id (g (x.row Waiting)) k me (Unsends (step slots (word_at actor 4) k 0 none)
         me (x.row Waiting)) x vs f at
         (λ a w z. (unsending (same_actor actor a 4 w z) k me.0, me.1))))
 
@@ -397,7 +393,7 @@ module _ {H : Type 0} (is_of : ℕ → H → Type 0) (journal : H → List Entry
     takes_allowed c g k e has of = subst (λ j. Allows (Rule n) slots id me j g (CountsOff (step slots j k 0 none) me)) (sym e)
         (allows word_offset slot_offset words_few slots_few n F slots id me actor Waiting g (CountsOff (step slots
         (word_at actor 4) k 0 none) me) inside
-        (λ x vs f at fits. takes_one is_of journal mailbox rested actor id (g (x.row Waiting)) (Took actor k) me c (CountsOff
+        (λ x vs f at fits. takes_one is_of journal mailbox rested given_by closed_to actor id (g (x.row Waiting)) (Took actor k) me c (CountsOff
         (step slots (word_at actor 4) k 0
         none) me (x.row Waiting)) x vs (λ a y. tt) f at has of (λ a w z. (counting_off (same_actor actor a 4 w z) k me.0, me.1))))
 
@@ -405,7 +401,7 @@ module _ {H : Type 0} (is_of : ℕ → H → Type 0) (journal : H → List Entry
     counts_allowed e = subst (λ j. Allows (Rule n) slots id me j (λ k. k) (Counts (step slots j 0 0 none) me)) (sym e)
         (allows word_offset slot_offset words_few slots_few n F slots id me actor Waiting (λ k. k) (Counts (step slots (word_at actor 4) 0 0
         none) me) inside
-        (λ x vs f at fits. counts is_of journal mailbox rested actor id me (Counts (step slots (word_at actor 4) 0 0 none) me (x.row Waiting)) x
+        (λ x vs f at fits. counts is_of journal mailbox rested given_by closed_to actor id me (Counts (step slots (word_at actor 4) 0 0 none) me (x.row Waiting)) x
         vs f at
         (λ a w z. (counting (same_actor actor a 4 w z) (x.row Waiting) me.0, me.1))))
 
@@ -413,7 +409,7 @@ module _ {H : Type 0} (is_of : ℕ → H → Type 0) (journal : H → List Entry
     looks_allowed e = subst (λ j. Allows (Rule n) slots id me j (λ k. k) (Looks (step slots j 0 0 none) me)) (sym e)
         (allows word_offset slot_offset words_few slots_few n F slots id me actor Gate (λ k. k) (Looks (step slots (word_at actor 2) 0 0 none)
         me) inside
-        (λ x vs f at fits. looks is_of journal mailbox rested actor id me (shows_work (x.row Gate)) (Looks (step slots (word_at actor 2) 0 0
+        (λ x vs f at fits. looks is_of journal mailbox rested given_by closed_to actor id me (shows_work (x.row Gate)) (Looks (step slots (word_at actor 2) 0 0
         none) me (x.row Gate)) x vs (shown_by x x.ghost.keeper f.shelf) f at
         (λ a w z. (looking (same_actor actor a 2 w z) (shows_work (x.row Gate)) me.0, me.1))))
 
@@ -427,7 +423,7 @@ module _ {H : Type 0} (is_of : ℕ → H → Type 0) (journal : H → List Entry
         exchanged (x.row Gate) old new (λ k. Goes word_offset slot_offset F actor id me Gate k tell x vs)
         (λ hit. let here : x.row Gate % 2 ≡ 0 = ap (λ k. k % 2) hit ∙ even in
         subst (λ k. Goes word_offset slot_offset F actor id me Gate k tell x vs) (sym is_new)
-        (grips is_of journal mailbox rested actor id me old tell x vs f at here hit bare
+        (grips is_of journal mailbox rested given_by closed_to actor id me old tell x vs f at here hit bare
         (λ a w. subst (λ (b : ℕ). (let now : M = (
           lending actor x.ghost.listed x.ghost.gave me.0,
           (slot_at actor 1, Listing x.ghost.listed) ∷ me.1,
@@ -436,19 +432,19 @@ module _ {H : Type 0} (is_of : ℕ → H → Type 0) (journal : H → List Entry
           (λ _. record {
             listed = x.ghost.listed;
             gave = x.ghost.gave;
-            word = (is_shelved is_of journal mailbox rested actor x vs f here).1.word;
+            word = (is_shelved is_of journal mailbox rested given_by closed_to actor x vs f here).1.word;
             now = refl;
           }),
           (λ miss. absurd (miss hit)),
         ))))
-        (λ miss. glances is_of journal mailbox rested actor id Gate me tell x vs f at (λ a w. ((λ hit. absurd (miss hit)), (λ _. refl))))))
+        (λ miss. glances is_of journal mailbox rested given_by closed_to actor id Gate me tell x vs f at (λ a w. ((λ hit. absurd (miss hit)), (λ _. refl))))))
 
     told_enlist : (l : Lent) (m : SysMsg) (st : Step (Slot H)) (k : ℕ) → me.0.list ≡ Some l → l.actor ≡ actor → me.1 ≡ (
       slot_at actor 1,
       Listing
           (with_last l.listed m),
     ) ∷ tail_of me.1
-        → Enlists st me k (enlisting actor m me.0, tail_of me.1)
+        → Enlists st me k (enlisting actor (pushed l.listed) m me.0, tail_of me.1)
     told_enlist l m st k has of carried a l' m' has' carried' =
         let same : (slot_at actor 1, Listing (with_last l.listed m)) ≡ (slot_at a 1, Listing (with_last l'.listed m')) = head_same _ _ _ _ (sym
         carried ∙ carried') in
@@ -458,7 +454,7 @@ module _ {H : Type 0} (is_of : ℕ → H → Type 0) (journal : H → List Entry
         let lists : with_last l.listed m ≡ with_last l.listed m' = list_same {H = H} (with_last l.listed m) (with_last l.listed m') (ap (λ (z : ℕ
         × Slot H). z.1) same ∙ (λ z. Listing (with_last (sym lent z).listed m'))) in
         let what : m ≡ m' = snoc_same l.listed.messages m m' (ap (λ (z : MessageList). z.messages) lists) in (λ z. (
-          enlisting (who z) (what z)
+          enlisting (who z) (pushed (lent z).listed) (what z)
               me.0,
           tail_of me.1,
         ))
@@ -474,7 +470,7 @@ module _ {H : Type 0} (is_of : ℕ → H → Type 0) (journal : H → List Entry
         me new)) (sym e)
         (allows word_offset slot_offset words_few slots_few n F slots id me actor Gate (λ _. new) (λ _. Enlists (step slots (word_at actor 2) new
         0 none) me new) inside
-        (λ x vs f at fits. enlists is_of journal mailbox rested actor id new me l m (Enlists (step slots (word_at actor 2) new 0 none) me new) x
+        (λ x vs f at fits. enlists is_of journal mailbox rested given_by closed_to actor id new me l m (Enlists (step slots (word_at actor 2) new 0 none) me new) x
         vs f at has of carried word
         (told_enlist l m (step slots (word_at actor 2) new 0 none) new has of carried)))
 
@@ -487,15 +483,17 @@ module _ {H : Type 0} (is_of : ℕ → H → Type 0) (journal : H → List Entry
         new 0 none) me new)) (sym e)
         (allows word_offset slot_offset words_few slots_few n F slots id me actor Gate (λ _. new) (λ _. Drains (step slots (word_at actor 2) new
         0 none) me new) inside
-        (λ x vs f at fits. unloads is_of journal mailbox rested actor id new (Drained actor (listed l.listed)) me c l (drained l.listed)
-        (listed l.listed) (is_some_item
-        l.listed.messages) (Drains (step slots (word_at actor 2) new 0 none) me new) x vs f at
-        has of keeps of_list carried word refl (λ e. e) (λ e. inl e) (λ a z e. tt)
-        (λ l' has' z. (
-          draining ((sym of_list ∙ ap (λ (h : Lent). h.actor) (some_same l l' (sym keeps
-              ∙ has'))) z) (listed (some_same l l' (sym keeps ∙ has') z).listed) (is_some_item (some_same l l' (sym keeps ∙ has')
-              z).listed.messages) me.0,
-          tail_of me.1,
+        (λ x vs f at fits. unloads is_of journal mailbox rested given_by closed_to actor id new (Drained actor (listed l.listed)) me c l
+        (drained l.listed) (is_some_item l.listed.messages) (Drains (step slots (word_at actor 2) new 0 none) me new) x vs f at
+        has of keeps of_list carried word refl (λ e. e) (λ e. inl e) (given_listed l.listed) (λ a z e w. (e (sym w)).1)
+        (λ l' c' has' claim'. (
+          (λ z. (
+            draining ((sym of_list ∙ ap (λ (h : Lent). h.actor) (some_same l l' (sym keeps
+                ∙ has'))) z) (listed (some_same l l' (sym keeps ∙ has') z).listed) (is_some_item (some_same l l' (sym keeps ∙ has')
+                z).listed.messages) me.0,
+            tail_of me.1,
+          )),
+          same_given actor id me x vs c l f at has of keeps of_list l' c' has' claim',
         ))))
 
     pub ends_allowed : (c : Held) (l : Lent) (new : ℕ) → i ≡ word_at actor 2 → me.0.claim ≡ Some c → c.actor ≡ actor → me.0.list ≡ Some l →
@@ -507,17 +505,20 @@ module _ {H : Type 0} (is_of : ℕ → H → Type 0) (journal : H → List Entry
         (allows word_offset slot_offset words_few slots_few n F slots id me actor Gate (λ _. new) (λ _. Ends (step slots (word_at actor 2) new 0
         none) me new) inside
         (λ x vs f at fits.
-        let gave : l.gave ≡ c.gave = (is_lent is_of journal mailbox rested actor id x vs me.0 l f at keeps of_list).1.gave ∙ sym (is_held is_of
-        journal mailbox rested actor id x vs me.0 c f at has of).1.gave in
-        unloads is_of journal mailbox rested actor id new (Ended actor (listed l.listed)) me c l (ended l.listed)
-        (listed l.listed) l.gave (Ends (step slots (word_at actor 2)
-        new 0 none) me new) x vs f at
-        has of keeps of_list carried word refl (λ e. refl) (λ e. inr closed) (λ a z e w. ap (λ (m : MessageList). m.closed) (e (sym w)))
-        (λ l' c' list' claim' z. (
-          ending ((sym of_list ∙ ap (λ (h : Lent). h.actor) (some_same l l' (sym keeps ∙ list'))) z) (listed (some_same l l' (sym keeps
-              ∙ list') z).listed) ((gave ∙ ap (λ (h : Held). h.gave) (some_same c
-              c' (sym has ∙ claim'))) z) me.0,
-          tail_of me.1,
+        let gave : l.gave ≡ c.gave = (is_lent is_of journal mailbox rested given_by closed_to actor id x vs me.0 l f at keeps of_list).1.gave ∙ sym (is_held is_of
+        journal mailbox rested given_by closed_to actor id x vs me.0 c f at has of).1.gave in
+        unloads is_of journal mailbox rested given_by closed_to actor id new (Ended actor (listed l.listed)) me c l (ended l.listed)
+        l.gave (Ends (step slots (word_at actor 2) new 0 none) me new) x vs f at
+        has of keeps of_list carried word refl (λ e. refl) (λ e. inr closed) (given_listed l.listed)
+        (λ a z e w. (ap (λ (m : MessageList). m.closed) (e (sym w)).0, (e (sym w)).1))
+        (λ l' c' list' claim'. (
+          (λ z. (
+            ending ((sym of_list ∙ ap (λ (h : Lent). h.actor) (some_same l l' (sym keeps ∙ list'))) z) (listed (some_same l l' (sym keeps
+                ∙ list') z).listed) ((gave ∙ ap (λ (h : Held). h.gave) (some_same c
+                c' (sym has ∙ claim'))) z) me.0,
+            tail_of me.1,
+          )),
+          same_given actor id me x vs c l f at has of keeps of_list l' c' list' claim',
         ))))
 
     pub glances_allowed : i ≡ word_at actor 2 → Allows (Rule n) slots id me i (λ k. k) (Glances (step slots i 0 0 none) me)
@@ -526,12 +527,14 @@ module _ {H : Type 0} (is_of : ℕ → H → Type 0) (journal : H → List Entry
         me) inside
         (λ x vs f at fits. let tell = Glances (step slots (word_at actor 2) 0 0 none) me (x.row Gate) in
         dite (ℕ_discrete (x.row Gate % 8) 0)
-        (λ hit. sees is_of journal mailbox rested actor id Gate (Drained actor []) me tell x vs (λ a y. tt) f at
+        (λ hit. sees is_of journal mailbox rested given_by closed_to actor id Gate (Drained actor []) me tell x vs (λ a y e. record { before = []; after = all_numbered y.ghost; joined = refl }) f at
         (λ a c w has of bare. let who : actor ≡ a = same_actor actor a 2 w in
-        let gave : c.gave ≡ false = (is_held is_of journal mailbox rested actor id x vs me.0 c f at has (of ∙ sym who)).1.gave ∙ (gave_by x
+        let gave : c.gave ≡ false = (is_held is_of journal mailbox rested given_by closed_to actor id x vs me.0 c f at has (of ∙ sym who)).1.gave ∙ (gave_by x
         x.ghost.keeper f.shelf hit).1 in
-        ((λ _ z. ((drained_nothing actor c me.0 has bare gave ∙ (λ j. draining (who j) [] false me.0)) z, me.1)), (λ miss. absurd (miss hit)))))
-        (λ miss. glances is_of journal mailbox rested actor id Gate me tell x vs f at (λ a c w has of bare. (
+        let small : c.given < 2 ^ 64 = (let one = (is_held is_of journal mailbox rested given_by closed_to actor id x vs me.0 c f at has (of ∙ sym
+        who)).1.count in let two = f.listing.counted in omega arith) in
+        ((λ _ z. ((drained_nothing actor c me.0 has bare gave small ∙ (λ j. draining (who j) [] false me.0)) z, me.1)), (λ miss. absurd (miss hit)))))
+        (λ miss. glances is_of journal mailbox rested given_by closed_to actor id Gate me tell x vs f at (λ a c w has of bare. (
           (λ hit. absurd (miss hit)),
           (λ _.
               refl),
@@ -546,23 +549,67 @@ module _ {H : Type 0} (is_of : ℕ → H → Type 0) (journal : H → List Entry
         (λ x vs f at fits. let tell = Refuses (step slots (word_at actor 2) old old (some (Note m))) me (x.row Gate) in
         exchanged (x.row Gate) old old (λ k. Goes word_offset slot_offset F actor id me Gate k tell x vs)
         (λ hit. subst (λ k. Goes word_offset slot_offset F actor id me Gate k tell x vs) hit
-        (refuses is_of journal mailbox rested actor id me m tell x vs f at (ends_by x x.ghost.keeper f.shelf (ap (λ k. k / 8 % 2) hit ∙ shut))
+        (refuses is_of journal mailbox rested given_by closed_to actor id me m tell x vs f at (ends_by x x.ghost.keeper f.shelf (ap (λ k. k / 8 % 2) hit ∙ shut))
         (λ a m' w said. let who : actor ≡ a = same_actor actor a 2 w in let what : m ≡ m' = note_same {H = H} m m' said in
         ((λ _ z. (refusing (who z) (what z) me.0, me.1)), (λ miss. absurd (miss hit))))))
-        (λ miss. glances is_of journal mailbox rested actor id Gate me tell x vs f at (λ a m' w said. ((λ hit. absurd (miss hit)), (λ _. refl))))))
+        (λ miss. glances is_of journal mailbox rested given_by closed_to actor id Gate me tell x vs f at (λ a m' w said. ((λ hit. absurd (miss hit)), (λ _. refl))))))
 
   module _ (n id : ℕ) where
     -- a view is copied for a seat more
     pub copies_allowed : (v : View) → v.claim ≡ None → v.list ≡ None → Splits (Rule n) id v v v
-    copies_allowed v bare no_list = splits word_offset slot_offset words_few slots_few n F id v v v (parts is_of journal mailbox rested id v v v
+    copies_allowed v bare no_list = splits word_offset slot_offset words_few slots_few n F id v v v (parts is_of journal mailbox rested given_by closed_to id v v v
         refl bare no_list no_list no_list refl refl refl (λ a x k. k))
 
     -- the claim gets a view of its own
     pub claims_allowed : (v : View) → v.list ≡ None → Splits (Rule n) id v (claim_alone v) (without_claim v)
     claims_allowed v no_list = splits word_offset slot_offset words_few slots_few n F id v (claim_alone v) (without_claim v)
-        (parts is_of journal mailbox rested id v (claim_alone v) (without_claim v) refl refl no_list refl no_list refl refl refl (λ a x k. record
+        (parts is_of journal mailbox rested given_by closed_to id v (claim_alone v) (without_claim v) refl refl no_list refl no_list refl refl refl (λ a x k. record
         { seen = tt; said = tt }))
 
     pub joins_allowed : (v : View) (other : ℕ) (w : View) → w.claim ≡ None → w.list ≡ None → Joins (Rule n) id v other w (taking_over v w) blank
     joins_allowed v other w bare no_list = joins word_offset slot_offset words_few slots_few n F id v other w (taking_over v w) blank (takes_over
-        is_of journal mailbox rested id v other w bare no_list)
+        is_of journal mailbox rested given_by closed_to id v other w v.said (inl refl) bare no_list)
+
+    -- and a claim's seat takes in a pass
+    pub takes_in_allowed : (v : View) (other : ℕ) (w : View) → w.claim ≡ None → w.list ≡ None → Joins (Rule n) id v other w (taking_in v w) blank
+    takes_in_allowed v other w bare no_list = joins word_offset slot_offset words_few slots_few n F id v other w (taking_in v w) blank (takes_over
+        is_of journal mailbox rested given_by closed_to id v other w w.said (inr refl) bare no_list)
+
+module _ {H : Type 0} (all_of : H → ℕ → H → Type 0) (first : Snapshot H) (journal : H → List Entry) (mailbox : H → Mailbox) (rested : H → Type 0) (given_by : H → ℕ) (closed_to : H → List ℕ) where
+  abbrev G : ℕ → Spot Word Shelf (Slot H) Ghost → List View → Type 0
+  G = Fact (all_of first.value) journal mailbox rested given_by closed_to
+
+  abbrev N : Type 0
+  N = Me (Slot H) View
+
+  module _ (n slots id : ℕ) (me : N) (actor i : ℕ) (inside : actor < n) where
+    -- a seat that knows the first home tries to schedule the actor
+    pub schedules_allowed : (old new : ℕ) (note : Slot H) → note ≡ First first → i ≡ word_at actor 0 → old % 4 ≡ 0 → new ≡ old + 2 → me.0.claim ≡ None
+        → Allows (Ruled word_offset slot_offset n G) slots id me i (λ k. either (k == old) new k) (Schedules all_of journal mailbox rested given_by closed_to (step slots i old new (some note)) me)
+    schedules_allowed old new note is_note e free is_new bare = subst (λ j. Allows (Ruled word_offset slot_offset n G) slots id me j (λ k. either (k == old) new k) (Schedules all_of journal mailbox rested given_by closed_to (step slots j old new (some note)) me)) (sym e)
+        (allows word_offset slot_offset words_few slots_few n G slots id me actor Status (λ k. either (k == old) new k) (Schedules all_of journal mailbox rested given_by closed_to (step slots (word_at actor 0) old new (some note)) me) inside
+        (λ x vs f at fits. let tell = Schedules all_of journal mailbox rested given_by closed_to (step slots (word_at actor 0) old new (some note)) me (x.row Status) in
+        exchanged (x.row Status) old new (λ k. Goes word_offset slot_offset G actor id me Status k tell x vs)
+        (λ hit. let here : x.row Status % 4 ≡ 0 = ap (λ k. k % 4) hit ∙ free in let h = is_home (all_of first.value) journal mailbox rested given_by closed_to actor x vs f here in
+        subst (λ k. Goes word_offset slot_offset G actor id me Status k tell x vs) (sym is_new)
+        (schedules (all_of first.value) journal mailbox rested given_by closed_to actor id me old tell x vs f at here hit bare
+        (λ a other w said. subst (λ (b : ℕ × Snapshot H). (let now : N = (taking actor x.ghost.journal x.ghost.closed_to old x.ghost.gave x.ghost.listed.given me.0, (slot_at actor 0, Home h.1.home) ∷ me.1) in
+        (x.row Status ≡ old → Won (all_of b.1.value) journal mailbox rested given_by closed_to b.0 (x.row Status) me now)
+        × (x.row Status ≢ old → (now ≡ (reading b.0 (x.row Status) me.0, me.1)) × IsTrue (is_valid (x.row Status)) × StaysClosed b.0 (x.row Status)
+        me.0))) (λ z. (same_actor actor a 0 w z, first_same_home first other (sym (ap (λ (y : Slot H). some y) is_note) ∙ said) z)) (
+          (λ _. record {
+            home = h.1.home;
+            own = h.1.own;
+            word = h.1.word;
+            gave = x.ghost.gave;
+            rest = λ no. h.1.rest (inr no);
+            seen = subst (λ j. GoesOn actor j me.0) (sym h.1.fold) (goes_further (all_of first.value) journal mailbox rested given_by closed_to actor x me.0 f.ended (λ one. omega arith) (f.seen id me.0 at));
+            now = λ z. (taking actor (sym h.1.fold z) (sym h.1.shut z) (sym hit z) x.ghost.gave (sym h.1.count z) me.0, (slot_at actor 0, Home h.1.home) ∷ me.1);
+          }),
+          (λ miss. absurd (miss hit)),
+        ))))
+        (λ miss. reads (all_of first.value) journal mailbox rested given_by closed_to actor id me tell x vs f at (λ a other w said. (
+          (λ hit. absurd (miss hit)),
+          (λ _. told_read (all_of first.value) journal mailbox rested given_by closed_to n slots id me actor i inside x vs f at a
+              w),
+        )))))

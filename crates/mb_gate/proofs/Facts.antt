@@ -51,6 +51,8 @@ use Rattle.mb_gate.specs.Rule.{
   claim_for,
   list_for,
   Knows,
+  IsAmong,
+  Vouches,
   MessageDue,
   SystemDue,
   PaysMessage,
@@ -84,29 +86,33 @@ same_word row Waiting Waiting = refl
 pub same_row : (row : Word → ℕ) (name : Word) → write word_offset row name (row name) ≡ row
 same_row row name i w = same_word row name w i
 
-module _ {H : Type 0} (is_of : ℕ → H → Type 0) (journal : H → List Entry) (mailbox : H → Mailbox) (rested : H → Type 0) (actor : ℕ) where
+module _ {H : Type 0} (is_of : ℕ → H → Type 0) (journal : H → List Entry) (mailbox : H → Mailbox) (rested : H → Type 0) (given_by : H → ℕ) (closed_to : H → List ℕ) (actor : ℕ) where
   abbrev Place : Type 0
   Place = Spot Word Shelf (Slot H) Ghost
 
   abbrev Facts : Place → List View → Type 0
-  Facts = Fact is_of journal mailbox rested actor
+  Facts = Fact is_of journal mailbox rested given_by closed_to actor
 
   pub still_kept : (x y : Place) → y.row Status ≡ x.row Status → y.row Flag ≡ x.row Flag → y.slot CellShelf ≡ x.slot CellShelf → y.ghost.journal
-      ≡ x.ghost.journal → y.ghost.gave ≡ x.ghost.gave
-      → (holder : Option (ℕ × Held)) → Keeping is_of journal mailbox rested actor x holder → Keeping is_of journal mailbox rested actor y holder
-  still_kept x y status flag slot tale gave None k = record {
+      ≡ x.ghost.journal → y.ghost.closed_to ≡ x.ghost.closed_to → y.ghost.listed.given ≡ x.ghost.listed.given → y.ghost.gave ≡ x.ghost.gave
+      → (holder : Option (ℕ × Held)) → Keeping is_of journal mailbox rested given_by closed_to actor x holder → Keeping is_of journal mailbox rested given_by closed_to actor y holder
+  still_kept x y status flag slot tale shut count gave None k = record {
     home = k.home;
     there = slot ∙ k.there;
     own = k.own;
     fold = k.fold ∙ sym tale;
+    count = k.count ∙ sym count;
+    shut = k.shut ∙ sym shut;
     word = status ∙ k.word;
     idle = subst (λ n. (n % 4 ≡ 0) ⊎ (n ≡ 1)) (sym status) k.idle;
     flag = flag ∙ (k.flag ∙ ap (λ n. if n == 1 then 1 else 0) (sym status));
     rest = λ r. k.rest (⊎_elim (λ h. inl (sym status ∙ h)) (λ h. inr (sym gave ∙ h)) r);
   }
-  still_kept x y status flag slot tale gave (Some h) k = record {
+  still_kept x y status flag slot tale shut count gave (Some h) k = record {
     own = k.own;
     taken = k.taken ∙ sym tale;
+    shut = k.shut ∙ sym shut;
+    count = k.count ∙ sym count;
     gave = k.gave ∙ sym gave;
     word = status ∙ k.word;
     busy = subst (λ n. (n % 4 ≡ 2) ⊎ (n ≡ 1)) (sym status) k.busy;
@@ -115,7 +121,7 @@ module _ {H : Type 0} (is_of : ℕ → H → Type 0) (journal : H → List Entry
 
   pub still_shelved : (x y : Place) → y.row Gate ≡ x.row Gate → y.slot ListShelf ≡ x.slot ListShelf → y.ghost.listed ≡ x.ghost.listed →
       y.ghost.gave ≡ x.ghost.gave
-      → (keeper : Option (ℕ × Lent)) → Shelving is_of journal mailbox rested x keeper → Shelving is_of journal mailbox rested y keeper
+      → (keeper : Option (ℕ × Lent)) → Shelving is_of journal mailbox rested given_by closed_to x keeper → Shelving is_of journal mailbox rested given_by closed_to y keeper
   still_shelved x y gate slot items gave None k = record {
     there = slot ∙ (k.there ∙ ap (λ (l : MessageList). some (some (Listing l))) (sym items));
     word = gate ∙ (k.word ∙ (λ i. gate_word false (sym items i) (sym gave i)));
@@ -130,8 +136,8 @@ module _ {H : Type 0} (is_of : ℕ → H → Type 0) (journal : H → List Entry
   pub views_change : (x : Place) (vs : List View) (id : ℕ) (v w : View) → get_elem? vs id ≡ some v → claim_for actor w ≡ claim_for actor v →
       list_for actor w ≡ list_for actor v
       → (MessageDue x → PaysMessage actor v → PaysMessage actor w) → (SystemDue x → PaysSystem actor v → PaysSystem actor w) → (Knows actor x v →
-      Knows actor x w) → Facts x vs → Facts x (set vs id w)
-  views_change x vs id v w at claim list message system knows f = record {
+      Knows actor x w) → ((other : ℕ) → Vouches other v → Vouches other w) → Facts x vs → Facts x (set vs id w)
+  views_change x vs id v w at claim list message system knows vouches f = record {
     valid = f.valid;
     claims = stays_locked (claim_for actor) x.ghost.holder vs id v w at claim f.claims;
     cell = f.cell;
@@ -139,6 +145,8 @@ module _ {H : Type 0} (is_of : ℕ → H → Type 0) (journal : H → List Entry
     shelf = f.shelf;
     ended = f.ended;
     listing = f.listing;
+    vouched = λ other. still_owed (Vouches other) (IsAmong other x.ghost.closed_to) (IsAmong other x.ghost.closed_to) vs id v w at (λ d. d) (λ _.
+        vouches other) (f.vouched other);
     message = still_owed (PaysMessage actor) (MessageDue x) (MessageDue x) vs id v w at (λ d. d) message f.message;
     system = still_owed (PaysSystem actor) (SystemDue x) (SystemDue x) vs id v w at (λ d. d) system f.system;
     seen = learns (Knows actor x) (Knows actor x) vs id w (λ u k. k) (knows (f.seen id v at)) f.seen;
@@ -149,7 +157,7 @@ module _ {H : Type 0} (is_of : ℕ → H → Type 0) (journal : H → List Entry
       (set vs id w)
   elsewhere x vs id v w at same = views_change x vs id v w at same.claim same.list
       (λ _. subst (λ (d : Debt). IsTrue (d.message || d.sending)) (sym same.debt)) (λ _. subst (λ (d : Debt). IsTrue d.system) (sym same.debt))
-      (same.knows x)
+      (same.knows x) same.vouches
 
   -- a load changes nothing but the view
   pub load_here : (x : Place) (vs : List View) (name : Word) → Facts x vs → Facts (record {

@@ -56,10 +56,11 @@ use Rattle.mb_rule.proofs.SeenLemmas.{each_weaker}
 use Rattle.mb_gate.specs.declared.slot.Slot.{Slot}
 use Rattle.mb_gate.specs.declared.slot.Slot.TheVariants.{Home, List as Listing}
 use Rattle.mb_gate.specs.declared.left.Left.{Left}
-use Rattle.mb_gate.specs.View.{View, Read, Saw, Counted, Looked, Sent, Unsent, Took, Drained, Ended, Held, Lent}
-use Rattle.mb_gate.specs.Rule.{Word, Status, Flag, Gate, word_offset, Shelf, slot_offset, Ghost, IsSo, IsHome, Keeping, Shelving, Fact}
+use Rattle.mb_gate.specs.View.{View, Read, Saw, Counted, Looked, Sent, Unsent, Took, Pushed, Drained, Ended, Held, Lent}
+use Rattle.mb_gate.specs.Rule.{Word, Status, Flag, Gate, word_offset, Shelf, slot_offset, Ghost, IsSo, IsAmong, IsHome, Keeping, Shelving, Fact}
 use Rattle.mb_gate.specs.Leaves.{IsTakenOut, IsKept, IsLeft, AreLeft}
 use Rattle.mb_gate.proofs.ListSteps.{is_shelved, gate_even}
+use Rattle.mb_gate.proofs.Shows.{shows_closed}
 
 some_same : {A : Type 0} (a b : A) → Some a ≡ Some b → a ≡ b
 some_same a b e = cc
@@ -110,20 +111,20 @@ module _ (fs : List Bool) (a : ℕ) (inside : 2 * a + 2 ≤ length fs) where
   still_filled k l e = get_or-set_other (set fs (slot_at a 0) false) (slot_at a 1) k false false (λ n. omega arith) ∙ (get_or-set_other fs
       (slot_at a 0) k false false (λ n. omega arith) ∙ e)
 
-module _ {H : Type 0} (is_of : ℕ → H → Type 0) (journal : H → List Entry) (mailbox : H → Mailbox) (rested : H → Type 0) where
+module _ {H : Type 0} (is_of : ℕ → H → Type 0) (journal : H → List Entry) (mailbox : H → Mailbox) (rested : H → Type 0) (given_by : H → ℕ) (closed_to : H → List ℕ) where
   abbrev Place : Type 0
   Place = Spot Word Shelf (Slot H) Ghost
 
-  at_home : (actor : ℕ) (x : Place) (holder : Option (ℕ × Held)) → Keeping is_of journal mailbox rested actor x holder → (x.row Status % 4 ≡ 0) ⊎
-      (x.row Flag ≡ 1) → IsHome is_of journal mailbox rested actor x
+  at_home : (actor : ℕ) (x : Place) (holder : Option (ℕ × Held)) → Keeping is_of journal mailbox rested given_by closed_to actor x holder → (x.row Status % 4 ≡ 0) ⊎
+      (x.row Flag ≡ 1) → IsHome is_of journal mailbox rested given_by closed_to actor x
   at_home actor x None k c = k
   at_home actor x (Some h) k c = absurd (⊎_elim (λ z. ⊎_elim (λ b. omega arith) (λ b. omega arith) k.busy) (λ o. let g = k.flag in omega arith) c)
 
-  home_tells : (actor : ℕ) (x : Place) → IsHome is_of journal mailbox rested actor x → (x.row Status % 4 ≡ 0) ⊎ (x.row Flag ≡ 1)
+  home_tells : (actor : ℕ) (x : Place) → IsHome is_of journal mailbox rested given_by closed_to actor x → (x.row Status % 4 ≡ 0) ⊎ (x.row Flag ≡ 1)
   home_tells actor x k = ⊎_elim (λ z. inl z) (λ one. inr (k.flag ∙ ap (λ b. if b then 1 else 0) (eq-eqb (x.row Status) 1 one))) k.idle
 
   module _ (n : ℕ) (v : View) (id : ℕ) (ws : List ℕ) (xs : List (Slot H)) (s : State (Slot H) View) (r : Ruled word_offset slot_offset n (Fact is_of
-      journal mailbox rested) s) (known : get_elem? s.views id ≡ some v) (words : s.words ≡ ws)
+      journal mailbox rested given_by closed_to) s) (known : get_elem? s.views id ≡ some v) (words : s.words ≡ ws)
       (same : (k : ℕ) (y : Slot H) → get_elem? s.homes k ≡ some (some y) → get_elem? xs k ≡ some y) (actor : ℕ) (inside : actor < n) where
     abbrev here : Place
     here = spot_of word_offset slot_offset s r.ghosts actor
@@ -131,17 +132,18 @@ module _ {H : Type 0} (is_of : ℕ → H → Type 0) (journal : H → List Entry
     found : (k m : ℕ) → get_elem? ws k ≡ some m → slice_index s.words k ≡ m
     found k m e = ap (λ z. slice_index z k) words ∙ word_here ws k m e
 
-    some_left : (left : Left H) → IsTakenOut ws xs actor (Some left) → IsLeft is_of journal mailbox rested actor here v (Some left)
+    some_left : (left : Left H) → IsTakenOut ws xs actor (Some left) → IsLeft is_of journal mailbox rested given_by closed_to actor here v (Some left)
     some_left left t =
         let f = r.each actor inside in
         let status = found (word_at actor 0) t.0.status t.0.status_is in
         let flag = found (word_at actor 1) t.0.flag t.0.flag_is in
         let gate = found (word_at actor 2) t.0.gate t.0.gate_is in
         let k = at_home actor here here.ghost.holder f.cell (⊎_elim (λ z. inl (ap (λ w. w % 4) status ∙ z)) (λ o. inr (flag ∙ o)) t.0.cell) in
-        let l = (is_shelved is_of journal mailbox rested actor here s.views f (ap (λ w. w % 2) gate ∙ t.0.list)).1 in
+        let l = (is_shelved is_of journal mailbox rested given_by closed_to actor here s.views f (ap (λ w. w % 2) gate ∙ t.0.list)).1 in
         let home : k.home ≡ left.home = home_same k.home left.home (some-injective _ _ (sym (same (slot_at actor 0) (Home k.home) k.there) ∙ t.1)) in
         let list : here.ghost.listed ≡ t.2.0 = list_same {H = H} here.ghost.listed t.2.0 (some-injective _ _ (sym (same (slot_at actor 1) (Listing
-        here.ghost.listed) l.there) ∙ t.2.1)) in (
+        here.ghost.listed) l.there) ∙ t.2.1)) in
+        let given : left.given ≡ here.ghost.listed.given = t.2.2 ∙ ap (λ (z : MessageList). z.given) (sym list) in (
           subst (is_of actor) home k.own,
           k.word ∙ ap (λ h. word_of (mailbox h)) home,
           subst (λ j. Each (IsKept actor j (here.row Status)) v.log) (sym k.fold ∙ ap journal home) (each_weaker (IsSo actor here) (IsKept actor
@@ -154,20 +156,34 @@ module _ {H : Type 0} (is_of : ℕ → H → Type 0) (journal : H → List Entry
                 | Sent a m ↦ (λ h. h)
                 | Unsent a m ↦ (λ h. h)
                 | Took a m ↦ (λ h. h)
-                | Drained a given ↦ (λ h. h)
-                | Ended a given ↦ (λ h e. f.ended (h e))
+                | Pushed a m k ↦ (λ h. tt)
+                | Drained a given ↦ (λ h. tt)
+                | Ended a given ↦ (λ h e. f.ended (h e).0)
               ]) (f.seen id v known).seen),
-          t.2.2 ∙ ap (λ (z : MessageList). z.given) (sym list),
+          given,
+          ap given_by (sym home) ∙ (k.count ∙ sym given),
+          (λ why. subst rested home (k.rest why)),
         )
 
-    none_left : IsTakenOut ws xs actor None → IsLeft is_of journal mailbox rested actor here v None
+    -- whom the home that is left says to be closed the rule says so
+    says_closed : (left : Left H) → IsTakenOut ws xs actor (Some left) → (other : ℕ) → IsAmong other (closed_to left.home) → IsAmong other
+        here.ghost.closed_to
+    says_closed left t other is =
+        let f = r.each actor inside in
+        let status = found (word_at actor 0) t.0.status t.0.status_is in
+        let flag = found (word_at actor 1) t.0.flag t.0.flag_is in
+        let k = at_home actor here here.ghost.holder f.cell (⊎_elim (λ z. inl (ap (λ w. w % 4) status ∙ z)) (λ o. inr (flag ∙ o)) t.0.cell) in
+        let home : k.home ≡ left.home = home_same k.home left.home (some-injective _ _ (sym (same (slot_at actor 0) (Home k.home) k.there) ∙ t.1)) in
+        subst (IsAmong other) k.shut (subst (λ h. IsAmong other (closed_to h)) (sym home) is)
+
+    none_left : IsTakenOut ws xs actor None → IsLeft is_of journal mailbox rested given_by closed_to actor here v None
     none_left t = let f = r.each actor inside in cases here.ghost.holder here.ghost.keeper f.cell f.shelf
       where
         at : (k : ℕ) → k < 16 * n → get_elem? ws k ≡ some (slice_index s.words k)
         at k l = subst (λ z. get_elem? z k ≡ some (slice_index s.words k)) words (word_there s.words k (let wide = r.wide in omega arith))
 
-        cases : (holder : Option (ℕ × Held)) (keeper : Option (ℕ × Lent)) → Keeping is_of journal mailbox rested actor here holder → Shelving is_of
-            journal mailbox rested here keeper → (holder ≢ None) ⊎ (keeper ≢ None)
+        cases : (holder : Option (ℕ × Held)) (keeper : Option (ℕ × Lent)) → Keeping is_of journal mailbox rested given_by closed_to actor here holder → Shelving is_of
+            journal mailbox rested given_by closed_to here keeper → (holder ≢ None) ⊎ (keeper ≢ None)
         cases (Some h) keeper k l = inl (λ e. cc)
         cases None (Some h) k l = inr (λ e. cc)
         cases None None k l = absurd (t k.home here.ghost.listed (record {
@@ -181,14 +197,14 @@ module _ {H : Type 0} (is_of : ℕ → H → Type 0) (journal : H → List Entry
           list = ap (λ w. w % 2) l.word ∙ gate_even here.ghost.listed here.ghost.gave;
         }) (same (slot_at actor 0) (Home k.home) k.there) (same (slot_at actor 1) (Listing here.ghost.listed) l.there))
 
-    is_left : (left : Option (Left H)) → IsTakenOut ws xs actor left → IsLeft is_of journal mailbox rested actor here v left
+    is_left : (left : Option (Left H)) → IsTakenOut ws xs actor left → IsLeft is_of journal mailbox rested given_by closed_to actor here v left
     is_left (Some left) t = some_left left t
     is_left None t = none_left t
 
   -- what was taken out of each is what is left of it
   pub are_left : (n : ℕ) (v : View) (id : ℕ) (ws : List ℕ) (xs : List (Slot H)) (all : List (Option (Left H)))
-      → Final (Seen (Ruled word_offset slot_offset n (Fact is_of journal mailbox rested)) id v) ws xs → length all ≡ n
-      → ((a : ℕ) (left : Option (Left H)) → slice_get all a ≡ Some left → IsTakenOut ws xs a left) → AreLeft is_of journal mailbox rested n v all
+      → Final (Seen (Ruled word_offset slot_offset n (Fact is_of journal mailbox rested given_by closed_to)) id v) ws xs → length all ≡ n
+      → ((a : ℕ) (left : Option (Left H)) → slice_get all a ≡ Some left → IsTakenOut ws xs a left) → AreLeft is_of journal mailbox rested given_by closed_to n v all
   are_left n v id ws xs all final many each = record {
     state = final.0;
     rule = final.1.0;
@@ -196,4 +212,6 @@ module _ {H : Type 0} (is_of : ℕ → H → Type 0) (journal : H → List Entry
     known = final.1.1;
     many = many;
     each = λ a left inside at. is_left n v id ws xs final.0 final.1.0 final.1.1 final.2 final.4 a inside left (each a left at);
+    closed = λ a other left inside there at is. shows_closed is_of journal mailbox rested given_by closed_to n final.0 final.1.0 a other inside there
+        (says_closed n v id ws xs final.0 final.1.0 final.1.1 final.2 final.4 a inside left (each a (Some left) at) other is);
   }

@@ -1,3 +1,4 @@
+pub mod Numbers
 pub mod Views
 pub mod Facts
 pub mod Words
@@ -12,3 +13,4 @@ pub mod Starting
 pub mod ListCalls
 pub mod Shows
 pub mod Leaving
+pub mod RecordLemmas

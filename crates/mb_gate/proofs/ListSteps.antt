@@ -1,39 +1,10 @@
 -- The steps on the gate of an actor's list keep the rule.
-use Rattle.std.proofs.Common.{
-  ◌≡◌,
-  ℕ,
-  ◌+◌,
-  ◌%◌,
-  if◌then◌else◌,
-  ◌⊎◌,
-  ⊎_elim,
-  Bool,
-  true,
-  false,
-  ◌||◌,
-  IsTrue,
-  List,
-  [],
-  ◌∷◌,
-  ◌++◌,
-  set,
-  sym,
-  refl,
-  ap,
-  ◌∙◌,
-  subst,
-  Option,
-  Some,
-  None,
-  append_assoc,
-  append-nil,
-  arith,
-}
+use Rattle.std.proofs.Common.{◌≡◌, ℕ, ◌+◌, ◌%◌, if◌then◌else◌, ◌⊎◌, ⊎_elim, Bool, true, false, ◌||◌, IsTrue, List, [], ◌∷◌, ◌++◌, set, sym, refl, ap, ◌∙◌, subst, Option, Some, None, append_assoc, append-nil, length, length-append, arith}
 use mathlib.Core.Option.{none, some}
 use lib.ListN.{get_elem?}
 use Rattle.mb_status.specs.Mailbox.{Mailbox}
 use Rattle.mb_msg.specs.declared.system.SysMsg.{SysMsg}
-use Rattle.mb_syslist.specs.MessageList.{MessageList, with_last}
+use Rattle.mb_syslist.specs.MessageList.{MessageList, with_last, listed, pushed}
 use Rattle.mb_journal.specs.Entry.{Entry}
 use Rattle.mb_core.specs.declared.debt.Debt.{Debt}
 use Rattle.atomic_table.specs.Table.{Me}
@@ -46,35 +17,10 @@ use Rattle.mb_rule.proofs.OwedLemmas.{pays, still_owed}
 use Rattle.mb_rule.proofs.SeenLemmas.{learns}
 use Rattle.mb_gate.specs.declared.slot.Slot.{Slot}
 use Rattle.mb_gate.specs.declared.slot.Slot.TheVariants.{List as Listing}
-use Rattle.mb_gate.specs.View.{View, Sight, Held, Lent, owes, Said, lending, enlisting, refusing, regiven, unloading}
-use Rattle.mb_gate.specs.Rule.{
-  Word,
-  Gate,
-  word_offset,
-  Shelf,
-  ListShelf,
-  slot_offset,
-  Ghost,
-  is_some_item,
-  gate_word,
-  held_of,
-  lent_of,
-  claim_for,
-  list_for,
-  IsSo,
-  IsAmong,
-  IsTold,
-  Knows,
-  MessageDue,
-  SystemDue,
-  PaysMessage,
-  PaysSystem,
-  IsShelved,
-  IsLent,
-  Shelving,
-  Fact,
-}
-use Rattle.mb_gate.proofs.Views.{held_here, held_else, lent_here, lent_else, owes_here, owes_else, extends_self, goes_on}
+use Rattle.mb_gate.specs.View.{View, Sight, Read, Pushed, Held, Lent, owes, lending, enlisting, refusing, given_after, regiven, unloading}
+use Rattle.mb_gate.specs.Rule.{Word, Gate, word_offset, Shelf, ListShelf, slot_offset, Ghost, is_some_item, gate_word, held_of, lent_of, claim_for, list_for, IsSo, IsAmong, IsPart, Vouches, all_numbered, Knows, MessageDue, SystemDue, PaysMessage, PaysSystem, IsShelved, IsLent, Shelving, Fact}
+use Rattle.mb_gate.proofs.Views.{held_here, held_else, lent_here, lent_else, owes_here, owes_else, extends_self, Grown, grown, goes_on}
+use Rattle.mb_gate.proofs.Numbers.{among_more, pushed_so, part_so, length_numbered}
 use Rattle.mb_gate.proofs.Facts.{still_kept, views_change, elsewhere, load_here}
 use Rattle.mb_gate.proofs.StatusSteps.{is_held}
 
@@ -95,9 +41,9 @@ gate_out l gave = omega arith
 pub gate_even : (l : MessageList) (gave : Bool) → gate_word false l gave % 2 ≡ 0
 gate_even l gave = let b = bits (is_some_item l.messages) gave l.closed in omega arith
 
-module _ {H : Type 0} (is_of : ℕ → H → Type 0) (journal : H → List Entry) (mailbox : H → Mailbox) (rested : H → Type 0) where
+module _ {H : Type 0} (is_of : ℕ → H → Type 0) (journal : H → List Entry) (mailbox : H → Mailbox) (rested : H → Type 0) (given_by : H → ℕ) (closed_to : H → List ℕ) where
   abbrev F : ℕ → Spot Word Shelf (Slot H) Ghost → List View → Type 0
-  F = Fact is_of journal mailbox rested
+  F = Fact is_of journal mailbox rested given_by closed_to
 
   abbrev M : Type 0
   M = Me (Slot H) View
@@ -105,45 +51,27 @@ module _ {H : Type 0} (is_of : ℕ → H → Type 0) (journal : H → List Entry
   abbrev Place : Type 0
   Place = Spot Word Shelf (Slot H) Ghost
 
-  -- what was said is so where more was listed
-  more_told : (actor : ℕ) (x y : Place) (m : SysMsg) → (IsTrue x.ghost.listed.closed → IsTrue y.ghost.listed.closed) → y.ghost.pushed ≡
-      x.ghost.pushed ++ m ∷ [] → (s : Said) → IsTold actor x s → IsTold actor y s
-  more_told actor x y m still longer s t e = (
-    (λ ended. still ((t e).0 ended)),
-    (λ listed. let a = (t e).1 listed in record {
-      before = a.before;
-      after = a.after ++ m ∷ [];
-      joined = longer ∙ (ap (λ z. z ++ m ∷ []) a.joined
-          ∙ append_assoc a.before (s.message ∷ a.after) (m ∷ []));
-    }),
-  )
-
-  -- and where the list is ended
-  ended_told : (actor : ℕ) (x y : Place) → (IsTrue x.ghost.listed.closed → IsTrue y.ghost.listed.closed) → y.ghost.pushed ≡ x.ghost.pushed → (s :
-      Said) → IsTold actor x s → IsTold actor y s
-  ended_told actor x y still same s t e = ((λ ended. still ((t e).0 ended)), (λ listed. subst (IsAmong s.message) (sym same) ((t e).1 listed)))
-
-  no_keeper : (x : Place) (keeper : Option (ℕ × Lent)) → x.row Gate % 2 ≡ 0 → Shelving is_of journal mailbox rested x keeper → keeper ≡ None
+  no_keeper : (x : Place) (keeper : Option (ℕ × Lent)) → x.row Gate % 2 ≡ 0 → Shelving is_of journal mailbox rested given_by closed_to x keeper → keeper ≡ None
   no_keeper x None even k = refl
   no_keeper x (Some h) even k = absurd (let w = k.word in let o = gate_out x.ghost.listed x.ghost.gave in let e = gate_even x.ghost.listed
       x.ghost.gave in omega arith)
 
   -- the list is in its slot where the gate's word is even
   pub is_shelved : (actor : ℕ) (x : Place) (vs : List View) → F actor x vs → x.row Gate % 2 ≡ 0 → (x.ghost.keeper ≡ None) × IsShelved is_of
-      journal mailbox rested x
+      journal mailbox rested given_by closed_to x
   is_shelved actor x vs f even = let nobody = no_keeper x x.ghost.keeper even f.shelf in (
     nobody,
-    subst (Shelving is_of journal mailbox rested x)
+    subst (Shelving is_of journal mailbox rested given_by closed_to x)
         nobody f.shelf,
   )
 
   -- who has the list is its keeper
   pub is_lent : (actor id : ℕ) (x : Place) (vs : List View) (v : View) (l : Lent) → F actor x vs → get_elem? vs id ≡ some v → v.list ≡ Some l →
       l.actor ≡ actor
-      → (x.ghost.keeper ≡ Some (id, l)) × IsLent is_of journal mailbox rested x l
+      → (x.ghost.keeper ≡ Some (id, l)) × IsLent is_of journal mailbox rested given_by closed_to x l
   is_lent actor id x vs v l f at has of =
       let kept = is_holder (list_for actor) x.ghost.keeper vs id v l at (ap (lent_of actor) has ∙ lent_here actor l of) f.lists in
-      (kept, subst (Shelving is_of journal mailbox rested x) kept f.shelf)
+      (kept, subst (Shelving is_of journal mailbox rested given_by closed_to x) kept f.shelf)
 
   -- a seat takes the list out
   pub grips : (actor id : ℕ) (me : M) (old : ℕ) (tell : M → Type 0) (x : Place) (vs : List View) → F actor x vs → get_elem? vs id ≡ some me.0 →
@@ -156,7 +84,8 @@ module _ {H : Type 0} (is_of : ℕ → H → Type 0) (journal : H → List Entry
       let l : Lent = record { actor = actor; listed = x.ghost.listed; gave = x.ghost.gave } in
       let w = lending actor x.ghost.listed x.ghost.gave v in
       let g : Ghost = record x.ghost { keeper = Some (id, l) } in
-      let y : Place = record { row = write word_offset x.row Gate (old + 1); slot = fill slot_offset x.slot ListShelf none; ghost = g } in record {
+      let y : Place = record { row = write word_offset x.row Gate (old + 1); slot = fill slot_offset x.slot ListShelf none; ghost = g } in
+      let grows = grown x y (λ e. e) (λ one. one) (extends_self x.ghost.journal) refl in record {
         view = w;
         deed = takes_from ListShelf (Listing x.ghost.listed);
         kept = g;
@@ -164,23 +93,24 @@ module _ {H : Type 0} (is_of : ℕ → H → Type 0) (journal : H → List Entry
         here = record {
           valid = f.valid;
           claims = stays_locked (claim_for actor) x.ghost.holder vs id v w at refl f.claims;
-          cell = still_kept is_of journal mailbox rested actor x y refl refl refl refl refl x.ghost.holder f.cell;
+          cell = still_kept is_of journal mailbox rested given_by closed_to actor x y refl refl refl refl refl refl refl x.ghost.holder f.cell;
           lists = takes_up (list_for actor) vs id v w l at (lent_here actor l refl) (subst (λ o. Locked (list_for actor) o vs) h.0 f.lists);
           shelf = record { taken = refl; gave = refl; word = ap (λ n. n + 1) (sym is ∙ h.1.word) ∙ sym (gate_out x.ghost.listed x.ghost.gave) };
           ended = f.ended;
           listing = f.listing;
+          vouched = λ b. still_owed (Vouches b) (IsAmong b x.ghost.closed_to) (IsAmong b x.ghost.closed_to) vs id v w at (λ d. d) (λ _ p. p)
+              (f.vouched b);
           message = still_owed (PaysMessage actor) (MessageDue x) (MessageDue y) vs id v w at (λ d. d) (λ _ p. p) f.message;
           system = still_owed (PaysSystem actor) (SystemDue x) (SystemDue y) vs id v w at (λ d. d) (λ _ p. p) f.system;
-          seen = let k = goes_on actor x y v (λ e. e) (λ one. one) (extends_self x.ghost.journal) (λ s t. t) (f.seen id v at) in
-              learns (Knows actor x) (Knows actor y) vs id w (λ u. goes_on actor x y u (λ e. e) (λ one. one)
-              (extends_self x.ghost.journal) (λ s t. t))
-              (record { seen = k.seen; said = k.said }) f.seen;
+          seen = let k = goes_on actor x y v grows (f.seen id v at) in
+              learns (Knows actor x) (Knows actor y) vs id w (λ u. goes_on actor x y u grows) (record { seen = k.seen; said = k.said }) f.seen;
         };
-        others = λ a n z k. elsewhere is_of journal mailbox rested a z vs id v w at
+        others = λ a n z k. elsewhere is_of journal mailbox rested given_by closed_to a z vs id v w at
             (record {
               claim = refl;
               list = lent_else a l (λ e. n (sym e)) ∙ sym (ap (lent_of a) bare);
               debt = refl;
+              vouches = λ b p. p;
               knows = λ _ s. record {
                 seen
                     = s.seen;
@@ -194,13 +124,13 @@ module _ {H : Type 0} (is_of : ℕ → H → Type 0) (journal : H → List Entry
   pub enlists : (actor id n : ℕ) (me : M) (l : Lent) (m : SysMsg) (tell : M → Type 0) (x : Place) (vs : List View) → F actor x vs → get_elem? vs
       id ≡ some me.0 → me.0.list ≡ Some l → l.actor ≡ actor
       → me.1 ≡ (slot_at actor 1, Listing (with_last l.listed m)) ∷ tail_of me.1 → n ≡ gate_word false (with_last l.listed m) l.gave
-      → tell (enlisting actor m me.0, tail_of me.1) → Goes word_offset slot_offset F actor id me Gate n tell x vs
+      → tell (enlisting actor (pushed l.listed) m me.0, tail_of me.1) → Goes word_offset slot_offset F actor id me Gate n tell x vs
   enlists actor id n me l m tell x vs f at has of carried word told =
       let v = me.0 in
       let h = is_lent actor id x vs v l f at has of in
-      let w = enlisting actor m v in
+      let w = enlisting actor (pushed l.listed) m v in
       let d : Debt = record (owes actor v) { system = true } in
-      let u : View = record v { list = None; said = record { to = actor; message = m; was_ended = false } ∷ v.said } in
+      let u : View = record v { log = Pushed actor (pushed l.listed) m ∷ v.log; list = None; said = record { to = actor; message = m; was_ended = false } ∷ v.said } in
       let g : Ghost = record x.ghost { keeper = None; listed = with_last l.listed m; pushed = x.ghost.pushed ++ m ∷ [] } in
       let same_end : IsTrue x.ghost.listed.closed → IsTrue l.listed.closed = (λ e. ap (λ (z : MessageList). z.closed) h.1.taken ∙ e) in
       let y : Place = record {
@@ -208,7 +138,9 @@ module _ {H : Type 0} (is_of : ℕ → H → Type 0) (journal : H → List Entry
         slot = fill slot_offset x.slot ListShelf (some (Listing (with_last l.listed
             m)));
         ghost = g;
-      } in record {
+      } in
+      let grows : Grown x y = record { still = same_end; closed = λ one. one; longer = extends_self x.ghost.journal; more = m ∷ []; pushed = refl } in
+      record {
         view = w;
         deed = gives_to ListShelf (Listing (with_last l.listed m));
         kept = g;
@@ -216,24 +148,25 @@ module _ {H : Type 0} (is_of : ℕ → H → Type 0) (journal : H → List Entry
         here = record {
           valid = f.valid;
           claims = stays_locked (claim_for actor) x.ghost.holder vs id v w at refl f.claims;
-          cell = still_kept is_of journal mailbox rested actor x y refl refl refl refl refl x.ghost.holder f.cell;
+          cell = still_kept is_of journal mailbox rested given_by closed_to actor x y refl refl refl refl refl
+              (ap (λ (z : MessageList). z.given) h.1.taken) refl x.ghost.holder f.cell;
           lists = puts_back (list_for actor) vs id v w l at refl (subst (λ o. Locked (list_for actor) o vs) h.0 f.lists);
           shelf = record { there = refl; word = word ∙ ap (gate_word false (with_last l.listed m)) h.1.gave };
           ended = λ e. f.ended (ap (λ (z : MessageList). z.closed) (sym h.1.taken) ∙ e);
-          listing = (
-            f.listing.0,
-            ap (λ z. z ++ m ∷ []) f.listing.1 ∙ (append_assoc f.listing.0 x.ghost.listed.messages (m ∷ []) ∙ ap (λ (z :
-                MessageList). f.listing.0 ++ (z.messages ++ m ∷ [])) (sym h.1.taken)),
-          );
+          listing = record {
+            given = f.listing.given;
+            joined = ap (λ z. z ++ m ∷ []) f.listing.joined ∙ (append_assoc f.listing.given x.ghost.listed.messages (m ∷ []) ∙ ap (λ (z :
+                MessageList). f.listing.given ++ (z.messages ++ m ∷ [])) (sym h.1.taken));
+            counted = ap (λ (z : MessageList). z.given) h.1.taken ∙ f.listing.counted;
+          };
+          vouched = λ b. still_owed (Vouches b) (IsAmong b x.ghost.closed_to) (IsAmong b x.ghost.closed_to) vs id v w at (λ d. d)
+              (λ _. among_more (Read b 1) (Pushed actor (pushed l.listed) m) v.log) (f.vouched b);
           message = still_owed (PaysMessage actor) (MessageDue x) (MessageDue y) vs id v w at (λ z. z) (λ _. subst (λ (z : Debt). IsTrue
               (z.message || z.sending)) (sym (owes_here actor d u))) f.message;
           system = pays (PaysSystem actor) (SystemDue y) vs id v w at (subst (λ (z : Debt). IsTrue z.system) (sym (owes_here actor d u)) refl);
-          seen = let k = goes_on actor x y v same_end (λ one. one) (extends_self x.ghost.journal) (more_told actor x y m same_end refl)
-              (f.seen id v at) in
-              learns (Knows actor x) (Knows actor y) vs id w (λ u. goes_on actor x y u same_end (λ one. one)
-              (extends_self x.ghost.journal) (more_told
-              actor x y m same_end refl)) (record {
-                seen = k.seen;
+          seen = let k = goes_on actor x y v grows (f.seen id v at) in
+              learns (Knows actor x) (Knows actor y) vs id w (λ u. goes_on actor x y u grows) (record {
+                seen = ((λ _. pushed_so x.ghost l.listed m h.1.taken f.listing), k.seen);
                 said = (
                   (λ _. (
                     (λ e. absurd (cc)),
@@ -247,36 +180,41 @@ module _ {H : Type 0} (is_of : ℕ → H → Type 0) (journal : H → List Entry
                 );
               }) f.seen;
         };
-        others = λ a k z s. elsewhere is_of journal mailbox rested a z vs id v w at
+        others = λ a k z s. elsewhere is_of journal mailbox rested given_by closed_to a z vs id v w at
             (record {
               claim = refl;
               list = sym (ap (lent_of a) has ∙ lent_else a l (λ e. k (sym e ∙ of)));
               debt = owes_else actor a d u k;
+              vouches = λ b. among_more (Read b 1) (Pushed actor (pushed l.listed) m) v.log;
               knows
-                  = λ _ t. record { seen = t.seen; said = ((λ e. absurd (k (sym e))), t.said) };
+                  = λ _ t. record { seen = ((λ e. absurd (k (sym e))), t.seen); said = ((λ e. absurd (k (sym e))), t.said) };
             }) s;
         tells = told;
       }
 
   -- the holder gives back the list, to which it did this
-  pub unloads : (actor id n : ℕ) (s : Sight) (me : M) (c : Held) (l : Lent) (new : MessageList) (given : List (ℕ
-      × SysMsg)) (gave : Bool) (tell : M → Type 0)
+  pub unloads : (actor id n : ℕ) (s : Sight) (me : M) (c : Held) (l : Lent) (new : MessageList) (gave : Bool) (tell : M → Type 0)
       (x : Place) (vs : List View) → F actor x vs → get_elem? vs id ≡ some me.0
       → me.0.claim ≡ Some c → c.actor ≡ actor → me.0.list ≡ Some l → l.actor ≡ actor → me.1 ≡ (slot_at actor 1, Listing new) ∷ tail_of me.1 → n ≡
       gate_word false new gave
       → new.messages ≡ [] → (IsTrue l.listed.closed → IsTrue new.closed) → (IsTrue new.closed → IsTrue l.listed.closed ⊎ (c.word ≡ 1))
-      → ((a : ℕ) (z : Place) → (a ≡ actor → z.ghost.listed ≡ new) → IsSo a z s) → tell (unloading s given gave me.0, tail_of me.1)
+      → new.given ≡ given_after l.listed.given (listed l.listed)
+      → ((a : ℕ) (z : Place) → (a ≡ actor → (z.ghost.listed ≡ new) × IsPart (listed l.listed) (all_numbered z.ghost)) → IsSo a z s)
+      → tell (unloading s (listed l.listed) gave me.0, tail_of me.1)
       → Goes word_offset slot_offset F actor id me Gate n tell x vs
-  unloads actor id n s me c l new given gave tell x vs f at has of keeps of_list carried word empty stays_closed closed so told =
+  unloads actor id n s me c l new gave tell x vs f at has of keeps of_list carried word empty stays_closed closed counts so told =
+      let given = listed l.listed in
       let v = me.0 in
-      let h = is_held is_of journal mailbox rested actor id x vs v c f at has of in
+      let h = is_held is_of journal mailbox rested given_by closed_to actor id x vs v c f at has of in
       let k = is_lent actor id x vs v l f at keeps of_list in
+      let lent = k in
       let w = unloading s given gave v in
       let still : IsTrue x.ghost.listed.closed → IsTrue new.closed = (λ e. stays_closed (ap (λ (z : MessageList). z.closed) k.1.taken ∙ e)) in
-      let c' : Held = record c { gave = gave; drained = c.drained ++ given } in
+      let c' : Held = record c { gave = gave; given = given_after c.given given; drained = c.drained ++ given } in
       let g : Ghost = record x.ghost { holder = Some (id, c'); keeper = None; listed = new; gave = gave } in
-      let y : Place = record { row = write word_offset x.row Gate n; slot = fill slot_offset x.slot ListShelf (some (Listing new)); ghost = g }
-      in record {
+      let y : Place = record { row = write word_offset x.row Gate n; slot = fill slot_offset x.slot ListShelf (some (Listing new)); ghost = g } in
+      let same_given : l.listed.given ≡ x.ghost.listed.given = ap (λ (z : MessageList). z.given) k.1.taken in
+      let grows = grown x y still (λ one. one) (extends_self x.ghost.journal) refl in record {
         view = w;
         deed = gives_to ListShelf (Listing new);
         kept = g;
@@ -285,22 +223,44 @@ module _ {H : Type 0} (is_of : ℕ → H → Type 0) (journal : H → List Entry
           valid = f.valid;
           claims = turns_over (claim_for actor) vs id v w c c' at (ap (λ z. held_of actor (regiven given gave z)) has ∙ held_here actor c' of)
               (subst (λ o. Locked (claim_for actor) o vs) h.0 f.claims);
-          cell = record { own = of; taken = h.1.taken; gave = refl; word = h.1.word; busy = h.1.busy; flag = h.1.flag };
+          cell = record {
+            own = of;
+            taken = h.1.taken;
+            shut = h.1.shut;
+            count = ap (λ z. given_after z given) (h.1.count ∙ sym same_given) ∙ sym counts;
+            gave = refl;
+            word = h.1.word;
+            busy = h.1.busy;
+            flag = h.1.flag;
+          };
           lists = puts_back (list_for actor) vs id v w l at refl (subst (λ o. Locked (list_for actor) o vs) k.0 f.lists);
           shelf = record { there = refl; word = word };
           ended = λ e. ⊎_elim (λ was. f.ended (ap (λ (z : MessageList). z.closed) (sym k.1.taken) ∙ was)) (λ one. h.1.word ∙ one) (closed e);
-          listing = (x.ghost.pushed, sym (append-nil x.ghost.pushed) ∙ ap (λ z. x.ghost.pushed ++ z) (sym empty));
+          listing = record {
+            given = x.ghost.pushed;
+            joined = sym (append-nil x.ghost.pushed) ∙ ap (λ z. x.ghost.pushed ++ z) (sym empty);
+            counted =
+                let all = ap length f.listing.joined ∙ length-append f.listing.given x.ghost.listed.messages in
+                let many = length_numbered l.listed.given l.listed.messages in
+                let listed_many = ap (λ (z : MessageList). length z.messages) k.1.taken in
+                let before = f.listing.counted in omega arith;
+          };
+          vouched = λ b. still_owed (Vouches b) (IsAmong b x.ghost.closed_to) (IsAmong b x.ghost.closed_to) vs id v w at (λ d. d)
+              (λ _. among_more (Read b 1) s v.log) (f.vouched b);
           message = still_owed (PaysMessage actor) (MessageDue x) (MessageDue y) vs id v w at (λ z. z) (λ _ p. p) f.message;
           system = λ due. absurd (let z = due.0 in ⊎_elim (λ b. omega arith) (λ b. omega arith) h.1.busy);
-          seen = let k = goes_on actor x y v still (λ one. one) (extends_self x.ghost.journal) (ended_told actor x y still refl) (f.seen id v at) in
-              learns (Knows actor x) (Knows actor y) vs id w (λ u. goes_on actor x y u still (λ one. one) (extends_self x.ghost.journal) (ended_told
-              actor x y still refl)) (record { seen = (so actor y (λ _. refl), k.seen); said = k.said }) f.seen;
+          seen = let k = goes_on actor x y v grows (f.seen id v at) in
+              learns (Knows actor x) (Knows actor y) vs id w (λ u. goes_on actor x y u grows) (record {
+                seen = (so actor y (λ _. (refl, part_so x.ghost l.listed lent.1.taken f.listing)), k.seen);
+                said = k.said;
+              }) f.seen;
         };
-        others = λ a i z p. elsewhere is_of journal mailbox rested a z vs id v w at (record {
+        others = λ a i z p. elsewhere is_of journal mailbox rested given_by closed_to a z vs id v w at (record {
           claim = ap (λ z. held_of a (regiven given gave z)) has ∙ (held_else a c' (λ e. i (sym e ∙ of)) ∙ sym (ap (held_of a) has ∙ held_else a
               c (λ e. i (sym e ∙ of))));
           list = sym (ap (lent_of a) keeps ∙ lent_else a l (λ e. i (sym e ∙ of_list)));
           debt = refl;
+          vouches = λ b. among_more (Read b 1) s v.log;
           knows = λ q t. record { seen = (so a q (λ e. absurd (i e)), t.seen); said = t.said };
         }) p;
         tells = told;
@@ -315,12 +275,13 @@ module _ {H : Type 0} (is_of : ℕ → H → Type 0) (journal : H → List Entry
     deed = stays;
     kept = x.ghost;
     able = tt;
-    here = load_here is_of journal mailbox rested actor x (set vs id w) Gate (views_change is_of journal mailbox rested actor x vs id v w at refl
-        refl (λ _ p. p) (λ _ p. p) (λ k. record { seen = k.seen; said = ((λ _. ((λ _. shut), (λ e. absurd (cc)))), k.said) }) f);
-    others = λ a n y g. elsewhere is_of journal mailbox rested a y vs id v w at (record {
+    here = load_here is_of journal mailbox rested given_by closed_to actor x (set vs id w) Gate (views_change is_of journal mailbox rested given_by closed_to actor x vs id v w at refl
+        refl (λ _ p. p) (λ _ p. p) (λ k. record { seen = k.seen; said = ((λ _. ((λ _. shut), (λ e. absurd (cc)))), k.said) }) (λ b p. p) f);
+    others = λ a n y g. elsewhere is_of journal mailbox rested given_by closed_to a y vs id v w at (record {
       claim = refl;
       list = refl;
       debt = refl;
+      vouches = λ b p. p;
       knows = λ _ t.
           record { seen = t.seen; said = ((λ e. absurd (n (sym e))), t.said) };
     }) g;

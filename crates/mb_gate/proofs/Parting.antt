@@ -7,6 +7,7 @@ use Rattle.std.proofs.Common.{
   ◌⊎◌,
   inl,
   inr,
+  ⊎_elim,
   Bool,
   true,
   false,
@@ -37,7 +38,8 @@ use Rattle.mb_rule.proofs.SeenLemmas.{splits_seen, joins_seen, each_append}
 use Rattle.atomic_table.proofs.Lists.{set_else}
 use Rattle.std.proofs.lemmas.Bool.{eqb-true}
 use Rattle.mb_gate.specs.declared.slot.Slot.{Slot}
-use Rattle.mb_gate.specs.View.{View, debt_of, owes, blank, either_owes, added_debts, taking_over}
+use Rattle.mb_gate.proofs.Numbers.{among_left, among_right}
+use Rattle.mb_gate.specs.View.{View, Read, Said, debt_of, owes, blank, either_owes, added_debts, taking_over}
 use Rattle.mb_gate.specs.Rule.{
   Word,
   Shelf,
@@ -49,6 +51,8 @@ use Rattle.mb_gate.specs.Rule.{
   IsSo,
   IsTold,
   Knows,
+  IsAmong,
+  Vouches,
   MessageDue,
   SystemDue,
   PaysMessage,
@@ -90,9 +94,9 @@ either_system a b h = cases a.system b.system h
     cases false false (inl h) = h
     cases false false (inr h) = h
 
-module _ {H : Type 0} (is_of : ℕ → H → Type 0) (journal : H → List Entry) (mailbox : H → Mailbox) (rested : H → Type 0) where
+module _ {H : Type 0} (is_of : ℕ → H → Type 0) (journal : H → List Entry) (mailbox : H → Mailbox) (rested : H → Type 0) (given_by : H → ℕ) (closed_to : H → List ℕ) where
   abbrev F : ℕ → Spot Word Shelf (Slot H) Ghost → List View → Type 0
-  F = Fact is_of journal mailbox rested
+  F = Fact is_of journal mailbox rested given_by closed_to
 
   abbrev Place : Type 0
   Place = Spot Word Shelf (Slot H) Ghost
@@ -111,6 +115,8 @@ module _ {H : Type 0} (is_of : ℕ → H → Type 0) (journal : H → List Entry
     shelf = f.shelf;
     ended = f.ended;
     listing = f.listing;
+    vouched = λ b. splits_owed (Vouches b) (IsAmong b x.ghost.closed_to) vs id v left right at (λ p. inr (subst (λ l. IsAmong (Read b 1) l) (sym log)
+        p)) (f.vouched b);
     message = splits_owed (PaysMessage actor) (MessageDue x) vs id v left right at (λ p. inr (subst (λ ds. IsTrue ((debt_of actor ds).message ||
         (debt_of actor ds).sending)) (sym debts) p)) f.message;
     system = splits_owed (PaysSystem actor) (SystemDue x) vs id v left right at (λ p. inr (subst (λ ds. IsTrue (debt_of actor ds).system) (sym
@@ -123,12 +129,12 @@ module _ {H : Type 0} (is_of : ℕ → H → Type 0) (journal : H → List Entry
         }) f.seen;
   }
 
-  -- a seat takes over the view of one that has no claim and no list
-  pub takes_over : (id : ℕ) (v : View) (other : ℕ) (w : View) → w.claim ≡ None → w.list ≡ None
-      → (actor : ℕ) (x : Place) (vs : List View) → get_elem? vs id ≡ some v → ¬ (other ≡ id) → get_elem? (set vs id (taking_over v w)) other ≡ some w
-      → F actor x vs → F actor x (set (set vs id (taking_over v w)) other blank)
-  takes_over id v other w bare bare_list actor x vs at apart there f =
-      let both = taking_over v w in
+  -- a seat takes over the view of one that has no claim and no list, and what one of the two said
+  pub takes_over : (id : ℕ) (v : View) (other : ℕ) (w : View) (said : List Said) → (said ≡ v.said) ⊎ (said ≡ w.said) → w.claim ≡ None → w.list ≡ None
+      → (actor : ℕ) (x : Place) (vs : List View) → get_elem? vs id ≡ some v → ¬ (other ≡ id) → get_elem? (set vs id (record (taking_over v w) { said = said })) other ≡ some w
+      → F actor x vs → F actor x (set (set vs id (record (taking_over v w) { said = said })) other blank)
+  takes_over id v other w said whose bare bare_list actor x vs at apart there f =
+      let both : View = record (taking_over v w) { said = said } in
       let at_other : get_elem? vs other ≡ some w = sym (set_else vs id other both apart) ∙ there in record {
         valid = f.valid;
         claims = joins_locked (claim_for actor) x.ghost.holder vs id other v w both blank at there refl (ap (held_of actor) bare) refl f.claims;
@@ -137,6 +143,8 @@ module _ {H : Type 0} (is_of : ℕ → H → Type 0) (journal : H → List Entry
         shelf = f.shelf;
         ended = f.ended;
         listing = f.listing;
+        vouched = λ b. joins_owed (Vouches b) (IsAmong b x.ghost.closed_to) vs id other v w both blank at apart there
+            (λ p. among_right (Read b 1) w.log v.log p) (λ p. among_left (Read b 1) w.log v.log p) (f.vouched b);
         message = joins_owed (PaysMessage actor) (MessageDue x) vs id other v w both blank at apart there
             (λ p. subst (λ (d : Debt). IsTrue (d.message || d.sending)) (sym (debt_of-added actor w.debts v.debts)) (either_message (owes actor
             w) (owes actor v) (inr p)))
@@ -150,7 +158,7 @@ module _ {H : Type 0} (is_of : ℕ → H → Type 0) (journal : H → List Entry
         seen = joins_seen (Knows actor x) vs id other both blank
             (record {
               seen = each_append (IsSo actor x) w.log v.log (f.seen other w at_other).seen (f.seen id v at).seen;
-              said = (f.seen id v
-                  at).said;
+              said = ⊎_elim (λ e. subst (Each (IsTold actor x)) (sym e) (f.seen id v at).said) (λ e. subst (Each (IsTold actor x)) (sym e)
+                  (f.seen other w at_other).said) whose;
             }) (record { seen = tt; said = tt }) f.seen;
       }

@@ -3,7 +3,7 @@ use Rattle.std.proofs.Common.{◌≡◌, ◌*◌, List, [], ◌∷◌, ◌++◌,
 use Rattle.std.proofs.lemmas.List.{reverse-append}
 use Rattle.mb_status.specs.Mailbox.{Mailbox, word_of}
 use Rattle.mb_gate.specs.declared.slot.Slot.{Slot}
-use Rattle.mb_gate.specs.declared.slot.Slot.TheVariants.{Empty, Home, List as Listing, Note}
+use Rattle.mb_gate.specs.declared.slot.Slot.TheVariants.{Empty, Home, List as Listing, Note, First}
 use Rattle.mb_gate.specs.Starts.{no_messages, row_of, rows_of, shelves_of, homes_in}
 
 module _ {H : Type 0} where
@@ -22,6 +22,7 @@ module _ {H : Type 0} where
   homes_in-append (Empty ∷ xs) ys = homes_in-append xs ys
   homes_in-append (Listing l ∷ xs) ys = homes_in-append xs ys
   homes_in-append (Note m ∷ xs) ys = homes_in-append xs ys
+  homes_in-append (First f ∷ xs) ys = homes_in-append xs ys
 
   pub homes_in-shelves_of : (hs : List H) → homes_in (shelves_of hs) ≡ hs
   homes_in-shelves_of [] = refl
@@ -58,3 +59,4 @@ module _ {H : Type 0} where
       reversed Empty = refl
       reversed (Listing l) = refl
       reversed (Note m) = refl
+      reversed (First f) = refl

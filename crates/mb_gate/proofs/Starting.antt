@@ -43,7 +43,7 @@ use Rattle.mb_rule.specs.Locked.{ticket_at}
 use Rattle.mb_gate.specs.declared.slot.Slot.{Slot}
 use Rattle.mb_gate.specs.declared.slot.Slot.TheVariants.{Home, List as Listing}
 use Rattle.mb_gate.specs.View.{View, blank}
-use Rattle.mb_gate.specs.Rule.{word_offset, slot_offset, Ghost, Knows, claim_for, list_for, Fact}
+use Rattle.mb_gate.specs.Rule.{word_offset, slot_offset, Ghost, IsAmong, Knows, claim_for, list_for, Fact}
 use Rattle.mb_gate.specs.Starts.{no_messages, rows_of, row_of, shelves_of, IsFresh}
 use Rattle.mb_gate.proofs.Rows.{length-rows_of, length-shelves_of}
 use Rattle.mb_gate.proofs.Wins.{free_word, free_mod, valid_word}
@@ -111,15 +111,22 @@ only_blank : (P : View → Type 0) → P blank → (q : ℕ) (v : View) → get_
 only_blank P p zero v at = subst P (some-injective blank v at) p
 only_blank P p (suc q) v at = absurd (some-ne-none v (sym at))
 
-module _ {H : Type 0} (is_of : ℕ → H → Type 0) (journal : H → List Entry) (mailbox : H → Mailbox) (rested : H → Type 0) where
+none_among : (a : ℕ) → IsAmong a [] → ⊥
+none_among a is = cases is.before is.joined
+  where
+    cases : (before : List ℕ) → [] ≡ before ++ a ∷ is.after → ⊥
+    cases [] e = cc
+    cases (b ∷ bs) e = cc
+
+module _ {H : Type 0} (is_of : ℕ → H → Type 0) (journal : H → List Entry) (mailbox : H → Mailbox) (rested : H → Type 0) (given_by : H → ℕ) (closed_to : H → List ℕ) where
   abbrev begins : (hs : List H) → ℕ → Ghost
-  begins hs a = record { holder = None; journal = journal_at journal mailbox hs a; keeper = None; listed = no_messages; gave = false; pushed = [] }
+  begins hs a = record { holder = None; journal = journal_at journal mailbox hs a; closed_to = []; keeper = None; listed = no_messages; gave = false; pushed = [] }
 
   pub starts : (n : ℕ) (hs : List H) (words : List ℕ) (slots : List (Slot H)) → n ≡ length hs → words ≡ rows_of mailbox hs → slots ≡ shelves_of hs
-      → ((a : ℕ) (h : H) → slice_get hs a ≡ Some h → IsFresh is_of mailbox rested a h)
-      → Ruled word_offset slot_offset n (Fact is_of journal mailbox rested) (opening words slots blank)
+      → ((a : ℕ) (h : H) → slice_get hs a ≡ Some h → IsFresh is_of mailbox rested given_by closed_to a h)
+      → Ruled word_offset slot_offset n (Fact is_of journal mailbox rested given_by closed_to) (opening words slots blank)
   starts n hs words slots many rows shelves fresh =
-      subst (λ (z : List ℕ × List (Slot H)). Ruled word_offset slot_offset n (Fact is_of journal mailbox rested) (opening z.0 z.1 blank)) (λ i.
+      subst (λ (z : List ℕ × List (Slot H)). Ruled word_offset slot_offset n (Fact is_of journal mailbox rested given_by closed_to) (opening z.0 z.1 blank)) (λ i.
       (sym rows i, sym shelves i)) record {
         ghosts = begins hs;
         wide = length-rows_of mailbox hs ∙ ap (λ k. 16 * k) (sym many);
@@ -132,6 +139,8 @@ module _ {H : Type 0} (is_of : ℕ → H → Type 0) (journal : H → List Entry
             there = b.1.cell;
             own = f.own;
             fold = sym b.1.tale;
+            count = f.none_given;
+            shut = f.none_closed;
             word = b.1.status;
             idle = inl (ap (λ k. k % 4) b.1.status ∙ free_mod m f.free);
             flag = b.1.flag ∙ sym (ap (λ b. if b then 1 else 0) (ne_eqb _ 1 (λ e. let z = free_word m f.free in let s = b.1.status in omega arith)));
@@ -140,7 +149,8 @@ module _ {H : Type 0} (is_of : ℕ → H → Type 0) (journal : H → List Entry
           lists = nobody_has (list_for a) refl;
           shelf = record { there = b.1.list; word = b.1.gate };
           ended = λ e. absurd (cc);
-          listing = ([], refl);
+          listing = record { given = []; joined = refl; counted = refl };
+          vouched = λ other is. absurd (none_among other is);
           message = λ due. absurd (let w = b.1.waiting in let d = due.1 in omega arith);
           system = λ due. absurd (let d = due.1 in cc);
           seen = only_blank (Knows a _) (record { seen = tt; said = tt });

@@ -42,11 +42,13 @@ use Rattle.mb_rule.specs.Locked.{Locked}
 use Rattle.mb_rule.specs.Layout.{Spot, slot_at, write, fill}
 use Rattle.mb_rule.specs.Ruled.{Goes, stays, takes_from, gives_to}
 use Rattle.mb_rule.proofs.LockedLemmas.{stays_locked, takes_up, turns_over, puts_back, is_holder}
-use Rattle.mb_rule.proofs.OwedLemmas.{pays}
+use Rattle.mb_rule.specs.Owed.{Owed}
+use Rattle.mb_rule.specs.Seen.{Each}
+use Rattle.mb_rule.proofs.OwedLemmas.{pays, still_owed}
 use Rattle.mb_rule.proofs.SeenLemmas.{learns}
 use Rattle.mb_gate.specs.declared.slot.Slot.{Slot}
 use Rattle.mb_gate.specs.declared.slot.Slot.TheVariants.{Home}
-use Rattle.mb_gate.specs.View.{View, Saw, rewritten, Held, owes, reading, taking, writing, idling}
+use Rattle.mb_gate.specs.View.{View, Read, Saw, rewritten, Held, owes, reading, taking, writing, idling}
 use Rattle.mb_gate.specs.Rule.{
   Word,
   Status,
@@ -61,6 +63,8 @@ use Rattle.mb_gate.specs.Rule.{
   list_for,
   Extends,
   Knows,
+  IsAmong,
+  Vouches,
   MessageDue,
   SystemDue,
   PaysMessage,
@@ -78,14 +82,17 @@ use Rattle.mb_gate.proofs.Views.{
   taking_elsewhere,
   writing_elsewhere,
   idling_elsewhere,
+  grown,
   goes_on,
 }
+use Rattle.mb_gate.specs.Claims.{IsKnownClosed}
+use Rattle.mb_gate.proofs.Numbers.{among_more, each_among}
 use Rattle.mb_gate.proofs.Facts.{still_shelved, views_change, elsewhere, load_here}
 use Rattle.mb_gate.proofs.Words.{scheduled_valid, reading_pays_message, reading_pays_system}
 
-module _ {H : Type 0} (is_of : ℕ → H → Type 0) (journal : H → List Entry) (mailbox : H → Mailbox) (rested : H → Type 0) where
+module _ {H : Type 0} (is_of : ℕ → H → Type 0) (journal : H → List Entry) (mailbox : H → Mailbox) (rested : H → Type 0) (given_by : H → ℕ) (closed_to : H → List ℕ) where
   abbrev F : ℕ → Spot Word Shelf (Slot H) Ghost → List View → Type 0
-  F = Fact is_of journal mailbox rested
+  F = Fact is_of journal mailbox rested given_by closed_to
 
   abbrev M : Type 0
   M = Me (Slot H) View
@@ -102,55 +109,56 @@ module _ {H : Type 0} (is_of : ℕ → H → Type 0) (journal : H → List Entry
     deed = stays;
     kept = x.ghost;
     able = tt;
-    here = load_here is_of journal mailbox rested actor x (set vs id (reading actor r v)) Status
-        (views_change is_of journal mailbox rested actor x vs id v (reading actor r v) at refl refl
+    here = load_here is_of journal mailbox rested given_by closed_to actor x (set vs id (reading actor r v)) Status
+        (views_change is_of journal mailbox rested given_by closed_to actor x vs id v (reading actor r v) at refl refl
         (λ due owed. subst (λ (d : Debt). IsTrue (d.message || d.sending)) (sym (owes_here actor (after_reading (mailbox_of r) (owes actor v))
         v)) (reading_pays_message r (owes actor v) due.0 owed))
         (λ due owed. subst (λ (d : Debt). IsTrue d.system) (sym (owes_here actor (after_reading (mailbox_of r) (owes actor v)) v))
         (reading_pays_system r (owes actor v) due.0 owed))
-        (λ k. record { seen = ((λ _ one. one), k.seen); said = k.said }) f);
-    others = λ a n y g. elsewhere is_of journal mailbox rested a y vs id v (reading actor r v) at (reading_elsewhere actor a r v n) g;
+        (λ k. record { seen = ((λ _ one. one), k.seen); said = k.said }) (λ b. among_more (Read b 1) (Read actor r) v.log) f);
+    others = λ a n y g. elsewhere is_of journal mailbox rested given_by closed_to a y vs id v (reading actor r v) at (reading_elsewhere actor a r v n) g;
     tells = told;
   }
 
-  nobody : (actor : ℕ) (x : Place) (holder : Option (ℕ × Held)) → x.row Status % 4 ≡ 0 → Keeping is_of journal mailbox rested actor x holder →
+  nobody : (actor : ℕ) (x : Place) (holder : Option (ℕ × Held)) → x.row Status % 4 ≡ 0 → Keeping is_of journal mailbox rested given_by closed_to actor x holder →
       holder ≡ None
   nobody actor x None free k = refl
   nobody actor x (Some h) free k = absurd (⊎_elim (λ b. omega arith) (λ b. omega arith) k.busy)
 
   -- nobody holds an actor whose word is neither closed nor scheduled, and its cell is at home
   pub is_home : (actor : ℕ) (x : Place) (vs : List View) → F actor x vs → x.row Status % 4 ≡ 0 → (x.ghost.holder ≡ None) × IsHome is_of journal
-      mailbox rested actor x
+      mailbox rested given_by closed_to actor x
   is_home actor x vs f free = let none = nobody actor x x.ghost.holder free f.cell in (
     none,
-    subst (Keeping is_of journal mailbox rested actor x)
+    subst (Keeping is_of journal mailbox rested given_by closed_to actor x)
         none f.cell,
   )
 
   -- who has the claim holds the actor
   pub is_held : (actor id : ℕ) (x : Place) (vs : List View) (v : View) (c : Held) → F actor x vs → get_elem? vs id ≡ some v → v.claim ≡ Some c →
       c.actor ≡ actor
-      → (x.ghost.holder ≡ Some (id, c)) × IsHeld is_of journal mailbox rested actor x c
+      → (x.ghost.holder ≡ Some (id, c)) × IsHeld is_of journal mailbox rested given_by closed_to actor x c
   is_held actor id x vs v c f at has of =
       let held = is_holder (claim_for actor) x.ghost.holder vs id v c at (ap (held_of actor) has ∙ held_here actor c of) f.claims in
-      (held, subst (Keeping is_of journal mailbox rested actor x) held f.cell)
+      (held, subst (Keeping is_of journal mailbox rested given_by closed_to actor x) held f.cell)
 
   -- a seat schedules the actor, and takes its cell
   pub schedules : (actor id : ℕ) (me : M) (old : ℕ) (tell : M → Type 0) (x : Place) (vs : List View) (f : F actor x vs) → get_elem? vs id ≡ some
       me.0 → (free : x.row Status % 4 ≡ 0) → x.row Status ≡ old → me.0.claim ≡ None
-      → (let h = (is_home actor x vs f free).1 in tell (taking actor x.ghost.journal old x.ghost.gave me.0, (slot_at actor 0, Home h.home) ∷ me.1))
+      → (let h = (is_home actor x vs f free).1 in tell (taking actor x.ghost.journal x.ghost.closed_to old x.ghost.gave x.ghost.listed.given me.0, (slot_at actor 0, Home h.home) ∷ me.1))
       → Goes word_offset slot_offset F actor id me Status (old + 2) tell x vs
   schedules actor id me old tell x vs f at free is bare told =
       let v = me.0 in
       let h = is_home actor x vs f free in
-      let c : Held = record { actor = actor; journal = x.ghost.journal; word = old + 2; gave = x.ghost.gave; drained = [] } in
-      let w = taking actor x.ghost.journal old x.ghost.gave v in
+      let c : Held = record { actor = actor; journal = x.ghost.journal; closed_to = x.ghost.closed_to; word = old + 2; gave = x.ghost.gave; given = x.ghost.listed.given; drained = [] } in
+      let w = taking actor x.ghost.journal x.ghost.closed_to old x.ghost.gave x.ghost.listed.given v in
       let y : Place = record {
         row = write word_offset x.row Status (old + 2);
         slot = fill slot_offset x.slot CellShelf none;
         ghost = record
             x.ghost { holder = Some (id, c) };
-      } in record {
+      } in
+      let grows = grown x y (λ e. e) (λ one. absurd (omega arith)) (extends_self x.ghost.journal) refl in record {
         view = w;
         deed = takes_from CellShelf (Home h.1.home);
         kept = record x.ghost { holder = Some (id, c) };
@@ -161,6 +169,8 @@ module _ {H : Type 0} (is_of : ℕ → H → Type 0) (journal : H → List Entry
           cell = record {
             own = refl;
             taken = refl;
+            shut = refl;
+            count = refl;
             gave = refl;
             word = refl;
             busy = inl (omega arith);
@@ -168,17 +178,17 @@ module _ {H : Type 0} (is_of : ℕ → H → Type 0) (journal : H → List Entry
                 else 0) (ne_eqb (x.row Status) 1 (λ e. omega arith));
           };
           lists = stays_locked (list_for actor) x.ghost.keeper vs id v w at refl f.lists;
-          shelf = still_shelved is_of journal mailbox rested actor x y refl refl refl refl x.ghost.keeper f.shelf;
+          shelf = still_shelved is_of journal mailbox rested given_by closed_to actor x y refl refl refl refl x.ghost.keeper f.shelf;
           ended = λ e. absurd (let one = f.ended e in omega arith);
           listing = f.listing;
+          vouched = λ b. still_owed (Vouches b) (IsAmong b x.ghost.closed_to) (IsAmong b x.ghost.closed_to) vs id v w at (λ d. d) (λ _ p. p) (f.vouched b);
           message = λ due. absurd (let z = due.0 in omega arith);
           system = λ due. absurd (let z = due.0 in omega arith);
-          seen = let k = goes_on actor x y v (λ e. e) (λ one. absurd (omega arith)) (extends_self x.ghost.journal) (λ s t. t) (f.seen id v at) in
-              learns (Knows actor x) (Knows actor y) vs id w (λ u. goes_on actor x y u (λ e. e) (λ one. absurd (omega arith)) (extends_self
-              x.ghost.journal) (λ s t. t)) (record { seen = k.seen; said = k.said }) f.seen;
+          seen = let k = goes_on actor x y v grows (f.seen id v at) in
+              learns (Knows actor x) (Knows actor y) vs id w (λ u. goes_on actor x y u grows) (record { seen = k.seen; said = k.said }) f.seen;
         };
-        others = λ a n z g. elsewhere is_of journal mailbox rested a z vs id v w at (taking_elsewhere actor a old x.ghost.journal x.ghost.gave v
-            n bare) g;
+        others = λ a n z g. elsewhere is_of journal mailbox rested given_by closed_to a z vs id v w at (taking_elsewhere actor a old x.ghost.listed.given x.ghost.journal
+            x.ghost.closed_to x.ghost.gave v n bare) g;
         tells = told;
       }
 
@@ -193,7 +203,8 @@ module _ {H : Type 0} (is_of : ℕ → H → Type 0) (journal : H → List Entry
       let d : Held = record c { word = new } in
       let w = writing new v in
       let y : Place = record { row = write word_offset x.row Status new; slot = x.slot; ghost = record x.ghost { holder = Some (id, d) } } in
-      let shut : x.row Status ≡ 1 → new ≡ 1 = (λ one. closed (sym h.1.word ∙ one)) in record {
+      let shut : x.row Status ≡ 1 → new ≡ 1 = (λ one. closed (sym h.1.word ∙ one)) in
+      let grows = grown x y (λ e. e) shut (extends_self x.ghost.journal) refl in record {
         view = w;
         deed = stays;
         kept = record x.ghost { holder = Some (id, d) };
@@ -202,39 +213,50 @@ module _ {H : Type 0} (is_of : ℕ → H → Type 0) (journal : H → List Entry
           valid = valid;
           claims = turns_over (claim_for actor) vs id v w c d at (ap (λ z. held_of actor (rewritten new z)) has ∙ held_here actor d of)
               (subst (λ o. Locked (claim_for actor) o vs) h.0 f.claims);
-          cell = record { own = of; taken = h.1.taken; gave = h.1.gave; word = refl; busy = busy; flag = h.1.flag };
+          cell = record { own = of; taken = h.1.taken; shut = h.1.shut; count = h.1.count; gave = h.1.gave; word = refl; busy = busy; flag = h.1.flag };
           lists = stays_locked (list_for actor) x.ghost.keeper vs id v w at refl f.lists;
-          shelf = still_shelved is_of journal mailbox rested actor x y refl refl refl refl x.ghost.keeper f.shelf;
+          shelf = still_shelved is_of journal mailbox rested given_by closed_to actor x y refl refl refl refl x.ghost.keeper f.shelf;
           ended = λ e. shut (f.ended e);
           listing = f.listing;
+          vouched = λ b. still_owed (Vouches b) (IsAmong b x.ghost.closed_to) (IsAmong b x.ghost.closed_to) vs id v w at (λ d. d) (λ _ p. p) (f.vouched b);
           message = λ due. absurd (let z : new ≡ 0 = due.0 in ⊎_elim (λ b. omega arith) (λ b. omega arith) busy);
           system = λ due. absurd (let z : new % 4 ≡ 0 = due.0 in ⊎_elim (λ b. omega arith) (λ b. omega arith) busy);
-          seen = let k = goes_on actor x y v (λ e. e) shut (extends_self x.ghost.journal) (λ s t. t) (f.seen id v at) in
-              learns (Knows actor x) (Knows actor y) vs id w (λ u. goes_on actor x y u (λ e. e) shut (extends_self x.ghost.journal)
-              (λ s t. t)) (record {
+          seen = let k = goes_on actor x y v grows (f.seen id v at) in
+              learns (Knows actor x) (Knows actor y) vs id w (λ u. goes_on actor x y u grows) (record {
                 seen = k.seen;
                 said = k.said;
               }) f.seen;
         };
-        others = λ a n z g. elsewhere is_of journal mailbox rested a z vs id v w at (writing_elsewhere actor a new c v n has of) g;
+        others = λ a n z g. elsewhere is_of journal mailbox rested given_by closed_to a z vs id v w at (writing_elsewhere actor a new c v n has of) g;
         tells = told;
       }
+
+  -- whom the home says to be closed some seat has seen closed: the one that gives it home, or the one that had seen it before
+  vouches_home : (actor : ℕ) (j : List Entry) (v : View) (c : Held) (before after : List ℕ) (vs : List View) (id : ℕ) → get_elem? vs id ≡ some v
+      → c.closed_to ≡ before → Each (λ b. IsKnownClosed b c.closed_to v) after → ((b : ℕ) → Owed (IsAmong b before) (Vouches b) vs)
+      → (b : ℕ) → Owed (IsAmong b after) (Vouches b) (set vs id (idling actor j v))
+  vouches_home actor j v c before after vs id at same known vouched b is =
+      ⊎_elim (λ was. still_owed (Vouches b) (IsAmong b before) (IsAmong b before) vs id v (idling actor j v) at (λ d. d)
+      (λ _. among_more (Read b 1) (Saw actor j) v.log) (vouched b) (subst (IsAmong b) same was))
+      (λ sees. pays (Vouches b) (IsAmong b after) vs id v (idling actor j v) at (among_more (Read b 1) (Saw actor j) v.log sees) is)
+      (each_among (λ a. IsKnownClosed a c.closed_to v) b after known is)
 
   -- the holder gives the cell of an open actor home
   pub idles : (actor id : ℕ) (me : M) (c : Held) (home : H) (new : ℕ) (tell : M → Type 0) (x : Place) (vs : List View) → F actor x vs → get_elem?
       vs id ≡ some me.0 → me.0.claim ≡ Some c → c.actor ≡ actor
-      → me.1 ≡ (slot_at actor 0, Home home) ∷ [] → is_of actor home → Extends (journal home) c.journal → c.word ≢ 1 → IsTrue (is_valid new) → new
+      → me.1 ≡ (slot_at actor 0, Home home) ∷ [] → is_of actor home → Extends (journal home) c.journal → given_by home ≡ c.given → Each (λ b. IsKnownClosed b c.closed_to me.0) (closed_to home) → c.word ≢ 1 → IsTrue (is_valid new) → new
       % 4 ≡ 0 → new ≡ word_of (mailbox home) → (c.gave ≡ false → rested home)
       → tell (idling actor (journal home) me.0, []) → Goes word_offset slot_offset F actor id me Status new tell x vs
-  idles actor id me c home new tell x vs f at has of carried own longer unshut valid free word rest told =
+  idles actor id me c home new tell x vs f at has of carried own longer count known unshut valid free word rest told =
       let v = me.0 in
       let h = is_held actor id x vs v c f at has of in
       let j = journal home in
       let w = idling actor j v in
-      let g : Ghost = record x.ghost { holder = None; journal = j } in
+      let g : Ghost = record x.ghost { holder = None; journal = j; closed_to = closed_to home } in
       let y : Place = record { row = write word_offset x.row Status new; slot = fill slot_offset x.slot CellShelf (some (Home home)); ghost = g } in
-      let grown : Extends j x.ghost.journal = subst (λ z. Extends j z) h.1.taken longer in
+      let farther : Extends j x.ghost.journal = subst (λ z. Extends j z) h.1.taken longer in
       let shut : x.row Status ≡ 1 → new ≡ 1 = (λ one. absurd (unshut (sym h.1.word ∙ one))) in
+      let grows = grown x y (λ e. e) shut farther refl in
       let debt : Debt = record (owes actor v) { system = true; message = true } in record {
         view = w;
         deed = gives_to CellShelf (Home home);
@@ -248,21 +270,24 @@ module _ {H : Type 0} (is_of : ℕ → H → Type 0) (journal : H → List Entry
             there = refl;
             own = own;
             fold = refl;
+            count = count ∙ h.1.count;
+            shut = refl;
             word = word;
             idle = inl free;
             flag = h.1.flag ∙ sym (ap (λ b. if b then 1 else 0) (ne_eqb new 1 (λ e. omega arith)));
             rest = ⊎_elim (λ one. absurd (omega arith)) (λ gave. rest (h.1.gave ∙ gave));
           };
           lists = stays_locked (list_for actor) x.ghost.keeper vs id v w at refl f.lists;
-          shelf = still_shelved is_of journal mailbox rested actor x y refl refl refl refl x.ghost.keeper f.shelf;
+          shelf = still_shelved is_of journal mailbox rested given_by closed_to actor x y refl refl refl refl x.ghost.keeper f.shelf;
           ended = λ e. shut (f.ended e);
           listing = f.listing;
+          vouched = vouches_home actor j v c x.ghost.closed_to (closed_to home) vs id at h.1.shut known f.vouched;
           message = pays (PaysMessage actor) (MessageDue y) vs id v w at (subst (λ (d : Debt). IsTrue (d.message || d.sending)) (sym (owes_here
               actor debt (record v { log = Saw actor j ∷ v.log; claim = None }))) refl);
           system = pays (PaysSystem actor) (SystemDue y) vs id v w at (subst (λ (d : Debt). IsTrue d.system) (sym (owes_here actor debt (record v
               { log = Saw actor j ∷ v.log; claim = None }))) refl);
-          seen = let k = goes_on actor x y v (λ e. e) shut grown (λ s t. t) (f.seen id v at) in
-              learns (Knows actor x) (Knows actor y) vs id w (λ u. goes_on actor x y u (λ e. e) shut grown (λ s t. t)) (record {
+          seen = let k = goes_on actor x y v grows (f.seen id v at) in
+              learns (Knows actor x) (Knows actor y) vs id w (λ u. goes_on actor x y u grows) (record {
                 seen = (
                   (λ _.
                       extends_self j),
@@ -271,25 +296,26 @@ module _ {H : Type 0} (is_of : ℕ → H → Type 0) (journal : H → List Entry
                 said = k.said;
               }) f.seen;
         };
-        others = λ a n z k. elsewhere is_of journal mailbox rested a z vs id v w at (idling_elsewhere actor a j c v n has of) k;
+        others = λ a n z k. elsewhere is_of journal mailbox rested given_by closed_to a z vs id v w at (idling_elsewhere actor a j c v n has of) k;
         tells = subst (λ l. tell (w, tail_of l)) (sym carried) told;
       }
 
   -- the holder gives the cell of a closed actor home, by its flag
   pub idles_closed : (actor id : ℕ) (me : M) (c : Held) (home : H) (tell : M → Type 0) (x : Place) (vs : List View) → F actor x vs → get_elem? vs
       id ≡ some me.0 → me.0.claim ≡ Some c → c.actor ≡ actor
-      → me.1 ≡ (slot_at actor 0, Home home) ∷ [] → is_of actor home → Extends (journal home) c.journal → c.word ≡ 1 → 1 ≡ word_of (mailbox home)
+      → me.1 ≡ (slot_at actor 0, Home home) ∷ [] → is_of actor home → Extends (journal home) c.journal → given_by home ≡ c.given → Each (λ b. IsKnownClosed b c.closed_to me.0) (closed_to home) → c.word ≡ 1 → 1 ≡ word_of (mailbox home)
       → rested home
       → tell (idling actor (journal home) me.0, []) → Goes word_offset slot_offset F actor id me Flag 1 tell x vs
-  idles_closed actor id me c home tell x vs f at has of carried own longer closed word rest told =
+  idles_closed actor id me c home tell x vs f at has of carried own longer count known closed word rest told =
       let v = me.0 in
       let h = is_held actor id x vs v c f at has of in
       let j = journal home in
       let w = idling actor j v in
-      let g : Ghost = record x.ghost { holder = None; journal = j } in
+      let g : Ghost = record x.ghost { holder = None; journal = j; closed_to = closed_to home } in
       let y : Place = record { row = write word_offset x.row Flag 1; slot = fill slot_offset x.slot CellShelf (some (Home home)); ghost = g } in
-      let grown : Extends j x.ghost.journal = subst (λ z. Extends j z) h.1.taken longer in
+      let farther : Extends j x.ghost.journal = subst (λ z. Extends j z) h.1.taken longer in
       let shut : x.row Status ≡ 1 = h.1.word ∙ closed in
+      let grows = grown x y (λ e. e) (λ one. one) farther refl in
       let debt : Debt = record (owes actor v) { system = true; message = true } in record {
         view = w;
         deed = gives_to CellShelf (Home home);
@@ -303,21 +329,24 @@ module _ {H : Type 0} (is_of : ℕ → H → Type 0) (journal : H → List Entry
             there = refl;
             own = own;
             fold = refl;
+            count = count ∙ h.1.count;
+            shut = refl;
             word = shut ∙ word;
             idle = inr shut;
             flag = sym (ap (λ b. if b then 1 else 0) (eq-eqb (x.row Status) 1 shut));
             rest = λ _. rest;
           };
           lists = stays_locked (list_for actor) x.ghost.keeper vs id v w at refl f.lists;
-          shelf = still_shelved is_of journal mailbox rested actor x y refl refl refl refl x.ghost.keeper f.shelf;
+          shelf = still_shelved is_of journal mailbox rested given_by closed_to actor x y refl refl refl refl x.ghost.keeper f.shelf;
           ended = f.ended;
           listing = f.listing;
+          vouched = vouches_home actor j v c x.ghost.closed_to (closed_to home) vs id at h.1.shut known f.vouched;
           message = pays (PaysMessage actor) (MessageDue y) vs id v w at (subst (λ (d : Debt). IsTrue (d.message || d.sending)) (sym (owes_here
               actor debt (record v { log = Saw actor j ∷ v.log; claim = None }))) refl);
           system = pays (PaysSystem actor) (SystemDue y) vs id v w at (subst (λ (d : Debt). IsTrue d.system) (sym (owes_here actor debt (record v
               { log = Saw actor j ∷ v.log; claim = None }))) refl);
-          seen = let k = goes_on actor x y v (λ e. e) (λ one. one) grown (λ s t. t) (f.seen id v at) in
-              learns (Knows actor x) (Knows actor y) vs id w (λ u. goes_on actor x y u (λ e. e) (λ one. one) grown (λ s t. t)) (record {
+          seen = let k = goes_on actor x y v grows (f.seen id v at) in
+              learns (Knows actor x) (Knows actor y) vs id w (λ u. goes_on actor x y u grows) (record {
                 seen = (
                   (λ _.
                       extends_self j),
@@ -326,6 +355,6 @@ module _ {H : Type 0} (is_of : ℕ → H → Type 0) (journal : H → List Entry
                 said = k.said;
               }) f.seen;
         };
-        others = λ a n z k. elsewhere is_of journal mailbox rested a z vs id v w at (idling_elsewhere actor a j c v n has of) k;
+        others = λ a n z k. elsewhere is_of journal mailbox rested given_by closed_to a z vs id v w at (idling_elsewhere actor a j c v n has of) k;
         tells = subst (λ l. tell (w, tail_of l)) (sym carried) told;
       }

@@ -4,6 +4,12 @@ use Rattle.std.proofs.Common.{
   ◌≢◌,
   ℕ,
   ◌+◌,
+  ◌%◌,
+  ◌^◌,
+  ◌<◌,
+  length,
+  subst,
+  arith,
   ◌==◌,
   if◌then◌else◌,
   Bool,
@@ -32,6 +38,9 @@ use Rattle.mb_core.specs.Run.{after_reading}
 use Rattle.mb_status.specs.Mailbox.{mailbox_of}
 use Rattle.mb_rule.specs.Layout.{Spot}
 use Rattle.mb_rule.proofs.SeenLemmas.{each_weaker}
+use Rattle.mb_msg.specs.declared.system.SysMsg.{SysMsg}
+use Rattle.mb_syslist.specs.MessageList.{numbered}
+use Rattle.mb_gate.proofs.Numbers.{among_more, among_left, part_left, numbered_append}
 use Rattle.mb_gate.specs.declared.slot.Slot.{Slot}
 use Rattle.mb_gate.specs.View.{
   View,
@@ -43,6 +52,7 @@ use Rattle.mb_gate.specs.View.{
   Sent,
   Unsent,
   Took,
+  Pushed,
   Drained,
   Ended,
   Held,
@@ -61,7 +71,7 @@ use Rattle.mb_gate.specs.View.{
   regiven,
   draining,
 }
-use Rattle.mb_gate.specs.Rule.{Word, Shelf, Ghost, Status, held_of, lent_of, claim_for, list_for, Extends, IsSo, IsTold, Knows}
+use Rattle.mb_gate.specs.Rule.{Word, Shelf, Ghost, Status, held_of, lent_of, claim_for, list_for, Extends, IsPart, Vouches, IsSo, IsAmong, IsTold, all_numbered, Knows}
 
 pub held_here : (actor : ℕ) (c : Held) → c.actor ≡ actor → held_of actor (Some c) ≡ Some c
 held_here actor c e = ap (λ b. if b then Some c else None) (eq-eqb c.actor actor e)
@@ -93,18 +103,23 @@ extends_more j k l a b = record {
 }
 
 -- a drain of nothing is seen alone, where the last drain gave nothing
-pub drained_nothing : (actor : ℕ) (c : Held) (v : View) → v.claim ≡ Some c → v.list ≡ None → c.gave ≡ false → seeing (Drained actor []) v ≡
+pub drained_nothing : (actor : ℕ) (c : Held) (v : View) → v.claim ≡ Some c → v.list ≡ None → c.gave ≡ false → c.given < 2 ^ 64 → seeing (Drained actor []) v ≡
     draining actor [] false v
-drained_nothing actor c v has no_list gave i = record v { log = Drained actor [] ∷ v.log; list = no_list i; claim = same i }
+drained_nothing actor c v has no_list gave small i = record v { log = Drained actor [] ∷ v.log; list = no_list i; claim = same i }
   where
-    same : v.claim ≡ regiven [] false v.claim
-    same = has ∙ ((λ k. Some (record c { gave = gave k; drained = sym (append-nil c.drained) k })) ∙ sym (ap (regiven [] false) has))
+    fits : c.given ≡ (c.given + 0) % 2 ^ 64
+    fits = omega arith
 
--- Towards this actor, w is as v: of its cell, its list and what is owed; and what it has seen is so where what v has seen is.
+    same : v.claim ≡ regiven [] false v.claim
+    same = has ∙ ((λ k. Some (record c { gave = gave k; given = fits k; drained = sym (append-nil c.drained) k })) ∙ sym (ap (regiven [] false) has))
+
+-- Towards this actor, w is as v: of its cell, its list and what is owed; what it has seen is so where what v has seen is; and it has seen
+-- closed whom v has.
 pub record Elsewhere (H : Type 0) (actor : ℕ) (v w : View) : Type 0 where
   pub claim : claim_for actor w ≡ claim_for actor v
   pub list : list_for actor w ≡ list_for actor v
   pub debt : owes actor w ≡ owes actor v
+  pub vouches : (other : ℕ) → Vouches other v → Vouches other w
   pub knows : (x : Spot Word Shelf (Slot H) Ghost) → Knows actor x v → Knows actor x w
 
 -- a sight that is so of every actor, whatever its place is like
@@ -117,6 +132,7 @@ module _ {H : Type 0} where
     claim = refl;
     list = refl;
     debt = refl;
+    vouches = λ a. among_more (Read a 1) s v.log;
     knows = λ x k. record {
       seen = (so other x, k.seen);
       said =
@@ -130,6 +146,7 @@ module _ {H : Type 0} where
     claim = refl;
     list = refl;
     debt = owes_else actor other d v n;
+    vouches = λ a. among_more (Read a 1) s v.log;
     knows = λ x k. record {
       seen =
           (so other x, k.seen);
@@ -142,16 +159,18 @@ module _ {H : Type 0} where
     claim = refl;
     list = refl;
     debt = owes_else actor other (after_reading (mailbox_of word) (owes actor v)) v n;
+    vouches = λ a. among_more (Read a 1) (Read actor word) v.log;
     knows = λ x k. record { seen = ((λ e _. absurd (n (sym e))), k.seen); said = k.said };
   }
 
-  pub taking_elsewhere : (actor other word : ℕ) (j : List Entry) (gave : Bool) (v : View) → other ≢ actor → v.claim ≡ None → Elsewhere H other v
-      (taking actor j word gave v)
-  taking_elsewhere actor other word j gave v n bare = record {
-    claim = held_else other (record { actor = actor; journal = j; word = word + 2; gave = gave; drained = [] }) (λ e. n (sym e)) ∙ sym (ap
+  pub taking_elsewhere : (actor other word given : ℕ) (j : List Entry) (shut : List ℕ) (gave : Bool) (v : View) → other ≢ actor → v.claim ≡ None → Elsewhere H other v
+      (taking actor j shut word gave given v)
+  taking_elsewhere actor other word given j shut gave v n bare = record {
+    claim = held_else other (record { actor = actor; journal = j; closed_to = shut; word = word + 2; gave = gave; given = given; drained = [] }) (λ e. n (sym e)) ∙ sym (ap
         (held_of other) bare);
     list = refl;
     debt = owes_else actor other nothing v n;
+    vouches = λ a k. k;
     knows = λ x k. record { seen = k.seen; said = k.said };
   }
 
@@ -162,6 +181,7 @@ module _ {H : Type 0} where
         other) has ∙ held_else other c (λ e. n (sym e ∙ of))));
     list = refl;
     debt = refl;
+    vouches = λ a k. k;
     knows = λ x k. record { seen = k.seen; said = k.said };
   }
 
@@ -171,28 +191,63 @@ module _ {H : Type 0} where
     claim = sym (ap (held_of other) has ∙ held_else other c (λ e. n (sym e ∙ of)));
     list = refl;
     debt = owes_else actor other (record (owes actor v) { system = true; message = true }) v n;
+    vouches = λ a. among_more (Read a 1) (Saw actor j) v.log;
     knows = λ x k. record { seen = ((λ e. absurd (n (sym e))), k.seen); said = k.said };
   }
 
+  -- The place goes on: what was closed is closed, its journal goes on, and so does what was ever listed.
+  pub record Grown (x y : Spot Word Shelf (Slot H) Ghost) : Type 0 where
+    pub still : IsTrue x.ghost.listed.closed → IsTrue y.ghost.listed.closed
+    pub closed : x.row Status ≡ 1 → y.row Status ≡ 1
+    pub longer : Extends y.ghost.journal x.ghost.journal
+    pub more : List SysMsg
+    pub pushed : y.ghost.pushed ≡ x.ghost.pushed ++ more
+
+  -- with nothing more listed
+  pub grown : (x y : Spot Word Shelf (Slot H) Ghost) → (IsTrue x.ghost.listed.closed → IsTrue y.ghost.listed.closed) → (x.row Status ≡ 1 →
+      y.row Status ≡ 1) → Extends y.ghost.journal x.ghost.journal → y.ghost.pushed ≡ x.ghost.pushed → Grown x y
+  grown x y still closed longer same = record {
+    still = still;
+    closed = closed;
+    longer = longer;
+    more = [];
+    pushed = same ∙ sym (append-nil
+        x.ghost.pushed);
+  }
+
+  numbers_go_on : (x y : Spot Word Shelf (Slot H) Ghost) (g : Grown x y) → all_numbered y.ghost ≡ all_numbered x.ghost ++ numbered ((0 + length
+      x.ghost.pushed) % 2 ^ 64) g.more
+  numbers_go_on x y g = ap (numbered 0) g.pushed ∙ numbered_append 0 x.ghost.pushed g.more (omega arith)
+
+  told_on : (actor : ℕ) (x y : Spot Word Shelf (Slot H) Ghost) → Grown x y → (s : Said) → IsTold actor x s → IsTold actor y s
+  told_on actor x y g s t e = (
+    (λ ended. g.still ((t e).0 ended)),
+    (λ listed. subst (IsAmong s.message) (sym g.pushed) (among_left s.message x.ghost.pushed g.more ((t e).1 listed))),
+  )
+
+  seen_on : (actor : ℕ) (x y : Spot Word Shelf (Slot H) Ghost) → Grown x y → (s : Sight) → IsSo actor x s → IsSo actor y s
+  seen_on actor x y g (Read a word) h = λ e one. g.closed (h e one)
+  seen_on actor x y g (Saw a j) h = λ e. extends_more y.ghost.journal x.ghost.journal j g.longer (h e)
+  seen_on actor x y g (Counted a n) h = h
+  seen_on actor x y g (Looked a b) h = h
+  seen_on actor x y g (Sent a n) h = h
+  seen_on actor x y g (Unsent a n) h = h
+  seen_on actor x y g (Took a n) h = h
+  seen_on actor x y g (Pushed a n m) h = λ e. subst (IsAmong (n, m)) (sym (numbers_go_on x y g)) (among_left (n, m) (all_numbered x.ghost)
+      (numbered ((0 + length x.ghost.pushed) % 2 ^ 64) g.more) (h e))
+  seen_on actor x y g (Drained a given) h = λ e. subst (IsPart given) (sym (numbers_go_on x y g)) (part_left given (all_numbered x.ghost)
+      (numbered ((0 + length x.ghost.pushed) % 2 ^ 64) g.more) (h e))
+  seen_on actor x y g (Ended a given) h = λ e. (
+    g.still (h e).0,
+    subst (IsPart given) (sym (numbers_go_on x y g)) (part_left given
+        (all_numbered x.ghost) (numbered ((0 + length x.ghost.pushed) % 2 ^ 64) g.more) (h e).1),
+  )
+
   -- what was known of a place is so where the place goes on
-  pub goes_on : (actor : ℕ) (x y : Spot Word Shelf (Slot H) Ghost) (v : View) → (IsTrue x.ghost.listed.closed → IsTrue y.ghost.listed.closed)
-      → (x.row Status ≡ 1 → y.row Status ≡ 1) → Extends y.ghost.journal
-      x.ghost.journal
-      → ((s : Said) → IsTold actor x s → IsTold actor y s) → Knows actor x v → Knows actor y v
-  goes_on actor x y v still closed longer told k = record {
-    seen = each_weaker (IsSo actor x) (IsSo actor y) v.log
-        (λ s. elim s as (λ z. IsSo actor x z → IsSo actor y z) [
-          | Read a word ↦ (λ h e one. closed (h e one))
-          | Saw a j ↦ (λ h e. extends_more y.ghost.journal x.ghost.journal j longer (h e))
-          | Counted a n ↦ (λ h. h)
-          | Looked a b ↦ (λ h. h)
-          | Sent a n ↦ (λ h. h)
-          | Unsent a n ↦ (λ h. h)
-          | Took a n ↦ (λ h. h)
-          | Drained a given ↦ (λ h. h)
-          | Ended a given ↦ (λ h e. still (h e))
-        ]) k.seen;
-    said = each_weaker (IsTold actor x) (IsTold actor y) v.said told k.said;
+  pub goes_on : (actor : ℕ) (x y : Spot Word Shelf (Slot H) Ghost) (v : View) → Grown x y → Knows actor x v → Knows actor y v
+  goes_on actor x y v g k = record {
+    seen = each_weaker (IsSo actor x) (IsSo actor y) v.log (seen_on actor x y g) k.seen;
+    said = each_weaker (IsTold actor x) (IsTold actor y) v.said (told_on actor x y g) k.said;
   }
 
 chosen_rest : (b : Bool) (v w u : View) → (w.claim ≡ v.claim) × (w.list ≡ v.list) → (u.claim ≡ v.claim) × (u.list ≡ v.list)

@@ -12,7 +12,7 @@ use Rattle.mb_rule.proofs.LockedLemmas.{stays_locked}
 use Rattle.mb_rule.proofs.OwedLemmas.{pays, still_owed}
 use Rattle.mb_rule.proofs.SeenLemmas.{learns}
 use Rattle.mb_gate.specs.declared.slot.Slot.{Slot}
-use Rattle.mb_gate.specs.View.{View, Sight, Counted, Looked, Sent, Unsent, Held, owes, owing, seeing, sending, unsending, counting, looking}
+use Rattle.mb_gate.specs.View.{View, Sight, Read, Counted, Looked, Sent, Unsent, Held, owes, owing, seeing, sending, unsending, counting, looking}
 use Rattle.mb_gate.specs.Rule.{
   Word,
   Gate,
@@ -24,6 +24,8 @@ use Rattle.mb_gate.specs.Rule.{
   claim_for,
   list_for,
   Knows,
+  IsAmong,
+  Vouches,
   MessageDue,
   SystemDue,
   PaysMessage,
@@ -31,14 +33,15 @@ use Rattle.mb_gate.specs.Rule.{
   has_work,
   Fact,
 }
-use Rattle.mb_gate.proofs.Views.{owes_here, extends_self, IsQuiet, seeing_elsewhere, owing_elsewhere, goes_on}
+use Rattle.mb_gate.proofs.Views.{owes_here, extends_self, IsQuiet, seeing_elsewhere, owing_elsewhere, grown, goes_on}
+use Rattle.mb_gate.proofs.Numbers.{among_more}
 use Rattle.mb_gate.proofs.Facts.{still_kept, still_shelved, views_change, elsewhere, load_here}
 use Rattle.mb_gate.proofs.StatusSteps.{is_held}
 use Rattle.std.proofs.lemmas.Bool.{eqb-true}
 
-module _ {H : Type 0} (is_of : ℕ → H → Type 0) (journal : H → List Entry) (mailbox : H → Mailbox) (rested : H → Type 0) where
+module _ {H : Type 0} (is_of : ℕ → H → Type 0) (journal : H → List Entry) (mailbox : H → Mailbox) (rested : H → Type 0) (given_by : H → ℕ) (closed_to : H → List ℕ) where
   abbrev F : ℕ → Spot Word Shelf (Slot H) Ghost → List View → Type 0
-  F = Fact is_of journal mailbox rested
+  F = Fact is_of journal mailbox rested given_by closed_to
 
   abbrev M : Type 0
   M = Me (Slot H) View
@@ -57,7 +60,8 @@ module _ {H : Type 0} (is_of : ℕ → H → Type 0) (journal : H → List Entry
   recounts actor id n d s me tell x vs so f at owed same told =
       let v = me.0 in
       let w = owing actor d (seeing s v) in
-      let y : Place = record { row = write word_offset x.row Waiting n; slot = x.slot; ghost = x.ghost } in record {
+      let y : Place = record { row = write word_offset x.row Waiting n; slot = x.slot; ghost = x.ghost } in
+      let grows = grown x y (λ e. e) (λ one. one) (extends_self x.ghost.journal) refl in record {
         view = w;
         deed = stays;
         kept = x.ghost;
@@ -65,21 +69,21 @@ module _ {H : Type 0} (is_of : ℕ → H → Type 0) (journal : H → List Entry
         here = record {
           valid = f.valid;
           claims = stays_locked (claim_for actor) x.ghost.holder vs id v w at refl f.claims;
-          cell = still_kept is_of journal mailbox rested actor x y refl refl refl refl refl x.ghost.holder f.cell;
+          cell = still_kept is_of journal mailbox rested given_by closed_to actor x y refl refl refl refl refl refl refl x.ghost.holder f.cell;
           lists = stays_locked (list_for actor) x.ghost.keeper vs id v w at refl f.lists;
-          shelf = still_shelved is_of journal mailbox rested actor x y refl refl refl refl x.ghost.keeper f.shelf;
+          shelf = still_shelved is_of journal mailbox rested given_by closed_to actor x y refl refl refl refl x.ghost.keeper f.shelf;
           ended = f.ended;
           listing = f.listing;
+          vouched = λ b. still_owed (Vouches b) (IsAmong b x.ghost.closed_to) (IsAmong b x.ghost.closed_to) vs id v w at (λ d. d)
+              (λ _. among_more (Read b 1) s v.log) (f.vouched b);
           message = pays (PaysMessage actor) (MessageDue y) vs id v w at (subst (λ (z : Debt). IsTrue (z.message || z.sending)) (sym (owes_here
               actor d v)) owed);
           system = still_owed (PaysSystem actor) (SystemDue x) (SystemDue y) vs id v w at (λ due. due) (λ _ p. subst (λ (z : Debt). IsTrue
               z.system) (sym (owes_here actor d v)) (subst IsTrue (sym same) p)) f.system;
-          seen = let k = goes_on actor x y v (λ e. e) (λ one. one) (extends_self x.ghost.journal) (λ s t. t) (f.seen id v at) in
-              learns (Knows actor x) (Knows actor y) vs id w (λ u. goes_on actor x y u (λ e. e) (λ one. one)
-              (extends_self x.ghost.journal) (λ s t. t))
-              (record { seen = (so actor y, k.seen); said = k.said }) f.seen;
+          seen = let k = goes_on actor x y v grows (f.seen id v at) in
+              learns (Knows actor x) (Knows actor y) vs id w (λ u. goes_on actor x y u grows) (record { seen = (so actor y, k.seen); said = k.said }) f.seen;
         };
-        others = λ a z y g. elsewhere is_of journal mailbox rested a y vs id v w at (owing_elsewhere actor a d s v z so) g;
+        others = λ a z y g. elsewhere is_of journal mailbox rested given_by closed_to a y vs id v w at (owing_elsewhere actor a d s v z so) g;
         tells = told;
       }
 
@@ -106,8 +110,9 @@ module _ {H : Type 0} (is_of : ℕ → H → Type 0) (journal : H → List Entry
   takes_one actor id n s me c tell x vs so f at has of told =
       let v = me.0 in
       let w = seeing s v in
-      let h = is_held is_of journal mailbox rested actor id x vs v c f at has of in
-      let y : Place = record { row = write word_offset x.row Waiting n; slot = x.slot; ghost = x.ghost } in record {
+      let h = is_held is_of journal mailbox rested given_by closed_to actor id x vs v c f at has of in
+      let y : Place = record { row = write word_offset x.row Waiting n; slot = x.slot; ghost = x.ghost } in
+      let grows = grown x y (λ e. e) (λ one. one) (extends_self x.ghost.journal) refl in record {
         view = w;
         deed = stays;
         kept = x.ghost;
@@ -115,19 +120,19 @@ module _ {H : Type 0} (is_of : ℕ → H → Type 0) (journal : H → List Entry
         here = record {
           valid = f.valid;
           claims = stays_locked (claim_for actor) x.ghost.holder vs id v w at refl f.claims;
-          cell = still_kept is_of journal mailbox rested actor x y refl refl refl refl refl x.ghost.holder f.cell;
+          cell = still_kept is_of journal mailbox rested given_by closed_to actor x y refl refl refl refl refl refl refl x.ghost.holder f.cell;
           lists = stays_locked (list_for actor) x.ghost.keeper vs id v w at refl f.lists;
-          shelf = still_shelved is_of journal mailbox rested actor x y refl refl refl refl x.ghost.keeper f.shelf;
+          shelf = still_shelved is_of journal mailbox rested given_by closed_to actor x y refl refl refl refl x.ghost.keeper f.shelf;
           ended = f.ended;
           listing = f.listing;
+          vouched = λ b. still_owed (Vouches b) (IsAmong b x.ghost.closed_to) (IsAmong b x.ghost.closed_to) vs id v w at (λ d. d)
+              (λ _. among_more (Read b 1) s v.log) (f.vouched b);
           message = λ due. absurd (let z = due.0 in ⊎_elim (λ b. omega arith) (λ b. omega arith) h.1.busy);
           system = still_owed (PaysSystem actor) (SystemDue x) (SystemDue y) vs id v w at (λ due. due) (λ _ p. p) f.system;
-          seen = let k = goes_on actor x y v (λ e. e) (λ one. one) (extends_self x.ghost.journal) (λ s t. t) (f.seen id v at) in
-              learns (Knows actor x) (Knows actor y) vs id w (λ u. goes_on actor x y u (λ e. e) (λ one. one)
-              (extends_self x.ghost.journal) (λ s t. t))
-              (record { seen = (so actor y, k.seen); said = k.said }) f.seen;
+          seen = let k = goes_on actor x y v grows (f.seen id v at) in
+              learns (Knows actor x) (Knows actor y) vs id w (λ u. goes_on actor x y u grows) (record { seen = (so actor y, k.seen); said = k.said }) f.seen;
         };
-        others = λ a z y g. elsewhere is_of journal mailbox rested a y vs id v w at (seeing_elsewhere a s v so) g;
+        others = λ a z y g. elsewhere is_of journal mailbox rested given_by closed_to a y vs id v w at (seeing_elsewhere a s v so) g;
         tells = told;
       }
 
@@ -142,12 +147,12 @@ module _ {H : Type 0} (is_of : ℕ → H → Type 0) (journal : H → List Entry
     deed = stays;
     kept = x.ghost;
     able = tt;
-    here = load_here is_of journal mailbox rested actor x (set vs id w) name
-        (views_change is_of journal mailbox rested actor x vs id v w at refl refl
+    here = load_here is_of journal mailbox rested given_by closed_to actor x (set vs id w) name
+        (views_change is_of journal mailbox rested given_by closed_to actor x vs id v w at refl refl
         (λ due p. subst (λ (z : Debt). IsTrue (z.message || z.sending)) (sym (owes_here actor d v)) (message due p))
         (λ due p. subst (λ (z : Debt). IsTrue z.system) (sym (owes_here actor d v)) (system due p))
-        (λ k. record { seen = (so actor x, k.seen); said = k.said }) f);
-    others = λ a n y g. elsewhere is_of journal mailbox rested a y vs id v w at (owing_elsewhere actor a d s v n so) g;
+        (λ k. record { seen = (so actor x, k.seen); said = k.said }) (λ b. among_more (Read b 1) s v.log) f);
+    others = λ a n y g. elsewhere is_of journal mailbox rested given_by closed_to a y vs id v w at (owing_elsewhere actor a d s v n so) g;
     tells = told;
   }
 
@@ -159,9 +164,9 @@ module _ {H : Type 0} (is_of : ℕ → H → Type 0) (journal : H → List Entry
     deed = stays;
     kept = x.ghost;
     able = tt;
-    here = load_here is_of journal mailbox rested actor x (set vs id w) name (views_change is_of journal mailbox rested actor x vs id v w at refl
-        refl (λ _ p. p) (λ _ p. p) (λ k. record { seen = (so actor x, k.seen); said = k.said }) f);
-    others = λ a n y g. elsewhere is_of journal mailbox rested a y vs id v w at (seeing_elsewhere a s v so) g;
+    here = load_here is_of journal mailbox rested given_by closed_to actor x (set vs id w) name (views_change is_of journal mailbox rested given_by closed_to actor x vs id v w at refl
+        refl (λ _ p. p) (λ _ p. p) (λ k. record { seen = (so actor x, k.seen); said = k.said }) (λ b. among_more (Read b 1) s v.log) f);
+    others = λ a n y g. elsewhere is_of journal mailbox rested given_by closed_to a y vs id v w at (seeing_elsewhere a s v so) g;
     tells = told;
   }
 
@@ -173,12 +178,13 @@ module _ {H : Type 0} (is_of : ℕ → H → Type 0) (journal : H → List Entry
     deed = stays;
     kept = x.ghost;
     able = tt;
-    here = load_here is_of journal mailbox rested actor x (set vs id v) name (views_change is_of journal mailbox rested actor x vs id v v at refl
-        refl (λ _ p. p) (λ _ p. p) (λ k. record { seen = k.seen; said = k.said }) f);
-    others = λ a n y g. elsewhere is_of journal mailbox rested a y vs id v v at (record {
+    here = load_here is_of journal mailbox rested given_by closed_to actor x (set vs id v) name (views_change is_of journal mailbox rested given_by closed_to actor x vs id v v at refl
+        refl (λ _ p. p) (λ _ p. p) (λ k. record { seen = k.seen; said = k.said }) (λ b p. p) f);
+    others = λ a n y g. elsewhere is_of journal mailbox rested given_by closed_to a y vs id v v at (record {
       claim = refl;
       list = refl;
       debt = refl;
+      vouches = λ b p. p;
       knows = λ _ k.
           record { seen = k.seen; said = k.said };
     }) g;

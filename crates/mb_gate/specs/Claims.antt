@@ -4,13 +4,14 @@ use Rattle.mb_journal.specs.Entry.{Entry}
 use Rattle.mb_status.specs.Mailbox.{Mailbox, word_of, idle}
 use Rattle.atomic_table.specs.Table.{Me}
 use Rattle.mb_rule.specs.Layout.{slot_at}
+use Rattle.mb_rule.specs.Seen.{Each}
 use Rattle.mb_gate.specs.declared.slot.Slot.{Slot}
 use Rattle.mb_gate.specs.declared.slot.Slot.TheVariants.{Home}
 use Rattle.mb_gate.specs.View.{View, Held, blank, idling}
-use Rattle.mb_gate.specs.Rule.{Extends}
+use Rattle.mb_gate.specs.Rule.{Extends, IsAmong, Vouches}
 
 abbrev pub nobody : Held
-nobody = record { actor = 0; journal = []; word = 0; gave = false; drained = [] }
+nobody = record { actor = 0; journal = []; closed_to = []; word = 0; gave = false; given = 0; drained = [] }
 
 abbrev pub held_or : Option Held → Held
 held_or None = nobody
@@ -24,14 +25,20 @@ held_in v = held_or v.claim
 abbrev pub is_busy : ℕ → Bool
 is_busy word = word % 4 == 2 || word == 1
 
--- the view of a claim that was just taken: of this actor, with this journal and word, and whether the last drain gave something
-abbrev pub claimed : ℕ → List Entry → ℕ → Bool → View
-claimed actor journal word gave = record blank { claim = Some (record { actor = actor; journal = journal; word = word; gave = gave; drained = [] }) }
+-- the view of a claim that was just taken: of this actor, with this journal, these actors that its home says are closed, this word, whether
+-- the last drain gave something, and how many the list gave so far
+abbrev pub claimed : ℕ → List Entry → List ℕ → ℕ → Bool → ℕ → View
+claimed actor journal shut word gave given =
+    record blank { claim = Some (record { actor = actor; journal = journal; closed_to = shut; word = word; gave = gave; given = given; drained = [] }) }
 
-module _ {H : Type 0} (is_of : ℕ → H → Type 0) (journal : H → List Entry) (mailbox : H → Mailbox) (rested : H → Type 0) where
+-- the actor is known to be closed: by what the home said as it was taken, or since its status was read
+abbrev pub IsKnownClosed : ℕ → List ℕ → View → Type 0
+IsKnownClosed actor shut v = IsAmong actor shut ⊎ Vouches actor v
+
+module _ {H : Type 0} (is_of : ℕ → H → Type 0) (journal : H → List Entry) (mailbox : H → Mailbox) (rested : H → Type 0) (given_by : H → ℕ) (closed_to : H → List ℕ) where
   -- A seat has the claim of the actor with this status and carries its cell, which may go home: it is the actor's own, its journal goes
-  -- on from the one that was taken, its word is the one of the status; and unless the actor is open and its last drain gave something,
-  -- nothing is left beside it.
+  -- on from the one that was taken, its word is the one of the status; it knows how many its list gave; each actor that it says is closed
+  -- is known to be; and unless the actor is open and its last drain gave something, nothing is left beside it.
   pub record IsReady (actor : ℕ) (status : Mailbox) (me : Me (Slot H) View) : Type 0 where
     pub home : H
     pub carried : me.1 ≡ (slot_at actor 0, Home home) ∷ []
@@ -41,6 +48,8 @@ module _ {H : Type 0} (is_of : ℕ → H → Type 0) (journal : H → List Entry
     pub own : is_of actor home
     pub longer : Extends (journal home) (held_in me.0).journal
     pub fold : word_of (mailbox home) ≡ word_of (idle status)
+    pub count : given_by home ≡ (held_in me.0).given
+    pub shut : Each (λ other. IsKnownClosed other (held_in me.0).closed_to me.0) (closed_to home)
     pub rest : (status.closed ≡ true) ⊎ ((held_in me.0).gave ≡ false) → rested home
 
 -- the cell that the seat carried went home

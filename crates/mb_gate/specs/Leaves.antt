@@ -12,8 +12,8 @@ use Rattle.mb_rule.specs.Seen.{Each}
 use Rattle.mb_gate.specs.declared.slot.Slot.{Slot}
 use Rattle.mb_gate.specs.declared.slot.Slot.TheVariants.{Home, List as Listing}
 use Rattle.mb_gate.specs.declared.left.Left.{Left}
-use Rattle.mb_gate.specs.View.{View, Sight, Read, Saw, Counted, Looked, Sent, Unsent, Took, Drained, Ended}
-use Rattle.mb_gate.specs.Rule.{Word, Status, word_offset, Shelf, slot_offset, Ghost, Extends, Fact}
+use Rattle.mb_gate.specs.View.{View, Sight, Read, Saw, Counted, Looked, Sent, Unsent, Took, Pushed, Drained, Ended}
+use Rattle.mb_gate.specs.Rule.{Word, Status, word_offset, Shelf, slot_offset, Ghost, Extends, IsAmong, Fact}
 
 -- by its words, the actor's cell and its list are at home: it is not scheduled, or a closed one's flag tells it; and its gate is not taken
 pub record TellsHome (words : List ℕ) (actor : ℕ) : Type 0 where
@@ -47,22 +47,28 @@ IsKept actor journal word (Looked a has_work) = Unit {0}
 IsKept actor journal word (Sent a n) = Unit {0}
 IsKept actor journal word (Unsent a n) = Unit {0}
 IsKept actor journal word (Took a n) = Unit {0}
+IsKept actor journal word (Pushed a n m) = Unit {0}
 IsKept actor journal word (Drained a given) = Unit {0}
 
-module _ {H : Type 0} (is_of : ℕ → H → Type 0) (journal : H → List Entry) (mailbox : H → Mailbox) (rested : H → Type 0) where
+module _ {H : Type 0} (is_of : ℕ → H → Type 0) (journal : H → List Entry) (mailbox : H → Mailbox) (rested : H → Type 0) (given_by : H → ℕ) (closed_to : H → List ℕ) where
   -- What is left of an actor whose words and slots these are: its home, which is its own; its word is the one of its journal, which goes
-  -- on from all that was seen; and how many its list gave. There is none only where a claim has the cell, or a seat the list.
+  -- on from all that was seen; how many its list gave, which the home knows; and unless the actor is open and its last drain gave something,
+  -- nothing is left beside its cell. There is none only where a claim has the cell, or a seat the list.
   abbrev pub IsLeft : ℕ → Spot Word Shelf (Slot H) Ghost → View → Option (Left H) → Type 0
   IsLeft actor x v (Some left) = is_of actor left.home × (x.row Status ≡ word_of (mailbox left.home)) × Each (IsKept actor (journal left.home)
-      (x.row Status)) v.log × (left.given ≡ x.ghost.listed.given)
+      (x.row Status)) v.log × (left.given ≡ x.ghost.listed.given) × (given_by left.home ≡ left.given)
+      × ((x.row Status ≡ 1) ⊎ (x.ghost.gave ≡ false) → rested left.home)
   IsLeft actor x v None = (x.ghost.holder ≢ None) ⊎ (x.ghost.keeper ≢ None)
 
-  -- of each actor, in a last state of the table that meets the rule, in which the pass has this view
+  -- of each actor, in a last state of the table that meets the rule, in which the pass has this view; and each actor of which a home that
+  -- is left says that it is closed is closed
   pub record AreLeft (actors : ℕ) (v : View) (all : List (Option (Left H))) : Type 0 where
     pub state : State (Slot H) View
-    pub rule : Ruled word_offset slot_offset actors (Fact is_of journal mailbox rested) state
+    pub rule : Ruled word_offset slot_offset actors (Fact is_of journal mailbox rested given_by closed_to) state
     pub seat : ℕ
     pub known : get_elem? state.views seat ≡ some v
     pub many : length all ≡ actors
     pub each : (actor : ℕ) (left : Option (Left H)) → actor < actors → slice_get all actor ≡ Some left
         → IsLeft actor (spot_of word_offset slot_offset state rule.ghosts actor) v left
+    pub closed : (actor other : ℕ) (left : Left H) → actor < actors → other < actors → slice_get all actor ≡ Some (Some left)
+        → IsAmong other (closed_to left.home) → (spot_of word_offset slot_offset state rule.ghosts other).row Status ≡ 1

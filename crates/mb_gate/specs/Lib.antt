@@ -8,3 +8,5 @@ pub mod Starts
 pub mod Lists
 pub mod Shown
 pub mod Leaves
+pub mod Record
+pub mod Recorded

@@ -1,7 +1,8 @@
 -- A list that a seat took out, and the words of its gate.
-use Rattle.std.specs.Prelude.{◌≡◌, ℕ, ◌+◌, ◌*◌, ◌/◌, ◌%◌, ◌==◌, Bool, false, if◌then◌else◌, ◌∷◌, Some}
+use Rattle.std.specs.Prelude.{◌≡◌, ℕ, ◌+◌, ◌*◌, ◌/◌, ◌%◌, ◌==◌, Bool, false, if◌then◌else◌, List, ◌∷◌, Some}
 use Rattle.atomic_table.specs.Table.{Me, rest}
-use Rattle.mb_syslist.specs.MessageList.{MessageList}
+use Rattle.mb_syslist.specs.MessageList.{MessageList, numbered}
+use Rattle.mb_msg.specs.declared.system.SysMsg.{SysMsg}
 use Rattle.mb_rule.specs.Layout.{slot_at}
 use Rattle.mb_gate.specs.declared.slot.Slot.{Slot}
 use Rattle.mb_gate.specs.declared.slot.Slot.TheVariants.{Empty}
@@ -26,6 +27,11 @@ pub record IsOut {H : Type 0} (actor : ℕ) (word : ℕ) (listed : MessageList) 
 pub record HasClaim {H : Type 0} (actor : ℕ) (m : Me (Slot H) View) : Type 0 where
   pub has : m.0.claim ≡ Some (held_in m.0)
   pub of : (held_in m.0).actor ≡ actor
+
+-- these have the numbers that go on from this one, modulo 2^64
+pub record IsNumberedFrom (number : ℕ) (given : List (ℕ × SysMsg)) : Type 0 where
+  pub messages : List SysMsg
+  pub each : given ≡ numbered number messages
 
 -- the gate's word with a message listed; with nothing listed, after a drain that gave something or nothing; and with the list ended
 abbrev pub with_listed : ℕ → ℕ

@@ -2,14 +2,15 @@
 use Rattle.std.specs.Prelude.{◌≡◌, ◌≢◌, ℕ, ◌/◌, ◌%◌, ◌==◌, Bool, false, not, IsTrue, List, [], ◌∷◌, Some, None}
 use mathlib.Core.Option.{some}
 use Rattle.atomic_table.specs.Table.{Me, Step, rest}
+use Rattle.std.specs.declared.snapshot.Snapshot.{Snapshot}
 use Rattle.mb_status.specs.Mailbox.{Mailbox, word_of, is_valid}
 use Rattle.mb_msg.specs.declared.system.SysMsg.{SysMsg}
-use Rattle.mb_syslist.specs.MessageList.{MessageList, with_last, listed}
+use Rattle.mb_syslist.specs.MessageList.{MessageList, with_last, listed, pushed}
 use Rattle.mb_journal.specs.Entry.{Entry}
 use Rattle.mb_rule.specs.Layout.{word_at, slot_at}
 use Rattle.mb_rule.specs.Seen.{Each}
 use Rattle.mb_gate.specs.declared.slot.Slot.{Slot}
-use Rattle.mb_gate.specs.declared.slot.Slot.TheVariants.{Home, List as Listing, Note}
+use Rattle.mb_gate.specs.declared.slot.Slot.TheVariants.{Home, List as Listing, Note, First}
 use Rattle.mb_gate.specs.View.{
   View,
   Sight,
@@ -20,6 +21,7 @@ use Rattle.mb_gate.specs.View.{
   Sent,
   Unsent,
   Took,
+  Pushed,
   Drained,
   Ended,
   Held,
@@ -52,6 +54,7 @@ IsBefore actor journal (Looked a has_work) = Unit {0}
 IsBefore actor journal (Sent a n) = Unit {0}
 IsBefore actor journal (Unsent a n) = Unit {0}
 IsBefore actor journal (Took a n) = Unit {0}
+IsBefore actor journal (Pushed a n m) = Unit {0}
 IsBefore actor journal (Drained a given) = Unit {0}
 
 -- the journal goes on from all that the view has seen of the actor, which was not seen closed
@@ -68,6 +71,7 @@ IsWord actor now (Looked a has_work) = Unit {0}
 IsWord actor now (Sent a n) = Unit {0}
 IsWord actor now (Unsent a n) = Unit {0}
 IsWord actor now (Took a n) = Unit {0}
+IsWord actor now (Pushed a n m) = Unit {0}
 IsWord actor now (Drained a given) = Unit {0}
 
 abbrev pub StaysClosed : ℕ → ℕ → View → Type 0
@@ -119,20 +123,22 @@ module _ {H : Type 0} where
     Listing (with_last l.listed
         message),
   ) ∷ rest m.1
-      → m' ≡ (enlisting actor message m.0, rest m.1)
+      → m' ≡ (enlisting actor (pushed l.listed) message m.0, rest m.1)
 
   -- the list was found ended
   abbrev pub Refuses : Step (Slot H) → Me (Slot H) View → ℕ → Me (Slot H) View → Type 0
   Refuses st m found m' = (actor : ℕ) (message : SysMsg) → st.word ≡ word_at actor 2 → st.said ≡ some (Note message)
       → (found ≡ st.first → m' ≡ (refusing actor message m.0, m.1)) × (found ≢ st.first → m' ≡ m)
 
-  -- all that was listed was taken out
+  -- all that was listed was taken out, with the numbers that go on from how many were given
   abbrev pub Drains : Step (Slot H) → Me (Slot H) View → ℕ → Me (Slot H) View → Type 0
-  Drains st m n m' = (l : Lent) → m.0.list ≡ Some l → m' ≡ (draining l.actor (listed l.listed) (is_some_item l.listed.messages) m.0, rest m.1)
+  Drains st m n m' = (l : Lent) (c : Held) → m.0.list ≡ Some l → m.0.claim ≡ Some c
+      → (m' ≡ (draining l.actor (listed l.listed) (is_some_item l.listed.messages) m.0, rest m.1)) × (l.listed.given ≡ c.given)
 
   -- and the list was ended
   abbrev pub Ends : Step (Slot H) → Me (Slot H) View → ℕ → Me (Slot H) View → Type 0
-  Ends st m n m' = (l : Lent) (c : Held) → m.0.list ≡ Some l → m.0.claim ≡ Some c → m' ≡ (ending l.actor (listed l.listed) c.gave m.0, rest m.1)
+  Ends st m n m' = (l : Lent) (c : Held) → m.0.list ≡ Some l → m.0.claim ≡ Some c
+      → (m' ≡ (ending l.actor (listed l.listed) c.gave m.0, rest m.1)) × (l.listed.given ≡ c.given)
 
   -- The gate's word was read by the holder: where it shows that nothing is listed and that the last drain gave nothing, this is a drain
   -- that gives nothing.
@@ -140,9 +146,10 @@ module _ {H : Type 0} where
   Glances st m found m' = (actor : ℕ) (c : Held) → st.word ≡ word_at actor 2 → m.0.claim ≡ Some c → c.actor ≡ actor → m.0.list ≡ None
       → (found % 8 ≡ 0 → m' ≡ (draining actor [] false m.0, m.1)) × (found % 8 ≢ 0 → m' ≡ m)
 
-module _ {H : Type 0} (is_of : ℕ → H → Type 0) (journal : H → List Entry) (mailbox : H → Mailbox) (rested : H → Type 0) where
+module _ {H : Type 0} (is_of : ℕ → H → Type 0) (journal : H → List Entry) (mailbox : H → Mailbox) (rested : H → Type 0) (given_by : H → ℕ) (closed_to : H → List ℕ) where
   -- The actor was scheduled by an exchange that found this word, and its cell was taken: it is the actor's own, its journal goes on
-  -- from all that was seen, its word is the one found; and unless the last drain gave something, nothing is left beside it.
+  -- from all that was seen, its word is the one found; it knows how many its list gave; and unless the last drain gave something, nothing
+  -- is left beside it.
   pub record Won (actor found : ℕ) (m m' : Me (Slot H) View) : Type 0 where
     pub home : H
     pub own : is_of actor home
@@ -150,12 +157,15 @@ module _ {H : Type 0} (is_of : ℕ → H → Type 0) (journal : H → List Entry
     pub gave : Bool
     pub rest : gave ≡ false → rested home
     pub seen : GoesOn actor (journal home) m.0
-    pub now : m' ≡ (taking actor (journal home) found gave m.0, (slot_at actor 0, Home home) ∷ m.1)
+    pub now : m' ≡ (taking actor (journal home) (closed_to home) found gave (given_by home) m.0, (slot_at actor 0, Home home) ∷ m.1)
 
+module _ {H : Type 0} (is_of : H → ℕ → H → Type 0) (journal : H → List Entry) (mailbox : H → Mailbox) (rested : H → Type 0) (given_by : H → ℕ) (closed_to : H → List ℕ) where
+  -- a step that knows the first home tried to schedule an actor
   abbrev pub Schedules : Step (Slot H) → Me (Slot H) View → ℕ → Me (Slot H) View → Type 0
-  Schedules st m found m' = (actor : ℕ) → st.word ≡ word_at actor 0 → (found ≡ st.first → Won actor found m m')
+  Schedules st m found m' = (actor : ℕ) (first : Snapshot H) → st.word ≡ word_at actor 0 → st.said ≡ some (First first)
+      → (found ≡ st.first → Won (is_of first.value) journal mailbox rested given_by closed_to actor found m m')
       × (found ≢ st.first → (m' ≡ (reading actor found m.0, m.1)) × IsTrue (is_valid found) × StaysClosed actor found m.0)
 
-  -- the cell was given home
-  abbrev pub Idles : Step (Slot H) → Me (Slot H) View → ℕ → Me (Slot H) View → Type 0
-  Idles st m n m' = (actor : ℕ) (home : H) → m.1 ≡ (slot_at actor 0, Home home) ∷ [] → m' ≡ (idling actor (journal home) m.0, [])
+-- the cell was given home
+abbrev pub Idles : {H : Type 0} → (H → List Entry) → Step (Slot H) → Me (Slot H) View → ℕ → Me (Slot H) View → Type 0
+Idles {H} journal st m n m' = (actor : ℕ) (home : H) → m.1 ≡ (slot_at actor 0, Home home) ∷ [] → m' ≡ (idling actor (journal home) m.0, [])

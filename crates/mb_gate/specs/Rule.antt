@@ -7,6 +7,7 @@ use Rattle.std.specs.Prelude.{
   ◌<◌,
   ◌==◌,
   ◌%◌,
+  ◌^◌,
   Bool,
   true,
   false,
@@ -17,6 +18,7 @@ use Rattle.std.specs.Prelude.{
   [],
   ◌∷◌,
   ◌++◌,
+  length,
   Option,
   Some,
   None,
@@ -24,13 +26,13 @@ use Rattle.std.specs.Prelude.{
 use mathlib.Core.Option.{some}
 use Rattle.mb_status.specs.Mailbox.{Mailbox, word_of, is_valid}
 use Rattle.mb_msg.specs.declared.system.SysMsg.{SysMsg}
-use Rattle.mb_syslist.specs.MessageList.{MessageList}
+use Rattle.mb_syslist.specs.MessageList.{MessageList, numbered}
 use Rattle.mb_journal.specs.Entry.{Entry}
 use Rattle.mb_rule.specs.Layout.{Spot}
 use Rattle.mb_rule.specs.Locked.{Locked}
 use Rattle.mb_rule.specs.Owed.{Owed}
 use Rattle.mb_rule.specs.Seen.{EachView, Each}
-use Rattle.mb_gate.specs.View.{View, Sight, Read, Saw, Counted, Looked, Sent, Unsent, Took, Drained, Ended, Held, Lent, Said, owes}
+use Rattle.mb_gate.specs.View.{View, Sight, Read, Saw, Counted, Looked, Sent, Unsent, Took, Pushed, Drained, Ended, Held, Lent, Said, owes}
 use Rattle.mb_gate.specs.declared.slot.Slot.{Slot}
 use Rattle.mb_gate.specs.declared.slot.Slot.TheVariants.{Home, List as Listing}
 
@@ -56,11 +58,13 @@ abbrev pub slot_offset : Shelf → ℕ
 slot_offset CellShelf = 0
 slot_offset ListShelf = 1
 
--- What is kept of an actor besides: who holds it; its journal, as it is at home or as it was taken; who has its list out; what is
--- listed; whether the last drain gave something; and all that was ever listed, in order.
+-- What is kept of an actor besides: who holds it; its journal, and the actors of which its home says that they are closed, as it is at
+-- home or as it was taken; who has its list out; what is listed; whether the last drain gave something; and all that was ever listed, in
+-- order.
 pub record Ghost : Type 0 where
   pub holder : Option (ℕ × Held)
   pub journal : List Entry
+  pub closed_to : List ℕ
   pub keeper : Option (ℕ × Lent)
   pub listed : MessageList
   pub gave : Bool
@@ -114,23 +118,35 @@ PaysMessage actor v = IsTrue ((owes actor v).message || (owes actor v).sending)
 abbrev pub PaysSystem : ℕ → View → Type 0
 PaysSystem actor v = IsTrue (owes actor v).system
 
--- what was seen closed is closed, the journal goes on from each that was seen, and a list that was ended is ended
+-- it stands in the list
+pub record IsAmong {A : Type 0} (item : A) (items : List A) : Type 0 where
+  pub before : List A
+  pub after : List A
+  pub joined : items ≡ before ++ item ∷ after
+
+-- these stand in the list, next to one another
+pub record IsPart {A : Type 0} (part items : List A) : Type 0 where
+  pub before : List A
+  pub after : List A
+  pub joined : items ≡ before ++ (part ++ after)
+
+-- all that was ever listed, each with its number
+abbrev pub all_numbered : Ghost → List (ℕ × SysMsg)
+all_numbered g = numbered 0 g.pushed
+
+-- What was seen closed is closed, the journal goes on from each that was seen, what was put into the list and what it gave has the
+-- numbers of the list, and a list that was ended is ended.
 abbrev pub IsSo : {H : Type 0} → ℕ → Spot Word Shelf (Slot H) Ghost → Sight → Type 0
 IsSo actor x (Read a word) = a ≡ actor → word ≡ 1 → x.row Status ≡ 1
 IsSo actor x (Saw a journal) = a ≡ actor → Extends x.ghost.journal journal
-IsSo actor x (Ended a given) = a ≡ actor → IsTrue x.ghost.listed.closed
+IsSo actor x (Pushed a n m) = a ≡ actor → IsAmong (n, m) (all_numbered x.ghost)
+IsSo actor x (Ended a given) = a ≡ actor → IsTrue x.ghost.listed.closed × IsPart given (all_numbered x.ghost)
 IsSo actor x (Counted a n) = Unit {0}
 IsSo actor x (Looked a has_work) = Unit {0}
 IsSo actor x (Sent a n) = Unit {0}
 IsSo actor x (Unsent a n) = Unit {0}
 IsSo actor x (Took a n) = Unit {0}
-IsSo actor x (Drained a given) = Unit {0}
-
--- the message stands in the list
-pub record IsAmong (message : SysMsg) (messages : List SysMsg) : Type 0 where
-  pub before : List SysMsg
-  pub after : List SysMsg
-  pub joined : messages ≡ before ++ message ∷ after
+IsSo actor x (Drained a given) = a ≡ actor → IsPart given (all_numbered x.ghost)
 
 -- what was said was listed; or the list is ended
 abbrev pub IsTold : {H : Type 0} → ℕ → Spot Word Shelf (Slot H) Ghost → Said → Type 0
@@ -141,14 +157,27 @@ pub record Knows {H : Type 0} (actor : ℕ) (x : Spot Word Shelf (Slot H) Ghost)
   pub seen : Each (IsSo actor x) v.log
   pub said : Each (IsTold actor x) v.said
 
-module _ {H : Type 0} (is_of : ℕ → H → Type 0) (journal : H → List Entry) (mailbox : H → Mailbox) (rested : H → Type 0) where
-  -- The cell is at home: it is the actor's own, its word is that of its journal, and only an open actor of which the last drain gave
-  -- something may have something left beside its cell that is to be applied. The flag tells it of a closed one.
+-- What was ever listed is what was given and what is listed; how many were given is known modulo 2^64.
+pub record IsListing (pushed : List SysMsg) (listed : MessageList) : Type 0 where
+  pub given : List SysMsg
+  pub joined : pushed ≡ given ++ listed.messages
+  pub counted : listed.given ≡ length given % 2 ^ 64
+
+-- the view has seen the actor closed
+abbrev pub Vouches : ℕ → View → Type 0
+Vouches actor v = IsAmong (Read actor 1) v.log
+
+module _ {H : Type 0} (is_of : ℕ → H → Type 0) (journal : H → List Entry) (mailbox : H → Mailbox) (rested : H → Type 0) (given_by : H → ℕ) (closed_to : H → List ℕ) where
+  -- The cell is at home: it is the actor's own, its word is that of its journal, it knows how many its list gave, and only an open actor
+  -- of which the last drain gave something may have something left beside its cell that is to be applied. The flag tells it of a closed
+  -- one.
   pub record IsHome (actor : ℕ) (x : Spot Word Shelf (Slot H) Ghost) : Type 0 where
     pub home : H
     pub there : x.slot CellShelf ≡ some (some (Home home))
     pub own : is_of actor home
     pub fold : journal home ≡ x.ghost.journal
+    pub count : given_by home ≡ x.ghost.listed.given
+    pub shut : closed_to home ≡ x.ghost.closed_to
     pub word : x.row Status ≡ word_of (mailbox home)
     pub idle : (x.row Status % 4 ≡ 0) ⊎ (x.row Status ≡ 1)
     pub flag : x.row Flag ≡ (if x.row Status == 1 then 1 else 0)
@@ -158,6 +187,8 @@ module _ {H : Type 0} (is_of : ℕ → H → Type 0) (journal : H → List Entry
   pub record IsHeld (actor : ℕ) (x : Spot Word Shelf (Slot H) Ghost) (claim : Held) : Type 0 where
     pub own : claim.actor ≡ actor
     pub taken : claim.journal ≡ x.ghost.journal
+    pub shut : claim.closed_to ≡ x.ghost.closed_to
+    pub count : claim.given ≡ x.ghost.listed.given
     pub gave : claim.gave ≡ x.ghost.gave
     pub word : x.row Status ≡ claim.word
     pub busy : (x.row Status % 4 ≡ 2) ⊎ (x.row Status ≡ 1)
@@ -181,7 +212,8 @@ module _ {H : Type 0} (is_of : ℕ → H → Type 0) (journal : H → List Entry
   Shelving x None = IsShelved x
   Shelving x (Some k) = IsLent x k.1
 
-  -- All that holds of one actor: who has its cell, who has its list, what is owed and what was seen.
+  -- All that holds of one actor: who has its cell, who has its list, what is owed and what was seen; and of each actor that its home says
+  -- is closed some seat has seen it.
   pub record Fact (actor : ℕ) (x : Spot Word Shelf (Slot H) Ghost) (vs : List View) : Type 0 where
     pub valid : IsTrue (is_valid (x.row Status))
     pub claims : Locked (claim_for actor) x.ghost.holder vs
@@ -189,7 +221,8 @@ module _ {H : Type 0} (is_of : ℕ → H → Type 0) (journal : H → List Entry
     pub lists : Locked (list_for actor) x.ghost.keeper vs
     pub shelf : Shelving x x.ghost.keeper
     pub ended : IsTrue x.ghost.listed.closed → x.row Status ≡ 1
-    pub listing : (given : List SysMsg) × (x.ghost.pushed ≡ given ++ x.ghost.listed.messages)
+    pub listing : IsListing x.ghost.pushed x.ghost.listed
+    pub vouched : (other : ℕ) → Owed (IsAmong other x.ghost.closed_to) (Vouches other) vs
     pub message : Owed (MessageDue x) (PaysMessage actor) vs
     pub system : Owed (SystemDue x) (PaysSystem actor) vs
     pub seen : EachView (Knows actor x) vs

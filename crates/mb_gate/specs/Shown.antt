@@ -12,7 +12,7 @@ use Rattle.mb_rule.specs.Layout.{Spot, spot_of}
 use Rattle.mb_rule.specs.Ruled.{Ruled}
 use Rattle.mb_gate.specs.declared.slot.Slot.{Slot}
 use Rattle.mb_gate.specs.View.{View, Held, owes}
-use Rattle.mb_gate.specs.Rule.{Word, Status, Waiting, word_offset, Shelf, slot_offset, Ghost, Fact}
+use Rattle.mb_gate.specs.Rule.{Word, Status, Waiting, word_offset, Shelf, slot_offset, Ghost, IsAmong, Fact}
 
 abbrev pub holder_of : Option (ℕ × Held) → Option ℕ
 holder_of None = None
@@ -31,9 +31,16 @@ shown actor x vs rest = record {
 
 -- The machine's facts hold of each actor, by the rule: who holds it, which mailbox it has, and that nothing is stranded, where something
 -- is left of what was drained only if the last drain gave something.
-abbrev pub ShowsMachine : {H : Type 0} → (ℕ → H → Type 0) → (H → List Entry) → (H → Mailbox) → (H → Type 0) → Type 0
-ShowsMachine {H} is_of journal mailbox rested =
-    (n : ℕ) (s : State (Slot H) View) (r : Ruled word_offset slot_offset n (Fact is_of journal mailbox rested) s) (actor : ℕ) → actor < n →
+abbrev pub ShowsMachine : {H : Type 0} → (ℕ → H → Type 0) → (H → List Entry) → (H → Mailbox) → (H → Type 0) → (H → ℕ) → (H → List ℕ) → Type 0
+ShowsMachine {H} is_of journal mailbox rested given_by closed_to =
+    (n : ℕ) (s : State (Slot H) View) (r : Ruled word_offset slot_offset n (Fact is_of journal mailbox rested given_by closed_to) s) (actor : ℕ) → actor < n →
     (let x = spot_of word_offset slot_offset s r.ghosts actor in
     (rest : List SysMsg) → (x.ghost.gave ≡ false → rest ≡ []) →
     HasPossibleMailbox (shown actor x s.views rest) × IsHeldRightly (shown actor x s.views rest) × IsSettled (shown actor x s.views rest))
+
+-- Each actor of which another's home says that it is closed is closed, as that home is in its place or was taken: its word says so.
+abbrev pub ShowsClosed : {H : Type 0} → (ℕ → H → Type 0) → (H → List Entry) → (H → Mailbox) → (H → Type 0) → (H → ℕ) → (H → List ℕ) → Type 0
+ShowsClosed {H} is_of journal mailbox rested given_by closed_to =
+    (n : ℕ) (s : State (Slot H) View) (r : Ruled word_offset slot_offset n (Fact is_of journal mailbox rested given_by closed_to) s) (actor other : ℕ)
+    → actor < n → other < n → IsAmong other (spot_of word_offset slot_offset s r.ghosts actor).ghost.closed_to
+    → (spot_of word_offset slot_offset s r.ghosts other).row Status ≡ 1

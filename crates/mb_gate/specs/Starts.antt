@@ -1,9 +1,9 @@
 -- The gates' words and slots as they begin: each actor's home with its status word, and an empty list.
-use Rattle.std.specs.Prelude.{ℕ, false, IsTrue, List, [], ◌∷◌, ◌++◌}
+use Rattle.std.specs.Prelude.{◌≡◌, ℕ, false, IsTrue, List, [], ◌∷◌, ◌++◌}
 use Rattle.mb_status.specs.Mailbox.{Mailbox, word_of, is_possible}
 use Rattle.mb_syslist.specs.MessageList.{MessageList}
 use Rattle.mb_gate.specs.declared.slot.Slot.{Slot}
-use Rattle.mb_gate.specs.declared.slot.Slot.TheVariants.{Empty, Home, List as Listing, Note}
+use Rattle.mb_gate.specs.declared.slot.Slot.TheVariants.{Empty, Home, List as Listing, Note, First}
 use Rattle.mb_gate.specs.Tries.{IsFree}
 
 -- a list in which nothing was ever listed
@@ -31,10 +31,14 @@ module _ {H : Type 0} where
   homes_in (Empty ∷ slots) = homes_in slots
   homes_in (Listing l ∷ slots) = homes_in slots
   homes_in (Note m ∷ slots) = homes_in slots
+  homes_in (First f ∷ slots) = homes_in slots
 
-  -- a home with which the gates may begin at this actor: its own, neither closed nor scheduled, and with nothing left beside its cell
-  pub record IsFresh (is_of : ℕ → H → Type 0) (mailbox : H → Mailbox) (rested : H → Type 0) (actor : ℕ) (h : H) : Type 0 where
+  -- a home with which the gates may begin at this actor: its own, neither closed nor scheduled, that knows of no message given and of no
+  -- actor closed, and with nothing left beside its cell
+  pub record IsFresh (is_of : ℕ → H → Type 0) (mailbox : H → Mailbox) (rested : H → Type 0) (given_by : H → ℕ) (closed_to : H → List ℕ) (actor : ℕ) (h : H) : Type 0 where
     pub own : is_of actor h
+    pub none_given : given_by h ≡ 0
+    pub none_closed : closed_to h ≡ []
     pub possible : IsTrue (is_possible (mailbox h))
     pub free : IsFree (mailbox h)
     pub rest : rested h

@@ -1,6 +1,6 @@
 -- What a seat at the gates knows. A pass and a claim have a seat each; a view changes only at the seat's own steps.
 -- (This project's own profile: Akka's mailboxes keep no account of who knows what.)
-use Rattle.std.specs.Prelude.{ℕ, ◌+◌, ◌==◌, Bool, true, false, ◌||◌, if◌then◌else◌, List, [], ◌∷◌, ◌++◌, Option, Some, None}
+use Rattle.std.specs.Prelude.{ℕ, ◌+◌, ◌%◌, ◌^◌, ◌==◌, length, Bool, true, false, ◌||◌, if◌then◌else◌, List, [], ◌∷◌, ◌++◌, Option, Some, None}
 use Rattle.mb_status.specs.Mailbox.{mailbox_of}
 use Rattle.mb_msg.specs.declared.system.SysMsg.{SysMsg}
 use Rattle.mb_syslist.specs.MessageList.{MessageList}
@@ -11,8 +11,8 @@ use Rattle.mb_core.specs.Run.{after_reading}
 
 -- One thing that a seat saw or did at an actor, whose number stands first: it read its status word; it saw its journal; it read how many
 -- are counted as waiting; it looked at the list's gate, which showed system work or none; it counted so many as waiting, took so many
--- back that were refused, and so many as taken; it drained the list, which gave this, with the numbers; and it ended the list, which
--- gave this.
+-- back that were refused, and so many as taken; it put a message last into the list, which has this number; it drained the list, which
+-- gave this, with the numbers; and it ended the list, which gave this.
 pub data Sight : Type 0 where
   Read : ℕ → ℕ → Sight
   Saw : ℕ → List Entry → Sight
@@ -21,16 +21,20 @@ pub data Sight : Type 0 where
   Sent : ℕ → ℕ → Sight
   Unsent : ℕ → ℕ → Sight
   Took : ℕ → ℕ → Sight
+  Pushed : ℕ → ℕ → SysMsg → Sight
   Drained : ℕ → List (ℕ × SysMsg) → Sight
   Ended : ℕ → List (ℕ × SysMsg) → Sight
 
--- a claim: its actor, the journal with which it was taken, the status word as it knows it, whether the actor's last drain gave
--- something, and all that was drained since it was taken, with the numbers
+-- a claim: its actor, the journal with which it was taken, the actors of which its home said then that they are closed, the status word
+-- as it knows it, whether the actor's last drain gave something, how many messages the actor's list gave so far, modulo 2^64, and all that
+-- was drained since it was taken, with the numbers
 pub record Held : Type 0 where
   pub actor : ℕ
   pub journal : List Entry
+  pub closed_to : List ℕ
   pub word : ℕ
   pub gave : Bool
+  pub given : ℕ
   pub drained : List (ℕ × SysMsg)
 
 -- a list that is out: its actor, what was listed when it was taken, and whether the last drain gave something
@@ -79,9 +83,9 @@ abbrev pub reading : ℕ → ℕ → View → View
 reading actor word v = owing actor (after_reading (mailbox_of word) (owes actor v)) (seeing (Read actor word) v)
 
 -- the actor was scheduled, by an exchange that found this word, and its cell was taken
-abbrev pub taking : ℕ → List Entry → ℕ → Bool → View → View
-taking actor journal word gave v =
-    owing actor nothing (record v { claim = Some (record { actor = actor; journal = journal; word = word + 2; gave = gave; drained = [] }) })
+abbrev pub taking : ℕ → List Entry → List ℕ → ℕ → Bool → ℕ → View → View
+taking actor journal shut word gave given v =
+    owing actor nothing (record v { claim = Some (record { actor = actor; journal = journal; closed_to = shut; word = word + 2; gave = gave; given = given; drained = [] }) })
 
 -- the claim in a view of its own, and the view without it
 abbrev pub claim_alone : View → View
@@ -137,28 +141,36 @@ abbrev pub added_debts : List (ℕ × Debt) → List (ℕ × Debt) → List (ℕ
 added_debts [] old = old
 added_debts (d ∷ ds) old = (d.0, either_owes d.1 (debt_of d.0 old)) ∷ added_debts ds old
 
--- a seat takes over what another has seen and what it owes
+-- a seat takes over what another has seen and what it owes; what it said stays its own
 abbrev pub taking_over : View → View → View
 taking_over v w = record v { log = w.log ++ v.log; debts = added_debts w.debts v.debts }
+
+-- a claim's seat takes a whole pass in: what that has seen and said, and what it owes
+abbrev pub taking_in : View → View → View
+taking_in v w = record v { log = w.log ++ v.log; debts = added_debts w.debts v.debts; said = w.said }
 
 -- the list was taken out
 abbrev pub lending : ℕ → MessageList → Bool → View → View
 lending actor listed gave v = record v { list = Some (record { actor = actor; listed = listed; gave = gave }) }
 
--- the list was given back with this message last
-abbrev pub enlisting : ℕ → SysMsg → View → View
-enlisting actor message v =
+-- the list was given back with this message last, which has this number
+abbrev pub enlisting : ℕ → ℕ → SysMsg → View → View
+enlisting actor number message v =
     owing actor (record (owes actor v) { system = true })
-    (record v { list = None; said = record { to = actor; message = message; was_ended = false } ∷ v.said })
+    (record v { log = Pushed actor number message ∷ v.log; list = None; said = record { to = actor; message = message; was_ended = false } ∷ v.said })
 
 -- the list was found ended, so that this message went nowhere
 abbrev pub refusing : ℕ → SysMsg → View → View
 refusing actor message v = record v { said = record { to = actor; message = message; was_ended = true } ∷ v.said }
 
+-- how many were given, modulo 2^64, once these are
+abbrev pub given_after : ℕ → List (ℕ × SysMsg) → ℕ
+given_after n given = (n + length given) % 2 ^ 64
+
 -- the claim, to which this was given, and which knows that the last drain gave something, or nothing
 abbrev pub regiven : List (ℕ × SysMsg) → Bool → Option Held → Option Held
 regiven given gave None = None
-regiven given gave (Some c) = Some (record c { gave = gave; drained = c.drained ++ given })
+regiven given gave (Some c) = Some (record c { gave = gave; given = given_after c.given given; drained = c.drained ++ given })
 
 -- the holder gave the list back, without what it took out of it
 abbrev pub unloading : Sight → List (ℕ × SysMsg) → Bool → View → View

@@ -4,6 +4,7 @@ ghost use Rattle.mb_rule.specs.Layout.{slot_at};
 ghost use Rattle.mb_gate.specs.Claims.{held_in, is_busy};
 ghost use Rattle.mb_gate.specs.declared.slot.Slot.TheVariants.{Empty};
 
+use crate::sayings::Sayings;
 use crate::slot::Slot;
 use crate::view::Knowledge;
 use atomic_table::Seat;
@@ -17,6 +18,7 @@ pub struct Claim<H> {
     pub(crate) actor: ActorId,
     pub(crate) status: Status,
     pub(crate) seat: Seat<Slot<H>, Knowledge>,
+    pub(crate) says: Sayings,
     ghost has: { seat.me.0.claim ≡ Some (held_in seat.me.0) },
     ghost of: { (held_in seat.me.0).actor ≡ actor.0 },
     ghost word: { (held_in seat.me.0).word ≡ word_of status },
@@ -49,6 +51,7 @@ impl<H: Drop> Claim<H> {
             actor: _,
             status: _,
             seat: _,
+            says: _,
         } = self;
     }
 }

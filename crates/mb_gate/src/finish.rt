@@ -3,7 +3,7 @@ ghost use Rattle.std.specs.Prelude.{◌≡◌, ◌+◌, ◌*◌, ◌<◌, ◌≤
 ghost use Rattle.std.specs.Mem.Slots.{slots_items, slots_filled, slots_len, IsFull};
 ghost use Rattle.mb_rule.specs.Layout.{slot_at};
 ghost use Rattle.mb_gate.specs.Leaves.{AreLeft, IsTakenOut, emptied_at};
-ghost use Rattle.mb_gate.specs.Names.{gates_id, pass_id, actors_of, known_by};
+ghost use Rattle.mb_gate.specs.Names.{gates_id, pass_id, actors_of, first_of, known_by};
 
 use crate::gates::Gates;
 use crate::layout::{CELL, FLAG, GATE, LIST, STATUS};
@@ -22,9 +22,13 @@ impl<H: Resident> Gates<H> {
         requires ours { pass_id pass ≡ gates_id self }
         requires empty { room.items ≡ [] }
         requires room { actors_of self ≤ vec_capacity room }
-        ensures left { AreLeft H.is_of H.journal H.mailbox H.rested (actors_of self) (known_by pass) result.items }
+        ensures left { AreLeft (H.is_of (first_of self)) H.journal H.mailbox H.rested H.given H.closed_to (actors_of self) (known_by pass) result.items }
     {
-        let Gates { table, actors } = self;
+        let Gates {
+            table,
+            actors,
+            first: _,
+        } = self;
         let Pass { seat } = pass;
         let mut closed = table.close_with(seat);
         let mut all = room;

@@ -1,5 +1,7 @@
 ghost use Rattle.std.specs.Prelude.{◌≡◌, ◌*◌, ◌<◌, ◌≤◌};
+ghost use Rattle.mb_gate.specs.declared.slot.Slot.TheVariants.{First};
 
+use crate::key::Key;
 use crate::law::Law;
 use crate::resident::Resident;
 use crate::slot::Slot;
@@ -10,10 +12,12 @@ use std::alloc::Global;
 /// The status words, cells at home, waiting counts and list gates of some actors. Threads share it.
 #[derive(Drop)]
 pub struct Gates<H: Resident> {
-    pub(crate) table: Table<Slot<H>, Knowledge, usize, Law<H>, Global>,
+    pub(crate) table: Table<Slot<H>, Knowledge, Key<H>, Law<H>, Global>,
     pub(crate) actors: usize,
+    pub(crate) first: Slot<H>,
     ghost wide: { table.shared.table_id.words ≡ 16 * actors },
     ghost deep: { table.shared.table_id.slots ≡ 2 * actors },
-    ghost keyed: { table.shared.key ≡ actors },
+    ghost keyed: { table.shared.key.actors ≡ actors },
+    ghost known: { first ≡ First table.shared.key.first },
     ghost some: { (0 < actors) × (actors ≤ 4294967296) },
 }

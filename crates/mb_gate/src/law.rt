@@ -1,22 +1,23 @@
 ghost use Rattle.mb_rule.specs.Ruled.{Ruled};
-ghost use Rattle.mb_gate.specs.View.{blank, claim_alone, without_claim, taking_over};
+ghost use Rattle.mb_gate.specs.View.{blank, claim_alone, without_claim, taking_over, taking_in};
 ghost use Rattle.mb_gate.specs.Rule.{word_offset, slot_offset, Fact};
 ghost use Rattle.mb_gate.specs.Plays.{Reads, Writes, Sends, Unsends, CountsOff, Counts, Looks};
 ghost use Rattle.mb_gate.specs.Plays.{Grips, Enlists, Refuses, Drains, Ends, Glances, Schedules, Idles};
 
+use crate::key::Key;
 use crate::resident::Resident;
 use crate::slot::Slot;
 use crate::view::Knowledge;
 use atomic_table::{Join, Play, Split, TableRule};
 use std::marker::PhantomData;
 
-/// The rule of the gates' table. Its key is the number of actors.
+/// The rule of the gates' table.
 pub struct Law<H> {
     resident: PhantomData<H>,
 }
 
-impl<H: Resident> TableRule<Slot<H>, Knowledge, usize> for Law<H> {
-    ghost holds = { λ n. Ruled word_offset slot_offset n (Fact H.is_of H.journal H.mailbox H.rested) };
+impl<H: Resident> TableRule<Slot<H>, Knowledge, Key<H>> for Law<H> {
+    ghost holds = { λ key. Ruled word_offset slot_offset key.actors (Fact (H.is_of key.first.value) H.journal H.mailbox H.rested H.given H.closed_to) };
 
     ghost first = { λ _. blank };
 }
@@ -36,13 +37,13 @@ impl<H> Play<Slot<H>, Knowledge> for Write {
 pub struct Schedule;
 
 impl<H: Resident> Play<Slot<H>, Knowledge> for Schedule {
-    ghost then = { Schedules H.is_of H.journal H.mailbox H.rested };
+    ghost then = { Schedules H.is_of H.journal H.mailbox H.rested H.given H.closed_to };
 }
 
 pub struct Idle;
 
 impl<H: Resident> Play<Slot<H>, Knowledge> for Idle {
-    ghost then = { Idles H.is_of H.journal H.mailbox H.rested };
+    ghost then = { Idles H.journal };
 }
 
 pub struct Send;
@@ -127,6 +128,15 @@ impl Split<Knowledge> for Twin {
     ghost left = { λ v. v };
 
     ghost right = { λ v. v };
+}
+
+/// A claim's seat takes in a whole pass.
+pub struct TakeIn;
+
+impl Join<Knowledge> for TakeIn {
+    ghost both = { taking_in };
+
+    ghost spent = { blank };
 }
 
 /// A pass takes over what another seat has seen and what it owes.

@@ -1,4 +1,4 @@
-ghost use Rattle.mb_gate.specs.Shown.{ShowsMachine};
+ghost use Rattle.mb_gate.specs.Shown.{ShowsMachine, ShowsClosed};
 
 use crate::resident::Resident;
 
@@ -6,5 +6,10 @@ use crate::resident::Resident;
 /// actor: its mailbox is a possible one; a scheduled actor has exactly one holder, a closed one at most one, every other
 /// none; and with system work, or with some waiting that may be handled, it is owed a look.
 pub fn words_show_the_machine<H: Resident>()
-    ensures { ShowsMachine H.is_of H.journal H.mailbox H.rested }
+    ensures { (first : H) → ShowsMachine (H.is_of first) H.journal H.mailbox H.rested H.given H.closed_to }
+{}
+
+/// A law: between any two atomic steps each actor of which a home says that it is closed is closed.
+pub fn closed_receivers_are_closed<H: Resident>()
+    ensures { (first : H) → ShowsClosed (H.is_of first) H.journal H.mailbox H.rested H.given H.closed_to }
 {}

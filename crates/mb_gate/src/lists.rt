@@ -1,16 +1,17 @@
 //! The lists of system messages, each behind a gate that is taken for one list step and given back.
 ghost use Rattle.std.specs.Prelude.{◌≡◌, ◌+◌, ◌*◌, ◌/◌, ◌%◌, ◌<◌, ◌==◌, [], ◌∷◌};
-ghost use Rattle.std.specs.Prelude.{◌++◌, false, true, None, IfErr, IfOk, IfSome, MatchOption, if◌then◌else◌};
+ghost use Rattle.std.specs.Prelude.{◌++◌, false, true, None, IfErr, IfOk, IfSome, MatchOption, if◌then◌else◌, is_err};
 ghost use Rattle.atomic_table.specs.Table.{rest};
 ghost use Rattle.mb_syslist.specs.MessageList.{MessageList};
 ghost use Rattle.mb_rule.specs.Layout.{slot_at};
 ghost use Rattle.mb_gate.specs.declared.slot.Slot.TheVariants.{Empty, List};
-ghost use Rattle.mb_gate.specs.View.{enlisting, refusing, draining, ending};
+ghost use Rattle.mb_gate.specs.View.{enlisting, refusing, draining, ending, given_after};
 ghost use Rattle.mb_gate.specs.Rule.{is_some_item};
 ghost use Rattle.mb_gate.specs.Claims.{held_in};
-ghost use Rattle.mb_gate.specs.Lists.{IsLentBy, IsOut, HasClaim, with_listed, with_drained, with_ended};
+ghost use Rattle.mb_gate.specs.Lists.{IsLentBy, IsOut, HasClaim, IsNumberedFrom, with_listed, with_drained, with_ended};
 ghost use Rattle.mb_gate.specs.Names.{gates_id, pass_id, claim_id, actors_of, known_by};
-ghost use Rattle.mb_gate.specs.Names.{known_of, held_actor, status_of, taken_with, gave_last, drained_by};
+ghost use Rattle.mb_gate.specs.Names.{known_of, held_actor, status_of, taken_with, closed_with, gave_last, given_to};
+ghost use Rattle.mb_gate.specs.Names.{drained_by, recorded_by, IsRecorded};
 
 use crate::claim::Claim;
 use crate::gates::Gates;
@@ -172,8 +173,9 @@ impl<H: Resident> Gates<H> {
         }
     }
 
-    /// Puts a node last into the actor's list, and says so (`systemEnqueue`). From now on the pass owes the actor a look
-    /// at it. It takes no memory, and may wait for the list's gate.
+    /// Puts a node last into the actor's list, and says so (`systemEnqueue`). It answers the message's number: how many were
+    /// put into the list before, modulo 2^64; a drain gives the message with this number. From now on the pass owes the
+    /// actor a look at it. It takes no memory, and may wait for the list's gate.
     ///
     /// It answers `ListClosed` with the same node if the list is ended, and says that too.
     pub fn sys_enqueue<R: Wait>(
@@ -182,20 +184,39 @@ impl<H: Resident> Gates<H> {
         pass: &mut Pass<H>,
         id: ActorId,
         node: Node,
-    ) -> Result<(), ListClosed>
+    ) -> Result<u64, ListClosed>
         requires ours { pass_id pass.old ≡ gates_id self.now }
         requires there { id.0 < actors_of self.now }
         ensures ours { pass_id pass.new ≡ pass_id pass.old }
-        ensures listed { IfOk result (λ _. known_by pass.new ≡ enlisting id.0 node (known_by pass.old)) }
+        ensures listed { IfOk result (λ number. known_by pass.new ≡ enlisting id.0 number node (known_by pass.old)) }
         ensures ended { IfErr result (λ refused. (refused.0 ≡ node) × (known_by pass.new ≡ refusing id.0 node (known_by pass.old))) }
     {
         match self.grip_open(rt, &mut pass.seat, id, node.msg()) {
-            Some((word, list)) => {
-                self.enlist(&mut pass.seat, id, word, list, node);
-                Ok(())
-            }
+            Some((word, list)) => Ok(self.enlist(&mut pass.seat, id, word, list, node)),
             None => Err(ListClosed(node)),
         }
+    }
+
+    /// The same in the run of a claim, which is lent beside the pass: what was said stands in its record then.
+    pub fn sys_enqueue_in_run<R: Wait>(
+        &self,
+        rt: &R,
+        pass: &mut Pass<H>,
+        claim: &mut Claim<H>,
+        id: ActorId,
+        node: Node,
+    ) -> Result<u64, ListClosed>
+        requires ours { pass_id pass.old ≡ gates_id self.now }
+        requires there { id.0 < actors_of self.now }
+        ensures ours { pass_id pass.new ≡ pass_id pass.old }
+        ensures listed { IfOk result (λ number. known_by pass.new ≡ enlisting id.0 number node (known_by pass.old)) }
+        ensures ended { IfErr result (λ refused. (refused.0 ≡ node) × (known_by pass.new ≡ refusing id.0 node (known_by pass.old))) }
+        ensures recorded { IsRecorded claim.old claim.new (record { to = id.0; message = node; was_ended = is_err result }) }
+    {
+        let message = node.msg();
+        let answer = self.sys_enqueue(rt, pass, id, node);
+        claim.says.add(id, message, answer.is_err());
+        answer
     }
 
     // Puts the node last into the list that is out, and gives it back.
@@ -206,22 +227,23 @@ impl<H: Resident> Gates<H> {
         word: u64,
         mut list: SysList,
         node: Node,
-    )
+    ) -> u64
         requires ours { seat.old.table_id ≡ gates_id self.now }
         requires there { id.0 < actors_of self.now }
         requires lent { IsOut id.0 word list seat.old.me }
         requires not_ended { list.closed ≡ false }
         ensures ours { seat.new.table_id ≡ seat.old.table_id }
-        ensures listed { seat.new.me ≡ (enlisting id.0 node seat.old.me.0, rest seat.old.me.1) }
+        ensures listed { seat.new.me ≡ (enlisting id.0 result node seat.old.me.0, rest seat.old.me.1) }
     {
         let gate = word_index(id, GATE);
         let new = with_listed_bit(word);
-        match list.push(node) {
-            Ok(_) => {}
+        let number = match list.push(node) {
+            Ok(number) => number,
             Err(_) => unreachable!(),
-        }
+        };
         self.lay_list(seat, id, list);
         self.table.shared.store::<Enlist>(seat, gate, new);
+        number
     }
 
     // Whether nothing is listed and the last drain gave nothing, by the gate's word: then this load is a drain that gives
@@ -253,6 +275,7 @@ impl<H: Resident> Gates<H> {
         requires holder { HasClaim id.0 seat.old.me }
         ensures ours { seat.new.table_id ≡ seat.old.table_id }
         ensures drained { seat.new.me ≡ (draining id.0 result (is_some_item result) seat.old.me.0, rest seat.old.me.1) }
+        ensures numbers { IsNumberedFrom (held_in seat.old.me.0).given result }
     {
         let gate = word_index(id, GATE);
         let chain = list.drain();
@@ -277,6 +300,7 @@ impl<H: Resident> Gates<H> {
         requires closed { (held_in seat.old.me.0).word ≡ 1 }
         ensures ours { seat.new.table_id ≡ seat.old.table_id }
         ensures drained { seat.new.me ≡ (ending id.0 result (held_in seat.old.me.0).gave seat.old.me.0, rest seat.old.me.1) }
+        ensures numbers { IsNumberedFrom (held_in seat.old.me.0).given result }
     {
         let gate = word_index(id, GATE);
         let chain = list.close();
@@ -287,15 +311,18 @@ impl<H: Resident> Gates<H> {
     }
 
     /// Takes all system messages that are listed out of the list of the claim's actor, the earliest first, with their
-    /// numbers (`systemDrain`). It takes no memory, and may wait for the list's gate; a drain of an empty list, where the
-    /// last drain gave nothing, is one load.
+    /// numbers, which go on from how many were given before (`systemDrain`). It takes no memory, and may wait for the
+    /// list's gate; a drain of an empty list, where the last drain gave nothing, is one load.
     pub fn sys_drain<R: Wait>(&self, rt: &R, claim: &mut Claim<H>) -> Chain
         requires ours { claim_id claim.old ≡ gates_id self.now }
         requires there { held_actor claim.old < actors_of self.now }
         ensures ours { (claim_id claim.new ≡ claim_id claim.old) × (held_actor claim.new ≡ held_actor claim.old) }
         ensures known { known_of claim.new ≡ draining (held_actor claim.old) result (is_some_item result) (known_of claim.old) }
         ensures same { (status_of claim.new ≡ status_of claim.old) × (claim.new.home ≡ claim.old.home) }
-        ensures taken { taken_with claim.new ≡ taken_with claim.old }
+        ensures taken { (taken_with claim.new ≡ taken_with claim.old) × (closed_with claim.new ≡ closed_with claim.old) }
+        ensures recorded { recorded_by claim.new ≡ recorded_by claim.old }
+        ensures numbers { IsNumberedFrom (given_to claim.old) result }
+        ensures given { given_to claim.new ≡ given_after (given_to claim.old) result }
         ensures gave { gave_last claim.new ≡ is_some_item result }
         ensures drained { drained_by claim.new ≡ drained_by claim.old ++ result }
     {
@@ -315,7 +342,10 @@ impl<H: Resident> Gates<H> {
         ensures ours { (claim_id claim.new ≡ claim_id claim.old) × (held_actor claim.new ≡ held_actor claim.old) }
         ensures known { known_of claim.new ≡ ending (held_actor claim.old) result (gave_last claim.old) (known_of claim.old) }
         ensures same { (status_of claim.new ≡ status_of claim.old) × (claim.new.home ≡ claim.old.home) }
-        ensures taken { taken_with claim.new ≡ taken_with claim.old }
+        ensures taken { (taken_with claim.new ≡ taken_with claim.old) × (closed_with claim.new ≡ closed_with claim.old) }
+        ensures recorded { recorded_by claim.new ≡ recorded_by claim.old }
+        ensures numbers { IsNumberedFrom (given_to claim.old) result }
+        ensures given { given_to claim.new ≡ given_after (given_to claim.old) result }
         ensures gave { gave_last claim.new ≡ gave_last claim.old }
         ensures drained { drained_by claim.new ≡ drained_by claim.old ++ result }
     {

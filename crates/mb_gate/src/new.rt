@@ -3,15 +3,17 @@ ghost use Rattle.std.specs.Prelude.{◌≡◌, ℕ, ◌+◌, ◌*◌, ◌<◌, �
 ghost use Rattle.mb_status.specs.Mailbox.{word_of};
 ghost use Rattle.mb_gate.specs.View.{blank};
 ghost use Rattle.mb_gate.specs.Starts.{row_of, rows_of, shelves_of, homes_in, IsFresh};
-ghost use Rattle.mb_gate.specs.Names.{gates_id, pass_id, actors_of, known_by};
+ghost use Rattle.mb_gate.specs.Names.{gates_id, pass_id, actors_of, first_of, known_by};
 
 use crate::gates::Gates;
+use crate::key::Key;
 use crate::pass::Pass;
 use crate::resident::Resident;
 use crate::slot::Slot;
 use atomic_table::{Refused, Table};
 use mb_syslist::SysList;
 use std::alloc::{AllocError, Global};
+use std::snapshot::Snapshot;
 
 /// There was no memory. The homes come back.
 #[derive(Drop)]
@@ -27,11 +29,18 @@ impl<H: Resident> Gates<H> {
     pub fn new(alloc: Global, homes: Vec<H>) -> Result<(Gates<H>, Pass<H>), NoGates<H>>
         requires some { 0 < vec_len homes }
         requires few { vec_len homes ≤ 4294967296 }
-        requires fresh { (actor : ℕ) (home : H) → slice_get homes.items actor ≡ Some home → IsFresh H.is_of H.mailbox H.rested actor home }
+        requires fresh { (first : H) → slice_get homes.items 0 ≡ Some first → (actor : ℕ) (home : H) → slice_get homes.items actor ≡ Some home →
+            IsFresh (H.is_of first) H.mailbox H.rested H.given H.closed_to actor home }
         ensures ok { IfOk result (λ made. (actors_of made.0 ≡ vec_len homes) × (pass_id made.1 ≡ gates_id made.0) × (known_by made.1 ≡ blank)) }
+        ensures first { IfOk result (λ made. slice_get homes.items 0 ≡ Some (first_of made.0)) }
         ensures err { IfErr result (λ refused. refused.homes.items ≡ homes.items) }
     {
         let actors = homes.len();
+        let key = Key {
+            actors,
+            first: first_of(&homes),
+        };
+        let first = Slot::First(first_of(&homes));
         let Ok(words) = rows(alloc, &homes) else {
             return Err(NoGates { homes });
         };
@@ -39,13 +48,28 @@ impl<H: Resident> Gates<H> {
             return Err(NoGates { homes });
         };
         let (slots, homes) = shelve(homes, room);
-        match Table::new(alloc, &words, slots, &actors) {
-            Ok((table, seat)) => Ok((Gates { table, actors }, Pass { seat })),
+        match Table::new(alloc, &words, slots, &key) {
+            Ok((table, seat)) => Ok((
+                Gates {
+                    table,
+                    actors,
+                    first,
+                },
+                Pass { seat },
+            )),
             Err(Refused { slots }) => Err(NoGates {
                 homes: unshelve(slots, homes),
             }),
         }
     }
+}
+
+// The first home, for proofs alone.
+fn first_of<H>(homes: &Vec<H>) -> Snapshot<H>
+    requires some { 0 < vec_len homes.now }
+    ensures { slice_get homes.now.items 0 ≡ Some result.value }
+{
+    Snapshot::of(&homes[0])
 }
 
 // The words of all actors.
@@ -100,6 +124,6 @@ fn put_home<H: Resident>(slot: Slot<H>, homes: &mut Vec<H>)
 {
     match slot {
         Slot::Home(home) => homes.push_reserved(home),
-        Slot::Empty | Slot::List(_) | Slot::Note(_) => {}
+        Slot::Empty | Slot::List(_) | Slot::Note(_) | Slot::First(_) => {}
     }
 }

@@ -18,6 +18,13 @@ use mb_msg::ActorId;
 use mb_status::Status;
 
 impl<H: Resident> Gates<H> {
+    /// How many actors there are.
+    pub fn actors(&self) -> usize
+        ensures { result ≡ actors_of self.now }
+    {
+        self.actors
+    }
+
     /// Reads the actor's status (`Mailbox.currentStatus`).
     ///
     /// What was seen closed is closed.
@@ -28,10 +35,17 @@ impl<H: Resident> Gates<H> {
         ensures known { known_by pass.new ≡ reading id.0 (word_of result) (known_by pass.old) }
         ensures closed { StaysClosed id.0 (word_of result) (known_by pass.old) }
     {
-        let word = self
-            .table
-            .shared
-            .load::<Read>(&mut pass.seat, word_index(id, STATUS));
+        self.read(&mut pass.seat, id)
+    }
+
+    fn read(&self, seat: &mut Seat<Slot<H>, Knowledge>, id: ActorId) -> Status
+        requires ours { seat.old.table_id ≡ gates_id self.now }
+        requires there { id.0 < actors_of self.now }
+        ensures ours { seat.new.table_id ≡ seat.old.table_id }
+        ensures known { seat.new.me ≡ (reading id.0 (word_of result) seat.old.me.0, seat.old.me.1) }
+        ensures closed { StaysClosed id.0 (word_of result) seat.old.me.0 }
+    {
+        let word = self.table.shared.load::<Read>(seat, word_index(id, STATUS));
         match Status::of(word) {
             Some(status) => status,
             None => unreachable!(),

@@ -5,7 +5,8 @@ ghost use Rattle.mb_rule.specs.Layout.{slot_at};
 ghost use Rattle.mb_gate.specs.View.{claim_alone, without_claim};
 ghost use Rattle.mb_gate.specs.Claims.{is_busy};
 ghost use Rattle.mb_gate.specs.Tries.{IsFree, IsOf, IsExchanged, IsTried, Taken};
-ghost use Rattle.mb_gate.specs.Names.{gates_id, pass_id, claim_id, actors_of, known_by, known_of, held_actor, status_of};
+ghost use Rattle.mb_gate.specs.Names.{gates_id, pass_id, claim_id, actors_of, first_of, known_by, known_of};
+ghost use Rattle.mb_gate.specs.Names.{held_actor, status_of, recorded_by};
 ghost use Rattle.mb_gate.specs.declared.slot.Slot.TheVariants.{Home};
 
 use crate::claim::Claim;
@@ -14,6 +15,7 @@ use crate::law::{Part, Schedule};
 use crate::layout::{CELL, STATUS, slot_index, word_index};
 use crate::pass::Pass;
 use crate::resident::Resident;
+use crate::sayings::Sayings;
 use crate::slot::Slot;
 use crate::view::Knowledge;
 use atomic_table::Seat;
@@ -42,7 +44,7 @@ impl<H: Resident> Gates<H> {
         requires ours { pass_id pass.old ≡ gates_id self.now }
         requires there { id.0 < actors_of self.now }
         ensures ours { (pass_id pass.new ≡ pass_id pass.old) × IsOf (gates_id self.now) result }
-        ensures answer { (seen : Mailbox) × IsTried H.is_of H.journal H.mailbox H.rested id.0 (known_by pass.old) (known_by pass.new) seen result }
+        ensures answer { (seen : Mailbox) × IsTried (H.is_of (first_of self.now)) H.journal H.mailbox H.rested H.given H.closed_to id.0 (known_by pass.old) (known_by pass.new) seen result }
     {
         let seen = self.status(pass, id);
         if seen.closed() {
@@ -66,14 +68,17 @@ impl<H: Resident> Gates<H> {
         requires free { IsFree seen }
         requires scheduled { status ≡ record seen { scheduled = true } }
         ensures ours { (pass_id pass.new ≡ pass_id pass.old) × IsOf (gates_id self.now) result }
-        ensures answer { IsExchanged H.is_of H.journal H.mailbox H.rested id.0 (known_by pass.old) (known_by pass.new) seen result }
+        ensures answer { IsExchanged (H.is_of (first_of self.now)) H.journal H.mailbox H.rested H.given H.closed_to id.0 (known_by pass.old) (known_by pass.new) seen result }
     {
         let old = seen.word();
         let new = status.word();
-        let found = self
-            .table
-            .shared
-            .compare_exchange::<Schedule>(&mut pass.seat, word_index(id, STATUS), old, new);
+        let found = self.table.shared.compare_exchange_with::<Schedule>(
+            &mut pass.seat,
+            word_index(id, STATUS),
+            old,
+            new,
+            &self.first,
+        );
         if found == old {
             return Tried::Got(self.claim(&mut pass.seat, id, status));
         }
@@ -88,11 +93,12 @@ impl<H: Resident> Gates<H> {
         requires ours { seat.old.table_id ≡ gates_id self.now }
         requires there { id.0 < actors_of self.now }
         requires busy { is_busy (word_of status) ≡ true }
-        requires won { Taken H.journal id.0 status seat.old.me }
+        requires won { Taken H.journal H.given H.closed_to id.0 status seat.old.me }
         ensures ours { (seat.new.table_id ≡ seat.old.table_id) × (claim_id result ≡ seat.old.table_id) }
         ensures rest { seat.new.me ≡ (without_claim seat.old.me.0, []) }
         ensures claim { (known_of result ≡ claim_alone seat.old.me.0) × (held_actor result ≡ id.0) × (status_of result ≡ status) }
         ensures home { seat.old.me.1 ≡ (slot_at id.0 0, Home result.home) ∷ [] }
+        ensures recorded { recorded_by result ≡ [] }
     {
         let rest = self.table.shared.split_seat::<Part>(seat);
         let mut mine = mem::replace(seat, rest);
@@ -103,6 +109,7 @@ impl<H: Resident> Gates<H> {
                 actor: id,
                 status,
                 seat: mine,
+                says: Sayings::new(),
             },
             _ => unreachable!(),
         }

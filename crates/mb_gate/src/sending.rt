@@ -23,9 +23,18 @@ impl<H: Resident> Gates<H> {
         ensures ours { pass_id pass.new ≡ pass_id pass.old }
         ensures known { known_by pass.new ≡ sending id.0 1 (known_by pass.old) }
     {
+        self.count_on(&mut pass.seat, id);
+    }
+
+    fn count_on(&self, seat: &mut Seat<Slot<H>, Knowledge>, id: ActorId)
+        requires ours { seat.old.table_id ≡ gates_id self.now }
+        requires there { id.0 < actors_of self.now }
+        ensures ours { seat.new.table_id ≡ seat.old.table_id }
+        ensures known { seat.new.me ≡ (sending id.0 1 seat.old.me.0, seat.old.me.1) }
+    {
         self.table
             .shared
-            .fetch_add::<Send>(&mut pass.seat, word_index(id, WAITING), 1);
+            .fetch_add::<Send>(seat, word_index(id, WAITING), 1);
     }
 
     /// Takes back what `note_sent` counted, since the envelope was refused.
@@ -36,9 +45,18 @@ impl<H: Resident> Gates<H> {
         ensures ours { pass_id pass.new ≡ pass_id pass.old }
         ensures known { known_by pass.new ≡ unsending id.0 1 (known_by pass.old) }
     {
+        self.count_back(&mut pass.seat, id);
+    }
+
+    fn count_back(&self, seat: &mut Seat<Slot<H>, Knowledge>, id: ActorId)
+        requires ours { seat.old.table_id ≡ gates_id self.now }
+        requires there { id.0 < actors_of self.now }
+        ensures ours { seat.new.table_id ≡ seat.old.table_id }
+        ensures known { seat.new.me ≡ (unsending id.0 1 seat.old.me.0, seat.old.me.1) }
+    {
         self.table
             .shared
-            .fetch_sub::<Unsend>(&mut pass.seat, word_index(id, WAITING), 1);
+            .fetch_sub::<Unsend>(seat, word_index(id, WAITING), 1);
     }
 
     /// Counts an envelope of the claim's actor as taken.

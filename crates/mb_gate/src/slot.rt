@@ -1,5 +1,6 @@
 use mb_msg::SysMsg;
 use mb_syslist::SysList;
+use std::snapshot::Snapshot;
 
 /// What lies in a slot of the table: an actor's home or its list, or nothing while a seat has that out.
 #[derive(Drop)]
@@ -9,4 +10,6 @@ pub enum Slot<H> {
     List(SysList),
     /// A message that found its list ended. It lies in no slot: a step is told of it.
     Note(SysMsg),
+    /// The home with which the gates' first actor began. It lies in no slot either.
+    First(Snapshot<H>),
 }

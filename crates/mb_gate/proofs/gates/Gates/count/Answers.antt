@@ -1,4 +1,5 @@
 use Rattle.std.proofs.Common.{rules, arith}
+use Rattle.mb_gate.specs.Names.{first_of}
 use Rattle.mb_gate.proofs.Allowed.{counts_allowed}
 use Rattle.mb_gate.proofs.gates.Gates.count.Goals as goal
 
@@ -6,6 +7,6 @@ pub load-requires : goal.load-requires
 load-requires g c = (
   search rules,
   search rules,
-  counts_allowed g.H.Resident.is_of g.H.Resident.journal g.H.Resident.mailbox g.H.Resident.rested
+  counts_allowed (g.H.Resident.is_of (first_of c.args.self.now)) g.H.Resident.journal g.H.Resident.mailbox g.H.Resident.rested g.H.Resident.given g.H.Resident.closed_to
       _ _ _ _ c.args.id.0 _ (let k = c.args.self.now.keyed in let t = c.requires.there in omega arith) c.word_index.ensures,
 )

@@ -2,7 +2,7 @@ use Rattle.std.proofs.Common.{◌+◌, ◌*◌, ◌≤◌, ◌∷◌, [], ap, sy
 use Rattle.std.specs.Mem.Slots.{slots_items, slots_filled, slots_len, slots_counts, IsFull}
 use Rattle.mb_rule.specs.Layout.{slot_at}
 use Rattle.mb_gate.specs.Leaves.{AreLeft, IsTakenOut}
-use Rattle.mb_gate.specs.Names.{known_by}
+use Rattle.mb_gate.specs.Names.{first_of, known_by}
 use Rattle.mb_gate.proofs.Leaving.{no_item, each_more, emptied, still_filled, are_left}
 use Rattle.mb_gate.proofs.gates.Gates.finish.Goals as goal
 
@@ -97,8 +97,8 @@ returns g c =
     let many = c.loop-actor.invariant.5 in
     let ends = c.loop-actor-test.false in
     let at_end = c.loop-actor.auto.actor-end in record {
-      left = subst (λ n. AreLeft g.H.Resident.is_of g.H.Resident.journal g.H.Resident.mailbox g.H.Resident.rested n (known_by c.args.pass)
+      left = subst (λ n. AreLeft (g.H.Resident.is_of (first_of c.args.self)) g.H.Resident.journal g.H.Resident.mailbox g.H.Resident.rested g.H.Resident.given g.H.Resident.closed_to n (known_by c.args.pass)
           c.loop-actor.all.items) keyed
-          (are_left g.H.Resident.is_of g.H.Resident.journal g.H.Resident.mailbox g.H.Resident.rested _ _ _ _ _ _
+          (are_left (g.H.Resident.is_of (first_of c.args.self)) g.H.Resident.journal g.H.Resident.mailbox g.H.Resident.rested g.H.Resident.given g.H.Resident.closed_to _ _ _ _ _ _
           c.close_with-closed.ensures.values.2 (omega arith) c.loop-actor.invariant.7);
     }

@@ -1,4 +1,5 @@
 use Rattle.std.proofs.Common.{rules, arith}
+use Rattle.mb_gate.specs.Names.{first_of}
 use Rattle.mb_gate.proofs.Allowed.{looks_allowed}
 use Rattle.mb_gate.proofs.gates.Gates.look.Goals as goal
 
@@ -6,6 +7,6 @@ pub load-word-requires : goal.load-word-requires
 load-word-requires g c = (
   search rules,
   search rules,
-  looks_allowed g.H.Resident.is_of g.H.Resident.journal g.H.Resident.mailbox
-      g.H.Resident.rested _ _ _ _ c.args.id.0 _ (let k = c.args.self.now.keyed in let t = c.requires.there in omega arith) c.word_index.ensures,
+  looks_allowed (g.H.Resident.is_of (first_of c.args.self.now)) g.H.Resident.journal g.H.Resident.mailbox
+      g.H.Resident.rested g.H.Resident.given g.H.Resident.closed_to _ _ _ _ c.args.id.0 _ (let k = c.args.self.now.keyed in let t = c.requires.there in omega arith) c.word_index.ensures,
 )

@@ -1,14 +1,25 @@
-use Rattle.std.proofs.Common.{rules, ap, ◌∙◌}
-use Rattle.mb_gate.proofs.Allowed.{joins_allowed}
+use Rattle.std.proofs.Common.{◌∷◌, [], ap, sym, ◌∙◌, refl, subst}
+use Rattle.mb_rule.specs.Layout.{slot_at}
+use Rattle.mb_gate.specs.declared.slot.Slot.TheVariants.{Home}
+use Rattle.mb_gate.specs.Claims.{IsReady}
+use Rattle.mb_gate.specs.Names.{first_of}
 use Rattle.mb_gate.proofs.gates.Gates.release.Goals as goal
 
-pub join_seat-requires : goal.join_seat-requires
-join_seat-requires g c =
-    let idle = c.idle.ensures.idle c.args.claim.home (ap (λ m. m.1) c.lay.ensures.carries) in (
-      search rules,
-      search rules,
-      ap (λ m. m.1) idle,
-      search rules,
-      joins_allowed g.H.Resident.is_of g.H.Resident.journal g.H.Resident.mailbox g.H.Resident.rested _ _ _ _ _ (ap (λ m. m.0.claim) idle)
-          (ap (λ m. m.0.list) idle ∙ (ap (λ m. m.0.list) c.lay.ensures.carries ∙ c.args.claim.no_list)),
-    )
+pub idle-requires-clause-ready : goal.idle-requires-clause-ready
+idle-requires-clause-ready g c =
+    let claim = c.args.claim in
+    let me = c.lay.ensures.carries ∙ ap (λ m. (m.0, (slot_at claim.actor.0 0, Home claim.home) ∷ [])) c.take_in.ensures.known in
+    subst (λ m. IsReady (g.H.Resident.is_of (first_of c.args.self.now)) g.H.Resident.journal g.H.Resident.mailbox g.H.Resident.rested
+    g.H.Resident.given g.H.Resident.closed_to claim.actor.0 claim.status m) (sym me) record {
+      home = claim.home;
+      carried = refl;
+      has = claim.has;
+      of = claim.of;
+      word = claim.word;
+      own = c.requires.own;
+      longer = c.requires.longer;
+      fold = c.requires.fold;
+      count = c.requires.count;
+      shut = c.requires.shut;
+      rest = c.requires.rest;
+    }

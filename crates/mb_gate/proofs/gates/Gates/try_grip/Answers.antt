@@ -1,6 +1,7 @@
 use Rattle.std.proofs.Common.{rules, ◌∷◌, ap, sym, ◌∙◌, refl, arith}
 use Rattle.atomic_table.specs.Table.{rest}
 use Rattle.mb_gate.specs.declared.slot.Slot.TheVariants.{List as Listing}
+use Rattle.mb_gate.specs.Names.{first_of}
 use Rattle.mb_gate.proofs.Allowed.{grips_allowed}
 use Rattle.mb_gate.proofs.ListCalls.{is_list, lent_by}
 use Rattle.mb_gate.proofs.gates.Gates.try_grip.Goals as goal
@@ -9,8 +10,8 @@ pub compare_exchange-found-requires : goal.compare_exchange-found-requires
 compare_exchange-found-requires g c = (
   search rules,
   search rules,
-  grips_allowed g.H.Resident.is_of g.H.Resident.journal g.H.Resident.mailbox
-      g.H.Resident.rested _ _ _ _ c.args.id.0 _ (let k = c.args.self.now.keyed in let t = c.requires.there in omega arith) _ _
+  grips_allowed (g.H.Resident.is_of (first_of c.args.self.now)) g.H.Resident.journal g.H.Resident.mailbox
+      g.H.Resident.rested g.H.Resident.given g.H.Resident.closed_to _ _ _ _ c.args.id.0 _ (let k = c.args.self.now.keyed in let t = c.requires.there in omega arith) _ _
       c.word_index-gate.ensures c.requires.in_slot refl c.requires.no_list,
 )
 

@@ -1,0 +1,79 @@
+-- The numbers of messages, and what stands in a list.
+use Rattle.std.proofs.Common.{◌≡◌, ℕ, suc, ◌+◌, ◌%◌, ◌^◌, ◌<◌, List, [], ◌∷◌, ◌++◌, length, sym, refl, ap, ◌∙◌, subst, append_assoc, append-nil, length-append, arith}
+use Rattle.mb_msg.specs.declared.system.SysMsg.{SysMsg}
+use Rattle.mb_syslist.specs.MessageList.{MessageList, numbered, listed, pushed}
+use Rattle.mb_rule.specs.Seen.{Each}
+use Rattle.mb_gate.specs.Rule.{Ghost, IsAmong, IsPart, IsListing}
+
+module _ {A : Type 0} where
+  pub among_first : (x : A) (l : List A) → IsAmong x (x ∷ l)
+  among_first x l = record { before = []; after = l; joined = refl }
+
+  pub among_more : (x y : A) (l : List A) → IsAmong x l → IsAmong x (y ∷ l)
+  among_more x y l a = record { before = y ∷ a.before; after = a.after; joined = ap (λ z. y ∷ z) a.joined }
+
+  pub among_left : (x : A) (l more : List A) → IsAmong x l → IsAmong x (l ++ more)
+  among_left x l more a = record {
+    before = a.before;
+    after = a.after ++ more;
+    joined = ap (λ z. z ++ more) a.joined ∙ append_assoc a.before (x ∷ a.after) more;
+  }
+
+  pub among_right : (x : A) (more l : List A) → IsAmong x l → IsAmong x (more ++ l)
+  among_right x more l a = record {
+    before = more ++ a.before;
+    after = a.after;
+    joined = ap (λ z. more ++ z) a.joined ∙ sym (append_assoc more a.before (x ∷ a.after));
+  }
+
+  pub part_left : (p l more : List A) → IsPart p l → IsPart p (l ++ more)
+  part_left p l more a = record {
+    before = a.before;
+    after = a.after ++ more;
+    joined = ap (λ z. z ++ more) a.joined ∙ (append_assoc a.before (p ++ a.after) more ∙ ap (λ z. a.before ++ z) (append_assoc p a.after more));
+  }
+
+  each_after : (P : A → Type 0) (x : A) (before after : List A) → Each P (before ++ x ∷ after) → P x
+  each_after P x [] after h = h.0
+  each_after P x (b ∷ bs) after h = each_after P x bs after h.1
+
+  -- what holds of each holds of one of them
+  pub each_among : (P : A → Type 0) (x : A) (l : List A) → Each P l → IsAmong x l → P x
+  each_among P x l h a = each_after P x a.before a.after (subst (Each P) a.joined h)
+
+-- the numbers go on over two lists
+pub numbered_append : (n : ℕ) (a b : List SysMsg) → n < 2 ^ 64 → numbered n (a ++ b) ≡ numbered n a ++ numbered ((n + length a) % 2 ^ 64) b
+numbered_append n [] b small = ap (λ k. numbered k b) (omega arith)
+numbered_append n (m ∷ ms) b small =
+    ap (λ z. (n, m) ∷ z) (numbered_append ((n + 1) % 2 ^ 64) ms b (omega arith) ∙ ap (λ k. numbered ((n + 1) % 2 ^ 64) ms ++ numbered k b) (omega arith))
+
+pub length_numbered : (n : ℕ) (ms : List SysMsg) → length (numbered n ms) ≡ length ms
+length_numbered n [] = refl
+length_numbered n (m ∷ ms) = ap suc (length_numbered ((n + 1) % 2 ^ 64) ms)
+
+-- what is put last into the list has the list's next number
+pub pushed_so : (g : Ghost) (l : MessageList) (m : SysMsg) → l ≡ g.listed → IsListing g.pushed g.listed → IsAmong (pushed l, m) (numbered 0 (g.pushed ++ m ∷ []))
+pushed_so g l m same li = subst (λ z. IsAmong (pushed z, m) (numbered 0 (g.pushed ++ m ∷ []))) (sym same)
+    (subst (λ z. IsAmong (pushed g.listed, m) (numbered 0 (z ++ m ∷ []))) (sym li.joined)
+    (last li.given g.listed.messages g.listed.given li.counted))
+  where
+    last : (given ms : List SysMsg) (n : ℕ) → n ≡ length given % 2 ^ 64 → IsAmong ((n + length ms) % 2 ^ 64, m) (numbered 0 ((given ++ ms) ++ m ∷ []))
+    last given ms n e = record {
+      before = numbered 0 (given ++ ms);
+      after = [];
+      joined = numbered_append 0 (given ++ ms) (m ∷ []) (omega arith) ∙ ap (λ k. numbered 0 (given ++ ms) ++ (k, m) ∷ []) (let t = length-append
+          given ms in omega arith);
+    }
+
+-- what is listed has the numbers of the list
+pub part_so : (g : Ghost) (l : MessageList) → l ≡ g.listed → IsListing g.pushed g.listed → IsPart (listed l) (numbered 0 g.pushed)
+part_so g l same li = subst (λ z. IsPart (listed z) (numbered 0 g.pushed)) (sym same)
+    (subst (λ z. IsPart (listed g.listed) (numbered 0 z)) (sym li.joined) (last li.given g.listed.messages g.listed.given li.counted))
+  where
+    last : (given ms : List SysMsg) (n : ℕ) → n ≡ length given % 2 ^ 64 → IsPart (numbered n ms) (numbered 0 (given ++ ms))
+    last given ms n e = record {
+      before = numbered 0 given;
+      after = [];
+      joined = numbered_append 0 given ms (omega arith) ∙ ap (λ z. numbered 0 given ++ z) (ap (λ k. numbered k ms) (omega arith)
+          ∙ sym (append-nil (numbered n ms)));
+    }

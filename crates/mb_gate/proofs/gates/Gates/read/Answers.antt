@@ -1,0 +1,20 @@
+use Rattle.std.proofs.Common.{rules, sym, subst, arith}
+use Rattle.mb_gate.specs.Plays.{StaysClosed}
+use Rattle.mb_gate.specs.Names.{first_of}
+use Rattle.mb_gate.proofs.Allowed.{reads_allowed}
+use Rattle.mb_gate.proofs.gates.Gates.read.Goals as goal
+
+pub load-word-requires : goal.load-word-requires
+load-word-requires g c = (
+  search rules,
+  search rules,
+  reads_allowed (g.H.Resident.is_of (first_of c.args.self.now)) g.H.Resident.journal g.H.Resident.mailbox
+      g.H.Resident.rested g.H.Resident.given g.H.Resident.closed_to _ _ _ _ c.args.id.0 _ (let k = c.args.self.now.keyed in let t = c.requires.there in omega arith) c.word_index.ensures,
+)
+
+pub unreachable-requires : goal.unreachable-requires
+unreachable-requires g c = let no = c.in-None.ensures.valid.1 (c.load-word.ensures.2 _ c.word_index.ensures).1 in cc
+
+pub returns-clause-closed : goal.returns-clause-closed
+returns-clause-closed g c = subst (λ w. StaysClosed c.args.id.0 w c.args.seat.now.me.0) (sym c.in-Some.ensures.same_word)
+    (c.load-word.ensures.2 _ c.word_index.ensures).2
