@@ -1,0 +1,4 @@
+pub mod Contents
+pub mod Roll
+pub mod Settled
+pub mod Steps
