@@ -1,0 +1,4 @@
+pub mod Owed
+pub mod Views
+pub mod Untouched
+pub mod Waking
