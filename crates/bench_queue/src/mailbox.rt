@@ -30,7 +30,7 @@ fn made(alloc: Global, kind: Kind) -> Option<(TakePass, SendPass)>
     requires { IsMakeable kind }
     ensures { IfSome result (λ r. r.1.by ≡ 1) }
 {
-    let (take, mut sends) = MailQueue::new(alloc, kind, &[SENDER]).ok()?;
+    let (take, mut sends) = MailQueue::new(alloc, kind, ActorId(2), &[SENDER]).ok()?;
     let send = sends.pop()?;
     Some((take, send))
 }

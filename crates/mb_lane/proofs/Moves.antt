@@ -73,7 +73,11 @@ pushes n port (Sender ours by pushed) x may = λ items views room h at.
         holder = h.holder;
         taker = h.taker;
         taken = h.taken;
-        known = subst (All (Belongs h.scope)) (sym more) (All-push (Belongs h.scope) all x h.known (subst (Contains h.scope.senders) may.0 mine.1, subst (λ (l : Scope). IsOfPart l.part x) mine.0 may.1));
+        known = subst (All (Belongs h.scope)) (sym more) (All-push (Belongs h.scope) all x h.known (
+          subst (Contains h.scope.senders) may.0 mine.1,
+          subst (λ (l : Scope). x.to.0 ≡ l.to) mine.0 may.1,
+          subst (λ (l : Scope). IsOfPart l.part x) mine.0 may.2,
+        ));
         fits = subst (λ l. Each (F l) (set views port (Sender ours by (pushed ++ x ∷ [])))) (sym more)
             (each_set (F (all ++ x ∷ [])) views port (Sender ours by (pushed ++ x ∷ []))
             (mine.0, mine.1, mine.2, ap (λ l. l ++ x ∷ []) mine.3 ∙ sym (sent_by-mine by all x may.0))

@@ -31,11 +31,11 @@ IsOfPart Others e = is_control e ≡ false
 
 -- before it is settled which envelopes a lane has: none
 abbrev pub unsettled : Scope
-unsettled = record { senders = []; part = Whole }
+unsettled = record { senders = []; to = 0; part = Whole }
 
--- the envelopes of these senders and this part
-abbrev pub scope_of : List SenderId → Part → Scope
-scope_of senders part = record { senders = map (λ (s : SenderId). s.0) senders; part = part }
+-- the envelopes by these senders, to this actor, and of this part
+abbrev pub scope_of : List SenderId → ℕ → Part → Scope
+scope_of senders to part = record { senders = map (λ (s : SenderId). s.0) senders; to = to; part = part }
 
 -- the envelopes of one sender, in their order
 abbrev pub sent_by : ℕ → List Envelope → List Envelope
@@ -57,9 +57,9 @@ account_after before (a ∷ accounts) sender = account_after (cond (a.by == send
 abbrev pub account : List Account → ℕ → Option (List Envelope)
 account = account_after (Some [])
 
--- the port pushes for the sender of this envelope, which is of the lane's part
+-- the port pushes for the sender of this envelope, which is to the lane's actor and of its part
 abbrev pub MayPush : Envelope → Ledger → Type 0
-MayPush e (Sender scope by pushed) = (by ≡ e.by.0) × IsOfPart scope.part e
+MayPush e (Sender scope by pushed) = (by ≡ e.by.0) × (e.to.0 ≡ scope.to) × IsOfPart scope.part e
 MayPush e (Taker scope taken accounts) = ⊥
 MayPush e Spent = ⊥
 

@@ -11,9 +11,9 @@ use Rattle.mb_lane.specs.declared.refused.PushError.{PushError}
 use Rattle.mb_lane.specs.declared.refused.PushError.TheVariants.{Full, NoMemory}
 use Rattle.mb_lane.specs.Ledger.{IsOfPart, sent_by, account}
 
--- the envelope is one that a lane of this scope has: by one of its senders, and of its part
+-- the envelope is one that a lane of this scope has: by one of its senders, to its actor, and of its part
 abbrev pub Belongs : Scope → Envelope → Type 0
-Belongs scope e = Contains scope.senders e.by.0 × IsOfPart scope.part e
+Belongs scope e = Contains scope.senders e.by.0 × (e.to.0 ≡ scope.to) × IsOfPart scope.part e
 
 -- What a port knows is so. The account of each sender is with one port, its holder, and says what was taken of that
 -- sender and then what is in the lane of it. `all` is what was taken and then what is in the lane.

@@ -27,6 +27,8 @@ pub enum Part {
 pub struct Scope {
     /// By which senders.
     pub senders: LinkedList<u32>,
+    /// To which actor.
+    pub to: u32,
     /// And of which part.
     pub part: Part,
 }

@@ -9,7 +9,7 @@ use crate::ledger::Part;
 use crate::refused::PushError;
 use crate::rule::{Named, Scoped};
 use crate::slots::{Slots, SlotsPass};
-use mb_msg::{Envelope, SenderId};
+use mb_msg::{ActorId, Envelope, SenderId};
 use std::alloc::{AllocError, Global};
 use std::marker::{Brand, Model};
 use std::sync::{Arc, Wait};
@@ -98,20 +98,22 @@ impl Port {
         }
     }
 
-    /// Settles which envelopes the lane has: by these senders, whose accounts are all at home and empty, and of this part.
-    pub fn open(&mut self, senders: &[SenderId], part: Part)
+    /// Settles which envelopes the lane has: by these senders, whose accounts are all at home and empty, to this actor, and
+    /// of this part.
+    pub fn open(&mut self, senders: &[SenderId], to: ActorId, part: Part)
         requires { IsUnused self.old.ledger }
-        ensures { self.new ≡ record self.old { ledger = Taker (scope_of senders.now part) [] [] } }
+        ensures { self.new ≡ record self.old { ledger = Taker (scope_of senders.now to.0 part) [] [] } }
     {
-        self.open_as::<Brand>(senders, part);
+        self.open_as::<Brand>(senders, to, part);
     }
 
-    fn open_as<S: Scoped>(&mut self, senders: &[SenderId], part: Part)
+    fn open_as<S: Scoped>(&mut self, senders: &[SenderId], to: ActorId, part: Part)
         requires unused { IsUnused self.old.ledger }
-        requires these { S.scope ≡ scope_of senders.now part }
-        ensures { self.new ≡ record self.old { ledger = Taker (scope_of senders.now part) [] [] } }
+        requires these { S.scope ≡ scope_of senders.now to.0 part }
+        ensures { self.new ≡ record self.old { ledger = Taker (scope_of senders.now to.0 part) [] [] } }
     {
         let _ = senders;
+        let _ = to;
         let _ = part;
         match &mut self.end {
             End::Unbounded(blocks, pass) => blocks.open::<S>(pass),

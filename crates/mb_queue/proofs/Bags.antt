@@ -4,7 +4,9 @@ use Rattle.std.proofs.lemmas.List.{append-nil}
 use Rattle.std.proofs.lemmas.List.Filters.{sum_by-filter_both}
 use Rattle.std.proofs.lemmas.List.Sums.{sum_by-append, sum_by-cons}
 use Rattle.std.proofs.lemmas.List.{map-append}
-use Rattle.std.proofs.lemmas.List.Sorted.{sum_by-IsPermutation, IsPermutation-map}
+use Rattle.std.proofs.lemmas.List.Elements.{All-append, All-head, All-tail}
+use Rattle.std.proofs.lemmas.List.Sorted.{All-permutation, sum_by-IsPermutation, IsPermutation-map}
+use Rattle.std.specs.List.{All}
 use Rattle.mb_msg.specs.declared.envelope.Envelope.{Envelope}
 use Rattle.mb_lane.specs.declared.ledger.Account.{Account}
 use Rattle.mb_lane.specs.Ledger.{account, is_control, sent_by}
@@ -64,6 +66,25 @@ module _ (sender : ℕ) (pushed : List Envelope) where
 envelopes-arrivals : (rows : List RankRow) (other number : ℕ) (es : List Envelope) → envelopes_of (arrivals_from rows other number es) ≡ es
 envelopes-arrivals rows other number [] = refl
 envelopes-arrivals rows other number (e ∷ es) = ap (λ l. e ∷ l) (envelopes-arrivals rows other (number + 1) es)
+
+-- what holds of those that were held and of those that came in holds of all that are held then
+pub all_held : (P : Envelope → Type 0) (rows : List RankRow) (other number : ℕ) (waiting : List Arrival) (fresh : List Envelope) (held : List Arrival)
+    → IsPermutation (waiting ++ arrivals_from rows other number fresh) held → All P (envelopes_of waiting) → All P fresh → All P (envelopes_of held)
+all_held P rows other number waiting fresh held same old new =
+    let in' = arrivals_from rows other number fresh in
+    let all : envelopes_of (waiting ++ in') ≡ envelopes_of waiting ++ fresh =
+    map-append (λ (x : Arrival). x.envelope) waiting in' ∙ ap (λ l. envelopes_of waiting ++ l) (envelopes-arrivals rows other number fresh) in
+    All-permutation P (envelopes_of (waiting ++ in')) (envelopes_of held) (IsPermutation-map (λ (x : Arrival). x.envelope) (waiting ++ in') held same)
+    (subst (All P) (sym all) (All-append P (envelopes_of waiting) fresh old new))
+
+-- and of the one that is chosen, and those that stay
+pub all_chosen : (P : Envelope → Type 0) (held : List Arrival) (e : Envelope) (rest : List Arrival) → Chooses held (Some e) rest → All P (envelopes_of held)
+    → P e × All P (envelopes_of rest)
+all_chosen P held e rest choice all =
+    let first = choice.0 in
+    let now : All P (first.envelope ∷ envelopes_of rest) =
+    All-permutation P (envelopes_of held) (envelopes_of (first ∷ rest)) (IsPermutation-map (λ (x : Arrival). x.envelope) held (first ∷ rest) choice.2) all in
+    (subst P choice.1 (All-head P (first.envelope) (envelopes_of rest) now), All-tail P first.envelope (envelopes_of rest) now)
 
 count-held : (test : Envelope → Bool) (xs ys : List Arrival) → IsPermutation xs ys → count_by test (envelopes_of ys) ≡ count_by test (envelopes_of xs)
 count-held test xs ys same = sum_by-IsPermutation (λ e. cond (test e) 1 0) (envelopes_of xs) (envelopes_of ys) (IsPermutation-map (λ (a : Arrival). a.envelope) xs ys same)

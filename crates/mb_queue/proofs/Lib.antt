@@ -1,5 +1,6 @@
 pub mod Bags
 pub mod Distinct
+pub mod Joins
 pub mod Lends
 pub mod Pairs
 pub mod Refused

@@ -8,11 +8,11 @@ use Rattle.mb_lane.specs.declared.refused.PushError.{PushError}
 use Rattle.mb_lane.specs.declared.refused.PushError.TheVariants.{Full, NoMemory}
 use Rattle.mb_lane.specs.Port.{Known}
 use Rattle.mb_lane.specs.Rule as lane
-use Rattle.mb_queue.specs.Kept.{sending, scoped, senders_of, IsSending}
+use Rattle.mb_queue.specs.Kept.{sending, parted, scope_in, IsSending}
 use Rattle.mb_queue.specs.Pushes.{IsRefusal, WasFull}
 
 was_full : (most by : ℕ) (main : Known) (pushed : List Envelope) → IsSending by main None pushed → lane.FoundFull most main.ledger → WasFull most (sending by main None pushed)
-was_full most by main pushed kept found = let f = subst (lane.FoundFull most) kept found in (f.0, f.1, f.2, (λ k d lt. (f.3 k d lt).0), f.4)
+was_full most by main pushed kept found = let f = subst (lane.FoundFull most) kept found in (f.0, f.1, f.2, (λ k d lt. let b = f.3 k d lt in (b.0, b.1)), f.4)
 
 pub refused : (by : ℕ) (main : Known) (control : Option Known) (pushed : List Envelope) (e : PushError) → IsSending by main control pushed → lane.IsRefusal main.lane.capacity main.ledger e
     → IsRefusal (sending by main control pushed) e

@@ -7,30 +7,31 @@ use Rattle.mb_lane.specs.declared.ledger.Account.{Account}
 use Rattle.mb_lane.specs.declared.ledger.Ledger.{Ledger}
 use Rattle.mb_lane.specs.declared.ledger.Ledger.TheVariants.{Taker}
 use Rattle.mb_lane.specs.declared.ledger.Part.{Part}
+use Rattle.mb_lane.specs.declared.ledger.Scope.{Scope}
 use Rattle.mb_lane.specs.Ledger.{account, account_after, sent_by, taking}
 use Rattle.mb_lane.specs.Port.{Known}
 use Rattle.mb_lane.specs.Rule as lane
-use Rattle.mb_queue.specs.Kept.{Took, scoped, senders_of, gone_of}
+use Rattle.mb_queue.specs.Kept.{Took, parted, scope_in, gone_of}
 use Rattle.mb_queue.specs.Parts.{accounts_of}
 use Rattle.mb_queue.specs.Steps.{TakesOf}
 use Rattle.mb_queue.specs.Takes.{AllBegin, AllOut}
 
-module _ (senders : List ℕ) (part : Part) (out : List Envelope) (accounts : List Account) where
-  -- the senders are those that the port says
-  pub settled : (port : Known) → Took port senders part out accounts → Took port (senders_of port.ledger) part out accounts
-  settled port took = took ∙ ap (λ l. Taker (scoped l part) out accounts) (sym (ap senders_of took))
+module _ (scope : Scope) (part : Part) (out : List Envelope) (accounts : List Account) where
+  -- the scope is the one that the port says
+  pub settled : (port : Known) → Took port scope part out accounts → Took port (scope_in port.ledger) part out accounts
+  settled port took = took ∙ ap (λ l. Taker (parted l part) out accounts) (sym (ap scope_in took))
 
-  pub took_next : (port : Known) (e : Envelope) (port' : Known) → Took port senders part out accounts → TakesOf port (Some e) port' → Took port' senders part (out ++ e ∷ []) accounts
+  pub took_next : (port : Known) (e : Envelope) (port' : Known) → Took port scope part out accounts → TakesOf port (Some e) port' → Took port' scope part (out ++ e ∷ []) accounts
   took_next port e port' took step = ap (λ (p : Known). p.ledger) step.0 ∙ ap (λ l. taking l e) took
 
-  pub found_next : (port : Known) (e : Envelope) (port' : Known) → Took port senders part out accounts → TakesOf port (Some e) port'
-      → lane.Belongs (scoped senders part) e × lane.AllBegin accounts (out ++ e ∷ [])
+  pub found_next : (port : Known) (e : Envelope) (port' : Known) → Took port scope part out accounts → TakesOf port (Some e) port'
+      → lane.Belongs (parted scope part) e × lane.AllBegin accounts (out ++ e ∷ [])
   found_next port e port' took step = subst (λ l. lane.FoundNext l e) took step.1
 
-  pub took_none : (port port' : Known) → Took port senders part out accounts → TakesOf port None port' → Took port' senders part out accounts
+  pub took_none : (port port' : Known) → Took port scope part out accounts → TakesOf port None port' → Took port' scope part out accounts
   took_none port port' took step = ap (λ (p : Known). p.ledger) step.0 ∙ took
 
-  pub found_empty : (port : Known) → Took port senders part out accounts → lane.FoundEmpty port.ledger → lane.AllOut accounts out
+  pub found_empty : (port : Known) → Took port scope part out accounts → lane.FoundEmpty port.ledger → lane.AllOut accounts out
   found_empty port took found = subst lane.FoundEmpty took found
 
 module _ (part : List Envelope → List Envelope) where

@@ -1,6 +1,7 @@
 -- Taking in, one envelope after another.
 use Rattle.std.proofs.Common.{◌≡◌, ◌⊎◌, ℕ, zero, ◌+◌, List, [], ◌∷◌, ◌++◌, length, refl, sym, ap, ◌∙◌, subst, inl, inr, append_assoc, arith, length-append, Option, Some, None, IsPermutation}
 use Rattle.std.proofs.lemmas.List.{append-nil}
+use Rattle.std.proofs.lemmas.List.Elements.{All-nil, All-push}
 use Rattle.std.proofs.lemmas.List.Sorted.{IsPermutation-refl, IsPermutation-trans, IsPermutation-push_more, IsPermutation-sym}
 use Rattle.mb_msg.specs.declared.envelope.Envelope.{Envelope}
 use Rattle.mb_lane.specs.declared.ledger.Ledger.{Ledger}
@@ -12,6 +13,7 @@ use Rattle.mb_rank.specs.declared.ranks.RankRow.{RankRow}
 use Rattle.mb_rank.specs.declared.waiting.Arrival.{Arrival}
 use Rattle.mb_rank.specs.Rank.{rank_of}
 use Rattle.mb_queue.specs.declared.choice.Choice.{Choice}
+use Rattle.mb_queue.specs.Kept.{scope_in}
 use Rattle.mb_queue.specs.Takes.{arrivals_from}
 use Rattle.mb_queue.specs.Steps.{taking_all, Begins, OneMore, TakesMore}
 
@@ -37,6 +39,17 @@ begins_next (Sender scope by pushed) e found = found
 begins_next (Taker scope taken accounts) e found = found.1
 begins_next Spent e found = found
 
+-- what was found next is such as the lane has
+found_known : (l : Ledger) (e : Envelope) → lane.FoundNext l e → lane.Belongs (scope_in l) e
+found_known (Sender scope by pushed) e found = absurd found
+found_known (Taker scope taken accounts) e found = found.0
+found_known Spent e found = absurd found
+
+scope_all : (l : Ledger) (es : List Envelope) → scope_in (taking_all l es) ≡ scope_in l
+scope_all (Sender scope by pushed) es = refl
+scope_all (Taker scope taken accounts) es = refl
+scope_all Spent es = refl
+
 pub still_taker : (l : Ledger) (e : Envelope) → IsTaker l → IsTaker (taking l e)
 still_taker (Sender scope by pushed) e is = is
 still_taker (Taker scope taken accounts) e is = is
@@ -50,6 +63,7 @@ starts c port = record {
   next = omega arith;
   came = ap (λ l. record { lane = port.lane; ledger = l }) (sym (taking_all-none port.ledger));
   begins = inl refl;
+  known = All-nil (lane.Belongs (scope_in port.ledger));
   held = subst (λ l. IsPermutation l c.waiting) (sym (append-nil c.waiting)) (IsPermutation-refl c.waiting);
 }
 
@@ -67,6 +81,8 @@ one_more old port mid port' new port'' m o =
       next = omega (arith, o.next, m.next, length-append es (e ∷ []));
       came = o.came.0 ∙ (λ i. record { lane = lan i; ledger = (ap (λ l. taking l e) led ∙ taking_all-more port.ledger es e) i });
       begins = inr (subst (λ (p : Known). Begins p.ledger) (sym o.came.0) (begins_next port'.ledger e o.came.1));
+      known = All-push (lane.Belongs (scope_in port.ledger)) es e m.known
+          (subst (λ l. lane.Belongs l e) (ap scope_in led ∙ scope_all port.ledger es) (found_known port'.ledger e o.came.1));
       held = subst (λ l. IsPermutation (old.waiting ++ l) new.waiting) (sym (arrivals_from-more old.ranks old.other old.next es e))
           (subst (λ l. IsPermutation l new.waiting) (append_assoc old.waiting (arrivals_from old.ranks old.other old.next es) (item ∷ []))
           (IsPermutation-push_more _ mid.waiting new.waiting item m.held (subst (λ x. IsPermutation (x ∷ mid.waiting) new.waiting) same o.held)));

@@ -1,10 +1,13 @@
 -- A take of the lanes is a take of the queue, of each kind.
 use Rattle.std.proofs.Common.{◌≡◌, ◌⊎◌, ⊎_elim, inl, inr, ℕ, ◌+◌, Bool, true, false, not, List, [], ◌∷◌, ◌++◌, length, refl, sym, ap, ◌∙◌, subst, arith, length-append, Option, Some, None, MatchBool, IsPermutation}
 use Rattle.std.proofs.lemmas.List.{append-nil}
+use Rattle.std.proofs.lemmas.List.Elements.{All-nil}
+use Rattle.std.specs.List.{All, Contains}
 use Rattle.mb_msg.specs.declared.envelope.Envelope.{Envelope}
 use Rattle.mb_lane.specs.declared.ledger.Account.{Account}
 use Rattle.mb_lane.specs.declared.ledger.Ledger.{Ledger}
 use Rattle.mb_lane.specs.declared.ledger.Ledger.TheVariants.{Taker}
+use Rattle.mb_lane.specs.declared.ledger.Scope.{Scope}
 use Rattle.mb_lane.specs.declared.ledger.Part.TheVariants.{Whole, Controls, Others}
 use Rattle.mb_lane.specs.Ledger.{account, is_control, sent_by}
 use Rattle.mb_lane.specs.Port.{Known}
@@ -13,17 +16,17 @@ use Rattle.mb_rank.specs.declared.waiting.Arrival.{Arrival}
 use Rattle.mb_queue.specs.declared.choice.Choice.{Choice}
 use Rattle.mb_queue.specs.declared.order.Order.{Order}
 use Rattle.mb_queue.specs.declared.order.Order.TheVariants.{FirstInFirstOut, ControlFirst, ByRank}
-use Rattle.mb_queue.specs.Kept.{IsTaking, Took, envelopes_of, gone_of, scoped, senders_of, taking_of, turns_of}
+use Rattle.mb_queue.specs.Kept.{IsTaking, Took, envelopes_of, gone_of, parted, scope_in, taking_of, turns_of}
 use Rattle.mb_queue.specs.Parts.{accounts_of, controls, others, whole}
 use Rattle.mb_queue.specs.Passes.{Taking}
 use Rattle.mb_queue.specs.Steps.{Begins, IsStep, RankTakes, TakesOf, TakesOfTwo, taking_all}
 use Rattle.mb_queue.specs.Takes.{AllBegin, AllOut, EachOnce, IsSameBag, IsTake, TakesByRank, arrivals_from}
-use Rattle.mb_queue.proofs.Bags.{bag_given, bag_none, once_by_rank, once_of_parts, once_of_whole}
+use Rattle.mb_queue.proofs.Bags.{all_chosen, all_held, bag_given, bag_none, once_by_rank, once_of_parts, once_of_whole}
 use Rattle.mb_queue.proofs.Taken.{all_begin, all_out, filter-more, filter-same, found_empty, found_next, settled, took_next, took_none}
 
 module _ (main : Known) (taken : List Envelope) (accounts : List Account) where
-  abbrev ours : List ℕ
-  ours = senders_of main.ledger
+  abbrev ours : Scope
+  ours = scope_in main.ledger
 
   abbrev no_control : Envelope → Bool
   no_control e = not (is_control e)
@@ -36,7 +39,7 @@ module _ (main : Known) (taken : List Envelope) (accounts : List Account) where
     -- a control message leaves
     control_kept : (e : Envelope) (control' main' : Known) → TakesOf control (Some e) control' → main' ≡ main → IsTaking main' (ControlFirst control') (taken ++ e ∷ []) accounts
     control_kept e control' main' step same =
-        let is : is_control e ≡ true = (found_next ours Controls (controls taken) (accounts_of controls accounts) control e control' kept.1 step).0.1 in
+        let is : is_control e ≡ true = (found_next ours Controls (controls taken) (accounts_of controls accounts) control e control' kept.1 step).0.2 in
         let less : others (taken ++ e ∷ []) ≡ others taken = filter-same no_control taken e (ap not is) in
         let more : controls (taken ++ e ∷ []) ≡ controls taken ++ e ∷ [] = filter-more is_control taken e is in
         let lane_same : control'.lane ≡ control.lane = ap (λ (p : Known). p.lane) step.0 in
@@ -52,14 +55,14 @@ module _ (main : Known) (taken : List Envelope) (accounts : List Account) where
     -- another message leaves
     other_kept : (e : Envelope) (control' main' : Known) → TakesOf control None control' → TakesOf main (Some e) main' → IsTaking main' (ControlFirst control') (taken ++ e ∷ []) accounts
     other_kept e control' main' none step =
-        let is : is_control e ≡ false = (found_next ours Others (others taken) (accounts_of others accounts) main e main' kept.0 step).0.1 in
+        let is : is_control e ≡ false = (found_next ours Others (others taken) (accounts_of others accounts) main e main' kept.0 step).0.2 in
         let more : others (taken ++ e ∷ []) ≡ others taken ++ e ∷ [] = filter-more no_control taken e (ap not is) in
         let less : controls (taken ++ e ∷ []) ≡ controls taken = filter-same is_control taken e is in
         let took : Took main' ours Others (others taken ++ e ∷ []) (accounts_of others accounts) = took_next ours Others (others taken) (accounts_of others accounts) main e main' kept.0 step in
-        let same : ours ≡ senders_of main'.ledger = sym (ap senders_of took) in
+        let same : parted ours Others ≡ scope_in main'.ledger = sym (ap scope_in took) in
         let lane_same : main'.lane ≡ main.lane = ap (λ (p : Known). p.lane) step.0 in (
-          subst (λ l. Took main' (senders_of main'.ledger) Others l (accounts_of others accounts)) (sym more) (settled ours Others _ (accounts_of others accounts) main' took),
-          subst (λ l. Took control' (senders_of main'.ledger) Controls l (accounts_of controls accounts)) (sym less)
+          subst (λ l. Took main' (scope_in main'.ledger) Others l (accounts_of others accounts)) (sym more) (settled ours Others _ (accounts_of others accounts) main' took),
+          subst (λ l. Took control' (scope_in main'.ledger) Controls l (accounts_of controls accounts)) (sym less)
               (subst (λ s. Took control' s Controls (controls taken) (accounts_of controls accounts)) same
               (took_none ours Controls (controls taken) (accounts_of controls accounts) control control' kept.1 none)),
           ap (λ l. l.capacity) lane_same ∙ kept.2,
@@ -72,7 +75,7 @@ module _ (main : Known) (taken : List Envelope) (accounts : List Account) where
     control_turn : (e : Envelope) (control' : Known) → TakesOf control (Some e) control' → Control_turn e
     control_turn e control' step =
         let found = found_next ours Controls (controls taken) (accounts_of controls accounts) control e control' kept.1 step in
-        let is : is_control e ≡ true = found.0.1 in
+        let is : is_control e ≡ true = found.0.2 in
         let begins : AllBegin controls accounts (taken ++ e ∷ []) = all_begin controls refl accounts (taken ++ e ∷ [])
         (subst (lane.AllBegin (accounts_of controls accounts)) (sym (filter-more is_control taken e is)) found.1) in
         subst (λ b. MatchBool b (AllBegin controls accounts (taken ++ e ∷ [])) (AllOut controls accounts taken × AllBegin others accounts (taken ++ e ∷ []))) (sym is) begins
@@ -80,7 +83,7 @@ module _ (main : Known) (taken : List Envelope) (accounts : List Account) where
     other_turn : (e : Envelope) (control' main' : Known) → TakesOf control None control' → TakesOf main (Some e) main' → Control_turn e
     other_turn e control' main' none step =
         let found = found_next ours Others (others taken) (accounts_of others accounts) main e main' kept.0 step in
-        let is : is_control e ≡ false = found.0.1 in
+        let is : is_control e ≡ false = found.0.2 in
         let begins : AllBegin others accounts (taken ++ e ∷ []) = all_begin others refl accounts (taken ++ e ∷ [])
         (subst (lane.AllBegin (accounts_of others accounts)) (sym (filter-more no_control taken e (ap not is))) found.1) in
         let out : AllOut controls accounts taken = all_out controls refl accounts taken (found_empty ours Controls (controls taken) (accounts_of controls accounts) control kept.1 none.1) in
@@ -94,18 +97,34 @@ module _ (main : Known) (taken : List Envelope) (accounts : List Account) where
     came_all fresh main' came = ap (λ (p : Known). p.ledger) came ∙ ap (λ l. taking_all l fresh) kept.0
 
     rank_kept : (result : Option Envelope) (taken' : List Envelope) (choice' : Choice) (main' : Known) → (step : RankTakes choice main result choice' main')
-        → IsSameBag (gone ++ step.taken_in.more.fresh) (taken' ++ envelopes_of choice'.waiting) → IsTaking main' (ByRank choice') taken' accounts
-    rank_kept result taken' choice' main' step bag =
+        → IsSameBag (gone ++ step.taken_in.more.fresh) (taken' ++ envelopes_of choice'.waiting)
+        → All (lane.Belongs ours) (envelopes_of choice'.waiting) → IsTaking main' (ByRank choice') taken' accounts
+    rank_kept result taken' choice' main' step bag known =
         let fresh = step.taken_in.more.fresh in let took = came_all fresh main' step.taken_in.more.came in
         let out : gone_of main'.ledger ≡ gone ++ fresh = ap gone_of took in (
-          settled ours Whole (gone_of main'.ledger) accounts main' (took ∙ ap (λ l. Taker (scoped ours Whole) l accounts) (sym out)),
+          settled ours Whole (gone_of main'.ledger) accounts main' (took ∙ ap (λ l. Taker (parted ours Whole) l accounts) (sym out)),
           omega (arith, step.taken_in.more.next, kept.1, length-append gone fresh, ap length out),
           subst (λ l. IsSameBag l (taken' ++ envelopes_of choice'.waiting)) (sym out) bag,
+          subst (λ l. All (lane.Belongs l) (envelopes_of choice'.waiting)) (sym (ap scope_in took ∙ sym (ap scope_in kept.0))) known,
         )
 
     came_in : (result : Option Envelope) (choice' : Choice) (main' : Known) → (step : RankTakes choice main result choice' main')
         → IsPermutation (choice.waiting ++ arrivals_from choice.ranks choice.other (length gone) step.taken_in.more.fresh) step.held
     came_in result choice' main' step = subst (λ n. IsPermutation (choice.waiting ++ arrivals_from choice.ranks choice.other n step.taken_in.more.fresh) step.held) kept.1 step.taken_in.more.held
+
+    -- all that are held then are such as the lane has
+    rank_held : (result : Option Envelope) (choice' : Choice) (main' : Known) → (step : RankTakes choice main result choice' main')
+        → All (lane.Belongs ours) (envelopes_of step.held)
+    rank_held result choice' main' step =
+        all_held (lane.Belongs ours) choice.ranks choice.other (length gone) choice.waiting step.taken_in.more.fresh step.held
+        (came_in result choice' main' step) kept.3 step.taken_in.more.known
+
+    rank_known : (e : Envelope) (choice' : Choice) (main' : Known) → RankTakes choice main (Some e) choice' main'
+        → lane.Belongs ours e × All (lane.Belongs ours) (envelopes_of choice'.waiting)
+    rank_known e choice' main' step = all_chosen (lane.Belongs ours) step.held e choice'.waiting step.choice (rank_held (Some e) choice' main' step)
+
+    rank_none_known : (choice' : Choice) (main' : Known) → RankTakes choice main None choice' main' → All (lane.Belongs ours) (envelopes_of choice'.waiting)
+    rank_none_known choice' main' step = subst (λ l. All (lane.Belongs ours) (envelopes_of l)) (sym step.choice.1) (All-nil (lane.Belongs ours))
 
     rank_bag : (e : Envelope) (choice' : Choice) (main' : Known) → (step : RankTakes choice main (Some e) choice' main') → IsSameBag (gone ++ step.taken_in.more.fresh) ((taken ++ e ∷ []) ++ envelopes_of choice'.waiting)
     rank_bag e choice' main' step = bag_given choice.ranks choice.other (length gone) gone step.taken_in.more.fresh taken choice.waiting step.held choice'.waiting e kept.2 (came_in (Some e) choice' main' step) step.choice
@@ -118,7 +137,7 @@ module _ (main : Known) (taken : List Envelope) (accounts : List Account) where
     rank_turn result taken' choice' main' step =
         let m = step.taken_in.more in let fresh = m.fresh in let took = came_all fresh main' m.came in
         let out : gone_of main'.ledger ≡ gone ++ fresh = ap gone_of took in
-        let at_out : Took main' ours Whole (gone_of main'.ledger) accounts = took ∙ ap (λ l. Taker (scoped ours Whole) l accounts) (sym out) in record {
+        let at_out : Took main' ours Whole (gone_of main'.ledger) accounts = took ∙ ap (λ l. Taker (parted ours Whole) l accounts) (sym out) in record {
           fresh = fresh;
           held = step.held;
           arrived = out;
@@ -138,7 +157,8 @@ kept_some main (ControlFirst control) taken accounts e main' order' kept step =
     (⊎_elim (λ h. control_kept main taken accounts control kept e step.0 main' h.0 h.1) (λ h. other_kept main taken accounts control kept e step.0 main' h.0 h.1) step.2)
 kept_some main (ByRank choice) taken accounts e main' order' kept step =
     subst (λ o. IsTaking main' o (taken ++ e ∷ []) accounts) (sym step.1)
-    (rank_kept main taken accounts choice kept (Some e) (taken ++ e ∷ []) step.0 main' step.2 (rank_bag main taken accounts choice kept e step.0 main' step.2))
+    (rank_kept main taken accounts choice kept (Some e) (taken ++ e ∷ []) step.0 main' step.2 (rank_bag main taken accounts choice kept e step.0 main' step.2)
+    (rank_known main taken accounts choice kept e step.0 main' step.2).1)
 
 pub kept_none : (main : Known) (order : Order) (taken : List Envelope) (accounts : List Account) (main' : Known) (order' : Order)
     → IsTaking main order taken accounts → IsStep main order None main' order' → IsTaking main' order' taken accounts
@@ -149,22 +169,36 @@ kept_none main (ControlFirst control) taken accounts main' order' kept step =
     (subst (λ (y : Known × Known). IsTaking y.0 (ControlFirst y.1) taken accounts) (λ i. (sym step.2.1.0 i, sym step.2.0.0 i)) kept)
 kept_none main (ByRank choice) taken accounts main' order' kept step =
     subst (λ o. IsTaking main' o taken accounts) (sym step.1)
-    (rank_kept main taken accounts choice kept None taken step.0 main' step.2 (rank_bag_none main taken accounts choice kept step.0 main' step.2))
+    (rank_kept main taken accounts choice kept None taken step.0 main' step.2 (rank_bag_none main taken accounts choice kept step.0 main' step.2)
+    (rank_none_known main taken accounts choice kept step.0 main' step.2))
+
+-- what was given is by one of the senders and to the actor
+pub given_known : (main : Known) (order : Order) (taken : List Envelope) (accounts : List Account) (e : Envelope) (main' : Known) (order' : Order)
+    → IsTaking main order taken accounts → IsStep main order (Some e) main' order'
+    → Contains (scope_in main.ledger).senders e.by.0 × (e.to.0 ≡ (scope_in main.ledger).to)
+given_known main FirstInFirstOut taken accounts e main' order' kept step =
+    let b = (found_next (scope_in main.ledger) Whole taken accounts main e main' kept step.1).0 in (b.0, b.1)
+given_known main (ControlFirst control) taken accounts e main' order' kept step =
+    ⊎_elim
+    (λ h. let b = (found_next (scope_in main.ledger) Controls (controls taken) (accounts_of controls accounts) control e step.0 kept.1 h.0).0 in (b.0, b.1))
+    (λ h. let b = (found_next (scope_in main.ledger) Others (others taken) (accounts_of others accounts) main e main' kept.0 h.1).0 in (b.0, b.1)) step.2
+given_known main (ByRank choice) taken accounts e main' order' kept step =
+    let b = (rank_known main taken accounts choice kept e step.0 main' step.2).0 in (b.0, b.1)
 
 -- and it is the turn of what was given
 pub turn_some : (main : Known) (order : Order) (taken : List Envelope) (accounts : List Account) (e : Envelope) (main' : Known) (order' : Order)
     → IsTaking main order taken accounts → IsStep main order (Some e) main' order'
     → IsTake (turns_of order) (taking_of main order taken accounts) (Some e) (taking_of main' order' (taken ++ e ∷ []) accounts)
 turn_some main FirstInFirstOut taken accounts e main' order' kept step =
-    let found = found_next (senders_of main.ledger) Whole taken accounts main e main' kept step.1 in
+    let found = found_next (scope_in main.ledger) Whole taken accounts main e main' kept step.1 in
     subst (λ o. IsTake (turns_of FirstInFirstOut) (taking_of main FirstInFirstOut taken accounts) (Some e) (taking_of main' o (taken ++ e ∷ []) accounts)) (sym step.0)
-    ((refl, refl), (found.0.0, found.1))
+    ((refl, refl), found.1)
 turn_some main (ControlFirst control) taken accounts e main' order' kept step =
     subst (λ o. IsTake (turns_of (ControlFirst control)) (taking_of main (ControlFirst control) taken accounts) (Some e) (taking_of main' o (taken ++ e ∷ []) accounts)) (sym step.1) (
       (refl, refl),
       ⊎_elim
-          (λ h. ((found_next (senders_of main.ledger) Controls (controls taken) (accounts_of controls accounts) control e step.0 kept.1 h.0).0.0, control_turn main taken accounts control kept e step.0 h.0))
-          (λ h. ((found_next (senders_of main.ledger) Others (others taken) (accounts_of others accounts) main e main' kept.0 h.1).0.0, other_turn main taken accounts control kept e step.0 main' h.0 h.1)) step.2,
+          (λ h. control_turn main taken accounts control kept e step.0 h.0)
+          (λ h. other_turn main taken accounts control kept e step.0 main' h.0 h.1) step.2,
     )
 turn_some main (ByRank choice) taken accounts e main' order' kept step =
     subst (λ o. IsTake (turns_of (ByRank choice)) (taking_of main (ByRank choice) taken accounts) (Some e) (taking_of main' o (taken ++ e ∷ []) accounts)) (sym step.1)
@@ -175,13 +209,13 @@ pub turn_none : (main : Known) (order : Order) (taken : List Envelope) (accounts
     → IsTake (turns_of order) (taking_of main order taken accounts) None (taking_of main' order' taken accounts)
 turn_none main FirstInFirstOut taken accounts main' order' kept step =
     subst (λ o. IsTake (turns_of FirstInFirstOut) (taking_of main FirstInFirstOut taken accounts) None (taking_of main' o taken accounts)) (sym step.0)
-    ((refl, refl), found_empty (senders_of main.ledger) Whole taken accounts main kept step.1.1)
+    ((refl, refl), found_empty (scope_in main.ledger) Whole taken accounts main kept step.1.1)
 turn_none main (ControlFirst control) taken accounts main' order' kept step =
     subst (λ o. IsTake (turns_of (ControlFirst control)) (taking_of main (ControlFirst control) taken accounts) None (taking_of main' o taken accounts)) (sym step.1) (
       (refl, refl),
       (
-        all_out controls refl accounts taken (found_empty (senders_of main.ledger) Controls (controls taken) (accounts_of controls accounts) control kept.1 step.2.0.1),
-        all_out others refl accounts taken (found_empty (senders_of main.ledger) Others (others taken) (accounts_of others accounts) main kept.0 step.2.1.1),
+        all_out controls refl accounts taken (found_empty (scope_in main.ledger) Controls (controls taken) (accounts_of controls accounts) control kept.1 step.2.0.1),
+        all_out others refl accounts taken (found_empty (scope_in main.ledger) Others (others taken) (accounts_of others accounts) main kept.0 step.2.1.1),
       ),
     )
 turn_none main (ByRank choice) taken accounts main' order' kept step =
@@ -192,7 +226,8 @@ rank_once : (main : Known) (choice : Choice) (taken : List Envelope) (accounts :
     → IsTaking main (ByRank choice) taken accounts → RankTakes choice main None choice' main' → EachOnce (taking_of main' (ByRank choice') taken accounts)
 rank_once main choice taken accounts main' choice' kept step sender pushed is =
     let turn = rank_turn main taken accounts choice kept None taken choice' main' step in
-    let left = rank_kept main taken accounts choice kept None taken choice' main' step (rank_bag_none main taken accounts choice kept choice' main' step) in
+    let left = rank_kept main taken accounts choice kept None taken choice' main' step (rank_bag_none main taken accounts choice kept choice' main' step)
+    (rank_none_known main taken accounts choice kept choice' main' step) in
     let none : taken ++ envelopes_of choice'.waiting ≡ taken = ap (λ l. taken ++ envelopes_of l) step.choice.1 ∙ append-nil taken in
     let bag : IsSameBag (gone_of main'.ledger) taken = subst (IsSameBag (gone_of main'.ledger)) none left.2 in
     let out : AllOut whole accounts (gone_of main'.ledger) = ⊎_elim (λ h. let few = ap length turn.choice.0 in absurd (omega (arith, h, few))) (λ h. h) turn.enough in

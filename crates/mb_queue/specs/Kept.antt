@@ -1,12 +1,14 @@
 -- How the passes are kept over the ports of their lanes.
-use Rattle.std.specs.Prelude.{◌≡◌, ℕ, ◌++◌, List, [], map, length, Option, Some, None, option_map}
+use Rattle.std.specs.Prelude.{◌≡◌, ℕ, ◌++◌, List, [], map, length, Option, Some, None, option_map, All}
 use Rattle.mb_msg.specs.declared.envelope.Envelope.{Envelope}
 use Rattle.mb_lane.specs.declared.ledger.Ledger.{Ledger}
 use Rattle.mb_lane.specs.declared.ledger.Ledger.TheVariants.{Sender, Taker, Spent}
 use Rattle.mb_lane.specs.declared.ledger.Part.{Part}
 use Rattle.mb_lane.specs.declared.ledger.Part.TheVariants.{Whole, Controls, Others}
 use Rattle.mb_lane.specs.declared.ledger.Scope.{Scope}
+use Rattle.mb_lane.specs.Ledger.{unsettled}
 use Rattle.mb_lane.specs.Port.{Known, Lane}
+use Rattle.mb_lane.specs.Rule.{Belongs}
 use Rattle.mb_lane.specs.declared.ledger.Account.{Account}
 use Rattle.mb_rank.specs.declared.waiting.Arrival.{Arrival}
 use Rattle.mb_queue.specs.declared.order.Order.{Order}
@@ -15,31 +17,31 @@ use Rattle.mb_queue.specs.Parts.{accounts_of, controls, others}
 use Rattle.mb_queue.specs.Passes.{Queue, Sending, Taking, Turns, first_in_first_out, control_first, by_rank}
 use Rattle.mb_queue.specs.Takes.{IsSameBag}
 
--- the senders of a port's lane
-abbrev pub senders_of : Ledger → List ℕ
-senders_of (Sender scope by pushed) = scope.senders
-senders_of (Taker scope taken accounts) = scope.senders
-senders_of Spent = []
+-- which envelopes a port's lane has
+abbrev pub scope_in : Ledger → Scope
+scope_in (Sender scope by pushed) = scope
+scope_in (Taker scope taken accounts) = scope
+scope_in Spent = unsettled
 
 abbrev pub lane_of : Known → Lane
 lane_of port = port.lane
 
 abbrev pub queue_of : Known → Option Known → Queue
-queue_of main control = record { main = main.lane; control = option_map lane_of control; senders = senders_of main.ledger }
+queue_of main control = record { main = main.lane; control = option_map lane_of control; senders = (scope_in main.ledger).senders; to = (scope_in main.ledger).to }
 
 abbrev pub sending : ℕ → Known → Option Known → List Envelope → Sending
 sending by main control pushed = record { queue = queue_of main control; by = by; pushed = pushed }
 
--- a part of the queue's lanes
-abbrev pub scoped : List ℕ → Part → Scope
-scoped senders part = record { senders = senders; part = part }
+-- the same but for the part
+abbrev pub parted : Scope → Part → Scope
+parted scope part = record scope { part = part }
 
 -- what a send pass pushed is what its ports pushed, each its part
 abbrev pub IsSending : ℕ → Known → Option Known → List Envelope → Type 0
-IsSending by main None pushed = main.ledger ≡ Sender (scoped (senders_of main.ledger) Whole) by pushed
+IsSending by main None pushed = main.ledger ≡ Sender (parted (scope_in main.ledger) Whole) by pushed
 IsSending by main (Some control) pushed =
-    (main.ledger ≡ Sender (scoped (senders_of main.ledger) Others) by (others pushed))
-    × (control.ledger ≡ Sender (scoped (senders_of main.ledger) Controls) by (controls pushed))
+    (main.ledger ≡ Sender (parted (scope_in main.ledger) Others) by (others pushed))
+    × (control.ledger ≡ Sender (parted (scope_in main.ledger) Controls) by (controls pushed))
     × (main.lane.capacity ≡ None) × (control.lane.capacity ≡ None)
 
 -- what came out of a port's lane
@@ -84,18 +86,19 @@ taking_of main order taken accounts = record {
   accounts = accounts;
 }
 
--- the port takes for these senders and this part, and this came out, with these accounts
-abbrev pub Took : Known → List ℕ → Part → List Envelope → List Account → Type 0
-Took port senders part out accounts = port.ledger ≡ Taker (scoped senders part) out accounts
+-- the port takes of this scope's envelopes those of this part, and this came out, with these accounts
+abbrev pub Took : Known → Scope → Part → List Envelope → List Account → Type 0
+Took port scope part out accounts = port.ledger ≡ Taker (parted scope part) out accounts
 
 -- What a take pass gave is what its ports took, each its part. By rank it is, with what is held, all that came in.
 abbrev pub IsTaking : Known → Order → List Envelope → List Account → Type 0
-IsTaking main FirstInFirstOut taken accounts = Took main (senders_of main.ledger) Whole taken accounts
+IsTaking main FirstInFirstOut taken accounts = Took main (scope_in main.ledger) Whole taken accounts
 IsTaking main (ControlFirst control) taken accounts =
-    Took main (senders_of main.ledger) Others (others taken) (accounts_of others accounts)
-    × Took control (senders_of main.ledger) Controls (controls taken) (accounts_of controls accounts)
+    Took main (scope_in main.ledger) Others (others taken) (accounts_of others accounts)
+    × Took control (scope_in main.ledger) Controls (controls taken) (accounts_of controls accounts)
     × (main.lane.capacity ≡ None) × (control.lane.capacity ≡ None)
 IsTaking main (ByRank choice) taken accounts =
-    Took main (senders_of main.ledger) Whole (gone_of main.ledger) accounts
+    Took main (scope_in main.ledger) Whole (gone_of main.ledger) accounts
     × (choice.next ≡ length (gone_of main.ledger))
     × IsSameBag (gone_of main.ledger) (taken ++ envelopes_of choice.waiting)
+    × All (Belongs (scope_in main.ledger)) (envelopes_of choice.waiting)

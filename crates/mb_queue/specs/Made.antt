@@ -30,9 +30,10 @@ bound_of (Bounded capacity) = Some capacity
 bound_of (Priority rows other) = None
 bound_of Control = None
 
--- a take pass of an empty queue of this kind, for these senders, with these accounts
-pub record IsEmpty (kind : Kind) (senders : List ℕ) (t : Taking) : Type 0 where
+-- a take pass of an empty queue of this kind, for these senders and this actor
+pub record IsEmpty (kind : Kind) (to : ℕ) (senders : List ℕ) (t : Taking) : Type 0 where
   pub senders_are : t.queue.senders ≡ senders
+  pub actor : t.queue.to ≡ to
   pub turns : t.turns ≡ turns_in kind
   pub bound : t.queue.main.capacity ≡ bound_of kind
   pub arrived : t.arrived ≡ []
@@ -40,8 +41,8 @@ pub record IsEmpty (kind : Kind) (senders : List ℕ) (t : Taking) : Type 0 wher
   pub taken : t.taken ≡ []
 
 -- all accounts are at home, and empty
-pub record IsOpened (kind : Kind) (senders : List ℕ) (t : Taking) : Type 0 where
-  pub empty : IsEmpty kind senders t
+pub record IsOpened (kind : Kind) (to : ℕ) (senders : List ℕ) (t : Taking) : Type 0 where
+  pub empty : IsEmpty kind to senders t
   pub accounts : t.accounts ≡ []
 
 -- the send pass of this sender, unused
@@ -49,7 +50,7 @@ abbrev pub unused : Queue → ℕ → Sending
 unused queue sender = record { queue = queue; by = sender; pushed = [] }
 
 -- each sender has its pass, unused, and its account is out with that
-pub record IsNew (kind : Kind) (senders : List ℕ) (t : Taking) (sends : List Sending) : Type 0 where
-  pub empty : IsEmpty kind senders t
+pub record IsNew (kind : Kind) (to : ℕ) (senders : List ℕ) (t : Taking) (sends : List Sending) : Type 0 where
+  pub empty : IsEmpty kind to senders t
   pub accounts : t.accounts ≡ map lent senders
   pub passes : sends ≡ map (unused t.queue) senders

@@ -14,11 +14,13 @@ pub data Turns : Type 0 where
   control_first : Turns
   by_rank : List RankRow → ℕ → Turns
 
--- which queue it is: its lanes, of which only a control-aware one has two, and its senders. Passes of one queue agree in it
+-- which queue it is: its lanes, of which only a control-aware one has two, its senders, and the actor that all its envelopes
+-- are to. Passes of one queue agree in it
 pub record Queue : Type 0 where
   pub main : Lane
   pub control : Option Lane
   pub senders : List ℕ
+  pub to : ℕ
 
 -- a send pass: of which queue it is, its sender, and all that it pushed, in order
 pub record Sending : Type 0 where

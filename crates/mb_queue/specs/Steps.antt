@@ -1,5 +1,5 @@
 -- What a take does to the ports of the lanes.
-use Rattle.std.specs.Prelude.{◌≡◌, ℕ, ◌+◌, ◌⊎◌, List, [], ◌∷◌, ◌++◌, length, Option, Some, None, IsPermutation}
+use Rattle.std.specs.Prelude.{◌≡◌, ℕ, ◌+◌, ◌⊎◌, List, [], ◌∷◌, ◌++◌, length, Option, Some, None, IsPermutation, All}
 use Rattle.mb_msg.specs.declared.envelope.Envelope.{Envelope}
 use Rattle.mb_lane.specs.declared.ledger.Ledger.{Ledger}
 use Rattle.mb_lane.specs.declared.ledger.Ledger.TheVariants.{Sender, Taker, Spent}
@@ -11,6 +11,7 @@ use Rattle.mb_rank.specs.Rank.{rank_of}
 use Rattle.mb_queue.specs.declared.choice.Choice.{Choice}
 use Rattle.mb_queue.specs.declared.order.Order.{Order}
 use Rattle.mb_queue.specs.declared.order.Order.TheVariants.{FirstInFirstOut, ControlFirst, ByRank}
+use Rattle.mb_queue.specs.Kept.{scope_in}
 use Rattle.mb_queue.specs.Takes.{arrivals_from, Chooses}
 
 -- after several takes
@@ -43,7 +44,7 @@ pub record OneMore (old : Choice) (port : Known) (new : Choice) (port' : Known) 
 abbrev pub NoMore : Choice → Known → Choice → Known → Type 0
 NoMore old port new port' = (new ≡ old) × TakesOf port None port'
 
--- some were taken in
+-- some were taken in, all such as the lane has
 pub record TakesMore (old : Choice) (port : Known) (new : Choice) (port' : Known) : Type 0 where
   pub fresh : List Envelope
   pub ranks : new.ranks ≡ old.ranks
@@ -51,6 +52,7 @@ pub record TakesMore (old : Choice) (port : Known) (new : Choice) (port' : Known
   pub next : new.next ≡ old.next + length fresh
   pub came : port' ≡ record port { ledger = taking_all port.ledger fresh }
   pub begins : (fresh ≡ []) ⊎ Begins port'.ledger
+  pub known : All (lane.Belongs (scope_in port.ledger)) fresh
   pub held : IsPermutation (old.waiting ++ arrivals_from old.ranks old.other old.next fresh) new.waiting
 
 -- so many that as many are held as may be, or the lane was empty

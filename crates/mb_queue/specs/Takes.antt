@@ -1,5 +1,5 @@
 -- What a take gives, by the kind of the queue.
-use Rattle.std.specs.Prelude.{◌≡◌, ℕ, ◌+◌, ◌⊎◌, Bool, MatchBool, List, [], ◌∷◌, ◌++◌, length, count_by, map, All, Contains, Option, Some, None, IsPermutation}
+use Rattle.std.specs.Prelude.{◌≡◌, ℕ, ◌+◌, ◌⊎◌, Bool, MatchBool, List, [], ◌∷◌, ◌++◌, length, count_by, map, All, Option, Some, None, IsPermutation}
 use Rattle.mb_msg.specs.declared.envelope.Envelope.{Envelope}
 use Rattle.mb_lane.specs.declared.ledger.Account.{Account}
 use Rattle.mb_lane.specs.Ledger.{account, is_control, sent_by}
@@ -34,14 +34,14 @@ arrivals_from rows other number (e ∷ es) = record { rank = rank_of rows other 
 -- first in, first out: None only if nothing was there at a moment, else the one that was pushed first
 abbrev pub TakesFirst : Taking → Option Envelope → Taking → Type 0
 TakesFirst old None new = AllOut whole old.accounts old.taken
-TakesFirst old (Some e) new = Contains old.queue.senders e.by.0 × AllBegin whole old.accounts new.taken
+TakesFirst old (Some e) new = AllBegin whole old.accounts new.taken
 
 -- control messages first: None only if each of the parts was empty at a moment, a message that is no control message only
 -- if the part of control messages was, and each part first in, first out
 abbrev pub TakesControlFirst : Taking → Option Envelope → Taking → Type 0
 TakesControlFirst old None new = AllOut controls old.accounts old.taken × AllOut others old.accounts old.taken
-TakesControlFirst old (Some e) new = Contains old.queue.senders e.by.0
-    × MatchBool (is_control e) (AllBegin controls old.accounts new.taken) (AllOut controls old.accounts old.taken × AllBegin others old.accounts new.taken)
+TakesControlFirst old (Some e) new =
+    MatchBool (is_control e) (AllBegin controls old.accounts new.taken) (AllOut controls old.accounts old.taken × AllBegin others old.accounts new.taken)
 
 -- of those held the first is given, or none where none is held
 abbrev pub Chooses : List Arrival → Option Envelope → List Arrival → Type 0

@@ -13,25 +13,26 @@ use crate::order::Order;
 use crate::send_pass::SendPass;
 use crate::take_pass::TakePass;
 use mb_lane::{Account, Log, Part, Port};
-use mb_msg::SenderId;
+use mb_msg::{ActorId, SenderId};
 use std::alloc::{AllocError, Global};
 
 /// The envelope queue of one mailbox. It is what its passes share; there is no value of this type.
 pub struct MailQueue;
 
 impl MailQueue {
-    /// An empty queue of this kind: the pass to take with, and for each of these senders, in their order, the pass to push
-    /// with. All memory that a take or a bounded queue ever needs is taken here.
+    /// An empty queue of this kind for envelopes to this actor: the pass to take with, and for each of these senders, in
+    /// their order, the pass to push with. All memory that a take or a bounded queue ever needs is taken here.
     pub fn new(
         alloc: Global,
         kind: Kind,
+        to: ActorId,
         senders: &[SenderId],
     ) -> Result<(TakePass, Vec<SendPass>), AllocError>
         requires kind { IsMakeable kind }
         requires distinct { AllPairs (λ a b. a ≢ b) (numbers_of senders.now) }
-        ensures { IfOk result (λ r. IsNew kind (numbers_of senders.now) r.0 r.1.items) }
+        ensures { IfOk result (λ r. IsNew kind to.0 (numbers_of senders.now) r.0 r.1.items) }
     {
-        let mut take = open(alloc, kind, senders)?;
+        let mut take = open(alloc, kind, to, senders)?;
         let mut sends = Vec::with_capacity(alloc, senders.len())?;
         for sender in senders {
             let (rest, send) = lend(take, *sender)?;
@@ -43,39 +44,49 @@ impl MailQueue {
 }
 
 /// An empty queue, with all accounts at home.
-fn open(alloc: Global, kind: Kind, senders: &[SenderId]) -> Result<TakePass, AllocError>
+fn open(
+    alloc: Global,
+    kind: Kind,
+    to: ActorId,
+    senders: &[SenderId],
+) -> Result<TakePass, AllocError>
     requires { IsMakeable kind }
-    ensures { IfOk result (IsOpened kind (numbers_of senders.now)) }
+    ensures { IfOk result (IsOpened kind to.0 (numbers_of senders.now)) }
 {
     match kind {
         Kind::Unbounded => {
-            let main = open_lane(alloc, senders, Part::Whole)?;
+            let main = open_lane(alloc, to, senders, Part::Whole)?;
             Ok(begin(main, Order::FirstInFirstOut))
         }
         Kind::Bounded(capacity) => {
             let mut main = Port::bounded(alloc, capacity as usize)?;
-            main.open(senders, Part::Whole);
+            main.open(senders, to, Part::Whole);
             Ok(begin(main, Order::FirstInFirstOut))
         }
         Kind::Priority { rows, other } => {
-            let main = open_lane(alloc, senders, Part::Whole)?;
+            let main = open_lane(alloc, to, senders, Part::Whole)?;
             let choice = Choice::new(alloc, rows, other)?;
             Ok(begin(main, Order::ByRank(choice)))
         }
         Kind::Control => {
-            let main = open_lane(alloc, senders, Part::Others)?;
-            let control = open_lane(alloc, senders, Part::Controls)?;
+            let main = open_lane(alloc, to, senders, Part::Others)?;
+            let control = open_lane(alloc, to, senders, Part::Controls)?;
             Ok(begin(main, Order::ControlFirst(control)))
         }
     }
 }
 
 /// An empty lane without a bound.
-fn open_lane(alloc: Global, senders: &[SenderId], part: Part) -> Result<Port, AllocError>
-    ensures { IfOk result (λ port. (port.lane.capacity ≡ None) × (port.ledger ≡ Taker (scope_of senders.now part) [] [])) }
+fn open_lane(
+    alloc: Global,
+    to: ActorId,
+    senders: &[SenderId],
+    part: Part,
+) -> Result<Port, AllocError>
+    ensures { IfOk result (λ port. (port.lane.capacity ≡ None) × (port.ledger ≡ Taker (scope_of senders.now to.0 part) [] [])) }
 {
     let mut port = Port::unbounded(alloc)?;
-    port.open(senders, part);
+    port.open(senders, to, part);
     Ok(port)
 }
 

@@ -33,11 +33,12 @@ impl Model for SendPass {
 impl SendPass {
     ghost use Rattle.mb_queue.specs.Passes.{Sending};
 
-    /// Puts an envelope of this sender last in the queue, or gives it back: `Full` only where the queue has a bound and was
+    /// Puts an envelope of this sender, to the queue's actor, last in the queue, or gives it back: `Full` only where the queue has a bound and was
     /// full at a moment of the call, `NoMemory` where a queue without a bound found no memory. Refused, it changes nothing.
     #[inline]
     pub fn push<R: Wait>(&mut self, rt: &R, envelope: Envelope) -> Result<(), PushError>
-        requires { envelope.by.0 ≡ self.old.by }
+        requires sender { envelope.by.0 ≡ self.old.by }
+        requires addressed { envelope.to.0 ≡ self.old.queue.to }
         ensures pushed { MatchResult result (λ _. self.new ≡ record self.old { pushed = self.old.pushed ++ envelope ∷ [] })
             (λ refused. (given_back refused ≡ envelope) × (self.new ≡ self.old)) }
         ensures refused { IfErr result (IsRefusal self.old) }

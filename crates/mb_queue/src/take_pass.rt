@@ -1,5 +1,5 @@
 //! The mailbox's way into its queue.
-ghost use Rattle.std.specs.Prelude.{◌≡◌, [], ◌∷◌, ◌++◌, IfNone, option_to_list};
+ghost use Rattle.std.specs.Prelude.{◌≡◌, [], ◌∷◌, ◌++◌, Contains, IfNone, IfSome, option_to_list};
 ghost use Rattle.mb_lane.specs.Ledger.{home};
 ghost use Rattle.mb_queue.specs.Takes.{EachOnce, IsTake};
 
@@ -41,6 +41,8 @@ impl TakePass {
     pub fn take<R: Wait>(&mut self, rt: &R) -> Option<Envelope>
         ensures taken { self.new.taken ≡ self.old.taken ++ option_to_list result }
         ensures same { (self.new.queue ≡ self.old.queue) × (self.new.turns ≡ self.old.turns) × (self.new.accounts ≡ self.old.accounts) }
+        ensures sender { IfSome result (λ e. Contains self.old.queue.senders e.by.0) }
+        ensures addressed { IfSome result (λ e. e.to.0 ≡ self.old.queue.to) }
         ensures turn { IsTake self.old.turns self.old result self.new }
         ensures each_once { IfNone result (EachOnce self.new) }
     {

@@ -11,28 +11,31 @@ use std::test::Fail;
 mod memory;
 mod threads;
 
+/// The actor that every queue here is of.
+const ME: ActorId = ActorId(2);
+
 /// The two senders of every queue here.
 const NEAR: SenderId = SenderId(1);
 
 const FAR: SenderId = SenderId(64);
 
 fn user(by: SenderId, number: u64, kind: u32, value: i64) -> Envelope
-    ensures { result.by ≡ by }
+    ensures { (result.by ≡ by) × (result.to.0 ≡ 2) }
 {
     Envelope {
         by,
-        to: ActorId(2),
+        to: ME,
         number,
         body: Body::User { kind, value },
     }
 }
 
 fn control(by: SenderId, number: u64) -> Envelope
-    ensures { result.by ≡ by }
+    ensures { (result.by ≡ by) × (result.to.0 ≡ 2) }
 {
     Envelope {
         by,
-        to: ActorId(2),
+        to: ME,
         number,
         body: Body::Control { kind: 1, value: 0 },
     }
@@ -43,8 +46,9 @@ fn queue(alloc: Global, kind: Kind) -> Result<(TakePass, SendPass, SendPass), Al
     requires { IsMakeable kind }
     ensures queue { IfOk result (λ r. (r.1.queue ≡ r.0.queue) × (r.2.queue ≡ r.0.queue)) }
     ensures senders { IfOk result (λ r. (r.1.by ≡ 1) × (r.2.by ≡ 64)) }
+    ensures actor { IfOk result (λ r. r.0.queue.to ≡ 2) }
 {
-    let (take, mut sends) = MailQueue::new(alloc, kind, &[NEAR, FAR])?;
+    let (take, mut sends) = MailQueue::new(alloc, kind, ME, &[NEAR, FAR])?;
     let Some(far) = sends.pop() else {
         unreachable!();
     };
@@ -67,7 +71,7 @@ fn ranked(alloc: Global) -> Result<Kind, AllocError>
 
 /// Whether the push was done; if not, the envelope came back as from a full queue.
 fn pushed<R: Wait>(rt: &R, pass: &mut SendPass, envelope: Envelope) -> Option<bool>
-    requires { envelope.by.0 ≡ pass.old.by }
+    requires { (envelope.by.0 ≡ pass.old.by) × (envelope.to.0 ≡ pass.old.queue.to) }
     ensures { (pass.new.queue ≡ pass.old.queue) × (pass.new.by ≡ pass.old.by) }
 {
     match pass.push(rt, envelope) {
@@ -85,7 +89,7 @@ fn taken<R: Wait>(rt: &R, take: &mut TakePass) -> Option<Envelope>
 /// Pushes a user message of each kind and value, numbered from 0, up to the first that a full queue refuses; how many were
 /// pushed.
 fn push_each<R: Wait>(rt: &R, pass: &mut SendPass, messages: &[(u32, i64)]) -> u64
-    requires { pass.old.by ≡ 1 }
+    requires { (pass.old.by ≡ 1) × (pass.old.queue.to ≡ 2) }
     ensures { (pass.new.queue ≡ pass.old.queue) × (pass.new.by ≡ pass.old.by) }
 {
     let mut count = 0u64;

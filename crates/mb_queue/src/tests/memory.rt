@@ -12,7 +12,7 @@ use std::test::Fail;
 
 /// Pushes the envelope. Where memory is refused it comes back, and the same push is done when it is made again.
 fn push_at_last<R: Wait + Abort>(rt: &R, pass: &mut SendPass, envelope: Envelope)
-    requires { envelope.by.0 ≡ pass.old.by }
+    requires { (envelope.by.0 ≡ pass.old.by) × (envelope.to.0 ≡ pass.old.queue.to) }
     ensures { (pass.new.queue ≡ pass.old.queue) × (pass.new.by ≡ pass.old.by) }
 {
     if let Err(refused) = pass.push(rt, envelope) {
@@ -26,7 +26,7 @@ fn made_at_last(
     alloc: Global,
     has_control: bool,
 ) -> Result<(TakePass, SendPass, SendPass), AllocError>
-    ensures { IfOk result (λ r. r.1.by ≡ 1) }
+    ensures { IfOk result (λ r. (r.1.by ≡ 1) × (r.1.queue.to ≡ 2)) }
 {
     if let Ok(made) = queue(alloc, kind_of(alloc, has_control)?) {
         return Ok(made);
@@ -47,7 +47,7 @@ fn kind_of(alloc: Global, has_control: bool) -> Result<Kind, AllocError>
 }
 
 fn push_a_hundred<R: Wait + Abort>(rt: &R, pass: &mut SendPass)
-    requires { pass.old.by ≡ 1 }
+    requires { (pass.old.by ≡ 1) × (pass.old.queue.to ≡ 2) }
 {
     for number in 0..100 {
         push_at_last(rt, pass, user(NEAR, number, 1, 0));

@@ -21,7 +21,7 @@ const TURNS: u64 = 100_000_000;
 /// An envelope of a thread's: of even numbers control messages where `has_control`, else user messages of kind 9, and of
 /// odd numbers user messages of kind 1.
 fn nth(by: SenderId, number: u64, has_control: bool) -> Envelope
-    ensures { result.by ≡ by }
+    ensures { (result.by ≡ by) × (result.to.0 ≡ 2) }
 {
     if number % 2 == 1 {
         user(by, number, 1, 0)
@@ -34,7 +34,7 @@ fn nth(by: SenderId, number: u64, has_control: bool) -> Envelope
 
 /// Pushes all of one sender, each as often as it takes.
 fn push_all<R: Wait>(rt: &R, mut pass: SendPass, by: SenderId, has_control: bool) -> SendPass
-    requires { pass.by ≡ by.0 }
+    requires { (pass.by ≡ by.0) × (pass.queue.to ≡ 2) }
     ensures { result.queue ≡ pass.queue }
 {
     for number in 0..EACH {
@@ -44,7 +44,7 @@ fn push_all<R: Wait>(rt: &R, mut pass: SendPass, by: SenderId, has_control: bool
 }
 
 fn push_one<R: Wait>(rt: &R, pass: &mut SendPass, envelope: Envelope)
-    requires { envelope.by.0 ≡ pass.old.by }
+    requires { (envelope.by.0 ≡ pass.old.by) × (envelope.to.0 ≡ pass.old.queue.to) }
     ensures { (pass.new.queue ≡ pass.old.queue) × (pass.new.by ≡ pass.old.by) }
 {
     for _turn in 0..TURNS {
@@ -91,11 +91,11 @@ fn run_three<R: Threads + Wait + Abort + Sync>(
     let (near, (far, (mut take, all))) = thread::join(
         rt,
         move ||
-            requires { near.by ≡ 1 }
+            requires { (near.by ≡ 1) × (near.queue.to ≡ 2) }
             ensures { result.queue ≡ near.queue }
         { push_all(rt, near, NEAR, has_control) },
         move ||
-            requires { far.by ≡ 64 }
+            requires { (far.by ≡ 64) × (far.queue.to ≡ 2) }
             ensures { (result.0.queue ≡ far.queue) × (result.1.0.queue ≡ take.queue) }
         { push_and_take(rt, far, take, into, has_control) },
     );
@@ -113,13 +113,13 @@ fn push_and_take<R: Threads + Wait + Abort + Sync>(
     into: Vec<Envelope>,
     has_control: bool,
 ) -> (SendPass, (TakePass, Vec<Envelope>))
-    requires { far.by ≡ 64 }
+    requires { (far.by ≡ 64) × (far.queue.to ≡ 2) }
     ensures { (result.0.queue ≡ far.queue) × (result.1.0.queue ≡ take.queue) }
 {
     thread::join(
         rt,
         move ||
-            requires { far.by ≡ 64 }
+            requires { (far.by ≡ 64) × (far.queue.to ≡ 2) }
             ensures { result.queue ≡ far.queue }
         { push_all(rt, far, FAR, has_control) },
         move ||

@@ -5,7 +5,7 @@ use Rattle.mb_lane.specs.declared.ledger.Account.{Account}
 use Rattle.mb_lane.specs.Ledger.{account, lent}
 use Rattle.mb_lane.specs.Port.{Known}
 use Rattle.mb_queue.specs.declared.order.Order.{Order}
-use Rattle.mb_queue.specs.Kept.{IsSending, IsTaking, sending, senders_of, taking_of}
+use Rattle.mb_queue.specs.Kept.{IsSending, IsTaking, sending, taking_of}
 use Rattle.mb_queue.specs.Made.{unused}
 use Rattle.mb_queue.specs.Passes.{Taking}
 use Rattle.mb_queue.proofs.Lends.{control_may, main_may, send_is, send_kept, take_is, take_kept}

@@ -35,7 +35,7 @@ returns c = let i = c.loop-sender.sender-index in let all = c.args.senders.now i
     let whole : take i (numbers_of all) ≡ numbers_of all = take_all i (numbers_of all) (omega (arith, length-map all (λ (s : SenderId). s.0), c.loop-sender-test.false)) in
     let is = c.loop-sender.invariant.0 ∙ ap (λ l. record t { accounts = map lent l }) whole in
     let e = c.in_ok-take.ensures.empty in record {
-      empty = subst (IsEmpty c.args.kind (numbers_of all)) (sym is) (record { senders_are = e.senders_are; turns = e.turns; bound = e.bound; arrived = e.arrived; waiting = e.waiting; taken = e.taken });
+      empty = subst (IsEmpty c.args.kind c.args.to.0 (numbers_of all)) (sym is) (record { senders_are = e.senders_are; actor = e.actor; turns = e.turns; bound = e.bound; arrived = e.arrived; waiting = e.waiting; taken = e.taken });
       accounts = ap (λ (x : Taking). x.accounts) is;
       passes = c.loop-sender.invariant.1 ∙ (λ k. map (unused ((sym (ap (λ (x : Taking). x.queue) is)) k)) (whole k));
     }

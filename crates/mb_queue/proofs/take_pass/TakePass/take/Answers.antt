@@ -1,8 +1,9 @@
-use Rattle.std.proofs.Common.{subst, sym, Some, None, ◌++◌, ◌∷◌, []}
+use Rattle.std.proofs.Common.{◌≡◌, subst, sym, Some, None, ◌++◌, ◌∷◌, []}
+use Rattle.std.specs.List.{Contains}
 use Rattle.mb_queue.specs.Kept.{IsTaking, taking_of}
 use Rattle.mb_queue.specs.Passes.{Taking}
 use Rattle.mb_queue.specs.Takes.{EachOnce, IsTake}
-use Rattle.mb_queue.proofs.Takings.{each_once, kept_none, kept_some, turn_none, turn_some}
+use Rattle.mb_queue.proofs.Takings.{each_once, given_known, kept_none, kept_some, turn_none, turn_some}
 use Rattle.mb_queue.proofs.take_pass.TakePass.take.Goals as goal
 
 pub invariant_of-self : goal.invariant_of-self
@@ -13,6 +14,16 @@ invariant_of-self g c = let i = c.self.inside in let next = c.take_next-next.new
 pub invariant_of-self-in-None : goal.invariant_of-self-in-None
 invariant_of-self-in-None g c = let i = c.self.inside in let next = c.take_next-next.new in
     kept_none i.main i.order i.taken i.accounts next.main next.order c.self.invariant c.in-None.ensures
+
+pub returns-in-Some-clause-sender : goal.returns-in-Some-clause-sender
+returns-in-Some-clause-sender g c = let i = c.self.inside in let next = c.take_next-next.new in let e = c.in-Some.envelope in
+    subst (λ (t : Taking). Contains t.queue.senders e.by.0) c.self.view_is
+    (given_known i.main i.order i.taken i.accounts e next.main next.order c.self.invariant c.in-Some.ensures).0
+
+pub returns-in-Some-clause-addressed : goal.returns-in-Some-clause-addressed
+returns-in-Some-clause-addressed g c = let i = c.self.inside in let next = c.take_next-next.new in let e = c.in-Some.envelope in
+    subst (λ (t : Taking). e.to.0 ≡ t.queue.to) c.self.view_is
+    (given_known i.main i.order i.taken i.accounts e next.main next.order c.self.invariant c.in-Some.ensures).1
 
 pub returns-in-Some-clause-turn : goal.returns-in-Some-clause-turn
 returns-in-Some-clause-turn g c = let i = c.self.inside in let next = c.take_next-next.new in let e = c.in-Some.envelope in

@@ -1,0 +1,45 @@
+use Rattle.std.proofs.Common.{◌≡◌, ℕ, List, [], ◌∷◌, ◌++◌, subst, sym, ap, ◌∙◌, Option, Some, None}
+use Rattle.mb_msg.specs.declared.envelope.Envelope.{Envelope}
+use Rattle.mb_lane.specs.declared.ledger.Account.{Account}
+use Rattle.mb_lane.specs.Ledger.{home}
+use Rattle.mb_lane.specs.Port.{Known}
+use Rattle.mb_queue.specs.declared.order.Order.{Order}
+use Rattle.mb_queue.specs.declared.order.Order.TheVariants.{ControlFirst, FirstInFirstOut, ByRank}
+use Rattle.mb_queue.specs.declared.take_pass.TakePass.TheInside.{Inside}
+use Rattle.mb_queue.specs.Kept.{IsSending, IsTaking}
+use Rattle.mb_queue.proofs.Joins.{control_joined, fifo_joined, joined, rank_joined}
+use Rattle.mb_queue.proofs.take_pass.TakePass.join.Goals as goal
+use Rattle.mb_queue.proofs.take_pass.TakePass.join.Goals.{in-ControlFirst-Some, in-FirstInFirstOut-None, in-ByRank-None}
+
+pub invariant_of-self : goal.invariant_of-self
+invariant_of-self c =
+    let i = c.self.inside in let p = c.pass.inside in let by : ℕ = p.by.0 in
+    let back : (order : Order) (now : Inside) → now ≡ record { main = c.join.new.self; order = order; taken = i.taken; accounts = i.accounts }
+    → c.match-self.self-inside ≡ now → IsTaking (joined i.main p.main) order i.taken (i.accounts ++ home by p.pushed ∷ [])
+    → IsTaking c.match-self.self-inside.main c.match-self.self-inside.order c.match-self.self-inside.taken c.add.new.self
+    = λ order now is here. subst (λ (y : Inside × List Account). IsTaking y.0.main y.0.order y.0.taken y.1) (λ k. (
+      sym (here ∙ is ∙ (λ l. record { main = c.join.ensures l; order = order; taken = i.taken; accounts = i.accounts })) k,
+      sym (c.add.ensures ∙ ap (λ (j : Inside). j.accounts ++ home by p.pushed ∷ []) (here ∙ is)) k,
+    )) in
+    let sent : (control : Option Known) → p.control ≡ control → IsSending by p.main control p.pushed
+    = λ control is. subst (λ o. IsSending by p.main o p.pushed) is c.pass.invariant in
+    let kept : (order : Order) → i.order ≡ order → IsTaking i.main order i.taken i.accounts
+    = λ order is. subst (λ o. IsTaking i.main o i.taken i.accounts) is c.self.invariant in
+    elim c.match-self.branch [
+      | in-ControlFirst-Some w ↦
+          let own = w.in-ControlFirst-Some.own in let his = w.in-ControlFirst-Some.control in
+          back (ControlFirst (joined own his)) _ (λ k. record {
+            main = c.join.new.self;
+            order = ControlFirst (w.join-in-ControlFirst-Some.ensures k);
+            taken = i.taken;
+            accounts = i.accounts;
+          }) w.self-inside-is
+          (control_joined i.main p.main i.taken i.accounts by p.pushed own his (kept (ControlFirst own) w.in-ControlFirst-Some.is-0) (sent (Some his) w.in-ControlFirst-Some.is-1))
+      | in-FirstInFirstOut-None w ↦
+          back FirstInFirstOut _ (λ k. record { main = c.join.new.self; order = w.in-FirstInFirstOut-None.is-0 k; taken = i.taken; accounts = i.accounts }) w.self-inside-is
+          (fifo_joined i.main p.main i.taken i.accounts by p.pushed (kept FirstInFirstOut w.in-FirstInFirstOut-None.is-0) (sent None w.in-FirstInFirstOut-None.is-1))
+      | in-ByRank-None w ↦
+          let choice = w.in-ByRank-None.field-0-0 in
+          back (ByRank choice) _ (λ k. record { main = c.join.new.self; order = w.in-ByRank-None.is-0 k; taken = i.taken; accounts = i.accounts }) w.self-inside-is
+          (rank_joined i.main p.main i.taken i.accounts by p.pushed choice (kept (ByRank choice) w.in-ByRank-None.is-0) (sent None w.in-ByRank-None.is-1))
+    ]
