@@ -1,3 +1,4 @@
 pub mod Views
 pub mod Debts
 pub mod Bits
+pub mod Posting

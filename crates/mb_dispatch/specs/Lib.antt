@@ -2,3 +2,6 @@ pub mod Owed
 pub mod Views
 pub mod Untouched
 pub mod Waking
+pub mod Posted
+pub mod Sends
+pub mod Answers

@@ -2,11 +2,19 @@
 //! run (`akka.dispatch.Dispatcher`, `MessageDispatcher`).
 #![tactic(auto)]
 
+mod book;
 mod due;
 mod owed;
+mod put;
+mod sender;
+mod ticket;
 mod waker;
 mod way;
 
+pub use book::Book;
 pub use owed::Owed;
+pub use put::Put;
+pub use sender::{Sender, Unsent};
+pub use ticket::{Look, Ticket};
 pub use waker::Waker;
 pub use way::{Refused, Way};
