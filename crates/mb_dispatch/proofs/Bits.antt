@@ -19,7 +19,7 @@ with_other bits id other ne =
 shifted : (id : ℕ) → id < 64 → 1 * 2 ^ id % 18446744073709551616 ≡ 2 ^ id
 shifted id lt = let small : 2 ^ id ≤ 2 ^ 63 = pow_mono {i = id} {j = 63} (omega (arith, lt)) in omega (arith, small)
 
-same_or_other : (n m : ℕ) → (n ≡ m) ⊎ (n ≢ m)
+pub same_or_other : (n m : ℕ) → (n ≡ m) ⊎ (n ≢ m)
 same_or_other n m = from_tell (eqb_tells n m)
   where
     from_tell : ((eqb n m ≡ true) × (n ≡ m)) ⊎ ((eqb n m ≡ false) × (n ≢ m)) → (n ≡ m) ⊎ (n ≢ m)

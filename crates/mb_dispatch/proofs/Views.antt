@@ -6,7 +6,7 @@ use Rattle.mb_core.specs.declared.debt.Debt.{Debt}
 use Rattle.mb_core.specs.Run.{after_reading}
 use Rattle.mb_journal.specs.Entry.{Entry}
 use Rattle.mb_gate.specs.Claims.{claimed}
-use Rattle.mb_gate.specs.View.{View, Sight, Saw, owes, owing, seeing, reading, counting, looking, idling, taking_over}
+use Rattle.mb_gate.specs.View.{View, Sight, Saw, Sent, Unsent, owes, owing, seeing, reading, counting, looking, idling, taking_over, sending, unsending}
 use Rattle.mb_dispatch.specs.Views.{LooksAfter}
 
 module _ (id : ℕ) where
@@ -70,3 +70,13 @@ module _ (id : ℕ) where
   looks-back j before actor word gave v c w here is after =
       subst (LooksAfter id v) (sym (after ∙ ap (λ (u : View). taking_over v (idling actor j u)) is ∙ ap (λ a. taking_over v (idling a j (claimed a before word gave))) here))
       (looks-idled j before word gave v)
+
+  -- an envelope was counted, or taken back
+  pub looks-sending : (n : ℕ) (v w : View) → w ≡ sending id n v → LooksAfter id v w
+  looks-sending n v w is =
+      subst (LooksAfter id v) (sym is) (record { more = Sent id n ∷ []; log = refl; said = refl; others = owes-other (record (owes id v) { sending = true }) v })
+
+  pub looks-unsending : (n : ℕ) (v w : View) → w ≡ unsending id n v → LooksAfter id v w
+  looks-unsending n v w is =
+      subst (LooksAfter id v) (sym is)
+      (record { more = Unsent id n ∷ []; log = refl; said = refl; others = owes-other (record (owes id v) { message = true; sending = false }) v })

@@ -6,6 +6,9 @@ use Rattle.mb_gate.specs.View.{View, reading}
 use Rattle.mb_dispatch.specs.declared.ticket.Look.{Look}
 use Rattle.mb_dispatch.specs.declared.ticket.Look.TheVariants.{Open, Closed}
 use Rattle.mb_msg.specs.declared.dead_letter.Why.{Why}
+use Rattle.mb_msg.specs.declared.dead_letter.Why.TheVariants as why
+use Rattle.mb_lane.specs.declared.refused.PushError.{PushError}
+use Rattle.mb_lane.specs.declared.refused.PushError.TheVariants.{Full, NoMemory}
 use Rattle.mb_dispatch.specs.declared.put.Put.{Put}
 use Rattle.mb_dispatch.specs.declared.put.Put.TheVariants.{Queued, Dead}
 
@@ -24,3 +27,8 @@ pub record IsSeen (to : ActorId) (look : Look) (before after : View) : Type 0 wh
   pub seen : Mailbox
   pub read : after ≡ reading to.0 (word_of seen) before
   pub answer : shows to seen look
+
+-- why a push was refused, as the sender is told
+abbrev pub reason : PushError → Why
+reason (Full e) = why.Full
+reason (NoMemory e) = why.NoMemory

@@ -1,8 +1,10 @@
 //! What a sender was answered.
-ghost use Rattle.std.specs.Prelude.{◌≡◌, ◌<◌, [], ◌∷◌, ◌++◌, length, vec_len, vec_capacity, Some, None};
+ghost use Rattle.std.specs.Prelude.{◌≡◌, ◌<◌, [], ◌∷◌, ◌++◌, length, vec_len, vec_capacity, Some, None, IfOk, OnErr, IsErrOf};
 ghost use Rattle.mb_fates.specs.Accepted.{accepted, dead_letters};
+ghost use Rattle.mb_dispatch.specs.declared.unsent.Unsent.TheVariants as Unsent;
 ghost use Rattle.mb_dispatch.specs.Posted.{envelope_of, names_from, names_of, posting};
 
+use crate::unsent::Unsent;
 use mb_fates::Posting;
 use mb_lane::Log;
 use mb_msg::{ActorId, Body, DeadLetter, Envelope, SenderId, Why};
@@ -25,6 +27,20 @@ pub struct Book {
 }
 
 impl Book {
+    /// Makes room for the next envelope, should it be a dead letter. It answers `NoMemory` if memory was refused or the last
+    /// number is used up; what the book says is as before.
+    pub(crate) fn ready(&mut self) -> Result<(), Unsent>
+        ensures room { IfOk result (λ _. vec_len self.new.dead < vec_capacity self.new.dead) }
+        ensures number { IfOk result (λ _. self.new.sent < 18446744073709551615) }
+        ensures same { (self.new.by ≡ self.old.by) × (self.new.sent ≡ self.old.sent) × (self.new.dead.items ≡ self.old.dead.items) × (self.new.posted ≡ self.old.posted) }
+        ensures refused { OnErr result (IsErrOf result Unsent.NoMemory) }
+    {
+        if self.sent == u64::MAX || self.dead.reserve(1).is_err() {
+            return Err(Unsent::NoMemory);
+        }
+        Ok(())
+    }
+
     /// The next envelope, to this receiver with this body.
     pub(crate) fn next(&self, to: ActorId, body: Body) -> Envelope
         ensures { result ≡ envelope_of self.now.by to self.now.sent body }

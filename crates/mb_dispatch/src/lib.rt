@@ -8,13 +8,15 @@ mod owed;
 mod put;
 mod sender;
 mod ticket;
+mod unsent;
 mod waker;
 mod way;
 
 pub use book::Book;
 pub use owed::Owed;
 pub use put::Put;
-pub use sender::{Sender, Unsent};
+pub use sender::Sender;
 pub use ticket::{Look, Ticket};
+pub use unsent::Unsent;
 pub use waker::Waker;
 pub use way::{Refused, Way};
