@@ -1,5 +1,6 @@
 -- A number with one bit set.
-use Rattle.std.proofs.Common.{◌≡◌, ◌≢◌, ◌==◌, ◌||◌, ◌<◌, ◌≤◌, ◌*◌, ◌%◌, ◌^◌, ◌⊎◌, inl, inr, ℕ, Bool, max, bit_or, true, false, refl, sym, ap, ◌∙◌, arith}
+use Rattle.std.proofs.Common.{◌≡◌, ◌≢◌, ◌==◌, ◌||◌, ◌<◌, ◌≤◌, ◌*◌, ◌%◌, ◌^◌, ◌⊎◌, inl}
+use Rattle.std.proofs.Common.{inr, ℕ, Bool, max, bit_or, true, false, refl, sym, ap, ◌∙◌, arith}
 use Rattle.std.specs.Int.{bit_at}
 use Rattle.std.proofs.lemmas.Nat.Bits.{bit_at_or, bit_at-pow_same, bit_at-pow_other, bit_at-lt}
 use Rattle.std.proofs.lemmas.Bool.Decides.{nat_tests, eqb_tells}
@@ -26,7 +27,8 @@ same_or_other n m = from_tell (eqb_tells n m)
     from_tell (inl t) = inl t.1
     from_tell (inr t) = inr t.1
 
-by_case : (bits id other : ℕ) → (other ≡ id) ⊎ (other ≢ id) → (bit_at (bit_or bits (2 ^ id)) other == 1) ≡ ((other == id) || (bit_at bits other == 1))
+by_case : (bits id other : ℕ) → (other ≡ id) ⊎ (other ≢ id) → (bit_at (bit_or bits (2 ^ id)) other == 1)
+    ≡ ((other == id) || (bit_at bits other == 1))
 by_case bits id other (inl same) =
     let a : (other == id) ≡ true = grind (arith, nat_tests) in
     ap (λ o. bit_at (bit_or bits (2 ^ id)) o == 1) same ∙ with_same bits id ∙ sym (ap (λ b. b || (bit_at bits other == 1)) a)
@@ -34,5 +36,6 @@ by_case bits id other (inr ne) =
     let a : (other == id) ≡ false = grind (arith, nat_tests) in
     ap (λ n. n == 1) (with_other bits id other ne) ∙ sym (ap (λ b. b || (bit_at bits other == 1)) a)
 
-pub with_bit : (bits id other : ℕ) → id < 64 → (bit_at (bit_or bits (1 * 2 ^ id % 18446744073709551616)) other == 1) ≡ ((other == id) || (bit_at bits other == 1))
+pub with_bit : (bits id other : ℕ) → id < 64 → (bit_at (bit_or bits (1 * 2 ^ id % 18446744073709551616)) other == 1)
+    ≡ ((other == id) || (bit_at bits other == 1))
 with_bit bits id other lt = ap (λ n. bit_at (bit_or bits n) other == 1) (shifted id lt) ∙ by_case bits id other (same_or_other other id)

@@ -1,5 +1,6 @@
 -- A look at an actor that finds nothing to do leaves nothing owed.
-use Rattle.std.proofs.Common.{◌≡◌, ◌≢◌, ◌==◌, ℕ, ◌+◌, ◌*◌, ◌/◌, ◌%◌, Bool, true, false, ◌||◌, ◌&&◌, not, if◌then◌else◌, refl, sym, ap, ◌∙◌, subst, arith}
+use Rattle.std.proofs.Common.{◌≡◌, ◌≢◌, ◌==◌, ℕ, ◌+◌, ◌*◌, ◌/◌, ◌%◌, Bool, true}
+use Rattle.std.proofs.Common.{false, ◌||◌, ◌&&◌, not, if◌then◌else◌, refl, sym, ap, ◌∙◌, subst, arith}
 use Rattle.std.proofs.lemmas.Bool.Decides.{nat_tests}
 use Rattle.mb_status.specs.Mailbox.{Mailbox, mailbox_of, word_of, suspended, can_schedule}
 use Rattle.mb_core.specs.declared.debt.Debt.{Debt}
@@ -7,7 +8,8 @@ use Rattle.mb_core.specs.Actor.{nothing}
 use Rattle.mb_core.specs.Run.{after_reading}
 
 -- the mailbox of an open one's word is that one
-open-word : (scheduled : Bool) (count : ℕ) → mailbox_of (word_of (record { closed = false; scheduled = scheduled; count = count })) ≡ record { closed = false; scheduled = scheduled; count = count }
+open-word : (scheduled : Bool) (count : ℕ) → mailbox_of (word_of (record { closed = false; scheduled = scheduled; count = count }))
+    ≡ record { closed = false; scheduled = scheduled; count = count }
 open-word true count =
     let w = 4 * count + 2 in
     let a : (w == 1) ≡ false = grind (arith, nat_tests) in

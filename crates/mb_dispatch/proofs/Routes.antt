@@ -1,5 +1,6 @@
 -- The passes of a sender, after one of them pushed, or was refused.
-use Rattle.std.proofs.Common.{◌≡◌, ◌≢◌, ◌⊎◌, inl, inr, ℕ, zero, suc, ◌+◌, ◌-◌, ◌<◌, List, [], ◌∷◌, ◌++◌, Option, Some, None, slice_get, slice_set, refl, sym, ap, ◌∙◌, subst, arith}
+use Rattle.std.proofs.Common.{◌≡◌, ◌≢◌, ◌⊎◌, inl, inr, ℕ, zero, suc, ◌+◌, ◌-◌, ◌<◌, List, []}
+use Rattle.std.proofs.Common.{◌∷◌, ◌++◌, Option, Some, None, slice_get, slice_set, refl, sym, ap, ◌∙◌, subst, arith}
 use Rattle.std.proofs.lemmas.Option.{none-some, same_Some}
 use Rattle.mb_msg.specs.declared.envelope.Envelope.{Envelope}
 use Rattle.mb_msg.specs.declared.dead_letter.Why.{Why}
@@ -23,7 +24,8 @@ set-other (x ∷ xs) zero (suc i) y ne = refl
 set-other (x ∷ xs) (suc k) zero y ne = refl
 set-other (x ∷ xs) (suc k) (suc i) y ne = set-other xs k i y (λ e. ne (ap suc e))
 
-module _ (by : ℕ) (ps : List Posting) (sends : List Sending) (routes : AreRoutes by ps sends) (k : ℕ) (old : Sending) (there : slice_get sends k ≡ Some old) (e : Envelope) where
+module _ (by : ℕ) (ps : List Posting) (sends : List Sending) (routes : AreRoutes by ps sends) (k : ℕ) (old : Sending)
+    (there : slice_get sends k ≡ Some old) (e : Envelope) where
   pub routes-more : (new : Sending) → new ≡ record old { pushed = old.pushed ++ e ∷ [] } → e.to.0 ≡ k + 1
       → AreRoutes by (ps ++ posting e None ∷ []) (slice_set sends k new)
   routes-more new is here i s at = by_place (same_or_other i k)

@@ -1,12 +1,14 @@
 -- What the steps of a pass at one actor do to what it knows.
-use Rattle.std.proofs.Common.{◌≡◌, ◌≢◌, ◌==◌, ℕ, Bool, true, false, ◌||◌, ◌&&◌, not, if◌then◌else◌, List, [], ◌∷◌, ◌++◌, refl, sym, ap, ◌∙◌, subst, arith, append_assoc}
+use Rattle.std.proofs.Common.{◌≡◌, ◌≢◌, ◌==◌, ℕ, Bool, true, false, ◌||◌, ◌&&◌, not, if◌then◌else◌}
+use Rattle.std.proofs.Common.{List, [], ◌∷◌, ◌++◌, refl, sym, ap, ◌∙◌, subst, arith, append_assoc}
 use Rattle.std.proofs.lemmas.Bool.Decides.{nat_tests}
 use Rattle.mb_status.specs.Mailbox.{mailbox_of}
 use Rattle.mb_core.specs.declared.debt.Debt.{Debt}
 use Rattle.mb_core.specs.Run.{after_reading}
 use Rattle.mb_journal.specs.Entry.{Entry}
 use Rattle.mb_gate.specs.Claims.{claimed}
-use Rattle.mb_gate.specs.View.{View, Sight, Saw, Sent, Unsent, owes, owing, seeing, reading, counting, looking, idling, taking_over, sending, unsending}
+use Rattle.mb_gate.specs.View.{View, Sight, Saw, Sent, Unsent, owes, owing}
+use Rattle.mb_gate.specs.View.{seeing, reading, counting, looking, idling, taking_over, sending, unsending}
 use Rattle.mb_dispatch.specs.Views.{LooksAfter}
 
 module _ (id : ℕ) where
@@ -55,26 +57,36 @@ module _ (id : ℕ) where
 
   pub looks-read-twice : (a b : ℕ) (v w : View) → w ≡ reading id b (reading id a v) → LooksAfter id v w
   looks-read-twice a b v w is =
-      subst (LooksAfter id v) (sym is) (looks-then v (reading id a v) (reading id b (reading id a v)) (looks-reading a v) (looks-reading b (reading id a v)))
+      subst (LooksAfter id v) (sym is) (looks-then v (reading id a v) (reading id b (reading id a v)) (looks-reading a v) (looks-reading b
+      (reading id a v)))
 
   pub looks-read-owing : (a : ℕ) (d : Debt) (v w : View) → w ≡ owing id d (reading id a v) → LooksAfter id v w
   looks-read-owing a d v w is =
-      subst (LooksAfter id v) (sym is) (looks-then v (reading id a v) (owing id d (reading id a v)) (looks-reading a v) (looks-owing d (reading id a v)))
+      subst (LooksAfter id v) (sym is) (looks-then v (reading id a v) (owing id d (reading id a v)) (looks-reading a v) (looks-owing d
+      (reading id a v)))
 
   -- a claim that was just taken goes home
-  looks-idled : (j before : List Entry) (word : ℕ) (gave : Bool) (v : View) → LooksAfter id v (taking_over v (idling id j (claimed id before word gave)))
+  looks-idled : (j before : List Entry) (word : ℕ) (gave : Bool) (v : View)
+      → LooksAfter id v (taking_over v (idling id j (claimed id before word gave)))
   looks-idled j before word gave v = record { more = Saw id j ∷ []; log = refl; said = refl; others = owes-other _ v }
 
   pub looks-back : (j before : List Entry) (actor word : ℕ) (gave : Bool) (v c w : View) → actor ≡ id → c ≡ claimed actor before word gave
       → w ≡ taking_over v (idling actor j c) → LooksAfter id v w
   looks-back j before actor word gave v c w here is after =
-      subst (LooksAfter id v) (sym (after ∙ ap (λ (u : View). taking_over v (idling actor j u)) is ∙ ap (λ a. taking_over v (idling a j (claimed a before word gave))) here))
+      subst (LooksAfter id v) (sym (after ∙ ap (λ (u : View). taking_over v (idling actor j u)) is
+      ∙ ap (λ a. taking_over v (idling a j (claimed a before word gave))) here))
       (looks-idled j before word gave v)
 
   -- an envelope was counted, or taken back
   pub looks-sending : (n : ℕ) (v w : View) → w ≡ sending id n v → LooksAfter id v w
   looks-sending n v w is =
-      subst (LooksAfter id v) (sym is) (record { more = Sent id n ∷ []; log = refl; said = refl; others = owes-other (record (owes id v) { sending = true }) v })
+      subst (LooksAfter id v) (sym is) (record {
+        more = Sent id n
+            ∷ [];
+        log = refl;
+        said = refl;
+        others = owes-other (record (owes id v) { sending = true }) v;
+      })
 
   pub looks-unsending : (n : ℕ) (v w : View) → w ≡ unsending id n v → LooksAfter id v w
   looks-unsending n v w is =

@@ -32,7 +32,8 @@ impl Book {
     pub(crate) fn ready(&mut self) -> Result<(), Unsent>
         ensures room { IfOk result (λ _. vec_len self.new.dead < vec_capacity self.new.dead) }
         ensures number { IfOk result (λ _. self.new.sent < 18446744073709551615) }
-        ensures same { (self.new.by ≡ self.old.by) × (self.new.sent ≡ self.old.sent) × (self.new.dead.items ≡ self.old.dead.items) × (self.new.posted ≡ self.old.posted) }
+        ensures same { (self.new.by ≡ self.old.by) × (self.new.sent ≡ self.old.sent) × (self.new.dead.items ≡ self.old.dead.items)
+            × (self.new.posted ≡ self.old.posted) }
         ensures refused { OnErr result (IsErrOf result Unsent.NoMemory) }
     {
         if self.sent == u64::MAX || self.dead.reserve(1).is_err() {

@@ -1,5 +1,6 @@
 //! A sender outside the actors.
-ghost use Rattle.std.specs.Prelude.{◌≡◌, ◌≢◌, ◌⊎◌, ◌+◌, ◌<◌, ◌≤◌, [], ◌∷◌, ◌++◌, length, true, Option, vec_len, IfOk, IfErr, IsErrOf, OnErr, Some, None};
+ghost use Rattle.std.specs.Prelude.{◌≡◌, ◌≢◌, ◌⊎◌, ◌+◌, ◌<◌, ◌≤◌, [], ◌∷◌, ◌++◌};
+ghost use Rattle.std.specs.Prelude.{length, true, Option, vec_len, IfOk, IfErr, IsErrOf, OnErr, Some, None};
 ghost use Rattle.mb_core.specs.Actor.{nothing};
 ghost use Rattle.mb_gate.specs.View.{owes};
 ghost use Rattle.mb_gate.specs.Names.{gates_id, pass_id, actors_of, known_by};
@@ -41,7 +42,8 @@ impl<H: Resident, W: Way<H>> Sender<H, W> {
         requires ours { pass_id self.old.waker.pass ≡ gates_id gates.now }
         requires all { vec_len self.old.sends + 1 ≡ actors_of gates.now }
         ensures refused { OnErr result ((self.new ≡ self.old) × IsErrOf result Unsent.NoSuchActor × ((to.0 ≡ 0) ⊎ (actors_of gates.now ≤ to.0))) }
-        ensures seen { IfOk result (λ look. (0 < to.0) × (to.0 < actors_of gates.now) × IsSeen to look (known_by self.old.waker.pass) (known_by self.new.waker.pass)) }
+        ensures seen { IfOk result (λ look. (0 < to.0) × (to.0 < actors_of gates.now)
+            × IsSeen to look (known_by self.old.waker.pass) (known_by self.new.waker.pass)) }
         ensures same { (self.new.book ≡ self.old.book) × (self.new.sends ≡ self.old.sends) × (self.new.waker.owed ≡ self.old.waker.owed)
             × (self.new.waker.way ≡ self.old.waker.way) × (pass_id self.new.waker.pass ≡ pass_id self.old.waker.pass) }
     {
@@ -70,11 +72,15 @@ impl<H: Resident, W: Way<H>> Sender<H, W> {
         requires ours { (pass_id self.old.waker.pass ≡ gates_id gates.now) × (W.gates self.old.waker.way ≡ gates_id gates.now) }
         requires all { (vec_len self.old.sends + 1 ≡ actors_of gates.now) × (W.actors self.old.waker.way ≡ actors_of gates.now) }
         requires there { (0 < ticket.to.0) × (ticket.to.0 < actors_of gates.now) × (ticket.to.0 < 64) }
-        ensures refused { OnErr result (IsErrOf result Unsent.NoMemory × (self.new.book.posted ≡ self.old.book.posted) × (self.new.waker ≡ self.old.waker)) }
-        ensures posted { IfOk result (λ put. (refused : Option Why) × (put ≡ says self.old.book.sent refused) × (refused ≢ Some Why.Closed) × (refused ≢ Some Why.Cleaned)
-            × (self.new.book.posted ≡ self.old.book.posted ++ posting (envelope_of self.old.book.by ticket.to self.old.book.sent body) refused ∷ [])) }
+        ensures refused { OnErr result (IsErrOf result Unsent.NoMemory × (self.new.book.posted ≡ self.old.book.posted)
+            × (self.new.waker ≡ self.old.waker)) }
+        ensures posted { IfOk result (λ put. (refused : Option Why) × (put ≡ says self.old.book.sent refused) × (refused ≢ Some Why.Closed)
+            × (refused ≢ Some Why.Cleaned)
+            × (self.new.book.posted ≡ self.old.book.posted ++ posting (envelope_of self.old.book.by ticket.to self.old.book.sent body) refused
+            ∷ [])) }
         ensures looks { LooksAfter ticket.to.0 (known_by self.old.waker.pass) (known_by self.new.waker.pass) }
-        ensures paid { IfOk result (λ _. (owes ticket.to.0 (known_by self.new.waker.pass) ≡ nothing) ⊎ (is_owed self.new.waker.owed ticket.to.0 ≡ true)) }
+        ensures paid { IfOk result (λ _. (owes ticket.to.0 (known_by self.new.waker.pass) ≡ nothing) ⊎ (is_owed self.new.waker.owed ticket.to.0
+            ≡ true)) }
         ensures same { self.new.book.by ≡ self.old.book.by }
     {
         self.book.ready()?;

@@ -40,7 +40,8 @@ impl<H: Resident, W: Way<H>> Waker<H, W> {
     ) -> bool
         requires ours { (pass_id self.old.pass ≡ gates_id gates.now) × (W.gates self.old.way ≡ gates_id gates.now) }
         requires there { (id.0 < actors_of gates.now) × (W.actors self.old.way ≡ actors_of gates.now) × (id.0 < 64) }
-        ensures ours { (pass_id self.new.pass ≡ pass_id self.old.pass) × (W.gates self.new.way ≡ W.gates self.old.way) × (W.actors self.new.way ≡ W.actors self.old.way) }
+        ensures ours { (pass_id self.new.pass ≡ pass_id self.old.pass) × (W.gates self.new.way ≡ W.gates self.old.way)
+            × (W.actors self.new.way ≡ W.actors self.old.way) }
         ensures looks { LooksAfter id.0 (known_by self.old.pass) (known_by self.new.pass) }
         ensures paid { (owes id.0 (known_by self.new.pass) ≡ nothing) ⊎ (is_owed self.new.owed id.0 ≡ true) }
         ensures woken { IsWoken id.0

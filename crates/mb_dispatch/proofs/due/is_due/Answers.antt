@@ -27,7 +27,8 @@ returns-clause-paid g c idle =
     let e = known_by c.has_messages-messages.new.pass in
     let status = c.status-status.result in
     let read : owes id b ≡ after_reading (mailbox_of (word_of status)) (owes id a) =
-    ap (owes id) c.status-status.ensures.known ∙ owes-same id (after_reading (mailbox_of (word_of status)) (owes id a)) (seeing (Read id (word_of status)) a) in
+    ap (owes id) c.status-status.ensures.known ∙ owes-same id (after_reading (mailbox_of (word_of status)) (owes id a)) (seeing (Read id
+    (word_of status)) a) in
     paid status c.has_messages-messages.result c.has_system-system.result (owes id a) (owes id b) (owes id d) (owes id e) read
     c.has_system-system.ensures.some c.has_system-system.ensures.none c.has_messages-messages.ensures.some c.has_messages-messages.ensures.none
     (sym c.can_schedule.ensures ∙ idle)

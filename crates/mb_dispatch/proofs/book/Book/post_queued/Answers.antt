@@ -13,6 +13,7 @@ invariant_of-self c =
     record {
       counted = ap (λ n. n + 1) c.args.self.now.counted ∙ sym (length-more ps p) ∙ sym (ap length c.add.ensures);
       numbered = subst (λ qs. names_of (accepted qs) ≡ names_from by 0 (accepted qs)) (sym c.add.ensures)
-          (numbered-more by ps p c.args.self.now.numbered (ap (λ (s : SenderId). s.0) c.requires.next.0) (c.requires.next.1 ∙ c.args.self.now.counted));
+          (numbered-more by ps p c.args.self.now.numbered (ap (λ (s : SenderId). s.0) c.requires.next.0) (c.requires.next.1
+          ∙ c.args.self.now.counted));
       dead_are = c.args.self.now.dead_are ∙ sym (dead-queued ps c.args.envelope) ∙ sym (ap dead_letters c.add.ensures);
     }

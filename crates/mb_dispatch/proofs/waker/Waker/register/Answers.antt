@@ -21,7 +21,8 @@ returns-in-Err-clause-looks g c =
     let a = known_by c.args.self.now.pass in let b = known_by c.take_due.new.pass in let d = known_by c.release.new.pass in
     let claim = c.in-Some.claim in
     let same = c.in-Err.ensures.pushed.0 in
-    let at_home = looks-back id (g.H.Resident.journal claim.home) (g.H.Resident.journal claim.home) (held_actor claim) (word_of (status_of claim)) (gave_last claim)
+    let at_home = looks-back id (g.H.Resident.journal claim.home) (g.H.Resident.journal claim.home) (held_actor claim) (word_of
+    (status_of claim)) (gave_last claim)
     b (known_of claim) d c.in-Some.ensures.claim.0 c.in-Some.ensures.claim.1.known
     (c.release.ensures.known ∙ ap (λ (k : Claim _). taking_over b (idling (held_actor k) (g.H.Resident.journal k.home) (known_of k))) same) in
     looks-then id a b d c.take_due.ensures.looks at_home
