@@ -1,5 +1,6 @@
 -- Counting envelopes that pass a test.
-use Rattle.std.proofs.Common.{◌≡◌, ◌==◌, ℕ, ◌+◌, Bool, true, false, cond, not, ◌&&◌, List, [], ◌∷◌, ◌++◌, map, filter, refl, sym, ap, ◌∙◌, arith, Option, Some, None, count_by}
+use Rattle.std.proofs.Common.{◌≡◌, ◌==◌, ℕ, ◌+◌, Bool, true, false, cond, not, ◌&&◌, List, []}
+use Rattle.std.proofs.Common.{◌∷◌, ◌++◌, map, filter, refl, sym, ap, ◌∙◌, arith, Option, Some, None, count_by}
 use Rattle.std.specs.List.{flat_map}
 use Rattle.std.proofs.lemmas.List.Sums.{sum_by-cons}
 use Rattle.mb_msg.specs.declared.envelope.Envelope.{Envelope}
@@ -8,7 +9,8 @@ use Rattle.mb_fates.specs.declared.posting.Posting.{Posting}
 use Rattle.mb_fates.specs.Accepted.{accepted, queued, dead_letters, envelopes_of, to_actor, sent_by}
 use Rattle.mb_fates.specs.Pair.{CameAsOften, StandsAsOften}
 
-count-cond : (p : Envelope → Bool) (b : Bool) (x : Envelope) (l : List Envelope) → count_by p (cond b (x ∷ l) l) ≡ cond (b && p x) 1 0 + count_by p l
+count-cond : (p : Envelope → Bool) (b : Bool) (x : Envelope) (l : List Envelope)
+    → count_by p (cond b (x ∷ l) l) ≡ cond (b && p x) 1 0 + count_by p l
 count-cond p true x l = sum_by-cons (λ y. cond (p y) 1 0) x l
 count-cond p false x l = omega arith
 
@@ -16,7 +18,8 @@ count-cond p false x l = omega arith
 pub count-filter : (p q : Envelope → Bool) (xs : List Envelope) → count_by p (filter q xs) ≡ count_by (λ x. q x && p x) xs
 count-filter p q [] = refl
 count-filter p q (x ∷ xs) =
-    count-cond p (q x) x (filter q xs) ∙ ap (λ n. cond (q x && p x) 1 0 + n) (count-filter p q xs) ∙ sym (sum_by-cons (λ y. cond (q y && p y) 1 0) x xs)
+    count-cond p (q x) x (filter q xs) ∙ ap (λ n. cond (q x && p x) 1 0 + n) (count-filter p q xs)
+    ∙ sym (sum_by-cons (λ y. cond (q y && p y) 1 0) x xs)
 
 pub count-cons : (p : Envelope → Bool) (x : Envelope) (xs : List Envelope) → count_by p (x ∷ xs) ≡ cond (p x) 1 0 + count_by p xs
 count-cons p x xs = sum_by-cons (λ y. cond (p y) 1 0) x xs

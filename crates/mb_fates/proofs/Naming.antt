@@ -1,5 +1,6 @@
 -- Envelopes that are numbered one after another have different names.
-use Rattle.std.proofs.Common.{◌≡◌, ◌==◌, ◌≢◌, ℕ, zero, suc, ◌+◌, ◌<◌, ◌≤◌, Bool, true, false, cond, not, ◌&&◌, ◌||◌, List, [], ◌∷◌, ◌++◌, map, filter, length, get_or, refl, sym, ap, ◌∙◌, subst, arith, Option, Some, None, count_by}
+use Rattle.std.proofs.Common.{◌≡◌, ◌==◌, ◌≢◌, ℕ, zero, suc, ◌+◌, ◌<◌, ◌≤◌, Bool, true, false, cond, not, ◌&&◌, ◌||◌, List}
+use Rattle.std.proofs.Common.{[], ◌∷◌, ◌++◌, map, filter, length, get_or, refl, sym, ap, ◌∙◌, subst, arith, Option, Some, None, count_by}
 use Rattle.std.specs.List.{Contains, flat_map}
 use Rattle.std.proofs.lemmas.Bool.Decides.{nat_tests}
 use Rattle.mb_msg.specs.declared.envelope.Envelope.{Envelope}
@@ -10,7 +11,8 @@ use Rattle.mb_fates.specs.Pair.{CameInOrder, IsInOrder, StandsAsOften, StandsOnc
 use Rattle.mb_fates.proofs.Counting.{count-cons, count-filter, count-same}
 
 other-number : (e x : Envelope) → x.number ≢ e.number → is_same_name e x ≡ false
-other-number e x ne = let no : (x.number == e.number) ≡ false = grind (arith, nat_tests) in ap (λ b. (x.by.0 == e.by.0) && b) no ∙ and-no (x.by.0 == e.by.0)
+other-number e x ne = let no : (x.number == e.number) ≡ false = grind (arith, nat_tests) in ap (λ b. (x.by.0 == e.by.0) && b) no
+    ∙ and-no (x.by.0 == e.by.0)
   where
     and-no : (b : Bool) → (b && false) ≡ false
     and-no true = refl
@@ -34,7 +36,8 @@ number-at by n (x ∷ es) (suc i) e numbered lt at =
     let before = number-at by (n + 1) es i e numbered.2 (omega (arith, lt)) at in omega (arith, before)
 
 -- of the accepted envelopes just one has the name
-once-at : (g : Envelope → Bool) (e : Envelope) (by n : ℕ) (es : List Envelope) (i : ℕ) → ((x : Envelope) → is_same_name e x ≡ false → g x ≡ false) → g e ≡ true
+once-at : (g : Envelope → Bool) (e : Envelope) (by n : ℕ) (es : List Envelope) (i : ℕ) → ((x : Envelope) → is_same_name e x ≡ false
+    → g x ≡ false) → g e ≡ true
     → IsNumbered by n es → i < length es → get_or es i e ≡ e → count_by g es ≡ 1
 once-at g e by n [] i only hit numbered lt at = absurd (omega (arith, lt))
 once-at g e by n (x ∷ es) zero only hit numbered lt at =
@@ -66,7 +69,8 @@ and-twice true c = refl
 and-twice false c = refl
 
 -- each accepted envelope stands exactly once
-pub stands-once : (by to : ℕ) (ps : List Posting) (fates : List Envelope) → IsNumbered by 0 (accepted ps) → StandsAsOften by to ps fates → StandsOnce to ps fates
+pub stands-once : (by to : ℕ) (ps : List Posting) (fates : List Envelope) → IsNumbered by 0 (accepted ps) → StandsAsOften by to ps fates
+    → StandsOnce to ps fates
 stands-once by to ps fates numbered often e there here =
     let name : Envelope → Bool = is_same_name e in
     let mine : Envelope → Bool = λ x. x.to.0 == to in
@@ -79,7 +83,8 @@ stands-once by to ps fates numbered often e there here =
     let a = often name in
     let b = count-filter name mine (accepted ps) in
     let c = count-filter name (λ x. x.by.0 == by) fates in
-    let d = count-same (λ x. (x.by.0 == by) && name x) name (λ x. subst (λ s. ((x.by.0 == s) && name x) ≡ name x) is-by (and-twice (x.by.0 == e.by.0) (x.number == e.number))) fates in
+    let d = count-same (λ x. (x.by.0 == by) && name x) name (λ x. subst (λ s. ((x.by.0 == s) && name x)
+    ≡ name x) is-by (and-twice (x.by.0 == e.by.0) (x.number == e.number))) fates in
     omega (arith, once, a, b, c, d)
   where
     and-no : (b : Bool) → (b && false) ≡ false
@@ -90,7 +95,8 @@ stands-once by to ps fates numbered often e there here =
 
 -- no dead letter of a later one has the name of an earlier one
 module _ (e : Envelope) (by : ℕ) where
-  not-among-more : (x : Envelope) (refused : Option Why) (ps : List Posting) → e.number < x.number → has_name (envelopes_of (dead_letters ps)) e ≡ false
+  not-among-more : (x : Envelope) (refused : Option Why) (ps : List Posting) → e.number < x.number
+      → has_name (envelopes_of (dead_letters ps)) e ≡ false
       → has_name (envelopes_of (dead_letters (record { envelope = x; refused = refused } ∷ ps))) e ≡ false
   not-among-more x None ps lt rest = rest
   not-among-more x (Some why) ps lt rest =
@@ -103,7 +109,8 @@ module _ (e : Envelope) (by : ℕ) where
       not-among-more p.envelope p.refused ps (omega (arith, lt, numbered.1)) (not-among (n + 1) ps numbered.2 (omega (arith, lt)))
 
 -- an earlier dead letter has the name of none of these
-drop-first : (x : Envelope) (gone : List Envelope) (by n : ℕ) (es : List Envelope) → IsNumbered by n es → x.number < n → without (x ∷ gone) es ≡ without gone es
+drop-first : (x : Envelope) (gone : List Envelope) (by n : ℕ) (es : List Envelope) → IsNumbered by n es → x.number < n
+    → without (x ∷ gone) es ≡ without gone es
 drop-first x gone by n [] numbered lt = refl
 drop-first x gone by n (e ∷ es) numbered lt =
     let ne : e.number ≢ x.number = λ same. absurd (omega (arith, lt, numbered.1, same)) in
@@ -115,10 +122,12 @@ drop-first x gone by n (e ∷ es) numbered lt =
 queued-more : (by n : ℕ) (x : Envelope) (refused : Option Why) (ps : List Posting) → x.number ≡ n → IsNumbered by (n + 1) (accepted ps)
     → queued ps ≡ without (envelopes_of (dead_letters ps)) (accepted ps)
     → queued (record { envelope = x; refused = refused } ∷ ps)
-    ≡ without (envelopes_of (dead_letters (record { envelope = x; refused = refused } ∷ ps))) (accepted (record { envelope = x; refused = refused } ∷ ps))
+    ≡ without (envelopes_of (dead_letters (record { envelope = x; refused = refused }
+    ∷ ps))) (accepted (record { envelope = x; refused = refused } ∷ ps))
 queued-more by n x None ps is numbered rest =
     let no = not-among x by (n + 1) ps numbered (omega (arith, is)) in
-    ap (λ l. x ∷ l) rest ∙ sym (ap (λ b. cond (not b) (x ∷ without (envelopes_of (dead_letters ps)) (accepted ps)) (without (envelopes_of (dead_letters ps)) (accepted ps))) no)
+    ap (λ l. x ∷ l) rest ∙ sym (ap (λ b. cond (not b) (x ∷ without (envelopes_of (dead_letters ps)) (accepted ps)) (without (envelopes_of
+    (dead_letters ps)) (accepted ps))) no)
 queued-more by n x (Some why) ps is numbered rest =
     let gone = envelopes_of (dead_letters ps) in
     let yes : (is_same_name x x || has_name gone x) ≡ true = ap (λ b. b || has_name gone x) (self-name x) in
@@ -129,5 +138,6 @@ queued-is : (by n : ℕ) (ps : List Posting) → IsNumbered by n (accepted ps) �
 queued-is by n [] numbered = refl
 queued-is by n (p ∷ ps) numbered = queued-more by n p.envelope p.refused ps numbered.1 numbered.2 (queued-is by (n + 1) ps numbered.2)
 
-pub kept-in-order : (by to : ℕ) (ps : List Posting) (fates : List Envelope) → IsNumbered by 0 (accepted ps) → CameInOrder by to ps fates → IsInOrder by to ps fates
+pub kept-in-order : (by to : ℕ) (ps : List Posting) (fates : List Envelope) → IsNumbered by 0 (accepted ps) → CameInOrder by to ps fates
+    → IsInOrder by to ps fates
 kept-in-order by to ps fates numbered came = sym came ∙ ap (to_actor to) (queued-is by 0 ps numbered)
