@@ -1,6 +1,6 @@
 //! The acts of a message, and what an actor tells.
 
-ghost use Rattle.std.specs.Prelude.{◌≡◌, ◌+◌, ◌%◌, ◌^◌, ◌<◌, [], ◌∷◌, ◌++◌, map, option_to_list, length, slice_get, Some, IfErr, IfNone, IfSome, MatchResult};
+ghost use Rattle.std.specs.Prelude.{◌≡◌, ◌+◌, ◌-◌, ◌%◌, ◌^◌, ◌<◌, [], ◌∷◌, ◌++◌, map, option_to_list, length, slice_get, Some, IfErr, IfNone, IfSome, MatchResult};
 ghost use Rattle.mb_msg.specs.declared.dead_letter.Why.TheVariants.{Closed};
 ghost use Rattle.mb_journal.specs.Acts.Act.{Tell};
 ghost use Rattle.mb_books.specs.ActQueue.{act_of};
@@ -31,11 +31,13 @@ impl<A: Actor, K: Behaviours> Home<A, K> {
 
     /// Sends what the actor tells: puts its envelope last in the receiver's queue (`ActorRef.tell`).
     ///
-    /// It answers `Full` or `NoMemory` with the envelope if that was refused, which is then a dead letter for that reason.
+    /// It answers `Full` or `NoMemory` with the envelope if its queue refused that, the first only where the queue has a bound
+    /// and was full at a moment. The envelope is then a dead letter for that reason.
     pub fn push<R: Wait>(&mut self, rt: &R, to: ActorId, body: Body) -> Result<(), PushError>
         requires settled { IsSettled (K.gives self.old.cell.who.this.0) (Tell to body ∷ self.old.cell.acts) self.old }
         ensures pushed { MatchResult result (λ _. Pushes self.old self.new to body)
             (λ refused. (given_back refused ≡ next_envelope self.old to body) × Buries self.old self.new to body (reason_of refused)) }
+        ensures refused { IfErr result (λ refused. Refuses self.old (to.0 - 1) refused) }
         ensures settled { IsSettled (K.gives self.new.cell.who.this.0) self.new.cell.acts self.new }
     {
         let envelope = self.envelope(to, body);
