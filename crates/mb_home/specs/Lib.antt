@@ -1,3 +1,4 @@
+pub mod AtHome
 pub mod Contents
 pub mod Roll
 pub mod Settled

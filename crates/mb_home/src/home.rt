@@ -1,4 +1,4 @@
-ghost use Rattle.std.specs.Prelude.{◌≡◌, ◌+◌, ◌%◌, ◌^◌, [], All, map};
+ghost use Rattle.std.specs.Prelude.{◌≡◌, ◌+◌, ◌%◌, ◌^◌, ◌<◌, [], All, map};
 ghost use Rattle.mb_queue.specs.Passes.{Sending};
 ghost use Rattle.mb_home.specs.Settled.{IsOwn, IsSettled};
 ghost use Rattle.mb_home.specs.Steps.{IsRested, at_first};
@@ -15,6 +15,7 @@ use std::snapshot::Snapshot;
 
 mod clean_up;
 mod envelopes;
+mod resident;
 mod systems;
 mod tells;
 
@@ -35,7 +36,7 @@ pub struct Home<A: Actor, K: Behaviours> {
 }
 
 impl<A: Actor, K: Behaviours> Model for Home<A, K> {
-    ghost use Rattle.std.specs.Prelude.{◌≡◌, ◌-◌, map, vec_len, vec_capacity};
+    ghost use Rattle.std.specs.Prelude.{◌≡◌, ◌-◌, ◌^◌, ◌<◌, map, vec_len, vec_capacity};
     ghost use Rattle.mb_home.specs.Contents.{Contents};
 
     ghost Value = { Contents };
@@ -54,7 +55,7 @@ impl<A: Actor, K: Behaviours> Model for Home<A, K> {
       roll = map (λ n. record { who = n.cell.value.who; queue = n.take.value.queue }) h.roll.value.items;
     } };
 
-    ghost invariant = { λ h. h.id ≡ h.cell.who.this };
+    ghost invariant = { λ h. (h.id ≡ h.cell.who.this) × (h.cell.who.limit < 2 ^ 32) };
 }
 
 /// What a home leaves at the end.
@@ -110,7 +111,8 @@ impl<A: Actor, K: Behaviours> Home<A, K> {
         sends: Vec<SendPass>,
         roll: &Vec<Named<A, K>>,
     ) -> Self
-        requires { id ≡ cell.who.this }
+        requires number { id ≡ cell.who.this }
+        requires few { cell.who.limit < 2 ^ 32 }
         ensures { result ≡ at_first cell take sends.items result.room
             (map (λ n. record { who = n.cell.value.who; queue = n.take.value.queue }) roll.now.items) }
     {
