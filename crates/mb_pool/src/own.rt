@@ -4,18 +4,17 @@ ghost use Rattle.mb_pool.specs.Ledger.{borrowing, joining, lending, opened, unus
 ghost use Rattle.mb_pool.specs.Rule.{Moment, PutsLast, TakesFirst};
 ghost use Rattle.mb_pool.specs.Untouched.{IsUntouched};
 
-use crate::knowledge::Knowledge;
-use crate::parked::Parked;
-use crate::rule::{Accounted, Joins, Lends, Opens, Pushed, Scoped, Taken};
+use crate::deque::Deque;
+use crate::rule::Scoped;
 use crate::thief::Thief;
-use crossbeam_deque::Worker;
 use mb_gate::{Claim, Resident};
 use std::alloc::{AllocError, Global};
 use std::marker::Model;
 
 /// The deque to which an end pushes, first in, first out. The other ends steal from it.
+#[derive(Drop)]
 pub struct Own<H: Resident> {
-    worker: Worker<Parked<H>, Global, Knowledge<H>, Accounted>,
+    deque: Deque<H>,
 }
 
 impl<H: Resident> Model for Own<H> {
@@ -28,28 +27,18 @@ impl<H: Resident> Model for Own<H> {
     ghost use Rattle.crossbeam_deque.specs.Handles.{worker_flavor};
     ghost use Rattle.mb_pool.specs.Deques.{own_look};
 
-    ghost view = { λ o. own_look o.worker };
+    ghost view = { λ o. own_look o.deque.worker };
 
-    ghost invariant = { λ o. worker_flavor o.worker ≡ 0 };
+    ghost invariant = { λ o. worker_flavor o.deque.worker ≡ 0 };
 }
-
-impl<H: Resident> Drop for Own<H> {
-    fn drop(self) {
-        let Self { worker } = self;
-        drop(worker);
-    }
-}
-
-/// The slots with which a deque begins. It grows.
-const FIRST_SLOTS: usize = 64;
 
 impl<H: Resident> Own<H> {
     /// An empty deque. It is not settled yet of which gates its claims are.
     pub fn new(alloc: Global) -> Result<Own<H>, AllocError>
         ensures { IfOk result (λ own. (own.spot.capacity ≡ None) × (own.ledger ≡ unused)) }
     {
-        let worker = Worker::fifo_as(alloc, FIRST_SLOTS)?;
-        Ok(Own { worker })
+        let deque = Deque::new(alloc)?;
+        Ok(Own { deque })
     }
 
     /// Puts the claim last, or gives it back for want of memory.
@@ -61,10 +50,7 @@ impl<H: Resident> Own<H> {
         ensures pushed { MatchResult result (λ _. PutsLast (IsUntouched H.is_of H.journal H.mailbox H.rested) self.old.ledger claim self.new.ledger)
             (λ back. (back ≡ claim) × (self.new ≡ self.old)) }
     {
-        match self.worker.push_as::<Pushed>(Parked { claim }) {
-            Ok(()) => Ok(()),
-            Err(parked) => Err(parked.open()),
-        }
+        self.deque.push(claim)
     }
 
     /// Takes the first claim. `None` only if the deque was empty at a moment of the call.
@@ -75,8 +61,7 @@ impl<H: Resident> Own<H> {
         ensures taken { MatchOption result ((self.new ≡ self.old) × Moment (IsUntouched H.is_of H.journal H.mailbox H.rested) self.old.ledger [])
             (λ c. TakesFirst (IsUntouched H.is_of H.journal H.mailbox H.rested) self.old.ledger c self.new.ledger) }
     {
-        let parked = self.worker.pop_as::<Taken>()?;
-        Some(parked.open())
+        self.deque.take()
     }
 
     /// Settles of which gates the claims are, and how many shares there are.
@@ -84,7 +69,7 @@ impl<H: Resident> Own<H> {
         requires { self.old.ledger ≡ unused }
         ensures { self.new ≡ record self.old { ledger = opened S.gates S.members S.members } }
     {
-        let _ = self.worker.another::<Opens<S>>();
+        self.deque.open::<S>();
     }
 
     /// A port for another end, with one of its shares. Where it is refused, nothing has changed.
@@ -94,8 +79,8 @@ impl<H: Resident> Own<H> {
             (λ thief. (self.new ≡ record self.old { ledger = lending 1 self.old.ledger }) × (thief ≡ record self.old { ledger = borrowing 1 self.old.ledger }))
             (λ _. self.new ≡ self.old) }
     {
-        let stealer = self.worker.stealer()?;
-        let pass = self.worker.another::<Lends>();
+        let stealer = self.deque.worker.stealer()?;
+        let pass = self.deque.lend();
         Ok(Thief { stealer, pass })
     }
 
@@ -106,6 +91,6 @@ impl<H: Resident> Own<H> {
         ensures { self.new ≡ record self.old { ledger = joining self.old.ledger other.ledger } }
     {
         let Thief { stealer: _, pass } = other;
-        self.worker.absorb::<Joins>(pass);
+        self.deque.join(pass);
     }
 }

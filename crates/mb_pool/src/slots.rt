@@ -62,8 +62,10 @@ impl<H: Resident> Slots<H> {
         ensures taken { MatchOption result ((view pass.new ≡ view pass.old) × Moment (IsUntouched H.is_of H.journal H.mailbox H.rested) (view pass.old) [])
             (λ c. TakesFirst (IsUntouched H.is_of H.journal H.mailbox H.rested) (view pass.old) c (view pass.new)) }
     {
-        let parked = self.queue.pop_as::<Taken, R>(rt, pass)?;
-        Some(parked.open())
+        match self.queue.pop_as::<Taken, R>(rt, pass) {
+            Some(parked) => Some(parked.open()),
+            None => None,
+        }
     }
 
     /// Settles of which gates the claims are, and how many shares there are.

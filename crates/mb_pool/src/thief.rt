@@ -1,5 +1,6 @@
 //! A way into another end's deque.
 ghost use Rattle.std.specs.Prelude.{◌≡◌, ◌<◌, [], MatchOption};
+ghost use Rattle.crossbeam_deque.specs.Handles.{view, IsPassOf, stealer_deque, stealer_flavor};
 ghost use Rattle.mb_pool.specs.Rule.{Moment, TakesFirst};
 ghost use Rattle.mb_pool.specs.Untouched.{IsUntouched};
 
@@ -43,13 +44,29 @@ impl<H: Resident> Thief<H> {
         ensures taken { MatchOption result ((self.new ≡ self.old) × Moment (IsUntouched H.is_of H.journal H.mailbox H.rested) self.old.ledger [])
             (λ c. TakesFirst (IsUntouched H.is_of H.journal H.mailbox H.rested) self.old.ledger c self.new.ledger) }
     {
-        for _ in rt.forever() {
-            match self.stealer.steal_as::<Taken>(&mut self.pass) {
-                Steal::Success(parked) => return Some(parked.open()),
-                Steal::Empty => return None,
-                Steal::Retry => {}
-            }
-        }
-        unreachable!()
+        steal_first(rt, &self.stealer, &mut self.pass)
     }
+}
+
+#[inline]
+fn steal_first<H: Resident, R: Wait>(
+    rt: &R,
+    stealer: &Stealer<Parked<H>, Global, Knowledge<H>, Accounted>,
+    pass: &mut Pass<Parked<H>, Knowledge<H>, Global>,
+) -> Option<Claim<H>>
+    requires deque { IsPassOf (stealer_deque stealer.now) pass.old }
+    requires flavor { stealer_flavor stealer.now ≡ 0 }
+    requires share { 0 < (view pass.old).shares }
+    ensures deque { IsPassOf (stealer_deque stealer.now) pass.new }
+    ensures taken { MatchOption result ((view pass.new ≡ view pass.old) × Moment (IsUntouched H.is_of H.journal H.mailbox H.rested) (view pass.old) [])
+        (λ c. TakesFirst (IsUntouched H.is_of H.journal H.mailbox H.rested) (view pass.old) c (view pass.new)) }
+{
+    for _ in rt.forever() {
+        match stealer.steal_as::<Taken>(pass) {
+            Steal::Success(parked) => return Some(parked.open()),
+            Steal::Empty => return None,
+            Steal::Retry => {}
+        }
+    }
+    unreachable!()
 }
