@@ -52,7 +52,7 @@ module _ {C : Type 0} where
   agree_anew g g' n n' (l ∷ ls) none h =
       let sums = sum_by-cons of_shares l ls in
       All-cons (Agrees g' n') l ls (record { same = λ some. absurd (omega (arith, sums, none, some)); idle = (All-head (Agrees g n) l ls h).idle })
-          (agree_anew g g' n n' ls (omega (arith, sums, none)) (All-tail (Agrees g n) l ls h))
+      (agree_anew g g' n n' ls (omega (arith, sums, none)) (All-tail (Agrees g n) l ls h))
 
 module _ {C : Type 0} (IsFit : TableId → C → Type 0) (items : List C) (views : List (Ledger C)) (port : ℕ) (v : Ledger C) (k : Kept IsFit items views) (at : get_elem? views port ≡ some v) where
   abbrev pub rest : List (Ledger C)
@@ -89,21 +89,21 @@ module _ {C : Type 0} (IsFit : TableId → C → Type 0) (items : List C) (views
       let w : Ledger C = pushing v t in
       let more : k.gone ++ (items ++ c ∷ []) ≡ (k.gone ++ items) ++ c ∷ [] = sym (append_assoc k.gone items (c ∷ [])) in (
         w,
-          record {
-            gates = k.gates;
-            members = k.members;
-            gone = k.gone;
-            fit = subst (All (IsFit k.gates)) (sym more) (All-push (IsFit k.gates) (k.gone ++ items) c k.fit (subst (λ g. IsFit g c) same.0 fit));
-            came = subst (λ l. IsPermutation (all_pushed (set views port w)) (turns l)) (sym more)
-                (subst (IsPermutation (all_pushed (set views port w))) (sym (turns_end (k.gone ++ items) c))
-                (IsPermutation-trans (all_pushed (set views port w)) ((v.pushed ++ t ∷ []) ++ all_pushed rest) (turns (k.gone ++ items) ++ t ∷ []) (pulls of_pushed views port v w at)
-                (IsPermutation-trans ((v.pushed ++ t ∷ []) ++ all_pushed rest) ((v.pushed ++ all_pushed rest) ++ t ∷ []) (turns (k.gone ++ items) ++ t ∷ []) (to_end v.pushed (all_pushed rest) t)
-                (before (v.pushed ++ all_pushed rest) (turns (k.gone ++ items)) (t ∷ []) came_by))));
-            went = IsPermutation-trans (all_taken (set views port w)) (v.taken ++ all_taken rest) (turns k.gone) (pulls of_taken views port v w at) went_by;
-            whole = weighs of_shares views port v w at ∙ shares_are;
-            agree = holds_set (Agrees k.gates k.members) views port w (record { same = λ _. same; idle = λ none. absurd (omega (arith, none, share)) }) (holds_others (Agrees k.gates k.members) views port k.agree);
-          },
-          (items, moment share, refl),
+        record {
+          gates = k.gates;
+          members = k.members;
+          gone = k.gone;
+          fit = subst (All (IsFit k.gates)) (sym more) (All-push (IsFit k.gates) (k.gone ++ items) c k.fit (subst (λ g. IsFit g c) same.0 fit));
+          came = subst (λ l. IsPermutation (all_pushed (set views port w)) (turns l)) (sym more)
+              (subst (IsPermutation (all_pushed (set views port w))) (sym (turns_end (k.gone ++ items) c))
+              (IsPermutation-trans (all_pushed (set views port w)) ((v.pushed ++ t ∷ []) ++ all_pushed rest) (turns (k.gone ++ items) ++ t ∷ []) (pulls of_pushed views port v w at)
+              (IsPermutation-trans ((v.pushed ++ t ∷ []) ++ all_pushed rest) ((v.pushed ++ all_pushed rest) ++ t ∷ []) (turns (k.gone ++ items) ++ t ∷ []) (to_end v.pushed (all_pushed rest) t)
+              (before (v.pushed ++ all_pushed rest) (turns (k.gone ++ items)) (t ∷ []) came_by))));
+          went = IsPermutation-trans (all_taken (set views port w)) (v.taken ++ all_taken rest) (turns k.gone) (pulls of_taken views port v w at) went_by;
+          whole = weighs of_shares views port v w at ∙ shares_are;
+          agree = holds_set (Agrees k.gates k.members) views port w (record { same = λ _. same; idle = λ none. absurd (omega (arith, none, share)) }) (holds_others (Agrees k.gates k.members) views port k.agree);
+        },
+        (items, moment share, refl),
       )
 
   -- so the port of a place that is not opened yet is all that there is
@@ -113,9 +113,13 @@ module _ {C : Type 0} (IsFit : TableId → C → Type 0) (items : List C) (views
       let same = mine.same (omega (arith, one)) in
       let members : v.members ≡ 1 = ap (λ (l : Ledger C). l.members) e in
       let none : all_shares rest ≡ 0 = let s = shares_are in let m = same.1 in omega (arith, one, members, s, m) in
-      let no = no_shares k.gates k.members rest none (holds_others (Agrees k.gates k.members) views port k.agree) in
-      (none, turns_none 0 (k.gone ++ items) (nothing_more (turns (k.gone ++ items))
-          (subst (λ l. IsPermutation l (turns (k.gone ++ items))) (ap (λ (l : Ledger C). l.pushed ++ all_pushed rest) e ∙ no.0) came_by)), no.0, no.1)
+      let no = no_shares k.gates k.members rest none (holds_others (Agrees k.gates k.members) views port k.agree) in (
+        none,
+        turns_none 0 (k.gone ++ items) (nothing_more (turns (k.gone ++ items))
+            (subst (λ l. IsPermutation l (turns (k.gone ++ items))) (ap (λ (l : Ledger C). l.pushed ++ all_pushed rest) e ∙ no.0) came_by)),
+        no.0,
+        no.1,
+      )
 
   none_of : (xs ys : List C) → xs ++ ys ≡ [] → xs ≡ []
   none_of [] ys e = refl
@@ -221,10 +225,10 @@ module _ {C : Type 0} (IsFit : TableId → C → Type 0) (items : List C) (views
       (from_left (f both ++ flat_map f left) (f v ++ (f u ++ flat_map f left)) (flat_map f views) (ap (λ l. l ++ flat_map f left) sum ∙ append_assoc (f v) (f u) (flat_map f left))
       (IsPermutation-trans (f v ++ (f u ++ flat_map f left)) (f u ++ (f v ++ flat_map f left)) (flat_map f views) (past (f v) (f u) (flat_map f left))
       (IsPermutation-trans (f u ++ (f v ++ flat_map f left)) (f u ++ w) (flat_map f views)
-          (behind (f u) (f v ++ flat_map f left) w (IsPermutation-sym w (f v ++ flat_map f left) (pulls_own f without port v still)))
+      (behind (f u) (f v ++ flat_map f left) w (IsPermutation-sym w (f v ++ flat_map f left) (pulls_own f without port v still)))
       (IsPermutation-trans (f u ++ w) (f u ++ away) (flat_map f views)
-          (behind (f u) w away (subst (IsPermutation w) (ap (λ l. l ++ away) none) (pulls f views other u spent was)))
-          (IsPermutation-sym (flat_map f views) (f u ++ away) (pulls_own f views other u was))))))
+      (behind (f u) w away (subst (IsPermutation w) (ap (λ l. l ++ away) none) (pulls f views other u spent was)))
+      (IsPermutation-sym (flat_map f views) (f u ++ away) (pulls_own f views other u was))))))
 
   pub joins : 0 < v.shares → 0 < u.shares → Kept IsFit items (set (set views port both) other spent)
   joins mine_some theirs_some = subst (Kept IsFit items) (sym swapped)

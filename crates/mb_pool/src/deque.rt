@@ -63,7 +63,7 @@ impl<H: Resident> Deque<H> {
         ensures same { (worker_deque self.new.worker ≡ worker_deque self.old.worker) × (worker_flavor self.new.worker ≡ worker_flavor self.old.worker) }
         ensures taken { MatchOption result
             ((worker_view self.new.worker ≡ worker_view self.old.worker)
-                × Moment (IsUntouched H.is_of H.journal H.mailbox H.rested) (worker_view self.old.worker) [])
+            × Moment (IsUntouched H.is_of H.journal H.mailbox H.rested) (worker_view self.old.worker) [])
             (λ c. TakesFirst (IsUntouched H.is_of H.journal H.mailbox H.rested) (worker_view self.old.worker) c (worker_view self.new.worker)) }
     {
         match self.worker.pop_as::<Taken>() {

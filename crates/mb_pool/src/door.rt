@@ -94,8 +94,8 @@ impl<H: Resident> Door<H> {
             (λ c. TakesFirst (IsUntouched H.is_of H.journal H.mailbox H.rested) self.old.ledger c self.new.ledger) }
     {
         match &mut self.hall {
-            Hall::Bounded(slots, pass) => slots.take(rt, pass),
-            Hall::Unbounded(inlet, pass) => inlet.take(rt, pass),
+            Hall::Bounded(slots, pass) => return slots.take(rt, pass),
+            Hall::Unbounded(inlet, pass) => return inlet.take(rt, pass),
         }
     }
 

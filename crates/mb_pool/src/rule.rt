@@ -100,6 +100,7 @@ pub trait Scoped {
     ghost use Rattle.atomic_table.specs.Seated.{TableId};
 
     ghost gates: { TableId };
+
     ghost members: { ℕ };
 }
 

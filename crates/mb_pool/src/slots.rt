@@ -46,7 +46,7 @@ impl<H: Resident> Slots<H> {
         ensures queue { (IsPassOf self.now.queue pass.new) × (pass.new.table_id ≡ pass.old.table_id) }
         ensures pushed { MatchResult result (λ _. PutsLast (IsUntouched H.is_of H.journal H.mailbox H.rested) (view pass.old) claim (view pass.new))
             (λ back. (back ≡ claim) × (view pass.new ≡ view pass.old)
-                × WasFull (IsUntouched H.is_of H.journal H.mailbox H.rested) (ruled_capacity self.now.queue) (view pass.old)) }
+            × WasFull (IsUntouched H.is_of H.journal H.mailbox H.rested) (ruled_capacity self.now.queue) (view pass.old)) }
     {
         match self.queue.push_as::<Pushed, R>(rt, pass, Parked { claim }) {
             Ok(()) => Ok(()),
