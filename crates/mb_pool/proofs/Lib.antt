@@ -1,0 +1,4 @@
+pub mod Lists
+pub mod Looks
+pub mod Moves
+pub mod Steps

@@ -1,0 +1,10 @@
+pub mod Deques
+pub mod Items
+pub mod Ledger
+pub mod Made
+pub mod Moves
+pub mod Parts
+pub mod Places
+pub mod Rule
+pub mod Untouched
+pub mod Ways
