@@ -59,7 +59,8 @@ none_refused [] [] id are = refl
 none_refused [] (sender ∷ senders) id are = absurd are
 none_refused (n ∷ numbers) [] id are = absurd are
 none_refused (n ∷ numbers) (sender ∷ senders) id are =
-    ap (λ (l : List DeadLetter). count_by (is_to id) l + refused_to id senders) are.0.none_dead
+    sum_by-cons (λ (s : SenderReport). count_by (is_to id) s.dead.items) sender senders
+    ∙ ap (λ (l : List DeadLetter). count_by (is_to id) l + refused_to id senders) are.0.none_dead
     ∙ zero-add (refused_to id senders) ∙ none_refused numbers senders id are.1
 
 -- the line of an actor that is live, with nothing left, dead or started afresh
