@@ -15,11 +15,11 @@ use lists::measure_lists;
 use measured::{Measured, measure};
 use memory::Memory;
 use outboxes::measure_outbox;
-use teller::Teller;
 use std::io;
 use std::io::ErrorKind;
 use std::marker::Brand;
 use std::time::Duration;
+use teller::Teller;
 
 /// How many messages are handled.
 const MESSAGES: u32 = 1_000_000;

@@ -1,3 +1,4 @@
+pub mod Answering
 pub mod Endings
 pub mod EnvelopeStep
 pub mod InputLemmas

@@ -1,6 +1,7 @@
 -- The text of the report of a run.
 use Rattle.std.proofs.Common.{◌≡◌, ℕ, ◌+◌, ℤ, Bool, true, false, ◌==◌, List, [], ◌∷◌, ◌++◌, length, count_by, sum_by, codes, refl, sym, ap, ◌∙◌, arith}
-use Rattle.std.proofs.Common.{length-append}
+use Rattle.std.proofs.Common.{cond, length-append, zero-add}
+use Rattle.std.proofs.lemmas.List.Sums.{sum_by-cons}
 use Rattle.std.specs.Prelude.{Option, Some, None}
 use Rattle.std.specs.List.{list_all}
 use Rattle.mb_msg.specs.declared.dead_letter.DeadLetter.{DeadLetter}
@@ -39,9 +40,18 @@ counted (e ∷ before) = one e (counted before)
   where
     one : (x : Entry) → count_by tells_of_envelope before ≡ length (envelopes_of before) →
         count_by tells_of_envelope (x ∷ before) ≡ length (envelopes_of before ++ envelope_in x)
-    one (Handled envelope reading outcome) so_far = omega (arith, so_far, length-append (envelopes_of before) (envelope ∷ []))
-    one (System number message outcome) so_far = omega (arith, so_far, length-append (envelopes_of before) [])
-    one (Dropped envelope) so_far = omega (arith, so_far, length-append (envelopes_of before) (envelope ∷ []))
+    one (Handled envelope reading outcome) so_far =
+        let more : count_by tells_of_envelope (Handled envelope reading outcome ∷ before) ≡ 1 + count_by tells_of_envelope before =
+        sum_by-cons (λ (y : Entry). cond (tells_of_envelope y) 1 0) (Handled envelope reading outcome) before in
+        omega (arith, so_far, more, length-append (envelopes_of before) (envelope ∷ []))
+    one (System number message outcome) so_far =
+        let more : count_by tells_of_envelope (System number message outcome ∷ before) ≡ 0 + count_by tells_of_envelope before =
+        sum_by-cons (λ (y : Entry). cond (tells_of_envelope y) 1 0) (System number message outcome) before in
+        omega (arith, so_far, more, length-append (envelopes_of before) [])
+    one (Dropped envelope) so_far =
+        let more : count_by tells_of_envelope (Dropped envelope ∷ before) ≡ 1 + count_by tells_of_envelope before =
+        sum_by-cons (λ (y : Entry). cond (tells_of_envelope y) 1 0) (Dropped envelope) before in
+        omega (arith, so_far, more, length-append (envelopes_of before) (envelope ∷ []))
 
 -- where no dead letter is, none was sent to an actor
 none_refused : (numbers : List ℕ) (senders : List SenderReport) (id : ℕ) → AreSenders numbers senders → refused_to id senders ≡ 0
@@ -49,7 +59,9 @@ none_refused [] [] id are = refl
 none_refused [] (sender ∷ senders) id are = absurd are
 none_refused (n ∷ numbers) [] id are = absurd are
 none_refused (n ∷ numbers) (sender ∷ senders) id are =
-    ap (λ (l : List DeadLetter). count_by (is_to id) l + refused_to id senders) are.0.none_dead ∙ none_refused numbers senders id are.1
+    sum_by-cons (λ (s : SenderReport). count_by (is_to id) s.dead.items) sender senders
+    ∙ ap (λ (l : List DeadLetter). count_by (is_to id) l + refused_to id senders) are.0.none_dead
+    ∙ zero-add (refused_to id senders) ∙ none_refused numbers senders id are.1
 
 -- the line of an actor that is live, with nothing left, dead or started afresh
 calm : (senders : List SenderReport) (numbers : List ℕ) (id : ℕ) (name : List ℕ) (a : ActorReport) (state : Option ℤ) (handled : ℕ) →
@@ -57,7 +69,8 @@ calm : (senders : List SenderReport) (numbers : List ℕ) (id : ℕ) (name : Lis
     restarts_of a ≡ 0 → line_data senders id name a ≡ calm_line name state handled
 calm senders numbers id name a state handled are live state_is unsuspended handled_is none_left none_cleaned no_restart =
     let dead : dead_of id senders a ≡ 0 =
-    ap (λ (l : List Envelope). length l + refused_to id senders) none_cleaned ∙ none_refused numbers senders id are in
+    ap (λ (l : List Envelope). length l + refused_to id senders) none_cleaned ∙ zero-add (refused_to id senders)
+    ∙ none_refused numbers senders id are in
     let left : left_of a ≡ 0 = ap (λ (l : List Envelope). length l) none_left in
     λ i. record {
       name = name;

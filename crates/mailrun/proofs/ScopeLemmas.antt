@@ -9,7 +9,7 @@ use Rattle.mb_reader.specs.Plans.{ScenarioData}
 use Rattle.mb_reader.specs.Reading.{IsReadAs}
 use Rattle.mb_reader.specs.Scripts.{scripted_of}
 use Rattle.mb_script.specs.Script.{Scripted}
-use Rattle.mailrun.specs.Scope.{adds_alone, can_run, has_room, is_of_one, is_plain, is_plain_actor, is_plain_send}
+use Rattle.mailrun.specs.Scope.{adds_alone, can_run, has_plain_work, has_room, is_of_one, is_plain, is_plain_actor, is_plain_send}
 use Rattle.mailrun.proofs.ScriptLemmas.{and-true}
 
 pub record Runs (scenario : ScenarioData) : Type 0 where
@@ -27,14 +27,13 @@ runs scenario can =
     let one = (and-true scenario.quiet (is_of_one scenario) middle.0).1 in
     let ones = and-true (length scenario.plan.actors == 1 && length scenario.names == 1) (length scenario.scripts == 1) one in
     let first = and-true (length scenario.plan.actors == 1) (length scenario.names == 1) ones.0 in
-    let plain = and-true (list_all is_plain_actor scenario.plan.actors && list_all (λ (s : Scripted). adds_alone s.script) scenario.scripts)
-    (list_all is_plain_send scenario.sends) middle.1 in
-    let adds = and-true (list_all is_plain_actor scenario.plan.actors) (list_all (λ (s : Scripted). adds_alone s.script) scenario.scripts) plain.0 in
+    let work = (and-true (list_all is_plain_actor scenario.plan.actors) (has_plain_work scenario) middle.1).1 in
+    let plain = and-true (list_all (λ (s : Scripted). adds_alone s.script) scenario.scripts) (list_all is_plain_send scenario.sends) work in
     record {
       one_actor = eqb-true _ _ first.0;
       one_name = eqb-true _ _ first.1;
       one_script = eqb-true _ _ ones.1;
-      adds = adds.1;
+      adds = plain.0;
       plain = plain.1;
       room = ltb-true _ _ outer.1;
     }

@@ -74,7 +74,6 @@ calls_start : (who : Identity) (a : Option Answer) (effects : List Effect) → i
     call_of who [] (System 0 Create (Applied a effects)) ≡ Some Start
 calls_start who a effects an_actor = if_false _ _ _ an_actor ∙ if_true _ _ _ (starts a effects)
 
-
 started_so : (who : Identity) (answer : Answer) (effects : List Effect) → is_guardian who ≡ false → is_failed (Some answer) ≡ false → effects ≡ [] →
     Starts who (with_entry (ready_cell who) (System 0 Create (Applied (Some answer) effects)))
 started_so who answer effects an_actor well none = record {

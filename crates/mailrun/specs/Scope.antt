@@ -51,11 +51,13 @@ is_plain_send send = send.from == 0 && send.to.0 == 1 && is_message send.what &&
 abbrev pub is_of_one : ScenarioData → Bool
 is_of_one scenario = length scenario.plan.actors == 1 && length scenario.names == 1 && length scenario.scripts == 1
 
+-- all scripts only add up, and what is sent is plain
+abbrev pub has_plain_work : ScenarioData → Bool
+has_plain_work scenario = list_all (λ (s : Scripted). adds_alone s.script) scenario.scripts && list_all is_plain_send scenario.sends
+
 -- its actors, their scripts and what is sent are plain
 abbrev pub is_plain : ScenarioData → Bool
-is_plain scenario =
-    list_all is_plain_actor scenario.plan.actors && list_all (λ (s : Scripted). adds_alone s.script) scenario.scripts
-    && list_all is_plain_send scenario.sends
+is_plain scenario = list_all is_plain_actor scenario.plan.actors && has_plain_work scenario
 
 -- a journal has room for a start, all that is sent, and one entry more
 abbrev pub has_room : ScenarioData → Bool

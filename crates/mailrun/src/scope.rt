@@ -3,7 +3,7 @@
 ghost use Rattle.std.specs.Prelude.{◌≡◌};
 ghost use Rattle.std.specs.List.{list_all};
 ghost use Rattle.mb_reader.specs.View.{actor_data, kind_data, scenario_data};
-ghost use Rattle.mailrun.specs.Scope.{adds_alone, can_run, has_no_hooks, has_room, is_add, is_message, is_of_one, is_plain, is_plain_actor, is_plain_send, is_unbounded};
+ghost use Rattle.mailrun.specs.Scope.{adds_alone, can_run, has_no_hooks, has_plain_work, has_room, is_add, is_message, is_of_one, is_plain, is_plain_actor, is_plain_send, is_unbounded};
 
 use mb_msg::Body;
 use mb_plan::{ActorPlan, Kind};
@@ -29,9 +29,14 @@ fn is_of_one(scenario: &Scenario) -> bool
 fn is_plain(scenario: &Scenario) -> bool
     ensures { result ≡ is_plain (scenario_data scenario.now) }
 {
-    are_plain_actors(&scenario.plan.actors)
-        && add_alone(&scenario.scripts)
-        && are_plain_sends(&scenario.sends)
+    are_plain_actors(&scenario.plan.actors) && has_plain_work(scenario)
+}
+
+/// Whether all scripts only add up, and what is sent is plain.
+fn has_plain_work(scenario: &Scenario) -> bool
+    ensures { result ≡ has_plain_work (scenario_data scenario.now) }
+{
+    add_alone(&scenario.scripts) && are_plain_sends(&scenario.sends)
 }
 
 /// Whether a journal has room for a start, all that is sent, and one entry more.

@@ -105,9 +105,7 @@ fn guardian<A: Actor, K: Behaviours>(
 }
 
 /// Starts the guardian; answers the message that it has for its child.
-fn start_guardian<A: Actor, K: Behaviours>(
-    guardian: &mut Cell<A, K>,
-) -> Result<SysMsg, ReadyError>
+fn start_guardian<A: Actor, K: Behaviours>(guardian: &mut Cell<A, K>) -> Result<SysMsg, ReadyError>
     requires new { guardian.old ≡ new_cell (the_guardian guardian.old.who.limit) }
     ensures started { IfOk result (λ _. guardian.new ≡ started_guardian guardian.old.who.limit) }
     ensures message { IfOk result (λ message. message ≡ Create) }

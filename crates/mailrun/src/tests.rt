@@ -505,7 +505,9 @@ fn runs_of<A: Actor, K: Behaviours>(
     };
     let mut envelopes = post_of(alloc, sends)?;
     let Started {
-        mut cell, status, ..
+        mut cell,
+        status,
+        ..
     } = start::<A, K>(alloc, actor, strategy, journal_limit)?;
     let mut handled = Vec::new(alloc);
     let mut fault = None;

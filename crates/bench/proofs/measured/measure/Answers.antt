@@ -1,4 +1,4 @@
-use Rattle.std.proofs.Common.{◌≡◌, ◌++◌, List, ap, ◌∙◌}
+use Rattle.std.proofs.Common.{◌≡◌, ◌++◌, List, to_z, of_z, w64, ap, ◌∙◌, rules}
 use Rattle.mb_actor.specs.declared.message.Message.{Message}
 use Rattle.mb_journal.specs.Identity.{Identity}
 use Rattle.mb_journal.specs.Incarnation.{messages}
@@ -7,9 +7,10 @@ use Rattle.bench.proofs.measured.measure.Goals as goal
 
 pub returns-clause-state : goal.returns-clause-state
 returns-clause-state g c =
-    let cell = c.handle_all-acts.new.cell in
+    let cell = c.handle_all.new.cell in
     let heard : messages cell.who cell.journal ≡ sends c.args.count =
     c.in_ok-acts.ensures.heard ∙ ap (λ (l : List Message). l ++ sends c.args.count) c.in_ok-start.ensures.no_message in
     let this = ap (λ (w : Identity). w.this.0) (c.in_ok-acts.ensures.same_who ∙ c.in_ok-start.ensures.same_who) ∙ ap (λ x. x.0) c.cell_of-cell.ensures.this in
-    c.in-Some.ensures.content ∙ ap (λ n. g.K.Behaviours.after n (messages cell.who cell.journal)) this
+    let kept : to_z w64 (of_z w64 c.in-Some.state) ≡ c.in-Some.state = search rules in
+    kept ∙ c.in-Some.ensures.content ∙ ap (λ n. g.K.Behaviours.after n (messages cell.who cell.journal)) this
     ∙ ap (λ (l : List Message). g.K.Behaviours.after 1 l) heard
