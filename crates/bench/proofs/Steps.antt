@@ -93,7 +93,8 @@ started_by who gives (Applied None effects) an_actor steady may_come =
     absurd (false≢true ((subst (λ (call : Option Call). IsGiven who gives [] call None effects) (calls_start who None effects an_actor)
     may_come.1).answered))
 started_by who gives (Applied (Some answer) effects) an_actor steady may_come =
-    let given = subst (λ (call : Option Call). IsGiven who gives [] call (Some answer) effects) (calls_start who (Some answer) effects an_actor) may_come.1 in
+    let given = subst (λ (call : Option Call). IsGiven who gives [] call (Some answer) effects) (calls_start who (Some answer) effects an_actor)
+    may_come.1 in
     let well : is_failed (Some answer) ≡ false = steady _ _ given.allowed in
     record {
       same_who = refl;
@@ -113,7 +114,8 @@ last_entry : (who : Identity) (gives : Moment → Reply → Type 0) (before : Li
 unfolding AreLawful
 last_entry who gives before e lawful = lawful.entries.0
 
-pub starts_actor : (gives : ℕ → Moment → Reply → Type 0) (who : Identity) (ready cell : Seen) → is_guardian who ≡ false → IsSteady (gives who.this.0) →
+pub starts_actor : (gives : ℕ → Moment → Reply → Type 0) (who : Identity) (ready cell : Seen) → is_guardian who ≡ false → IsSteady (gives
+    who.this.0) →
     ready ≡ ready_cell who → TakesSystem ready cell 0 Create → IsLawful cell.who (gives cell.who.this.0) cell.journal → Starts who cell
 starts_actor gives who ready cell an_actor steady is_ready took lawful =
     let e : Entry = System 0 Create took.outcome in

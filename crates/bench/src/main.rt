@@ -1,4 +1,5 @@
-//! `bench`: what one handled message, without effects and with a tell, one push on a system list and one tell cost. What was done goes to standard output,
+//! `bench`: what one handled message, without effects and with a tell, one push on a system list and one tell cost.
+//! What was done goes to standard output,
 //! the figures to standard error.
 #![tactic(auto)]
 

@@ -1,5 +1,6 @@
 -- The text of the report of a run.
-use Rattle.std.proofs.Common.{◌≡◌, ℕ, ◌+◌, ℤ, Bool, true, false, ◌==◌, List, [], ◌∷◌, ◌++◌, length, count_by, sum_by, codes, refl, sym, ap, ◌∙◌, arith}
+use Rattle.std.proofs.Common.{◌≡◌, ℕ, ◌+◌, ℤ, Bool, true, false, ◌==◌, List, []}
+use Rattle.std.proofs.Common.{◌∷◌, ◌++◌, length, count_by, sum_by, codes, refl, sym, ap, ◌∙◌, arith}
 use Rattle.std.proofs.Common.{cond, length-append, zero-add}
 use Rattle.std.proofs.lemmas.List.Sums.{sum_by-cons}
 use Rattle.std.specs.Prelude.{Option, Some, None}
@@ -130,7 +131,8 @@ told_text scenario report one plain ran =
     ∙ ap (λ (l : List Envelope). length l) told.told ∙ length-sent 0 (bodies scenario.sends) ∙ length-bodies scenario.sends plain in
     let state : told.actor.state ≡ Some (state_after script.script scenario.sends) =
     told.state ∙ ap (λ (l : List Message). Some (after_of script.script.initial script.script.rows l)) told.heard in
-    let second : line_data senders 1 named.0 told.actor ≡ calm_line named.0 (Some (state_after script.script scenario.sends)) (length scenario.sends) =
+    let second : line_data senders 1 named.0 told.actor ≡ calm_line named.0 (Some (state_after script.script scenario.sends)) (length
+    scenario.sends) =
     calm senders numbers 1 named.0 told.actor _ _ told.senders told.live state told.unsuspended handled told.of_actor.none_left
     told.of_actor.none_cleaned (ap (λ (l : List Entry). count_by tells_of_restart l) told.of_actor.journal_is ∙ told.no_restart) in
     ap (λ (names : List (List ℕ)). report_text_of names report) named.1

@@ -75,7 +75,8 @@ found_none throughput old new n status opened fewer turns rest kept taken none =
     record {
       stopped = NoEnvelope (word_of status);
       is_end = none;
-      run_of = run_from throughput old new n (NoEnvelope (word_of status)) (fewer, word, nothing_in_front old new kept rest) turns (omega (arith, fewer))
+      run_of = run_from throughput old new n (NoEnvelope (word_of status)) (fewer, word, nothing_in_front old new kept rest) turns (omega
+          (arith, fewer))
           rest kept;
       taken = taken;
       progress = λ some. omega (arith, taken, no_more);

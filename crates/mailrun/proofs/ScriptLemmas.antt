@@ -10,7 +10,8 @@ use Rattle.mb_actor.specs.declared.call.Call.TheVariants.{Start, Receive, Restar
 use Rattle.mb_actor.specs.declared.message.Message.TheVariants.{User, Control, Terminated}
 use Rattle.mb_journal.specs.Entry.{is_failed}
 use Rattle.mb_script.specs.Operations.{answer_by, asked_by, failure}
-use Rattle.mb_script.specs.Script.{RowData, ScriptData, Work, answer_to, answer_with, effects_with, gives_of, row_for, work_for, work_of_kind, work_with}
+use Rattle.mb_script.specs.Script.{RowData, ScriptData, Work, answer_to, answer_with}
+use Rattle.mb_script.specs.Script.{effects_with, gives_of, row_for, work_for, work_of_kind, work_with}
 use Rattle.mb_script.specs.declared.operation.Operation.{Operation}
 use Rattle.mb_script.specs.declared.operation.Operation.TheVariants as operation
 use Rattle.mailrun.specs.Calm.{IsQuiet}

@@ -101,7 +101,8 @@ started_by who gives (Applied None effects) an_actor quiet may_come =
     absurd (false≢true ((subst (λ (call : Option Call). IsGiven who gives [] call None effects) (calls_start who None effects an_actor)
     may_come.1).answered))
 started_by who gives (Applied (Some answer) effects) an_actor quiet may_come =
-    let given = subst (λ (call : Option Call). IsGiven who gives [] call (Some answer) effects) (calls_start who (Some answer) effects an_actor) may_come.1 in
+    let given = subst (λ (call : Option Call). IsGiven who gives [] call (Some answer) effects) (calls_start who (Some answer) effects an_actor)
+    may_come.1 in
     let calm = quiet _ _ given.allowed in
     started_so who answer effects an_actor calm.0 calm.1
 
@@ -128,7 +129,8 @@ guardian_so : (limit : ℕ) → with_entry (ready_cell (the_guardian limit)) (Sy
 unfolding acts phase
 guardian_so limit = refl
 
-guardian_by : (limit : ℕ) (gives : Moment → Reply → Type 0) (outcome : Outcome) → IsLawfulEntry (the_guardian limit) gives [] (System 0 Create outcome) →
+guardian_by : (limit : ℕ) (gives : Moment → Reply → Type 0) (outcome : Outcome) → IsLawfulEntry (the_guardian limit) gives [] (System 0 Create
+    outcome) →
     with_entry (ready_cell (the_guardian limit)) (System 0 Create outcome) ≡ starting_guardian limit
 guardian_by limit gives SetAside may_come =
     let rule = may_come.by_rule in

@@ -52,7 +52,8 @@ begun_rest cell strategy limit sends envelopes begun who are plain = record {
   running = begun.running;
   addressed =
       subst (λ (l : List Envelope). AllByRecursion (λ (e : Envelope). e.to ≡ cell.who.this) l) (sym are)
-      (subst (λ (w : Identity). AllByRecursion (λ (e : Envelope). e.to ≡ w.this) (sent 0 (bodies sends))) (sym who) (addressed-sent 0 (bodies sends)));
+      (subst (λ (w : Identity). AllByRecursion (λ (e : Envelope). e.to ≡ w.this) (sent 0 (bodies sends))) (sym who) (addressed-sent 0 (bodies
+      sends)));
   users = subst (λ (l : List Envelope). AllByRecursion (λ (e : Envelope). IsUser e.body) l) (sym are) (users-sent sends plain);
   heard = begun.unheard ∙ sym (ap messages_in (ap envelopes_of begun.created ∙ no_envelope begun.answer));
   no_restart = ap (λ (l : List Entry). count_by tells_of_restart l) begun.created ∙ no_restart begun.answer;
@@ -92,7 +93,8 @@ pub told_run : (after : ℕ → List Message → ℤ) (gives : ℕ → Moment �
     IsKept (world first before) (world last left) → left ≡ [] → AreRuns first.who throughput last.journal →
     Reports after gives guardian last (length sends) report →
     IsTold (after 1) (gives 0) (gives 1) (the_actor strategy limit) throughput sends report
-told_run after gives guardian first last before left strategy limit throughput sends report begun guardian_is who are plain rest kept none runs reports =
+told_run after gives guardian first last before left strategy limit throughput sends report begun guardian_is who are plain rest kept none runs
+    reports =
     let last_who : last.who ≡ the_actor strategy limit = kept.same_who ∙ who in
     let told : envelopes_of last.journal ≡ sent 0 (bodies sends) =
     sym (append-nil (envelopes_of last.journal)) ∙ sym (ap (λ (l : List Envelope). envelopes_of last.journal ++ l) none) ∙ kept.envelopes

@@ -3,7 +3,8 @@
 ghost use Rattle.std.specs.Prelude.{◌≡◌};
 ghost use Rattle.std.specs.List.{list_all};
 ghost use Rattle.mb_reader.specs.View.{actor_data, kind_data, scenario_data};
-ghost use Rattle.mailrun.specs.Scope.{adds_alone, can_run, has_no_hooks, has_plain_work, has_room, is_add, is_message, is_of_one, is_plain, is_plain_actor, is_plain_send, is_unbounded};
+ghost use Rattle.mailrun.specs.Scope.{adds_alone, can_run, has_no_hooks, has_plain_work, has_room, is_add};
+ghost use Rattle.mailrun.specs.Scope.{is_message, is_of_one, is_plain, is_plain_actor, is_plain_send, is_unbounded};
 
 use mb_msg::Body;
 use mb_plan::{ActorPlan, Kind};

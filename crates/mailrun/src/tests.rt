@@ -11,7 +11,7 @@ use crate::drive::run_program;
 use crate::mailbox::run_mailbox;
 use crate::run::post_of;
 use crate::scope::{adds_alone, are_plain_sends};
-use crate::start::{Started, start};
+use crate::start::start;
 use crate::watched::Watched;
 use mb_actor::{Actor, Behaviours};
 use mb_journal::{ReadyError, Strategy};
@@ -504,18 +504,15 @@ fn runs_of<A: Actor, K: Behaviours>(
         all_for_one: false,
     };
     let mut envelopes = post_of(alloc, sends)?;
-    let Started {
-        mut cell,
-        status,
-        ..
-    } = start::<A, K>(alloc, actor, strategy, journal_limit)?;
+    let mut started = start::<A, K>(alloc, actor, strategy, journal_limit)?;
+    let status = started.status;
     let mut handled = Vec::new(alloc);
     let mut fault = None;
     for _ in 0..20 {
         if envelopes.is_empty() {
             break;
         }
-        match run_mailbox(&mut cell, status, &mut envelopes, throughput) {
+        match run_mailbox(&mut started.cell, status, &mut envelopes, throughput) {
             Ok(count) => handled.push(count)?,
             Err(found) => {
                 fault = Some(found);
@@ -526,7 +523,7 @@ fn runs_of<A: Actor, K: Behaviours>(
     Ok(Runs {
         handled,
         fault,
-        state: cell.state(),
+        state: started.cell.state(),
     })
 }
 
@@ -543,6 +540,15 @@ fn runs_alone<A: Actor>(
     requires plain { list_all is_plain_send sends.now ≡ true }
 {
     runs_of::<A, Brand>(alloc, actor, throughput, journal_limit, sends)
+}
+
+/// Of an actor that is not run.
+fn no_runs(alloc: Global) -> Runs {
+    Runs {
+        handled: Vec::new(alloc),
+        fault: None,
+        state: None,
+    }
 }
 
 /// The runs of an actor that adds up, and is sent 1, 2, and so on up to `last`.
@@ -569,12 +575,13 @@ fn added(alloc: Global, throughput: u32, journal_limit: u32, last: i64) -> Resul
             times: 1,
         })?;
     }
-    if !adds_alone(&script) || !are_plain_sends(&sends) {
-        return Ok(Runs {
-            handled: Vec::new(alloc),
-            fault: None,
-            state: None,
-        });
+    let adds = adds_alone(&script);
+    if !adds {
+        return Ok(no_runs(alloc));
+    }
+    let plain = are_plain_sends(&sends);
+    if !plain {
+        return Ok(no_runs(alloc));
     }
     runs_alone(alloc, script, throughput, journal_limit, &sends)
 }

@@ -10,7 +10,8 @@ returns-clause-state g c =
     let cell = c.handle_all.new.cell in
     let heard : messages cell.who cell.journal ≡ sends c.args.count =
     c.in_ok-acts.ensures.heard ∙ ap (λ (l : List Message). l ++ sends c.args.count) c.in_ok-start.ensures.no_message in
-    let this = ap (λ (w : Identity). w.this.0) (c.in_ok-acts.ensures.same_who ∙ c.in_ok-start.ensures.same_who) ∙ ap (λ x. x.0) c.cell_of-cell.ensures.this in
+    let this = ap (λ (w : Identity). w.this.0) (c.in_ok-acts.ensures.same_who ∙ c.in_ok-start.ensures.same_who) ∙ ap (λ x. x.0)
+    c.cell_of-cell.ensures.this in
     let kept : to_z w64 (of_z w64 c.in-Some.state) ≡ c.in-Some.state = search rules in
     kept ∙ c.in-Some.ensures.content ∙ ap (λ n. g.K.Behaviours.after n (messages cell.who cell.journal)) this
     ∙ ap (λ (l : List Message). g.K.Behaviours.after 1 l) heard

@@ -17,7 +17,8 @@ returns g c =
     let second = c.actor_report-2.result in
     let actors : c.push-2.new.self.items ≡ first ∷ second ∷ [] =
     c.in_ok-push-2.ensures.items
-    ∙ ap (λ (l : List ActorReport). l ++ second ∷ []) (c.in_ok-push.ensures.items ∙ ap (λ (l : List ActorReport). l ++ first ∷ []) c.new-actors.ensures.items) in
+    ∙ ap (λ (l : List ActorReport). l ++ second ∷ []) (c.in_ok-push.ensures.items ∙ ap (λ (l : List ActorReport). l ++ first ∷ [])
+    c.new-actors.ensures.items) in
     let a = c.sender_report.result in
     let b = c.sender_report-2.result in
     let d = c.sender_report-3.result in
@@ -36,6 +37,7 @@ returns g c =
       of_guardian = c.actor_report.ensures.reported;
       no_state = c.actor_report.ensures.state;
       of_actor = c.actor_report-2.ensures.reported;
-      state = c.actor_report-2.ensures.state ∙ shown c.state-state.result c.args.cell.who _ c.state-state.ensures.guardian c.state-state.ensures.content
+      state = c.actor_report-2.ensures.state ∙ shown c.state-state.result c.args.cell.who _ c.state-state.ensures.guardian
+          c.state-state.ensures.content
           c.requires.an_actor;
     }

@@ -21,7 +21,8 @@ loop-status-init g c =
     }
 
 pub returns-clause-runs : goal.returns-clause-runs
-returns-clause-runs g c = runs_of c.args.cell.now.who c.args.throughput (world c.loop-status.cell c.loop-status.envelopes.items) c.loop-status.invariant.runs
+returns-clause-runs g c = runs_of c.args.cell.now.who c.args.throughput (world c.loop-status.cell c.loop-status.envelopes.items)
+    c.loop-status.invariant.runs
 
 pub loop-status-preserved : goal.loop-status-preserved
 loop-status-preserved g c =

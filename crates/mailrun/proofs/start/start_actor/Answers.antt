@@ -16,7 +16,8 @@ pub resumed-requires : goal.resumed-requires
 resumed-requires g c =
     let is = c.in_ok-ready.ensures.ok ∙ ap (λ (s : Seen). record s { is_ready = true }) c.requires.new in
     let took = subst (λ (m : SysMsg). TakesSystem c.ready.new.self c.apply_system.new.self 0 m) c.requires.create c.apply_system.ensures.taken in
-    let step : Starts c.args.cell.now.who c.apply_system.new.self = starts_actor g.K.Behaviours.gives c.args.cell.now.who c.ready.new.self c.apply_system.new.self
+    let step : Starts c.args.cell.now.who c.apply_system.new.self = starts_actor g.K.Behaviours.gives c.args.cell.now.who c.ready.new.self
+    c.apply_system.new.self
     c.requires.an_actor c.requires.quiet is took c.apply_system.ensures.lawful in
     ([], step.acts_are)
 
@@ -24,7 +25,8 @@ pub returns-clause-same_who : goal.returns-clause-same_who
 returns-clause-same_who g c =
     let is = c.in_ok-ready.ensures.ok ∙ ap (λ (s : Seen). record s { is_ready = true }) c.requires.new in
     let took = subst (λ (m : SysMsg). TakesSystem c.ready.new.self c.apply_system.new.self 0 m) c.requires.create c.apply_system.ensures.taken in
-    let step : Starts c.args.cell.now.who c.apply_system.new.self = starts_actor g.K.Behaviours.gives c.args.cell.now.who c.ready.new.self c.apply_system.new.self
+    let step : Starts c.args.cell.now.who c.apply_system.new.self = starts_actor g.K.Behaviours.gives c.args.cell.now.who c.ready.new.self
+    c.apply_system.new.self
     c.requires.an_actor c.requires.quiet is took c.apply_system.ensures.lawful in
     ap (λ (s : Seen). s.who) c.resumed.ensures.same ∙ step.same_who
 
@@ -32,6 +34,7 @@ pub returns-clause-begun : goal.returns-clause-begun
 returns-clause-begun g c =
     let is = c.in_ok-ready.ensures.ok ∙ ap (λ (s : Seen). record s { is_ready = true }) c.requires.new in
     let took = subst (λ (m : SysMsg). TakesSystem c.ready.new.self c.apply_system.new.self 0 m) c.requires.create c.apply_system.ensures.taken in
-    let step : Starts c.args.cell.now.who c.apply_system.new.self = starts_actor g.K.Behaviours.gives c.args.cell.now.who c.ready.new.self c.apply_system.new.self
+    let step : Starts c.args.cell.now.who c.apply_system.new.self = starts_actor g.K.Behaviours.gives c.args.cell.now.who c.ready.new.self
+    c.apply_system.new.self
     c.requires.an_actor c.requires.quiet is took c.apply_system.ensures.lawful in
     begun c.args.cell.now.who c.apply_system.new.self c.resumed.new.cell step c.resumed.ensures.rest c.resumed.ensures.same

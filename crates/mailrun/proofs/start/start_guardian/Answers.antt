@@ -15,7 +15,8 @@ resumed-requires g c =
     let limit = c.args.guardian.now.who.limit in
     let is = c.in_ok-ready.ensures.ok ∙ ap (λ (s : Seen). record s { is_ready = true }) c.requires.new in
     guardian_resumes limit c.apply_system.new.self
-    (starts_guardian g.K.Behaviours.gives limit c.ready.new.self c.apply_system.new.self is c.apply_system.ensures.taken c.apply_system.ensures.lawful)
+    (starts_guardian g.K.Behaviours.gives limit c.ready.new.self c.apply_system.new.self is c.apply_system.ensures.taken
+    c.apply_system.ensures.lawful)
 
 pub unreachable-requires : goal.unreachable-requires
 unreachable-requires g c =
