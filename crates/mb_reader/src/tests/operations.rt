@@ -1,12 +1,29 @@
 //! Operations: what may stand, and each fault of form.
 
 use super::{behind, told_of_actor};
+use std::alloc::Global;
+use std::process::Abort;
 use std::test::Fail;
 
-/// Within `on`, where `a` has the child `b`, which comes after it.
+/// Sees to it that each operation, as the second of a row of `a`, which has the child `b`, is told with its reason; without
+/// a reason it may stand.
+fn tells<R: Abort>(rt: &R, alloc: Global, cases: &[(&str, &str)]) -> Result<(), Fail> {
+    for (operation, expected) in cases {
+        let lines = format!(in alloc; "on = [{{ kind = 1, do = [\"ignore\", \"{operation}\"] }}]")?;
+        let found = told_of_actor(alloc, lines.as_str())?;
+        if expected.is_empty() {
+            assert_eq!(rt; found.as_str(), "");
+        } else {
+            let whole = format!(in alloc; "actor 1 on 1 do 2: {expected}")?;
+            assert_eq!(rt; behind(found.as_str()), whole.as_str());
+        }
+    }
+    Ok(())
+}
+
+/// Each operation, with names and numbers that may stand.
 #[test]
-fn tells_the_faults_of_operations(rt: HostRuntime) -> Result<(), Fail> {
-    let alloc = rt.alloc();
+fn operations_may_stand(rt: HostRuntime) -> Result<(), Fail> {
     let cases = [
         ("add", ""),
         ("ignore", ""),
@@ -19,7 +36,14 @@ fn tells_the_faults_of_operations(rt: HostRuntime) -> Result<(), Fail> {
         ("unwatch b", ""),
         ("stop b", ""),
         ("spawn b", ""),
-        // Another word, a word too many or too few, another space.
+    ];
+    tells(&rt, rt.alloc(), &cases)
+}
+
+/// Another word, a word too many or too few, another space.
+#[test]
+fn words_are_told(rt: HostRuntime) -> Result<(), Fail> {
+    let cases = [
         ("", "bad op"),
         (" ", "bad op"),
         ("halt", "bad op"),
@@ -33,6 +57,14 @@ fn tells_the_faults_of_operations(rt: HostRuntime) -> Result<(), Fail> {
         ("fail 1 ", "bad op"),
         ("fail  1", "bad op"),
         ("tell", "bad op"),
+    ];
+    tells(&rt, rt.alloc(), &cases)
+}
+
+/// The same of the operations that name an actor.
+#[test]
+fn more_words_are_told(rt: HostRuntime) -> Result<(), Fail> {
+    let cases = [
         ("tell b", "bad op"),
         ("tell b 1 2", "bad op"),
         ("tell  b 1", "bad op"),
@@ -45,7 +77,14 @@ fn tells_the_faults_of_operations(rt: HostRuntime) -> Result<(), Fail> {
         ("stop  b", "bad op"),
         ("spawn", "bad op"),
         ("spawn b b", "bad op"),
-        // A number out of range or with leading zeros, and what is no number.
+    ];
+    tells(&rt, rt.alloc(), &cases)
+}
+
+/// A number out of range or with leading zeros, and what is no number.
+#[test]
+fn numbers_are_told(rt: HostRuntime) -> Result<(), Fail> {
+    let cases = [
         ("fail 4294967296", "bad op"),
         ("fail 99999999999999999999999999", "bad op"),
         ("fail 01", "bad op"),
@@ -59,7 +98,14 @@ fn tells_the_faults_of_operations(rt: HostRuntime) -> Result<(), Fail> {
         ("tell b 01", "bad op"),
         ("tell b 4294967296", "bad op"),
         ("control b x", "bad op"),
-        // A name of wrong form.
+    ];
+    tells(&rt, rt.alloc(), &cases)
+}
+
+/// A name of wrong form.
+#[test]
+fn names_are_told(rt: HostRuntime) -> Result<(), Fail> {
+    let cases = [
         ("tell B 1", "bad op"),
         ("tell 1 1", "bad op"),
         ("tell guardian 1", "bad op"),
@@ -70,7 +116,14 @@ fn tells_the_faults_of_operations(rt: HostRuntime) -> Result<(), Fail> {
         ("stop guardian", "bad op"),
         ("spawn b-c", "bad op"),
         ("stop abcdefghijklmnopqrstuvwxyz_012345", "bad op"),
-        // A name that is no actor's; a number of wrong form beside it goes first.
+    ];
+    tells(&rt, rt.alloc(), &cases)
+}
+
+/// A name that is no actor's; a number of wrong form beside it goes first. A spawn of an actor that is no child.
+#[test]
+fn strangers_are_told(rt: HostRuntime) -> Result<(), Fail> {
+    let cases = [
         ("tell c 1", "unknown name"),
         ("tell c 01", "bad op"),
         ("control c 1", "unknown name"),
@@ -79,20 +132,9 @@ fn tells_the_faults_of_operations(rt: HostRuntime) -> Result<(), Fail> {
         ("stop c", "unknown name"),
         ("spawn c", "unknown name"),
         ("stop abcdefghijklmnopqrstuvwxyz_01234", "unknown name"),
-        // A spawn of an actor that is no child.
         ("spawn a", "bad op"),
     ];
-    for (operation, expected) in &cases {
-        let lines = format!(in alloc; "on = [{{ kind = 1, do = [\"ignore\", \"{operation}\"] }}]")?;
-        let found = told_of_actor(alloc, lines.as_str())?;
-        if expected.is_empty() {
-            assert_eq!(rt; found.as_str(), "");
-        } else {
-            let whole = format!(in alloc; "actor 1 on 1 do 2: {expected}")?;
-            assert_eq!(rt; behind(found.as_str()), whole.as_str());
-        }
-    }
-    Ok(())
+    tells(&rt, rt.alloc(), &cases)
 }
 
 /// `add` may stand in `on` alone, a spawn of a child everywhere.
