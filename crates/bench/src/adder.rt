@@ -1,4 +1,4 @@
-//! The actor that is measured.
+//! The actor that is measured: it asks for nothing.
 
 ghost use Rattle.std.specs.Prelude.{◌≡◌, pos};
 
@@ -21,13 +21,14 @@ impl Adder {
 }
 
 impl Actor for Adder {
+    ghost use Rattle.bench.specs.Steady.{is_no_failure};
     ghost use Rattle.bench.specs.Sum.{sum_of};
 
     ghost after = { λ _. sum_of };
 
     ghost content = { λ adder. adder.sum };
 
-    ghost gives = { λ _ _ _. Unit {0} };
+    ghost gives = { λ _. is_no_failure };
 
     fn start(&mut self, _out: &mut Outbox) -> Answer {
         self.sum = 0;

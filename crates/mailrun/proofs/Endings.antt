@@ -2,15 +2,14 @@
 use Rattle.std.proofs.Common.{◌≡◌, ℕ, ◌<◌, Bool, true, false, ◌||◌, List, take, Option, Some, None, IfSome, refl, sym, subst, inl}
 use Rattle.std.proofs.Common.{inr, arith}
 use Rattle.std.specs.Io.KnownBytes.{Appends, Keeps}
-use Rattle.mb_scenario.specs.Reading.{Refuses}
-use Rattle.mb_scenario.specs.declared.fault.Fault.{Fault}
-use Rattle.mb_scenario.specs.declared.fault.Fault.TheVariants.{NoMemory, NotToml, BadScenario}
-use Rattle.mailrun.specs.Answer.{most_read, HasReported, IsAnswer, IsCutShort, IsMet, IsRefused, IsSaid, IsSaidFor}
+use Rattle.mb_reader.specs.declared.fault.Fault.{Fault}
+use Rattle.mb_reader.specs.declared.fault.Fault.TheVariants.{NoMemory, NotToml, BadScenario}
+use Rattle.mailrun.specs.Answer.{most_read, HasReported, IsAnswer, IsAtFault, IsCutShort, IsMet, IsRead, IsRefused, IsSaid, IsSaidFor}
 use Rattle.mailrun.specs.Answer.IsCutShort.{nothing, a_beginning}
 use Rattle.mailrun.specs.Failure.{error_line, status_of}
 use Rattle.mailrun.specs.Written.{AppendsBeginning}
 use Rattle.mailrun.specs.declared.failure.Failure.{Failure}
-use Rattle.mailrun.specs.declared.failure.Failure.TheVariants.{Os, Arguments, Input}
+use Rattle.mailrun.specs.declared.failure.Failure.TheVariants.{Os, Arguments, NotYet, Input}
 use Rattle.mailrun.proofs.Refusals.{read_not_refused}
 use Rattle.mailrun.proofs.WrittenLemmas.{keeps_itself}
 
@@ -31,21 +30,23 @@ has_reported known old new report bytes answer same written = (report, answer, s
 
 -- what has a report is not refused
 pub answered_not_refused : (A : Type 0) → (known : Option (List ℕ)) (report : List ℕ) → IsAnswer known report →
-    IfSome known (λ input. (fault : Fault) → IsRefused (take most_read input) fault → A)
+    IfSome known (λ input. (failure : Failure) → IsAtFault (take most_read input) failure → A)
 answered_not_refused A None report answer = tt
-answered_not_refused A (Some input) report answer = λ fault refused.
+answered_not_refused A (Some input) report answer = λ failure refused.
     let read : answer.0 ≡ take most_read input = answer.1 in
-    absurd (read_not_refused answer.0 answer.2.0 fault answer.2.1 (subst (λ (t : List ℕ). Refuses t fault) (sym read) refused.0) refused.1)
+    absurd (read_not_refused answer.0 answer.2.0 failure answer.2.1 answer.2.2 (subst (λ (t : List ℕ). IsRefused t failure) (sym read) refused.0)
+    refused.1)
 
 -- where nothing was written, nothing was written for what is no scenario
 pub nothing_for_refused : (known old : Option (List ℕ)) →
-    IfSome known (λ input. (fault : Fault) → IsRefused (take most_read input) fault → Keeps old old)
+    IfSome known (λ input. (failure : Failure) → IsAtFault (take most_read input) failure → Keeps old old)
 nothing_for_refused None old = tt
-nothing_for_refused (Some input) old = λ fault refused. keeps_itself old
+nothing_for_refused (Some input) old = λ failure refused. keeps_itself old
 
 positive : (failure : Failure) → 0 < status_of failure
 positive Os = omega arith
 positive Arguments = omega arith
+positive NotYet = omega arith
 positive (Input NoMemory) = omega arith
 positive (Input NotToml) = omega arith
 positive (Input (BadScenario place reason)) = omega arith
@@ -55,14 +56,31 @@ pub refused_not_zero : (failure : Failure) (result : ℕ) (old new : Option (Lis
     IsRefusal failure result old new failed → result ≡ 0 → ⊥
 refused_not_zero failure result old new failed refusal zero = let some = positive refusal.0 in let same = refusal.2 in omega (arith, some, same)
 
+met_at_all : (arguments : ℕ) (known : Option (List ℕ)) (failed : Bool) (fault : Fault) → IsMet arguments known failed (Input fault) →
+    (arguments ≡ 0) × (failed ≡ false)
+met_at_all arguments known failed NoMemory met = met
+met_at_all arguments known failed NotToml met = (met.0, met.1)
+met_at_all arguments known failed (BadScenario place reason) met = (met.0, met.1)
+
+-- what is refused of what was read is met
+pub met_refused : (known : Option (List ℕ)) (text : List ℕ) (failed : Bool) (failure : Failure) → IsRead known text → failed ≡ false →
+    IsRefused text failure → IsMet 0 known failed failure
+met_refused known text failed Os read none refused = absurd refused
+met_refused known text failed Arguments read none refused = absurd refused
+met_refused known text failed NotYet read none refused = (refl, none, (text, read, refused))
+met_refused known text failed (Input NoMemory) read none refused = (refl, none)
+met_refused known text failed (Input NotToml) read none refused = (refl, none, (text, read, refused))
+met_refused known text failed (Input (BadScenario place reason)) read none refused = (refl, none, (text, read, refused))
+
 -- what is said is met
 met_said : (failure said : Failure) (arguments : ℕ) (known : Option (List ℕ)) (failed : Bool) →
     IsSaidFor failure said → IsMet arguments known failed failure → IsMet arguments known failed said
 met_said Os said arguments known failed same met = subst (λ (f : Failure). IsMet arguments known failed f) (sym same) met
 met_said Arguments said arguments known failed same met = subst (λ (f : Failure). IsMet arguments known failed f) (sym same) met
+met_said NotYet said arguments known failed same met = subst (λ (f : Failure). IsMet arguments known failed f) (sym same) met
 met_said (Input fault) said arguments known failed (inl same) met = subst (λ (f : Failure). IsMet arguments known failed f) (sym same) met
 met_said (Input fault) said arguments known failed (inr same) met =
-    subst (λ (f : Failure). IsMet arguments known failed f) (sym same) (met.0, met.1, tt)
+    subst (λ (f : Failure). IsMet arguments known failed f) (sym same) (met_at_all arguments known failed fault met)
 
 or_false : (a b : Bool) → b ≡ false → (a || b) ≡ a
 or_false true b e = refl

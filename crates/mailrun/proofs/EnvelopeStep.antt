@@ -1,91 +1,52 @@
 -- What an envelope makes of an actor at rest.
-use Rattle.std.proofs.Common.{◌≡◌, ℕ, ◌+◌, ◌*◌, Bool, true, false, not, ◌&&◌, nat_lt, if◌then◌else◌, List, [], ◌∷◌, ◌++◌, length, suc}
-use Rattle.std.proofs.Common.{Option, refl, sym, ap, subst, ◌∙◌, arith, append-nil, append_assoc}
+use Rattle.std.proofs.Common.{◌≡◌, ℕ, ◌+◌, ℤ, true, false, List, [], ◌∷◌, ◌++◌, length, suc, map, refl, sym, ap, subst, ◌∙◌, arith}
+use Rattle.std.proofs.Common.{append_assoc}
+use Rattle.std.specs.Prelude.{is_some, Option, Some}
 use Rattle.std.specs.List.{AllByRecursion}
-use Rattle.std.proofs.lemmas.Bool.Decides.{nat_tests}
+use Rattle.std.proofs.lemmas.List.{append-nil}
+use Rattle.mb_msg.specs.declared.envelope.Body.{Body}
+use Rattle.mb_msg.specs.declared.envelope.Body.TheVariants.{User}
 use Rattle.mb_msg.specs.declared.envelope.Envelope.{Envelope}
-use Rattle.mb_msg.specs.declared.system.SysMsg.{SysMsg}
-use Rattle.mb_status.specs.Mailbox.{Mailbox, word_of, mailbox_of, is_valid, should_process}
+use Rattle.mb_status.specs.Mailbox.{Mailbox, word_of}
+use Rattle.mb_actor.specs.Behaviour.{Moment, Reply}
 use Rattle.mb_actor.specs.declared.answer.Answer.{Answer}
-use Rattle.mb_journal.specs.Entry.{Entry}
-use Rattle.mb_journal.specs.Entry.Entry.{Handled}
-use Rattle.mb_journal.specs.Entry.Outcome.{Applied}
+use Rattle.mb_actor.specs.declared.effect.Effect.{Effect}
+use Rattle.mb_actor.specs.declared.phase.Phase.TheVariants.{Ended}
+use Rattle.mb_journal.specs.Acts.{acts}
+use Rattle.mb_journal.specs.Entry.{Entry, is_failed}
+use Rattle.mb_journal.specs.Entry.Entry.{Handled, System, Dropped}
+use Rattle.mb_journal.specs.Entry.Outcome.{Applied, SetAside}
+use Rattle.mb_journal.specs.Failure.{failure_of}
 use Rattle.mb_journal.specs.Identity.{Identity, is_guardian}
 use Rattle.mb_journal.specs.Incarnation.{body_messages}
+use Rattle.mb_journal.specs.Lawful.{AreLawful, IsGiven, IsLawful, IsLawfulEntry, IsUnexpected, envelope_call}
+use Rattle.mb_journal.specs.Life.{closed}
+use Rattle.mb_journal.specs.Phase.{phase_is}
 use Rattle.mb_journal.specs.Reading.{IsOpen}
-use Rattle.mb_journal.specs.Run.{IsBlock, IsTurns}
-use Rattle.mb_journal.specs.Run.IsBlock.{no_more, one_more}
-use Rattle.mb_journal.specs.Run.IsTurns.{a_block, a_turn}
-use Rattle.mb_journal.specs.Suspension.{count}
-use Rattle.mb_cell.specs.Message.{IsUser}
-use Rattle.mb_cell.specs.Seen.{Seen, HandlesEnvelope}
-use Rattle.mb_cell.proofs.Laws.{IsRunning, handled, running-not_closed, running-open, count-none}
+use Rattle.mb_journal.specs.Run.{IsTurns}
+use Rattle.mb_journal.proofs.EnvelopeLemmas.{acts-user-well, count-handled, ever_aside-handled, failure_of-user, messages-handled, phase-handled}
+use Rattle.mb_journal.proofs.LawfulLemmas.{next_front-none}
+use Rattle.mb_cell.specs.MayHandle.{MayHandle}
+use Rattle.mb_cell.specs.Seen.{IsOf, Seen, TakesEnvelope, with_entry}
 use Rattle.mb_cell.proofs.RunLaws.{turn-more}
-use Rattle.mailrun.proofs.SystemStep.{still_addressed}
+use Rattle.mailrun.specs.Begun.{open_mailbox}
+use Rattle.mailrun.specs.Calm.{IsQuiet, IsRunning, IsUser}
 use Rattle.mailrun.specs.Fates.{envelopes_of, messages_in}
-use Rattle.mailrun.specs.Post.{World}
-use Rattle.mailrun.specs.Rest.{IsStanding, IsAtRest, IsKept}
-use Rattle.mailrun.specs.Rest.IsStanding.{untouched, running}
-use Rattle.mailrun.specs.Sent.{carried_out}
+use Rattle.mailrun.specs.Rest.{IsAtRest, IsKept, World, world}
+use Rattle.mailrun.specs.Sent.{messages_of}
 
--- a mailbox that is open is not suspended
-pub not_suspended : (m : Mailbox) → should_process m ≡ true → m.count ≡ 0
-not_suspended m open_ = at m.closed m.count open_
-  where
-    at : (c : Bool) (n : ℕ) → (not c && not (nat_lt 0 n)) ≡ true → n ≡ 0
-    at true n e = cc
-    at false n e = grind (arith, nat_tests)
+-- an actor that runs has not ended
+pub running-not_closed : (who : Identity) (journal : List Entry) → IsRunning who journal → closed who journal ≡ false
+running-not_closed who journal running = ap (λ p. phase_is p Ended) running.live
 
--- an open mailbox at rest is that of an actor that is running
-standing_open : (w : World) → IsStanding w → count w.cell.who w.cell.journal ≡ 0 → IsRunning w.cell.who w.cell.journal
-standing_open w (untouched nothing waits) none =
-    let one : count w.cell.who w.cell.journal ≡ 1 = ap (λ j. count w.cell.who j) nothing ∙ count-none w.cell.who in
-    absurd (cc)
-standing_open w (running live unsuspended aside) none = record { live = live; unsuspended = unsuspended; none_aside = aside }
-
-pub is_running : (w : World) → IsAtRest w → should_process w.status ≡ true → IsRunning w.cell.who w.cell.journal
-is_running w rest open_ = standing_open w rest.standing (sym rest.same_count ∙ not_suspended w.status open_)
-
--- once no system message waits, the mailbox is open
-pub rest_open : (w : World) → IsAtRest w → w.systems ≡ [] → should_process w.status ≡ true
-rest_open w rest none = open_at w.status rest.not_closed (rest.same_count ∙ unsuspended w rest.standing none)
-  where
-    unsuspended : (v : World) → IsStanding v → v.systems ≡ [] → count v.cell.who v.cell.journal ≡ 0
-    unsuspended v (untouched nothing waits) e = let no_more = ap (λ (l : List SysMsg). length l) e in absurd (omega arith)
-    unsuspended v (running live open_ aside) e = open_
-
-    open_at : (m : Mailbox) → m.closed ≡ false → m.count ≡ 0 → should_process m ≡ true
-    open_at m c n = ap (λ b. not b && not (nat_lt 0 m.count)) c ∙ ap (λ k. not false && not (nat_lt 0 k)) n
-
--- its word is open
-open_word : (m : Mailbox) → m.closed ≡ false → m.count ≡ 0 → (is_valid (word_of m) ≡ true) × (should_process (mailbox_of (word_of m)) ≡ true)
-open_word m not_closed unsuspended =
-    let word_is : word_of m ≡ 4 * 0 + (if m.scheduled then 2 else 0) =
-    ap (λ c. if c then 1 else 4 * m.count + (if m.scheduled then 2 else 0)) not_closed
-    ∙ ap (λ n. 4 * n + (if m.scheduled then 2 else 0)) unsuspended in
-    subst (λ word. (is_valid word ≡ true) × (should_process (mailbox_of word) ≡ true)) (sym word_is) (at m.scheduled)
-  where
-    at : (s : Bool) → (is_valid (4 * 0 + (if s then 2 else 0)) ≡ true) × (should_process (mailbox_of (4 * 0 + (if s then 2 else 0))) ≡ true)
-    at true = (refl, refl)
-    at false = (refl, refl)
-
-pub is_open : (w : World) → IsAtRest w → should_process w.status ≡ true → IsOpen w.cell.who w.cell.journal (word_of w.status)
-is_open w rest open_ =
-    let word = open_word w.status rest.not_closed (not_suspended w.status open_) in
-    running-open w.cell.who w.cell.journal (word_of w.status) (is_running w rest open_) word.0 word.1
-
--- blocks one after another are a block
-pub block_after : (who : Identity) (from middle to : List Entry) → IsBlock who from middle → IsBlock who middle to → IsBlock who from to
-block_after who from middle _ first no_more = first
-block_after who from middle _ first (one_more to number m outcome rest front) =
-    one_more to number m outcome (block_after who from middle to first rest) front
-
--- a block after turns
-pub turns_after : (who : Identity) (from : List Entry) (n : ℕ) (middle to : List Entry) → IsTurns who from n middle → IsBlock who middle to →
-    IsTurns who from n to
-turns_after who from _ _ to (a_block middle block) last = a_block to (block_after who from middle to block last)
-turns_after who from _ _ to (a_turn n first middle e turns none of_envelope block) last =
-    a_turn n first to e turns none of_envelope (block_after who (e ∷ first) middle to block last)
+-- a mailbox that is open shows the word of an actor that runs
+pub running-open : (who : Identity) (journal : List Entry) (m : Mailbox) → IsRunning who journal → m ≡ open_mailbox → IsOpen who journal (word_of m)
+running-open who journal m running is =
+    subst (λ (b : Mailbox). IsOpen who journal (word_of b)) (sym is) (record {
+      open_word = refl;
+      same_count = sym running.unsuspended;
+      same_closing = sym (running-not_closed who journal running);
+    })
 
 -- what an envelope makes of what is at rest
 pub record EnvelopeStep (old new : World) : Type 0 where
@@ -94,10 +55,10 @@ pub record EnvelopeStep (old new : World) : Type 0 where
   pub turn : (from : List Entry) (n : ℕ) → IsTurns old.cell.who from n old.cell.journal → IsTurns old.cell.who from (suc n) new.cell.journal
 
 -- the envelope is told of last
-told : (before : List Entry) (envelope : Envelope) (reading : ℕ) (a : Option Answer) →
-    envelopes_of (Handled envelope reading (Applied a []) ∷ before) ≡ envelopes_of before ++ envelope ∷ []
+told : (before : List Entry) (envelope : Envelope) (reading : ℕ) (a : Option Answer) (effects : List Effect) →
+    envelopes_of (Handled envelope reading (Applied a effects) ∷ before) ≡ envelopes_of before ++ envelope ∷ []
 unfolding envelopes_of
-told before envelope reading a = refl
+told before envelope reading a effects = refl
 
 -- the messages in envelopes with one more
 one_more_message : (list : List Envelope) (envelope : Envelope) →
@@ -107,62 +68,106 @@ one_more_message (e ∷ list) envelope =
     ap (λ l. body_messages e.body ++ l) (one_more_message list envelope)
     ∙ sym (append_assoc (body_messages e.body) (messages_in list) (body_messages envelope.body))
 
-after_envelope : World → Seen → List Envelope → World
-after_envelope w cell envelopes =
-    record { cell = record cell { acts = [] }; status = carried_out cell.acts w.status; next = w.next; systems = w.systems; envelopes = envelopes }
+-- the cell with room
+abbrev readied : Seen → Seen
+readied cell = record cell { is_ready = true }
 
-handled_step : (w : World) (ready cell : Seen) (envelope : Envelope) (envelopes : List Envelope) → IsAtRest w →
-    ready ≡ record w.cell { is_ready = true } → should_process w.status ≡ true → w.envelopes ≡ envelope ∷ envelopes →
-    HandlesEnvelope ready cell envelope (word_of w.status) → EnvelopeStep w (after_envelope w cell envelopes)
-unfolding after_envelope
-handled_step w ready cell envelope envelopes rest is_ready open_ some handles =
-    let there : Seen = record w.cell { is_ready = true } in
-    let from_there : HandlesEnvelope there cell envelope (word_of w.status) =
-    subst (λ (s : Seen). HandlesEnvelope s cell envelope (word_of w.status)) is_ready handles in
-    let runs = is_running w rest open_ in
-    let mine = subst (AllByRecursion (λ (e : Envelope). e.to ≡ w.cell.who.this)) some rest.addressed in
-    let users = subst (AllByRecursion (λ (e : Envelope). IsUser e.body)) some rest.users in
-    let after = handled there cell envelope (word_of w.status) from_there users.0 (running-not_closed w.cell.who w.cell.journal runs) in
-    let status : carried_out cell.acts w.status ≡ w.status = ap (λ l. carried_out l w.status) after.no_acts in
-    let tells : envelopes_of cell.journal ≡ envelopes_of w.cell.journal ++ envelope ∷ [] =
-    ap envelopes_of after.entry ∙ told w.cell.journal envelope (word_of w.status) after.answer in
+handled_so : (w : World) (e : Envelope) (reading : ℕ) (a : Option Answer) (effects : List Effect) (envelopes : List Envelope)
+    (kind : ℕ) (value : ℤ) → IsAtRest w → w.envelopes ≡ e ∷ envelopes → e.body ≡ User kind value → is_failed a ≡ false → effects ≡ [] →
+    EnvelopeStep w (world (with_entry (readied w.cell) (Handled e reading (Applied a effects))) envelopes)
+handled_so w e reading a effects envelopes kind value rest some is well none =
+    let who = w.cell.who in
+    let before = w.cell.journal in
+    let entry : Entry = Handled e reading (Applied a effects) in
+    let not_closed = running-not_closed who before rest.running in
+    let fails_not : is_some (failure_of e.body a) ≡ false =
+    ap (λ (b : Body). is_some (failure_of b a)) is ∙ ap is_some (failure_of-user kind value a well) in
+    let tells = told before e reading a effects in
     record {
       rest = record {
-        no_acts = refl;
-        an_actor = ap is_guardian after.same_who ∙ rest.an_actor;
-        not_closed = ap (λ (m : Mailbox). m.closed) status ∙ rest.not_closed;
-        not_scheduled = ap (λ (m : Mailbox). m.scheduled) status ∙ rest.not_scheduled;
-        same_count = ap (λ (m : Mailbox). m.count) status ∙ rest.same_count ∙ sym after.same_count;
-        standing = running (after.same_phase ∙ runs.live) (after.same_count ∙ runs.unsuspended) (after.same_aside ∙ runs.none_aside);
-        numbered = rest.numbered ∙ sym after.same_next;
-        numbers_fit = rest.numbers_fit;
-        creates = rest.creates;
-        addressed = still_addressed w cell envelopes after.same_who mine.1;
-        users = users.1;
-        heard = after.one_message ∙ ap (λ l. l ++ body_messages envelope.body) rest.heard
-            ∙ sym (ap messages_in tells ∙ one_more_message (envelopes_of w.cell.journal) envelope);
+        no_acts =
+            ap (λ (es : List Effect). acts who before (Handled e reading (Applied a es))) none
+            ∙ acts-user-well who before e reading a kind value is well;
+        an_actor = rest.an_actor;
+        running = record {
+          live = phase-handled who before e reading a effects ∙ rest.running.live;
+          unsuspended = count-handled who before e reading a effects not_closed fails_not ∙ rest.running.unsuspended;
+          none_aside = ever_aside-handled who before e reading a effects ∙ rest.running.none_aside;
+        };
+        addressed = (subst (AllByRecursion (λ (x : Envelope). x.to ≡ who.this)) some rest.addressed).1;
+        users = (subst (AllByRecursion (λ (x : Envelope). IsUser x.body)) some rest.users).1;
+        heard = messages-handled who before e reading a effects ∙ ap (λ l. l ++ body_messages e.body) rest.heard
+            ∙ sym (ap messages_in tells ∙ one_more_message (envelopes_of before) e);
+        no_restart = rest.no_restart;
       };
       kept = record {
-        same_who = after.same_who;
-        envelopes = ap (λ l. l ++ envelopes) tells ∙ append_assoc (envelopes_of w.cell.journal) (envelope ∷ []) envelopes
-            ∙ sym (ap (λ l. envelopes_of w.cell.journal ++ l) some);
-        in_all = let longer = ap length after.entry in let fewer = ap (λ (l : List Envelope). length l) some in omega (arith, longer, fewer);
+        same_who = refl;
+        envelopes = ap (λ l. l ++ envelopes) tells ∙ append_assoc (envelopes_of before) (e ∷ []) envelopes
+            ∙ sym (ap (λ l. envelopes_of before ++ l) some);
+        in_all = let fewer = ap (λ (l : List Envelope). length l) some in omega (arith, fewer);
       };
-      turn = λ from n turns. turn-more from n there cell envelope (word_of w.status) from_there runs.none_aside turns;
+      turn = λ from n turns. turn-more from n (readied w.cell) (with_entry (readied w.cell) entry) e reading
+          (record { entry = entry; of_it = (refl, refl); adds = refl }) (next_front-none who before rest.running.none_aside) turns;
     }
 
--- the step, by what the code leaves
-pub envelope_step : (w new : World) (ready cell : Seen) (envelope : Envelope) → IsAtRest w → ready ≡ record w.cell { is_ready = true } →
-    should_process w.status ≡ true → w.envelopes ≡ envelope ∷ new.envelopes → HandlesEnvelope ready cell envelope (word_of w.status) →
-    new.cell ≡ record cell { acts = [] } → new.status ≡ carried_out cell.acts w.status → new.next ≡ w.next → new.systems ≡ w.systems →
-    EnvelopeStep w new
-unfolding after_envelope
-envelope_step w new ready cell envelope rest is_ready open_ some handles same_cell same_status same_next same_systems =
-    let with_ : Seen → Mailbox → ℕ → List SysMsg → World =
-    λ c s n l. record { cell = c; status = s; next = n; systems = l; envelopes = new.envelopes } in
-    let same : after_envelope w cell new.envelopes ≡ new =
-    ap (λ c. with_ c (carried_out cell.acts w.status) w.next w.systems) (sym same_cell)
-    ∙ ap (λ s. with_ new.cell s w.next w.systems) (sym same_status)
-    ∙ ap (λ n. with_ new.cell new.status n w.systems) (sym same_next)
-    ∙ ap (λ l. with_ new.cell new.status new.next l) (sym same_systems) in
-    subst (λ (x : World). EnvelopeStep w x) same (handled_step w ready cell envelope new.envelopes rest is_ready open_ some handles)
+-- a message of a user is not dropped
+not_dropped : (who : Identity) (before : List Entry) (b : Body) (kind : ℕ) (value : ℤ) → b ≡ User kind value → IsUnexpected who before b → ⊥
+not_dropped who before b kind value is unexpected = subst (λ (x : Body). IsUnexpected who before x) is unexpected
+
+-- what may come of an envelope to an actor that never fails and asks for nothing
+handled_by : (gives : Moment → Reply → Type 0) (w : World) (envelope : Envelope) (envelopes : List Envelope) (reading : ℕ) (entry : Entry)
+    (kind : ℕ) (value : ℤ) → IsQuiet gives → IsAtRest w → w.envelopes ≡ envelope ∷ envelopes → envelope.body ≡ User kind value →
+    IsOf envelope reading entry → IsLawfulEntry w.cell.who gives w.cell.journal entry →
+    EnvelopeStep w (world (with_entry (readied w.cell) entry) envelopes)
+handled_by gives w envelope envelopes reading (Handled e r (Applied a effects)) kind value quiet rest some is of_it may_come =
+    let body_is : e.body ≡ User kind value = ap (λ (x : Envelope). x.body) of_it.0 ∙ is in
+    let given = subst (λ (b : Body). IsGiven w.cell.who gives w.cell.journal (envelope_call b) a effects) body_is may_come.given in
+    let calm = quiet _ _ given.allowed in
+    handled_so w e r a effects envelopes kind value rest (some ∙ ap (λ (x : Envelope). x ∷ envelopes) (sym of_it.0)) body_is calm.0 calm.1
+handled_by gives w envelope envelopes reading (Handled e r SetAside) kind value quiet rest some is of_it may_come = absurd may_come
+handled_by gives w envelope envelopes reading (System number m outcome) kind value quiet rest some is of_it may_come = absurd of_it
+handled_by gives w envelope envelopes reading (Dropped e) kind value quiet rest some is of_it may_come =
+    absurd (not_dropped w.cell.who w.cell.journal e.body kind value (ap (λ (x : Envelope). x.body) of_it ∙ is) may_come.unexpected)
+
+last_entry : (who : Identity) (gives : Moment → Reply → Type 0) (before : List Entry) (e : Entry) → IsLawful who gives (e ∷ before) →
+    IsLawfulEntry who gives before e
+unfolding AreLawful
+last_entry who gives before e lawful = lawful.entries.0
+
+pub envelope_step : (gives : ℕ → Moment → Reply → Type 0) (w : World) (ready cell : Seen) (envelope : Envelope) (envelopes : List Envelope)
+    (reading : ℕ) → IsQuiet (gives w.cell.who.this.0) → IsAtRest w → ready ≡ record w.cell { is_ready = true } → w.envelopes ≡ envelope ∷ envelopes →
+    TakesEnvelope ready cell envelope reading → IsLawful cell.who (gives cell.who.this.0) cell.journal → EnvelopeStep w (world cell envelopes)
+envelope_step gives w ready cell envelope envelopes reading quiet rest is_ready some took lawful =
+    let who = w.cell.who in
+    let user = (subst (AllByRecursion (λ (e : Envelope). IsUser e.body)) some rest.users).0 in
+    let is : cell ≡ with_entry (readied w.cell) took.entry = took.adds ∙ ap (λ (s : Seen). with_entry s took.entry) is_ready in
+    let there : IsLawful who (gives who.this.0) (took.entry ∷ w.cell.journal) =
+    subst (λ (s : Seen). IsLawful s.who (gives s.who.this.0) s.journal) is lawful in
+    subst (λ (s : Seen). EnvelopeStep w (world s envelopes)) (sym is)
+    (handled_by (gives who.this.0) w envelope envelopes reading took.entry user.0 user.1 quiet rest some user.2 took.of_it
+    (last_entry who (gives who.this.0) w.cell.journal took.entry there))
+
+-- room changes nothing of what is at rest
+pub readied_rest : (w : World) → IsAtRest w → IsAtRest (world (record w.cell { is_ready = true }) w.envelopes)
+readied_rest w rest = record {
+  no_acts = rest.no_acts;
+  an_actor = rest.an_actor;
+  running = rest.running;
+  addressed = rest.addressed;
+  users = rest.users;
+  heard = rest.heard;
+  no_restart = rest.no_restart;
+}
+
+-- an envelope that waits may be handled
+pub may_handle : (w : World) (ready : Seen) (envelope : Envelope) (envelopes : List Envelope) (m : Mailbox) → IsAtRest w →
+    ready ≡ record w.cell { is_ready = true } → w.envelopes ≡ envelope ∷ envelopes → m ≡ open_mailbox → MayHandle ready envelope (word_of m)
+may_handle w ready envelope envelopes m rest is_ready some opened =
+    subst (λ (s : Seen). MayHandle s envelope (word_of m)) (sym is_ready) (record {
+      ready = refl;
+      carried_out = rest.no_acts;
+      an_actor = rest.an_actor;
+      addressed = (subst (AllByRecursion (λ (x : Envelope). x.to ≡ w.cell.who.this)) some rest.addressed).0;
+      live = rest.running.live;
+      open_reading = running-open w.cell.who w.cell.journal m rest.running opened;
+    })

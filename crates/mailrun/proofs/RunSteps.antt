@@ -1,76 +1,94 @@
 -- Runs of a mailbox, put together from their steps.
-use Rattle.std.proofs.Common.{◌≡◌, ◌↔◌, ℕ, suc, ◌+◌, ◌<◌, ◌≤◌, List, [], length, None, Result, Err, IsErrOf, inl, refl, sym, ap, arith, subst, ◌∙◌}
-use Rattle.mb_journal.specs.Aside.{next_front}
+use Rattle.std.proofs.Common.{◌≡◌, ◌↔◌, ℕ, suc, ◌+◌, ◌<◌, ◌≤◌, List, [], length, None, Result, Err, IsErrOf, refl, sym, ap, subst, ◌∙◌, arith}
+use Rattle.mb_msg.specs.declared.envelope.Envelope.{Envelope}
 use Rattle.mb_journal.specs.Entry.{Entry}
 use Rattle.mb_journal.specs.Identity.{Identity}
-use Rattle.mb_journal.specs.Run.{IsBlock, IsTurns, IsReason, Stopped, most_envelopes}
-use Rattle.mb_journal.specs.Run.Stopped.{NoRoom}
+use Rattle.mb_journal.specs.Reading.{IsOpen}
+use Rattle.mb_journal.specs.Run.{IsBlock, IsReason, IsTurns, Stopped, most_envelopes}
+use Rattle.mb_journal.specs.Run.Stopped.{NoRoom, NoEnvelope, UsedUp}
+use Rattle.mb_journal.specs.Aside.{next_front}
 use Rattle.mb_journal.proofs.LawfulLemmas.{next_front-none}
 use Rattle.mb_journal.specs.declared.error.ReadyError.{ReadyError}
 use Rattle.mb_journal.specs.declared.error.ReadyError.TheVariants.{JournalFull}
-use Rattle.mailrun.proofs.EnvelopeStep.{turns_after}
-use Rattle.mailrun.proofs.SystemStep.{none_aside}
-use Rattle.mailrun.specs.Post.{World}
-use Rattle.mailrun.specs.Rest.{IsAtRest, IsKept, IsRunOf, IsUnended, IsWholeRun, IsEnd, messages_in_all}
+use Rattle.mb_status.specs.Mailbox.{Mailbox, word_of}
+use Rattle.mb_cell.specs.Seen.{Seen}
+use Rattle.mailrun.specs.Begun.{open_mailbox}
+use Rattle.mailrun.specs.Rest.{IsAtRest, IsEnd, IsKept, IsRunOf, IsWholeRun, World, messages_in_all}
+use Rattle.mailrun.proofs.EnvelopeStep.{running-open}
 
 -- what is kept twice is kept
 pub kept_after : (first middle last : World) → IsKept first middle → IsKept middle last → IsKept first last
 kept_after first middle last a b = record { same_who = b.same_who ∙ a.same_who; envelopes = b.envelopes ∙ a.envelopes; in_all = b.in_all ∙ a.in_all }
 
--- nothing is put in front while at rest
-pub rest_no_front : (who : Identity) (w : World) → w.cell.who ≡ who → IsAtRest w → next_front who w.cell.journal ≡ None
-rest_no_front who w same rest = next_front-none who w.cell.journal (none_aside w rest.standing)
+-- what nothing changed is kept
+pub kept_itself : (w : World) → IsKept w w
+kept_itself w = record { same_who = refl; envelopes = refl; in_all = refl }
 
--- a run for which there was no room
-pub no_room : (throughput : ℕ) (old new : World) (n : ℕ) → IsTurns old.cell.who old.cell.journal n new.cell.journal → n ≤ most_envelopes throughput →
-    IsAtRest new → IsKept old new → IsRunOf throughput old new NoRoom
-no_room throughput old new n turns at_most rest kept =
-    record { run = record { envelopes = n; turns = turns; at_most = at_most; reason = tt }; rest = rest; kept = kept }
+-- so many turns after each journal behind which only system messages lie
+abbrev pub AreTurns : World → World → ℕ → Type 0
+AreTurns old new n = (from : List Entry) → IsBlock old.cell.who from old.cell.journal → IsTurns old.cell.who from n new.cell.journal
 
--- a run that ended by itself
-pub whole_run : (throughput : ℕ) (old new : World) (systems n : ℕ) (stopped : Stopped) → IsEnd stopped new →
-    IsReason old.cell.who throughput n new.cell.journal stopped → IsTurns old.cell.who old.cell.journal n new.cell.journal →
-    n ≤ most_envelopes throughput →
-    IsAtRest new → IsKept old new → new.systems ≡ [] → systems ≡ length old.systems → n + length new.envelopes ≡ length old.envelopes →
-    (0 < length old.envelopes → 0 < n) → IsWholeRun throughput old new systems n
-whole_run throughput old new systems n stopped is_end reason turns at_most rest kept none all taken progress = record {
-  stopped = stopped;
-  is_end = is_end;
-  run_of = record { run = record { envelopes = n; turns = turns; at_most = at_most; reason = reason }; rest = rest; kept = kept };
-  all_systems = (none, all);
-  taken = taken;
-  counted = refl;
-  progress = progress;
+-- one envelope more
+pub turn_more : (first old new : World) (n : ℕ) → IsKept first old →
+    ((from : List Entry) (k : ℕ) → IsTurns old.cell.who from k old.cell.journal → IsTurns old.cell.who from (suc k) new.cell.journal) →
+    AreTurns first old n → AreTurns first new (suc n)
+turn_more first old new n to_old turn turns = λ from block.
+    subst (λ (who : Identity). IsTurns who from (suc n) new.cell.journal) to_old.same_who
+    (turn from n (subst (λ (who : Identity). IsTurns who from n old.cell.journal) (sym to_old.same_who) (turns from block)))
+
+-- a run from its turns
+run_from : (throughput : ℕ) (old new : World) (n : ℕ) (stopped : Stopped) → IsReason old.cell.who throughput n new.cell.journal stopped →
+    AreTurns old new n → n ≤ most_envelopes throughput → IsAtRest new → IsKept old new → IsRunOf throughput old new stopped
+run_from throughput old new n stopped reason turns at_most rest kept = record {
+  run = λ from block. record { envelopes = n; turns = turns from block; at_most = at_most; reason = reason };
+  rest = rest;
+  kept = kept;
 }
 
--- one envelope more, and the system messages after it
-pub turn_more : (first old middle new : World) (n : ℕ) → IsKept first old → IsKept first middle →
-    ((from : List Entry) (k : ℕ) → IsTurns old.cell.who from k old.cell.journal → IsTurns old.cell.who from (suc k) middle.cell.journal) →
-    IsBlock middle.cell.who middle.cell.journal new.cell.journal → IsTurns first.cell.who first.cell.journal n old.cell.journal →
-    IsTurns first.cell.who first.cell.journal (suc n) new.cell.journal
-turn_more first old middle new n to_old to_middle turn block turns =
-    let journal = first.cell.journal in
-    let there = subst (λ (who : Identity). IsTurns who journal n old.cell.journal) (sym to_old.same_who) turns in
-    let one : IsTurns first.cell.who journal (suc n) middle.cell.journal =
-    subst (λ (who : Identity). IsTurns who journal (suc n) middle.cell.journal) to_old.same_who (turn journal n there) in
-    turns_after first.cell.who journal (suc n) middle.cell.journal new.cell.journal one
-    (subst (λ (who : Identity). IsBlock who middle.cell.journal new.cell.journal) to_middle.same_who block)
+-- a run for which there was no room
+pub no_room : (throughput : ℕ) (old new : World) (n : ℕ) → AreTurns old new n → n ≤ most_envelopes throughput → IsAtRest new → IsKept old new →
+    IsRunOf throughput old new NoRoom
+no_room throughput old new n turns at_most rest kept = run_from throughput old new n NoRoom tt turns at_most rest kept
 
--- a journal that is full has an entry for each message that ever came
-pub full_needs : (old new : World) (limit sends : ℕ) → IsKept old new → old.cell.who.limit ≡ limit → messages_in_all old ≡ sends + 1 →
-    new.cell.who.limit ≤ length new.cell.journal → limit ≤ sends + 1
-full_needs old new limit sends kept who in_all full =
-    let same = ap (λ (w : Identity). w.limit) kept.same_who in
-    let as_many = kept.in_all in
-    omega (arith, same, as_many)
+nothing_in_front : (old new : World) → IsKept old new → IsAtRest new → next_front old.cell.who new.cell.journal ≡ None
+nothing_in_front old new kept rest = next_front-none old.cell.who new.cell.journal rest.running.none_aside
 
--- a run that ends with the fault of its system messages, some of which are left, ends with a full journal exactly where
--- they did
-pub full_by_systems : {T U : Type 0} → (first : Result T ReadyError) (last : Result U ReadyError) (fault other : ReadyError) → first ≡ Err fault →
-    last ≡ Err other → other ≡ fault → (throughput : ℕ) (old new : World) → 0 < length new.systems →
-    (IsErrOf first JournalFull ↔ (new.cell.who.limit ≤ length new.cell.journal) × (0 < length new.systems)) →
-    (IsErrOf last JournalFull ↔ (new.cell.who.limit ≤ length new.cell.journal) × IsUnended throughput old new)
-full_by_systems first last fault other is given same throughput old new some full = (
-  λ is_full. let fault_is : first ≡ Err JournalFull = cc in let f = full.0 fault_is in (f.0, inl f.1),
-  λ unended. let fault_is = full.1 (unended.0, some) in cc,
+-- a run that used up the throughput
+pub used_up : (throughput : ℕ) (old new : World) (n : ℕ) → n ≡ most_envelopes throughput → AreTurns old new n → IsAtRest new → IsKept old new →
+    n + length new.envelopes ≡ length old.envelopes → IsWholeRun throughput old new n
+used_up throughput old new n is turns rest kept taken = record {
+  stopped = UsedUp;
+  is_end = tt;
+  run_of = run_from throughput old new n UsedUp (is, nothing_in_front old new kept rest) turns (omega (arith, is)) rest kept;
+  taken = taken;
+  progress = λ some. omega (arith, is);
+}
+
+-- a run that found no envelope
+pub found_none : (throughput : ℕ) (old new : World) (n : ℕ) (status : Mailbox) → status ≡ open_mailbox → n < most_envelopes throughput →
+    AreTurns old new n → IsAtRest new → IsKept old new → n + length new.envelopes ≡ length old.envelopes → new.envelopes ≡ [] →
+    IsWholeRun throughput old new n
+found_none throughput old new n status opened fewer turns rest kept taken none =
+    let word = subst (λ (who : Identity). IsOpen who new.cell.journal (word_of status)) kept.same_who
+    (running-open new.cell.who new.cell.journal status rest.running opened) in
+    let no_more = ap (λ (l : List Envelope). length l) none in
+    record {
+      stopped = NoEnvelope (word_of status);
+      is_end = none;
+      run_of = run_from throughput old new n (NoEnvelope (word_of status)) (fewer, word, nothing_in_front old new kept rest) turns (omega
+          (arith, fewer))
+          rest kept;
+      taken = taken;
+      progress = λ some. omega (arith, taken, no_more);
+    }
+
+-- where the next envelope found no room, nothing changed; the run ends with a full journal exactly where it was full
+pub full_by_next : {T U : Type 0} → (first : Result T ReadyError) (last : Result U ReadyError) (fault other : ReadyError) → first ≡ Err fault →
+    last ≡ Err other → other ≡ fault → (old new : Seen) (Q : Type 0) → new ≡ old → Q →
+    (IsErrOf first JournalFull ↔ (old.who.limit ≤ length old.journal)) →
+    (IsErrOf last JournalFull ↔ (new.who.limit ≤ length new.journal) × Q)
+full_by_next first last fault other is given same old new Q unchanged q full = (
+  λ is_full. let fault_is : first ≡ Err JournalFull = cc in
+      (subst (λ (s : Seen). s.who.limit ≤ length s.journal) (sym unchanged) (full.0 fault_is), q),
+  λ h. let fault_is = full.1 (subst (λ (s : Seen). s.who.limit ≤ length s.journal) unchanged h.0) in cc,
 )

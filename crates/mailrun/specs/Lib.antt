@@ -1,10 +1,12 @@
 pub mod Answer
+pub mod Begun
+pub mod Calm
 pub mod Failure
 pub mod Fates
-pub mod Line
-pub mod Next
-pub mod Post
+pub mod Outcome
+pub mod Reported
 pub mod Rest
+pub mod Scope
 pub mod Sent
 pub mod Told
 pub mod Written

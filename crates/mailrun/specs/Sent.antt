@@ -1,36 +1,32 @@
--- What the sends of a scenario are, and what is done for a cell.
+-- What the sends of a scenario are.
 use Rattle.std.specs.Prelude.{ℕ, ◌+◌, List, [], ◌∷◌}
-use Rattle.mb_status.specs.Mailbox.{Mailbox, suspend, resume, the_closed}
+use Rattle.std.specs.List.{flat_map}
+use Rattle.mb_msg.specs.declared.envelope.Body.{Body}
 use Rattle.mb_msg.specs.declared.envelope.Envelope.{Envelope}
-use Rattle.mb_msg.specs.declared.envelope.Body.TheVariants as body
 use Rattle.mb_actor.specs.declared.message.Message.{Message}
-use Rattle.mb_actor.specs.declared.message.Message.TheVariants.{User}
-use Rattle.mb_journal.specs.Acts.{Act}
-use Rattle.mb_journal.specs.Acts.Act.{Tell, Sys, SuspendSelf, ResumeSelf, CloseSelf}
-use Rattle.mb_scenario.specs.declared.scenario.Sending.{Sending}
+use Rattle.mb_journal.specs.Incarnation.{body_messages}
+use Rattle.mb_reader.specs.declared.scenario.Sending.{Sending}
+use Rattle.mb_reader.specs.declared.scenario.What.{What}
+use Rattle.mb_reader.specs.declared.scenario.What.TheVariants as what
 
--- the message that a send of the scenario is
-abbrev pub message_of : Sending → Message
-message_of send = User send.kind send.value
+-- what an envelope carries that is sent; a stop is no envelope
+abbrev pub body_in : What → List Body
+body_in (what.Envelope body) = body ∷ []
+body_in what.Stop = []
 
--- the envelope that the one sender makes of it, with this number, for the one actor
-abbrev pub envelope_for : ℕ → Sending → Envelope
-envelope_for number send = record { by = record { 0 = 64 }; number = number; to = record { 0 = 1 }; body = body.User send.kind send.value }
+-- what the envelopes carry that are sent, in order
+abbrev pub bodies : List Sending → List Body
+bodies sends = flat_map (λ (send : Sending). body_in send.what) sends
 
--- the envelopes of sends, numbered from this on
-abbrev pub sent : ℕ → List Sending → List Envelope
+-- the envelope that the one sender sends the one actor with this number
+abbrev pub envelope_of : ℕ → Body → Envelope
+envelope_of number body = record { by = record { 0 = 64 }; number = number; to = record { 0 = 1 }; body = body }
+
+-- the envelopes that carry these, numbered from this on
+abbrev pub sent : ℕ → List Body → List Envelope
 sent number [] = []
-sent number (send ∷ sends) = envelope_for number send ∷ sent (number + 1) sends
+sent number (body ∷ bodies) = envelope_of number body ∷ sent (number + 1) bodies
 
--- the mailbox once an act is carried out: the acts on other actors leave it
-abbrev pub after_act : Act → Mailbox → Mailbox
-after_act (Tell to body) m = m
-after_act (Sys to message) m = m
-after_act SuspendSelf m = suspend m
-after_act ResumeSelf m = resume m
-after_act CloseSelf m = the_closed
-
--- the mailbox once these acts are carried out, one after another
-abbrev pub carried_out : List Act → Mailbox → Mailbox
-carried_out [] m = m
-carried_out (act ∷ acts) m = carried_out acts (after_act act m)
+-- the messages in what is carried, in order
+abbrev pub messages_of : List Body → List Message
+messages_of bodies = flat_map body_messages bodies

@@ -1,34 +1,23 @@
--- What a whole run leaves: a journal, and what it tells of the actor.
-use Rattle.std.specs.Prelude.{◌≡◌, ℕ, ℤ, List, [], length, map}
+-- What a whole run leaves: two journals, and what they tell of the actors.
+use Rattle.std.specs.Prelude.{◌≡◌, ℕ, ℤ, List, [], ◌∷◌, Some, None, count_by, length}
 use Rattle.mb_actor.specs.Behaviour.{Moment, Reply}
 use Rattle.mb_actor.specs.declared.message.Message.{Message}
 use Rattle.mb_actor.specs.declared.phase.Phase.TheVariants.{Live}
 use Rattle.mb_journal.specs.Entry.{Entry}
 use Rattle.mb_journal.specs.Identity.{Identity}
 use Rattle.mb_journal.specs.Incarnation.{messages}
-use Rattle.mb_journal.specs.Lawful.{IsLawful}
-use Rattle.mb_journal.specs.Life.{phase}
 use Rattle.mb_journal.specs.Run.{IsRun}
 use Rattle.mb_journal.specs.Run.Stopped.{UsedUp, NoEnvelope}
-use Rattle.mb_journal.specs.Suspension.{count}
-use Rattle.mb_cell.specs.Identity.{childless}
-use Rattle.mb_cell.specs.Recorded.{recorded}
-use Rattle.mb_scenario.specs.declared.scenario.Sending.{Sending}
+use Rattle.mb_reader.specs.Plans.{ActorData, ScenarioData}
+use Rattle.mb_reader.specs.declared.scenario.Sending.{Sending}
+use Rattle.mb_report.specs.Counts.{tells_of_restart}
+use Rattle.mb_report.specs.declared.report.ActorReport.{ActorReport}
+use Rattle.mb_report.specs.declared.report.Report.{Report}
+use Rattle.mb_script.specs.Script.{Scripted, after_of, gives_of}
+use Rattle.mailrun.specs.Begun.{started_guardian, the_actor}
 use Rattle.mailrun.specs.Fates.{envelopes_of}
-use Rattle.mailrun.specs.Sent.{sent, message_of}
-use Rattle.mailrun.specs.declared.run.Finished.{Finished}
-
--- the one actor, with the limit of its journal
-abbrev pub the_actor : ℕ → Identity
-the_actor limit = childless (record { 0 = 1 }) limit
-
--- with the limit that a scenario's actor has
-abbrev pub scripted : Identity
-scripted = the_actor 4294967295
-
--- how many envelopes the program's runs of a mailbox handle at most (the default of Akka's `throughput`)
-abbrev pub default_throughput : ℕ
-default_throughput = 5
+use Rattle.mailrun.specs.Reported.{AreSenders, IsReportedOf}
+use Rattle.mailrun.specs.Sent.{bodies, messages_of, sent}
 
 -- the journal came by runs of a mailbox from nothing, one after another, each of which used up the throughput
 pub data AreUsedUp (who : Identity) (throughput : ℕ) : List Entry → Type 0 where
@@ -41,18 +30,32 @@ pub data AreRuns (who : Identity) (throughput : ℕ) (journal : List Entry) : Ty
   ended_early : (before : List Entry) (word : ℕ) → AreUsedUp who throughput before →
       IsRun who throughput before journal (NoEnvelope word) → AreRuns who throughput journal
 
--- There is a journal that the actor can have, which came by runs of the throughput, in which the sends were handled, each
--- once and in order; and the actor that has finished is what it says: it is Live and not suspended, and its state is its own
--- function of the messages.
-pub record IsTold (after : List Message → ℤ) (gives : Moment → Reply → Type 0) (sends : List Sending) (finished : Finished) : Type 0 where
+-- The report tells of two actors. The guardian was started, and shows no content. The actor's journal is one that it can
+-- have, which came by runs of the throughput, in which the sends were handled, each once and in order; it is Live and not
+-- suspended, was never started afresh, and its content is its own function of the messages. Nothing is left or dead.
+pub record IsTold (after : List Message → ℤ) (guardian_gives gives : Moment → Reply → Type 0) (who : Identity) (throughput : ℕ)
+    (sends : List Sending) (report : Report) : Type 0 where
+  pub guardian : ActorReport
+  pub actor : ActorReport
+  pub actors : report.actors.items ≡ guardian ∷ actor ∷ []
+  pub senders : AreSenders (0 ∷ 0 ∷ length sends ∷ []) report.senders.items
+  pub of_guardian : IsReportedOf (started_guardian who.limit).who guardian_gives (started_guardian who.limit).journal guardian
+  pub no_state : guardian.state ≡ None
   pub journal : List Entry
-  pub lawful : IsLawful scripted (recorded gives) journal
-  pub runs : AreRuns scripted default_throughput journal
-  pub told : envelopes_of journal ≡ sent 0 sends
-  pub heard : messages scripted journal ≡ map message_of sends
-  pub state : finished.state ≡ after (messages scripted journal)
-  pub phase_is : finished.phase ≡ phase scripted journal
-  pub suspended_is : finished.suspended ≡ count scripted journal
-  pub handled : finished.handled ≡ length (envelopes_of journal)
-  pub live : finished.phase ≡ Live
-  pub unsuspended : finished.suspended ≡ 0
+  pub of_actor : IsReportedOf who gives journal actor
+  pub runs : AreRuns who throughput journal
+  pub told : envelopes_of journal ≡ sent 0 (bodies sends)
+  pub heard : messages who journal ≡ messages_of (bodies sends)
+  pub state : actor.state ≡ Some (after (messages who journal))
+  pub live : actor.phase ≡ Live
+  pub unsuspended : actor.count ≡ 0
+  pub no_restart : count_by tells_of_restart journal ≡ 0
+
+-- the report is one of a run of the scenario's one actor
+pub record HasRun (scenario : ScenarioData) (report : Report) : Type 0 where
+  pub actor : ActorData
+  pub script : Scripted
+  pub actors : scenario.plan.actors ≡ actor ∷ []
+  pub scripts : scenario.scripts ≡ script ∷ []
+  pub told : IsTold (after_of script.script.initial script.script.rows) (gives_of script.script) (gives_of script.script)
+      (the_actor actor.strategy scenario.plan.journal_limit) scenario.plan.throughput scenario.sends report

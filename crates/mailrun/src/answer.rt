@@ -1,77 +1,52 @@
-ghost use Rattle.std.specs.Prelude.{◌≡◌, [], ◌∷◌, IfOk, IfErr, string_bytes};
-ghost use Rattle.mb_scenario.specs.Outcome.{report_of, guardian_line};
-ghost use Rattle.mb_scenario.specs.Reading.{IsReadAs, Refuses};
-ghost use Rattle.mb_scenario.specs.Report.{line_data, text_of as report_of_lines};
-ghost use Rattle.mb_scenario.specs.Scenario.{ScenarioData};
-ghost use Rattle.mailrun.specs.Line.{finished_line};
+ghost use Rattle.std.specs.Prelude.{◌≡◌, ◌≤◌, ◌+◌, IfOk, IfErr, Err, length, string_bytes};
+ghost use Rattle.mb_reader.specs.View.{scenario_data};
+ghost use Rattle.mailrun.specs.Answer.{IsReport, IsRefused};
+ghost use Rattle.mailrun.specs.Told.{HasRun};
 
-use crate::run::{Finished, run};
-use mb_actor::Phase;
+use crate::failure::Failure;
+use crate::run::{Rules, run};
+use crate::scope::can_run;
 use mb_journal::ReadyError;
-use mb_scenario::{Fault, Report, ReportLine, Scenario, Script, ScriptedActor, read, report_text};
-use std::alloc::{AllocError, Global};
+use mb_plan::ActorPlan;
+use mb_reader::{Fault, Scenario, read};
+use mb_report::report_text;
+use mb_script::Script;
+use std::alloc::Global;
 use std::marker::Brand;
 
-/// The report of a scenario's text. Its faults are those of reading the text, and `NoMemory`.
-pub fn answer(alloc: Global, text: &[u8]) -> Result<String, Fault>
-    ensures report { IfOk result (λ report. (scenario : ScenarioData) × IsReadAs text.now scenario
-        × (string_bytes report ≡ report_of scenario)) }
-    ensures refused { IfErr result (Refuses text.now) }
+/// The report of a scenario's text. Its failures are those of reading the text, that the scenario cannot be run today, and
+/// `NoMemory`.
+pub fn answer(alloc: Global, text: &[u8]) -> Result<String, Failure>
+    ensures report { IfOk result (λ report. IsReport text.now (string_bytes report)) }
+    ensures refused { IfErr result (IsRefused text.now) }
 {
     let scenario = read(alloc, text)?;
-    let Scenario { actor, sends } = scenario;
-    let ScriptedActor {
-        name,
-        initial,
-        rows,
-    } = actor;
-    let finished = match run::<Script, Brand>(alloc, Script::new(initial, rows), &sends) {
-        Ok(finished) => finished,
-        // The journal has room for more entries than a scenario has sends.
-        Err(ReadyError::JournalFull) => unreachable!(),
-        Err(ReadyError::NoMemory) => return Err(Fault::NoMemory),
-    };
-    Ok(text_of(alloc, name, &finished)?)
-}
-
-/// The text of the report about the guardian and one actor.
-fn text_of(alloc: Global, name: String, finished: &Finished) -> Result<String, AllocError>
-    ensures { IfOk result (λ text. string_bytes text ≡ report_of_lines (guardian_line ∷ finished_line name finished.now ∷ [])) }
-{
-    let mut lines = Vec::new(alloc);
-    lines.push(guardian(alloc)?)?;
-    lines.push(line(name, finished))?;
-    report_text(alloc, &Report { lines })
-}
-
-/// The guardian's line, which says today what it says of every run.
-fn guardian(alloc: Global) -> Result<ReportLine, AllocError>
-    ensures { IfOk result (λ line. line_data line ≡ guardian_line) }
-{
-    Ok(ReportLine {
-        name: String::from_str(alloc, "guardian")?,
-        phase: Phase::Live,
-        state: None,
-        suspended: 0,
-        handled: 0,
-        left: 0,
-        dead: 0,
-        restarts: 0,
-    })
-}
-
-/// The line of an actor whose messages are all handled.
-fn line(name: String, finished: &Finished) -> ReportLine
-    ensures { line_data result ≡ finished_line name finished.now }
-{
-    ReportLine {
-        name,
-        phase: finished.phase,
-        state: Some(finished.state),
-        suspended: finished.suspended,
-        handled: finished.handled as u64,
-        left: 0,
-        dead: 0,
-        restarts: 0,
+    if !can_run(&scenario) {
+        return Err(Failure::NotYet);
     }
+    let Scenario {
+        mut plan,
+        names,
+        mut scripts,
+        sends,
+        quiet: _,
+    } = scenario;
+    let Some(actor) = plan.actors.pop() else {
+        unreachable!();
+    };
+    let Some(script) = scripts.pop() else {
+        unreachable!();
+    };
+    let rules = Rules {
+        strategy: actor.strategy,
+        throughput: plan.throughput,
+        journal_limit: plan.journal_limit,
+    };
+    let report = match run::<Script, Brand>(alloc, script, rules, &sends) {
+        Ok(report) => report,
+        // The journal has room for more entries than there are sends.
+        Err(ReadyError::JournalFull) => unreachable!(),
+        Err(ReadyError::NoMemory) => return Err(Failure::Input(Fault::NoMemory)),
+    };
+    Ok(report_text(alloc, &report, &names)?)
 }

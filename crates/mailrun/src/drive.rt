@@ -1,7 +1,6 @@
 ghost use Rattle.std.specs.Prelude.{◌≡◌, ◌≢◌, ◌<◌, ◌≤◌, ◌||◌, false, IfSome, IfOk, IfErr, take, string_bytes};
 ghost use Rattle.std.specs.Io.KnownBytes.{Keeps};
-ghost use Rattle.mb_scenario.specs.declared.fault.Fault.{Fault};
-ghost use Rattle.mailrun.specs.Answer.{most_read, HasReported, IsAnswer, IsCutShort, IsMet, IsRefused, IsSaid, IsSaidFor};
+ghost use Rattle.mailrun.specs.Answer.{most_read, HasReported, IsAnswer, IsAtFault, IsCutShort, IsMet, IsSaid, IsSaidFor};
 ghost use Rattle.mailrun.specs.Failure.{error_line, status_of};
 ghost use Rattle.mailrun.specs.declared.failure.Failure.{Failure};
 
@@ -9,7 +8,7 @@ use crate::answer::answer;
 use crate::failure::Failure;
 use crate::input::read_input;
 use crate::watched::Watched;
-use mb_scenario::Fault;
+use mb_reader::Fault;
 use std::alloc::{AllocError, Global};
 use std::io::{Read, Write};
 
@@ -51,7 +50,7 @@ pub fn run_program<R: Read, W: Write, E: Write>(
 }
 
 /// Reads a scenario, runs it, and writes its report. The answer is the exit status: 0 with the report written, 2 where
-/// the input is no scenario, and 1 where memory was refused, reading failed, or writing did. But for the report nothing
+/// the input is no scenario that can be run, and 1 where memory was refused, reading failed, or writing did. But for the report nothing
 /// is written on `writer`; on a failure `errors` gets one line that says which, if it can be written.
 pub fn drive<R: Read, W: Write, E: Write>(
     alloc: Global,
@@ -76,8 +75,8 @@ pub fn drive<R: Read, W: Write, E: Write>(
         × IsCutShort (R.remaining reader.old.stream) writer.new.failed (W.contents writer.old.stream) (W.contents writer.new.stream)
         × IsSaid (E.contents errors.old.stream) (E.contents errors.new.stream) errors.new.failed (error_line failure) }
 
-    // Whatever is no scenario, nothing is written for it.
-    ensures silent { IfSome (R.remaining reader.old.stream) (λ input. (fault : Fault) → IsRefused (take most_read input) fault →
+    // Whatever is no scenario that can be run, nothing is written for it.
+    ensures silent { IfSome (R.remaining reader.old.stream) (λ input. (failure : Failure) → IsAtFault (take most_read input) failure →
         Keeps (W.contents writer.old.stream) (W.contents writer.new.stream)) }
 {
     match answer_to(alloc, reader) {
@@ -109,6 +108,7 @@ fn refuse<E: Write>(alloc: Global, errors: &mut Watched<E>, failure: &Failure) -
     match failure {
         Failure::Os => say(errors, "mailrun: 2 Os\n"),
         Failure::Arguments => say(errors, "mailrun: 12 BadScenario arguments: too many\n"),
+        Failure::NotYet => say(errors, "mailrun: 12 BadScenario top: not yet\n"),
         Failure::Input(fault) => match line_of(alloc, fault) {
             Ok(line) => say(errors, line.as_str()),
             Err(_) => {

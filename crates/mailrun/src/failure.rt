@@ -1,19 +1,21 @@
 ghost use Rattle.std.specs.Prelude.{◌≡◌};
 ghost use Rattle.mailrun.specs.declared.failure.Failure.TheVariants.{Input};
-ghost use Rattle.mb_scenario.specs.declared.fault.Fault.TheVariants.{NoMemory};
+ghost use Rattle.mb_reader.specs.declared.fault.Fault.TheVariants.{NoMemory};
 ghost use Rattle.mailrun.specs.Failure.{status_of};
 
-use mb_scenario::Fault;
+use mb_reader::Fault;
 use std::alloc::{AllocError, AllocFailed};
 
 /// Why the program ends without a report.
-#[derive(Clone, Copy, Debug, PartialEq, Eq)]
+#[derive(Debug, Drop)]
 pub enum Failure {
     /// The system failed at reading the input or at writing the output.
     Os,
     /// There are arguments, and the program takes none.
     Arguments,
-    /// The input is no scenario that can be run, or the memory was refused that the program needs.
+    /// The input is a scenario that cannot be run today.
+    NotYet,
+    /// The input is no scenario, or the memory was refused that the program needs.
     Input(Fault),
 }
 
@@ -24,7 +26,9 @@ impl Failure {
     {
         match self {
             Failure::Os | Failure::Input(Fault::NoMemory) => 1,
-            Failure::Arguments | Failure::Input(Fault::NotToml | Fault::BadScenario { .. }) => 2,
+            Failure::Arguments
+            | Failure::NotYet
+            | Failure::Input(Fault::NotToml | Fault::BadScenario { .. }) => 2,
         }
     }
 }

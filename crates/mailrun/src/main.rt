@@ -7,8 +7,10 @@ mod drive;
 mod failure;
 mod input;
 mod mailbox;
-mod post;
+mod reporting;
 mod run;
+mod scope;
+mod start;
 #[cfg(test)]
 mod tests;
 mod watched;

@@ -1,16 +1,23 @@
 //! Whole runs, from bytes to bytes, and what failing streams lead to.
 
-ghost use Rattle.std.specs.Prelude.{◌≡◌, []};
+ghost use Rattle.std.specs.Prelude.{◌≡◌, [], true};
+ghost use Rattle.std.specs.List.{list_all};
 ghost use Rattle.mb_actor.specs.Behaviour.{AllowsSame};
+ghost use Rattle.mailrun.specs.Calm.{IsQuiet};
+ghost use Rattle.mailrun.specs.Scope.{is_plain_send};
 
 use crate::arguments::argument_count;
 use crate::drive::run_program;
-use crate::mailbox::{Turn, run_mailbox};
-use crate::run::{Running, begin};
+use crate::mailbox::run_mailbox;
+use crate::run::post_of;
+use crate::scope::{adds_alone, are_plain_sends};
+use crate::start::start;
 use crate::watched::Watched;
 use mb_actor::{Actor, Behaviours};
-use mb_journal::ReadyError;
-use mb_scenario::{Operation, Row, Script, Sending};
+use mb_journal::{ReadyError, Strategy};
+use mb_msg::{ActorId, Body};
+use mb_reader::{Sending, What};
+use mb_script::{Hooks, Operation, Row, Script};
 use std::alloc::Global;
 use std::env::{Env, FillError};
 use std::io;
@@ -44,7 +51,7 @@ a live state 6 suspended 0 handled 3 left 0 dead 0 restarts 0
 sent 3 handled 3 left 0 dead 0
 ";
 
-/// What a document is answered that is no scenario.
+/// What a scenario is answered that cannot be run today.
 const NOT_YET: &str = "mailrun: 12 BadScenario top: not yet\n";
 
 /// A reader that gives one byte at a time, and fails once it was read so often.
@@ -206,8 +213,79 @@ sent 10000 handled 10000 left 0 dead 0
     );
     assert_eq!(rt; errors.len(), 0);
     let text = with_sends(rt.alloc(), 10_001)?;
-    is_refused(&rt, rt.alloc(), text.as_bytes(), NOT_YET);
+    is_refused(
+        &rt,
+        rt.alloc(),
+        text.as_bytes(),
+        "mailrun: 12 BadScenario send: too many\n",
+    );
     Ok(())
+}
+
+/// Scenarios that pass all checks and cannot be run today.
+const LATER: [&str; 12] = [
+    "workers = 1\n[[actor]]\nname = \"a\"\n",
+    "workers = 0\n",
+    "workers = 0\n[[actor]]\nname = \"a\"\n[[actor]]\nname = \"b\"\n",
+    "workers = 0\n[[actor]]\nname = \"a\"\nmailbox = \"control\"\n",
+    "workers = 0\n[[actor]]\nname = \"a\"\nstart = [\"ignore\"]\n",
+    "workers = 0\n[[actor]]\nname = \"a\"\nstop = [\"ignore\"]\n",
+    "workers = 0\n[[actor]]\nname = \"a\"\nterminated = []\n",
+    "workers = 0\n[[actor]]\nname = \"a\"\n[[actor.on]]\nkind = 1\ndo = [\"add\", \"fail 1\"]\n",
+    "workers = 0\n[[actor]]\nname = \"a\"\n[[send]]\nto = \"a\"\nwhat = \"kill\"\n",
+    "workers = 0\n[[actor]]\nname = \"a\"\n[[send]]\nto = \"a\"\nkind = 1\ntimes = 2\n",
+    "workers = 0\n[[actor]]\nname = \"a\"\n[[send]]\nto = \"a\"\nkind = 1\nfrom = 1\n",
+    "workers = 0\njournal_limit = 2\n[[actor]]\nname = \"a\"\n[[send]]\nto = \"a\"\nkind = 1\n",
+];
+
+#[test]
+fn later(rt: HostRuntime) {
+    for text in LATER {
+        is_refused(&rt, rt.alloc(), text.as_bytes(), NOT_YET);
+    }
+}
+
+/// A scenario that has what else can be said of what runs today.
+const FULL: &str = r#"workers = 0
+pool = "stealing"
+throughput = 1
+journal_limit = 4
+[[actor]]
+name = "sum"
+parent = "guardian"
+mailbox = "unbounded"
+initial = 9223372036854775800
+start = []
+retries = 2
+all_for_one = true
+on = [{ kind = 2, do = ["add", "add"] }, { kind = 2, do = [] }]
+strategy = [{ cause = "any", then = "stop" }]
+[[send]]
+from = 0
+to = "sum"
+what = "user"
+kind = 2
+value = 5
+times = 1
+[[send]]
+to = "sum"
+kind = 3
+value = 5
+"#;
+
+#[test]
+fn all_that_runs_today(rt: HostRuntime) {
+    let (status, written, errors) = driven(rt.alloc(), FULL.as_bytes());
+    assert_eq!(rt; errors.as_slice(), b"".as_slice());
+    assert_eq!(rt; status, 0);
+    assert_eq!(rt;
+        written.as_slice(),
+        b"guardian live state - suspended 0 handled 0 left 0 dead 0 restarts 0
+sum live state 9223372036854775807 suspended 0 handled 2 left 0 dead 0 restarts 0
+sent 2 handled 2 left 0 dead 0
+"
+            .as_slice()
+    );
 }
 
 #[test]
@@ -398,12 +476,12 @@ fn each_prefix(rt: HostRuntime) {
     }
 }
 
-/// What came of runs of a mailbox: what each did, the fault that ended them, and the actor's content.
+/// What came of runs of a mailbox: how many envelopes each handled, the fault that ended them, and the actor's content.
 #[derive(Drop)]
 struct Runs {
-    turns: Vec<Turn>,
+    handled: Vec<usize>,
     fault: Option<ReadyError>,
-    state: i64,
+    state: Option<i64>,
 }
 
 /// Runs the mailbox of an actor until nothing waits or a run ends in a fault.
@@ -417,20 +495,25 @@ fn runs_of<A: Actor, K: Behaviours>(
     requires unused { A.content actor ≡ A.after actor [] }
     requires behaves { A.after actor ≡ K.after 1 }
     requires allows { AllowsSame (A.gives actor) (K.gives 1) }
+    requires quiet { IsQuiet (K.gives 1) }
+    requires plain { list_all is_plain_send sends.now ≡ true }
 {
-    let Running {
-        mut cell,
-        mut status,
-        mut post,
-    } = begin::<A, K>(alloc, actor, journal_limit, sends)?;
-    let mut turns = Vec::new(alloc);
+    let strategy = Strategy {
+        rows: Vec::new(alloc),
+        retries: -1,
+        all_for_one: false,
+    };
+    let mut envelopes = post_of(alloc, sends)?;
+    let mut started = start::<A, K>(alloc, actor, strategy, journal_limit)?;
+    let status = started.status;
+    let mut handled = Vec::new(alloc);
     let mut fault = None;
     for _ in 0..20 {
-        if post.systems.is_empty() && post.envelopes.is_empty() {
+        if envelopes.is_empty() {
             break;
         }
-        match run_mailbox(&mut cell, &mut status, &mut post, throughput) {
-            Ok(turn) => turns.push(turn)?,
+        match run_mailbox(&mut started.cell, status, &mut envelopes, throughput) {
+            Ok(count) => handled.push(count)?,
             Err(found) => {
                 fault = Some(found);
                 break;
@@ -438,9 +521,9 @@ fn runs_of<A: Actor, K: Behaviours>(
         }
     }
     Ok(Runs {
-        turns,
+        handled,
         fault,
-        state: cell.state(),
+        state: started.cell.state(),
     })
 }
 
@@ -452,48 +535,64 @@ fn runs_alone<A: Actor>(
     journal_limit: u32,
     sends: &[Sending],
 ) -> Result<Runs, Fail>
-    requires { A.content actor ≡ A.after actor [] }
+    requires unused { A.content actor ≡ A.after actor [] }
+    requires quiet { IsQuiet (A.gives actor) }
+    requires plain { list_all is_plain_send sends.now ≡ true }
 {
     runs_of::<A, Brand>(alloc, actor, throughput, journal_limit, sends)
 }
 
+/// Of an actor that is not run.
+fn no_runs(alloc: Global) -> Runs {
+    Runs {
+        handled: Vec::new(alloc),
+        fault: None,
+        state: None,
+    }
+}
+
 /// The runs of an actor that adds up, and is sent 1, 2, and so on up to `last`.
 fn added(alloc: Global, throughput: u32, journal_limit: u32, last: i64) -> Result<Runs, Fail> {
-    let mut rows = Vec::new(alloc);
+    let hooks = Hooks {
+        start: Vec::new(alloc),
+        restart: Vec::new(alloc),
+        stop: Vec::new(alloc),
+        terminated: None,
+    };
     let operations = vec![in alloc; Operation::Add]?;
+    let mut rows = Vec::new(alloc);
     rows.push(Row {
         kind: 1,
         operations,
     })?;
+    let script = Script::new(alloc, 0, hooks, rows)?;
     let mut sends = Vec::new(alloc);
     for value in 1..=last {
-        sends.push(Sending { kind: 1, value })?;
+        sends.push(Sending {
+            from: 0,
+            to: ActorId(1),
+            what: What::Envelope(Body::User { kind: 1, value }),
+            times: 1,
+        })?;
     }
-    runs_alone(
-        alloc,
-        Script::new(0, rows),
-        throughput,
-        journal_limit,
-        &sends,
-    )
-}
-
-/// A run of so many system messages and envelopes.
-const fn turn(systems: usize, envelopes: usize) -> Turn {
-    Turn { systems, envelopes }
+    let adds = adds_alone(&script);
+    if !adds {
+        return Ok(no_runs(alloc));
+    }
+    let plain = are_plain_sends(&sends);
+    if !plain {
+        return Ok(no_runs(alloc));
+    }
+    runs_alone(alloc, script, throughput, journal_limit, &sends)
 }
 
 #[test]
 fn runs_by_throughput(rt: HostRuntime) -> Result<(), Fail> {
     let runs = added(rt.alloc(), 2, 100, 5)?;
-    assert_eq!(rt;
-        runs.turns.as_slice(),
-        [turn(1, 2), turn(0, 2), turn(0, 1)].as_slice()
-    );
-    assert_eq!(rt; runs.state, 15);
+    assert_eq!(rt; runs.handled.as_slice(), [2, 2, 1].as_slice());
+    assert_eq!(rt; runs.state, Some(15));
     let runs = added(rt.alloc(), 0, 100, 5)?;
-    let once = [turn(1, 1), turn(0, 1), turn(0, 1), turn(0, 1), turn(0, 1)];
-    assert_eq!(rt; runs.turns.as_slice(), once.as_slice());
+    assert_eq!(rt; runs.handled.as_slice(), [1, 1, 1, 1, 1].as_slice());
     assert_eq!(rt; runs.fault, None);
     Ok(())
 }
@@ -502,9 +601,9 @@ fn runs_by_throughput(rt: HostRuntime) -> Result<(), Fail> {
 fn a_full_journal_ends_a_run(rt: HostRuntime) -> Result<(), Fail> {
     let runs = added(rt.alloc(), 5, 2, 2)?;
     assert_eq!(rt; runs.fault, Some(ReadyError::JournalFull));
-    assert_eq!(rt; runs.state, 1);
+    assert_eq!(rt; runs.state, Some(1));
     let runs = added(rt.alloc(), 5, 1, 2)?;
     assert_eq!(rt; runs.fault, Some(ReadyError::JournalFull));
-    assert_eq!(rt; runs.state, 0);
+    assert_eq!(rt; runs.state, Some(0));
     Ok(())
 }

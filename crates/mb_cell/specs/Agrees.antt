@@ -1,27 +1,70 @@
 -- What ties a cell's fields, which are changed in place, to its journal.
-use Rattle.std.specs.Prelude.{◌≡◌, ℕ, ℤ, not, List, []}
-use Rattle.mb_actor.specs.Behaviour.{Moment, Reply}
+use Rattle.std.specs.Prelude.{◌≡◌, ℕ, ◌^◌, ◌<◌, ◌≤◌, ℤ, Bool, false, List, [], length}
+use Rattle.mb_msg.specs.declared.id.ActorId.{ActorId}
+use Rattle.mb_actor.specs.Behaviour.{Moment, Reply, AllowsSame}
 use Rattle.mb_actor.specs.Tray.{Tray}
+use Rattle.mb_actor.specs.declared.call.Call.{Call}
 use Rattle.mb_actor.specs.declared.message.Message.{Message}
-use Rattle.mb_journal.specs.Entry.{Entry}
-use Rattle.mb_journal.specs.Identity.{Identity}
-use Rattle.mb_journal.specs.Incarnation.{messages}
-use Rattle.mb_journal.specs.Lawful.{IsLawful, unspawned}
-use Rattle.mb_journal.specs.Life.{phase, has_start}
-use Rattle.mb_journal.specs.Phase.{phase_is}
-use Rattle.mb_journal.specs.Suspension.{count}
-use Rattle.mb_actor.specs.declared.phase.Phase.{Phase}
 use Rattle.mb_actor.specs.declared.phase.Phase.TheVariants.{Fresh}
-use Rattle.mb_cell.specs.Recorded.{recorded}
+use Rattle.mb_journal.specs.Acts.{Act}
+use Rattle.mb_journal.specs.Aside.{aside}
+use Rattle.mb_journal.specs.Entry.{Entry}
+use Rattle.mb_journal.specs.Failure.{failed}
+use Rattle.mb_journal.specs.declared.failed_by.FailedBy.TheVariants.{Nobody}
+use Rattle.mb_journal.specs.Identity.{Identity, is_guardian}
+use Rattle.mb_journal.specs.Incarnation.{messages}
+use Rattle.mb_journal.specs.Lawful.{IsLawful, calls, unspawned, was_live}
+use Rattle.mb_journal.specs.Life.{phase, children}
+use Rattle.mb_journal.specs.Retries.{requests}
+use Rattle.mb_journal.specs.Suspension.{count}
+use Rattle.mb_journal.specs.Watching.{watchers, watching, due}
+use Rattle.mb_books.specs.BooksRecord.{Books}
+use Rattle.mb_books.specs.Requests.{requests_kept}
 
--- the journal is one that the actor can have, the phase, the count and the content are what the journal says, the actor was
--- started unless it is Fresh, and the outbox is as the next call is to find it: empty, with the children that are left to
--- spawn (`akka.actor.ActorCell` keeps such fields; that they are queries of a journal is this project's own profile)
-pub record Agrees (who : Identity) (journal : List Entry) (after : List Message → ℤ) (gives : Moment → Reply → Type 0)
-    (kept_phase : Phase) (kept_count : ℕ) (content : ℤ) (tray : Tray) : Type 0 where
-  pub lawful : IsLawful who (recorded gives) journal
-  pub same_phase : kept_phase ≡ phase who journal
-  pub started : has_start journal ≡ not (phase_is kept_phase Fresh)
-  pub same_count : kept_count ≡ count who journal
+-- the books that a journal says, with these acts
+abbrev pub books_at : Identity → List Entry → List ActorId → List Act → ℕ → Bool → Books
+books_at who journal retries acts fanout is_ready = record {
+  phase = phase who journal;
+  count = count who journal;
+  failed = failed who journal;
+  children = children who journal;
+  watchers = watchers journal;
+  watching = watching who journal;
+  due = due who journal;
+  aside = aside who journal;
+  was_live = was_live who journal;
+  retries = retries;
+  acts = acts;
+  fanout = fanout;
+  is_ready = is_ready;
+}
+
+-- nothing is known to an actor that was not started: it has no children and watches nobody, and it has not failed
+pub record IsUntouched (who : Identity) (journal : List Entry) : Type 0 where
+  pub no_children : children who journal ≡ []
+  pub none_watched : watching who journal ≡ []
+  pub none_due : due who journal ≡ []
+  pub not_failed : failed who journal ≡ Nobody
+
+-- the journal is one that the actor can have, the books are what the journal says, and the outbox is as the next call is to
+-- find it: empty, with the children that are left to spawn (`akka.actor.ActorCell` keeps such fields; that they are queries of
+-- a journal is this project's own profile)
+pub record Agrees (who : Identity) (journal : List Entry) (gives : Moment → Reply → Type 0) (books : Books) (tray : Tray) : Type 0 where
+  pub lawful : IsLawful who gives journal
+  pub booked : books ≡ books_at who journal books.retries books.acts books.fanout books.is_ready
+  pub outbox : tray ≡ record { effects = []; actors = who.actors; unspawned = unspawned who journal }
+  pub fresh : phase who journal ≡ Fresh → IsUntouched who journal
+  pub small_limit : who.limit < 2 ^ 32
+  pub few_prepared : length who.prepared ≤ 64
+  pub fanout : books.fanout ≡ length who.prepared
+  pub counted : books.retries ≡ requests_kept who.retries (requests who journal)
+
+-- the actor behaves as that of its number, its content is that of the messages since it last began, and the calls that were
+-- made of it are those that the journal records
+pub record Plays (who : Identity) (journal : List Entry) (after : List Message → ℤ) (gives : Moment → Reply → Type 0)
+    (own_after : List Message → ℤ) (own_gives : Moment → Reply → Type 0) (content : ℤ) (made : List Call) : Type 0 where
+  pub no_guardian : is_guardian who ≡ false
+  pub same_after : own_after ≡ after
+  pub same_gives : AllowsSame own_gives gives
   pub same_content : content ≡ after (messages who journal)
-  pub empty_outbox : tray ≡ record { effects = []; actors = who.actors; unspawned = unspawned who journal }
+  pub same_calls : made ≡ calls who journal

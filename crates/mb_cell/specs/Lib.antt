@@ -1,6 +1,4 @@
 pub mod Agrees
-pub mod Identity
-pub mod Message
-pub mod NextAct
-pub mod Recorded
+pub mod MayHandle
+pub mod Nothing
 pub mod Seen

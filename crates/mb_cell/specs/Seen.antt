@@ -1,13 +1,13 @@
 -- What is seen of a cell from outside.
-use Rattle.std.specs.Prelude.{◌≡◌, ℕ, List, [], ◌∷◌, Bool, false, Option}
+use Rattle.std.specs.Prelude.{◌≡◌, ℕ, List, [], ◌∷◌, Bool, false, IsTrue}
 use Rattle.mb_msg.specs.declared.envelope.Envelope.{Envelope}
 use Rattle.mb_msg.specs.declared.system.SysMsg.{SysMsg}
-use Rattle.mb_actor.specs.declared.answer.Answer.{Answer}
 use Rattle.mb_journal.specs.Acts.{Act, acts}
-use Rattle.mb_journal.specs.Entry.{Entry, is_failed}
-use Rattle.mb_journal.specs.Entry.Entry.{Handled, System}
-use Rattle.mb_journal.specs.Entry.Outcome.{Applied}
+use Rattle.mb_journal.specs.Entry.{Entry, Outcome}
+use Rattle.mb_journal.specs.Entry.Entry.{Handled, System, Dropped}
 use Rattle.mb_journal.specs.Identity.{Identity}
+use Rattle.mb_journal.specs.Lawful.{IsNumbered}
+use Rattle.mb_journal.specs.Life.{closed}
 
 -- a cell: whose it is; its journal, the newest entry first; what is still to be carried out, in order; and whether there
 -- is room for one more message. All else is a query of the journal (`akka.actor.ActorCell`; the journal is this project's
@@ -22,15 +22,27 @@ pub record Seen : Type 0 where
 abbrev pub with_entry : Seen → Entry → Seen
 with_entry cell e = record { who = cell.who; journal = e ∷ cell.journal; acts = acts cell.who cell.journal e; is_ready = false }
 
--- a system message was applied: its entry was added, and its acts are to be carried out. No call is recorded as failed,
--- and no effects can be asked for yet
-pub record AppliesSystem (old new : Seen) (number : ℕ) (m : SysMsg) : Type 0 where
-  pub answer : Option Answer
-  pub not_failed : is_failed answer ≡ false
-  pub adds : new ≡ with_entry old (System number m (Applied answer []))
+-- the cell may be given this system message: there is room, nothing is left to be carried out, its actor has not ended, and
+-- the number is the one that is due
+pub record MayTake (cell : Seen) (number : ℕ) (m : SysMsg) : Type 0 where
+  pub ready : IsTrue cell.is_ready
+  pub carried_out : cell.acts ≡ []
+  pub not_ended : closed cell.who cell.journal ≡ false
+  pub numbered : IsNumbered cell.who cell.journal number m
 
--- an envelope was handled: likewise, with the status word that was read before it
-pub record HandlesEnvelope (old new : Seen) (envelope : Envelope) (reading : ℕ) : Type 0 where
-  pub answer : Option Answer
-  pub not_failed : is_failed answer ≡ false
-  pub adds : new ≡ with_entry old (Handled envelope reading (Applied answer []))
+-- a system message was taken: its entry was added, whatever became of it, and its acts are to be carried out
+pub record TakesSystem (old new : Seen) (number : ℕ) (m : SysMsg) : Type 0 where
+  pub outcome : Outcome
+  pub adds : new ≡ with_entry old (System number m outcome)
+
+-- an entry of an envelope, handled at this reading or dropped
+abbrev pub IsOf : Envelope → ℕ → Entry → Type 0
+IsOf envelope reading (Handled e r outcome) = (e ≡ envelope) × (r ≡ reading)
+IsOf envelope reading (System number m outcome) = ⊥
+IsOf envelope reading (Dropped e) = e ≡ envelope
+
+-- an envelope was taken: likewise
+pub record TakesEnvelope (old new : Seen) (envelope : Envelope) (reading : ℕ) : Type 0 where
+  pub entry : Entry
+  pub of_it : IsOf envelope reading entry
+  pub adds : new ≡ with_entry old entry

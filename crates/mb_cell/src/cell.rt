@@ -1,99 +1,148 @@
-ghost use Rattle.std.specs.Prelude.{◌≡◌, ◌≢◌, ◌↔◌, ◌≤◌, [], ◌++◌, length, map, option_to_list, false, true, IsTrue, IsOk, IsErrOf, OnOk, OnErr, IfNone};
+ghost use Rattle.std.specs.Prelude.{◌≡◌, ◌≢◌, ◌↔◌, ◌<◌, ◌≤◌, [], ◌++◌, length, map, option_to_list, true, false, IsTrue, IsSome, IsOk, IsErrOf, OnOk, OnErr, IfNone, IfSome, MatchOption, not, is_some};
+ghost use Rattle.std.specs.List.{All};
+ghost use Rattle.mb_msg.specs.Limits.{most_actors};
 ghost use Rattle.mb_actor.specs.Behaviour.{AllowsSame};
+ghost use Rattle.mb_journal.specs.Aside.{aside as aside_of, next_front as front_of};
+ghost use Rattle.mb_journal.specs.Identity.{is_guardian};
 ghost use Rattle.mb_journal.specs.Incarnation.{messages};
 ghost use Rattle.mb_journal.specs.Lawful.{IsLawful};
 ghost use Rattle.mb_journal.specs.Life.{phase as phase_of};
 ghost use Rattle.mb_journal.specs.Suspension.{count as count_of};
-ghost use Rattle.mb_actor.specs.declared.phase.Phase.TheVariants.{Fresh};
-ghost use Rattle.mb_cell.specs.Identity.{childless};
-ghost use Rattle.mb_cell.specs.NextAct.{act_of};
-ghost use Rattle.mb_cell.specs.Recorded.{recorded};
+ghost use Rattle.mb_books.specs.ActQueue.{act_of};
 
 mod apply;
+mod create;
+mod died;
+mod dispatch;
+mod end;
+mod ending;
+mod failed;
+mod front;
+mod handle;
+mod nothing;
+pub(crate) mod parts;
+mod quiet;
+mod recreate;
+mod resume;
+mod set_aside;
+mod standing;
+mod suspend;
+mod unwatch;
+mod watch;
 
-use crate::act::Act;
 use mb_actor::{Actor, Behaviours, Called, Outbox, Phase};
-use mb_journal::{Journal, ReadyError};
-use mb_msg::ActorId;
+use mb_books::{Act, Books, Place};
+use mb_journal::{Journal, ReadyError, Strategy};
+use mb_msg::{ActorId, SysMsg};
 use std::alloc::Global;
 use std::marker::{Model, PhantomData};
 
-/// An actor with its journal.
+/// An actor with its journal, or the guardian, which has no actor.
 ///
 /// The fields beside the journal are what it says, changed in place.
 #[derive(Drop)]
 pub struct Cell<A: Actor, K: Behaviours> {
-    this: ActorId,
-    actor: Called<A>,
+    place: Place,
+    actor: Option<Called<A>>,
     outbox: Outbox,
     journal: Journal,
-    phase: Phase,
-    count: u64,
-    act: Option<Act>,
+    books: Books,
     behaviours: PhantomData<K>,
 }
 
 impl<A: Actor, K: Behaviours> Model for Cell<A, K> {
-    ghost use Rattle.std.specs.Prelude.{◌≡◌, map, option_to_list};
-    ghost use Rattle.mb_actor.specs.Behaviour.{AllowsSame};
+    ghost use Rattle.std.specs.Prelude.{◌≡◌, true, MatchOption};
     ghost use Rattle.mb_cell.specs.Seen.{Seen};
 
     ghost Value = { Seen };
 
-    ghost use Rattle.mb_journal.specs.Lawful.{calls};
-    ghost use Rattle.mb_cell.specs.Agrees.{Agrees};
-    ghost use Rattle.mb_cell.specs.Identity.{childless};
-    ghost use Rattle.mb_cell.specs.NextAct.{act_of};
+    ghost use Rattle.mb_journal.specs.Identity.{is_guardian};
+    ghost use Rattle.mb_cell.specs.Agrees.{Agrees, Plays};
+    ghost use Rattle.mb_books.specs.Place.{identity_of};
 
     ghost view = { λ c. record {
-      who = childless c.this c.journal.limit;
+      who = identity_of c.place c.journal.limit;
       journal = c.journal.entries;
-      acts = map act_of (option_to_list c.act);
+      acts = c.books.acts;
       is_ready = c.journal.is_ready;
     } };
 
     ghost invariant = { λ c.
-        (A.after c.actor.actor ≡ K.after c.this.0)
-        × AllowsSame (A.gives c.actor.actor) (K.gives c.this.0)
-        × (c.actor.calls ≡ calls (childless c.this c.journal.limit) c.journal.entries)
-        × Agrees (childless c.this c.journal.limit) c.journal.entries (K.after c.this.0) (K.gives c.this.0)
-        c.phase c.count (A.content c.actor.actor) c.outbox };
+        Agrees (identity_of c.place c.journal.limit) c.journal.entries (K.gives c.place.this.0) c.books c.outbox
+        × (c.journal.is_ready ≡ true → c.books.is_ready ≡ true)
+        × MatchOption c.actor (is_guardian (identity_of c.place c.journal.limit) ≡ true)
+        (λ a. Plays (identity_of c.place c.journal.limit) c.journal.entries (K.after c.place.this.0) (K.gives c.place.this.0)
+        (A.after a.actor) (A.gives a.actor) (A.content a.actor) a.calls) };
 }
 
 impl<A: Actor, K: Behaviours> Cell<A, K> {
-    /// The cell of an actor that is not started yet, whose journal may have so many entries. It takes no memory yet.
-    ///
-    /// The actor is a child of the guardian, which has no cell, and is told of no other actor, so that each effect that it
-    /// asks for is refused.
-    pub fn new(alloc: Global, this: ActorId, actor: A, journal_limit: u32) -> Self
-        requires not_guardian { this.0 ≢ 0 }
-        requires unused { A.content actor ≡ A.after actor [] }
-        requires behaves { A.after actor ≡ K.after this.0 }
-        requires allows { AllowsSame (A.gives actor) (K.gives this.0) }
+    /// The cell of an actor that is not started yet, or of the guardian, which alone has no parent and no actor. `actors`
+    /// is how many actors there are, `prepared` are the children that it may start, in order, and its journal may have
+    /// `journal_limit` entries. It takes no memory yet.
+    pub fn new(
+        alloc: Global,
+        this: ActorId,
+        actors: u32,
+        parent: Option<ActorId>,
+        actor: Option<A>,
+        prepared: Vec<ActorId>,
+        strategy: Strategy,
+        journal_limit: u32,
+    ) -> Self
+        requires guardian { is_some actor ≡ is_some parent }
+        requires few { length prepared.items ≤ 64 }
+        requires numbered { All (λ x. x.0 < most_actors) prepared.items }
+        requires unused { IfSome actor (λ a. A.content a ≡ A.after a []) }
+        requires behaves { IfSome actor (λ a. A.after a ≡ K.after this.0) }
+        requires allows { IfSome actor (λ a. AllowsSame (A.gives a) (K.gives this.0)) }
         ensures fresh { result ≡ record {
-          who = childless this journal_limit;
+          who = record {
+            this = this;
+            parent = parent;
+            actors = actors;
+            prepared = prepared.items;
+            strategy = strategy.rows.items;
+            retries = strategy.retries;
+            all_for_one = strategy.all_for_one;
+            limit = journal_limit;
+          };
           journal = [];
           acts = [];
           is_ready = false;
         } }
-        ensures not_started { phase_of result.who result.journal ≡ Fresh }
-        ensures suspended { count_of result.who result.journal ≡ 1 }
-        ensures lawful { IsLawful result.who (recorded (K.gives result.who.this.0)) result.journal }
+        ensures lawful { IsLawful result.who (K.gives this.0) result.journal }
     {
-        let nobody: Vec<ActorId> = Vec::new(alloc);
-        Cell {
+        let outbox = Outbox::new(actors, &prepared);
+        let books = Books::new(alloc, prepared.len());
+        let place = Place {
             this,
-            actor: Called::new(actor),
-            outbox: Outbox::new(0, &nobody),
-            journal: Journal::new(alloc, journal_limit),
-            phase: Phase::Fresh,
-            count: 1,
-            act: None,
+            parent,
+            actors,
+            prepared,
+            strategy,
+        };
+        let journal = Journal::new(alloc, journal_limit);
+        let Some(actor) = actor else {
+            return Cell {
+                place,
+                actor: None,
+                outbox,
+                journal,
+                books,
+                behaviours: PhantomData,
+            };
+        };
+        Cell {
+            place,
+            actor: Some(Called::new(actor)),
+            outbox,
+            journal,
+            books,
             behaviours: PhantomData,
         }
     }
 
-    /// Makes room for one message: for its entry, its effects and its acts.
+    /// Makes room for one message: for its entry, its effects, its acts and what it adds to the actor's lists.
     ///
     /// It answers `JournalFull` if the journal has as many entries as it may have, and else `NoMemory` if memory was
     /// refused. Nothing has changed then.
@@ -103,16 +152,22 @@ impl<A: Actor, K: Behaviours> Cell<A, K> {
         ensures err { OnErr result (self.new ≡ self.old) }
         ensures again { IsTrue self.old.is_ready → IsOk result }
     {
+        if self.journal.is_full() {
+            return Err(ReadyError::JournalFull);
+        }
+        if self.books.make_room().is_err() {
+            return Err(ReadyError::NoMemory);
+        }
         self.journal.ready()
     }
 
-    /// Takes out the next act that is to be carried out, the earliest first; `None` if none is left.
+    /// Takes out the next act that is to be carried out, the earliest first; `None` if none is left. It takes no memory.
     pub fn next_act(&mut self) -> Option<Act>
         ensures taken { self.old.acts ≡ map act_of (option_to_list result) ++ self.new.acts }
         ensures none { IfNone result (self.old.acts ≡ []) }
         ensures rest { self.new ≡ record self.old { acts = self.new.acts } }
     {
-        self.act.take()
+        self.books.next_act()
     }
 
     /// What came to the actor, and what became of it.
@@ -122,29 +177,40 @@ impl<A: Actor, K: Behaviours> Cell<A, K> {
           limit = self.now.who.limit;
           is_ready = self.now.is_ready;
         } }
-        ensures lawful { IsLawful self.now.who (recorded (K.gives self.now.who.this.0)) self.now.journal }
+        ensures lawful { IsLawful self.now.who (K.gives self.now.who.this.0) self.now.journal }
     {
         &self.journal
+    }
+
+    /// What is set aside, the earliest first, each with its number.
+    pub fn aside(&self) -> &[(u64, SysMsg)]
+        ensures { result.now ≡ aside_of self.now.who self.now.journal }
+    {
+        self.books.aside()
     }
 
     /// Where the actor stands in its life.
     pub fn phase(&self) -> Phase
         ensures { result ≡ phase_of self.now.who self.now.journal }
     {
-        self.phase
-    }
-
-    /// The actor's content as one number.
-    pub fn state(&self) -> i64
-        ensures { result ≡ K.after self.now.who.this.0 (messages self.now.who self.now.journal) }
-    {
-        self.actor.state()
+        self.books.phase()
     }
 
     /// How often the actor's mailbox is suspended: once until it is started.
     pub fn count(&self) -> u64
         ensures { result ≡ count_of self.now.who self.now.journal }
     {
-        self.count
+        self.books.count()
+    }
+
+    /// The actor's content as one number; `None` for the guardian, which has no actor.
+    pub fn state(&self) -> Option<i64>
+        ensures guardian { IfNone result (is_guardian self.now.who ≡ true) }
+        ensures content { IfSome result (λ z. z ≡ K.after self.now.who.this.0 (messages self.now.who self.now.journal)) }
+    {
+        match &self.actor {
+            None => None,
+            Some(actor) => Some(actor.state()),
+        }
     }
 }

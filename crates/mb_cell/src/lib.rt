@@ -5,11 +5,8 @@
 //! cell shows is a query of its journal.
 #![tactic(auto)]
 
-mod act;
-mod call;
 mod cell;
-#[cfg(test)]
-mod tests;
 
-pub use act::Act;
 pub use cell::Cell;
+pub use cell::parts::Parts;
+pub use mb_books::Act;

@@ -14,7 +14,7 @@ use Rattle.mb_journal.specs.Entry.{Entry, is_failed}
 use Rattle.mb_journal.specs.Entry.Entry.{System}
 use Rattle.mb_journal.specs.Entry.Outcome.{Applied}
 use Rattle.mb_journal.specs.Failure.{failed, is_failure, is_nobody}
-use Rattle.mb_journal.specs.Failure.FailedBy.{Nobody, Itself}
+use Rattle.mb_journal.specs.declared.failed_by.FailedBy.TheVariants.{Nobody, Itself}
 use Rattle.mb_journal.specs.Identity.{Identity, is_guardian}
 use Rattle.mb_journal.specs.Incarnation.{messages}
 use Rattle.mb_journal.specs.Aside.{sets_aside}

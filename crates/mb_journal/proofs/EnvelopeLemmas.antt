@@ -17,7 +17,7 @@ use Rattle.mb_journal.specs.Entry.{Entry, is_failed}
 use Rattle.mb_journal.specs.Entry.Entry.{Handled}
 use Rattle.mb_journal.specs.Entry.Outcome.{Applied}
 use Rattle.mb_journal.specs.Failure.{failed, is_failure, is_nobody, failure_of}
-use Rattle.mb_journal.specs.Failure.FailedBy.{Nobody, Itself}
+use Rattle.mb_journal.specs.declared.failed_by.FailedBy.TheVariants.{Nobody, Itself}
 use Rattle.mb_journal.specs.Identity.{Identity, is_guardian}
 use Rattle.mb_journal.specs.Incarnation.{messages, body_messages}
 use Rattle.mb_journal.specs.Life.{children, phase, closed, has_start, has_ending, is_empty}

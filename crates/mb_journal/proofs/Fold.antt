@@ -16,8 +16,9 @@ use Rattle.mb_journal.specs.Effects.{applies, lasting_effects}
 use Rattle.mb_journal.specs.Entry.{Entry, Outcome, answered_failed}
 use Rattle.mb_journal.specs.Entry.Entry.{Handled, System, Dropped}
 use Rattle.mb_journal.specs.Entry.Outcome.{Applied, SetAside}
-use Rattle.mb_journal.specs.Failure.{FailedBy, failed, fails_by_envelope, is_nobody, is_escalate, is_resume_of_failure, culprit_of}
-use Rattle.mb_journal.specs.Failure.FailedBy.{Nobody, Itself}
+use Rattle.mb_journal.specs.Failure.{failed, fails_by_envelope, is_nobody, is_escalate, is_resume_of_failure, culprit_of}
+use Rattle.mb_journal.specs.declared.failed_by.FailedBy.{FailedBy}
+use Rattle.mb_journal.specs.declared.failed_by.FailedBy.TheVariants.{Nobody, Itself}
 use Rattle.mb_journal.specs.Identity.{Identity, is_guardian}
 use Rattle.mb_journal.specs.Incarnation.{messages, entry_messages}
 use Rattle.mb_journal.specs.Lawful.{unspawned, was_live}
@@ -309,7 +310,7 @@ count_after-append some more =
     count_after-running (some ++ more)
     ∙ (running-append 1 some more ∙ ap (λ n. running n more) (sym (count_after-running some)))
 
-marked-fold : (who : Identity) (before : List Entry) (e : Entry) →
+pub marked-fold : (who : Identity) (before : List Entry) (e : Entry) →
     count_after (marks who (e ∷ before)) ≡ running (count_after (marks who before)) (marks_on who (queries who before) e)
 unfolding marks
 marked-fold who before e =

@@ -6,7 +6,7 @@ use Rattle.mb_actor.specs.Tray.{spawns_of}
 use Rattle.mb_journal.specs.Effects.{applies, lasting_effects}
 use Rattle.mb_journal.specs.Entry.{Entry}
 use Rattle.mb_journal.specs.Failure.{failed, is_failure, culprit_of, is_resume_of_failure}
-use Rattle.mb_journal.specs.Failure.FailedBy.{Nobody, Itself}
+use Rattle.mb_journal.specs.declared.failed_by.FailedBy.TheVariants.{Nobody, Itself}
 use Rattle.mb_journal.specs.Identity.{Identity, is_guardian}
 use Rattle.mb_journal.specs.Incarnation.{messages, entry_messages}
 use Rattle.mb_journal.specs.Life.{children, phase, closed, is_start, is_restart, is_ending, is_last, is_beginning, is_resume, after_death}

@@ -21,8 +21,9 @@ use Rattle.mb_actor.specs.Tray.{spawns_of}
 use Rattle.mb_journal.specs.Entry.{Entry, outcome_answer, outcome_effects, is_failed}
 use Rattle.mb_journal.specs.Entry.Entry.{Handled, System, Dropped}
 use Rattle.mb_journal.specs.Entry.Outcome.{Applied, SetAside}
-use Rattle.mb_journal.specs.Failure.{FailedBy, is_nobody, is_child, failed, failure_of}
-use Rattle.mb_journal.specs.Failure.FailedBy.{Nobody}
+use Rattle.mb_journal.specs.Failure.{is_nobody, is_child, failed, failure_of}
+use Rattle.mb_journal.specs.declared.failed_by.FailedBy.{FailedBy}
+use Rattle.mb_journal.specs.declared.failed_by.FailedBy.TheVariants.{Nobody}
 use Rattle.mb_journal.specs.Identity.{Identity, is_guardian}
 use Rattle.mb_journal.specs.Life.{children, phase, is_empty, is_alone}
 use Rattle.mb_journal.specs.Phase.{phase_is}
@@ -120,21 +121,21 @@ supervision_acts who before x c directive.Restart = flat_map (restart_for x c) (
 supervision_acts who before x c directive.Stop = to_each system.Terminate (meant_by who before x)
 supervision_acts who before x c directive.Escalate = fail_acts who (failed who before) (children who before) c (x ∷ [])
 
--- the acts of the end (`FaultHandling.finishTerminate`): the mailbox is closed, and the parent and the others that watch
--- the actor are told
-abbrev pub end_acts : Identity → List Entry → List Effect → List Act
-end_acts who before effects = stop_acts effects ++ CloseSelf ∷ told who.parent
+-- the acts of the end of an actor that these watch (`FaultHandling.finishTerminate`): the mailbox is closed, and the parent and
+-- the other watchers are told
+abbrev pub end_acts : Identity → List ActorId → List Effect → List Act
+end_acts who watched_by effects = stop_acts effects ++ CloseSelf ∷ told who.parent
   where
     told : Option ActorId → List Act
-    told None = to_each (system.Died who.this) (watchers before)
-    told (Some parent) = Sys parent (system.Died who.this) ∷ to_each (system.Died who.this) (without (watchers before) parent)
+    told None = to_each (system.Died who.this) watched_by
+    told (Some parent) = Sys parent (system.Died who.this) ∷ to_each (system.Died who.this) (without watched_by parent)
 
 -- the acts of an ending (`FaultHandling.terminate`)
 abbrev pub terminate_acts : Identity → List Entry → List Effect → List Act
 terminate_acts who before effects =
     to_each (system.Unwatch who.this) (watching who before)
     ++ to_each system.Terminate (children who before)
-    ++ (if is_empty (children who before) then end_acts who before effects else SuspendSelf ∷ [])
+    ++ (if is_empty (children who before) then end_acts who (watchers before) effects else SuspendSelf ∷ [])
 
 -- the acts of the end of another actor (`DeathWatch.watchedActorTerminated`, `FaultHandling.handleChildTerminated`): the
 -- actor is told if it watches it (in Akka the sender is the one that died: that it is the actor itself is this project's
@@ -142,7 +143,7 @@ terminate_acts who before effects =
 abbrev pub died_acts : Identity → List Entry → ActorId → List Effect → List Act
 died_acts who before x effects =
     (if has (watching who before) x then Tell who.this (body.Terminated x) ∷ [] else [])
-    ++ (if phase_is (phase who before) Ending && is_alone (children who before) x then end_acts who before effects else [])
+    ++ (if phase_is (phase who before) Ending && is_alone (children who before) x then end_acts who (watchers before) effects else [])
 
 -- the acts of a system message that is applied to an actor that was started
 abbrev pub system_acts : Identity → List Entry → SysMsg → Option Answer → List Effect → List Act

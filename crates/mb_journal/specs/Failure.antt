@@ -17,17 +17,13 @@ use Rattle.mb_journal.specs.Effects.{applies}
 use Rattle.mb_journal.specs.Entry.{Entry, outcome_answer, answered_failed}
 use Rattle.mb_journal.specs.Entry.Entry.{Handled, System}
 use Rattle.mb_journal.specs.Entry.Outcome.{Applied}
+use Rattle.mb_journal.specs.declared.failed_by.FailedBy.{FailedBy}
+use Rattle.mb_journal.specs.declared.failed_by.FailedBy.TheVariants.{Nobody, Itself, Child}
 use Rattle.mb_journal.specs.Identity.{Identity}
 use Rattle.mb_journal.specs.Life.{children, phase, is_beginning, is_restart, is_ending, is_last}
 use Rattle.mb_journal.specs.Phase.{phase_is}
 use Rattle.mb_journal.specs.Supervision.{directive_of}
 use Rattle.mb_actor.specs.declared.phase.Phase.TheVariants.{Live}
-
--- who made the actor fail: nobody, the actor itself, or a child whose failure it passed up (Akka's `FailedInfo`)
-pub data FailedBy : Type 0 where
-  Nobody : FailedBy
-  Itself : FailedBy
-  Child : ActorId → FailedBy
 
 abbrev pub is_nobody : FailedBy → Bool
 is_nobody Nobody = true

@@ -67,7 +67,8 @@ impl Journal {
 
     /// Whether it has as many entries as it may have.
     pub fn is_full(&self) -> bool
-        ensures { IsTrue result ↔ (self.now.limit ≤ length self.now.entries) }
+        ensures full { IsTrue result ↔ (self.now.limit ≤ length self.now.entries) }
+        ensures room { IsTrue self.now.is_ready → result ≡ false }
     {
         self.len() >= self.limit as usize
     }

@@ -5,14 +5,16 @@
 
 mod entry;
 mod error;
+mod failed_by;
 mod journal;
 mod row;
 mod strategy;
 
 pub use entry::{Arrival, Record};
 pub use error::ReadyError;
+pub use failed_by::FailedBy;
 pub use journal::Journal;
-pub use strategy::{Pattern, Strategy};
+pub use strategy::{Pattern, Strategy, by_default};
 
 #[cfg(test)]
 mod tests;

@@ -65,8 +65,9 @@ impl Strategy {
     }
 }
 
-/// What is done where no row says it.
-fn by_default(cause: Cause) -> Directive
+/// What is done about a child that failed so where no row of a strategy says it, and by the guardian, which has none
+/// (`SupervisorStrategy.defaultDecider`).
+pub fn by_default(cause: Cause) -> Directive
     ensures { result ≡ default_directive cause }
 {
     match cause {

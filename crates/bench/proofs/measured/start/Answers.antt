@@ -1,36 +1,57 @@
-use Rattle.std.proofs.Common.{◌≡◌, [], sym, ap, ◌∙◌}
+use Rattle.std.proofs.Common.{◌≡◌, true, List, [], length, refl, sym, ap, subst, ◌∙◌, inl}
+use Rattle.mb_msg.specs.declared.system.SysMsg.TheVariants.{Create}
 use Rattle.mb_actor.specs.declared.phase.Phase.TheVariants.{Ended}
-use Rattle.mb_journal.specs.Aside.{next_number}
-use Rattle.mb_journal.specs.Identity.{is_guardian}
-use Rattle.mb_journal.specs.Life.{phase}
+use Rattle.mb_journal.specs.Incarnation.{messages}
 use Rattle.mb_journal.specs.Phase.{phase_is}
-use Rattle.mb_cell.specs.Recorded.{recorded}
-use Rattle.mb_cell.specs.Seen.{Seen}
-use Rattle.mb_cell.proofs.Laws.{next_number-none, phase-none}
-use Rattle.bench.proofs.Steps.{started_idle, started_unheard}
+use Rattle.mb_cell.specs.Seen.{MayTake, Seen}
+use Rattle.bench.specs.Idle.{IsIdle}
+use Rattle.bench.proofs.Steps.{Starts, next_number-none, phase-none, ready_cell, starts_actor}
 use Rattle.bench.proofs.measured.start.Goals as goal
 
-pub apply_system-requires-clause-not_ended : goal.apply_system-requires-clause-not_ended
-apply_system-requires-clause-not_ended g c =
-    let cell = c.ready.new.self in
-    let nothing : cell.journal ≡ [] = ap (λ (s : Seen). s.journal) c.in_ok-ready.ensures.ok ∙ c.requires.nothing in
-    ap (λ p. phase_is p Ended) (ap (λ j. phase cell.who j) nothing ∙ phase-none cell.who)
+pub apply_system-requires : goal.apply_system-requires
+apply_system-requires g c =
+    let who = c.args.cell.now.who in
+    let is : c.ready.new.self ≡ ready_cell who = c.in_ok-ready.ensures.ok ∙ ap (λ (s : Seen). record s { is_ready = true }) c.requires.new in
+    let there : MayTake (ready_cell who) 0 Create = record {
+      ready = refl;
+      carried_out = refl;
+      not_ended = ap (λ p. phase_is p Ended) (phase-none who);
+      numbered = inl (sym next_number-none);
+    } in
+    record { may_take = subst (λ (s : Seen). MayTake s 0 Create) (sym is) there }
 
-pub apply_system-requires-clause-next : goal.apply_system-requires-clause-next
-apply_system-requires-clause-next g c =
-    sym (ap (λ (s : Seen). next_number s.journal) c.in_ok-ready.ensures.ok ∙ ap next_number c.requires.nothing ∙ next_number-none)
+pub returns-clause-same_who : goal.returns-clause-same_who
+returns-clause-same_who g c =
+    let who = c.args.cell.now.who in
+    let is : c.ready.new.self ≡ ready_cell who = c.in_ok-ready.ensures.ok ∙ ap (λ (s : Seen). record s { is_ready = true }) c.requires.new in
+    let step : Starts who c.apply_system.new.self =
+    starts_actor g.K.Behaviours.gives who c.ready.new.self c.apply_system.new.self c.requires.an_actor c.requires.steady is
+    c.apply_system.ensures.taken c.apply_system.ensures.lawful in
+    ap (λ (s : Seen). s.who) c.take_acts.ensures ∙ step.same_who
 
 pub returns-clause-idle : goal.returns-clause-idle
 returns-clause-idle g c =
-    started_idle (recorded (g.K.Behaviours.gives c.apply_system.new.self.who.this.0)) c.ready.new.self c.apply_system.new.self c.take_acts.new.cell
-    (ap (λ (s : Seen). s.journal) c.in_ok-ready.ensures.ok ∙ c.requires.nothing)
-    (ap (λ (s : Seen). is_guardian s.who) c.in_ok-ready.ensures.ok ∙ c.requires.an_actor)
-    c.apply_system.ensures.applied c.apply_system.ensures.lawful c.take_acts.ensures
+    let who = c.args.cell.now.who in
+    let is : c.ready.new.self ≡ ready_cell who = c.in_ok-ready.ensures.ok ∙ ap (λ (s : Seen). record s { is_ready = true }) c.requires.new in
+    let step : Starts who c.apply_system.new.self =
+    starts_actor g.K.Behaviours.gives who c.ready.new.self c.apply_system.new.self c.requires.an_actor c.requires.steady is
+    c.apply_system.ensures.taken c.apply_system.ensures.lawful in
+    subst (λ (s : Seen). IsIdle s) (sym c.take_acts.ensures) step.idle
+
+pub returns-clause-entry : goal.returns-clause-entry
+returns-clause-entry g c =
+    let who = c.args.cell.now.who in
+    let is : c.ready.new.self ≡ ready_cell who = c.in_ok-ready.ensures.ok ∙ ap (λ (s : Seen). record s { is_ready = true }) c.requires.new in
+    let step : Starts who c.apply_system.new.self =
+    starts_actor g.K.Behaviours.gives who c.ready.new.self c.apply_system.new.self c.requires.an_actor c.requires.steady is
+    c.apply_system.ensures.taken c.apply_system.ensures.lawful in
+    ap (λ (s : Seen). length s.journal) c.take_acts.ensures ∙ step.one
 
 pub returns-clause-no_message : goal.returns-clause-no_message
 returns-clause-no_message g c =
-    started_unheard (recorded (g.K.Behaviours.gives c.apply_system.new.self.who.this.0)) c.ready.new.self c.apply_system.new.self
-    c.take_acts.new.cell
-    (ap (λ (s : Seen). s.journal) c.in_ok-ready.ensures.ok ∙ c.requires.nothing)
-    (ap (λ (s : Seen). is_guardian s.who) c.in_ok-ready.ensures.ok ∙ c.requires.an_actor)
-    c.apply_system.ensures.applied c.apply_system.ensures.lawful c.take_acts.ensures
+    let who = c.args.cell.now.who in
+    let is : c.ready.new.self ≡ ready_cell who = c.in_ok-ready.ensures.ok ∙ ap (λ (s : Seen). record s { is_ready = true }) c.requires.new in
+    let step : Starts who c.apply_system.new.self =
+    starts_actor g.K.Behaviours.gives who c.ready.new.self c.apply_system.new.self c.requires.an_actor c.requires.steady is
+    c.apply_system.ensures.taken c.apply_system.ensures.lawful in
+    ap (λ (s : Seen). messages s.who s.journal) c.take_acts.ensures ∙ step.unheard

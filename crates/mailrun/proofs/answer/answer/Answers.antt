@@ -1,45 +1,83 @@
-use Rattle.std.proofs.Common.{◌≡◌, ◌∷◌, [], ◌∙◌, ap, arith, Err, rules, length, ℤ, List, map}
-use Rattle.mb_scenario.specs.Outcome.{guardian_line}
-use Rattle.mb_scenario.specs.Reading.{data_of}
-use Rattle.mb_scenario.specs.Report.{LineData}
-use Rattle.mb_scenario.specs.Report.{text_of as report_of_lines}
-use Rattle.mb_scenario.specs.Scenario.{RowData}
-use Rattle.mb_scenario.specs.Script.{ScriptData, after_of}
-use Rattle.mb_scenario.specs.declared.scenario.Sending.{Sending}
+use Rattle.std.proofs.Common.{◌≡◌, true, false, Err, List, [], ◌∷◌, length, map, refl, sym, ap, subst, ◌∙◌, arith, string_bytes, String}
+use Rattle.std.specs.List.{list_all}
+use Rattle.std.specs.declared.alloc.Global.{Global}
+use Rattle.std.proofs.lemmas.Grind.{common_steps}
 use Rattle.mb_journal.specs.declared.error.ReadyError.{ReadyError}
-use Rattle.mb_msg.specs.declared.envelope.Envelope.{Envelope}
-use Rattle.mb_actor.specs.declared.message.Message.{Message}
-use Rattle.mb_scenario.proofs.Documents.{scenario_of_iff}
-use Rattle.mailrun.proofs.SentLemmas.{length-sent}
-use Rattle.mailrun.proofs.Lines.{finished_line-sends}
-use Rattle.mailrun.specs.Sent.{message_of}
+use Rattle.mb_plan.specs.declared.actor_plan.ActorPlan.{ActorPlan}
+use Rattle.mb_reader.specs.View.{actor_data, scenario_data, strategy_data}
+use Rattle.mb_reader.specs.declared.scenario.Sending.{Sending}
+use Rattle.mb_report.specs.Lines.{report_text_of}
+use Rattle.mb_script.specs.Script.{after_of, gives_of}
+use Rattle.mailrun.specs.Begun.{the_actor}
+use Rattle.mailrun.specs.Scope.{can_run, is_plain_send}
+use Rattle.mailrun.specs.Told.{HasRun, IsTold}
+use Rattle.mailrun.proofs.Answering.{mapped, outcome, popped}
+use Rattle.mailrun.proofs.ScopeLemmas.{Runs, only_adds, only_new, runs}
+use Rattle.mailrun.proofs.ScriptLemmas.{quiet_script}
 use Rattle.mailrun.proofs.answer.answer.Goals as goal
 
-pub unreachable-requires : goal.unreachable-requires
-unreachable-requires c =
-    let read = c.in_ok-scenario.ensures.read in
-    let few = ((scenario_of_iff read.0 (data_of c.in_ok-scenario.scenario)).0 read.2).few in
-    let sends = ap (λ (l : List Sending). length l) c.deref.ensures.value in
-    absurd (omega (arith, few, sends, c.in-Err-JournalFull.ensures.full (ap (λ (e : ReadyError). Err e) c.in-Err-JournalFull.field-0-is)))
+pub returns-then-not-can_run-clause-refused : goal.returns-then-not-can_run-clause-refused
+returns-then-not-can_run-clause-refused c =
+    let cannot : c.can_run.result ≡ false = grind (arith, common_steps) in
+    (scenario_data c.in_ok-scenario.scenario, c.in_ok-scenario.ensures.read, sym c.can_run.ensures ∙ cannot)
+
+pub run-requires-clause-unused : goal.run-requires-clause-unused
+run-requires-clause-unused c =
+    let scenario = scenario_data c.in_ok-scenario.scenario in
+    let can : c.can_run.result ≡ true = grind (arith, common_steps) in
+    let runs_are : Runs scenario = runs scenario (sym c.can_run.ensures ∙ can) in
+    only_new c.args.text.now scenario c.in-Some-pop.script c.in_ok-scenario.ensures.read
+    (popped scenario.scripts c.pop-2.new.self.items c.in-Some-pop.script c.in-Some-pop.ensures.items runs_are.one_script)
+
+pub run-requires-clause-quiet : goal.run-requires-clause-quiet
+run-requires-clause-quiet c =
+    let scenario = scenario_data c.in_ok-scenario.scenario in
+    let can : c.can_run.result ≡ true = grind (arith, common_steps) in
+    let runs_are : Runs scenario = runs scenario (sym c.can_run.ensures ∙ can) in
+    quiet_script c.in-Some-pop.script.script (only_adds scenario.scripts c.in-Some-pop.script
+    (popped scenario.scripts c.pop-2.new.self.items c.in-Some-pop.script c.in-Some-pop.ensures.items runs_are.one_script) runs_are.adds)
+
+pub run-requires-clause-plain : goal.run-requires-clause-plain
+run-requires-clause-plain c =
+    let scenario = scenario_data c.in_ok-scenario.scenario in
+    let can : c.can_run.result ≡ true = grind (arith, common_steps) in
+    let runs_are : Runs scenario = runs scenario (sym c.can_run.ensures ∙ can) in
+    ap (λ (l : List Sending). list_all is_plain_send l) c.deref.ensures.value ∙ runs_are.plain
+
+pub unreachable-requires-in-Err-JournalFull : goal.unreachable-requires-in-Err-JournalFull
+unreachable-requires-in-Err-JournalFull c =
+    let scenario = scenario_data c.in_ok-scenario.scenario in
+    let can : c.can_run.result ≡ true = grind (arith, common_steps) in
+    let runs_are : Runs scenario = runs scenario (sym c.can_run.ensures ∙ can) in
+    let room = runs_are.room in
+    let many = ap (λ (l : List Sending). length l) c.deref.ensures.value in
+    let full = c.in-Err-JournalFull.ensures.full (ap (λ (e : ReadyError). Err e) c.in-Err-JournalFull.field-0-is) in
+    absurd (omega (arith, room, many, full))
 
 pub returns-clause-report : goal.returns-clause-report
 returns-clause-report c =
-    let scenario = c.in_ok-scenario.scenario in
-    let seen = data_of scenario in
-    let initial_is : c.new.result.initial ≡ scenario.actor.initial = search rules in
-    let rows_are : c.new.result.rows ≡ seen.actor.rows = ap (λ (s : ScriptData). s.rows) c.new.ensures in
-    let sends_are = c.deref.ensures.value in
-    let told = c.in-Ok.ensures.told in
-    let state = told.state
-    ∙ ap (λ (l : List Message). after_of c.new.result.initial c.new.result.rows l) told.heard
-    ∙ ap (λ (z : ℤ). after_of z c.new.result.rows (map message_of c.deref.result.now)) initial_is
-    ∙ ap (λ (r : List RowData). after_of scenario.actor.initial r (map message_of c.deref.result.now)) rows_are
-    ∙ ap (λ (l : List Sending). after_of scenario.actor.initial seen.actor.rows (map message_of l)) sends_are in
-    let handled = told.handled ∙ ap (λ (l : List Envelope). length l) told.told ∙ length-sent 0 c.deref.result.now
-    ∙ ap (λ (l : List Sending). length l) sends_are in
-    let same = finished_line-sends scenario.actor.name seen.actor.initial seen.actor.rows seen.sends c.in-Ok.finished
-    told.live state told.unsuspended handled in (
-      seen,
+    let scenario = scenario_data c.in_ok-scenario.scenario in
+    let can : c.can_run.result ≡ true = grind (arith, common_steps) in
+    let can_it : can_run scenario ≡ true = sym c.can_run.ensures ∙ can in
+    let runs_are : Runs scenario = runs scenario can_it in
+    let actor = c.in-Some.actor in
+    let script = c.in-Some-pop.script in
+    let told : IsTold (after_of script.script.initial script.script.rows) (gives_of script.script) (gives_of script.script)
+    (the_actor (strategy_data actor.strategy) scenario.plan.journal_limit) scenario.plan.throughput scenario.sends c.in-Ok.report =
+    subst (λ (l : List Sending). IsTold (after_of script.script.initial script.script.rows) (gives_of script.script) (gives_of script.script)
+    (the_actor (strategy_data actor.strategy) scenario.plan.journal_limit) scenario.plan.throughput l c.in-Ok.report) c.deref.ensures.value
+    c.in-Ok.ensures.told in
+    let ran : HasRun scenario c.in-Ok.report = record {
+      actor = actor_data actor;
+      script = script;
+      actors = mapped c.in_ok-scenario.scenario.plan.actors.items c.pop.new.self.items actor c.in-Some.ensures.items runs_are.one_actor;
+      scripts = popped scenario.scripts c.pop-2.new.self.items script c.in-Some-pop.ensures.items runs_are.one_script;
+      told = told;
+    } in (
+      scenario,
       c.in_ok-scenario.ensures.read,
-      c.in_ok-text_of.ensures ∙ ap (λ (line : LineData). report_of_lines (guardian_line ∷ line ∷ [])) same,
+      can_it,
+      outcome scenario c.in-Ok.report _ runs_are ran
+          (c.in_ok-report_text.ensures
+          ∙ ap (λ (l : List (String Global)). report_text_of (map string_bytes l) c.in-Ok.report) c.deref-2.ensures.value),
     )

@@ -1,5 +1,5 @@
 use Rattle.std.proofs.Common.{refl}
-use Rattle.mb_scenario.specs.declared.fault.Fault.TheVariants.{NoMemory}
+use Rattle.mb_reader.specs.declared.fault.Fault.TheVariants.{NoMemory}
 use Rattle.mailrun.specs.declared.failure.Failure.TheVariants.{Input}
 use Rattle.mailrun.proofs.Endings.{said_no_memory}
 use Rattle.mailrun.proofs.drive.refuse.Goals as goal

@@ -1,10 +1,11 @@
-use Rattle.std.proofs.Common.{◌≡◌, ◌++◌, drop, ◌∷◌, []}
-use Rattle.mb_msg.specs.declared.system.SysMsg.TheVariants.{Create}
-use Rattle.mailrun.specs.Sent.{sent}
+use Rattle.std.proofs.Common.{◌≡◌, ◌++◌, drop, true}
+use Rattle.std.specs.List.{list_all}
+use Rattle.mailrun.specs.Scope.{is_plain_send}
+use Rattle.mailrun.specs.Sent.{bodies, sent}
 use Rattle.mailrun.proofs.run.post_of.Given as goal
 
 abbrev pub invariant-loop-number : goal.invariant-loop-number
 invariant-loop-number l = record {
-  so_far : l.envelopes.items ++ sent l.number (drop l.number l.sends) ≡ sent 0 l.sends;
-  create : l.systems.items ≡ Create ∷ [];
+  so_far : l.envelopes.items ++ sent l.number (bodies (drop l.number l.sends)) ≡ sent 0 (bodies l.sends);
+  plain : list_all is_plain_send (drop l.number l.sends) ≡ true;
 }

@@ -1,135 +1,120 @@
-use Rattle.std.proofs.Common.{List, ◌≡◌, [], false, ap, sym, ◌∙◌, subst}
-use Rattle.std.specs.Prelude.{Some, not, map, option_to_list}
-use Rattle.mb_actor.specs.Behaviour.{AllowsSame}
+use Rattle.std.proofs.Common.{◌≡◌, true, refl, arith, ap, sym, ◌∙◌, subst}
+use Rattle.std.specs.Prelude.{Some}
+use Rattle.mb_msg.specs.declared.system.SysMsg.TheVariants as system
 use Rattle.mb_actor.specs.declared.call.Call.TheVariants.{Start}
-use Rattle.mb_actor.specs.Tray.{Tray}
-use Rattle.mb_journal.specs.Aside.{next_number}
-use Rattle.mb_actor.specs.declared.message.Message.{Message}
-use Rattle.mb_journal.specs.Identity.{Identity}
-use Rattle.mb_journal.specs.Incarnation.{messages}
-use Rattle.mb_journal.specs.Life.{closed}
-use Rattle.mb_journal.specs.Phase.{phase_is}
-use Rattle.mb_actor.specs.declared.phase.Phase.{Phase}
-use Rattle.mb_actor.specs.declared.phase.Phase.TheVariants.{Fresh, Live}
-use Rattle.mb_cell.specs.Agrees.{Agrees}
-use Rattle.mb_cell.specs.Identity.{childless}
-use Rattle.mb_cell.specs.NextAct.{act_of}
-use Rattle.mb_cell.specs.Recorded.{recorded}
+use Rattle.mb_actor.specs.declared.phase.Phase.TheVariants.{Fresh}
+use Rattle.mb_journal.specs.Entry.{Entry}
+use Rattle.mb_journal.specs.Entry.Entry.{System}
+use Rattle.mb_journal.specs.Entry.Outcome.{Applied}
+use Rattle.mb_journal.specs.Identity.{Identity, is_guardian}
+use Rattle.mb_journal.specs.Lawful.{IsNumbered}
+use Rattle.mb_journal.specs.Life.{phase}
+use Rattle.mb_journal.proofs.CreateLemmas.{sets_aside-create}
+use Rattle.mb_cell.specs.Agrees.{Plays}
+use Rattle.mb_books.specs.BooksRecord.{Books}
+use Rattle.mb_books.specs.Place.{identity_of}
 use Rattle.mb_cell.specs.Seen.{Seen}
-use Rattle.mb_cell.proofs.Keeping as keep
+use Rattle.mb_cell.proofs.CallingRow as calling
+use Rattle.mb_cell.proofs.CallingRow.{IsCallingRow, IsCalled}
+use Rattle.mb_cell.proofs.CellLaws as cell
+use Rattle.mb_cell.proofs.CreateRow.{create_after, create-row, create_guardian-row}
+use Rattle.mb_journal.proofs.Fold.{queries}
+use Rattle.mb_cell.proofs.SilentRow as silent
+use Rattle.mb_cell.proofs.SilentRow.{IsSilentRow}
 use Rattle.mb_cell.proofs.cell.Cell.apply_create.Given as given
 use Rattle.mb_cell.proofs.cell.Cell.apply_create.Goals as goal
 
--- ---- a Create that comes again
+-- ---- the guardian
 
-again : (g : given.Over) (c : goal.After-push_system g) →
-    Agrees (childless c.self.inside.this c.push_system.new.self.limit) c.push_system.new.self.entries
-    (g.K.Behaviours.after c.self.inside.this.0) (g.K.Behaviours.gives c.self.inside.this.0) c.self.inside.phase c.self.inside.count
-    (g.A.Actor.content c.self.inside.actor.actor) c.self.inside.outbox
-again g c =
-    keep.again-agrees c.self.inside.this c.self.inside.journal c.push_system.new.self c.args.number c.push_system.ensures.added
-    (g.K.Behaviours.after c.self.inside.this.0) (g.K.Behaviours.gives c.self.inside.this.0) c.self.inside.phase c.self.inside.count
-    (g.A.Actor.content c.self.inside.actor.actor) c.self.inside.outbox c.self.invariant.3
-    (keep.not_fresh_is c.self.inside.phase c.in_default.not-Fresh)
-    (subst (λ (s : Seen). closed s.who s.journal ≡ false) (sym c.self.view_is) c.requires.not_ended)
-    (c.requires.next ∙ ap (λ (s : Seen). next_number s.journal) (sym c.self.view_is))
-    c.push_system.ensures.within
+guardian : (g : given.Over) (c : goal.After-push_system g) → is_guardian (identity_of c.self.inside.place c.self.inside.journal.limit) ≡ true
+guardian g c = cell.guardian-now c.self.inside.actor _ _ c.in_default.not-Some c.self.invariant.2
+
+guardian_row : (g : given.Over) (c : goal.After-push_system g) →
+    IsSilentRow (identity_of c.self.inside.place c.self.inside.journal.limit) c.self.inside.journal.entries c.args.number system.Create
+    c.self.inside.books c.create_guardian.new.self
+guardian_row g c =
+    create_guardian-row _ _ _ _ _ c.self.invariant.0 c.args.number
+    (subst (λ (s : Seen). phase s.who s.journal ≡ Fresh) (sym c.self.view_is) c.requires.fresh)
+    (ap (λ (s : Seen). s.acts) c.self.view_is ∙ c.requires.may_take.carried_out)
+    (guardian g c) c.create_guardian.new.self c.create_guardian.ensures
+
+pub create_guardian-requires-clause-few : goal.create_guardian-requires-clause-few
+create_guardian-requires-clause-few g c = let same = c.self.invariant.0.fanout in omega arith
 
 pub invariant_of-self : goal.invariant_of-self
-invariant_of-self g c = (
-  c.self.invariant.0,
-  c.self.invariant.1,
-  keep.calls-again c.self.inside.this c.self.inside.journal c.push_system.new.self c.args.number c.self.inside.actor.calls
-      c.push_system.ensures.added
-      (c.self.invariant.3.started ∙ ap not (keep.not_fresh_is c.self.inside.phase c.in_default.not-Fresh)) c.self.invariant.2,
-  again g c,
-)
+invariant_of-self g c =
+    silent.keeps c.self.inside.place c.self.inside.journal c.push_system.new.self c.args.number system.Create
+    (g.K.Behaviours.after c.self.inside.place.this.0) (g.K.Behaviours.gives c.self.inside.place.this.0) c.self.inside.books
+    c.create_guardian.new.self c.self.inside.outbox c.self.inside.actor (λ a. g.A.Actor.after a.actor) (λ a. g.A.Actor.gives a.actor)
+    (λ a. g.A.Actor.content a.actor) (λ a. a.calls) c.args.self.now c.push_system.ensures.added c.push_system.ensures.within
+    c.self.invariant c.self.view_is c.requires.may_take (sets_aside-create _ _) (guardian_row g c)
 
-pub returns-in_default : goal.returns-in_default
-returns-in_default g c = record {
-  applied =
-      let not_fresh : phase_is c.self.inside.phase Fresh ≡ false = keep.not_fresh_is c.self.inside.phase c.in_default.not-Fresh in
-      keep.again-applied c.self.inside.this c.self.inside.journal c.push_system.new.self c.args.number c.push_system.ensures.added
-      c.args.self.now (map act_of (option_to_list c.self.inside.act)) c.self.view_is
-      (ap (λ (s : Seen). s.acts) c.self.view_is ∙ c.requires.carried_out)
-      (c.self.invariant.3.started ∙ ap not not_fresh)
-      (ap (λ (p : Phase). phase_is p Fresh) (sym c.self.invariant.3.same_phase) ∙ not_fresh);
-  lawful = (again g c).lawful;
+pub returns-in_default-clause-taken : goal.returns-in_default-clause-taken
+returns-in_default-clause-taken g c =
+    silent.takes c.self.inside.place c.self.inside.journal c.push_system.new.self c.args.number system.Create
+    (g.K.Behaviours.after c.self.inside.place.this.0) (g.K.Behaviours.gives c.self.inside.place.this.0) c.self.inside.books
+    c.create_guardian.new.self c.self.inside.outbox c.self.inside.actor (λ a. g.A.Actor.after a.actor) (λ a. g.A.Actor.gives a.actor)
+    (λ a. g.A.Actor.content a.actor) (λ a. a.calls) c.args.self.now c.push_system.ensures.added c.push_system.ensures.within
+    c.self.invariant c.self.view_is c.requires.may_take (sets_aside-create _ _) (guardian_row g c)
+
+pub returns-in_default-clause-lawful : goal.returns-in_default-clause-lawful
+returns-in_default-clause-lawful g c = (invariant_of-self g c).0.lawful
+
+-- ---- an actor
+
+pub create-requires-clause-small : goal.create-requires-clause-small
+create-requires-clause-small g c = cell.count-small _ _ _ _ _ c.self.invariant.0
+
+abbrev who : (g : given.Over) (c : goal.After-settle g) → Identity
+who g c = identity_of c.self.inside.place c.self.inside.journal.limit
+
+abbrev entry : (g : given.Over) (c : goal.After-settle g) → Entry
+entry g c = System c.args.number system.Create (Applied (Some c.start-answer.result) c.effects-effects.result.now)
+
+plays : (g : given.Over) (c : goal.After-settle g) →
+    Plays (who g c) c.self.inside.journal.entries (g.K.Behaviours.after c.self.inside.place.this.0)
+    (g.K.Behaviours.gives c.self.inside.place.this.0) (g.A.Actor.after c.in-Some.actor.actor) (g.A.Actor.gives c.in-Some.actor.actor)
+    (g.A.Actor.content c.in-Some.actor.actor) c.in-Some.actor.calls
+plays g c = cell.plays-now c.self.inside.actor c.in-Some.actor _ _ c.in-Some.is c.self.invariant.2
+
+came : (g : given.Over) (c : goal.After-settle g) →
+    IsCalled Start (Some c.start-answer.result) c.effects-effects.result.now c.self.inside.outbox c.start-answer.new.out
+    (g.A.Actor.after c.in-Some.actor.actor) (g.A.Actor.gives c.in-Some.actor.actor) (g.A.Actor.content c.in-Some.actor.actor)
+    c.in-Some.actor.calls (g.A.Actor.after c.start-answer.new.self.actor) (g.A.Actor.gives c.start-answer.new.self.actor)
+    c.start-answer.new.self.calls
+came g c = record {
+  called_once = c.start-answer.ensures.called;
+  given = c.start-answer.ensures.given;
+  keeps = c.start-answer.ensures.kept;
+  held = c.effects-effects.ensures.held;
+  same_effects = c.effects-effects.ensures.value;
 }
 
--- ---- the first Create
-
--- whose the cell is, and what the actor was given before
-abbrev who : (g : given.Over) (c : goal.After-clear g) → Identity
-who g c = childless c.self.inside.this c.self.inside.journal.limit
-
-abbrev messages_before : (g : given.Over) (c : goal.After-clear g) → List Message
-messages_before g c = messages (who g c) c.self.inside.journal.entries
-
-same_after : (g : given.Over) (c : goal.After-clear g) →
-    g.A.Actor.after c.call_start-answer.new.actor.actor ≡ g.K.Behaviours.after c.self.inside.this.0
-same_after g c = c.call_start-answer.ensures.kept.after_kept ∙ c.self.invariant.0
-
-same_gives : (g : given.Over) (c : goal.After-clear g) → AllowsSame (g.A.Actor.gives c.call_start-answer.new.actor.actor) (g.K.Behaviours.gives
-    c.self.inside.this.0)
-same_gives g c =
-    keep.allows-along (g.A.Actor.gives c.self.inside.actor.actor) (g.A.Actor.gives c.call_start-answer.new.actor.actor) (g.K.Behaviours.gives
-    c.self.inside.this.0) c.self.invariant.1 c.call_start-answer.ensures.kept.gives_kept
-
--- what the start gave, and that it asked for no effects
-given_now : (g : given.Over) (c : goal.After-clear g) →
-    recorded (g.K.Behaviours.gives c.self.inside.this.0)
-    (record { messages = messages_before g c; call = Start; actors = c.self.inside.outbox.actors; unspawned = c.self.inside.outbox.unspawned })
-    (record { answer = Some c.call_start-answer.result; effects = c.call_start-answer.new.out.effects })
-given_now g c =
-    keep.recorded-along (g.A.Actor.gives c.call_start-answer.new.actor.actor) (g.K.Behaviours.gives c.self.inside.this.0) _ _ (same_gives g c)
-    (c.call_start-answer.ensures.given (messages_before g c)
-    (c.self.invariant.3.same_content ∙ ap (λ f. f (messages_before g c)) (sym c.self.invariant.0)))
-
-none : (g : given.Over) (c : goal.After-clear g) → c.call_start-answer.new.out.effects ≡ []
-none g c =
-    keep.nothing_held c.call_start-answer.new.out
-    (c.call_start-answer.ensures.kept.actors_kept ∙ ap (λ (t : Tray). t.actors) c.self.invariant.3.empty_outbox) c.effects-effects.ensures.held
-
-first : (g : given.Over) (c : goal.After-clear g) →
-    Agrees (childless c.self.inside.this c.push_system-2.new.self.limit) c.push_system-2.new.self.entries
-    (g.K.Behaviours.after c.self.inside.this.0) (g.K.Behaviours.gives c.self.inside.this.0) Live c.saturating_sub-self-inside.result
-    (g.A.Actor.content c.call_start-answer.new.actor.actor) c.clear.new.self
-first g c =
-    keep.start-agrees c.self.inside.this c.self.inside.journal c.push_system-2.new.self c.args.number c.call_start-answer.result
-    c.effects-effects.result.now c.push_system-2.ensures.added c.call_start-answer.ensures.not_failed (c.effects-effects.ensures.value ∙ none g c)
-    (g.K.Behaviours.after c.self.inside.this.0) (g.K.Behaviours.gives c.self.inside.this.0) c.self.inside.phase c.self.inside.count
-    c.saturating_sub-self-inside.result
-    (g.A.Actor.content c.self.inside.actor.actor) (g.A.Actor.content c.call_start-answer.new.actor.actor) c.self.inside.outbox c.clear.new.self
-    c.self.invariant.3 c.in-Fresh.is
-    (c.requires.next ∙ ap (λ (s : Seen). next_number s.journal) (sym c.self.view_is))
-    (keep.moment-now (who g c) c.self.inside.journal.entries (recorded (g.K.Behaviours.gives c.self.inside.this.0))
-    c.self.inside.outbox Start c.call_start-answer.result c.call_start-answer.new.out.effects c.self.invariant.3.empty_outbox
-    (none g c)
-    (given_now g c))
-    c.push_system-2.ensures.within
-    c.saturating_sub-self-inside.ensures
-    (c.call_start-answer.ensures.begins ∙ ap (λ f. f []) (same_after g c))
-    (keep.cleared c.self.inside.outbox c.call_start-answer.new.out c.clear.new.self c.clear.ensures
-    c.call_start-answer.ensures.kept.actors_kept c.call_start-answer.ensures.kept.unspawned_kept
-    (ap (λ (t : Tray). t.effects) c.self.invariant.3.empty_outbox))
+row : (g : given.Over) (c : goal.After-settle g) →
+    IsCallingRow (who g c) (g.K.Behaviours.gives c.self.inside.place.this.0) c.self.inside.journal.entries (entry g c) Start
+    (Some c.start-answer.result) c.effects-effects.result.now c.self.inside.books c.create.new.self
+    (create_after (who g c) (queries (who g c) c.self.inside.journal.entries) c.args.number c.start-answer.result c.effects-effects.result.now)
+row g c =
+    create-row _ _ _ _ _ c.self.invariant.0 c.args.number
+    (subst (λ (s : Seen). phase s.who s.journal ≡ Fresh) (sym c.self.view_is) c.requires.fresh)
+    (ap (λ (s : Seen). s.acts) c.self.view_is ∙ c.requires.may_take.carried_out)
+    (plays g c).no_guardian c.start-answer.result c.effects-effects.result.now
+    (subst (λ (s : Seen). IsNumbered s.who s.journal c.args.number system.Create) (sym c.self.view_is) c.requires.may_take.numbered)
+    c.create.new.self c.create.ensures
 
 pub invariant_of-self-2 : goal.invariant_of-self-2
-invariant_of-self-2 g c = (
-  same_after g c,
-  same_gives g c,
-  keep.calls-start c.self.inside.this c.self.inside.journal c.push_system-2.new.self c.args.number c.call_start-answer.result
-      c.effects-effects.result.now c.self.inside.actor.calls c.call_start-answer.new.actor.calls c.push_system-2.ensures.added
-      (sym c.self.invariant.3.same_phase ∙ c.in-Fresh.is) c.self.invariant.2 c.call_start-answer.ensures.called,
-  first g c,
-)
+invariant_of-self-2 g c =
+    calling.calling-settled c.self.inside.place c.self.inside.journal c.push_system-2.new.self (entry g c) _ _ c.self.inside.books
+    c.create.new.self c.self.inside.outbox c.start-answer.new.out _ _ _ _ _ _ _ _ _ _ c.push_system-2.ensures.added
+    c.push_system-2.ensures.within c.self.invariant.0 (plays g c) (came g c) _ (row g c) c.settle.new.self
+    (g.A.Actor.content c.start-answer.new.self.actor) c.settle.ensures refl c.start-answer.ensures.begins
 
-pub returns-clause-applied : goal.returns-clause-applied
-returns-clause-applied g c =
-    keep.start-applied c.self.inside.this c.self.inside.journal c.push_system-2.new.self c.args.number c.call_start-answer.result
-    c.effects-effects.result.now c.push_system-2.ensures.added c.call_start-answer.ensures.not_failed (c.effects-effects.ensures.value ∙ none g c)
-    c.args.self.now (map act_of (option_to_list c.self.inside.act)) c.self.view_is
-    (sym c.self.invariant.3.same_phase ∙ c.in-Fresh.is)
+pub returns-clause-taken : goal.returns-clause-taken
+returns-clause-taken g c =
+    cell.taken-system c.self.inside.place c.self.inside.journal c.push_system-2.new.self c.args.number system.Create
+    (Applied (Some c.start-answer.result) c.effects-effects.result.now) c.self.inside.books.acts c.create.new.self.acts c.args.self.now
+    c.push_system-2.ensures.added c.self.view_is
+    (ap (λ (b : Books). b.acts) (row g c).booked ∙ sym (row g c).acted)
 
 pub returns-clause-lawful : goal.returns-clause-lawful
-returns-clause-lawful g c = (first g c).lawful
+returns-clause-lawful g c = (invariant_of-self-2 g c).0.lawful

@@ -1,48 +1,65 @@
-use Rattle.std.proofs.Common.{◌≡◌, [], ap, sym, ◌∙◌, subst}
-use Rattle.mb_actor.specs.declared.phase.Phase.TheVariants.{Fresh}
+use Rattle.std.proofs.Common.{◌≡◌, ℕ, [], true, false, refl, ap, sym, ◌∙◌, subst, arith}
+use Rattle.std.specs.Prelude.{Option, Some, None, is_some, is_none, IfSome}
 use Rattle.mb_actor.specs.Behaviour.{AllowsSame}
 use Rattle.mb_actor.specs.Called.{Called}
-use Rattle.mb_journal.specs.Lawful.{calls}
-use Rattle.mb_journal.specs.Log.{Log}
-use Rattle.mb_journal.proofs.LawfulLemmas.{calls-none}
-use Rattle.mb_cell.specs.Agrees.{Agrees}
-use Rattle.mb_cell.specs.Identity.{childless}
-use Rattle.mb_cell.proofs.Keeping.{agrees-new}
+use Rattle.mb_books.specs.BooksRecord.{Books}
+use Rattle.mb_cell.proofs.NewLaw.{first_books, agrees-new, plays-new}
 use Rattle.mb_cell.proofs.cell.Cell.new.Given as given
 use Rattle.mb_cell.proofs.cell.Cell.new.Goals as goal
 
--- the actor as it was handed in, of which no call was made
-handed : (g : given.Over) (c : goal.After-drop-nobody g) → c.new.result.actor ≡ c.args.actor
-handed g c = ap (λ (a : Called (g.row.A.Denot)). a.actor) c.new.ensures
+no_parent : {A P : Type 0} (o : Option A) (p : Option P) → ((a : A) → o ≡ Some a → ⊥) → is_some o ≡ is_some p → is_none p ≡ true
+no_parent None None other same = refl
+no_parent None (Some p) other same = cc
+no_parent (Some a) p other same = absurd (other a refl)
 
-kept : (g : given.Over) (c : goal.After-drop-nobody g) →
-    Agrees (childless c.args.this c.new-3.result.limit) c.new-3.result.entries (g.K.Behaviours.after c.args.this.0) (g.K.Behaviours.gives
-    c.args.this.0)
-    Fresh 1 (g.A.Actor.content c.new.result.actor) c.new-2.result
-kept g c =
-    subst (λ (j : Log). Agrees (childless c.args.this j.limit) j.entries (g.K.Behaviours.after c.args.this.0) (g.K.Behaviours.gives
-    c.args.this.0) Fresh 1 (g.A.Actor.content c.new.result.actor) c.new-2.result)
-    (sym c.new-3.ensures)
-    (agrees-new (childless c.args.this c.args.journal_limit) (g.K.Behaviours.after c.args.this.0) (g.K.Behaviours.gives c.args.this.0)
-    (g.A.Actor.content c.new.result.actor) c.new-2.result
-    (ap g.A.Actor.content (handed g c) ∙ (c.requires.unused ∙ ap (λ f. f []) c.requires.behaves))
-    (c.new-2.ensures ∙ ap (λ u. record { effects = []; actors = 0; unspawned = u }) c.new-nobody.ensures.items))
+a_parent : {A P : Type 0} (o : Option A) (a : A) (p : Option P) → o ≡ Some a → is_some o ≡ is_some p → is_none p ≡ false
+a_parent o a None is same = let both : true ≡ false = ap is_some (sym is) ∙ same in cc
+a_parent o a (Some p) is same = refl
+
+of_it : {A : Type 0} (o : Option A) (a : A) (P : A → Type 0) → o ≡ Some a → IfSome o P → P a
+of_it o a P is all = subst (λ x. IfSome x P) is all
+
+first : (f : ℕ) (b : Books) → b ≡ first_books f → b ≡ first_books b.fanout
+first f b is = is ∙ (λ i. first_books (ap (λ (x : Books). x.fanout) (sym is) i))
 
 pub invariant_of-result : goal.invariant_of-result
 invariant_of-result g c = (
-  ap g.A.Actor.after (handed g c) ∙ c.requires.behaves,
-  subst (λ a. AllowsSame (g.A.Actor.gives a) (g.K.Behaviours.gives c.args.this.0)) (sym (handed g c)) c.requires.allows,
-  ap (λ (a : Called (g.row.A.Denot)). a.calls) c.new.ensures
-      ∙ (sym (calls-none (childless c.args.this c.args.journal_limit))
-      ∙ ap (λ (j : Log). calls (childless c.args.this j.limit) j.entries) (sym c.new-3.ensures)),
-  kept g c,
+  agrees-new
+      (record { this = c.args.this; parent = c.args.parent; actors = c.args.actors; prepared = c.args.prepared; strategy = c.args.strategy })
+      c.new-journal.result c.args.journal_limit _ c.new-books.result c.new-outbox.result c.new-journal.ensures
+      (first _ _ c.new-books.ensures) (let same = ap (λ (b : Books). b.fanout) c.new-books.ensures in omega arith) c.new-outbox.ensures
+      (omega arith) c.requires.few,
+  (λ ready. let no : c.new-journal.result.is_ready ≡ false = ap (λ j. j.is_ready) c.new-journal.ensures in cc),
+  no_parent c.args.actor c.args.parent c.in_default.not-Some c.requires.guardian,
 )
 
-pub returns-clause-not_started : goal.returns-clause-not_started
-returns-clause-not_started g c = sym (kept g c).same_phase
+pub returns-in_default-clause-lawful : goal.returns-in_default-clause-lawful
+returns-in_default-clause-lawful g c = (invariant_of-result g c).0.lawful
 
-pub returns-clause-suspended : goal.returns-clause-suspended
-returns-clause-suspended g c = sym (kept g c).same_count
+-- the actor as it was handed in, of which no call was made
+handed : (g : given.Over) (c : goal.After-new g) → c.new.result.actor ≡ c.in-Some.actor
+handed g c = ap (λ (a : Called (g.row.A.Denot)). a.actor) c.new.ensures
+
+pub invariant_of-result-2 : goal.invariant_of-result-2
+invariant_of-result-2 g c = (
+  agrees-new
+      (record { this = c.args.this; parent = c.args.parent; actors = c.args.actors; prepared = c.args.prepared; strategy = c.args.strategy })
+      c.new-journal.result c.args.journal_limit _ c.new-books.result c.new-outbox.result c.new-journal.ensures
+      (first _ _ c.new-books.ensures) (let same = ap (λ (b : Books). b.fanout) c.new-books.ensures in omega arith) c.new-outbox.ensures
+      (omega arith) c.requires.few,
+  (λ ready. let no : c.new-journal.result.is_ready ≡ false = ap (λ j. j.is_ready) c.new-journal.ensures in cc),
+  plays-new
+      (record { this = c.args.this; parent = c.args.parent; actors = c.args.actors; prepared = c.args.prepared; strategy = c.args.strategy })
+      c.new-journal.result c.args.journal_limit _ _ _ _ _ _ c.new-journal.ensures
+      (a_parent c.args.actor c.in-Some.actor c.args.parent c.in-Some.is c.requires.guardian)
+      (ap g.A.Actor.after (handed g c)
+      ∙ of_it c.args.actor c.in-Some.actor (λ a. g.A.Actor.after a ≡ g.K.Behaviours.after c.args.this.0) c.in-Some.is c.requires.behaves)
+      (subst (λ a. AllowsSame (g.A.Actor.gives a) (g.K.Behaviours.gives c.args.this.0)) (sym (handed g c))
+      (of_it c.args.actor c.in-Some.actor (λ a. AllowsSame (g.A.Actor.gives a) (g.K.Behaviours.gives c.args.this.0)) c.in-Some.is c.requires.allows))
+      (subst (λ a. g.A.Actor.content a ≡ g.A.Actor.after a []) (sym (handed g c))
+      (of_it c.args.actor c.in-Some.actor (λ a. g.A.Actor.content a ≡ g.A.Actor.after a []) c.in-Some.is c.requires.unused))
+      (ap (λ (a : Called (g.row.A.Denot)). a.calls) c.new.ensures),
+)
 
 pub returns-clause-lawful : goal.returns-clause-lawful
-returns-clause-lawful g c = (kept g c).lawful
+returns-clause-lawful g c = (invariant_of-result-2 g c).0.lawful

@@ -14,7 +14,7 @@ returns-then-is_full-clause-again c is_ready =
     let same = length-entries c.self.inside.rows.items c.self.inside.effects.items in
     let limit = ap (λ (l : Log). l.limit) c.self.view_is in
     let entries = ap (λ (l : Log). length l.entries) c.self.view_is in
-    let full = c.is_full.ensures.0 c.if-is_full.true in
+    let full = c.is_full.ensures.full.0 c.if-is_full.true in
     absurd (omega (arith, c.self.inside.rows.ok.0))
 
 pub invariant_of-self-2 : goal.invariant_of-self-2
@@ -22,7 +22,7 @@ invariant_of-self-2 c =
     let same = length-entries c.self.inside.rows.items c.self.inside.effects.items in
     let limit = ap (λ (l : Log). l.limit) c.self.view_is in
     let entries = ap (λ (l : Log). length l.entries) c.self.view_is in
-    let not_full : (c.args.self.now.limit ≤ length c.args.self.now.entries → ⊥) = λ full. (let yes = c.is_full.ensures.1 full in cc) in
+    let not_full : (c.args.self.now.limit ≤ length c.args.self.now.entries → ⊥) = λ full. (let yes = c.is_full.ensures.full.1 full in cc) in
     record {
       in_order = rw (c.reserve.ensures.items, c.reserve-2.ensures.items) c.self.invariant.in_order;
       within = omega arith;

@@ -1,0 +1,2 @@
+pub mod EffectLemmas
+pub mod RetryLemmas

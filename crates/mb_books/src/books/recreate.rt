@@ -1,0 +1,64 @@
+ghost use Rattle.std.specs.Prelude.{◌≡◌, ◌+◌, ◌≤◌, ◌<◌, ◌^◌, [], IsTrue, Some, length};
+ghost use Rattle.mb_books.specs.Place.{identity_of};
+ghost use Rattle.mb_books.specs.Rows.{recreated};
+
+use crate::act_queue::Task;
+use crate::books::Books;
+use crate::books::aside::forget;
+use crate::effects::carry_out;
+use crate::fail::fail;
+use crate::place::Place;
+use mb_actor::{Answer, Effect, Phase};
+use mb_journal::FailedBy;
+use mb_msg::{Cause, SysMsg};
+
+impl Books {
+    /// `Recreate` of an actor that is Live or Broken, or `Resume` of a Broken one: it was started afresh, with this answer
+    /// and these effects. The children that it had are started afresh too, or are suspended no more than they were.
+    pub fn recreate(
+        &mut self,
+        place: &Place,
+        cause: Cause,
+        answer: Answer,
+        effects: &[Effect],
+        number: u64,
+    )
+        requires ready { IsTrue self.old.is_ready }
+        requires carried_out { self.old.acts ≡ [] }
+        requires small { self.old.count < 2 ^ 60 }
+        requires few { length effects.now ≤ 16 }
+        ensures { self.new ≡ recreated (identity_of place.now 0) cause (Some answer) effects.now number self.old }
+    {
+        forget(&mut self.aside, number);
+        self.ready = false;
+        self.count = self.count.saturating_sub(1);
+        self.failed = FailedBy::Nobody;
+        self.acts.push(Task::ResumeSelf);
+        let survivors = self.children.len();
+        carry_out(
+            place.this,
+            effects,
+            &mut self.acts,
+            &mut self.children,
+            &mut self.watching,
+            &mut self.due,
+        );
+        let Answer::Failed(_) = answer else {
+            self.phase = Phase::Live;
+            self.acts
+                .push_each(SysMsg::Recreate(cause), &self.children[..survivors]);
+            return;
+        };
+        self.phase = Phase::Broken;
+        fail(
+            place,
+            FailedBy::Itself,
+            Cause::Init,
+            &self.children,
+            &self.children[..survivors],
+            &mut self.count,
+            &mut self.failed,
+            &mut self.acts,
+        );
+    }
+}

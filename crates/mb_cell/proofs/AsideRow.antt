@@ -1,0 +1,101 @@
+-- A system message that is set aside: from what it makes of the books to what the cell promises.
+use Rattle.std.proofs.Common.{◌≡◌, ℕ, ◌≤◌, ℤ, List, [], ◌∷◌, length, true, false, refl, ap, sym, ◌∙◌, subst}
+use Rattle.std.specs.Prelude.{not, Option, None}
+use Rattle.mb_msg.specs.declared.system.SysMsg.{SysMsg}
+use Rattle.mb_actor.specs.Behaviour.{Moment, Reply}
+use Rattle.mb_actor.specs.Tray.{Tray}
+use Rattle.mb_actor.specs.declared.call.Call.{Call}
+use Rattle.mb_actor.specs.declared.message.Message.{Message}
+use Rattle.mb_journal.specs.Acts.{acts}
+use Rattle.mb_journal.specs.Aside.{sets_aside}
+use Rattle.mb_journal.specs.Entry.{Entry}
+use Rattle.mb_journal.specs.Entry.Entry.{System}
+use Rattle.mb_journal.specs.Entry.Outcome.{SetAside}
+use Rattle.mb_journal.specs.Identity.{Identity}
+use Rattle.mb_journal.specs.Incarnation.{messages}
+use Rattle.mb_journal.specs.Lawful.{IsLawfulEntry, IsNumbered, call_of, was_live}
+use Rattle.mb_journal.specs.Life.{closed}
+use Rattle.mb_journal.specs.Log.{Log}
+use Rattle.mb_journal.proofs.Fold.{Queries, queries, queries-fold}
+use Rattle.mb_journal.proofs.SetAsideSteps.{set_aside-tests, set_aside-step}
+use Rattle.mb_journal.proofs.Steps.{none_passed, passed}
+use Rattle.mb_cell.specs.Agrees.{Agrees}
+use Rattle.mb_books.specs.BooksRecord.{Books}
+use Rattle.mb_books.specs.Place.{identity_of}
+use Rattle.mb_books.specs.Rows.{put_aside}
+use Rattle.mb_cell.specs.Seen.{Seen, MayTake, TakesSystem}
+use Rattle.mb_books.specs.declared.place.Place.{Place}
+use Rattle.mb_cell.proofs.CellLaws.{Kept, longer, kept-silent, taken-system, length-added}
+use Rattle.mb_cell.proofs.RowLaws.{agrees-more, blank-before, booked-open, books_of, books-after, call-by, no_call}
+
+-- the entry of a message that is set aside
+abbrev pub waiting : ℕ → SysMsg → Entry
+waiting number m = System number m SetAside
+
+-- it does nothing
+no-acts : (who : Identity) (before : List Entry) (number : ℕ) (m : SysMsg) → acts who before (waiting number m) ≡ []
+unfolding acts
+no-acts who before number m = refl
+
+calls-nothing : (who : Identity) (before : List Entry) (number : ℕ) (m : SysMsg) → call_of who before (waiting number m) ≡ None
+calls-nothing who before number m =
+    call-by who before number m SetAside none_passed (set_aside-tests who (queries who before) number m)
+    ∙ no_call who none_passed m (was_live who (waiting number m ∷ before)) refl refl refl
+
+lawful-waiting : (who : Identity) (gives : Moment → Reply → Type 0) (before : List Entry) (number : ℕ) (m : SysMsg) →
+    closed who before ≡ false → IsNumbered who before number m → sets_aside who before m ≡ true →
+    IsLawfulEntry who gives before (waiting number m)
+lawful-waiting who gives before number m not_ended numbered waits =
+    record { not_ended = not_ended; numbered = numbered; by_rule = sym (ap not waits) }
+
+module _ {A : Type 0} (place : Place) (old new : Log) (number : ℕ) (m : SysMsg) (after : List Message → ℤ)
+    (gives : Moment → Reply → Type 0) (books new_books : Books) (tray : Tray) (actor : Option A) (own_after : A → List Message → ℤ)
+    (own_gives : A → Moment → Reply → Type 0) (content : A → ℤ) (made : A → List Call) (now : Seen)
+    (added : new ≡ longer old (waiting number m)) (within : length new.entries ≤ new.limit)
+    (kept : Kept place old after gives books tray actor own_after own_gives content made)
+    (view_is : (let seen : Seen = record { who = identity_of place old.limit; journal = old.entries; acts = books.acts; is_ready = old.is_ready } in
+    seen ≡ now))
+    (asked : MayTake now number m) (waits : sets_aside now.who now.journal m ≡ true)
+    (put : new_books ≡ put_aside number m books) where
+  abbrev who : Identity
+  who = identity_of place old.limit
+
+  abbrev q : Queries
+  q = queries who old.entries
+
+  may_take : MayTake (record { who = identity_of place old.limit; journal = old.entries; acts = books.acts; is_ready = old.is_ready }) number m
+  may_take = subst (λ (s : Seen). MayTake s number m) (sym view_is) asked
+
+  booked : new_books ≡ books_of (passed q (waiting number m)) books.retries [] books.fanout false
+  booked =
+      books-after (passed q (waiting number m)) books.retries [] books.fanout false new_books may_take.not_ended
+      (put ∙ ap (put_aside number m) (booked-open who old.entries gives books tray kept.0 may_take.not_ended))
+
+  agrees : Agrees who (waiting number m ∷ old.entries) gives new_books tray
+  agrees =
+      agrees-more who old.entries gives books tray kept.0 (waiting number m) (passed q (waiting number m)) books.retries [] false new_books tray
+      (lawful-waiting who gives old.entries number m may_take.not_ended may_take.numbered
+      (subst (λ (s : Seen). sets_aside s.who s.journal m ≡ true) (sym view_is) waits))
+      (length-added old new (waiting number m) added within) (set_aside-step who q number m) booked kept.0.outbox
+      (λ fresh. let here = blank-before who old.entries gives books tray kept.0 fresh in record {
+        no_children = here.no_children;
+        none_watched = here.none_watched;
+        none_due = here.none_due;
+        not_failed = here.not_failed;
+      })
+      kept.0.counted
+
+  same_messages : messages who (waiting number m ∷ old.entries) ≡ messages who old.entries
+  same_messages =
+      ap (λ (r : Queries). r.messages) (queries-fold who old.entries (waiting number m) ∙ set_aside-step who q number m)
+
+  pub keeps : Kept place new after gives new_books tray actor own_after own_gives content made
+  keeps =
+      kept-silent place old new (waiting number m) after gives books new_books tray tray actor own_after own_gives content made added
+      agrees (calls-nothing who old.entries number m) (λ an_actor. same_messages) kept
+
+  pub takes : TakesSystem now
+      (record { who = identity_of place new.limit; journal = new.entries; acts = new_books.acts; is_ready = new.is_ready }) number m
+  takes =
+      taken-system place old new number m SetAside books.acts new_books.acts now added view_is
+      (ap (λ (b : Books). b.acts) booked ∙ sym (no-acts who old.entries number m))

@@ -1,0 +1,203 @@
+-- `Failed` of a child of an actor that was started.
+use Rattle.std.proofs.Common.{◌≡◌, ℕ, ℤ, pos, ◌+◌, List, [], ◌++◌, Bool, true, false, refl, ap, sym, ◌∙◌}
+use Rattle.std.specs.Prelude.{negsuc, nat_lt, nat_le, not, ◌&&◌, if◌then◌else◌}
+use Rattle.std.specs.List.{list_all}
+use Rattle.mb_msg.specs.declared.id.ActorId.{ActorId}
+use Rattle.mb_msg.specs.declared.supervision.Cause.{Cause}
+use Rattle.mb_msg.specs.declared.supervision.Directive.{Directive}
+use Rattle.mb_msg.specs.declared.supervision.Directive.TheVariants as directive
+use Rattle.mb_msg.specs.declared.system.SysMsg.TheVariants as system
+use Rattle.mb_actor.specs.ActorList.{has}
+use Rattle.mb_actor.specs.Behaviour.{Moment, Reply}
+use Rattle.mb_actor.specs.Tray.{Tray}
+use Rattle.mb_actor.specs.declared.phase.Phase.TheVariants.{Fresh}
+use Rattle.mb_journal.specs.Acts.{Act, acts, supervision_acts}
+use Rattle.mb_journal.specs.Entry.{Entry}
+use Rattle.mb_journal.specs.Failure.{is_nobody, is_escalate}
+use Rattle.mb_journal.specs.declared.failed_by.FailedBy.TheVariants.{Child}
+use Rattle.mb_journal.specs.Identity.{Identity}
+use Rattle.mb_journal.specs.Life.{closed, phase, children}
+use Rattle.mb_journal.specs.Phase.{phase_is}
+use Rattle.mb_journal.specs.Retries.{carried_out, is_given, is_restart_directive, meant_by, permits, through_refusal, times_in}
+use Rattle.mb_journal.specs.Supervision.{directive_of}
+use Rattle.mb_journal.proofs.FailedSteps.{passed_up, asked_on-none, failed-tests, failed-step, failed_up-step}
+use Rattle.mb_journal.proofs.Fold.{Queries, queries, next_queries, asked_on}
+use Rattle.mb_journal.proofs.Steps.{none_passed, passed}
+use Rattle.mb_journal.proofs.TestLemmas.{and-false, if_true, if_false}
+use Rattle.mb_cell.specs.Agrees.{Agrees}
+use Rattle.mb_books.specs.BooksRecord.{Books}
+use Rattle.mb_books.specs.Requests.{requests_kept}
+use Rattle.mb_books.specs.Rows.{supervised, supervised_by, given_now, asked_now, carried_out_now, taken}
+use Rattle.mb_cell.proofs.HandledRow.{and-true, both_true, nobody-is}
+use Rattle.mb_cell.proofs.RowLaws.{open_books, books-after, booked-open, not-fresh}
+use Rattle.mb_cell.proofs.SilentRow.{IsSilentRow, silent, silent-call}
+
+-- ---- what is kept says who is given permission
+
+given-kept : (limit : ℤ) (asked : List ActorId) (y : ActorId) →
+    permits limit (times_in (requests_kept limit asked) y + 1) ≡ permits limit (times_in asked y + 1)
+given-kept (negsuc n) asked y = refl
+given-kept (pos n) asked y = by (nat_lt 0 n)
+  where
+    by : (b : Bool) → (b && nat_le (times_in (if b then asked else []) y + 1) n) ≡ (b && nat_le (times_in asked y + 1) n)
+    by true = refl
+    by false = refl
+
+kept-append : (limit : ℤ) (some more : List ActorId) → requests_kept limit some ++ requests_kept limit more ≡ requests_kept limit (some ++ more)
+kept-append (negsuc n) some more = refl
+kept-append (pos n) some more = by (nat_lt 0 n)
+  where
+    by : (b : Bool) → (if b then some else []) ++ (if b then more else []) ≡ (if b then some ++ more else [])
+    by true = refl
+    by false = refl
+
+-- ---- a failure is passed up if that is decided, whether permission is given or not
+
+same-escalate : (d : Directive) (all : Bool) → is_escalate (if is_restart_directive d && not all then directive.Stop else d) ≡ is_escalate d
+same-escalate directive.Resume all = refl
+same-escalate directive.Restart true = refl
+same-escalate directive.Restart false = refl
+same-escalate directive.Stop all = refl
+same-escalate directive.Escalate all = refl
+
+escalate-is : (d : Directive) → is_escalate d ≡ true → d ≡ directive.Escalate
+escalate-is directive.Resume e = cc
+escalate-is directive.Restart e = cc
+escalate-is directive.Stop e = cc
+escalate-is directive.Escalate e = refl
+
+module _ (who : Identity) (before : List Entry) (gives : Moment → Reply → Type 0) (books : Books) (tray : Tray)
+    (kept : Agrees who before gives books tray) (number : ℕ) (not_ended : closed who before ≡ false) (done : books.acts ≡ [])
+    (off_fresh : phase_is (phase who before) Fresh ≡ false) (x : ActorId) (c : Cause) (child : has (children who before) x ≡ true) where
+  abbrev q : Queries
+  q = queries who before
+
+  abbrev e : Entry
+  e = silent number (system.Failed x c)
+
+  abbrev done_about : Directive
+  done_about = carried_out who before x c
+
+  abbrev up : Bool
+  up = is_nobody q.failed && is_escalate done_about
+
+  -- the queries after it, by whether it is passed up
+  abbrev after_by : Bool → Queries
+  after_by fails = record (passed q e) {
+    marked = if fails then q.marked + 1 else q.marked;
+    failed = if fails then Child x else q.failed;
+    requests = q.requests ++ asked_on who q x c;
+  }
+
+  step-by : (fails : Bool) → (is_nobody q.failed && passed_up who q number x c) ≡ fails → next_queries who q e ≡ after_by fails
+  step-by false is = failed-step who q number x c is
+  step-by true is =
+      let both = both_true _ _ is in
+      let escalated = escalate-is (directive_of who c) (both_true (has q.children x) _ both.1).1 in
+      failed_up-step who q number x c child escalated (nobody-is q.failed both.0)
+      ∙ (λ i. record (after_by true) {
+        requests = sym (asked_on-none who q number x c (λ j. child j && is_restart_directive (escalated j))) i;
+      })
+
+  same_up : (is_nobody q.failed && passed_up who q number x c) ≡ up
+  same_up =
+      (λ i. is_nobody q.failed && (child i && is_escalate (directive_of who c)))
+      ∙ ap (λ b. is_nobody q.failed && b)
+      (sym (same-escalate (directive_of who c) (list_all (is_given who q.requests) (meant_by who before x))))
+
+  -- ---- the books
+
+  abbrev given : Books → ActorId → Bool
+  given b = given_now who b
+
+  same_given : given books ≡ is_given who q.requests
+  same_given =
+      λ i y. (ap (λ (r : List ActorId). permits who.retries (times_in r y + 1)) kept.counted ∙ given-kept who.retries q.requests y) i
+
+  abbrev asked_of : List ActorId
+  asked_of = asked_on who q x c
+
+  abbrev here : Books
+  here = open_books q books.retries [] books.fanout books.is_ready
+
+  as_before : books ≡ here
+  as_before =
+      booked-open who before gives books tray kept not_ended
+      ∙ ap (λ (a : List Act). open_books q books.retries a books.fanout books.is_ready) done
+
+  same_asked : asked_now who here x c ≡ asked_of
+  same_asked =
+      λ i. if sym child i && is_restart_directive (directive_of who c) then through_refusal (same_given i) (meant_by who before x) else []
+
+  same_carried : carried_out_now who here x c ≡ done_about
+  same_carried =
+      λ i. if is_restart_directive (directive_of who c) && not (list_all (same_given i) (meant_by who before x)) then directive.Stop
+      else directive_of who c
+
+  abbrev retries_after : List ActorId
+  retries_after = books.retries ++ requests_kept who.retries asked_of
+
+  abbrev begun : Books
+  begun = record (taken number here) { retries = retries_after }
+
+  by_directive : (d : Directive) →
+      supervised_by who x c d begun ≡ record begun {
+        count = if is_nobody q.failed && is_escalate d then q.marked + 1 else q.marked;
+        failed = if is_nobody q.failed && is_escalate d then Child x else q.failed;
+        acts = supervision_acts who before x c d;
+      }
+  by_directive directive.Resume =
+      λ i. record begun {
+        count = if sym (and-false (is_nobody q.failed)) i then q.marked + 1 else q.marked;
+        failed = if sym (and-false (is_nobody q.failed)) i then Child x else q.failed;
+        acts = supervision_acts who before x c directive.Resume;
+      }
+  by_directive directive.Restart =
+      λ i. record begun {
+        count = if sym (and-false (is_nobody q.failed)) i then q.marked + 1 else q.marked;
+        failed = if sym (and-false (is_nobody q.failed)) i then Child x else q.failed;
+        acts = supervision_acts who before x c directive.Restart;
+      }
+  by_directive directive.Stop =
+      λ i. record begun {
+        count = if sym (and-false (is_nobody q.failed)) i then q.marked + 1 else q.marked;
+        failed = if sym (and-false (is_nobody q.failed)) i then Child x else q.failed;
+        acts = supervision_acts who before x c directive.Stop;
+      }
+  by_directive directive.Escalate =
+      λ i. record begun {
+        count = if sym (and-true (is_nobody q.failed)) i then q.marked + 1 else q.marked;
+        failed = if sym (and-true (is_nobody q.failed)) i then Child x else q.failed;
+        acts = supervision_acts who before x c directive.Escalate;
+      }
+
+  booked-here : supervised who x c number here
+      ≡ open_books (after_by up) retries_after (supervision_acts who before x c done_about) books.fanout false
+  booked-here =
+      (λ i. supervised_by who x c (same_carried i)
+      (record (taken number here) { retries = books.retries ++ requests_kept who.retries (same_asked i) }))
+      ∙ by_directive done_about
+
+  failed-acts : acts who before e ≡ supervision_acts who before x c done_about
+  unfolding acts
+  failed-acts = if_false _ _ _ off_fresh ∙ if_true _ _ _ child
+
+  pub failed-row : (new : Books) → new ≡ supervised who x c number books → IsSilentRow who before number (system.Failed x c) books new
+  failed-row new is = record {
+    calls_nothing =
+        silent-call who before number (system.Failed x c) (record none_passed { failure = up }) (failed-tests who q number x c up same_up)
+        refl refl refl;
+    after = after_by up;
+    step = step-by up same_up;
+    same_unspawned = refl;
+    same_messages = λ an_actor. refl;
+    retries = retries_after;
+    counted =
+        ap (λ r. r ++ requests_kept who.retries asked_of) kept.counted ∙ kept-append who.retries q.requests asked_of;
+    acts_of_it = supervision_acts who before x c done_about;
+    booked =
+        books-after (after_by up) retries_after (supervision_acts who before x c done_about) books.fanout false new not_ended
+        (is ∙ (ap (supervised who x c number) as_before ∙ booked-here));
+    acted = failed-acts;
+    blank = λ fresh. absurd (not-fresh (phase who before) off_fresh fresh);
+  }

@@ -1,0 +1,114 @@
+-- A cell to which nothing came.
+use Rattle.std.proofs.Common.{◌≡◌, ℕ, ◌^◌, ◌<◌, ◌≤◌, ℤ, List, [], length, false, refl, ap, sym, ◌∙◌, subst}
+use Rattle.std.specs.Prelude.{pos, negsuc, nat_lt}
+use Rattle.mb_actor.specs.Behaviour.{Moment, Reply, AllowsSame}
+use Rattle.mb_actor.specs.Tray.{Tray}
+use Rattle.mb_actor.specs.declared.call.Call.{Call}
+use Rattle.mb_actor.specs.declared.message.Message.{Message}
+use Rattle.mb_actor.specs.declared.phase.Phase.TheVariants.{Fresh}
+use Rattle.mb_journal.specs.Aside.{aside, ever_aside}
+use Rattle.mb_journal.specs.Failure.{failed}
+use Rattle.mb_journal.specs.declared.failed_by.FailedBy.TheVariants.{Nobody}
+use Rattle.mb_journal.specs.Identity.{Identity, is_guardian}
+use Rattle.mb_journal.specs.Incarnation.{messages}
+use Rattle.mb_journal.specs.Lawful.{unspawned, was_live}
+use Rattle.mb_journal.specs.Life.{phase, children}
+use Rattle.mb_journal.specs.Log.{Log}
+use Rattle.mb_journal.specs.Retries.{requests}
+use Rattle.mb_journal.specs.Suspension.{count, marks, pluses, minuses, greatest_net}
+use Rattle.mb_journal.specs.Watching.{watchers, watching, due}
+use Rattle.mb_journal.proofs.LawfulLemmas.{lawful-none, calls-none}
+use Rattle.mb_journal.proofs.TestLemmas.{if_same}
+use Rattle.mb_cell.specs.Agrees.{Agrees, Plays, books_at}
+use Rattle.mb_books.specs.BooksRecord.{Books}
+use Rattle.mb_books.specs.Place.{identity_of}
+use Rattle.mb_books.specs.Requests.{requests_kept}
+use Rattle.mb_books.specs.declared.place.Place.{Place}
+
+-- the books of a cell that nothing came to
+abbrev pub first_books : ℕ → Books
+first_books fanout = record {
+  phase = Fresh;
+  count = 1;
+  failed = Nobody;
+  children = [];
+  watchers = [];
+  watching = [];
+  due = [];
+  aside = [];
+  was_live = false;
+  retries = [];
+  acts = [];
+  fanout = fanout;
+  is_ready = false;
+}
+
+first-at : (who : Identity) (fanout : ℕ) → first_books fanout ≡ books_at who [] [] [] fanout false
+unfolding phase count marks pluses minuses greatest_net failed children watchers watching due aside ever_aside was_live
+first-at who fanout = refl
+
+unspawned-none : (who : Identity) → unspawned who [] ≡ who.prepared
+unfolding unspawned
+unspawned-none who = refl
+
+messages-none : (who : Identity) → messages who [] ≡ []
+unfolding messages
+messages-none who = refl
+
+blank-none : (who : Identity) → (children who [] ≡ []) × (watching who [] ≡ []) × (due who [] ≡ []) × (failed who [] ≡ Nobody)
+unfolding children watching due failed
+blank-none who = (refl, refl, refl, refl)
+
+requests-none : (who : Identity) → requests who [] ≡ []
+unfolding requests
+requests-none who = refl
+
+none-kept : (limit : ℤ) → requests_kept limit [] ≡ []
+none-kept (negsuc n) = refl
+none-kept (pos n) = if_same (nat_lt 0 n) []
+
+pub agrees-new : (place : Place) (log : Log) (limit : ℕ) (gives : Moment → Reply → Type 0) (books : Books) (tray : Tray) →
+    log ≡ record { entries = []; limit = limit; is_ready = false } → books ≡ first_books books.fanout →
+    books.fanout ≡ length place.prepared.items →
+    tray ≡ record { effects = []; actors = place.actors; unspawned = place.prepared.items } → limit < 2 ^ 32 →
+    length place.prepared.items ≤ 64 → Agrees (identity_of place log.limit) log.entries gives books tray
+agrees-new place log limit gives books tray log_is is fanout_is tray_is small few =
+    subst (λ (l : Log). Agrees (identity_of place l.limit) l.entries gives books tray) (sym log_is) (record {
+      lawful = lawful-none (identity_of place limit) gives;
+      booked =
+          is
+          ∙ (first-at (identity_of place limit) books.fanout
+          ∙ (λ i. books_at (identity_of place limit) [] (ap (λ (b : Books). b.retries) (sym is) i) (ap (λ (b : Books). b.acts) (sym is) i)
+          books.fanout (ap (λ (b : Books). b.is_ready) (sym is) i)));
+      outbox =
+          tray_is
+          ∙ ap (λ u. record { effects = []; actors = place.actors; unspawned = u }) (sym (unspawned-none (identity_of place limit)));
+      fresh = λ e. record {
+        no_children = (blank-none (identity_of place limit)).0;
+        none_watched = (blank-none (identity_of place limit)).1;
+        none_due = (blank-none (identity_of place limit)).2;
+        not_failed = (blank-none (identity_of place limit)).3;
+      };
+      small_limit = small;
+      few_prepared = few;
+      fanout = fanout_is;
+      counted =
+          ap (λ (b : Books). b.retries) is
+          ∙ (sym (none-kept (identity_of place limit).retries)
+          ∙ ap (requests_kept (identity_of place limit).retries) (sym (requests-none (identity_of place limit))));
+    })
+
+pub plays-new : (place : Place) (log : Log) (limit : ℕ) (after : List Message → ℤ) (gives : Moment → Reply → Type 0) (own_after : List Message → ℤ)
+    (own_gives : Moment → Reply → Type 0) (content : ℤ) (made : List Call) →
+    log ≡ record { entries = []; limit = limit; is_ready = false } → is_guardian (identity_of place limit) ≡ false → own_after ≡ after →
+    AllowsSame own_gives gives → content ≡ own_after [] → made ≡ [] →
+    Plays (identity_of place log.limit) log.entries after gives own_after own_gives content made
+plays-new place log limit after gives own_after own_gives content made log_is an_actor same_after same_gives content_is made_is =
+    subst (λ (l : Log). Plays (identity_of place l.limit) l.entries after gives own_after own_gives content made) (sym log_is) (record {
+      no_guardian = an_actor;
+      same_after = same_after;
+      same_gives = same_gives;
+      same_content =
+          content_is ∙ (ap (λ f. f []) same_after ∙ ap after (sym (messages-none (identity_of place limit))));
+      same_calls = made_is ∙ sym (calls-none (identity_of place limit));
+    })

@@ -1,0 +1,7 @@
+use Rattle.std.proofs.Common.{sym, ◌∙◌}
+use Rattle.mb_cell.specs.Nothing.DoesNothing.{fresh_suspend}
+use Rattle.mb_cell.proofs.DispatchLemmas.{is_fresh}
+use Rattle.mb_cell.proofs.cell.Cell.dispatch_suspend.Goals as goal
+
+pub apply_nothing-requires-clause-nothing : goal.apply_nothing-requires-clause-nothing
+apply_nothing-requires-clause-nothing g c = fresh_suspend (is_fresh _ (sym c.is_fresh.ensures ∙ c.if-is_fresh.true))
