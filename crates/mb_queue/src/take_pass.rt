@@ -56,9 +56,9 @@ impl TakePass {
         match next {
             Some(envelope) => {
                 self.taken.add(envelope);
-                Some(envelope)
+                next
             }
-            None => None,
+            None => next,
         }
     }
 
