@@ -46,7 +46,9 @@ impl SendPass {
         if let Some(control) = &mut self.control
             && is_control(envelope.body)
         {
-            control.push(rt, envelope)?;
+            if let Err(refusal) = control.push(rt, envelope) {
+                return Err(refusal.of(envelope));
+            }
             self.pushed.add(envelope);
             return Ok(());
         }
@@ -55,7 +57,7 @@ impl SendPass {
                 self.pushed.add(envelope);
                 Ok(())
             }
-            Err(refused) => Err(refused),
+            Err(refusal) => Err(refusal.of(envelope)),
         }
     }
 }
