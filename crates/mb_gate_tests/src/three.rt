@@ -90,7 +90,8 @@ fn one_holds_and_two_send(rt: HostRuntime) -> Result<(), Fail> {
     let (tally, sent) = join(
         &rt,
         || -> Tally
-            requires { (claim_id parked.claim ≡ gates_id gates) × (pass_id holder ≡ gates_id gates) × (held_actor parked.claim < actors_of gates) }
+            requires { (claim_id parked.claim ≡ gates_id gates) × (pass_id holder ≡ gates_id gates)
+                × (held_actor parked.claim < actors_of gates) }
         { hold(&rt, &gates, parked, holder) },
         || -> (u32, u32)
             requires { (pass_id a ≡ gates_id gates) × (pass_id b ≡ gates_id gates) × (0 < actors_of gates) }
