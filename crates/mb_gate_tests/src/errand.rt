@@ -47,7 +47,7 @@ impl<'a> Errand<'a> {
 }
 
 /// Runs the first errand that comes.
-fn run_next<R: Wait>(rt: &R, queue: &ArrayQueue<Errand<'_>>) {
+fn run_next<'a, R: Wait>(rt: &R, queue: &ArrayQueue<Errand<'a>>) {
     for _ in rt.forever() {
         if let Some(errand) = queue.pop(rt) {
             errand.run();
