@@ -60,7 +60,10 @@ fn a_closed_actor_stays_closed(rt: HostRuntime) -> Result<(), Fail> {
     assert_eq!(rt; tally.number, 0);
     give(&gates, claim, &mut b);
     assert_eq!(rt; missed(&gates, &mut a), Some(Missed::Closed));
-    assert_eq!(rt; enqueue(&rt, alloc, &gates, &mut a, SysMsg::Terminate), None);
+    assert_eq!(rt;
+        enqueue(&rt, alloc, &gates, &mut a, SysMsg::Terminate),
+        None
+    );
     gates.absorb(&mut a, b);
     assert_eq!(rt; left_of_one(alloc, gates, a)?, Some((1, 0)));
     Ok(())
@@ -80,7 +83,10 @@ fn a_held_cell_is_not_left(rt: HostRuntime) -> Result<(), Fail> {
 fn what_was_drained_is_counted(rt: HostRuntime) -> Result<(), Fail> {
     let alloc = rt.alloc();
     let (gates, mut pass) = gates_of_one(alloc)?;
-    assert_eq!(rt; enqueue(&rt, alloc, &gates, &mut pass, SysMsg::Create), Some(0));
+    assert_eq!(rt;
+        enqueue(&rt, alloc, &gates, &mut pass, SysMsg::Create),
+        Some(0)
+    );
     let mut claim = got(&rt, &gates, &mut pass);
     let mut tally = NOTHING;
     drain(&rt, &gates, &mut claim, &mut tally);
