@@ -1,6 +1,30 @@
 -- Two ways to give a cell home tell the pass the same.
-use Rattle.std.proofs.Common.{◌≡◌, ◌≢◌, ◌⊎◌, inl, inr, ⊎_elim, ℕ, ◌+◌, ◌==◌, if◌then◌else◌, Bool, true, false, ◌||◌, List, [], ◌∷◌, ◌++◌, sym, refl,
-    ap, ◌∙◌, subst, arith}
+use Rattle.std.proofs.Common.{
+  ◌≡◌,
+  ◌≢◌,
+  ◌⊎◌,
+  inl,
+  inr,
+  ⊎_elim,
+  ℕ,
+  ◌+◌,
+  ◌==◌,
+  if◌then◌else◌,
+  Bool,
+  true,
+  false,
+  ◌||◌,
+  List,
+  [],
+  ◌∷◌,
+  ◌++◌,
+  sym,
+  refl,
+  ap,
+  ◌∙◌,
+  subst,
+  arith,
+}
 use mathlib.Core.Logic.{dite}
 use native.Mathlib.Decide.{ℕ_discrete}
 use Rattle.mb_journal.specs.Entry.{Entry}
@@ -57,7 +81,7 @@ module _ (claim pass : View) (actor : ℕ) (journal : List Entry) where
       here : owes actor before ≡ owes actor after
       here = owes_here actor _ _ ∙ (ap (λ (d : Debt). record d { system = true; message = true }) (debt_of-added actor pass.debts claim.debts)
           ∙ (sent (owes actor pass) (owes actor claim) ∙ sym (debt_of-added actor (idling actor journal claim).debts pass.debts
-              ∙ ap (λ d. either_owes d
+          ∙ ap (λ d. either_owes d
           (owes actor pass)) (owes_here actor _ _))))
 
 pub alike : ReleasesAlike

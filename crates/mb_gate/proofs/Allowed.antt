@@ -352,7 +352,7 @@ module _ {H : Type 0} (is_of : ℕ → H → Type 0) (journal : H → List Entry
         (allows word_offset slot_offset words_few slots_few n F slots id me actor Status (λ k. k) (Reads (step slots (word_at actor 0) 0 0 none)
         me) inside
         (λ x vs f at fits. reads is_of journal mailbox rested given_by closed_to actor id me (Reads (step slots (word_at actor 0) 0 0 none) me
-            (x.row Status)) x vs
+        (x.row Status)) x vs
         f at (told_read x vs f at)))
 
     pub writes_allowed : (c : Held) (new : ℕ) → i ≡ word_at actor 0 → me.0.claim ≡ Some c → c.actor ≡ actor → IsTrue (is_valid new) → (new % 4 ≡
@@ -363,7 +363,7 @@ module _ {H : Type 0} (is_of : ℕ → H → Type 0) (journal : H → List Entry
         (allows word_offset slot_offset words_few slots_few n F slots id me actor Status (λ _. new) (λ _. Writes (step slots (word_at actor 0)
         new 0 none) me new) inside
         (λ x vs f at fits. writes is_of journal mailbox rested given_by closed_to actor id me c new (Writes (step slots
-            (word_at actor 0) new 0 none) me new) x vs f
+        (word_at actor 0) new 0 none) me new) x vs f
         at has of valid busy closed refl))
 
     told_idle : (home : H) (st : Step (Slot H)) (k : ℕ) → me.1 ≡ (slot_at actor 0, Home home) ∷ [] → Idles journal st me k
@@ -380,7 +380,7 @@ module _ {H : Type 0} (is_of : ℕ → H → Type 0) (journal : H → List Entry
     ) ∷ [] → is_of actor home → Extends (journal home) c.journal → given_by home ≡ c.given
         → Each (λ b. IsKnownClosed b c.closed_to me.0) (closed_to home)
         → c.word ≢ 1 → IsTrue (is_valid new) → new % 4 ≡ 0 → new ≡ word_of (mailbox home) → (c.gave ≡ false → rested home)
-            → is_some_item me.0.share ≡ true
+        → is_some_item me.0.share ≡ true
         → Allows (Rule n) slots id me i (λ _. new) (λ _. Idles journal (step slots i new 0 none) me new)
     idles_allowed c home new e has of carried own longer count known unshut valid free word rest share = subst (λ j. Allows (Rule n) slots id me j
         (λ _. new) (λ _.
@@ -411,7 +411,7 @@ module _ {H : Type 0} (is_of : ℕ → H → Type 0) (journal : H → List Entry
     sends_allowed g k more share e = subst (λ j. Allows (Rule n) slots id me j g (Sends (step slots j k 0 none) me)) (sym e)
         (allows word_offset slot_offset words_few slots_few n F slots id me actor Waiting g (Sends (step slots (word_at actor 4) k 0 none) me) inside
         (λ x vs f at fits. sends is_of journal mailbox rested given_by closed_to actor id (g (x.row Waiting)) k me (Sends (step slots
-            (word_at actor 4) k 0 none) me
+        (word_at actor 4) k 0 none) me
         (x.row Waiting)) x vs f at share (more (x.row Waiting))
         (λ a w z. (sending (same_actor actor a 4 w z) k me.0, me.1))))
 
@@ -421,7 +421,7 @@ module _ {H : Type 0} (is_of : ℕ → H → Type 0) (journal : H → List Entry
         (allows word_offset slot_offset words_few slots_few n F slots id me actor Waiting g (Unsends (step slots (word_at actor 4) k 0 none) me)
         inside
         (λ x vs f at fits. unsends is_of journal mailbox rested given_by closed_to actor id (g (x.row Waiting)) k me (Unsends (step slots
-            (word_at actor 4) k 0 none)
+        (word_at actor 4) k 0 none)
         me (x.row Waiting)) x vs f at share (less (x.row Waiting))
         (λ a w z. (unsending (same_actor actor a 4 w z) k me.0, me.1))))
 
@@ -440,7 +440,7 @@ module _ {H : Type 0} (is_of : ℕ → H → Type 0) (journal : H → List Entry
         (allows word_offset slot_offset words_few slots_few n F slots id me actor Waiting (λ k. k) (Counts (step slots (word_at actor 4) 0 0
         none) me) inside
         (λ x vs f at fits. counts is_of journal mailbox rested given_by closed_to actor id me (Counts (step slots (word_at actor 4) 0 0 none) me
-            (x.row Waiting)) x
+        (x.row Waiting)) x
         vs f at
         (λ a w z. (counting (same_actor actor a 4 w z) (x.row Waiting) me.0, me.1))))
 
@@ -449,7 +449,7 @@ module _ {H : Type 0} (is_of : ℕ → H → Type 0) (journal : H → List Entry
         (allows word_offset slot_offset words_few slots_few n F slots id me actor Gate (λ k. k) (Looks (step slots (word_at actor 2) 0 0 none)
         me) inside
         (λ x vs f at fits. looks is_of journal mailbox rested given_by closed_to actor id me (shows_work (x.row Gate)) (Looks (step slots
-            (word_at actor 2) 0 0
+        (word_at actor 2) 0 0
         none) me (x.row Gate)) x vs (shown_by x x.ghost.keeper f.shelf) f at
         (λ a w z. (looking (same_actor actor a 2 w z) (shows_work (x.row Gate)) me.0, me.1))))
 
@@ -478,8 +478,10 @@ module _ {H : Type 0} (is_of : ℕ → H → Type 0) (journal : H → List Entry
           }),
           (λ miss. absurd (miss hit)),
         ))))
-        (λ miss. glances is_of journal mailbox rested given_by closed_to actor id Gate me tell x vs f at (λ a w. ((λ hit. absurd (miss hit)),
-            (λ _. refl))))))
+        (λ miss. glances is_of journal mailbox rested given_by closed_to actor id Gate me tell x vs f at (λ a w. (
+          (λ hit. absurd (miss hit)),
+          (λ _. refl),
+        )))))
 
     told_enlist : (l : Lent) (m : SysMsg) (st : Step (Slot H)) (k : ℕ) → me.0.list ≡ Some l → l.actor ≡ actor → me.1 ≡ (
       slot_at actor 1,
@@ -513,7 +515,7 @@ module _ {H : Type 0} (is_of : ℕ → H → Type 0) (journal : H → List Entry
         (allows word_offset slot_offset words_few slots_few n F slots id me actor Gate (λ _. new) (λ _. Enlists (step slots (word_at actor 2) new
         0 none) me new) inside
         (λ x vs f at fits. enlists is_of journal mailbox rested given_by closed_to actor id new me l m (Enlists (step slots
-            (word_at actor 2) new 0 none) me new) x
+        (word_at actor 2) new 0 none) me new) x
         vs f at has of carried word
         (told_enlist l m (step slots (word_at actor 2) new 0 none) new has of carried)))
 
@@ -549,7 +551,7 @@ module _ {H : Type 0} (is_of : ℕ → H → Type 0) (journal : H → List Entry
         none) me new) inside
         (λ x vs f at fits.
         let gave : l.gave ≡ c.gave = (is_lent is_of journal mailbox rested given_by closed_to actor id x vs me.0 l f at keeps of_list).1.gave
-            ∙ sym (is_held is_of
+        ∙ sym (is_held is_of
         journal mailbox rested given_by closed_to actor id x vs me.0 c f at has of).1.gave in
         unloads is_of journal mailbox rested given_by closed_to actor id new (Ended actor (listed l.listed)) me c l (ended l.listed)
         l.gave (Ends (step slots (word_at actor 2) new 0 none) me new) x vs f at
@@ -572,15 +574,17 @@ module _ {H : Type 0} (is_of : ℕ → H → Type 0) (journal : H → List Entry
         (λ x vs f at fits. let tell = Glances (step slots (word_at actor 2) 0 0 none) me (x.row Gate) in
         dite (ℕ_discrete (x.row Gate % 8) 0)
         (λ hit. sees is_of journal mailbox rested given_by closed_to actor id Gate (Drained actor []) me tell x vs
-            (λ a y e. record { before = []; after = all_numbered y.ghost; joined = refl }) (λ a. (refl, refl)) f at
+        (λ a y e. record { before = []; after = all_numbered y.ghost; joined = refl }) (λ a. (refl, refl)) f at
         (λ a c w has of bare. let who : actor ≡ a = same_actor actor a 2 w in
         let gave : c.gave ≡ false = (is_held is_of journal mailbox rested given_by closed_to actor id x vs me.0 c f at has (of ∙ sym who)).1.gave
-            ∙ (gave_by x
+        ∙ (gave_by x
         x.ghost.keeper f.shelf hit).1 in
         let small : c.given < 2 ^ 64 = (let one = (is_held is_of journal mailbox rested given_by closed_to actor id x vs me.0 c f at has (of ∙ sym
-        who)).1.count in let two = f.listing.counted in omega arith) in
-        ((λ _ z. ((drained_nothing actor c me.0 has bare gave small ∙ (λ j. draining (who j) [] false me.0)) z, me.1)), (λ miss. absurd
-            (miss hit)))))
+        who)).1.count in let two = f.listing.counted in omega arith) in (
+          (λ _ z. ((drained_nothing actor c me.0 has bare gave small ∙ (λ j. draining (who j) [] false me.0)) z, me.1)),
+          (λ miss. absurd
+              (miss hit)),
+        )))
         (λ miss. glances is_of journal mailbox rested given_by closed_to actor id Gate me tell x vs f at (λ a c w has of bare. (
           (λ hit. absurd (miss hit)),
           (λ _.
@@ -597,11 +601,14 @@ module _ {H : Type 0} (is_of : ℕ → H → Type 0) (journal : H → List Entry
         exchanged (x.row Gate) old old (λ k. Goes word_offset slot_offset F actor id me Gate k tell x vs)
         (λ hit. subst (λ k. Goes word_offset slot_offset F actor id me Gate k tell x vs) hit
         (refuses is_of journal mailbox rested given_by closed_to actor id me m tell x vs f at (ends_by x x.ghost.keeper f.shelf (ap
-            (λ k. k / 8 % 2) hit ∙ shut))
+        (λ k. k / 8 % 2) hit ∙ shut))
         (λ a m' w said. let who : actor ≡ a = same_actor actor a 2 w in let what : m ≡ m' = note_same {H = H} m m' said in
         ((λ _ z. (refusing (who z) (what z) me.0, me.1)), (λ miss. absurd (miss hit))))))
-        (λ miss. glances is_of journal mailbox rested given_by closed_to actor id Gate me tell x vs f at (λ a m' w said. ((λ hit. absurd
-            (miss hit)), (λ _. refl))))))
+        (λ miss. glances is_of journal mailbox rested given_by closed_to actor id Gate me tell x vs f at (λ a m' w said. (
+          (λ hit. absurd
+              (miss hit)),
+          (λ _. refl),
+        )))))
 
   module _ (n id : ℕ) where
     -- a view is copied for a seat more, which has a half of its share
@@ -617,8 +624,11 @@ module _ {H : Type 0} (is_of : ℕ → H → Type 0) (journal : H → List Entry
         (λ e l r. record { fits = halves_fit e v.share l; amounts = halves_amount e v.share l })
         (λ a none. absurd (no_share (halved v.share) (some_halved v.share share) none)) (λ a none. absurd (no_share (half_of v.share) (some_half
         v.share share) none))
-        (λ b. vouches_without b v.log) (λ a x k. record { seen = k.seen; said = k.said }) (λ a x k. record { seen = each_without (IsSo a x) v.log
-        k.seen; said = k.said }))
+        (λ b. vouches_without b v.log) (λ a x k. record { seen = k.seen; said = k.said }) (λ a x k. record {
+          seen = each_without (IsSo a x) v.log
+              k.seen;
+          said = k.said;
+        }))
 
     -- the claim gets a view of its own
     pub claims_allowed : (v : View) → v.list ≡ None → is_some_item v.share ≡ true → Splits (Rule n) id v (claim_alone v) (without_claim v)
@@ -659,20 +669,23 @@ module _ {H : Type 0} (all_of : H → ℕ → H → Type 0) (first : Snapshot H)
     pub schedules_allowed : (old new : ℕ) (note : Slot H) → note ≡ First first → i ≡ word_at actor 0 → old % 4 ≡ 0 → new ≡ old + 2
         → me.0.claim ≡ None → is_some_item me.0.share ≡ true
         → Allows (Ruled word_offset slot_offset n G) slots id me i (λ k. either (k == old) new k) (Schedules all_of journal mailbox rested given_by
-            closed_to (step slots i old new (some note)) me)
+        closed_to (step slots i old new (some note)) me)
     schedules_allowed old new note is_note e free is_new bare share = subst (λ j. Allows (Ruled word_offset slot_offset n G) slots id me j
         (λ k. either (k == old) new k) (Schedules all_of journal mailbox rested given_by closed_to (step slots j old new (some note)) me)) (sym e)
         (allows word_offset slot_offset words_few slots_few n G slots id me actor Status (λ k. either (k == old) new k)
-            (Schedules all_of journal mailbox rested given_by closed_to (step slots (word_at actor 0) old new (some note)) me) inside
+        (Schedules all_of journal mailbox rested given_by closed_to (step slots (word_at actor 0) old new (some note)) me) inside
         (λ x vs f at fits. let tell = Schedules all_of journal mailbox rested given_by closed_to (step slots (word_at actor 0) old new
-            (some note)) me (x.row Status) in
+        (some note)) me (x.row Status) in
         exchanged (x.row Status) old new (λ k. Goes word_offset slot_offset G actor id me Status k tell x vs)
         (λ hit. let here : x.row Status % 4 ≡ 0 = ap (λ k. k % 4) hit ∙ free in let h = is_home (all_of first.value) journal mailbox rested given_by
-            closed_to actor x vs f here in
+        closed_to actor x vs f here in
         subst (λ k. Goes word_offset slot_offset G actor id me Status k tell x vs) (sym is_new)
         (schedules (all_of first.value) journal mailbox rested given_by closed_to actor id me old tell x vs f at here hit bare share
-        (λ a other w said. subst (λ (b : ℕ × Snapshot H). (let now : N = (taking actor x.ghost.journal x.ghost.closed_to old x.ghost.gave
-            x.ghost.listed.given me.0, (slot_at actor 0, Home h.1.home) ∷ me.1) in
+        (λ a other w said. subst (λ (b : ℕ × Snapshot H). (let now : N = (
+          taking actor x.ghost.journal x.ghost.closed_to old x.ghost.gave
+              x.ghost.listed.given me.0,
+          (slot_at actor 0, Home h.1.home) ∷ me.1,
+        ) in
         (x.row Status ≡ old → Won (all_of b.1.value) journal mailbox rested given_by closed_to b.0 (x.row Status) me now)
         × (x.row Status ≢ old → (now ≡ (reading b.0 (x.row Status) me.0, me.1)) × IsTrue (is_valid (x.row Status)) × StaysClosed b.0 (x.row Status)
         me.0))) (λ z. (same_actor actor a 0 w z, first_same_home first other (sym (ap (λ (y : Slot H). some y) is_note) ∙ said) z)) (
@@ -684,8 +697,10 @@ module _ {H : Type 0} (all_of : H → ℕ → H → Type 0) (first : Snapshot H)
             rest = λ no. h.1.rest (inr no);
             seen = subst (λ j. GoesOn actor j me.0) (sym h.1.fold) (goes_further (all_of first.value) journal mailbox rested given_by closed_to
                 actor x me.0 f.ended (λ one. omega arith) (f.seen id me.0 at));
-            now = λ z. (taking actor (sym h.1.fold z) (sym h.1.shut z) (sym hit z) x.ghost.gave (sym h.1.count z) me.0,
-                (slot_at actor 0, Home h.1.home) ∷ me.1);
+            now = λ z. (
+              taking actor (sym h.1.fold z) (sym h.1.shut z) (sym hit z) x.ghost.gave (sym h.1.count z) me.0,
+              (slot_at actor 0, Home h.1.home) ∷ me.1,
+            );
           }),
           (λ miss. absurd (miss hit)),
         ))))

@@ -142,7 +142,7 @@ turns_less actor old vs id v w at same more one t = total_stays (got_by actor) v
 -- and what a seat without a share has, where the one that changes has no more
 pub still_bare : (actor : ℕ) (vs : List View) (id : ℕ) (v w : View) → get_elem? vs id ≡ some v → SameAccount actor v w
     → (claim_for actor w ≡ None → claim_for actor v ≡ None) → (list_for actor v ≡ None → list_for actor w ≡ None) → EachBare actor vs
-        → EachBare actor
+    → EachBare actor
     (set vs id w)
 still_bare actor vs id v w at same claim list bare = learns (λ (u : View). u.share ≡ [] → IsBare actor u) (λ (u : View). u.share ≡ [] → IsBare actor
     u) vs id w (λ u k. k) (λ none. let b = bare id v at (sym same.share ∙ none) in record {
@@ -207,7 +207,7 @@ module _ {H : Type 0} (is_of : ℕ → H → Type 0) (journal : H → List Entry
   pub still_kept : (x y : Place) → y.row Status ≡ x.row Status → y.row Flag ≡ x.row Flag → y.slot CellShelf ≡ x.slot CellShelf → y.ghost.journal
       ≡ x.ghost.journal → y.ghost.closed_to ≡ x.ghost.closed_to → y.ghost.listed.given ≡ x.ghost.listed.given → y.ghost.gave ≡ x.ghost.gave
       → (holder : Option (ℕ × Held)) → Keeping is_of journal mailbox rested given_by closed_to actor x holder
-          → Keeping is_of journal mailbox rested given_by closed_to actor y holder
+      → Keeping is_of journal mailbox rested given_by closed_to actor y holder
   still_kept x y status flag slot tale shut count gave None k = record {
     home = k.home;
     there = slot ∙ k.there;
@@ -234,7 +234,7 @@ module _ {H : Type 0} (is_of : ℕ → H → Type 0) (journal : H → List Entry
   pub still_shelved : (x y : Place) → y.row Gate ≡ x.row Gate → y.slot ListShelf ≡ x.slot ListShelf → y.ghost.listed ≡ x.ghost.listed →
       y.ghost.gave ≡ x.ghost.gave
       → (keeper : Option (ℕ × Lent)) → Shelving is_of journal mailbox rested given_by closed_to x keeper
-          → Shelving is_of journal mailbox rested given_by closed_to y keeper
+      → Shelving is_of journal mailbox rested given_by closed_to y keeper
   still_shelved x y gate slot items gave None k = record {
     there = slot ∙ (k.there ∙ ap (λ (l : MessageList). some (some (Listing l))) (sym items));
     word = gate ∙ (k.word ∙ (λ i. gate_word false (sym items i) (sym gave i)));

@@ -57,8 +57,26 @@ use Rattle.mb_gate.specs.declared.slot.Slot.{Slot}
 use Rattle.mb_gate.specs.declared.slot.Slot.TheVariants.{Home, List as Listing}
 use Rattle.mb_gate.specs.declared.left.Left.{Left}
 use Rattle.mb_gate.specs.View.{View, Read, Saw, Counted, Looked, Sent, Unsent, Took, Pushed, Drained, Ended, Held, Lent}
-use Rattle.mb_gate.specs.Rule.{Word, Status, Flag, Gate, word_offset, Shelf, slot_offset, Ghost, IsSo, IsAmong, IsHome, IsBare, lent_of, claim_for,
-    list_for, Keeping, Shelving, Fact}
+use Rattle.mb_gate.specs.Rule.{
+  Word,
+  Status,
+  Flag,
+  Gate,
+  word_offset,
+  Shelf,
+  slot_offset,
+  Ghost,
+  IsSo,
+  IsAmong,
+  IsHome,
+  IsBare,
+  lent_of,
+  claim_for,
+  list_for,
+  Keeping,
+  Shelving,
+  Fact,
+}
 use Rattle.mb_gate.specs.Leaves.{IsTakenOut, IsKept, IsLeft, AreLeft}
 use Rattle.mb_rule.specs.Locked.{ticket_at, held_by, Locked}
 use Rattle.mb_rule.proofs.LockedLemmas.{ticket_here}
@@ -150,7 +168,7 @@ module _ {H : Type 0} (is_of : ℕ → H → Type 0) (journal : H → List Entry
   -- what a pass with the whole knows: nobody else has anything of an actor but its claim
   module _ (n : ℕ) (v : View) (id : ℕ) (s : State (Slot H) View) (r : Ruled word_offset slot_offset n (Fact is_of journal mailbox rested given_by
       closed_to) s) (known : get_elem? s.views id ≡ some v) (bare_list : v.list ≡ None) (whole : IsWhole v.share) (actor : ℕ)
-          (inside : actor < n) where
+      (inside : actor < n) where
     abbrev place : Place
     place = spot_of word_offset slot_offset s r.ghosts actor
 
@@ -286,7 +304,7 @@ module _ {H : Type 0} (is_of : ℕ → H → Type 0) (journal : H → List Entry
   pub are_left : (n : ℕ) (v : View) (id : ℕ) (ws : List ℕ) (xs : List (Slot H)) (all : List (Option (Left H))) → v.list ≡ None
       → Final (Seen (Ruled word_offset slot_offset n (Fact is_of journal mailbox rested given_by closed_to)) id v) ws xs → length all ≡ n
       → ((a : ℕ) (left : Option (Left H)) → slice_get all a ≡ Some left → IsTakenOut ws xs a left)
-          → AreLeft is_of journal mailbox rested given_by closed_to n v all
+      → AreLeft is_of journal mailbox rested given_by closed_to n v all
   are_left n v id ws xs all bare_list final many each = record {
     state = final.0;
     rule = final.1.0;

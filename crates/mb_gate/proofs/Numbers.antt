@@ -1,6 +1,27 @@
 -- The numbers of messages, and what stands in a list.
-use Rattle.std.proofs.Common.{◌≡◌, ℕ, suc, ◌+◌, ◌%◌, ◌^◌, ◌<◌, List, [], ◌∷◌, ◌++◌, length, sym, refl, ap, ◌∙◌, subst, append_assoc, append-nil,
-    length-append, arith}
+use Rattle.std.proofs.Common.{
+  ◌≡◌,
+  ℕ,
+  suc,
+  ◌+◌,
+  ◌%◌,
+  ◌^◌,
+  ◌<◌,
+  List,
+  [],
+  ◌∷◌,
+  ◌++◌,
+  length,
+  sym,
+  refl,
+  ap,
+  ◌∙◌,
+  subst,
+  append_assoc,
+  append-nil,
+  length-append,
+  arith,
+}
 use Rattle.mb_msg.specs.declared.system.SysMsg.{SysMsg}
 use Rattle.mb_syslist.specs.MessageList.{MessageList, numbered, listed, pushed}
 use Rattle.mb_rule.specs.Seen.{Each}
@@ -47,7 +68,7 @@ pub numbered_append : (n : ℕ) (a b : List SysMsg) → n < 2 ^ 64 → numbered 
 numbered_append n [] b small = ap (λ k. numbered k b) (omega arith)
 numbered_append n (m ∷ ms) b small =
     ap (λ z. (n, m) ∷ z) (numbered_append ((n + 1) % 2 ^ 64) ms b (omega arith) ∙ ap (λ k. numbered ((n + 1) % 2 ^ 64) ms ++ numbered k b)
-        (omega arith))
+    (omega arith))
 
 pub length_numbered : (n : ℕ) (ms : List SysMsg) → length (numbered n ms) ≡ length ms
 length_numbered n [] = refl

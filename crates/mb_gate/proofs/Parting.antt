@@ -50,8 +50,28 @@ use Rattle.atomic_table.proofs.Lists.{set_else}
 use Rattle.std.proofs.lemmas.Bool.{eqb-true}
 use Rattle.mb_gate.specs.declared.slot.Slot.{Slot}
 use Rattle.mb_gate.proofs.Numbers.{among_left, among_right, among_first, among_more}
-use Rattle.mb_gate.specs.View.{View, Sight, Read, Saw, Counted, Looked, Sent, Unsent, Took, Pushed, Drained, Ended, Said, debt_of, owes, blank,
-    either_owes, added_debts, without_counts, taking_over}
+use Rattle.mb_gate.specs.View.{
+  View,
+  Sight,
+  Read,
+  Saw,
+  Counted,
+  Looked,
+  Sent,
+  Unsent,
+  Took,
+  Pushed,
+  Drained,
+  Ended,
+  Said,
+  debt_of,
+  owes,
+  blank,
+  either_owes,
+  added_debts,
+  without_counts,
+  taking_over,
+}
 use Rattle.mb_gate.specs.Waiting.{counted_on, counted_off, on_by, off_by, IsBalance}
 use Rattle.mb_gate.specs.Rule.{
   Word,
@@ -198,41 +218,41 @@ module _ {H : Type 0} (is_of : ℕ → H → Type 0) (journal : H → List Entry
   -- a view is cut in two: the first keeps the claim, no list is out, and what was owed and seen is the second's
   pub parts : (id : ℕ) (v left right : View) → left.claim ≡ v.claim → right.claim ≡ None → v.list ≡ None → left.list ≡ None → right.list ≡ None →
       right.debts ≡ v.debts → ((actor : ℕ) → SharesAccount actor v left right) → ((e : ℕ) → FitsIn e left.share → FitsIn e right.share
-          → SharesShare v
+      → SharesShare v
       left right e) → ((actor : ℕ) → left.share ≡ [] → IsBare actor left) → ((actor : ℕ) → right.share ≡ [] → IsBare actor right)
       → ((b : ℕ) → Vouches b v → Vouches b right)
       → ((actor : ℕ) (x : Place) → Knows actor x v → Knows actor x left) → ((actor : ℕ) (x : Place) → Knows actor x v → Knows actor x right)
       → (actor : ℕ) (x : Place) (vs : List View) → get_elem? vs id ≡ some v → F actor x vs → F actor x (set vs id left ++ right ∷ [])
   parts id v left right claim no_claim list no_list no_list_2 debts account share bare_left bare_right vouches knows knows_too actor x vs at f =
       record {
-    valid = f.valid;
-    claims = splits_locked (claim_for actor) x.ghost.holder vs id v left right at (ap (held_of actor) claim) (ap (held_of actor) no_claim) f.claims;
-    cell = f.cell;
-    lists = splits_locked (list_for actor) x.ghost.keeper vs id v left right at (ap (lent_of actor) no_list ∙ sym (ap (lent_of actor) list)) (ap
-        (lent_of actor) no_list_2) f.lists;
-    shelf = f.shelf;
-    ended = f.ended;
-    listing = f.listing;
-    balance = same_balance actor (x.row Waiting) vs (set vs id left ++ right ∷ []) (total_splits (on_by actor) vs id v left right at (account
-        actor).on) (total_splits (off_by actor) vs id v left right at (account actor).off) f.balance;
-    turns = total_splits (got_by actor) vs id v left right at (account actor).got ∙ (f.turns ∙ sym (ap (λ n. n + claims_out x.ghost.holder)
-        (total_splits (back_by actor) vs id v left right at (account actor).back)));
-    shares = splits_shares (λ (u : View). u.share) vs id v left right at (λ e l r. let s = share e l r in (s.fits, s.amounts)) f.shares;
-    bare = splits_seen (λ (u : View). u.share ≡ [] → IsBare actor u) vs id left right (bare_left actor) (bare_right actor) f.bare;
-    vouched = λ b. splits_owed (Vouches b) (IsAmong b x.ghost.closed_to) vs id v left right at (λ p. inr (vouches b p)) (f.vouched b);
-    message = splits_owed (PaysMessage actor) (MessageDue x) vs id v left right at (λ p. inr (subst (λ ds. IsTrue ((debt_of actor ds).message ||
-        (debt_of actor ds).sending)) (sym debts) p)) f.message;
-    system = splits_owed (PaysSystem actor) (SystemDue x) vs id v left right at (λ p. inr (subst (λ ds. IsTrue (debt_of actor ds).system) (sym
-        debts) p)) f.system;
-    seen = splits_seen (Knows actor x) vs id left right (knows actor x (f.seen id v at)) (knows_too actor x (f.seen id v at)) f.seen;
-  }
+        valid = f.valid;
+        claims = splits_locked (claim_for actor) x.ghost.holder vs id v left right at (ap (held_of actor) claim) (ap (held_of actor) no_claim) f.claims;
+        cell = f.cell;
+        lists = splits_locked (list_for actor) x.ghost.keeper vs id v left right at (ap (lent_of actor) no_list ∙ sym (ap (lent_of actor) list)) (ap
+            (lent_of actor) no_list_2) f.lists;
+        shelf = f.shelf;
+        ended = f.ended;
+        listing = f.listing;
+        balance = same_balance actor (x.row Waiting) vs (set vs id left ++ right ∷ []) (total_splits (on_by actor) vs id v left right at (account
+            actor).on) (total_splits (off_by actor) vs id v left right at (account actor).off) f.balance;
+        turns = total_splits (got_by actor) vs id v left right at (account actor).got ∙ (f.turns ∙ sym (ap (λ n. n + claims_out x.ghost.holder)
+            (total_splits (back_by actor) vs id v left right at (account actor).back)));
+        shares = splits_shares (λ (u : View). u.share) vs id v left right at (λ e l r. let s = share e l r in (s.fits, s.amounts)) f.shares;
+        bare = splits_seen (λ (u : View). u.share ≡ [] → IsBare actor u) vs id left right (bare_left actor) (bare_right actor) f.bare;
+        vouched = λ b. splits_owed (Vouches b) (IsAmong b x.ghost.closed_to) vs id v left right at (λ p. inr (vouches b p)) (f.vouched b);
+        message = splits_owed (PaysMessage actor) (MessageDue x) vs id v left right at (λ p. inr (subst (λ ds. IsTrue ((debt_of actor ds).message ||
+            (debt_of actor ds).sending)) (sym debts) p)) f.message;
+        system = splits_owed (PaysSystem actor) (SystemDue x) vs id v left right at (λ p. inr (subst (λ ds. IsTrue (debt_of actor ds).system) (sym
+            debts) p)) f.system;
+        seen = splits_seen (Knows actor x) vs id left right (knows actor x (f.seen id v at)) (knows_too actor x (f.seen id v at)) f.seen;
+      }
 
   -- a seat takes over the view of one that has no claim and no list, and what one of the two said
   pub takes_over : (id : ℕ) (v : View) (other : ℕ) (w : View) (said : List Said) → (said ≡ v.said) ⊎ (said ≡ w.said) → w.claim ≡ None
       → w.list ≡ None →
       is_some_item w.share ≡ true
       → (actor : ℕ) (x : Place) (vs : List View) → get_elem? vs id ≡ some v → ¬ (other ≡ id)
-          → get_elem? (set vs id (record (taking_over v w) { said = said })) other ≡ some w
+      → get_elem? (set vs id (record (taking_over v w) { said = said })) other ≡ some w
       → F actor x vs → F actor x (set (set vs id (record (taking_over v w) { said = said })) other blank)
   takes_over id v other w said whose bare bare_list sharer actor x vs at apart there f =
       let both : View = record (taking_over v w) { said = said } in

@@ -175,5 +175,5 @@ module _ {H : Type 0} (is_of : ℕ → H → Type 0) (journal : H → List Entry
       let f = r.each actor inside in
       let listed = each_among (IsSo actor x) (Pushed actor number put) v.log (f.seen p v at).seen pushes refl in
       let part = ⊎_elim (λ d. each_among (IsSo actor x) (Drained actor all) w.log (f.seen q w there).seen d refl)
-          (λ e. (each_among (IsSo actor x) (Ended actor all) w.log (f.seen q w there).seen e refl).1) gives in
+      (λ e. (each_among (IsSo actor x) (Ended actor all) w.log (f.seen q w there).seen e refl).1) gives in
       one_message x.ghost.pushed number put given few listed (among_part (number, given) all (all_numbered x.ghost) part in_all)

@@ -93,8 +93,18 @@ use Rattle.mb_gate.proofs.Views.{
 }
 use Rattle.mb_gate.specs.Claims.{IsKnownClosed}
 use Rattle.mb_gate.proofs.Numbers.{among_more, each_among}
-use Rattle.mb_gate.proofs.Facts.{still_shelved, same_balance, still_turns, turns_more, turns_less, claimed_bare, sharer_bare, views_change,
-    elsewhere, load_here}
+use Rattle.mb_gate.proofs.Facts.{
+  still_shelved,
+  same_balance,
+  still_turns,
+  turns_more,
+  turns_less,
+  claimed_bare,
+  sharer_bare,
+  views_change,
+  elsewhere,
+  load_here,
+}
 use Rattle.mb_gate.proofs.Words.{scheduled_valid, reading_pays_message, reading_pays_system}
 
 none_more : (m : ℕ) → 0 + m ≡ m
@@ -159,14 +169,24 @@ module _ {H : Type 0} (is_of : ℕ → H → Type 0) (journal : H → List Entry
   -- a seat schedules the actor, and takes its cell
   pub schedules : (actor id : ℕ) (me : M) (old : ℕ) (tell : M → Type 0) (x : Place) (vs : List View) (f : F actor x vs) → get_elem? vs id ≡ some
       me.0 → (free : x.row Status % 4 ≡ 0) → x.row Status ≡ old → me.0.claim ≡ None → is_some_item me.0.share ≡ true
-      → (let h = (is_home actor x vs f free).1 in tell (taking actor x.ghost.journal x.ghost.closed_to old x.ghost.gave x.ghost.listed.given me.0,
-          (slot_at actor 0, Home h.home) ∷ me.1))
+      → (let h = (is_home actor x vs f free).1 in tell (
+        taking actor x.ghost.journal x.ghost.closed_to old x.ghost.gave x.ghost.listed.given me.0,
+        (slot_at actor 0, Home h.home) ∷ me.1,
+      ))
       → Goes word_offset slot_offset F actor id me Status (old + 2) tell x vs
   schedules actor id me old tell x vs f at free is bare share told =
       let v = me.0 in
       let h = is_home actor x vs f free in
-      let c : Held = record { actor = actor; journal = x.ghost.journal; closed_to = x.ghost.closed_to; word = old + 2; gave = x.ghost.gave; given =
-          x.ghost.listed.given; drained = [] } in
+      let c : Held = record {
+        actor = actor;
+        journal = x.ghost.journal;
+        closed_to = x.ghost.closed_to;
+        word = old + 2;
+        gave = x.ghost.gave;
+        given =
+            x.ghost.listed.given;
+        drained = [];
+      } in
       let w = taking actor x.ghost.journal x.ghost.closed_to old x.ghost.gave x.ghost.listed.given v in
       let y : Place = record {
         row = write word_offset x.row Status (old + 2);
@@ -235,8 +255,17 @@ module _ {H : Type 0} (is_of : ℕ → H → Type 0) (journal : H → List Entry
           valid = valid;
           claims = turns_over (claim_for actor) vs id v w c d at (ap (λ z. held_of actor (rewritten new z)) has ∙ held_here actor d of)
               (subst (λ o. Locked (claim_for actor) o vs) h.0 f.claims);
-          cell = record { own = of; taken = h.1.taken; shut = h.1.shut; count = h.1.count; gave = h.1.gave; word = refl; busy = busy; flag =
-              h.1.flag };
+          cell = record {
+            own = of;
+            taken = h.1.taken;
+            shut = h.1.shut;
+            count = h.1.count;
+            gave = h.1.gave;
+            word = refl;
+            busy = busy;
+            flag =
+                h.1.flag;
+          };
           lists = stays_locked (list_for actor) x.ghost.keeper vs id v w at refl f.lists;
           shelf = still_shelved is_of journal mailbox rested given_by closed_to actor x y refl refl refl refl x.ghost.keeper f.shelf;
           ended = λ e. shut (f.ended e);
@@ -274,7 +303,7 @@ module _ {H : Type 0} (is_of : ℕ → H → Type 0) (journal : H → List Entry
   pub idles : (actor id : ℕ) (me : M) (c : Held) (home : H) (new : ℕ) (tell : M → Type 0) (x : Place) (vs : List View) → F actor x vs → get_elem?
       vs id ≡ some me.0 → me.0.claim ≡ Some c → c.actor ≡ actor
       → me.1 ≡ (slot_at actor 0, Home home) ∷ [] → is_of actor home → Extends (journal home) c.journal → given_by home ≡ c.given
-          → Each (λ b. IsKnownClosed b c.closed_to me.0) (closed_to home) → c.word ≢ 1 → IsTrue (is_valid new) → new
+      → Each (λ b. IsKnownClosed b c.closed_to me.0) (closed_to home) → c.word ≢ 1 → IsTrue (is_valid new) → new
       % 4 ≡ 0 → new ≡ word_of (mailbox home) → (c.gave ≡ false → rested home) → is_some_item me.0.share ≡ true
       → tell (idling actor (journal home) me.0, []) → Goes word_offset slot_offset F actor id me Status new tell x vs
   idles actor id me c home new tell x vs f at has of carried own longer count known unshut valid free word rest share told =
@@ -338,7 +367,7 @@ module _ {H : Type 0} (is_of : ℕ → H → Type 0) (journal : H → List Entry
   pub idles_closed : (actor id : ℕ) (me : M) (c : Held) (home : H) (tell : M → Type 0) (x : Place) (vs : List View) → F actor x vs → get_elem? vs
       id ≡ some me.0 → me.0.claim ≡ Some c → c.actor ≡ actor
       → me.1 ≡ (slot_at actor 0, Home home) ∷ [] → is_of actor home → Extends (journal home) c.journal → given_by home ≡ c.given
-          → Each (λ b. IsKnownClosed b c.closed_to me.0) (closed_to home) → c.word ≡ 1 → 1 ≡ word_of (mailbox home)
+      → Each (λ b. IsKnownClosed b c.closed_to me.0) (closed_to home) → c.word ≡ 1 → 1 ≡ word_of (mailbox home)
       → rested home → is_some_item me.0.share ≡ true
       → tell (idling actor (journal home) me.0, []) → Goes word_offset slot_offset F actor id me Flag 1 tell x vs
   idles_closed actor id me c home tell x vs f at has of carried own longer count known closed word rest share told =

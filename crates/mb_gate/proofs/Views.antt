@@ -74,8 +74,24 @@ use Rattle.mb_gate.specs.View.{
 }
 use Rattle.mb_gate.specs.Waiting.{counted_on, counted_off, on_by, off_by}
 use Rattle.mb_gate.specs.Turns.{times, got_by, back_by}
-use Rattle.mb_gate.specs.Rule.{Word, Shelf, Ghost, Status, held_of, lent_of, claim_for, list_for, Extends, IsPart, Vouches, IsSo, IsAmong, IsTold,
-    all_numbered, Knows}
+use Rattle.mb_gate.specs.Rule.{
+  Word,
+  Shelf,
+  Ghost,
+  Status,
+  held_of,
+  lent_of,
+  claim_for,
+  list_for,
+  Extends,
+  IsPart,
+  Vouches,
+  IsSo,
+  IsAmong,
+  IsTold,
+  all_numbered,
+  Knows,
+}
 
 pub held_here : (actor : ℕ) (c : Held) → c.actor ≡ actor → held_of actor (Some c) ≡ Some c
 held_here actor c e = ap (λ b. if b then Some c else None) (eq-eqb c.actor actor e)

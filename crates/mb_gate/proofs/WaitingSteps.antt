@@ -1,6 +1,32 @@
 -- The steps on an actor's waiting count, and a look at its list's gate, keep the rule.
-use Rattle.std.proofs.Common.{◌≡◌, ◌≢◌, ℕ, ◌+◌, ◌%◌, ◌^◌, ◌==◌, if◌then◌else◌, ⊎_elim, Bool, true, false, ◌||◌, IsTrue, List, ◌∷◌, set, sym, refl,
-    ap, ◌∙◌, subst, Some, eq-eqb, ne_eqb, arith}
+use Rattle.std.proofs.Common.{
+  ◌≡◌,
+  ◌≢◌,
+  ℕ,
+  ◌+◌,
+  ◌%◌,
+  ◌^◌,
+  ◌==◌,
+  if◌then◌else◌,
+  ⊎_elim,
+  Bool,
+  true,
+  false,
+  ◌||◌,
+  IsTrue,
+  List,
+  ◌∷◌,
+  set,
+  sym,
+  refl,
+  ap,
+  ◌∙◌,
+  subst,
+  Some,
+  eq-eqb,
+  ne_eqb,
+  arith,
+}
 use mathlib.Core.Option.{some}
 use lib.ListN.{get_elem?}
 use Rattle.mb_status.specs.Mailbox.{Mailbox}
@@ -16,8 +42,25 @@ use Rattle.mb_rule.specs.Summed.{total}
 use Rattle.mb_rule.proofs.SummedLemmas.{total_set}
 use Rattle.mb_rule.proofs.SharesLemmas.{shares_stay}
 use Rattle.mb_gate.specs.declared.slot.Slot.{Slot}
-use Rattle.mb_gate.specs.View.{View, Sight, Read, Counted, Looked, Sent, Unsent, Took, Held, owes, owing, seeing, sending, unsending, counting_off,
-    counting, looking}
+use Rattle.mb_gate.specs.View.{
+  View,
+  Sight,
+  Read,
+  Counted,
+  Looked,
+  Sent,
+  Unsent,
+  Took,
+  Held,
+  owes,
+  owing,
+  seeing,
+  sending,
+  unsending,
+  counting_off,
+  counting,
+  looking,
+}
 use Rattle.mb_gate.specs.Waiting.{counted_on, counted_off, on_by, off_by, IsBalance}
 use Rattle.mb_gate.specs.Rule.{
   Word,
@@ -41,8 +84,18 @@ use Rattle.mb_gate.specs.Rule.{
   has_work,
   Fact,
 }
-use Rattle.mb_gate.proofs.Views.{held_here, owes_here, extends_self, IsQuiet, CountsNothing, counts_no_more, seeing_elsewhere, owing_elsewhere,
-    grown, goes_on}
+use Rattle.mb_gate.proofs.Views.{
+  held_here,
+  owes_here,
+  extends_self,
+  IsQuiet,
+  CountsNothing,
+  counts_no_more,
+  seeing_elsewhere,
+  owing_elsewhere,
+  grown,
+  goes_on,
+}
 use Rattle.mb_gate.proofs.Numbers.{among_more}
 use Rattle.mb_gate.proofs.Facts.{still_kept, still_shelved, still_turns, claimed_bare, sharer_bare, views_change, elsewhere, load_here}
 use Rattle.mb_gate.proofs.StatusSteps.{is_held}
@@ -99,7 +152,7 @@ module _ {H : Type 0} (is_of : ℕ → H → Type 0) (journal : H → List Entry
   recounts : (actor id n : ℕ) (d : Debt) (s : Sight) (me : M) (tell : M → Type 0) (x : Place) (vs : List View) → IsQuiet H s → ((a : ℕ) → a ≢ actor →
       CountsNothing a s) → F actor x vs → get_elem? vs id ≡ some me.0 → IsBalance actor n (set vs id (owing actor d (seeing s me.0)))
       → is_some_item me.0.share ≡ true → IsTrue (d.message || d.sending) → d.system ≡ (owes actor me.0).system
-          → tell (owing actor d (seeing s me.0), me.1) → Goes word_offset slot_offset F
+      → tell (owing actor d (seeing s me.0), me.1) → Goes word_offset slot_offset F
       actor id me Waiting n tell x vs
   recounts actor id n d s me tell x vs so none f at balance share owed same told =
       let v = me.0 in
@@ -129,8 +182,11 @@ module _ {H : Type 0} (is_of : ℕ → H → Type 0) (journal : H → List Entry
           system = still_owed (PaysSystem actor) (SystemDue x) (SystemDue y) vs id v w at (λ due. due) (λ _ p. subst (λ (z : Debt). IsTrue
               z.system) (sym (owes_here actor d v)) (subst IsTrue (sym same) p)) f.system;
           seen = let k = goes_on actor x y v grows (f.seen id v at) in
-              learns (Knows actor x) (Knows actor y) vs id w (λ u. goes_on actor x y u grows) (record { seen =
-                  (so actor y, k.seen); said = k.said }) f.seen;
+              learns (Knows actor x) (Knows actor y) vs id w (λ u. goes_on actor x y u grows) (record {
+                seen =
+                    (so actor y, k.seen);
+                said = k.said;
+              }) f.seen;
         };
         others = λ a z y g. elsewhere is_of journal mailbox rested given_by closed_to a y vs id v w at (owing_elsewhere actor a d s v z so
             (none a z)) g;
@@ -145,7 +201,7 @@ module _ {H : Type 0} (is_of : ℕ → H → Type 0) (journal : H → List Entry
   pub sends : (actor id n k : ℕ) (me : M) (tell : M → Type 0) (x : Place) (vs : List View) → F actor x vs → get_elem? vs id ≡ some me.0
       → is_some_item
       me.0.share ≡ true → n % 2 ^ 64 ≡ (x.row Waiting + k) % 2 ^ 64 → tell (sending actor k me.0, me.1)
-          → Goes word_offset slot_offset F actor id me Waiting n tell x vs
+      → Goes word_offset slot_offset F actor id me Waiting n tell x vs
   sends actor id n k me tell x vs f at share more told = recounts actor id n (record (owes actor me.0) { sending = true })
       (Sent actor k) me tell x vs (λ
       a y. tt) (λ a z. (if_else actor a k z, refl)) f at (balances_more actor k vs id me.0 (sending actor k me.0) at (x.row Waiting) n f.balance refl
@@ -154,10 +210,10 @@ module _ {H : Type 0} (is_of : ℕ → H → Type 0) (journal : H → List Entry
   -- a seat takes back what it counted
   pub unsends : (actor id n k : ℕ) (me : M) (tell : M → Type 0) (x : Place) (vs : List View) → F actor x vs → get_elem? vs id ≡ some me.0 →
       is_some_item me.0.share ≡ true → (n + k) % 2 ^ 64 ≡ x.row Waiting % 2 ^ 64 → tell (unsending actor k me.0, me.1)
-          → Goes word_offset slot_offset F actor id me Waiting n tell x vs
+      → Goes word_offset slot_offset F actor id me Waiting n tell x vs
   unsends actor id n k me tell x vs f at share less told = recounts actor id n (record (owes actor me.0) { message = true; sending = false }) (Unsent
       actor k) me tell x vs (λ a y. tt) (λ a z. (refl, if_else actor a k z)) f at (balances_less actor k vs id me.0 (unsending actor k me.0) at
-          (x.row
+      (x.row
       Waiting) n f.balance (Unsent actor k) refl refl refl less) share refl refl told
 
   -- the holder counts less
@@ -192,8 +248,11 @@ module _ {H : Type 0} (is_of : ℕ → H → Type 0) (journal : H → List Entry
           message = λ due. absurd (let z = due.0 in ⊎_elim (λ b. omega arith) (λ b. omega arith) h.1.busy);
           system = still_owed (PaysSystem actor) (SystemDue x) (SystemDue y) vs id v w at (λ due. due) (λ _ p. p) f.system;
           seen = let so = goes_on actor x y v grows (f.seen id v at) in
-              learns (Knows actor x) (Knows actor y) vs id w (λ u. goes_on actor x y u grows) (record { seen =
-                  (tt, so.seen); said = so.said }) f.seen;
+              learns (Knows actor x) (Knows actor y) vs id w (λ u. goes_on actor x y u grows) (record {
+                seen =
+                    (tt, so.seen);
+                said = so.said;
+              }) f.seen;
         };
         others = λ a z y g. elsewhere is_of journal mailbox rested given_by closed_to a y vs id v w at (seeing_elsewhere a s v (λ b q. tt)
             (refl, if_else actor a k z)) g;
@@ -213,7 +272,7 @@ module _ {H : Type 0} (is_of : ℕ → H → Type 0) (journal : H → List Entry
     able = tt;
     here = load_here is_of journal mailbox rested given_by closed_to actor x (set vs id w) name
         (views_change is_of journal mailbox rested given_by closed_to actor x vs id v w at refl refl (counts_no_more actor s v w refl
-            (none actor) refl refl refl)
+        (none actor) refl refl refl)
         (λ due p. subst (λ (z : Debt). IsTrue (z.message || z.sending)) (sym (owes_here actor d v)) (message due p))
         (λ due p. subst (λ (z : Debt). IsTrue z.system) (sym (owes_here actor d v)) (system due p))
         (λ k. record { seen = (so actor x, k.seen); said = k.said }) (λ b. among_more (Read b 1) s v.log) f);
@@ -225,7 +284,7 @@ module _ {H : Type 0} (is_of : ℕ → H → Type 0) (journal : H → List Entry
   pub sees : (actor id : ℕ) (name : Word) (s : Sight) (me : M) (tell : M → Type 0) (x : Place) (vs : List View) → IsQuiet H s → ((a : ℕ)
       → CountsNothing a s)
       → F actor x vs → get_elem? vs id ≡ some me.0 → tell (seeing s me.0, me.1) → Goes word_offset slot_offset F actor id me name
-          (x.row name) tell x vs
+      (x.row name) tell x vs
   sees actor id name s me tell x vs so none f at told = let v = me.0 in let w = seeing s v in record {
     view = w;
     deed = stays;
@@ -233,8 +292,11 @@ module _ {H : Type 0} (is_of : ℕ → H → Type 0) (journal : H → List Entry
     able = tt;
     here = load_here is_of journal mailbox rested given_by closed_to actor x (set vs id w) name (views_change is_of journal mailbox rested given_by
         closed_to actor x vs id v w at refl
-        refl (counts_no_more actor s v w refl (none actor) refl refl refl) (λ _ p. p) (λ _ p. p) (λ k. record { seen =
-            (so actor x, k.seen); said = k.said }) (λ b. among_more (Read b 1) s v.log) f);
+        refl (counts_no_more actor s v w refl (none actor) refl refl refl) (λ _ p. p) (λ _ p. p) (λ k. record {
+          seen =
+              (so actor x, k.seen);
+          said = k.said;
+        }) (λ b. among_more (Read b 1) s v.log) f);
     others = λ a n y g. elsewhere is_of journal mailbox rested given_by closed_to a y vs id v w at (seeing_elsewhere a s v so (none a)) g;
     tells = told;
   }
@@ -250,7 +312,7 @@ module _ {H : Type 0} (is_of : ℕ → H → Type 0) (journal : H → List Entry
     here = load_here is_of journal mailbox rested given_by closed_to actor x (set vs id v) name (views_change is_of journal mailbox rested given_by
         closed_to actor x vs id v v at refl
         refl (record { on = refl; off = refl; share = refl; got = refl; back = refl }) (λ _ p. p) (λ _ p. p)
-            (λ k. record { seen = k.seen; said = k.said }) (λ b p. p) f);
+        (λ k. record { seen = k.seen; said = k.said }) (λ b p. p) f);
     others = λ a n y g. elsewhere is_of journal mailbox rested given_by closed_to a y vs id v v at (record {
       claim = refl;
       list = refl;

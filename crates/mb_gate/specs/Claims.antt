@@ -29,8 +29,17 @@ is_busy word = word % 4 == 2 || word == 1
 -- the last drain gave something, and how many the list gave so far
 abbrev pub claimed : ℕ → List Entry → List ℕ → ℕ → Bool → ℕ → View
 claimed actor journal shut word gave given =
-    record blank { claim = Some (record { actor = actor; journal = journal; closed_to = shut; word = word; gave = gave; given = given; drained = []
-        }) }
+    record blank {
+      claim = Some (record {
+        actor = actor;
+        journal = journal;
+        closed_to = shut;
+        word = word;
+        gave = gave;
+        given = given;
+        drained = [];
+      });
+    }
 
 -- the actor is known to be closed: by what the home said as it was taken, or since its status was read
 abbrev pub IsKnownClosed : ℕ → List ℕ → View → Type 0

@@ -28,8 +28,15 @@ pub record Taken {H : Type 0} (journal : H → List Entry) (given_by : H → ℕ
   pub home : H
   pub carried : me.1 ≡ (slot_at actor 0, Home home) ∷ []
   pub gave : Bool
-  pub claim : me.0.claim ≡ Some (record { actor = actor; journal = journal home; closed_to = closed_to home; word = word_of status; gave = gave;
-      given = given_by home; drained = [] })
+  pub claim : me.0.claim ≡ Some (record {
+    actor = actor;
+    journal = journal home;
+    closed_to = closed_to home;
+    word = word_of status;
+    gave = gave;
+    given = given_by home;
+    drained = [];
+  })
   pub no_list : me.0.list ≡ None
   pub share : is_some_item me.0.share ≡ true
 

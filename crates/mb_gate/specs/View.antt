@@ -202,8 +202,11 @@ lending actor listed gave v = record v { list = Some (record { actor = actor; li
 abbrev pub enlisting : ℕ → ℕ → SysMsg → View → View
 enlisting actor number message v =
     owing actor (record (owes actor v) { system = true })
-    (record v { log = Pushed actor number message ∷ v.log; list = None; said = record { to = actor; message = message; was_ended = false } ∷ v.said
-        })
+    (record v {
+      log = Pushed actor number message ∷ v.log;
+      list = None;
+      said = record { to = actor; message = message; was_ended = false } ∷ v.said;
+    })
 
 -- the list was found ended, so that this message went nowhere
 abbrev pub refusing : ℕ → SysMsg → View → View

@@ -13,7 +13,7 @@ join_seat-requires g c = (
   search rules,
   joins_allowed (g.H.Resident.is_of (first_of c.args.self.now)) g.H.Resident.journal
       g.H.Resident.mailbox g.H.Resident.rested g.H.Resident.given g.H.Resident.closed_to _ _ _ _ _ c.args.other.holds_nothing.1
-          c.args.other.holds_nothing.2 c.args.other.shares,
+      c.args.other.holds_nothing.2 c.args.other.shares,
 )
 
 pub invariant_of-pass : goal.invariant_of-pass
