@@ -144,7 +144,8 @@ use Rattle.mb_gate.proofs.WaitingSteps.{sends, unsends, takes_some, counts, look
 use Rattle.mb_gate.proofs.ListSteps.{is_shelved, is_lent, grips, enlists, unloads, refuses}
 use Rattle.mb_gate.proofs.Parting.{parts, takes_over, each_without, no_counts_on, no_counts_off, vouches_without}
 use Rattle.mb_gate.specs.Waiting.{on_by, off_by}
-use Rattle.mb_gate.specs.Turns.{got_by, back_by}
+use Rattle.mb_gate.specs.Turns.{got_by, back_by, IsOwnBalance}
+use Rattle.mb_gate.proofs.Whole.{own_balance}
 use Rattle.mb_gate.specs.Lists.{may_grip}
 use Rattle.mb_rule.specs.Shares.{halved, half_of, amount}
 use Rattle.mb_rule.proofs.SharesLemmas.{halves_fit, halves_amount}
@@ -442,7 +443,11 @@ module _ {H : Type 0} (is_of : ℕ → H → Type 0) (journal : H → List Entry
         (λ x vs f at fits. counts is_of journal mailbox rested given_by closed_to actor id me (Counts (step slots (word_at actor 4) 0 0 none) me
         (x.row Waiting)) x
         vs f at
-        (λ a w z. (counting (same_actor actor a 4 w z) (x.row Waiting) me.0, me.1))))
+        (λ a w. (
+          (λ z. (counting (same_actor actor a 4 w z) (x.row Waiting) me.0, me.1)),
+          subst (λ b. IsOwnBalance b (x.row Waiting) me.0) (same_actor actor a 4 w) (λ whole. own_balance is_of journal mailbox rested given_by
+              closed_to actor x vs id me.0 f at whole whole),
+        ))))
 
     pub looks_allowed : i ≡ word_at actor 2 → Allows (Rule n) slots id me i (λ k. k) (Looks (step slots i 0 0 none) me)
     looks_allowed e = subst (λ j. Allows (Rule n) slots id me j (λ k. k) (Looks (step slots j 0 0 none) me)) (sym e)

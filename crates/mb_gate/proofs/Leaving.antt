@@ -69,20 +69,12 @@ use Rattle.mb_gate.specs.Rule.{
   IsSo,
   IsAmong,
   IsHome,
-  IsBare,
-  lent_of,
-  claim_for,
-  list_for,
   Keeping,
   Shelving,
   Fact,
 }
 use Rattle.mb_gate.specs.Leaves.{IsTakenOut, IsKept, IsLeft, AreLeft}
-use Rattle.mb_rule.specs.Locked.{ticket_at, held_by, Locked}
-use Rattle.mb_rule.proofs.LockedLemmas.{ticket_here}
-use Rattle.mb_rule.specs.Shares.{IsWhole}
-use Rattle.mb_rule.proofs.SharesLemmas.{alone, total_alone}
-use Rattle.mb_gate.specs.Turns.{got_by, back_by, claims_out}
+use Rattle.mb_gate.proofs.Whole.{is_out, is_back}
 use Rattle.mb_gate.proofs.ListSteps.{is_shelved, gate_even}
 use Rattle.mb_gate.proofs.Shows.{shows_closed}
 
@@ -94,17 +86,6 @@ home_same a b e = cc
 
 list_same : {H : Type 0} (a b : MessageList) → (let x : Slot H = Listing a in x ≡ Listing b) → a ≡ b
 list_same a b e = cc
-
--- who has a ticket is a seat that is there
-ticket_has : {T : Type 0} (ticket : View → Option T) (vs : List View) (q : ℕ) (t : T) → ticket_at ticket vs q ≡ Some t → (u : View) × (get_elem? vs q
-    ≡ some u) × (ticket u ≡ Some t)
-ticket_has ticket [] q t e = absurd (cc)
-ticket_has ticket (v ∷ vs) zero t e = (v, refl, e)
-ticket_has ticket (v ∷ vs) (suc q) t e = ticket_has ticket vs q t e
-
-one_out : (holder : Option (ℕ × Held)) → holder ≢ None → claims_out holder ≡ 1
-one_out None held = absurd (held refl)
-one_out (Some h) held = refl
 
 word_here : (ws : List ℕ) (i n : ℕ) → get_elem? ws i ≡ some n → slice_index ws i ≡ n
 word_here [] i n e = absurd (some-ne-none n (sym e))
@@ -164,53 +145,6 @@ module _ {H : Type 0} (is_of : ℕ → H → Type 0) (journal : H → List Entry
 
   home_tells : (actor : ℕ) (x : Place) → IsHome is_of journal mailbox rested given_by closed_to actor x → (x.row Status % 4 ≡ 0) ⊎ (x.row Flag ≡ 1)
   home_tells actor x k = ⊎_elim (λ z. inl z) (λ one. inr (k.flag ∙ ap (λ b. if b then 1 else 0) (eq-eqb (x.row Status) 1 one))) k.idle
-
-  -- what a pass with the whole knows: nobody else has anything of an actor but its claim
-  module _ (n : ℕ) (v : View) (id : ℕ) (s : State (Slot H) View) (r : Ruled word_offset slot_offset n (Fact is_of journal mailbox rested given_by
-      closed_to) s) (known : get_elem? s.views id ≡ some v) (bare_list : v.list ≡ None) (whole : IsWhole v.share) (actor : ℕ)
-      (inside : actor < n) where
-    abbrev place : Place
-    place = spot_of word_offset slot_offset s r.ghosts actor
-
-    others_bare : (q : ℕ) (u : View) → q ≢ id → get_elem? s.views q ≡ some u → IsBare actor u
-    others_bare q u other there = let f = r.each actor inside in f.bare q u there (alone (λ (z : View). z.share) s.views id v known whole f.shares q
-        u
-        other there)
-
-    all_turns : got_by actor v ≡ back_by actor v + claims_out place.ghost.holder
-    all_turns = sym (total_alone (got_by actor) s.views id v known (λ q u other there. (others_bare q u other there).got))
-        ∙ ((r.each actor inside).turns ∙ ap (λ k. k + claims_out place.ghost.holder) (total_alone (back_by actor) s.views id v known (λ q u other
-        there. (others_bare q u other there).back)))
-
-    no_list_out : (holder : Option (ℕ × Held)) (keeper : Option (ℕ × Lent)) → Locked (claim_for actor) holder s.views
-        → Locked (list_for actor) keeper
-        s.views → holder ≡ None → keeper ≡ None
-    no_list_out holder None claims lists free = refl
-    no_list_out holder (Some k) claims lists free =
-        let has = ticket_has (list_for actor) s.views k.0 k.1 (lists k.0 ∙ ap (λ b. if b then Some k.1 else None) (eq-eqb k.0 k.0 refl)) in
-        absurd (dite (ℕ_discrete k.0 id)
-        (λ same. none_some k.1 (sym (ap (lent_of actor) bare_list) ∙ (ap (list_for actor) (some_injective_of v has.0 (sym known ∙ (ap (get_elem?
-        s.views) (sym same) ∙ has.1))) ∙ has.2)))
-        (λ other. let b = others_bare k.0 has.0 other has.1 in
-        let no_claim : claim_for actor has.0 ≡ None = sym (ticket_here (claim_for actor) s.views k.0 has.0 has.1) ∙ (claims k.0 ∙ ap (λ h. held_by h
-        k.0) free) in none_some k.1 (sym (b.rest no_claim).0 ∙ has.2)))
-      where
-        none_some : (l : Lent) → None ≡ Some l → ⊥
-        none_some l e = cc
-
-        some_injective_of : (a b : View) → some a ≡ some b → a ≡ b
-        some_injective_of a b e = some-injective a b e
-
-    -- an actor of which there is no home left has a claim out
-    is_out : (place.ghost.holder ≢ None) ⊎ (place.ghost.keeper ≢ None) → got_by actor v ≡ back_by actor v + 1
-    is_out why = all_turns ∙ ap (λ k. back_by actor v + k) (one_out place.ghost.holder (λ free. ⊎_elim (λ h. h free) (λ k. k (no_list_out
-        place.ghost.holder place.ghost.keeper (r.each actor inside).claims (r.each actor inside).lists free)) why))
-
-    is_back : place.ghost.holder ≡ None → got_by actor v ≡ back_by actor v
-    is_back free = all_turns ∙ (ap (λ h. back_by actor v + claims_out h) free ∙ none_more (back_by actor v))
-      where
-        none_more : (m : ℕ) → m + 0 ≡ m
-        none_more m = omega arith
 
   module _ (n : ℕ) (v : View) (id : ℕ) (ws : List ℕ) (xs : List (Slot H)) (s : State (Slot H) View) (r : Ruled word_offset slot_offset n (Fact is_of
       journal mailbox rested given_by closed_to) s) (known : get_elem? s.views id ≡ some v) (words : s.words ≡ ws)
@@ -312,9 +246,9 @@ module _ {H : Type 0} (is_of : ℕ → H → Type 0) (journal : H → List Entry
     known = final.1.1;
     many = many;
     each = λ a left inside at. is_left n v id ws xs final.0 final.1.0 final.1.1 final.2 final.4 a inside left (each a left at);
-    out = λ whole a inside at. is_out n v id final.0 final.1.0 final.1.1 bare_list whole a inside (none_left n v id ws xs final.0 final.1.0 final.1.1
+    out = λ whole a inside at. is_out is_of journal mailbox rested given_by closed_to a _ final.0.views id v (final.1.0.each a inside) final.1.1 whole bare_list (none_left n v id ws xs final.0 final.1.0 final.1.1
         final.2 final.4 a inside (each a None at));
-    back = λ whole a left inside at. is_back n v id final.0 final.1.0 final.1.1 bare_list whole a inside (none_holds n v id ws xs final.0 final.1.0
+    back = λ whole a left inside at. is_back is_of journal mailbox rested given_by closed_to a _ final.0.views id v (final.1.0.each a inside) final.1.1 whole (none_holds n v id ws xs final.0 final.1.0
         final.1.1 final.2 final.4 a inside left (each a (Some left) at));
     closed = λ a other left inside there at is. shows_closed is_of journal mailbox rested given_by closed_to n final.0 final.1.0 a other inside there
         (says_closed n v id ws xs final.0 final.1.0 final.1.1 final.2 final.4 a inside left (each a (Some left) at) other is);

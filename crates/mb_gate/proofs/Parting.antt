@@ -226,7 +226,8 @@ module _ {H : Type 0} (is_of : ℕ → H → Type 0) (journal : H → List Entry
   parts id v left right claim no_claim list no_list no_list_2 debts account share bare_left bare_right vouches knows knows_too actor x vs at f =
       record {
         valid = f.valid;
-        claims = splits_locked (claim_for actor) x.ghost.holder vs id v left right at (ap (held_of actor) claim) (ap (held_of actor) no_claim) f.claims;
+        claims = splits_locked (claim_for actor) x.ghost.holder vs id v left right at (ap (held_of actor) claim) (ap (held_of actor) no_claim)
+            f.claims;
         cell = f.cell;
         lists = splits_locked (list_for actor) x.ghost.keeper vs id v left right at (ap (lent_of actor) no_list ∙ sym (ap (lent_of actor) list)) (ap
             (lent_of actor) no_list_2) f.lists;
@@ -267,10 +268,9 @@ module _ {H : Type 0} (is_of : ℕ → H → Type 0) (journal : H → List Entry
         balance = same_balance actor (x.row Waiting) vs (set (set vs id both) other blank)
             (total_joins (on_by actor) vs id other v w both blank at there (both_logs (counted_on actor) w.log v.log))
             (total_joins (off_by actor) vs id other v w both blank at there (both_logs (counted_off actor) w.log v.log)) f.balance;
-        turns = total_joins (got_by actor) vs id other v w both blank at there (both_logs (λ a. if a == actor then 1 else 0) w.got v.got) ∙ (f.turns
-            ∙ sym (ap (λ n. n +
-            claims_out x.ghost.holder) (total_joins (back_by actor) vs id other v w both blank at there (both_logs (λ a. if a == actor then 1 else 0) w.returned
-            v.returned))));
+        turns = total_joins (got_by actor) vs id other v w both blank at there (both_logs (λ a. if a == actor then 1 else 0) w.got v.got)
+            ∙ (f.turns ∙ sym (ap (λ n. n + claims_out x.ghost.holder) (total_joins (back_by actor) vs id other v w both blank at there
+            (both_logs (λ a. if a == actor then 1 else 0) w.returned v.returned))));
         shares = joins_shares (λ (u : View). u.share) vs id other v w both blank at apart there refl refl f.shares;
         bare = joins_seen (λ (u : View). u.share ≡ [] → IsBare actor u) vs id other both blank (λ none. absurd (no_share (w.share ++ v.share)
             (some_left w.share v.share sharer) none)) (λ _. record { got = refl; back = refl; on = refl; rest = λ _. (refl, refl) }) f.bare;

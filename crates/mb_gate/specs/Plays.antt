@@ -41,6 +41,7 @@ use Rattle.mb_gate.specs.View.{
   draining,
   ending,
 }
+use Rattle.mb_gate.specs.Turns.{IsOwnBalance}
 use Rattle.mb_gate.specs.Rule.{Extends, is_some_item, gate_word}
 
 -- this sight allows that the actor is taken with this journal: it was not seen closed, nor was its list ended, and the journal goes on
@@ -101,7 +102,7 @@ module _ {H : Type 0} where
   CountsOff st m found m' = (actor : ℕ) → st.word ≡ word_at actor 4 → m' ≡ (counting_off actor st.first m.0, m.1)
 
   abbrev pub Counts : Step (Slot H) → Me (Slot H) View → ℕ → Me (Slot H) View → Type 0
-  Counts st m found m' = (actor : ℕ) → st.word ≡ word_at actor 4 → m' ≡ (counting actor found m.0, m.1)
+  Counts st m found m' = (actor : ℕ) → st.word ≡ word_at actor 4 → (m' ≡ (counting actor found m.0, m.1)) × IsOwnBalance actor found m.0
 
   abbrev pub Looks : Step (Slot H) → Me (Slot H) View → ℕ → Me (Slot H) View → Type 0
   Looks st m found m' = (actor : ℕ) → st.word ≡ word_at actor 2 → m' ≡ (looking actor (shows_work found) m.0, m.1)

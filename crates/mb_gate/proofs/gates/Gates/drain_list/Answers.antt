@@ -33,7 +33,7 @@ returns-clause-drained g c =
     let l : Lent = record { actor = c.args.id.0; listed = c.args.list; gave = lent.gave } in
     let laid = c.lay_list.ensures.carries in
     let told = c.store.ensures.2 l (held_in c.args.seat.now.me.0) (ap (λ m. m.0.list) laid ∙ lent.has) (ap (λ m. m.0.claim) laid
-        ∙ c.requires.holder.has) in
+    ∙ c.requires.holder.has) in
     let some = ap is_some_item c.drain-chain.ensures.chain ∙ some_listed c.args.list in
     told.0 ∙ (λ i. (draining c.args.id.0 (sym c.drain-chain.ensures.chain i) (sym some i) (laid i).0, rest (laid i).1))
 
@@ -43,5 +43,5 @@ returns-clause-numbers g c =
     let l : Lent = record { actor = c.args.id.0; listed = c.args.list; gave = lent.gave } in
     let laid = c.lay_list.ensures.carries in
     let told = c.store.ensures.2 l (held_in c.args.seat.now.me.0) (ap (λ m. m.0.list) laid ∙ lent.has) (ap (λ m. m.0.claim) laid
-        ∙ c.requires.holder.has) in
+    ∙ c.requires.holder.has) in
     record { messages = c.args.list.messages; each = c.drain-chain.ensures.chain ∙ ap (λ n. numbered n c.args.list.messages) told.1 }

@@ -29,7 +29,7 @@ returns-clause-drained g c =
     let l : Lent = record { actor = c.args.id.0; listed = c.args.list; gave = lent.gave } in
     let laid = c.lay_list.ensures.carries in
     let told = c.store.ensures.2 l (held_in c.args.seat.now.me.0) (ap (λ m. m.0.list) laid ∙ lent.has) (ap (λ m. m.0.claim) laid
-        ∙ c.requires.holder.has) in
+    ∙ c.requires.holder.has) in
     told.0 ∙ (λ i. (ending c.args.id.0 (sym c.close-chain.ensures.chain i) (held_in c.args.seat.now.me.0).gave (laid i).0, rest (laid i).1))
 
 pub returns-clause-numbers : goal.returns-clause-numbers
@@ -38,5 +38,5 @@ returns-clause-numbers g c =
     let l : Lent = record { actor = c.args.id.0; listed = c.args.list; gave = lent.gave } in
     let laid = c.lay_list.ensures.carries in
     let told = c.store.ensures.2 l (held_in c.args.seat.now.me.0) (ap (λ m. m.0.list) laid ∙ lent.has) (ap (λ m. m.0.claim) laid
-        ∙ c.requires.holder.has) in
+    ∙ c.requires.holder.has) in
     record { messages = c.args.list.messages; each = c.close-chain.ensures.chain ∙ ap (λ n. numbered n c.args.list.messages) told.1 }

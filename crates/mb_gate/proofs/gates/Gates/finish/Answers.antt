@@ -101,6 +101,6 @@ returns g c =
           g.H.Resident.given g.H.Resident.closed_to n (known_by c.args.pass)
           c.loop-actor.all.items) keyed
           (are_left (g.H.Resident.is_of (first_of c.args.self)) g.H.Resident.journal g.H.Resident.mailbox g.H.Resident.rested g.H.Resident.given
-              g.H.Resident.closed_to _ _ _ _ _ _
+          g.H.Resident.closed_to _ _ _ _ _ _
           c.args.pass.holds_nothing.2 c.close_with-closed.ensures.values.2 (omega arith) c.loop-actor.invariant.7);
     }

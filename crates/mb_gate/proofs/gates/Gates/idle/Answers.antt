@@ -14,7 +14,7 @@ store-requires g c =
       idles_closed_allowed (g.H.Resident.is_of (first_of c.args.self.now)) g.H.Resident.journal g.H.Resident.mailbox g.H.Resident.rested
           g.H.Resident.given g.H.Resident.closed_to _ _ _ _ c.args.actor.0 _ (let k =
           c.args.self.now.keyed in let t = c.requires.there in omega arith) _ r.home c.word_index-flag.ensures r.has r.of r.carried r.own r.longer
-              r.count r.shut
+          r.count r.shut
           (r.word ∙ closed_word c.args.status closed) (sym (r.fold ∙ closed_word (idle c.args.status) closed)) (r.rest (inl closed)) r.share,
     )
 

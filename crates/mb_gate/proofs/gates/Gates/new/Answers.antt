@@ -22,8 +22,14 @@ invariant_of-result g c =
     let made = c.in-Ok-new.ensures.ok in
     let same = some_same c.first_of-2.result.value c.first_of.result.value (sym c.first_of-2.ensures ∙ c.first_of.ensures) in
     let known = (λ i. First (record { marker = c.first_of.result.marker; value = same i })) ∙ ap (λ k. First k.first) (sym made.5) in
-    record { wide = made.0 ∙ (words ∙ (omega arith)); deep = made.1 ∙ (slots ∙ (omega arith)); keyed = ap
-        (λ k. k.actors) made.5; known = known; some = (omega arith, omega arith) }
+    record {
+      wide = made.0 ∙ (words ∙ (omega arith));
+      deep = made.1 ∙ (slots ∙ (omega arith));
+      keyed = ap
+          (λ k. k.actors) made.5;
+      known = known;
+      some = (omega arith, omega arith);
+    }
 
 pub unshelve-requires-clause-room : goal.unshelve-requires-clause-room
 unshelve-requires-clause-room g c =
