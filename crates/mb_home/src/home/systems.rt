@@ -9,6 +9,8 @@ ghost use Rattle.mb_journal.specs.Lawful.{IsLawful};
 ghost use Rattle.mb_journal.specs.Phase.{phase_is};
 ghost use Rattle.mb_cell.specs.Seen.{MayTake, TakesSystem};
 ghost use Rattle.mb_journal.specs.Life.{closed};
+ghost use Rattle.mb_gate.specs.Lists.{IsNumberedFrom};
+ghost use Rattle.mb_home.specs.AtHome.{given_of};
 ghost use Rattle.mb_home.specs.Carried.{LeadsOn};
 ghost use Rattle.mb_home.specs.Settled.{IsSettled, messages_of};
 ghost use Rattle.mb_home.specs.Steps.{HasNext, IsRested, AppliesNext, IsDue, most_tells};
@@ -60,9 +62,19 @@ impl<A: Actor, K: Behaviours> Home<A, K> {
         Ok(())
     }
 
-    /// Keeps what was drained, whose numbers go on from those that came before: nothing else is left.
+    /// Keeps what was drained, whose numbers go on from those that the list gave before: nothing else is left.
     pub fn keep(&mut self, drained: Chain)
         requires none_left { self.old.rest ≡ [] }
+        requires goes_on { IsNumberedFrom (given_of self.old) drained }
+        requires settled { IsSettled (K.gives self.old.cell.who.this.0) self.old.cell.acts self.old }
+        ensures kept { self.new ≡ record self.old { rest = drained } }
+        ensures settled { IsSettled (K.gives self.new.cell.who.this.0) self.new.cell.acts self.new }
+    {
+        self.put_beside(drained);
+    }
+
+    /// Puts it beside the cell.
+    fn put_beside(&mut self, drained: Chain)
         requires goes_on { drained ≡ numbered ((next_number self.old.cell.journal + self.old.dropped) % 2 ^ 64) (messages_of drained) }
         requires settled { IsSettled (K.gives self.old.cell.who.this.0) self.old.cell.acts self.old }
         ensures kept { self.new ≡ record self.old { rest = drained } }
