@@ -13,7 +13,7 @@ messages-numbered n [] = refl
 messages-numbered n (m ∷ messages) = ap (λ l. m ∷ l) (messages-numbered ((n + 1) % 2 ^ 64) messages)
 
 -- with nothing left beside the cell, the next number is that of the journal and of what was dropped
-given-next : (h : Contents) → h.rest ≡ [] → given_of h ≡ (next_number h.cell.journal + h.dropped) % 2 ^ 64
+pub given-next : (h : Contents) → h.rest ≡ [] → given_of h ≡ (next_number h.cell.journal + h.dropped) % 2 ^ 64
 given-next h none =
     (λ i. (next_number h.cell.journal + h.dropped + length (none i)) % 2 ^ 64)
     ∙ ap (λ n. n % 2 ^ 64) (let sum : next_number h.cell.journal + h.dropped + 0 ≡ next_number h.cell.journal + h.dropped = omega arith in sum)

@@ -3,6 +3,7 @@ pub mod CountLemmas
 pub mod DrainLemmas
 pub mod EndLaw
 pub mod FoldLaw
+pub mod GivenLemmas
 pub mod GuardianLemmas
 pub mod LeadLemmas
 pub mod MoveLemmas
