@@ -1,6 +1,7 @@
 pub mod Begins
 pub mod Emptying
 pub mod Gathering
+pub mod Got
 pub mod Lists
 pub mod Looks
 pub mod Loops

@@ -1,21 +1,21 @@
 -- All ends and feeds of a pool are there: then its places are whole, and what is left is what was pushed and not taken.
 use Rattle.std.proofs.Common.{◌≡◌, ◌⊎◌, inl, inr, ℕ, zero, suc, ◌+◌, ◌-◌, ◌*◌, ◌<◌, ◌≤◌, List, [], ◌∷◌, ◌++◌, length, get_or, take, drop, replicate, sym, refl, ap, ◌∙◌, subst, map, arith, append_assoc, append-nil}
 use Rattle.std.specs.Prelude.{All, IsPermutation, Option, Some, flat_map, sum_by}
-use Rattle.std.proofs.lemmas.List.{map-append, get_or-map, length-append, length-map, length-take, length-drop, drop_all, take_all}
+use Rattle.std.proofs.lemmas.List.{map-append, map_push, get_or-map, length-append, length-map, length-take, length-drop, drop_all, take_all}
 use Rattle.std.proofs.Math.Nat.{mul_comm, suc-mul}
 use Rattle.std.proofs.lemmas.List.Concat.{flat_map-append}
 use Rattle.std.proofs.lemmas.List.Elements.{All-nil, All-cons, All-head, All-tail, All-append, All-weaker, All-drop, All-take, All-map, All-replicate}
 use Rattle.std.proofs.lemmas.List.Sorted.{IsPermutation-refl, IsPermutation-sym, IsPermutation-trans, IsPermutation-append, IsPermutation-append_comm}
 use Rattle.std.proofs.lemmas.List.Sums.{sum_by-cons, sum_by-append}
 use Rattle.mb_gate.specs.declared.claim.Claim.{Claim}
-use Rattle.mb_pool.specs.Ends.{AreAlike, AreGathered, AreMatched, Empties, Frame, IsAllOf, IsAmong, MayJoin, TakesIn, Where, doors_of, frame_of, nexts_of, owns_of, shares_in, where_is}
+use Rattle.mb_pool.specs.Ends.{AreAlike, AreGathered, AreMatched, Empties, Frame, IsAllOf, IsAmong, MayJoin, TakesIn, Where, doors_of, frame_of, joined, nexts_of, owns_of, shares_in, where_is}
 use Rattle.mb_pool.specs.Ledger.{claims_in}
 use Rattle.mb_pool.specs.Made.{AreDeques, IsDeque, IsLeft, IsWhole}
 use Rattle.mb_pool.specs.Origin.{Origin}
 use Rattle.mb_pool.specs.Places.{AreEnds, AreFeeds, Look, Part, Parts, Spot, Way, Whole, deque_parts, door_part, end_parts, feed_parts, looks, numbers, owner_of, part_of, parts_of, pushed_at, pushed_by, taken_at, taken_by}
 use Rattle.mb_pool.proofs.Begins.{cons_head, cons_tail, cons_nil, const_numbers, drop_length, length_numbers, map_map, map_replicate, singles}
 use Rattle.mb_pool.proofs.Lists.{same_elements, from_left, behind, before, past}
-use Rattle.mb_pool.proofs.Emptying.{HasAll, HasFew, all_left, empties_append, exchange}
+use Rattle.mb_pool.proofs.Emptying.{HasAll, HasFew, all_left, empties_append, exchange, takes_in_more}
 use Rattle.mb_pool.proofs.Ports.{all_right, all_unmap}
 
 numbers_at : (first count k e : ℕ) → k < count → get_or (numbers first count) k e ≡ first + k
@@ -343,3 +343,16 @@ module _ {H : Type 0} (IsFit : Option (Origin H) → Claim H → Type 0) (pool :
             (IsPermutation-trans (taken_at ports ++ left) (pushed_at ports) (pushed_by (ends ++ feeds)) (subst (λ l. IsPermutation (taken_at ports ++ l) (pushed_at ports)) is (all.whole shares)) pushed),
         subst (All (IsFit (Some pool.gates))) is all.fit,
       )
+
+-- One end more was taken apart: its own deque was emptied, and its port of the feeds' place was taken in.
+module _ {H : Type 0} (IsFit : Option (Origin H) → Claim H → Type 0) where
+  pub one_more_door : (base door other : Look H) (done : List (Way H)) (end : Way H) → TakesIn base (doors_of done) door → other ≡ end.door → TakesIn base (doors_of (done ++ end ∷ [])) (joined door other)
+  one_more_door base door other done end t e =
+      subst (λ (y : List (Look H) × Look H). TakesIn base y.0 (joined door y.1)) (λ i. (sym (map_push (λ (w : Way H). w.door) done end) i, sym e i)) (takes_in_more base (doors_of done) door end.door t)
+
+  pub one_more_own : (base : Look H) (done : List (Way H)) (end : Way H) (a b c : List (Claim H)) → Empties IsFit base.ledger.gates (owns_of done) a b → where_is end.door ≡ where_is base
+      → Empties IsFit end.door.ledger.gates end.own b c → Empties IsFit base.ledger.gates (owns_of (done ++ end ∷ [])) a c
+  one_more_own base done end a b c p alike' q =
+      let owns : owns_of (done ++ end ∷ []) ≡ owns_of done ++ end.own = flat_map-append (λ (w : Way H). w.own) done (end ∷ []) ∙ ap (λ l. owns_of done ++ l) (append-nil end.own) in
+      subst (λ l. Empties IsFit base.ledger.gates l a c) (sym owns)
+      (empties_append IsFit base.ledger.gates (owns_of done) end.own a b c p (subst (λ g. Empties IsFit g end.own b c) (ap (λ (w : Where H). w.gates) alike') q))
