@@ -11,14 +11,16 @@ SOURCES := crates.txt HANDLES $(shell find crates -path '*/out' -prune -o \( -na
 run: $(PROGRAM)
 	@$(PROGRAM) < $(SCENARIO)
 
-# The gate: the list of definitions, the examples, every proof from nothing, the must-fail edits, the tests, the program by
-# two compilers, and the program as a user runs it.
+# The gate: the list of definitions, the worked runs, the examples, every proof from nothing, the must-fail edits, the tests, the
+# program by two compilers, the program as a user runs it, and random scenarios beside a second reader.
 test:
 	tools/check_definitions
+	tools/check_worked_runs
 	tools/check_examples
 	rt ci
 	@$(MAKE) --no-print-directory $(PROGRAM)
 	tools/check_program $(PROGRAM)
+	tools/compare_with_a_model $(PROGRAM)
 
 # Proves what changed since the last check, lowest crate first.
 check:
