@@ -30,12 +30,8 @@ const NAMES: &str = r#"
 { zoo = 1 } => actor 1 name: missing
 "#;
 
-#[test]
-fn tells_the_faults_of_names(rt: HostRuntime) -> Result<(), Fail> {
-    each_case(&rt, rt.alloc(), &ACTORS, NAMES)
-}
-
-const PARENTS: &str = r#"
+const KEYS: &str = r#"
+// Who its parent is.
 parent = 1 => actor 1 parent: wrong type
 parent = "B" => actor 1 parent: out of range
 parent = "" => actor 1 parent: out of range
@@ -46,14 +42,7 @@ parent = "b" => actor 1 parent: unknown name
 parent = "c" => actor 1 parent: unknown name
 parent = "guardian" => may stand
 # nothing => may stand
-"#;
-
-#[test]
-fn tells_the_faults_of_parents(rt: HostRuntime) -> Result<(), Fail> {
-    each_case(&rt, rt.alloc(), &ACTOR, PARENTS)
-}
-
-const MAILBOXES: &str = r#"
+// Its mailbox.
 mailbox = true => actor 1 mailbox: wrong type
 mailbox = "big" => actor 1 mailbox: out of range
 mailbox = "" => actor 1 mailbox: out of range
@@ -80,14 +69,7 @@ mailbox = "priority" | other = 0 => may stand
 mailbox = "priority" | other = 4294967295 => may stand
 mailbox = "bounded" | capacity = 0 => actor 1 capacity: out of range
 mailbox = "bounded" | capacity = 1.0 => actor 1 capacity: wrong type
-"#;
-
-#[test]
-fn tells_the_faults_of_mailboxes(rt: HostRuntime) -> Result<(), Fail> {
-    each_case(&rt, rt.alloc(), &ACTOR, MAILBOXES)
-}
-
-const DEEDS: &str = r#"
+// What it does, and what it does about its children.
 initial = "0" => actor 1 initial: wrong type
 initial = 1.5 => actor 1 initial: wrong type
 initial = -9223372036854775808 => may stand
@@ -124,6 +106,8 @@ guardian = 1 => actor 1 ?: unknown key
 "#;
 
 #[test]
-fn tells_the_faults_of_what_actors_do(rt: HostRuntime) -> Result<(), Fail> {
-    each_case(&rt, rt.alloc(), &ACTOR, DEEDS)
+fn tells_the_faults_of_actors(rt: HostRuntime) -> Result<(), Fail> {
+    let alloc = rt.alloc();
+    each_case(&rt, alloc, &ACTORS, NAMES)?;
+    each_case(&rt, alloc, &ACTOR, KEYS)
 }

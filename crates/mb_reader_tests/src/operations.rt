@@ -10,7 +10,8 @@ const OPERATION: Frame = Frame {
     told: "actor 1 on 1 do 2: ",
 };
 
-const STANDING: &str = r#"
+const OPERATIONS: &str = r#"
+// Each operation, with names and numbers that may stand.
 "add" => may stand
 "ignore" => may stand
 "fail 0" => may stand
@@ -22,15 +23,7 @@ const STANDING: &str = r#"
 "unwatch b" => may stand
 "stop b" => may stand
 "spawn b" => may stand
-"#;
-
-/// Each operation, with names and numbers that may stand.
-#[test]
-fn operations_may_stand(rt: HostRuntime) -> Result<(), Fail> {
-    each_case(&rt, rt.alloc(), &OPERATION, STANDING)
-}
-
-const WORDS: &str = r#"
+// Another word, a word too many or too few, another space.
 "" => bad op
 " " => bad op
 "halt" => bad op
@@ -44,15 +37,6 @@ const WORDS: &str = r#"
 "fail 1 " => bad op
 "fail  1" => bad op
 "tell" => bad op
-"#;
-
-/// Another word, a word too many or too few, another space.
-#[test]
-fn words_are_told(rt: HostRuntime) -> Result<(), Fail> {
-    each_case(&rt, rt.alloc(), &OPERATION, WORDS)
-}
-
-const MORE_WORDS: &str = r#"
 "tell b" => bad op
 "tell b 1 2" => bad op
 "tell  b 1" => bad op
@@ -65,15 +49,7 @@ const MORE_WORDS: &str = r#"
 "stop  b" => bad op
 "spawn" => bad op
 "spawn b b" => bad op
-"#;
-
-/// The same of the operations that name an actor.
-#[test]
-fn more_words_are_told(rt: HostRuntime) -> Result<(), Fail> {
-    each_case(&rt, rt.alloc(), &OPERATION, MORE_WORDS)
-}
-
-const NUMBERS: &str = r#"
+// A number out of range or with leading zeros, and what is no number.
 "fail 4294967296" => bad op
 "fail 99999999999999999999999999" => bad op
 "fail 01" => bad op
@@ -87,15 +63,7 @@ const NUMBERS: &str = r#"
 "tell b 01" => bad op
 "tell b 4294967296" => bad op
 "control b x" => bad op
-"#;
-
-/// A number out of range or with leading zeros, and what is no number.
-#[test]
-fn numbers_are_told(rt: HostRuntime) -> Result<(), Fail> {
-    each_case(&rt, rt.alloc(), &OPERATION, NUMBERS)
-}
-
-const NAMES: &str = r#"
+// A name of wrong form.
 "tell B 1" => bad op
 "tell 1 1" => bad op
 "tell guardian 1" => bad op
@@ -106,15 +74,7 @@ const NAMES: &str = r#"
 "stop guardian" => bad op
 "spawn b-c" => bad op
 "stop abcdefghijklmnopqrstuvwxyz_012345" => bad op
-"#;
-
-/// A name of wrong form.
-#[test]
-fn names_are_told(rt: HostRuntime) -> Result<(), Fail> {
-    each_case(&rt, rt.alloc(), &OPERATION, NAMES)
-}
-
-const STRANGERS: &str = r#"
+// A name that is no actor's; a number of wrong form beside it goes first. A spawn of an actor that is no child.
 "tell c 1" => unknown name
 "tell c 01" => bad op
 "control c 1" => unknown name
@@ -126,12 +86,7 @@ const STRANGERS: &str = r#"
 "spawn a" => bad op
 "#;
 
-/// A name that is no actor's; a number of wrong form beside it goes first. A spawn of an actor that is no child.
-#[test]
-fn strangers_are_told(rt: HostRuntime) -> Result<(), Fail> {
-    each_case(&rt, rt.alloc(), &OPERATION, STRANGERS)
-}
-
+/// `add` may stand in `on` alone, a spawn of a child everywhere.
 const ADDS: &str = r#"
 start = ["spawn b", "fail 1", "tell b 1", "add"] => actor 1 start 4: bad op
 restart = ["spawn b", "fail 1", "tell b 1", "add"] => actor 1 restart 4: bad op
@@ -139,12 +94,8 @@ stop = ["spawn b", "fail 1", "tell b 1", "add"] => actor 1 stop 4: bad op
 terminated = ["spawn b", "fail 1", "tell b 1", "add"] => actor 1 terminated 4: bad op
 "#;
 
-/// `add` may stand in `on` alone, a spawn of a child everywhere.
-#[test]
-fn adds_within_rows_alone(rt: HostRuntime) -> Result<(), Fail> {
-    each_case(&rt, rt.alloc(), &ACTOR, ADDS)
-}
-
+/// Who is a child is said by the strings at `parent` alone, faulty or not: a child whose parent is no text makes the spawn
+/// a fault, which comes earlier.
 const CHILDREN: &str = r#"
 actor = [{ name = "a", start = ["spawn b"] }, { name = "b" }] => actor 1 start 1: bad op
 actor = [{ name = "a", start = ["spawn b"] }, { name = "b", parent = 1 }] => actor 1 start 1: bad op
@@ -153,9 +104,10 @@ actor = [{ name = "a" }, { name = "b", parent = "a", start = ["spawn c"] }, { na
 actor = [{ name = "a", stop = ["spawn b"] }, { name = "b", parent = "a" }] => may stand
 "#;
 
-/// Who is a child is said by the strings at `parent` alone, faulty or not: a child whose parent is no text makes the spawn
-/// a fault, which comes earlier.
 #[test]
-fn spawns_children_alone(rt: HostRuntime) -> Result<(), Fail> {
-    each_case(&rt, rt.alloc(), &TEXT, CHILDREN)
+fn tells_the_faults_of_operations(rt: HostRuntime) -> Result<(), Fail> {
+    let alloc = rt.alloc();
+    each_case(&rt, alloc, &OPERATION, OPERATIONS)?;
+    each_case(&rt, alloc, &ACTOR, ADDS)?;
+    each_case(&rt, alloc, &TEXT, CHILDREN)
 }

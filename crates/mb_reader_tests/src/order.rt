@@ -30,11 +30,6 @@ workers = 17 | workers = 17 => 11 NotToml
 workers = 17 | zoo => 11 NotToml
 "#;
 
-#[test]
-fn tells_the_first_fault_of_the_document(rt: HostRuntime) -> Result<(), Fail> {
-    each_case(&rt, rt.alloc(), &TEXT, DOCUMENTS)
-}
-
 const ACTORS: &str = r#"
 // The least unknown key, and then the keys in their order, each with its entries.
 parent = 1 | zoo = 1 => actor 1 zoo: unknown key
@@ -74,11 +69,6 @@ start = ["spawn c"] => actor 1 start 1: unknown name
 start = ["spawn a"] => actor 1 start 1: bad op
 "#;
 
-#[test]
-fn tells_the_first_fault_of_an_actor(rt: HostRuntime) -> Result<(), Fail> {
-    each_case(&rt, rt.alloc(), &ACTOR, ACTORS)
-}
-
 const SENDS: &str = r#"
 from = 16 | zoo = 1 => send 1 zoo: unknown key
 to = 1 | from = "0" => send 1 from: wrong type
@@ -96,6 +86,9 @@ to = "b" | kind = -1 => send 1 to: unknown name
 "#;
 
 #[test]
-fn tells_the_first_fault_of_a_send(rt: HostRuntime) -> Result<(), Fail> {
-    each_case(&rt, rt.alloc(), &SEND, SENDS)
+fn tells_the_first_fault(rt: HostRuntime) -> Result<(), Fail> {
+    let alloc = rt.alloc();
+    each_case(&rt, alloc, &TEXT, DOCUMENTS)?;
+    each_case(&rt, alloc, &ACTOR, ACTORS)?;
+    each_case(&rt, alloc, &SEND, SENDS)
 }

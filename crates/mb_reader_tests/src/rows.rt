@@ -10,6 +10,20 @@ const RANK: Frame = Frame {
     told: "",
 };
 
+/// The rows of a script.
+const ON: Frame = Frame {
+    before: "[[actor]]\nname = \"a\"\non = [",
+    after: "]\n[[actor]]\nname = \"b\"\nparent = \"a\"\n",
+    told: "",
+};
+
+/// The rows of a strategy.
+const STRATEGY: Frame = Frame {
+    before: "[[actor]]\nname = \"a\"\nstrategy = [",
+    after: "]\n[[actor]]\nname = \"b\"\nparent = \"a\"\n",
+    told: "",
+};
+
 const RANKS: &str = r#"
 1 => actor 1 rank 1: wrong type
 { kind = 1, rank = 1 }, [] => actor 1 rank 2: wrong type
@@ -26,18 +40,6 @@ const RANKS: &str = r#"
 { rank = 0, kind = 0 } => may stand
 { kind = 1, rank = -1 } => actor 1 rank 1 rank: out of range
 "#;
-
-#[test]
-fn tells_the_faults_of_ranks(rt: HostRuntime) -> Result<(), Fail> {
-    each_case(&rt, rt.alloc(), &RANK, RANKS)
-}
-
-/// The rows of a script.
-const ON: Frame = Frame {
-    before: "[[actor]]\nname = \"a\"\non = [",
-    after: "]\n[[actor]]\nname = \"b\"\nparent = \"a\"\n",
-    told: "",
-};
 
 const ROWS: &str = r#"
 1 => actor 1 on 1: wrong type
@@ -57,18 +59,6 @@ const ROWS: &str = r#"
 { kind = 4294967295, do = ["add", "add"] } => may stand
 "#;
 
-#[test]
-fn tells_the_faults_of_rows(rt: HostRuntime) -> Result<(), Fail> {
-    each_case(&rt, rt.alloc(), &ON, ROWS)
-}
-
-/// The rows of a strategy.
-const STRATEGY: Frame = Frame {
-    before: "[[actor]]\nname = \"a\"\nstrategy = [",
-    after: "]\n[[actor]]\nname = \"b\"\nparent = \"a\"\n",
-    told: "",
-};
-
 const STRATEGIES: &str = r#"
 1 => actor 1 strategy 1: wrong type
 { then = "stop" } => actor 1 strategy 1 cause: missing
@@ -83,14 +73,7 @@ const STRATEGIES: &str = r#"
 { cause = "deathpact", then = "escalate" } => may stand
 { cause = "error 0", then = "stop" } => may stand
 { cause = "error 4294967295", then = "stop" } => may stand
-"#;
-
-#[test]
-fn tells_the_faults_of_strategies(rt: HostRuntime) -> Result<(), Fail> {
-    each_case(&rt, rt.alloc(), &STRATEGY, STRATEGIES)
-}
-
-const WORDS: &str = r#"
+// Every text that is no cause, and every word that is no directive, is out of range.
 { cause = "", then = "stop" } => actor 1 strategy 1 cause: out of range
 { cause = "never", then = "stop" } => actor 1 strategy 1 cause: out of range
 { cause = "Any", then = "stop" } => actor 1 strategy 1 cause: out of range
@@ -113,8 +96,10 @@ const WORDS: &str = r#"
 { cause = "any", then = "error" } => actor 1 strategy 1 then: out of range
 "#;
 
-/// Every text that is no cause, and every word that is no directive, is out of range.
 #[test]
-fn tells_wrong_causes_and_directives(rt: HostRuntime) -> Result<(), Fail> {
-    each_case(&rt, rt.alloc(), &STRATEGY, WORDS)
+fn tells_the_faults_of_rows(rt: HostRuntime) -> Result<(), Fail> {
+    let alloc = rt.alloc();
+    each_case(&rt, alloc, &RANK, RANKS)?;
+    each_case(&rt, alloc, &ON, ROWS)?;
+    each_case(&rt, alloc, &STRATEGY, STRATEGIES)
 }

@@ -36,14 +36,7 @@ send = {} => send: wrong type
 send = "a" => send: wrong type
 send = [] => may stand
 send = [[]] => send 1: wrong type
-"#;
-
-#[test]
-fn tells_the_faults_of_the_top(rt: HostRuntime) -> Result<(), Fail> {
-    each_case(&rt, rt.alloc(), &TEXT, KEYS)
-}
-
-const UNKNOWN: &str = r#"
+// An unknown key stands in the place where it is a name.
 a1_ = 1 => a1_: unknown key
 abcdefghijklmnopqrstuvwxyz_01234 = 1 => abcdefghijklmnopqrstuvwxyz_01234: unknown key
 abcdefghijklmnopqrstuvwxyz_012345 = 1 => ?: unknown key
@@ -60,8 +53,7 @@ ab = 1 | a = 1 => a: unknown key
 workers = 1 | z = 1 | zz = 1 => z: unknown key
 "#;
 
-/// An unknown key stands in the place where it is a name.
 #[test]
-fn shows_unknown_keys_that_are_names(rt: HostRuntime) -> Result<(), Fail> {
-    each_case(&rt, rt.alloc(), &TEXT, UNKNOWN)
+fn tells_the_faults_of_the_document(rt: HostRuntime) -> Result<(), Fail> {
+    each_case(&rt, rt.alloc(), &TEXT, KEYS)
 }

@@ -16,15 +16,6 @@ workers = 17 => workers: out of range
 [[actor]] | name = "a" | mailbox = "bounded" | capacity = 0 => actor 1 capacity: out of range
 "#;
 
-#[test]
-fn tells_the_worked_faults(rt: HostRuntime) -> Result<(), Fail> {
-    let alloc = rt.alloc();
-    each_case(&rt, alloc, &TEXT, FAULTS)?;
-    tells(&rt, alloc, b"[[actor", "11 NotToml")?;
-    tells(&rt, alloc, b"x = 1", "12 BadScenario x: unknown key")?;
-    tells(&rt, alloc, &[0xFF], "11 NotToml")
-}
-
 /// An operation of a counter, and the keys of its first send.
 const COUNTER: Frame = Frame {
     before: "workers = 0\n[[actor]]\nname = \"a\"\n[[actor.on]]\nkind = 1\n",
@@ -39,6 +30,11 @@ do = ["add"] | [[send]] | to = "a" | kind = 1 | value = 1 | times = 0 => send 1 
 "#;
 
 #[test]
-fn tells_what_is_wrong_with_a_counter(rt: HostRuntime) -> Result<(), Fail> {
-    each_case(&rt, rt.alloc(), &COUNTER, COUNTERS)
+fn tells_the_worked_faults(rt: HostRuntime) -> Result<(), Fail> {
+    let alloc = rt.alloc();
+    each_case(&rt, alloc, &TEXT, FAULTS)?;
+    tells(&rt, alloc, b"[[actor", "11 NotToml")?;
+    tells(&rt, alloc, b"x = 1", "12 BadScenario x: unknown key")?;
+    tells(&rt, alloc, &[0xFF], "11 NotToml")?;
+    each_case(&rt, alloc, &COUNTER, COUNTERS)
 }
