@@ -247,7 +247,8 @@ given_listed l = ap (λ k. (l.given + k) % 2 ^ 64) (sym (length_numbered l.given
 pub marked : (out : Bool) (l : MessageList) (gave : Bool) → shows_work (gate_word out l gave) ≡ (is_some_item l.messages || gave)
 marked out l gave = marks (is_some_item l.messages) gave l.closed out
 
-module _ {H : Type 0} (is_of : ℕ → H → Type 0) (journal : H → List Entry) (mailbox : H → Mailbox) (rested : H → Type 0) (given_by : H → ℕ) (closed_to : H → List ℕ) where
+module _ {H : Type 0} (is_of : ℕ → H → Type 0) (journal : H → List Entry) (mailbox : H → Mailbox) (rested : H → Type 0) (given_by : H → ℕ)
+    (closed_to : H → List ℕ) where
   abbrev F : ℕ → Spot Word Shelf (Slot H) Ghost → List View → Type 0
   F = Fact is_of journal mailbox rested given_by closed_to
 
@@ -292,18 +293,21 @@ module _ {H : Type 0} (is_of : ℕ → H → Type 0) (journal : H → List Entry
         | Ended a given ↦ (λ h e. unshut (ended (h e).0))
       ]) k.seen
 
-  shown_by : (x : Place) (keeper : Option (ℕ × Lent)) → Shelving is_of journal mailbox rested given_by closed_to x keeper → has_work x.ghost ≡ shows_work (x.row Gate)
+  shown_by : (x : Place) (keeper : Option (ℕ × Lent)) → Shelving is_of journal mailbox rested given_by closed_to x keeper →
+      has_work x.ghost ≡ shows_work (x.row Gate)
   shown_by x None k = sym (ap shows_work k.word ∙ marked false x.ghost.listed x.ghost.gave)
   shown_by x (Some h) k = sym (ap shows_work k.word ∙ marked true x.ghost.listed x.ghost.gave)
 
-  ends_by : (x : Place) (keeper : Option (ℕ × Lent)) → Shelving is_of journal mailbox rested given_by closed_to x keeper → x.row Gate / 8 % 2 ≡ 1 → IsTrue
+  ends_by : (x : Place) (keeper : Option (ℕ × Lent)) → Shelving is_of journal mailbox rested given_by closed_to x keeper →
+      x.row Gate / 8 % 2 ≡ 1 → IsTrue
       x.ghost.listed.closed
   ends_by x None k e = end_mark (is_some_item x.ghost.listed.messages) x.ghost.gave x.ghost.listed.closed false (ap (λ z. z / 8 % 2)
       (sym k.word) ∙ e)
   ends_by x (Some h) k e = end_mark (is_some_item x.ghost.listed.messages) x.ghost.gave x.ghost.listed.closed true (ap (λ z. z / 8 % 2) (sym
       k.word) ∙ e)
 
-  gave_by : (x : Place) (keeper : Option (ℕ × Lent)) → Shelving is_of journal mailbox rested given_by closed_to x keeper → x.row Gate % 8 ≡ 0 → (is_some_item
+  gave_by : (x : Place) (keeper : Option (ℕ × Lent)) → Shelving is_of journal mailbox rested given_by closed_to x keeper →
+      x.row Gate % 8 ≡ 0 → (is_some_item
       x.ghost.listed.messages ≡ false) × (x.ghost.gave ≡ false)
   gave_by x None k e = no_marks (is_some_item x.ghost.listed.messages) x.ghost.gave x.ghost.listed.closed false (ap (λ z. z % 8) (sym k.word) ∙ e)
   gave_by x (Some h) k e = no_marks (is_some_item x.ghost.listed.messages) x.ghost.gave x.ghost.listed.closed true (ap (λ z. z % 8) (sym k.word) ∙ e)
@@ -333,7 +337,8 @@ module _ {H : Type 0} (is_of : ℕ → H → Type 0) (journal : H → List Entry
     reads_allowed e = subst (λ j. Allows (Rule n) slots id me j (λ k. k) (Reads (step slots j 0 0 none) me)) (sym e)
         (allows word_offset slot_offset words_few slots_few n F slots id me actor Status (λ k. k) (Reads (step slots (word_at actor 0) 0 0 none)
         me) inside
-        (λ x vs f at fits. reads is_of journal mailbox rested given_by closed_to actor id me (Reads (step slots (word_at actor 0) 0 0 none) me (x.row Status)) x vs
+        (λ x vs f at fits. reads is_of journal mailbox rested given_by closed_to actor id me
+        (Reads (step slots (word_at actor 0) 0 0 none) me (x.row Status)) x vs
         f at (told_read x vs f at)))
 
     pub writes_allowed : (c : Held) (new : ℕ) → i ≡ word_at actor 0 → me.0.claim ≡ Some c → c.actor ≡ actor → IsTrue (is_valid new) → (new % 4 ≡
@@ -343,7 +348,8 @@ module _ {H : Type 0} (is_of : ℕ → H → Type 0) (journal : H → List Entry
         me new)) (sym e)
         (allows word_offset slot_offset words_few slots_few n F slots id me actor Status (λ _. new) (λ _. Writes (step slots (word_at actor 0)
         new 0 none) me new) inside
-        (λ x vs f at fits. writes is_of journal mailbox rested given_by closed_to actor id me c new (Writes (step slots (word_at actor 0) new 0 none) me new) x vs f
+        (λ x vs f at fits. writes is_of journal mailbox rested given_by closed_to actor id me c new
+        (Writes (step slots (word_at actor 0) new 0 none) me new) x vs f
         at has of valid busy closed refl))
 
     told_idle : (home : H) (st : Step (Slot H)) (k : ℕ) → me.1 ≡ (slot_at actor 0, Home home) ∷ [] → Idles journal st me k
@@ -357,10 +363,12 @@ module _ {H : Type 0} (is_of : ℕ → H → Type 0) (journal : H → List Entry
     pub idles_allowed : (c : Held) (home : H) (new : ℕ) → i ≡ word_at actor 0 → me.0.claim ≡ Some c → c.actor ≡ actor → me.1 ≡ (
       slot_at actor 0,
       Home home,
-    ) ∷ [] → is_of actor home → Extends (journal home) c.journal → given_by home ≡ c.given → Each (λ b. IsKnownClosed b c.closed_to me.0) (closed_to home)
+    ) ∷ [] → is_of actor home → Extends (journal home) c.journal → given_by home ≡ c.given → Each (λ b. IsKnownClosed b c.closed_to me.0)
+        (closed_to home)
         → c.word ≢ 1 → IsTrue (is_valid new) → new % 4 ≡ 0 → new ≡ word_of (mailbox home) → (c.gave ≡ false → rested home)
         → Allows (Rule n) slots id me i (λ _. new) (λ _. Idles journal (step slots i new 0 none) me new)
-    idles_allowed c home new e has of carried own longer count known unshut valid free word rest = subst (λ j. Allows (Rule n) slots id me j (λ _. new) (λ _.
+    idles_allowed c home new e has of carried own longer count known unshut valid free word rest = subst
+        (λ j. Allows (Rule n) slots id me j (λ _. new) (λ _.
         Idles journal (step slots j new 0 none) me new)) (sym e)
         (allows word_offset slot_offset words_few slots_few n F slots id me actor Status (λ _. new) (λ _. Idles journal
         (step slots (word_at actor 0) new 0 none) me new) inside
@@ -371,32 +379,39 @@ module _ {H : Type 0} (is_of : ℕ → H → Type 0) (journal : H → List Entry
     pub idles_closed_allowed : (c : Held) (home : H) → i ≡ word_at actor 1 → me.0.claim ≡ Some c → c.actor ≡ actor → me.1 ≡ (
       slot_at actor 0,
       Home home,
-    ) ∷ [] → is_of actor home → Extends (journal home) c.journal → given_by home ≡ c.given → Each (λ b. IsKnownClosed b c.closed_to me.0) (closed_to home)
+    ) ∷ [] → is_of actor home → Extends (journal home) c.journal → given_by home ≡ c.given → Each (λ b. IsKnownClosed b c.closed_to me.0)
+        (closed_to home)
         → c.word ≡ 1 → 1 ≡ word_of (mailbox home) → rested home
         → Allows (Rule n) slots id me i (λ _. 1) (λ _. Idles journal (step slots i 1 0 none) me 1)
-    idles_closed_allowed c home e has of carried own longer count known closed word rest = subst (λ j. Allows (Rule n) slots id me j (λ _. 1) (λ _. Idles journal (step slots j 1 0 none) me 1)) (sym e)
+    idles_closed_allowed c home e has of carried own longer count known closed word rest = subst
+        (λ j. Allows (Rule n) slots id me j (λ _. 1) (λ _. Idles journal (step slots j 1 0 none) me 1)) (sym e)
         (allows word_offset slot_offset words_few slots_few n F slots id me actor Flag (λ _. 1) (λ _. Idles journal (step
         slots (word_at actor 1) 1 0 none) me 1) inside
         (λ x vs f at fits. idles_closed is_of journal mailbox rested given_by closed_to actor id me c home (Idles journal (step slots (word_at
         actor 1) 1 0 none) me 1) x vs f at has of carried own longer count known closed word rest
         (told_idle home (step slots (word_at actor 1) 1 0 none) 1 carried)))
 
-    pub sends_allowed : (g : ℕ → ℕ) (k : ℕ) → ((w : ℕ) → g w % 2 ^ 64 ≡ (w + k) % 2 ^ 64) → i ≡ word_at actor 4 → Allows (Rule n) slots id me i g (Sends (step slots i k 0 none) me)
+    pub sends_allowed : (g : ℕ → ℕ) (k : ℕ) → ((w : ℕ) → g w % 2 ^ 64 ≡ (w + k) % 2 ^ 64) → i ≡ word_at actor 4 → Allows
+        (Rule n) slots id me i g (Sends (step slots i k 0 none) me)
     sends_allowed g k more e = subst (λ j. Allows (Rule n) slots id me j g (Sends (step slots j k 0 none) me)) (sym e)
         (allows word_offset slot_offset words_few slots_few n F slots id me actor Waiting g (Sends (step slots (word_at actor 4) k 0 none) me) inside
-        (λ x vs f at fits. sends is_of journal mailbox rested given_by closed_to actor id (g (x.row Waiting)) k me (Sends (step slots (word_at actor 4) k 0 none) me
+        (λ x vs f at fits. sends is_of journal mailbox rested given_by closed_to actor id (g (x.row Waiting)) k me
+        (Sends (step slots (word_at actor 4) k 0 none) me
         (x.row Waiting)) x vs f at (more (x.row Waiting))
         (λ a w z. (sending (same_actor actor a 4 w z) k me.0, me.1))))
 
-    pub unsends_allowed : (g : ℕ → ℕ) (k : ℕ) → ((w : ℕ) → (g w + k) % 2 ^ 64 ≡ w % 2 ^ 64) → i ≡ word_at actor 4 → Allows (Rule n) slots id me i g (Unsends (step slots i k 0 none) me)
+    pub unsends_allowed : (g : ℕ → ℕ) (k : ℕ) → ((w : ℕ) → (g w + k) % 2 ^ 64 ≡ w % 2 ^ 64) → i ≡ word_at actor 4 → Allows
+        (Rule n) slots id me i g (Unsends (step slots i k 0 none) me)
     unsends_allowed g k less e = subst (λ j. Allows (Rule n) slots id me j g (Unsends (step slots j k 0 none) me)) (sym e)
         (allows word_offset slot_offset words_few slots_few n F slots id me actor Waiting g (Unsends (step slots (word_at actor 4) k 0 none) me)
         inside
-        (λ x vs f at fits. unsends is_of journal mailbox rested given_by closed_to actor id (g (x.row Waiting)) k me (Unsends (step slots (word_at actor 4) k 0 none)
+        (λ x vs f at fits. unsends is_of journal mailbox rested given_by closed_to actor id (g (x.row Waiting)) k me
+        (Unsends (step slots (word_at actor 4) k 0 none)
         me (x.row Waiting)) x vs f at (less (x.row Waiting))
         (λ a w z. (unsending (same_actor actor a 4 w z) k me.0, me.1))))
 
-    pub takes_allowed : (c : Held) (g : ℕ → ℕ) (k : ℕ) → ((w : ℕ) → (g w + k) % 2 ^ 64 ≡ w % 2 ^ 64) → i ≡ word_at actor 4 → me.0.claim ≡ Some c → c.actor ≡ actor → Allows (Rule n) slots id
+    pub takes_allowed : (c : Held) (g : ℕ → ℕ) (k : ℕ) → ((w : ℕ) → (g w + k) % 2 ^ 64 ≡ w % 2 ^ 64) → i ≡ word_at actor 4 →
+        me.0.claim ≡ Some c → c.actor ≡ actor → Allows (Rule n) slots id
         me i g (CountsOff (step slots i k 0 none) me)
     takes_allowed c g k less e has of = subst (λ j. Allows (Rule n) slots id me j g (CountsOff (step slots j k 0 none) me)) (sym e)
         (allows word_offset slot_offset words_few slots_few n F slots id me actor Waiting g (CountsOff (step slots
@@ -409,7 +424,8 @@ module _ {H : Type 0} (is_of : ℕ → H → Type 0) (journal : H → List Entry
     counts_allowed e = subst (λ j. Allows (Rule n) slots id me j (λ k. k) (Counts (step slots j 0 0 none) me)) (sym e)
         (allows word_offset slot_offset words_few slots_few n F slots id me actor Waiting (λ k. k) (Counts (step slots (word_at actor 4) 0 0
         none) me) inside
-        (λ x vs f at fits. counts is_of journal mailbox rested given_by closed_to actor id me (Counts (step slots (word_at actor 4) 0 0 none) me (x.row Waiting)) x
+        (λ x vs f at fits. counts is_of journal mailbox rested given_by closed_to actor id me
+        (Counts (step slots (word_at actor 4) 0 0 none) me (x.row Waiting)) x
         vs f at
         (λ a w z. (counting (same_actor actor a 4 w z) (x.row Waiting) me.0, me.1))))
 
@@ -417,7 +433,8 @@ module _ {H : Type 0} (is_of : ℕ → H → Type 0) (journal : H → List Entry
     looks_allowed e = subst (λ j. Allows (Rule n) slots id me j (λ k. k) (Looks (step slots j 0 0 none) me)) (sym e)
         (allows word_offset slot_offset words_few slots_few n F slots id me actor Gate (λ k. k) (Looks (step slots (word_at actor 2) 0 0 none)
         me) inside
-        (λ x vs f at fits. looks is_of journal mailbox rested given_by closed_to actor id me (shows_work (x.row Gate)) (Looks (step slots (word_at actor 2) 0 0
+        (λ x vs f at fits. looks is_of journal mailbox rested given_by closed_to actor id me (shows_work (x.row Gate))
+        (Looks (step slots (word_at actor 2) 0 0
         none) me (x.row Gate)) x vs (shown_by x x.ghost.keeper f.shelf) f at
         (λ a w z. (looking (same_actor actor a 2 w z) (shows_work (x.row Gate)) me.0, me.1))))
 
@@ -445,7 +462,8 @@ module _ {H : Type 0} (is_of : ℕ → H → Type 0) (journal : H → List Entry
           }),
           (λ miss. absurd (miss hit)),
         ))))
-        (λ miss. glances is_of journal mailbox rested given_by closed_to actor id Gate me tell x vs f at (λ a w. ((λ hit. absurd (miss hit)), (λ _. refl))))))
+        (λ miss. glances is_of journal mailbox rested given_by closed_to actor id Gate me tell x vs f at
+        (λ a w. ((λ hit. absurd (miss hit)), (λ _. refl))))))
 
     told_enlist : (l : Lent) (m : SysMsg) (st : Step (Slot H)) (k : ℕ) → me.0.list ≡ Some l → l.actor ≡ actor → me.1 ≡ (
       slot_at actor 1,
@@ -478,7 +496,8 @@ module _ {H : Type 0} (is_of : ℕ → H → Type 0) (journal : H → List Entry
         me new)) (sym e)
         (allows word_offset slot_offset words_few slots_few n F slots id me actor Gate (λ _. new) (λ _. Enlists (step slots (word_at actor 2) new
         0 none) me new) inside
-        (λ x vs f at fits. enlists is_of journal mailbox rested given_by closed_to actor id new me l m (Enlists (step slots (word_at actor 2) new 0 none) me new) x
+        (λ x vs f at fits. enlists is_of journal mailbox rested given_by closed_to actor id new me l m
+        (Enlists (step slots (word_at actor 2) new 0 none) me new) x
         vs f at has of carried word
         (told_enlist l m (step slots (word_at actor 2) new 0 none) new has of carried)))
 
@@ -513,7 +532,8 @@ module _ {H : Type 0} (is_of : ℕ → H → Type 0) (journal : H → List Entry
         (allows word_offset slot_offset words_few slots_few n F slots id me actor Gate (λ _. new) (λ _. Ends (step slots (word_at actor 2) new 0
         none) me new) inside
         (λ x vs f at fits.
-        let gave : l.gave ≡ c.gave = (is_lent is_of journal mailbox rested given_by closed_to actor id x vs me.0 l f at keeps of_list).1.gave ∙ sym (is_held is_of
+        let gave : l.gave ≡ c.gave = (is_lent is_of journal mailbox rested given_by closed_to actor id x vs me.0 l f at keeps of_list).1.gave
+        ∙ sym (is_held is_of
         journal mailbox rested given_by closed_to actor id x vs me.0 c f at has of).1.gave in
         unloads is_of journal mailbox rested given_by closed_to actor id new (Ended actor (listed l.listed)) me c l (ended l.listed)
         l.gave (Ends (step slots (word_at actor 2) new 0 none) me new) x vs f at
@@ -535,13 +555,17 @@ module _ {H : Type 0} (is_of : ℕ → H → Type 0) (journal : H → List Entry
         me) inside
         (λ x vs f at fits. let tell = Glances (step slots (word_at actor 2) 0 0 none) me (x.row Gate) in
         dite (ℕ_discrete (x.row Gate % 8) 0)
-        (λ hit. sees is_of journal mailbox rested given_by closed_to actor id Gate (Drained actor []) me tell x vs (λ a y e. record { before = []; after = all_numbered y.ghost; joined = refl }) (λ a. (refl, refl)) f at
+        (λ hit. sees is_of journal mailbox rested given_by closed_to actor id Gate (Drained actor []) me tell x vs
+        (λ a y e. record { before = []; after = all_numbered y.ghost; joined = refl }) (λ a. (refl, refl)) f at
         (λ a c w has of bare. let who : actor ≡ a = same_actor actor a 2 w in
-        let gave : c.gave ≡ false = (is_held is_of journal mailbox rested given_by closed_to actor id x vs me.0 c f at has (of ∙ sym who)).1.gave ∙ (gave_by x
+        let gave : c.gave ≡ false = (is_held is_of journal mailbox rested given_by closed_to actor id x vs me.0 c f at has
+        (of ∙ sym who)).1.gave ∙ (gave_by x
         x.ghost.keeper f.shelf hit).1 in
         let small : c.given < 2 ^ 64 = (let one = (is_held is_of journal mailbox rested given_by closed_to actor id x vs me.0 c f at has (of ∙ sym
-        who)).1.count in let two = f.listing.counted in omega arith) in
-        ((λ _ z. ((drained_nothing actor c me.0 has bare gave small ∙ (λ j. draining (who j) [] false me.0)) z, me.1)), (λ miss. absurd (miss hit)))))
+        who)).1.count in let two = f.listing.counted in omega arith) in (
+          (λ _ z. ((drained_nothing actor c me.0 has bare gave small ∙ (λ j. draining (who j) [] false me.0)) z, me.1)),
+          (λ miss. absurd (miss hit)),
+        )))
         (λ miss. glances is_of journal mailbox rested given_by closed_to actor id Gate me tell x vs f at (λ a c w has of bare. (
           (λ hit. absurd (miss hit)),
           (λ _.
@@ -557,15 +581,18 @@ module _ {H : Type 0} (is_of : ℕ → H → Type 0) (journal : H → List Entry
         (λ x vs f at fits. let tell = Refuses (step slots (word_at actor 2) old old (some (Note m))) me (x.row Gate) in
         exchanged (x.row Gate) old old (λ k. Goes word_offset slot_offset F actor id me Gate k tell x vs)
         (λ hit. subst (λ k. Goes word_offset slot_offset F actor id me Gate k tell x vs) hit
-        (refuses is_of journal mailbox rested given_by closed_to actor id me m tell x vs f at (ends_by x x.ghost.keeper f.shelf (ap (λ k. k / 8 % 2) hit ∙ shut))
+        (refuses is_of journal mailbox rested given_by closed_to actor id me m tell x vs f at
+        (ends_by x x.ghost.keeper f.shelf (ap (λ k. k / 8 % 2) hit ∙ shut))
         (λ a m' w said. let who : actor ≡ a = same_actor actor a 2 w in let what : m ≡ m' = note_same {H = H} m m' said in
         ((λ _ z. (refusing (who z) (what z) me.0, me.1)), (λ miss. absurd (miss hit))))))
-        (λ miss. glances is_of journal mailbox rested given_by closed_to actor id Gate me tell x vs f at (λ a m' w said. ((λ hit. absurd (miss hit)), (λ _. refl))))))
+        (λ miss. glances is_of journal mailbox rested given_by closed_to actor id Gate me tell x vs f at
+        (λ a m' w said. ((λ hit. absurd (miss hit)), (λ _. refl))))))
 
   module _ (n id : ℕ) where
     -- a view is copied for a seat more
     pub copies_allowed : (v : View) → v.claim ≡ None → v.list ≡ None → Splits (Rule n) id v v (copied v)
-    copies_allowed v bare no_list = splits word_offset slot_offset words_few slots_few n F id v v (copied v) (parts is_of journal mailbox rested given_by
+    copies_allowed v bare no_list = splits word_offset slot_offset words_few slots_few n F id v v (copied v)
+        (parts is_of journal mailbox rested given_by
         closed_to id v v (copied v) refl bare no_list no_list no_list refl
         (λ a. record { on = no_more (on_by a v) _ (no_counts_on a v.log); off = no_more (off_by a v) _ (no_counts_off a v.log) })
         (λ b. vouches_without b v.log) (λ a x k. k) (λ a x k. record { seen = each_without (IsSo a x) v.log k.seen; said = k.said }))
@@ -574,7 +601,8 @@ module _ {H : Type 0} (is_of : ℕ → H → Type 0) (journal : H → List Entry
     pub claims_allowed : (v : View) → v.list ≡ None → Splits (Rule n) id v (claim_alone v) (without_claim v)
     claims_allowed v no_list = splits word_offset slot_offset words_few slots_few n F id v (claim_alone v) (without_claim v)
         (parts is_of journal mailbox rested given_by closed_to id v (claim_alone v) (without_claim v) refl refl no_list refl no_list refl
-        (λ a. record { on = none_more (on_by a v); off = none_more (off_by a v) }) (λ b p. p) (λ a x k. record { seen = tt; said = tt }) (λ a x k. record
+        (λ a. record { on = none_more (on_by a v); off = none_more (off_by a v) }) (λ b p. p) (λ a x k. record { seen = tt; said = tt })
+        (λ a x k. record
         { seen = k.seen; said = k.said }))
 
     pub joins_allowed : (v : View) (other : ℕ) (w : View) → w.claim ≡ None → w.list ≡ None → Joins (Rule n) id v other w (taking_over v w) blank
@@ -586,7 +614,8 @@ module _ {H : Type 0} (is_of : ℕ → H → Type 0) (journal : H → List Entry
     takes_in_allowed v other w bare no_list = joins word_offset slot_offset words_few slots_few n F id v other w (taking_in v w) blank (takes_over
         is_of journal mailbox rested given_by closed_to id v other w w.said (inr refl) bare no_list)
 
-module _ {H : Type 0} (all_of : H → ℕ → H → Type 0) (first : Snapshot H) (journal : H → List Entry) (mailbox : H → Mailbox) (rested : H → Type 0) (given_by : H → ℕ) (closed_to : H → List ℕ) where
+module _ {H : Type 0} (all_of : H → ℕ → H → Type 0) (first : Snapshot H) (journal : H → List Entry) (mailbox : H → Mailbox)
+    (rested : H → Type 0) (given_by : H → ℕ) (closed_to : H → List ℕ) where
   abbrev G : ℕ → Spot Word Shelf (Slot H) Ghost → List View → Type 0
   G = Fact (all_of first.value) journal mailbox rested given_by closed_to
 
@@ -595,16 +624,27 @@ module _ {H : Type 0} (all_of : H → ℕ → H → Type 0) (first : Snapshot H)
 
   module _ (n slots id : ℕ) (me : N) (actor i : ℕ) (inside : actor < n) where
     -- a seat that knows the first home tries to schedule the actor
-    pub schedules_allowed : (old new : ℕ) (note : Slot H) → note ≡ First first → i ≡ word_at actor 0 → old % 4 ≡ 0 → new ≡ old + 2 → me.0.claim ≡ None
-        → Allows (Ruled word_offset slot_offset n G) slots id me i (λ k. either (k == old) new k) (Schedules all_of journal mailbox rested given_by closed_to (step slots i old new (some note)) me)
-    schedules_allowed old new note is_note e free is_new bare = subst (λ j. Allows (Ruled word_offset slot_offset n G) slots id me j (λ k. either (k == old) new k) (Schedules all_of journal mailbox rested given_by closed_to (step slots j old new (some note)) me)) (sym e)
-        (allows word_offset slot_offset words_few slots_few n G slots id me actor Status (λ k. either (k == old) new k) (Schedules all_of journal mailbox rested given_by closed_to (step slots (word_at actor 0) old new (some note)) me) inside
-        (λ x vs f at fits. let tell = Schedules all_of journal mailbox rested given_by closed_to (step slots (word_at actor 0) old new (some note)) me (x.row Status) in
+    pub schedules_allowed : (old new : ℕ) (note : Slot H) → note ≡ First first → i ≡ word_at actor 0 → old % 4 ≡ 0 → new ≡ old + 2 →
+        me.0.claim ≡ None
+        → Allows (Ruled word_offset slot_offset n G) slots id me i (λ k. either (k == old) new k)
+        (Schedules all_of journal mailbox rested given_by closed_to (step slots i old new (some note)) me)
+    schedules_allowed old new note is_note e free is_new bare = subst
+        (λ j. Allows (Ruled word_offset slot_offset n G) slots id me j (λ k. either (k == old) new k)
+        (Schedules all_of journal mailbox rested given_by closed_to (step slots j old new (some note)) me)) (sym e)
+        (allows word_offset slot_offset words_few slots_few n G slots id me actor Status (λ k. either (k == old) new k)
+        (Schedules all_of journal mailbox rested given_by closed_to (step slots (word_at actor 0) old new (some note)) me) inside
+        (λ x vs f at fits. let tell = Schedules all_of journal mailbox rested given_by closed_to
+        (step slots (word_at actor 0) old new (some note)) me (x.row Status) in
         exchanged (x.row Status) old new (λ k. Goes word_offset slot_offset G actor id me Status k tell x vs)
-        (λ hit. let here : x.row Status % 4 ≡ 0 = ap (λ k. k % 4) hit ∙ free in let h = is_home (all_of first.value) journal mailbox rested given_by closed_to actor x vs f here in
+        (λ hit. let here : x.row Status % 4 ≡ 0 = ap (λ k. k % 4) hit ∙ free in let h = is_home
+        (all_of first.value) journal mailbox rested given_by closed_to actor x vs f here in
         subst (λ k. Goes word_offset slot_offset G actor id me Status k tell x vs) (sym is_new)
         (schedules (all_of first.value) journal mailbox rested given_by closed_to actor id me old tell x vs f at here hit bare
-        (λ a other w said. subst (λ (b : ℕ × Snapshot H). (let now : N = (taking actor x.ghost.journal x.ghost.closed_to old x.ghost.gave x.ghost.listed.given me.0, (slot_at actor 0, Home h.1.home) ∷ me.1) in
+        (λ a other w said. subst (λ (b : ℕ × Snapshot H).
+        (let now : N = (
+          taking actor x.ghost.journal x.ghost.closed_to old x.ghost.gave x.ghost.listed.given me.0,
+          (slot_at actor 0, Home h.1.home) ∷ me.1,
+        ) in
         (x.row Status ≡ old → Won (all_of b.1.value) journal mailbox rested given_by closed_to b.0 (x.row Status) me now)
         × (x.row Status ≢ old → (now ≡ (reading b.0 (x.row Status) me.0, me.1)) × IsTrue (is_valid (x.row Status)) × StaysClosed b.0 (x.row Status)
         me.0))) (λ z. (same_actor actor a 0 w z, first_same_home first other (sym (ap (λ (y : Slot H). some y) is_note) ∙ said) z)) (
@@ -614,8 +654,13 @@ module _ {H : Type 0} (all_of : H → ℕ → H → Type 0) (first : Snapshot H)
             word = h.1.word;
             gave = x.ghost.gave;
             rest = λ no. h.1.rest (inr no);
-            seen = subst (λ j. GoesOn actor j me.0) (sym h.1.fold) (goes_further (all_of first.value) journal mailbox rested given_by closed_to actor x me.0 f.ended (λ one. omega arith) (f.seen id me.0 at));
-            now = λ z. (taking actor (sym h.1.fold z) (sym h.1.shut z) (sym hit z) x.ghost.gave (sym h.1.count z) me.0, (slot_at actor 0, Home h.1.home) ∷ me.1);
+            seen = subst (λ j. GoesOn actor j me.0) (sym h.1.fold)
+                (goes_further (all_of first.value) journal mailbox rested given_by closed_to actor x me.0 f.ended (λ one. omega arith)
+                (f.seen id me.0 at));
+            now = λ z. (
+              taking actor (sym h.1.fold z) (sym h.1.shut z) (sym hit z) x.ghost.gave (sym h.1.count z) me.0,
+              (slot_at actor 0, Home h.1.home) ∷ me.1,
+            );
           }),
           (λ miss. absurd (miss hit)),
         ))))

@@ -97,7 +97,8 @@ pub still_balanced : (actor n : ℕ) (vs : List View) (id : ℕ) (v w : View) �
 still_balanced actor n vs id v w at same b = ap (λ k. (n + k) % 2 ^ 64) (total_stays (off_by actor) vs id v w at same.off) ∙ (b ∙ sym (ap (λ k. k
     % 2 ^ 64) (total_stays (on_by actor) vs id v w at same.on)))
 
-module _ {H : Type 0} (is_of : ℕ → H → Type 0) (journal : H → List Entry) (mailbox : H → Mailbox) (rested : H → Type 0) (given_by : H → ℕ) (closed_to : H → List ℕ) (actor : ℕ) where
+module _ {H : Type 0} (is_of : ℕ → H → Type 0) (journal : H → List Entry) (mailbox : H → Mailbox) (rested : H → Type 0) (given_by : H → ℕ)
+    (closed_to : H → List ℕ) (actor : ℕ) where
   abbrev Place : Type 0
   Place = Spot Word Shelf (Slot H) Ghost
 
@@ -106,7 +107,8 @@ module _ {H : Type 0} (is_of : ℕ → H → Type 0) (journal : H → List Entry
 
   pub still_kept : (x y : Place) → y.row Status ≡ x.row Status → y.row Flag ≡ x.row Flag → y.slot CellShelf ≡ x.slot CellShelf → y.ghost.journal
       ≡ x.ghost.journal → y.ghost.closed_to ≡ x.ghost.closed_to → y.ghost.listed.given ≡ x.ghost.listed.given → y.ghost.gave ≡ x.ghost.gave
-      → (holder : Option (ℕ × Held)) → Keeping is_of journal mailbox rested given_by closed_to actor x holder → Keeping is_of journal mailbox rested given_by closed_to actor y holder
+      → (holder : Option (ℕ × Held)) → Keeping is_of journal mailbox rested given_by closed_to actor x holder →
+      Keeping is_of journal mailbox rested given_by closed_to actor y holder
   still_kept x y status flag slot tale shut count gave None k = record {
     home = k.home;
     there = slot ∙ k.there;
@@ -132,7 +134,8 @@ module _ {H : Type 0} (is_of : ℕ → H → Type 0) (journal : H → List Entry
 
   pub still_shelved : (x y : Place) → y.row Gate ≡ x.row Gate → y.slot ListShelf ≡ x.slot ListShelf → y.ghost.listed ≡ x.ghost.listed →
       y.ghost.gave ≡ x.ghost.gave
-      → (keeper : Option (ℕ × Lent)) → Shelving is_of journal mailbox rested given_by closed_to x keeper → Shelving is_of journal mailbox rested given_by closed_to y keeper
+      → (keeper : Option (ℕ × Lent)) → Shelving is_of journal mailbox rested given_by closed_to x keeper →
+      Shelving is_of journal mailbox rested given_by closed_to y keeper
   still_shelved x y gate slot items gave None k = record {
     there = slot ∙ (k.there ∙ ap (λ (l : MessageList). some (some (Listing l))) (sym items));
     word = gate ∙ (k.word ∙ (λ i. gate_word false (sym items i) (sym gave i)));

@@ -111,11 +111,13 @@ module _ (fs : List Bool) (a : ℕ) (inside : 2 * a + 2 ≤ length fs) where
   still_filled k l e = get_or-set_other (set fs (slot_at a 0) false) (slot_at a 1) k false false (λ n. omega arith) ∙ (get_or-set_other fs
       (slot_at a 0) k false false (λ n. omega arith) ∙ e)
 
-module _ {H : Type 0} (is_of : ℕ → H → Type 0) (journal : H → List Entry) (mailbox : H → Mailbox) (rested : H → Type 0) (given_by : H → ℕ) (closed_to : H → List ℕ) where
+module _ {H : Type 0} (is_of : ℕ → H → Type 0) (journal : H → List Entry) (mailbox : H → Mailbox) (rested : H → Type 0) (given_by : H → ℕ)
+    (closed_to : H → List ℕ) where
   abbrev Place : Type 0
   Place = Spot Word Shelf (Slot H) Ghost
 
-  at_home : (actor : ℕ) (x : Place) (holder : Option (ℕ × Held)) → Keeping is_of journal mailbox rested given_by closed_to actor x holder → (x.row Status % 4 ≡ 0) ⊎
+  at_home : (actor : ℕ) (x : Place) (holder : Option (ℕ × Held)) → Keeping is_of journal mailbox rested given_by closed_to actor x holder →
+      (x.row Status % 4 ≡ 0) ⊎
       (x.row Flag ≡ 1) → IsHome is_of journal mailbox rested given_by closed_to actor x
   at_home actor x None k c = k
   at_home actor x (Some h) k c = absurd (⊎_elim (λ z. ⊎_elim (λ b. omega arith) (λ b. omega arith) k.busy) (λ o. let g = k.flag in omega arith) c)
@@ -132,7 +134,8 @@ module _ {H : Type 0} (is_of : ℕ → H → Type 0) (journal : H → List Entry
     found : (k m : ℕ) → get_elem? ws k ≡ some m → slice_index s.words k ≡ m
     found k m e = ap (λ z. slice_index z k) words ∙ word_here ws k m e
 
-    some_left : (left : Left H) → IsTakenOut ws xs actor (Some left) → IsLeft is_of journal mailbox rested given_by closed_to actor here v (Some left)
+    some_left : (left : Left H) → IsTakenOut ws xs actor (Some left) → IsLeft is_of journal mailbox rested given_by closed_to actor here v
+        (Some left)
     some_left left t =
         let f = r.each actor inside in
         let status = found (word_at actor 0) t.0.status t.0.status_is in
@@ -182,7 +185,8 @@ module _ {H : Type 0} (is_of : ℕ → H → Type 0) (journal : H → List Entry
         at : (k : ℕ) → k < 16 * n → get_elem? ws k ≡ some (slice_index s.words k)
         at k l = subst (λ z. get_elem? z k ≡ some (slice_index s.words k)) words (word_there s.words k (let wide = r.wide in omega arith))
 
-        cases : (holder : Option (ℕ × Held)) (keeper : Option (ℕ × Lent)) → Keeping is_of journal mailbox rested given_by closed_to actor here holder → Shelving is_of
+        cases : (holder : Option (ℕ × Held)) (keeper : Option (ℕ × Lent)) →
+            Keeping is_of journal mailbox rested given_by closed_to actor here holder → Shelving is_of
             journal mailbox rested given_by closed_to here keeper → (holder ≢ None) ⊎ (keeper ≢ None)
         cases (Some h) keeper k l = inl (λ e. cc)
         cases None (Some h) k l = inr (λ e. cc)
@@ -204,7 +208,8 @@ module _ {H : Type 0} (is_of : ℕ → H → Type 0) (journal : H → List Entry
   -- what was taken out of each is what is left of it
   pub are_left : (n : ℕ) (v : View) (id : ℕ) (ws : List ℕ) (xs : List (Slot H)) (all : List (Option (Left H)))
       → Final (Seen (Ruled word_offset slot_offset n (Fact is_of journal mailbox rested given_by closed_to)) id v) ws xs → length all ≡ n
-      → ((a : ℕ) (left : Option (Left H)) → slice_get all a ≡ Some left → IsTakenOut ws xs a left) → AreLeft is_of journal mailbox rested given_by closed_to n v all
+      → ((a : ℕ) (left : Option (Left H)) → slice_get all a ≡ Some left → IsTakenOut ws xs a left) →
+      AreLeft is_of journal mailbox rested given_by closed_to n v all
   are_left n v id ws xs all final many each = record {
     state = final.0;
     rule = final.1.0;

@@ -1,5 +1,6 @@
 -- The steps on the gate of an actor's list keep the rule.
-use Rattle.std.proofs.Common.{◌≡◌, ℕ, ◌+◌, ◌%◌, if◌then◌else◌, ◌⊎◌, ⊎_elim, Bool, true, false, ◌||◌, IsTrue, List, [], ◌∷◌, ◌++◌, set, sym, refl, ap, ◌∙◌, subst, Option, Some, None, append_assoc, append-nil, length, length-append, arith}
+use Rattle.std.proofs.Common.{◌≡◌, ℕ, ◌+◌, ◌%◌, if◌then◌else◌, ◌⊎◌, ⊎_elim, Bool, true, false, ◌||◌, IsTrue, List, [], ◌∷◌, ◌++◌, set, sym}
+use Rattle.std.proofs.Common.{refl, ap, ◌∙◌, subst, Option, Some, None, append_assoc, append-nil, length, length-append, arith}
 use mathlib.Core.Option.{none, some}
 use lib.ListN.{get_elem?}
 use Rattle.mb_status.specs.Mailbox.{Mailbox}
@@ -18,8 +19,11 @@ use Rattle.mb_rule.proofs.SeenLemmas.{learns}
 use Rattle.mb_gate.specs.declared.slot.Slot.{Slot}
 use Rattle.mb_gate.specs.declared.slot.Slot.TheVariants.{List as Listing}
 use Rattle.mb_gate.specs.View.{View, Sight, Read, Pushed, Held, Lent, owes, lending, enlisting, refusing, given_after, regiven, unloading}
-use Rattle.mb_gate.specs.Rule.{Word, Waiting, Gate, word_offset, Shelf, ListShelf, slot_offset, Ghost, is_some_item, gate_word, held_of, lent_of, claim_for, list_for, IsSo, IsAmong, IsPart, Vouches, all_numbered, Knows, MessageDue, SystemDue, PaysMessage, PaysSystem, IsShelved, IsLent, Shelving, Fact}
-use Rattle.mb_gate.proofs.Views.{CountsNothing, counts_no_more, held_here, held_else, lent_here, lent_else, owes_here, owes_else, extends_self, Grown, grown, goes_on}
+use Rattle.mb_gate.specs.Rule.{Word, Waiting, Gate, word_offset, Shelf, ListShelf, slot_offset, Ghost, is_some_item, gate_word, held_of}
+use Rattle.mb_gate.specs.Rule.{lent_of, claim_for, list_for, IsSo, IsAmong, IsPart, Vouches, all_numbered, Knows, MessageDue, SystemDue}
+use Rattle.mb_gate.specs.Rule.{PaysMessage, PaysSystem, IsShelved, IsLent, Shelving, Fact}
+use Rattle.mb_gate.proofs.Views.{CountsNothing, counts_no_more, held_here, held_else, lent_here, lent_else, owes_here, owes_else}
+use Rattle.mb_gate.proofs.Views.{extends_self, Grown, grown, goes_on}
 use Rattle.mb_gate.proofs.Numbers.{among_more, pushed_so, part_so, length_numbered}
 use Rattle.mb_gate.proofs.Facts.{still_kept, still_balanced, views_change, elsewhere, load_here}
 use Rattle.mb_gate.proofs.StatusSteps.{is_held}
@@ -41,7 +45,8 @@ gate_out l gave = omega arith
 pub gate_even : (l : MessageList) (gave : Bool) → gate_word false l gave % 2 ≡ 0
 gate_even l gave = let b = bits (is_some_item l.messages) gave l.closed in omega arith
 
-module _ {H : Type 0} (is_of : ℕ → H → Type 0) (journal : H → List Entry) (mailbox : H → Mailbox) (rested : H → Type 0) (given_by : H → ℕ) (closed_to : H → List ℕ) where
+module _ {H : Type 0} (is_of : ℕ → H → Type 0) (journal : H → List Entry) (mailbox : H → Mailbox) (rested : H → Type 0) (given_by : H → ℕ)
+    (closed_to : H → List ℕ) where
   abbrev F : ℕ → Spot Word Shelf (Slot H) Ghost → List View → Type 0
   F = Fact is_of journal mailbox rested given_by closed_to
 
@@ -51,7 +56,8 @@ module _ {H : Type 0} (is_of : ℕ → H → Type 0) (journal : H → List Entry
   abbrev Place : Type 0
   Place = Spot Word Shelf (Slot H) Ghost
 
-  no_keeper : (x : Place) (keeper : Option (ℕ × Lent)) → x.row Gate % 2 ≡ 0 → Shelving is_of journal mailbox rested given_by closed_to x keeper → keeper ≡ None
+  no_keeper : (x : Place) (keeper : Option (ℕ × Lent)) → x.row Gate % 2 ≡ 0 →
+      Shelving is_of journal mailbox rested given_by closed_to x keeper → keeper ≡ None
   no_keeper x None even k = refl
   no_keeper x (Some h) even k = absurd (let w = k.word in let o = gate_out x.ghost.listed x.ghost.gave in let e = gate_even x.ghost.listed
       x.ghost.gave in omega arith)
@@ -132,7 +138,11 @@ module _ {H : Type 0} (is_of : ℕ → H → Type 0) (journal : H → List Entry
       let h = is_lent actor id x vs v l f at has of in
       let w = enlisting actor (pushed l.listed) m v in
       let d : Debt = record (owes actor v) { system = true } in
-      let u : View = record v { log = Pushed actor (pushed l.listed) m ∷ v.log; list = None; said = record { to = actor; message = m; was_ended = false } ∷ v.said } in
+      let u : View = record v {
+        log = Pushed actor (pushed l.listed) m ∷ v.log;
+        list = None;
+        said = record { to = actor; message = m; was_ended = false } ∷ v.said;
+      } in
       let g : Ghost = record x.ghost { keeper = None; listed = with_last l.listed m; pushed = x.ghost.pushed ++ m ∷ [] } in
       let same_end : IsTrue x.ghost.listed.closed → IsTrue l.listed.closed = (λ e. ap (λ (z : MessageList). z.closed) h.1.taken ∙ e) in
       let y : Place = record {
@@ -141,7 +151,13 @@ module _ {H : Type 0} (is_of : ℕ → H → Type 0) (journal : H → List Entry
             m)));
         ghost = g;
       } in
-      let grows : Grown x y = record { still = same_end; closed = λ one. one; longer = extends_self x.ghost.journal; more = m ∷ []; pushed = refl } in
+      let grows : Grown x y = record {
+        still = same_end;
+        closed = λ one. one;
+        longer = extends_self x.ghost.journal;
+        more = m ∷ [];
+        pushed = refl;
+      } in
       record {
         view = w;
         deed = gives_to ListShelf (Listing (with_last l.listed m));
@@ -283,8 +299,10 @@ module _ {H : Type 0} (is_of : ℕ → H → Type 0) (journal : H → List Entry
     deed = stays;
     kept = x.ghost;
     able = tt;
-    here = load_here is_of journal mailbox rested given_by closed_to actor x (set vs id w) Gate (views_change is_of journal mailbox rested given_by closed_to actor x vs id v w at refl
-        refl (record { on = refl; off = refl }) (λ _ p. p) (λ _ p. p) (λ k. record { seen = k.seen; said = ((λ _. ((λ _. shut), (λ e. absurd (cc)))), k.said) }) (λ b p. p) f);
+    here = load_here is_of journal mailbox rested given_by closed_to actor x (set vs id w) Gate
+        (views_change is_of journal mailbox rested given_by closed_to actor x vs id v w at refl
+        refl (record { on = refl; off = refl }) (λ _ p. p) (λ _ p. p)
+        (λ k. record { seen = k.seen; said = ((λ _. ((λ _. shut), (λ e. absurd (cc)))), k.said) }) (λ b p. p) f);
     others = λ a n y g. elsewhere is_of journal mailbox rested given_by closed_to a y vs id v w at (record {
       claim = refl;
       list = refl;

@@ -46,7 +46,8 @@ use Rattle.atomic_table.proofs.Lists.{set_else}
 use Rattle.std.proofs.lemmas.Bool.{eqb-true}
 use Rattle.mb_gate.specs.declared.slot.Slot.{Slot}
 use Rattle.mb_gate.proofs.Numbers.{among_left, among_right, among_first, among_more}
-use Rattle.mb_gate.specs.View.{View, Sight, Read, Saw, Counted, Looked, Sent, Unsent, Took, Pushed, Drained, Ended, Said, debt_of, owes, blank, either_owes, added_debts, without_counts, taking_over}
+use Rattle.mb_gate.specs.View.{View, Sight, Read, Saw, Counted, Looked, Sent, Unsent, Took, Pushed, Drained, Ended, Said, debt_of, owes}
+use Rattle.mb_gate.specs.View.{blank, either_owes, added_debts, without_counts, taking_over}
 use Rattle.mb_gate.specs.Waiting.{counted_on, counted_off, on_by, off_by, IsBalance}
 use Rattle.mb_gate.specs.Rule.{
   Word,
@@ -170,7 +171,8 @@ vouches_without b log is = subst (λ l. IsAmong (Read b 1) (without_counts l)) (
     from (Drained a given ∷ log) = among_more (Read b 1) (Drained a given) _ (from log)
     from (Ended a given ∷ log) = among_more (Read b 1) (Ended a given) _ (from log)
 
-module _ {H : Type 0} (is_of : ℕ → H → Type 0) (journal : H → List Entry) (mailbox : H → Mailbox) (rested : H → Type 0) (given_by : H → ℕ) (closed_to : H → List ℕ) where
+module _ {H : Type 0} (is_of : ℕ → H → Type 0) (journal : H → List Entry) (mailbox : H → Mailbox) (rested : H → Type 0) (given_by : H → ℕ)
+    (closed_to : H → List ℕ) where
   abbrev F : ℕ → Spot Word Shelf (Slot H) Ghost → List View → Type 0
   F = Fact is_of journal mailbox rested given_by closed_to
 
@@ -203,7 +205,8 @@ module _ {H : Type 0} (is_of : ℕ → H → Type 0) (journal : H → List Entry
 
   -- a seat takes over the view of one that has no claim and no list, and what one of the two said
   pub takes_over : (id : ℕ) (v : View) (other : ℕ) (w : View) (said : List Said) → (said ≡ v.said) ⊎ (said ≡ w.said) → w.claim ≡ None → w.list ≡ None
-      → (actor : ℕ) (x : Place) (vs : List View) → get_elem? vs id ≡ some v → ¬ (other ≡ id) → get_elem? (set vs id (record (taking_over v w) { said = said })) other ≡ some w
+      → (actor : ℕ) (x : Place) (vs : List View) → get_elem? vs id ≡ some v → ¬ (other ≡ id) → get_elem?
+      (set vs id (record (taking_over v w) { said = said })) other ≡ some w
       → F actor x vs → F actor x (set (set vs id (record (taking_over v w) { said = said })) other blank)
   takes_over id v other w said whose bare bare_list actor x vs at apart there f =
       let both : View = record (taking_over v w) { said = said } in

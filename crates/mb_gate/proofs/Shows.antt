@@ -104,13 +104,16 @@ scheduled_not_free : (w : ℕ) → IsTrue (mailbox_of w).scheduled → (w % 4 �
 scheduled_not_free w s (inl z) = grind (arith, nat_tests)
 scheduled_not_free w s (inr z) = grind (arith, nat_tests)
 
-module _ {H : Type 0} (is_of : ℕ → H → Type 0) (journal : H → List Entry) (mailbox : H → Mailbox) (rested : H → Type 0) (given_by : H → ℕ) (closed_to : H → List ℕ) where
-  held : (actor : ℕ) (x : Spot Word Shelf (Slot H) Ghost) (holder : Option (ℕ × Held)) → Keeping is_of journal mailbox rested given_by closed_to actor x holder →
+module _ {H : Type 0} (is_of : ℕ → H → Type 0) (journal : H → List Entry) (mailbox : H → Mailbox) (rested : H → Type 0) (given_by : H → ℕ)
+    (closed_to : H → List ℕ) where
+  held : (actor : ℕ) (x : Spot Word Shelf (Slot H) Ghost) (holder : Option (ℕ × Held)) →
+      Keeping is_of journal mailbox rested given_by closed_to actor x holder →
       IsTrue (mailbox_of (x.row Status)).scheduled → IsSome (holder_of holder)
   held actor x None k s = absurd (scheduled_not_free (x.row Status) s k.idle)
   held actor x (Some h) k s = refl
 
-  free : (actor : ℕ) (x : Spot Word Shelf (Slot H) Ghost) (holder : Option (ℕ × Held)) → Keeping is_of journal mailbox rested given_by closed_to actor x holder →
+  free : (actor : ℕ) (x : Spot Word Shelf (Slot H) Ghost) (holder : Option (ℕ × Held)) →
+      Keeping is_of journal mailbox rested given_by closed_to actor x holder →
       x.row Status % 4 ≡ 0 → IsNone (holder_of holder)
   free actor x None k z = refl
   free actor x (Some h) k z = absurd (⊎_elim (λ b. omega arith) (λ b. omega arith) k.busy)

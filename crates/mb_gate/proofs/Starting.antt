@@ -121,15 +121,25 @@ none_among a is = cases is.before is.joined
     cases [] e = cc
     cases (b ∷ bs) e = cc
 
-module _ {H : Type 0} (is_of : ℕ → H → Type 0) (journal : H → List Entry) (mailbox : H → Mailbox) (rested : H → Type 0) (given_by : H → ℕ) (closed_to : H → List ℕ) where
+module _ {H : Type 0} (is_of : ℕ → H → Type 0) (journal : H → List Entry) (mailbox : H → Mailbox) (rested : H → Type 0) (given_by : H → ℕ)
+    (closed_to : H → List ℕ) where
   abbrev begins : (hs : List H) → ℕ → Ghost
-  begins hs a = record { holder = None; journal = journal_at journal mailbox hs a; closed_to = []; keeper = None; listed = no_messages; gave = false; pushed = [] }
+  begins hs a = record {
+    holder = None;
+    journal = journal_at journal mailbox hs a;
+    closed_to = [];
+    keeper = None;
+    listed = no_messages;
+    gave = false;
+    pushed = [];
+  }
 
   pub starts : (n : ℕ) (hs : List H) (words : List ℕ) (slots : List (Slot H)) → n ≡ length hs → words ≡ rows_of mailbox hs → slots ≡ shelves_of hs
       → ((a : ℕ) (h : H) → slice_get hs a ≡ Some h → IsFresh is_of mailbox rested given_by closed_to a h)
       → Ruled word_offset slot_offset n (Fact is_of journal mailbox rested given_by closed_to) (opening words slots blank)
   starts n hs words slots many rows shelves fresh =
-      subst (λ (z : List ℕ × List (Slot H)). Ruled word_offset slot_offset n (Fact is_of journal mailbox rested given_by closed_to) (opening z.0 z.1 blank)) (λ i.
+      subst (λ (z : List ℕ × List (Slot H)). Ruled word_offset slot_offset n (Fact is_of journal mailbox rested given_by closed_to)
+      (opening z.0 z.1 blank)) (λ i.
       (sym rows i, sym shelves i)) record {
         ghosts = begins hs;
         wide = length-rows_of mailbox hs ∙ ap (λ k. 16 * k) (sym many);

@@ -73,7 +73,8 @@ use Rattle.mb_gate.specs.View.{
   draining,
 }
 use Rattle.mb_gate.specs.Waiting.{counted_on, counted_off, on_by, off_by}
-use Rattle.mb_gate.specs.Rule.{Word, Shelf, Ghost, Status, held_of, lent_of, claim_for, list_for, Extends, IsPart, Vouches, IsSo, IsAmong, IsTold, all_numbered, Knows}
+use Rattle.mb_gate.specs.Rule.{Word, Shelf, Ghost, Status, held_of, lent_of, claim_for, list_for, Extends, IsPart, Vouches, IsSo, IsAmong}
+use Rattle.mb_gate.specs.Rule.{IsTold, all_numbered, Knows}
 
 pub held_here : (actor : ℕ) (c : Held) → c.actor ≡ actor → held_of actor (Some c) ≡ Some c
 held_here actor c e = ap (λ b. if b then Some c else None) (eq-eqb c.actor actor e)
@@ -105,7 +106,8 @@ extends_more j k l a b = record {
 }
 
 -- a drain of nothing is seen alone, where the last drain gave nothing
-pub drained_nothing : (actor : ℕ) (c : Held) (v : View) → v.claim ≡ Some c → v.list ≡ None → c.gave ≡ false → c.given < 2 ^ 64 → seeing (Drained actor []) v ≡
+pub drained_nothing : (actor : ℕ) (c : Held) (v : View) → v.claim ≡ Some c → v.list ≡ None → c.gave ≡ false → c.given < 2 ^ 64 → seeing
+    (Drained actor []) v ≡
     draining actor [] false v
 drained_nothing actor c v has no_list gave small i = record v { log = Drained actor [] ∷ v.log; list = no_list i; claim = same i }
   where
@@ -187,10 +189,19 @@ module _ {H : Type 0} where
     knows = λ x k. record { seen = ((λ e _. absurd (n (sym e))), k.seen); said = k.said };
   }
 
-  pub taking_elsewhere : (actor other word given : ℕ) (j : List Entry) (shut : List ℕ) (gave : Bool) (v : View) → other ≢ actor → v.claim ≡ None → Elsewhere H other v
+  pub taking_elsewhere : (actor other word given : ℕ) (j : List Entry) (shut : List ℕ) (gave : Bool) (v : View) → other ≢ actor →
+      v.claim ≡ None → Elsewhere H other v
       (taking actor j shut word gave given v)
   taking_elsewhere actor other word given j shut gave v n bare = record {
-    claim = held_else other (record { actor = actor; journal = j; closed_to = shut; word = word + 2; gave = gave; given = given; drained = [] }) (λ e. n (sym e)) ∙ sym (ap
+    claim = held_else other (record {
+      actor = actor;
+      journal = j;
+      closed_to = shut;
+      word = word + 2;
+      gave = gave;
+      given = given;
+      drained = [];
+    }) (λ e. n (sym e)) ∙ sym (ap
         (held_of other) bare);
     list = refl;
     debt = owes_else actor other nothing v n;

@@ -1,5 +1,6 @@
 -- The steps on an actor's waiting count, and a look at its list's gate, keep the rule.
-use Rattle.std.proofs.Common.{◌≡◌, ◌≢◌, ℕ, ◌+◌, ◌%◌, ◌^◌, ◌==◌, if◌then◌else◌, ⊎_elim, Bool, true, false, ◌||◌, IsTrue, List, ◌∷◌, set, sym, refl, ap, ◌∙◌, subst, Some, eq-eqb, ne_eqb, arith}
+use Rattle.std.proofs.Common.{◌≡◌, ◌≢◌, ℕ, ◌+◌, ◌%◌, ◌^◌, ◌==◌, if◌then◌else◌, ⊎_elim, Bool, true, false, ◌||◌, IsTrue, List, ◌∷◌, set}
+use Rattle.std.proofs.Common.{sym, refl, ap, ◌∙◌, subst, Some, eq-eqb, ne_eqb, arith}
 use mathlib.Core.Option.{some}
 use lib.ListN.{get_elem?}
 use Rattle.mb_status.specs.Mailbox.{Mailbox}
@@ -14,7 +15,8 @@ use Rattle.mb_rule.proofs.SeenLemmas.{learns}
 use Rattle.mb_rule.specs.Summed.{total}
 use Rattle.mb_rule.proofs.SummedLemmas.{total_set}
 use Rattle.mb_gate.specs.declared.slot.Slot.{Slot}
-use Rattle.mb_gate.specs.View.{View, Sight, Read, Counted, Looked, Sent, Unsent, Took, Held, owes, owing, seeing, sending, unsending, counting_off, counting, looking}
+use Rattle.mb_gate.specs.View.{View, Sight, Read, Counted, Looked, Sent, Unsent, Took, Held, owes, owing, seeing, sending, unsending}
+use Rattle.mb_gate.specs.View.{counting_off, counting, looking}
 use Rattle.mb_gate.specs.Waiting.{counted_on, counted_off, on_by, off_by, IsBalance}
 use Rattle.mb_gate.specs.Rule.{
   Word,
@@ -61,7 +63,8 @@ if_else actor other k n = ap (λ (b : Bool). if b then k else 0) (ne_eqb actor o
 none_more : (m : ℕ) → 0 + m ≡ m
 none_more m = omega arith
 
-module _ (actor k : ℕ) (vs : List View) (id : ℕ) (v w : View) (at : get_elem? vs id ≡ some v) (before after : ℕ) (was : IsBalance actor before vs) where
+module _ (actor k : ℕ) (vs : List View) (id : ℕ) (v w : View) (at : get_elem? vs id ≡ some v) (before after : ℕ)
+    (was : IsBalance actor before vs) where
   -- one seat counted so many on
   balances_more : w.log ≡ Sent actor k ∷ v.log → after % 2 ^ 64 ≡ (before + k) % 2 ^ 64 → IsBalance actor after (set vs id w)
   balances_more is more = adds after before k (total (on_by actor) vs) (total (on_by actor) (set vs id w)) (total (off_by actor) vs) (total (off_by
@@ -77,7 +80,8 @@ module _ (actor k : ℕ) (vs : List View) (id : ℕ) (v w : View) (at : get_elem
       at) (total_set (off_by actor) vs id v w at) (ap (total (counted_on actor)) is ∙ (ap (λ n. n + on_by actor v) none ∙ none_more (on_by actor
       v))) (ap (total (counted_off actor)) is ∙ (ap (λ n. n + off_by actor v) some_off ∙ if_here actor k (off_by actor v))) less was
 
-module _ {H : Type 0} (is_of : ℕ → H → Type 0) (journal : H → List Entry) (mailbox : H → Mailbox) (rested : H → Type 0) (given_by : H → ℕ) (closed_to : H → List ℕ) where
+module _ {H : Type 0} (is_of : ℕ → H → Type 0) (journal : H → List Entry) (mailbox : H → Mailbox) (rested : H → Type 0) (given_by : H → ℕ)
+    (closed_to : H → List ℕ) where
   abbrev F : ℕ → Spot Word Shelf (Slot H) Ghost → List View → Type 0
   F = Fact is_of journal mailbox rested given_by closed_to
 
@@ -90,7 +94,8 @@ module _ {H : Type 0} (is_of : ℕ → H → Type 0) (journal : H → List Entry
   -- the waiting number changes, and the seat owes a wake-up where one is due
   recounts : (actor id n : ℕ) (d : Debt) (s : Sight) (me : M) (tell : M → Type 0) (x : Place) (vs : List View) → IsQuiet H s → ((a : ℕ) → a ≢ actor →
       CountsNothing a s) → F actor x vs → get_elem? vs id ≡ some me.0 → IsBalance actor n (set vs id (owing actor d (seeing s me.0)))
-      → IsTrue (d.message || d.sending) → d.system ≡ (owes actor me.0).system → tell (owing actor d (seeing s me.0), me.1) → Goes word_offset slot_offset F
+      → IsTrue (d.message || d.sending) → d.system ≡ (owes actor me.0).system → tell (owing actor d (seeing s me.0), me.1) →
+      Goes word_offset slot_offset F
       actor id me Waiting n tell x vs
   recounts actor id n d s me tell x vs so none f at balance owed same told =
       let v = me.0 in
@@ -117,9 +122,11 @@ module _ {H : Type 0} (is_of : ℕ → H → Type 0) (journal : H → List Entry
           system = still_owed (PaysSystem actor) (SystemDue x) (SystemDue y) vs id v w at (λ due. due) (λ _ p. subst (λ (z : Debt). IsTrue
               z.system) (sym (owes_here actor d v)) (subst IsTrue (sym same) p)) f.system;
           seen = let k = goes_on actor x y v grows (f.seen id v at) in
-              learns (Knows actor x) (Knows actor y) vs id w (λ u. goes_on actor x y u grows) (record { seen = (so actor y, k.seen); said = k.said }) f.seen;
+              learns (Knows actor x) (Knows actor y) vs id w (λ u. goes_on actor x y u grows)
+              (record { seen = (so actor y, k.seen); said = k.said }) f.seen;
         };
-        others = λ a z y g. elsewhere is_of journal mailbox rested given_by closed_to a y vs id v w at (owing_elsewhere actor a d s v z so (none a z)) g;
+        others = λ a z y g. elsewhere is_of journal mailbox rested given_by closed_to a y vs id v w at
+            (owing_elsewhere actor a d s v z so (none a z)) g;
         tells = told;
       }
 
@@ -138,7 +145,8 @@ module _ {H : Type 0} (is_of : ℕ → H → Type 0) (journal : H → List Entry
   pub unsends : (actor id n k : ℕ) (me : M) (tell : M → Type 0) (x : Place) (vs : List View) → F actor x vs → get_elem? vs id ≡ some me.0 → (n + k)
       % 2 ^ 64 ≡ x.row Waiting % 2 ^ 64 → tell (unsending actor k me.0, me.1) → Goes word_offset slot_offset F actor id me Waiting n tell x vs
   unsends actor id n k me tell x vs f at less told = recounts actor id n (record (owes actor me.0) { message = true; sending = false }) (Unsent
-      actor k) me tell x vs (λ a y. tt) (λ a z. (refl, if_else actor a k z)) f at (balances_less actor k vs id me.0 (unsending actor k me.0) at (x.row
+      actor k) me tell x vs (λ a y. tt) (λ a z. (refl, if_else actor a k z)) f at
+      (balances_less actor k vs id me.0 (unsending actor k me.0) at (x.row
       Waiting) n f.balance (Unsent actor k) refl refl refl less) refl refl told
 
   -- the holder counts less
@@ -170,9 +178,11 @@ module _ {H : Type 0} (is_of : ℕ → H → Type 0) (journal : H → List Entry
           message = λ due. absurd (let z = due.0 in ⊎_elim (λ b. omega arith) (λ b. omega arith) h.1.busy);
           system = still_owed (PaysSystem actor) (SystemDue x) (SystemDue y) vs id v w at (λ due. due) (λ _ p. p) f.system;
           seen = let so = goes_on actor x y v grows (f.seen id v at) in
-              learns (Knows actor x) (Knows actor y) vs id w (λ u. goes_on actor x y u grows) (record { seen = (tt, so.seen); said = so.said }) f.seen;
+              learns (Knows actor x) (Knows actor y) vs id w (λ u. goes_on actor x y u grows)
+              (record { seen = (tt, so.seen); said = so.said }) f.seen;
         };
-        others = λ a z y g. elsewhere is_of journal mailbox rested given_by closed_to a y vs id v w at (seeing_elsewhere a s v (λ b q. tt) (refl, if_else actor a k z)) g;
+        others = λ a z y g. elsewhere is_of journal mailbox rested given_by closed_to a y vs id v w at
+            (seeing_elsewhere a s v (λ b q. tt) (refl, if_else actor a k z)) g;
         tells = told;
       }
 
@@ -197,15 +207,19 @@ module _ {H : Type 0} (is_of : ℕ → H → Type 0) (journal : H → List Entry
   }
 
   -- a load of which the seat keeps what it saw
-  pub sees : (actor id : ℕ) (name : Word) (s : Sight) (me : M) (tell : M → Type 0) (x : Place) (vs : List View) → IsQuiet H s → ((a : ℕ) → CountsNothing a s)
-      → F actor x vs → get_elem? vs id ≡ some me.0 → tell (seeing s me.0, me.1) → Goes word_offset slot_offset F actor id me name (x.row name) tell x vs
+  pub sees : (actor id : ℕ) (name : Word) (s : Sight) (me : M) (tell : M → Type 0) (x : Place) (vs : List View) → IsQuiet H s →
+      ((a : ℕ) → CountsNothing a s)
+      → F actor x vs → get_elem? vs id ≡ some me.0 → tell (seeing s me.0, me.1) → Goes word_offset slot_offset F actor id me name
+      (x.row name) tell x vs
   sees actor id name s me tell x vs so none f at told = let v = me.0 in let w = seeing s v in record {
     view = w;
     deed = stays;
     kept = x.ghost;
     able = tt;
-    here = load_here is_of journal mailbox rested given_by closed_to actor x (set vs id w) name (views_change is_of journal mailbox rested given_by closed_to actor x vs id v w at refl
-        refl (counts_no_more actor s v w refl (none actor)) (λ _ p. p) (λ _ p. p) (λ k. record { seen = (so actor x, k.seen); said = k.said }) (λ b. among_more (Read b 1) s v.log) f);
+    here = load_here is_of journal mailbox rested given_by closed_to actor x (set vs id w) name
+        (views_change is_of journal mailbox rested given_by closed_to actor x vs id v w at refl
+        refl (counts_no_more actor s v w refl (none actor)) (λ _ p. p) (λ _ p. p)
+        (λ k. record { seen = (so actor x, k.seen); said = k.said }) (λ b. among_more (Read b 1) s v.log) f);
     others = λ a n y g. elsewhere is_of journal mailbox rested given_by closed_to a y vs id v w at (seeing_elsewhere a s v so (none a)) g;
     tells = told;
   }
@@ -218,7 +232,8 @@ module _ {H : Type 0} (is_of : ℕ → H → Type 0) (journal : H → List Entry
     deed = stays;
     kept = x.ghost;
     able = tt;
-    here = load_here is_of journal mailbox rested given_by closed_to actor x (set vs id v) name (views_change is_of journal mailbox rested given_by closed_to actor x vs id v v at refl
+    here = load_here is_of journal mailbox rested given_by closed_to actor x (set vs id v) name
+        (views_change is_of journal mailbox rested given_by closed_to actor x vs id v v at refl
         refl (record { on = refl; off = refl }) (λ _ p. p) (λ _ p. p) (λ k. record { seen = k.seen; said = k.said }) (λ b p. p) f);
     others = λ a n y g. elsewhere is_of journal mailbox rested given_by closed_to a y vs id v v at (record {
       claim = refl;
@@ -242,7 +257,8 @@ module _ {H : Type 0} (is_of : ℕ → H → Type 0) (journal : H → List Entry
   counts_as actor id me tell x vs true is f at told = finds actor id Waiting (record (owes actor me.0) { message = false }) (Counted actor (x.row
       Waiting)) me tell x vs (λ a y. tt) (λ a. (refl, refl)) f at
       (λ due. absurd (let zero : x.row Waiting ≡ 0 = eqb-true (x.row Waiting) 0 is in let z = due.1 in omega arith)) (λ _ p. p) told
-  counts_as actor id me tell x vs false is f at told = sees actor id Waiting (Counted actor (x.row Waiting)) me tell x vs (λ a y. tt) (λ a. (refl, refl)) f at told
+  counts_as actor id me tell x vs false is f at told = sees actor id Waiting (Counted actor (x.row Waiting)) me tell x vs (λ a y. tt)
+      (λ a. (refl, refl)) f at told
 
   -- a seat reads the waiting number
   pub counts : (actor id : ℕ) (me : M) (tell : M → Type 0) (x : Place) (vs : List View) → F actor x vs → get_elem? vs id ≡ some me.0 → tell

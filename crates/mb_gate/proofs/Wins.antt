@@ -68,7 +68,8 @@ free_mod m f = let w = free_word m f in omega arith
 pub scheduled_word : (m s : Mailbox) → IsFree m → s ≡ record m { scheduled = true } → word_of s ≡ word_of m + 2
 scheduled_word m s f e = ap word_of e ∙ (open_word (record m { scheduled = true }) f.open_yet ∙ ap (λ n. n + 2) (sym (free_word m f)))
 
-module _ {H : Type 0} (is_of : ℕ → H → Type 0) (journal : H → List Entry) (mailbox : H → Mailbox) (rested : H → Type 0) (given_by : H → ℕ) (closed_to : H → List ℕ) (actor found : ℕ) (m m' :
+module _ {H : Type 0} (is_of : ℕ → H → Type 0) (journal : H → List Entry) (mailbox : H → Mailbox) (rested : H → Type 0) (given_by : H → ℕ)
+    (closed_to : H → List ℕ) (actor found : ℕ) (m m' :
     Me (Slot H) View) (w : Won is_of journal mailbox rested given_by closed_to actor found m m') where
   -- the seat has the claim and the cell
   pub taken : (status : Mailbox) → word_of status ≡ found + 2 → m.1 ≡ [] → m.0.list ≡ None → Taken journal given_by closed_to actor status m'
@@ -90,12 +91,14 @@ module _ {H : Type 0} (is_of : ℕ → H → Type 0) (journal : H → List Entry
 
   pub got : (seen : Mailbox) (claim : Claim H) (after : View) → IsFree seen → found ≡ word_of seen → m.0.claim ≡ None → status_of claim ≡ record
       seen { scheduled = true } → held_actor claim ≡ actor
-      → recorded_by claim ≡ [] → known_of claim ≡ claim_alone m'.0 → m'.1 ≡ (slot_at actor 0, Home claim.home) ∷ [] → after ≡ without_claim m'.0 → IsGot is_of journal
+      → recorded_by claim ≡ [] → known_of claim ≡ claim_alone m'.0 → m'.1 ≡ (slot_at actor 0, Home claim.home) ∷ [] →
+      after ≡ without_claim m'.0 → IsGot is_of journal
       mailbox rested given_by closed_to actor m.0 after seen claim
   got seen claim after free is_seen bare status of none known carried rest =
       let same : w.home ≡ claim.home = home_same w.home claim.home (ap (λ (z : ℕ × Slot H). z.1) (head_same _ _ _ _ (sym (ap (λ (z : Me (Slot H)
       View). z.1) w.now) ∙ carried))) in
-      let all : known_of claim ≡ claimed actor (journal w.home) (closed_to w.home) (found + 2) w.gave (given_by w.home) = known ∙ ap (λ (z : Me (Slot H) View). claim_alone z.0) w.now in
+      let all : known_of claim ≡ claimed actor (journal w.home) (closed_to w.home) (found + 2) w.gave (given_by w.home) = known ∙ ap
+      (λ (z : Me (Slot H) View). claim_alone z.0) w.now in
       let gave : gave_last claim ≡ w.gave = ap (λ v. (held_in v).gave) all in
       let word : found + 2 ≡ word_of (status_of claim) = ap (λ n. n + 2) is_seen
       ∙ sym (scheduled_word seen (status_of claim) free status) in record {

@@ -50,7 +50,8 @@ IsKept actor journal word (Took a n) = Unit {0}
 IsKept actor journal word (Pushed a n m) = Unit {0}
 IsKept actor journal word (Drained a given) = Unit {0}
 
-module _ {H : Type 0} (is_of : ℕ → H → Type 0) (journal : H → List Entry) (mailbox : H → Mailbox) (rested : H → Type 0) (given_by : H → ℕ) (closed_to : H → List ℕ) where
+module _ {H : Type 0} (is_of : ℕ → H → Type 0) (journal : H → List Entry) (mailbox : H → Mailbox) (rested : H → Type 0) (given_by : H → ℕ)
+    (closed_to : H → List ℕ) where
   -- What is left of an actor whose words and slots these are: its home, which is its own; its word is the one of its journal, which goes
   -- on from all that was seen; how many its list gave, which the home knows; and unless the actor is open and its last drain gave something,
   -- nothing is left beside its cell. There is none only where a claim has the cell, or a seat the list.

@@ -168,7 +168,8 @@ pub record IsListing (pushed : List SysMsg) (listed : MessageList) : Type 0 wher
 abbrev pub Vouches : ℕ → View → Type 0
 Vouches actor v = IsAmong (Read actor 1) v.log
 
-module _ {H : Type 0} (is_of : ℕ → H → Type 0) (journal : H → List Entry) (mailbox : H → Mailbox) (rested : H → Type 0) (given_by : H → ℕ) (closed_to : H → List ℕ) where
+module _ {H : Type 0} (is_of : ℕ → H → Type 0) (journal : H → List Entry) (mailbox : H → Mailbox) (rested : H → Type 0) (given_by : H → ℕ)
+    (closed_to : H → List ℕ) where
   -- The cell is at home: it is the actor's own, its word is that of its journal, it knows how many its list gave, and only an open actor
   -- of which the last drain gave something may have something left beside its cell that is to be applied. The flag tells it of a closed
   -- one.

@@ -34,7 +34,8 @@ shown actor x vs rest = record {
 -- is left of what was drained only if the last drain gave something.
 abbrev pub ShowsMachine : {H : Type 0} → (ℕ → H → Type 0) → (H → List Entry) → (H → Mailbox) → (H → Type 0) → (H → ℕ) → (H → List ℕ) → Type 0
 ShowsMachine {H} is_of journal mailbox rested given_by closed_to =
-    (n : ℕ) (s : State (Slot H) View) (r : Ruled word_offset slot_offset n (Fact is_of journal mailbox rested given_by closed_to) s) (actor : ℕ) → actor < n →
+    (n : ℕ) (s : State (Slot H) View) (r : Ruled word_offset slot_offset n (Fact is_of journal mailbox rested given_by closed_to) s)
+    (actor : ℕ) → actor < n →
     (let x = spot_of word_offset slot_offset s r.ghosts actor in
     (rest : List SysMsg) → (x.ghost.gave ≡ false → rest ≡ []) →
     HasPossibleMailbox (shown actor x s.views rest) × IsHeldRightly (shown actor x s.views rest) × IsSettled (shown actor x s.views rest))
@@ -42,7 +43,8 @@ ShowsMachine {H} is_of journal mailbox rested given_by closed_to =
 -- Each actor of which another's home says that it is closed is closed, as that home is in its place or was taken: its word says so.
 abbrev pub ShowsClosed : {H : Type 0} → (ℕ → H → Type 0) → (H → List Entry) → (H → Mailbox) → (H → Type 0) → (H → ℕ) → (H → List ℕ) → Type 0
 ShowsClosed {H} is_of journal mailbox rested given_by closed_to =
-    (n : ℕ) (s : State (Slot H) View) (r : Ruled word_offset slot_offset n (Fact is_of journal mailbox rested given_by closed_to) s) (actor other : ℕ)
+    (n : ℕ) (s : State (Slot H) View) (r : Ruled word_offset slot_offset n (Fact is_of journal mailbox rested given_by closed_to) s)
+    (actor other : ℕ)
     → actor < n → other < n → IsAmong other (spot_of word_offset slot_offset s r.ghosts actor).ghost.closed_to
     → (spot_of word_offset slot_offset s r.ghosts other).row Status ≡ 1
 

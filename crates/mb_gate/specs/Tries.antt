@@ -23,11 +23,20 @@ pub record IsFree (seen : Mailbox) : Type 0 where
   pub free : seen.scheduled ≡ false
 
 -- what the seat has, once its exchange was won: the claim of the actor with this status, the cell, and nothing else
-pub record Taken {H : Type 0} (journal : H → List Entry) (given_by : H → ℕ) (closed_to : H → List ℕ) (actor : ℕ) (status : Mailbox) (me : Me (Slot H) View) : Type 0 where
+pub record Taken {H : Type 0} (journal : H → List Entry) (given_by : H → ℕ) (closed_to : H → List ℕ) (actor : ℕ) (status : Mailbox)
+    (me : Me (Slot H) View) : Type 0 where
   pub home : H
   pub carried : me.1 ≡ (slot_at actor 0, Home home) ∷ []
   pub gave : Bool
-  pub claim : me.0.claim ≡ Some (record { actor = actor; journal = journal home; closed_to = closed_to home; word = word_of status; gave = gave; given = given_by home; drained = [] })
+  pub claim : me.0.claim ≡ Some (record {
+    actor = actor;
+    journal = journal home;
+    closed_to = closed_to home;
+    word = word_of status;
+    gave = gave;
+    given = given_by home;
+    drained = [];
+  })
   pub no_list : me.0.list ≡ None
 
 -- a claim that was got is of these gates
@@ -35,7 +44,8 @@ abbrev pub IsOf : {H : Type 0} → TableId → Tried H → Type 0
 IsOf gates (Got claim) = claim_id claim ≡ gates
 IsOf gates _ = Unit {0}
 
-module _ {H : Type 0} (is_of : ℕ → H → Type 0) (journal : H → List Entry) (mailbox : H → Mailbox) (rested : H → Type 0) (given_by : H → ℕ) (closed_to : H → List ℕ) (actor : ℕ) (before after
+module _ {H : Type 0} (is_of : ℕ → H → Type 0) (journal : H → List Entry) (mailbox : H → Mailbox) (rested : H → Type 0) (given_by : H → ℕ)
+    (closed_to : H → List ℕ) (actor : ℕ) (before after
     : View) (seen : Mailbox) where
   -- The claim of the actor was got by the exchange of this status, which is now scheduled. Its cell is the actor's own, its word the
   -- one of its journal, and this goes on from all that the pass has seen; it knows how many its list gave; unless the last drain gave
@@ -48,7 +58,8 @@ module _ {H : Type 0} (is_of : ℕ → H → Type 0) (journal : H → List Entry
     pub word : word_of (mailbox claim.home) ≡ word_of seen
     pub goes_on : GoesOn actor (journal claim.home) before
     pub rest : gave_last claim ≡ false → rested claim.home
-    pub known : known_of claim ≡ claimed actor (journal claim.home) (closed_to claim.home) (word_of (status_of claim)) (gave_last claim) (given_by claim.home)
+    pub known : known_of claim ≡ claimed actor (journal claim.home) (closed_to claim.home) (word_of (status_of claim)) (gave_last claim)
+        (given_by claim.home)
     pub recorded : recorded_by claim ≡ []
     pub pass : after ≡ owing actor nothing before
 
@@ -58,7 +69,8 @@ module _ {H : Type 0} (is_of : ℕ → H → Type 0) (journal : H → List Entry
   IsExchanged (Lost found) = IsFree seen × (word_of found ≢ word_of seen) × (after ≡ reading actor (word_of found) before)
   IsExchanged _ = ⊥
 
-module _ {H : Type 0} (is_of : ℕ → H → Type 0) (journal : H → List Entry) (mailbox : H → Mailbox) (rested : H → Type 0) (given_by : H → ℕ) (closed_to : H → List ℕ) (actor : ℕ) (before after
+module _ {H : Type 0} (is_of : ℕ → H → Type 0) (journal : H → List Entry) (mailbox : H → Mailbox) (rested : H → Type 0) (given_by : H → ℕ)
+    (closed_to : H → List ℕ) (actor : ℕ) (before after
     : View) (seen : Mailbox) where
   -- What the call answers, having read this status: Got by its own exchange; Already and Closed as it read; Lost with another word that
   -- its exchange found.

@@ -85,7 +85,17 @@ reading actor word v = owing actor (after_reading (mailbox_of word) (owes actor 
 -- the actor was scheduled, by an exchange that found this word, and its cell was taken
 abbrev pub taking : ℕ → List Entry → List ℕ → ℕ → Bool → ℕ → View → View
 taking actor journal shut word gave given v =
-    owing actor nothing (record v { claim = Some (record { actor = actor; journal = journal; closed_to = shut; word = word + 2; gave = gave; given = given; drained = [] }) })
+    owing actor nothing (record v {
+      claim = Some (record {
+        actor = actor;
+        journal = journal;
+        closed_to = shut;
+        word = word + 2;
+        gave = gave;
+        given = given;
+        drained = [];
+      });
+    })
 
 -- the claim in a view of its own, and the view without it
 abbrev pub claim_alone : View → View
@@ -169,7 +179,11 @@ lending actor listed gave v = record v { list = Some (record { actor = actor; li
 abbrev pub enlisting : ℕ → ℕ → SysMsg → View → View
 enlisting actor number message v =
     owing actor (record (owes actor v) { system = true })
-    (record v { log = Pushed actor number message ∷ v.log; list = None; said = record { to = actor; message = message; was_ended = false } ∷ v.said })
+    (record v {
+      log = Pushed actor number message ∷ v.log;
+      list = None;
+      said = record { to = actor; message = message; was_ended = false } ∷ v.said;
+    })
 
 -- the list was found ended, so that this message went nowhere
 abbrev pub refusing : ℕ → SysMsg → View → View

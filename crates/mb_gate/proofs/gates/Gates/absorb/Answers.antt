@@ -10,5 +10,6 @@ join_seat-requires g c = (
   search rules,
   search rules,
   joins_allowed (g.H.Resident.is_of (first_of c.args.self.now)) g.H.Resident.journal
-      g.H.Resident.mailbox g.H.Resident.rested g.H.Resident.given g.H.Resident.closed_to _ _ _ _ _ c.args.other.holds_nothing.1 c.args.other.holds_nothing.2,
+      g.H.Resident.mailbox g.H.Resident.rested g.H.Resident.given g.H.Resident.closed_to
+      _ _ _ _ _ c.args.other.holds_nothing.1 c.args.other.holds_nothing.2,
 )

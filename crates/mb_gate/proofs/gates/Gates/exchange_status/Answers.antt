@@ -10,7 +10,8 @@ pub compare_exchange_with-found-requires : goal.compare_exchange_with-found-requ
 compare_exchange_with-found-requires g c = (
   search rules,
   search rules,
-  schedules_allowed g.H.Resident.is_of c.args.self.now.table.shared.key.first g.H.Resident.journal g.H.Resident.mailbox g.H.Resident.rested g.H.Resident.given g.H.Resident.closed_to _ _ _ _ c.args.id.0 _ (let k =
+  schedules_allowed g.H.Resident.is_of c.args.self.now.table.shared.key.first
+      g.H.Resident.journal g.H.Resident.mailbox g.H.Resident.rested g.H.Resident.given g.H.Resident.closed_to _ _ _ _ c.args.id.0 _ (let k =
       c.args.self.now.keyed in let t = c.requires.there in omega arith) _ _ _ c.args.self.now.known c.word_index.ensures
       (ap (λ n. n % 4) c.word-old.ensures.word ∙ free_mod c.args.seen c.requires.free)
       (c.word-new.ensures.word ∙ (scheduled_word c.args.seen c.args.status c.requires.free c.requires.scheduled ∙ ap (λ n. n + 2) (sym
@@ -18,13 +19,18 @@ compare_exchange_with-found-requires g c = (
 )
 
 pub claim-requires-clause-won : goal.claim-requires-clause-won
-claim-requires-clause-won g c = taken (g.H.Resident.is_of (first_of c.args.self.now)) g.H.Resident.journal g.H.Resident.mailbox g.H.Resident.rested g.H.Resident.given g.H.Resident.closed_to _ _ _ _
-    ((c.compare_exchange_with-found.ensures.2 _ c.args.self.now.table.shared.key.first c.word_index.ensures (ap some c.args.self.now.known)).0 c.if-found-old.true) c.args.status
+claim-requires-clause-won g c = taken (g.H.Resident.is_of
+    (first_of c.args.self.now)) g.H.Resident.journal g.H.Resident.mailbox g.H.Resident.rested g.H.Resident.given g.H.Resident.closed_to _ _ _ _
+    ((c.compare_exchange_with-found.ensures.2 _ c.args.self.now.table.shared.key.first c.word_index.ensures
+    (ap some c.args.self.now.known)).0 c.if-found-old.true) c.args.status
     (scheduled_word c.args.seen c.args.status c.requires.free c.requires.scheduled ∙ ap (λ n. n + 2) (sym (c.if-found-old.true ∙
     c.word-old.ensures.word))) c.args.pass.now.holds_nothing.0 c.args.pass.now.holds_nothing.2
 
 pub invariant_of-pass : goal.invariant_of-pass
-invariant_of-pass g c = let me = c.claim.ensures.rest in let won = (c.compare_exchange_with-found.ensures.2 _ c.args.self.now.table.shared.key.first c.word_index.ensures (ap some c.args.self.now.known)).0
+invariant_of-pass g c =
+    let me = c.claim.ensures.rest in
+    let won = (c.compare_exchange_with-found.ensures.2 _ c.args.self.now.table.shared.key.first c.word_index.ensures
+    (ap some c.args.self.now.known)).0
     c.if-found-old.true in
     record {
       holds_nothing = (
@@ -36,18 +42,23 @@ invariant_of-pass g c = let me = c.claim.ensures.rest in let won = (c.compare_ex
     }
 
 pub returns-then-found-old-clause-answer : goal.returns-then-found-old-clause-answer
-returns-then-found-old-clause-answer g c = got (g.H.Resident.is_of (first_of c.args.self.now)) g.H.Resident.journal g.H.Resident.mailbox g.H.Resident.rested g.H.Resident.given g.H.Resident.closed_to _ _ _ _
-    ((c.compare_exchange_with-found.ensures.2 _ c.args.self.now.table.shared.key.first c.word_index.ensures (ap some c.args.self.now.known)).0 c.if-found-old.true) c.args.seen c.claim.result _ c.requires.free
+returns-then-found-old-clause-answer g c = got (g.H.Resident.is_of
+    (first_of c.args.self.now)) g.H.Resident.journal g.H.Resident.mailbox g.H.Resident.rested g.H.Resident.given g.H.Resident.closed_to _ _ _ _
+    ((c.compare_exchange_with-found.ensures.2 _ c.args.self.now.table.shared.key.first c.word_index.ensures
+    (ap some c.args.self.now.known)).0 c.if-found-old.true) c.args.seen c.claim.result _ c.requires.free
     (c.if-found-old.true ∙ c.word-old.ensures.word) c.args.pass.now.holds_nothing.1 (c.claim.ensures.claim.2 ∙ c.requires.scheduled)
     c.claim.ensures.claim.1 c.claim.ensures.recorded c.claim.ensures.claim.0 c.claim.ensures.home (ap (λ m. m.0) c.claim.ensures.rest)
 
 pub invariant_of-pass-else-found-old : goal.invariant_of-pass-else-found-old
-invariant_of-pass-else-found-old g c = let read = ((c.compare_exchange_with-found.ensures.2 _ c.args.self.now.table.shared.key.first c.word_index.ensures (ap some c.args.self.now.known)).1 c.if-found-old.false).0 in let
+invariant_of-pass-else-found-old g c =
+    let read = ((c.compare_exchange_with-found.ensures.2 _ c.args.self.now.table.shared.key.first c.word_index.ensures
+    (ap some c.args.self.now.known)).1 c.if-found-old.false).0 in let
     was = c.args.pass.now.holds_nothing in
     record { holds_nothing = (ap (λ m. m.1) read ∙ was.0, ap (λ m. m.0.claim) read ∙ was.1, ap (λ m. m.0.list) read ∙ was.2) }
 
 pub unreachable-requires : goal.unreachable-requires
-unreachable-requires g c = let no = c.in-None.ensures.valid.1 ((c.compare_exchange_with-found.ensures.2 _ c.args.self.now.table.shared.key.first c.word_index.ensures (ap some c.args.self.now.known)).1
+unreachable-requires g c = let no = c.in-None.ensures.valid.1
+    ((c.compare_exchange_with-found.ensures.2 _ c.args.self.now.table.shared.key.first c.word_index.ensures (ap some c.args.self.now.known)).1
     c.if-found-old.false).1 in cc
 
 pub returns-clause-answer : goal.returns-clause-answer
