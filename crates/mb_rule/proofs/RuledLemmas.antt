@@ -26,7 +26,8 @@ use mathlib.Core.Logic.{dite}
 use mathlib.Core.Option.{Option, none, some}
 use native.Mathlib.Decide.{ℕ_discrete}
 use lib.ListN.{get_elem?}
-use Rattle.atomic_table.specs.Table.{State, Me, Act, keeps, takes, gives, carried_after, homes_after, put_back, stepped, Valid, Allows, Splits, Joins}
+use Rattle.atomic_table.specs.Table.{State, Me, Act, keeps, takes, gives, carried_after, homes_after, put_back, stepped}
+use Rattle.atomic_table.specs.Table.{Valid, Allows, Splits, Joins}
 use Rattle.atomic_table.proofs.Lists.{set_else}
 use Rattle.std.proofs.Common.{get_or-set_other}
 use Rattle.mb_rule.specs.Layout.{word_at, slot_at, Spot, spot_of, write, fill, put}
@@ -125,7 +126,8 @@ module _ {W P S G V : Type 0} (word_offset : W → ℕ) (slot_offset : P → ℕ
         act_of slot_offset place g.deed,
         valid_done s.homes me.1 place g.deed g.able,
         changes s r place inside name (f (x.row name)) g.kept (homes_after s.homes me.1 (act_of slot_offset place g.deed))
-            (slot_after slot_offset x.slot g.deed) (set s.views id g.view) (homes_done s.homes me.1 place g.deed inside r.deep g.able) g.here g.others,
+            (slot_after slot_offset x.slot g.deed) (set s.views id g.view)
+            (homes_done s.homes me.1 place g.deed inside r.deep g.able) g.here g.others,
         g.tells,
       )
 
