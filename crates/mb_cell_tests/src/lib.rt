@@ -2,9 +2,13 @@
 #![tactic(auto)]
 
 #[cfg(test)]
+mod crowd;
+#[cfg(test)]
 mod ending;
 #[cfg(test)]
 mod envelopes;
+#[cfg(test)]
+mod memory;
 #[cfg(test)]
 mod player;
 #[cfg(test)]

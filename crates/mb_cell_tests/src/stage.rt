@@ -4,7 +4,8 @@ ghost use Rattle.std.specs.Prelude.{◌≡◌, ◌<◌, ◌≤◌, [], true, len
 ghost use Rattle.std.specs.List.{All};
 ghost use Rattle.mb_msg.specs.Limits.{most_actors};
 
-use crate::player::{Counting, Plan, Player};
+use crate::crowd::children;
+use crate::player::{Counting, Plan, Player, QUIET};
 use mb_actor::{Effect, Phase};
 use mb_cell::{Act, Cell};
 use mb_journal::{Arrival, Pattern, ReadyError, Strategy};
@@ -59,6 +60,7 @@ pub(crate) struct Stage {
     next: u64,
     this: u32,
     is_guardian: bool,
+    was_refused: bool,
 }
 
 impl Model for Stage {
@@ -122,7 +124,15 @@ fn placed(
         next: 0,
         this,
         is_guardian: false,
+        was_refused: false,
     }
+}
+
+/// The cell of actor 1, which may start all the actors above it, and restarts an error's.
+pub(crate) fn crowded(alloc: Global, all_for_one: bool) -> Result<Stage, AllocError> {
+    let children = children(alloc)?;
+    let strategy = limited(alloc, Directive::Restart, -1, all_for_one)?;
+    Ok(placed(alloc, 1, 0, QUIET, children, strategy))
 }
 
 /// The cell of the guardian, which may start the actors 2 and 3.
@@ -140,6 +150,7 @@ pub(crate) fn guardian(alloc: Global) -> Result<Stage, AllocError> {
         next: 0,
         this: 0,
         is_guardian: true,
+        was_refused: false,
     })
 }
 
@@ -192,7 +203,7 @@ impl Stage {
 
     /// Gives the cell the next system message, and compares what it asks for.
     fn system(&mut self, rt: &impl Abort, message: SysMsg, expected: &[Asked]) {
-        make_ready(rt, &mut self.cell);
+        self.was_refused |= make_ready(rt, &mut self.cell);
         assert!(rt; !matches!(self.cell.phase(), Phase::Ended));
         assert!(rt; self.next < 1000);
         self.cell.apply_system(self.next, message);
@@ -202,7 +213,7 @@ impl Stage {
 
     /// Gives it again the message that goes before all others, which is to be this one.
     fn front(&mut self, rt: &impl Abort, due: (u64, SysMsg), expected: &[Asked]) {
-        make_ready(rt, &mut self.cell);
+        self.was_refused |= make_ready(rt, &mut self.cell);
         assert!(rt; !matches!(self.cell.phase(), Phase::Ended));
         let (number, message) = self.cell.next_front().expect(rt, "a message that waits");
         assert_eq!(rt; (number, message), due);
@@ -213,7 +224,7 @@ impl Stage {
 
     /// Gives it an envelope with this body.
     fn envelope(&mut self, rt: &impl Abort, body: Body, expected: &[Asked]) {
-        make_ready(rt, &mut self.cell);
+        self.was_refused |= make_ready(rt, &mut self.cell);
         assert!(rt; matches!(self.cell.phase(), Phase::Live));
         assert!(rt; self.cell.count() == 0);
         assert!(rt; !self.is_guardian);
@@ -245,6 +256,11 @@ impl Stage {
         assert_eq!(rt; newest.effects, effects);
     }
 
+    /// Whether memory was refused, so far.
+    pub(crate) fn was_refused(&self) -> bool {
+        self.was_refused
+    }
+
     /// Compares the actor's content.
     fn counted(&self, rt: &impl Abort, messages: i64) {
         assert_eq!(rt; self.cell.state(), Some(messages));
@@ -252,8 +268,8 @@ impl Stage {
 }
 
 /// Makes room for a message. Where memory is refused, the cell is as before, and the same call succeeds when there is
-/// memory.
-fn make_ready(rt: &impl Abort, cell: &mut Cell<Player, Counting>)
+/// memory. Answers whether memory was refused.
+fn make_ready(rt: &impl Abort, cell: &mut Cell<Player, Counting>) -> bool
     ensures { cell.new ≡ record cell.old { is_ready = true } }
 {
     let before = (
@@ -272,7 +288,9 @@ fn make_ready(rt: &impl Abort, cell: &mut Cell<Player, Counting>)
         );
         assert_eq!(rt; before, after);
         cell.ready().expect(rt, "there is memory again");
+        return true;
     }
+    false
 }
 
 /// Takes each act, and compares it with what is expected.
