@@ -100,6 +100,7 @@ impl Books {
     /// and to its acts as many as one message can have.
     ///
     /// It answers `AllocError` if memory was refused. Nothing has changed then.
+    #[inline]
     pub fn make_room(&mut self) -> Result<(), AllocError>
         requires few_children { length self.old.children < 2 ^ 44 }
         requires few_watchers { length self.old.watchers < 2 ^ 44 }
@@ -121,6 +122,7 @@ impl Books {
     }
 
     /// Makes room in each list and for the acts.
+    #[inline(never)]
     fn reserve(&mut self) -> Result<(), AllocError>
         requires few_children { length self.old.children < 2 ^ 44 }
         requires few_watchers { length self.old.watchers < 2 ^ 44 }

@@ -16,7 +16,7 @@ use mb_msg::{Body, Cause, SysMsg};
 
 impl Books {
     /// An envelope with this body was handled, with this answer, if the actor was called, and these effects.
-    #[inline]
+    #[inline(always)]
     pub fn handle(&mut self, place: &Place, body: Body, answer: Option<Answer>, effects: &[Effect])
         requires ready { IsTrue self.old.is_ready }
         requires carried_out { self.old.acts ≡ [] }
@@ -33,6 +33,7 @@ impl Books {
     }
 
     /// The same, whatever it uses of the room that was made.
+    #[inline(never)]
     fn handle_all(&mut self, place: &Place, body: Body, answer: Option<Answer>, effects: &[Effect])
         requires ready { IsTrue self.old.is_ready }
         requires carried_out { self.old.acts ≡ [] }
