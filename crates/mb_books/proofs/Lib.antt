@@ -1,3 +1,2 @@
 pub mod EffectLemmas
-pub mod HandledLemmas
 pub mod RetryLemmas

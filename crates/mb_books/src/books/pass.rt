@@ -11,6 +11,5 @@ impl Books {
     {
         forget(&mut self.aside, number);
         self.ready = false;
-        self.unused = false;
     }
 }

@@ -25,7 +25,6 @@ impl Books {
     {
         forget(&mut self.aside, number);
         self.ready = false;
-        self.unused = false;
         leave(&mut self.watchers, watcher);
     }
 }
