@@ -1,164 +1,159 @@
 //! A cell with 62 children and 63 watchers: whatever comes to it, the room that `ready` made is enough.
+//!
+//! What stands in brackets in these stories is said of each child from the number on that begins it, which stands for `#`.
 
-ghost use Rattle.std.specs.Prelude.{◌≤◌, length, IfOk, OnOk};
-ghost use Rattle.std.specs.List.{All};
-ghost use Rattle.mb_msg.specs.Limits.{most_actors};
-
-use crate::stage::{Asked, Stage, Step, crowded};
-use mb_actor::Phase;
-use mb_msg::{ActorId, Body, Cause, SysMsg};
+use crate::story::play;
+use crate::words::{Trouble, first_word, number};
 use std::alloc::{AllocError, Global};
 use std::process::Abort;
 use std::test::Fail;
 
-/// The numbers of the children: 2 to 63.
-const FIRST: u32 = 2;
-
+/// The first number past those of the children, 2 to 63.
 const PAST: u32 = 64;
 
-const ERROR: Cause = Cause::Error(1);
-
-const FAIL: Body = Body::User { kind: 2, value: 1 };
-
-/// The children.
-pub(crate) fn children(alloc: Global) -> Result<Vec<ActorId>, AllocError>
-    ensures few { IfOk result (λ v. length v.items ≤ 64) }
-    ensures numbered { IfOk result (λ v. All (λ x. x.0 < most_actors) v.items) }
-{
-    let mut children = Vec::new(alloc);
-    for id in FIRST..PAST {
-        children.push(ActorId(id))?;
-    }
-    Ok(children)
-}
-
-/// What is asked: these first, then this message of each child.
-fn asked_of_each(
-    alloc: Global,
-    first: &[Asked],
-    message: SysMsg,
-) -> Result<Vec<Asked>, AllocError> {
-    let mut asked = first.to_vec(alloc)?;
-    for id in FIRST..PAST {
-        asked.push(Asked::Sys(id, message))?;
-    }
-    Ok(asked)
-}
-
-/// The same, and this last.
-fn asked_with(
-    alloc: Global,
-    first: &[Asked],
-    message: SysMsg,
-    last: Asked,
-) -> Result<Vec<Asked>, AllocError> {
-    let mut asked = asked_of_each(alloc, first, message)?;
-    asked.push(last)?;
-    Ok(asked)
-}
-
-/// The actor is started, spawns each child, and is watched by its parent and each child.
-fn gathered(rt: &impl Abort, alloc: Global, all_for_one: bool) -> Result<Stage, AllocError> {
-    let mut stage = crowded(alloc, all_for_one)?;
-    stage.play(rt, &[Step::System(SysMsg::Create, &[Asked::Resume])]);
-    for id in FIRST..PAST {
-        let spawn = Body::User {
-            kind: 7,
-            value: i64::from(id),
-        };
-        stage.play(
-            rt,
-            &[
-                Step::Envelope(spawn, &[Asked::Sys(id, SysMsg::Create)]),
-                Step::System(SysMsg::Watch(ActorId(id)), &[]),
-            ],
-        );
-    }
-    stage.play(rt, &[Step::System(SysMsg::Watch(ActorId(0)), &[])]);
-    Ok(stage)
-}
+/// It starts each child, and is watched by it and by its parent.
+const GATHERED: &str = "
+create | handled | resume | live 0 0
+watch 0 | none | - | live 0 0
+";
 
 /// All are suspended and resumed, and fail with their parent, which is restarted.
-#[test]
-fn crowd_that_is_suspended_and_restarted(rt: HostRuntime) -> Result<(), Fail> {
-    let alloc = rt.alloc();
-    let mut stage = gathered(&rt, alloc, false)?;
-    let suspended = asked_of_each(alloc, &[Asked::Suspend], SysMsg::Suspend)?;
-    let resume = SysMsg::Resume { of_failure: false };
-    let resumed = asked_of_each(alloc, &[Asked::Resume], resume)?;
-    let failed = asked_with(
-        alloc,
-        &[Asked::Suspend],
-        SysMsg::Suspend,
-        Asked::Sys(0, SysMsg::Failed(ActorId(1), ERROR)),
-    )?;
-    let restarted = asked_of_each(alloc, &[Asked::Resume], SysMsg::Recreate(ERROR))?;
-    stage.play(
-        &rt,
-        &[
-            Step::System(SysMsg::Suspend, &suspended),
-            Step::System(resume, &resumed),
-            Step::Envelope(FAIL, &failed),
-            Step::System(SysMsg::Recreate(ERROR), &restarted),
-            Step::Stands(Phase::Live, 0, &[]),
-        ],
-    );
-    Ok(())
-}
+const SUSPENDED_AND_RESTARTED: &str = "
+suspend | none | suspend, [2 #: suspend] | live 1 62
+resume | none | resume, [2 #: resume] | live 0 62
+user fail 1 | failed 1 | suspend, [2 #: suspend], 0: failed 1 error 1 | live 1 63
+recreate error 1 | handled | resume, [2 #: recreate error 1] | live 0 0
+";
 
 /// Each failure of one is for all: two acts for each child but the one that failed.
-#[test]
-fn crowd_of_all_for_one(rt: HostRuntime) -> Result<(), Fail> {
-    let alloc = rt.alloc();
-    let mut stage = gathered(&rt, alloc, true)?;
-    let mut restarted = Vec::new(alloc);
-    for id in FIRST..PAST {
-        if id != 2 {
-            restarted.push(Asked::Sys(id, SysMsg::Suspend))?;
+const ALL_FOR_ONE: &str = "
+failed 2 error 1 | none | 2: recreate error 1, [3 #: suspend, #: recreate error 1] | live 0 62
+failed 2 error 1 | none | 2: recreate error 1, [3 #: suspend, #: recreate error 1] | live 0 62
+";
+
+/// It ends after the last of its children, which it watches, and tells its parent and all who watch it.
+const TERMINATED: &str = "
+terminate | none | [2 #: unwatch 1], [2 #: terminate], suspend | ending 1 124
+";
+
+const ENDED: &str = "
+died 2 | none | close, 0: died 1, [2 #: died 1] | ended 0 124
+";
+
+/// What is said of each child from this one on.
+fn of_each(alloc: Global, from: u32, item: &str, between: &str) -> Result<String, AllocError> {
+    let mut list = String::new(alloc);
+    for child in from..PAST {
+        if !list.is_empty() {
+            list.push_str(between)?;
         }
-        restarted.push(Asked::Sys(id, SysMsg::Recreate(ERROR)))?;
+        let child = format!(in alloc; "{child}")?;
+        let said = item.replace(alloc, "#", child.as_str())?;
+        list.push_str(said.as_str())?;
     }
-    let failed = SysMsg::Failed(ActorId(2), ERROR);
-    stage.play(
-        &rt,
-        &[
-            Step::System(failed, &restarted),
-            Step::System(failed, &restarted),
-        ],
-    );
+    Ok(list)
+}
+
+/// The text, with what stands in brackets said of each child.
+fn spread(alloc: Global, text: &str) -> Result<String, Trouble> {
+    let mut spread = String::new(alloc);
+    for piece in text.split('[') {
+        match piece.split_once(']') {
+            Some((item, after)) => {
+                let (from, item) = first_word(item);
+                let list = of_each(alloc, number(from)?, item, ", ")?;
+                spread.push_str(list.as_str())?;
+                spread.push_str(after)?;
+            }
+            None => spread.push_str(piece)?,
+        }
+    }
+    Ok(spread)
+}
+
+/// The head with all children, and the cases in which they come.
+fn gathered(alloc: Global, rules: &str) -> Result<String, Trouble> {
+    let mut story = format!(in alloc; "actor 1 of 0; children 2 to 63; rules {rules}")?;
+    story.push_str(GATHERED)?;
+    for child in 2..PAST {
+        let messages = child - 1;
+        let spawned = format!(in alloc;
+            "user spawn {child} | handled: spawn {child} | {child}: create"
+        )?;
+        let watched = format!(in alloc; "watch {child} | none | -")?;
+        let cases = format!(in alloc;
+            "{spawned} | live 0 {messages}\n{watched} | live 0 {messages}\n"
+        )?;
+        story.push_str(cases.as_str())?;
+    }
+    Ok(story)
+}
+
+/// The cases in which the actor, which got a message of each child's, comes to watch them.
+fn watching(alloc: Global) -> Result<String, AllocError> {
+    let mut cases = String::new(alloc);
+    for child in 2..PAST {
+        let messages = child + 61;
+        let case = format!(in alloc;
+            "user watch {child} | handled: watch {child} | {child}: watch 1 | live 0 {messages}\n"
+        )?;
+        cases.push_str(case.as_str())?;
+    }
+    Ok(cases)
+}
+
+/// Sees to it that all cases are as they say, these after the children have come, and that there are so many.
+fn play_all<R: Abort>(
+    rt: &R,
+    alloc: Global,
+    rules: &str,
+    cases: &str,
+    count: u32,
+) -> Result<(), Trouble> {
+    let mut story = gathered(alloc, rules)?;
+    let cases = spread(alloc, cases)?;
+    story.push_str(cases.as_str())?;
+    assert_eq!(rt; play(rt, alloc, story.as_str())?, count, "cases");
     Ok(())
 }
 
-/// The actor, which watches all its children, ends after them and tells its parent and all who watch it.
+/// All that comes to the actor as it ends.
+fn ends(alloc: Global) -> Result<String, Trouble> {
+    let mut cases = watching(alloc)?;
+    cases.push_str(TERMINATED)?;
+    let died = of_each(alloc, 3, "died # | none | - | ending 1 124", "\n")?;
+    cases.push_str(died.as_str())?;
+    cases.push_str(ENDED)?;
+    Ok(cases)
+}
+
+#[test]
+fn crowd_that_is_suspended_and_restarted(rt: HostRuntime) -> Result<(), Fail> {
+    play_all(
+        &rt,
+        rt.alloc(),
+        "restart error",
+        SUSPENDED_AND_RESTARTED,
+        130,
+    )?;
+    Ok(())
+}
+
+#[test]
+fn crowd_of_all_for_one(rt: HostRuntime) -> Result<(), Fail> {
+    play_all(
+        &rt,
+        rt.alloc(),
+        "restart error; all for one",
+        ALL_FOR_ONE,
+        128,
+    )?;
+    Ok(())
+}
+
 #[test]
 fn crowd_that_ends(rt: HostRuntime) -> Result<(), Fail> {
-    let alloc = rt.alloc();
-    let mut stage = gathered(&rt, alloc, false)?;
-    let mut told = asked_of_each(alloc, &[], SysMsg::Unwatch(ActorId(1)))?;
-    for id in FIRST..PAST {
-        let watch = Body::User {
-            kind: 4,
-            value: i64::from(id),
-        };
-        stage.play(
-            &rt,
-            &[Step::Envelope(watch, &[Asked::Sys(id, SysMsg::Watch(ActorId(1)))])],
-        );
-        told.push(Asked::Sys(id, SysMsg::Terminate))?;
-    }
-    told.push(Asked::Suspend)?;
-    stage.play(&rt, &[Step::System(SysMsg::Terminate, &told)]);
-    for id in 3..PAST {
-        stage.play(&rt, &[Step::System(SysMsg::Died(ActorId(id)), &[])]);
-    }
-    let died = SysMsg::Died(ActorId(1));
-    let ended = asked_of_each(alloc, &[Asked::Close, Asked::Sys(0, died)], died)?;
-    stage.play(
-        &rt,
-        &[
-            Step::System(SysMsg::Died(ActorId(2)), &ended),
-            Step::Stands(Phase::Ended, 0, &[]),
-        ],
-    );
+    let cases = ends(rt.alloc())?;
+    play_all(&rt, rt.alloc(), "restart error", cases.as_str(), 251)?;
     Ok(())
 }
