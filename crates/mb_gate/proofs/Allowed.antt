@@ -145,7 +145,7 @@ use Rattle.mb_gate.proofs.Parting.{parts, takes_over, each_without, no_counts_on
 use Rattle.mb_gate.specs.Waiting.{on_by, off_by}
 
 no_more : (m k : ℕ) → k ≡ 0 → m + k ≡ m
-no_more m k none = omega arith
+no_more m k is_none = omega arith
 
 none_more : (m : ℕ) → 0 + m ≡ m
 none_more m = omega arith

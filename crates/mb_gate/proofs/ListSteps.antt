@@ -18,7 +18,7 @@ use Rattle.mb_rule.proofs.SeenLemmas.{learns}
 use Rattle.mb_gate.specs.declared.slot.Slot.{Slot}
 use Rattle.mb_gate.specs.declared.slot.Slot.TheVariants.{List as Listing}
 use Rattle.mb_gate.specs.View.{View, Sight, Read, Pushed, Held, Lent, owes, lending, enlisting, refusing, given_after, regiven, unloading}
-use Rattle.mb_gate.specs.Rule.{Word, Gate, word_offset, Shelf, ListShelf, slot_offset, Ghost, is_some_item, gate_word, held_of, lent_of, claim_for, list_for, IsSo, IsAmong, IsPart, Vouches, all_numbered, Knows, MessageDue, SystemDue, PaysMessage, PaysSystem, IsShelved, IsLent, Shelving, Fact}
+use Rattle.mb_gate.specs.Rule.{Word, Waiting, Gate, word_offset, Shelf, ListShelf, slot_offset, Ghost, is_some_item, gate_word, held_of, lent_of, claim_for, list_for, IsSo, IsAmong, IsPart, Vouches, all_numbered, Knows, MessageDue, SystemDue, PaysMessage, PaysSystem, IsShelved, IsLent, Shelving, Fact}
 use Rattle.mb_gate.proofs.Views.{CountsNothing, counts_no_more, held_here, held_else, lent_here, lent_else, owes_here, owes_else, extends_self, Grown, grown, goes_on}
 use Rattle.mb_gate.proofs.Numbers.{among_more, pushed_so, part_so, length_numbered}
 use Rattle.mb_gate.proofs.Facts.{still_kept, still_balanced, views_change, elsewhere, load_here}
@@ -208,7 +208,7 @@ module _ {H : Type 0} (is_of : ℕ → H → Type 0) (journal : H → List Entry
       → ((a : ℕ) (z : Place) → (a ≡ actor → (z.ghost.listed ≡ new) × IsPart (listed l.listed) (all_numbered z.ghost)) → IsSo a z s)
       → tell (unloading s (listed l.listed) gave me.0, tail_of me.1)
       → Goes word_offset slot_offset F actor id me Gate n tell x vs
-  unloads actor id n s me c l new gave tell x vs f at has of keeps of_list carried word empty stays_closed closed counts none so told =
+  unloads actor id n s me c l new gave tell x vs f at has of keeps of_list carried word empty stays_closed closed counts uncounted so told =
       let given = listed l.listed in
       let v = me.0 in
       let h = is_held is_of journal mailbox rested given_by closed_to actor id x vs v c f at has of in
@@ -251,7 +251,7 @@ module _ {H : Type 0} (is_of : ℕ → H → Type 0) (journal : H → List Entry
                 let listed_many = ap (λ (z : MessageList). length z.messages) k.1.taken in
                 let before = f.listing.counted in omega arith;
           };
-          balance = still_balanced actor (x.row Waiting) vs id v w at (counts_no_more actor s v w refl (none actor)) f.balance;
+          balance = still_balanced actor (x.row Waiting) vs id v w at (counts_no_more actor s v w refl (uncounted actor)) f.balance;
           vouched = λ b. still_owed (Vouches b) (IsAmong b x.ghost.closed_to) (IsAmong b x.ghost.closed_to) vs id v w at (λ d. d)
               (λ _. among_more (Read b 1) s v.log) (f.vouched b);
           message = still_owed (PaysMessage actor) (MessageDue x) (MessageDue y) vs id v w at (λ z. z) (λ _ p. p) f.message;
@@ -267,7 +267,7 @@ module _ {H : Type 0} (is_of : ℕ → H → Type 0) (journal : H → List Entry
               c (λ e. i (sym e ∙ of))));
           list = sym (ap (lent_of a) keeps ∙ lent_else a l (λ e. i (sym e ∙ of_list)));
           debt = refl;
-          account = counts_no_more a s v w refl (none a);
+          account = counts_no_more a s v w refl (uncounted a);
           vouches = λ b. among_more (Read b 1) s v.log;
           knows = λ q t. record { seen = (so a q (λ e. absurd (i e)), t.seen); said = t.said };
         }) p;

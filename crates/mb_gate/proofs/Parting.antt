@@ -50,6 +50,7 @@ use Rattle.mb_gate.specs.View.{View, Sight, Read, Saw, Counted, Looked, Sent, Un
 use Rattle.mb_gate.specs.Waiting.{counted_on, counted_off, on_by, off_by, IsBalance}
 use Rattle.mb_gate.specs.Rule.{
   Word,
+  Waiting,
   Shelf,
   Ghost,
   held_of,

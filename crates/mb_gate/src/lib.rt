@@ -34,9 +34,7 @@ mod view;
 
 pub use claim::Claim;
 pub use gates::Gates;
-pub use laws::{
-    closed_receivers_are_closed, waiting_is_sent_less_taken, words_show_the_machine,
-};
+pub use laws::{closed_receivers_are_closed, waiting_is_sent_less_taken, words_show_the_machine};
 pub use left::Left;
 pub use new::NoGates;
 pub use pass::Pass;
