@@ -1,5 +1,27 @@
 -- The numbers of messages, and what stands in a list.
-use Rattle.std.proofs.Common.{◌≡◌, ℕ, suc, ◌+◌, ◌%◌, ◌^◌, ◌<◌, List, [], ◌∷◌, ◌++◌, length, sym, refl, ap, ◌∙◌, subst, append_assoc, append-nil, length-append, arith}
+use Rattle.std.proofs.Common.{
+  ◌≡◌,
+  ℕ,
+  suc,
+  ◌+◌,
+  ◌%◌,
+  ◌^◌,
+  ◌<◌,
+  List,
+  [],
+  ◌∷◌,
+  ◌++◌,
+  length,
+  sym,
+  refl,
+  ap,
+  ◌∙◌,
+  subst,
+  append_assoc,
+  append-nil,
+  length-append,
+  arith,
+}
 use Rattle.mb_msg.specs.declared.system.SysMsg.{SysMsg}
 use Rattle.mb_syslist.specs.MessageList.{MessageList, numbered, listed, pushed}
 use Rattle.mb_rule.specs.Seen.{Each}
@@ -45,19 +67,22 @@ module _ {A : Type 0} where
 pub numbered_append : (n : ℕ) (a b : List SysMsg) → n < 2 ^ 64 → numbered n (a ++ b) ≡ numbered n a ++ numbered ((n + length a) % 2 ^ 64) b
 numbered_append n [] b small = ap (λ k. numbered k b) (omega arith)
 numbered_append n (m ∷ ms) b small =
-    ap (λ z. (n, m) ∷ z) (numbered_append ((n + 1) % 2 ^ 64) ms b (omega arith) ∙ ap (λ k. numbered ((n + 1) % 2 ^ 64) ms ++ numbered k b) (omega arith))
+    ap (λ z. (n, m) ∷ z) (numbered_append ((n + 1) % 2 ^ 64) ms b (omega arith) ∙ ap (λ k. numbered ((n + 1) % 2 ^ 64) ms ++ numbered k b)
+    (omega arith))
 
 pub length_numbered : (n : ℕ) (ms : List SysMsg) → length (numbered n ms) ≡ length ms
 length_numbered n [] = refl
 length_numbered n (m ∷ ms) = ap suc (length_numbered ((n + 1) % 2 ^ 64) ms)
 
 -- what is put last into the list has the list's next number
-pub pushed_so : (g : Ghost) (l : MessageList) (m : SysMsg) → l ≡ g.listed → IsListing g.pushed g.listed → IsAmong (pushed l, m) (numbered 0 (g.pushed ++ m ∷ []))
+pub pushed_so : (g : Ghost) (l : MessageList) (m : SysMsg) → l ≡ g.listed → IsListing g.pushed g.listed
+    → IsAmong (pushed l, m) (numbered 0 (g.pushed ++ m ∷ []))
 pushed_so g l m same li = subst (λ z. IsAmong (pushed z, m) (numbered 0 (g.pushed ++ m ∷ []))) (sym same)
     (subst (λ z. IsAmong (pushed g.listed, m) (numbered 0 (z ++ m ∷ []))) (sym li.joined)
     (last li.given g.listed.messages g.listed.given li.counted))
   where
-    last : (given ms : List SysMsg) (n : ℕ) → n ≡ length given % 2 ^ 64 → IsAmong ((n + length ms) % 2 ^ 64, m) (numbered 0 ((given ++ ms) ++ m ∷ []))
+    last : (given ms : List SysMsg) (n : ℕ) → n ≡ length given % 2 ^ 64 → IsAmong ((n + length ms) % 2 ^ 64, m) (numbered 0
+        ((given ++ ms) ++ m ∷ []))
     last given ms n e = record {
       before = numbered 0 (given ++ ms);
       after = [];

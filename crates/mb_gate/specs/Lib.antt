@@ -1,4 +1,6 @@
 pub mod View
+pub mod Waiting
+pub mod Turns
 pub mod Claims
 pub mod Rule
 pub mod Plays

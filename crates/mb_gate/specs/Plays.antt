@@ -41,6 +41,7 @@ use Rattle.mb_gate.specs.View.{
   draining,
   ending,
 }
+use Rattle.mb_gate.specs.Turns.{IsOwnBalance}
 use Rattle.mb_gate.specs.Rule.{Extends, is_some_item, gate_word}
 
 -- this sight allows that the actor is taken with this journal: it was not seen closed, nor was its list ended, and the journal goes on
@@ -101,7 +102,7 @@ module _ {H : Type 0} where
   CountsOff st m found m' = (actor : ℕ) → st.word ≡ word_at actor 4 → m' ≡ (counting_off actor st.first m.0, m.1)
 
   abbrev pub Counts : Step (Slot H) → Me (Slot H) View → ℕ → Me (Slot H) View → Type 0
-  Counts st m found m' = (actor : ℕ) → st.word ≡ word_at actor 4 → m' ≡ (counting actor found m.0, m.1)
+  Counts st m found m' = (actor : ℕ) → st.word ≡ word_at actor 4 → (m' ≡ (counting actor found m.0, m.1)) × IsOwnBalance actor found m.0
 
   abbrev pub Looks : Step (Slot H) → Me (Slot H) View → ℕ → Me (Slot H) View → Type 0
   Looks st m found m' = (actor : ℕ) → st.word ≡ word_at actor 2 → m' ≡ (looking actor (shows_work found) m.0, m.1)
@@ -146,7 +147,8 @@ module _ {H : Type 0} where
   Glances st m found m' = (actor : ℕ) (c : Held) → st.word ≡ word_at actor 2 → m.0.claim ≡ Some c → c.actor ≡ actor → m.0.list ≡ None
       → (found % 8 ≡ 0 → m' ≡ (draining actor [] false m.0, m.1)) × (found % 8 ≢ 0 → m' ≡ m)
 
-module _ {H : Type 0} (is_of : ℕ → H → Type 0) (journal : H → List Entry) (mailbox : H → Mailbox) (rested : H → Type 0) (given_by : H → ℕ) (closed_to : H → List ℕ) where
+module _ {H : Type 0} (is_of : ℕ → H → Type 0) (journal : H → List Entry) (mailbox : H → Mailbox) (rested : H → Type 0) (given_by : H
+    → ℕ) (closed_to : H → List ℕ) where
   -- The actor was scheduled by an exchange that found this word, and its cell was taken: it is the actor's own, its journal goes on
   -- from all that was seen, its word is the one found; it knows how many its list gave; and unless the last drain gave something, nothing
   -- is left beside it.
@@ -159,7 +161,8 @@ module _ {H : Type 0} (is_of : ℕ → H → Type 0) (journal : H → List Entry
     pub seen : GoesOn actor (journal home) m.0
     pub now : m' ≡ (taking actor (journal home) (closed_to home) found gave (given_by home) m.0, (slot_at actor 0, Home home) ∷ m.1)
 
-module _ {H : Type 0} (is_of : H → ℕ → H → Type 0) (journal : H → List Entry) (mailbox : H → Mailbox) (rested : H → Type 0) (given_by : H → ℕ) (closed_to : H → List ℕ) where
+module _ {H : Type 0} (is_of : H → ℕ → H → Type 0) (journal : H → List Entry) (mailbox : H → Mailbox) (rested : H → Type 0) (given_by : H
+    → ℕ) (closed_to : H → List ℕ) where
   -- a step that knows the first home tried to schedule an actor
   abbrev pub Schedules : Step (Slot H) → Me (Slot H) View → ℕ → Me (Slot H) View → Type 0
   Schedules st m found m' = (actor : ℕ) (first : Snapshot H) → st.word ≡ word_at actor 0 → st.said ≡ some (First first)

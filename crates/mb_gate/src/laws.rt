@@ -1,4 +1,4 @@
-ghost use Rattle.mb_gate.specs.Shown.{ShowsMachine, ShowsClosed};
+ghost use Rattle.mb_gate.specs.Shown.{MakesWhole, ShowsMachine, ShowsClosed, ShowsBalance, ShowsNumbers, ReleasesAlike};
 
 use crate::resident::Resident;
 
@@ -12,4 +12,28 @@ pub fn words_show_the_machine<H: Resident>()
 /// A law: between any two atomic steps each actor of which a home says that it is closed is closed.
 pub fn closed_receivers_are_closed<H: Resident>()
     ensures { (first : H) → ShowsClosed (H.is_of first) H.journal H.mailbox H.rested H.given H.closed_to }
+{}
+
+/// A law: between any two atomic steps each actor's waiting number is what all passes and claims together counted as sent,
+/// less what they took back and what they counted as taken, modulo 2^64.
+pub fn waiting_is_sent_less_taken<H: Resident>()
+    ensures { (first : H) → ShowsBalance (H.is_of first) H.journal H.mailbox H.rested H.given H.closed_to }
+{}
+
+/// A law: a number names one message of an actor's list, while no more than 2^64 were ever listed. What `sys_enqueue` put
+/// into it under the number that it answered is what a drain gave, or gives, under that number.
+pub fn a_number_names_one_message<H: Resident>()
+    ensures { (first : H) → ShowsNumbers (H.is_of first) H.journal H.mailbox H.rested H.given H.closed_to }
+{}
+
+/// A law: that in `release` the claim's seat takes the pass in before the cell goes home tells the pass the same as if it
+/// took over what the claim's seat knew after that.
+pub fn releases_are_alike()
+    ensures { ReleasesAlike }
+{}
+
+/// A law: the first pass has the whole share, and a pass that had it has it again once it has taken in what was split off
+/// it.
+pub fn what_was_split_is_whole_again()
+    ensures { MakesWhole }
 {}

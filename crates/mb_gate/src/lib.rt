@@ -5,10 +5,10 @@
 //! interleaving of any number of passes: a scheduled actor has one claim, a closed one at most one, every other none; a
 //! cell at home is its actor's own, and its word is the one of its journal, which goes on from all that any pass has seen;
 //! what was seen closed is closed; an open actor that nobody holds is owed a look by some pass where it has system work,
-//! and a wake-up where it may handle envelopes and some are counted as waiting. What each call adds to what its pass or
-//! claim knows is said exactly, and each step leaves a trace there, so that a body that makes no step meets no clause. At
-//! the end each cell that no claim has comes out. No clause says that a try ever wins, or that a debt is ever paid; how
-//! many a waiting count counts is tested alone.
+//! and a wake-up where it may handle envelopes and some are counted as waiting, which is how many all passes and claims
+//! counted as sent less those that were taken back or taken. What each call adds to what its pass or claim knows is said
+//! exactly, and each step leaves a trace there, so that a body that makes no step meets no clause. At the end each cell
+//! that no claim has comes out. No clause says that a try ever wins, or that a debt is ever paid.
 #![tactic(auto)]
 
 mod claim;
@@ -36,7 +36,10 @@ mod view;
 
 pub use claim::Claim;
 pub use gates::Gates;
-pub use laws::{closed_receivers_are_closed, words_show_the_machine};
+pub use laws::{
+    a_number_names_one_message, closed_receivers_are_closed, releases_are_alike,
+    waiting_is_sent_less_taken, what_was_split_is_whole_again, words_show_the_machine,
+};
 pub use left::Left;
 pub use new::NoGates;
 pub use pass::Pass;

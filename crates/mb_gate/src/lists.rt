@@ -8,7 +8,7 @@ ghost use Rattle.mb_gate.specs.declared.slot.Slot.TheVariants.{Empty, List};
 ghost use Rattle.mb_gate.specs.View.{enlisting, refusing, draining, ending, given_after};
 ghost use Rattle.mb_gate.specs.Rule.{is_some_item};
 ghost use Rattle.mb_gate.specs.Claims.{held_in};
-ghost use Rattle.mb_gate.specs.Lists.{IsLentBy, IsOut, HasClaim, IsNumberedFrom, with_listed, with_drained, with_ended};
+ghost use Rattle.mb_gate.specs.Lists.{IsLentBy, IsOut, HasClaim, IsNumberedFrom, may_grip, with_listed, with_drained, with_ended};
 ghost use Rattle.mb_gate.specs.Names.{gates_id, pass_id, claim_id, actors_of, known_by};
 ghost use Rattle.mb_gate.specs.Names.{known_of, held_actor, status_of, taken_with, closed_with, gave_last, given_to};
 ghost use Rattle.mb_gate.specs.Names.{drained_by, recorded_by, IsRecorded};
@@ -63,6 +63,7 @@ impl<H: Resident> Gates<H> {
         requires there { id.0 < actors_of self.now }
         requires in_slot { word % 2 ≡ 0 }
         requires no_list { seat.old.me.0.list ≡ None }
+        requires may { may_grip id.0 seat.old.me.0 ≡ true }
         ensures ours { seat.new.table_id ≡ seat.old.table_id }
         ensures answer { MatchOption result (seat.new.me ≡ seat.old.me) (λ list. IsLentBy id.0 word list seat.old.me seat.new.me) }
     {
@@ -115,6 +116,7 @@ impl<H: Resident> Gates<H> {
         requires ours { seat.old.table_id ≡ gates_id self.now }
         requires there { id.0 < actors_of self.now }
         requires no_list { seat.old.me.0.list ≡ None }
+        requires share { is_some_item seat.old.me.0.share ≡ true }
         ensures ours { seat.new.table_id ≡ seat.old.table_id }
         ensures refused { result ≡ None → seat.new.me ≡ (refusing id.0 message seat.old.me.0, seat.old.me.1) }
         ensures lent { IfSome result (λ got. IsLentBy id.0 got.0 got.1 seat.old.me seat.new.me × (got.1.closed ≡ false)) }
@@ -144,6 +146,7 @@ impl<H: Resident> Gates<H> {
         requires ours { seat.old.table_id ≡ gates_id self.now }
         requires there { id.0 < actors_of self.now }
         requires no_list { seat.old.me.0.list ≡ None }
+        requires holder { HasClaim id.0 seat.old.me }
         ensures ours { seat.new.table_id ≡ seat.old.table_id }
         ensures answer { IsLentBy id.0 result.0 result.1 seat.old.me seat.new.me }
     {

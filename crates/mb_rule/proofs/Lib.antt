@@ -3,3 +3,5 @@ pub mod OwedLemmas
 pub mod SeenLemmas
 pub mod LayoutLemmas
 pub mod RuledLemmas
+pub mod SummedLemmas
+pub mod SharesLemmas

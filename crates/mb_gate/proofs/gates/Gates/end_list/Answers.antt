@@ -15,7 +15,8 @@ store-requires g c =
     let laid = c.lay_list.ensures.carries in (
       search rules,
       search rules,
-      ends_allowed (g.H.Resident.is_of (first_of c.args.self.now)) g.H.Resident.journal g.H.Resident.mailbox g.H.Resident.rested g.H.Resident.given g.H.Resident.closed_to _ _ _ _ c.args.id.0 _ (let k =
+      ends_allowed (g.H.Resident.is_of (first_of c.args.self.now)) g.H.Resident.journal g.H.Resident.mailbox g.H.Resident.rested g.H.Resident.given
+          g.H.Resident.closed_to _ _ _ _ c.args.id.0 _ (let k =
           c.args.self.now.keyed in let t = c.requires.there in omega arith) (held_in c.args.seat.now.me.0) l _ c.word_index-gate.ensures
           (ap (λ m. m.0.claim) laid ∙ c.requires.holder.has) c.requires.holder.of (ap (λ m. m.0.list) laid ∙ lent.has) refl (laid_back
           c.args.id.0 _ _ c.args.seat.now.me _ laid c.close-chain.ensures.list)
@@ -27,7 +28,8 @@ returns-clause-drained g c =
     let lent = c.requires.lent in
     let l : Lent = record { actor = c.args.id.0; listed = c.args.list; gave = lent.gave } in
     let laid = c.lay_list.ensures.carries in
-    let told = c.store.ensures.2 l (held_in c.args.seat.now.me.0) (ap (λ m. m.0.list) laid ∙ lent.has) (ap (λ m. m.0.claim) laid ∙ c.requires.holder.has) in
+    let told = c.store.ensures.2 l (held_in c.args.seat.now.me.0) (ap (λ m. m.0.list) laid ∙ lent.has) (ap (λ m. m.0.claim) laid
+    ∙ c.requires.holder.has) in
     told.0 ∙ (λ i. (ending c.args.id.0 (sym c.close-chain.ensures.chain i) (held_in c.args.seat.now.me.0).gave (laid i).0, rest (laid i).1))
 
 pub returns-clause-numbers : goal.returns-clause-numbers
@@ -35,5 +37,6 @@ returns-clause-numbers g c =
     let lent = c.requires.lent in
     let l : Lent = record { actor = c.args.id.0; listed = c.args.list; gave = lent.gave } in
     let laid = c.lay_list.ensures.carries in
-    let told = c.store.ensures.2 l (held_in c.args.seat.now.me.0) (ap (λ m. m.0.list) laid ∙ lent.has) (ap (λ m. m.0.claim) laid ∙ c.requires.holder.has) in
+    let told = c.store.ensures.2 l (held_in c.args.seat.now.me.0) (ap (λ m. m.0.list) laid ∙ lent.has) (ap (λ m. m.0.claim) laid
+    ∙ c.requires.holder.has) in
     record { messages = c.args.list.messages; each = c.close-chain.ensures.chain ∙ ap (λ n. numbered n c.args.list.messages) told.1 }

@@ -9,7 +9,8 @@ some_same : {A : Type 0} (a b : A) → Some a ≡ Some b → a ≡ b
 some_same a b e = cc
 
 pub new-requires : goal.new-requires
-new-requires g c = starts (g.H.Resident.is_of c.first_of.result.value) g.H.Resident.journal g.H.Resident.mailbox g.H.Resident.rested g.H.Resident.given g.H.Resident.closed_to _ c.args.homes.items _ _ (omega arith)
+new-requires g c = starts (g.H.Resident.is_of c.first_of.result.value) g.H.Resident.journal g.H.Resident.mailbox g.H.Resident.rested
+    g.H.Resident.given g.H.Resident.closed_to _ c.args.homes.items _ _ (omega arith)
     (c.deref-2.ensures.value ∙ (c.in-Ok.ensures ∙ ap (rows_of g.H.Resident.mailbox) c.deref.ensures.value)) c.shelve-slots.ensures.slots
     (c.requires.fresh c.first_of.result.value c.first_of.ensures)
 
@@ -21,7 +22,14 @@ invariant_of-result g c =
     let made = c.in-Ok-new.ensures.ok in
     let same = some_same c.first_of-2.result.value c.first_of.result.value (sym c.first_of-2.ensures ∙ c.first_of.ensures) in
     let known = (λ i. First (record { marker = c.first_of.result.marker; value = same i })) ∙ ap (λ k. First k.first) (sym made.5) in
-    record { wide = made.0 ∙ (words ∙ (omega arith)); deep = made.1 ∙ (slots ∙ (omega arith)); keyed = ap (λ k. k.actors) made.5; known = known; some = (omega arith, omega arith) }
+    record {
+      wide = made.0 ∙ (words ∙ (omega arith));
+      deep = made.1 ∙ (slots ∙ (omega arith));
+      keyed = ap
+          (λ k. k.actors) made.5;
+      known = known;
+      some = (omega arith, omega arith);
+    }
 
 pub unshelve-requires-clause-room : goal.unshelve-requires-clause-room
 unshelve-requires-clause-room g c =

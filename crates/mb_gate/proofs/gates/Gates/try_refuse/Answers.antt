@@ -9,7 +9,8 @@ compare_exchange_with-found-requires g c = (
   search rules,
   search rules,
   refuses_allowed (g.H.Resident.is_of (first_of c.args.self.now)) g.H.Resident.journal
-      g.H.Resident.mailbox g.H.Resident.rested g.H.Resident.given g.H.Resident.closed_to _ _ _ _ c.args.id.0 _ (let k = c.args.self.now.keyed in let t = c.requires.there in omega arith) _
+      g.H.Resident.mailbox g.H.Resident.rested g.H.Resident.given g.H.Resident.closed_to _ _ _ _ c.args.id.0 _
+      (let k = c.args.self.now.keyed in let t = c.requires.there in omega arith) _
       c.args.message c.word_index-gate.ensures c.requires.ended,
 )
 
