@@ -30,8 +30,6 @@ mod sayings;
 mod schedule;
 mod sending;
 mod slot;
-#[cfg(test)]
-mod tests;
 mod view;
 
 pub use claim::Claim;

@@ -1,6 +1,6 @@
 use Rattle.std.proofs.Common.{◌≡◌, []}
 use Rattle.mb_gate.specs.Names.{gates_id, claim_id, held_actor, given_to, taken_with, recorded_by}
-use Rattle.mb_gate.proofs.tests.hold.Given as goal
+use Rattle.mb_gate_tests.proofs.three.hold.Given as goal
 
 abbrev pub invariant-loop : goal.invariant-loop
 invariant-loop g l =
