@@ -12,7 +12,7 @@ use std::sync::Wait;
 use std::time::{Clock, Instant};
 
 /// The one actor.
-const ACTOR: ActorId = ActorId(1);
+pub const ACTOR: ActorId = ActorId(1);
 
 /// The status is read.
 pub fn loads<R: Clock>(rt: &R, alloc: Global) -> Made {

@@ -4,6 +4,7 @@
 
 mod alone;
 mod desk;
+mod listed;
 mod paired;
 mod shown;
 
@@ -16,6 +17,11 @@ fn main(rt: HostRuntime) -> io::Result<()> {
     show(&rt, "a won turn", alone::turns(&rt, alloc))?;
     show(&rt, "an envelope noted", alone::notes(&rt, alloc))?;
     show(&rt, "a drain of an empty list", alone::drains(&rt, alloc))?;
+    show(
+        &rt,
+        "a system message put in, with its part of a drain",
+        listed::rounds(&rt, alloc),
+    )?;
     show(
         &rt,
         "a won turn, two threads on two actors",

@@ -152,15 +152,15 @@ use Rattle.mb_rule.proofs.SharesLemmas.{halves_fit, halves_amount}
 use Rattle.mb_gate.proofs.Facts.{no_share}
 
 pub some_halved : (share : List ℕ) → is_some_item share ≡ true → is_some_item (halved share) ≡ true
-some_halved [] some = some
-some_halved (d ∷ ds) some = refl
+some_halved [] has = has
+some_halved (d ∷ ds) has = refl
 
 pub some_half : (share : List ℕ) → is_some_item share ≡ true → is_some_item (half_of share) ≡ true
-some_half [] some = some
-some_half (d ∷ ds) some = refl
+some_half [] has = has
+some_half (d ∷ ds) has = refl
 
 no_more : (m k : ℕ) → k ≡ 0 → m + k ≡ m
-no_more m k none = omega arith
+no_more m k is_none = omega arith
 
 none_more : (m : ℕ) → 0 + m ≡ m
 none_more m = omega arith
@@ -627,8 +627,8 @@ module _ {H : Type 0} (is_of : ℕ → H → Type 0) (journal : H → List Entry
           back = no_more (back_by a v) 0 refl;
         })
         (λ e l r. record { fits = halves_fit e v.share l; amounts = halves_amount e v.share l })
-        (λ a none. absurd (no_share (halved v.share) (some_halved v.share share) none)) (λ a none. absurd (no_share (half_of v.share) (some_half
-        v.share share) none))
+        (λ a bare. absurd (no_share (halved v.share) (some_halved v.share share) bare)) (λ a bare. absurd (no_share (half_of v.share) (some_half
+        v.share share) bare))
         (λ b. vouches_without b v.log) (λ a x k. record { seen = k.seen; said = k.said }) (λ a x k. record {
           seen = each_without (IsSo a x) v.log
               k.seen;
@@ -646,7 +646,7 @@ module _ {H : Type 0} (is_of : ℕ → H → Type 0) (journal : H → List Entry
           back = none_more (back_by a v);
         })
         (λ e l r. record { fits = r; amounts = none_more (amount e v.share) })
-        (λ a none. record { got = refl; back = refl; on = refl; rest = λ _. (refl, refl) }) (λ a none. absurd (no_share v.share share none))
+        (λ a bare. record { got = refl; back = refl; on = refl; rest = λ _. (refl, refl) }) (λ a bare. absurd (no_share v.share share bare))
         (λ b p. p) (λ a x k. record { seen = tt; said = tt }) (λ a x k. record { seen = k.seen; said = k.said }))
 
     pub joins_allowed : (v : View) (other : ℕ) (w : View) → w.claim ≡ None → w.list ≡ None → is_some_item w.share ≡ true → Joins (Rule n) id v other

@@ -168,7 +168,7 @@ claimed_bare actor vs id v w c at has share got back on bare = learns (λ (u : V
     some_none c e = cc
 
 pub no_share : (share : List ℕ) → is_some_item share ≡ true → share ≡ [] → ⊥
-no_share share some none = false_true (sym (ap is_some_item none) ∙ some)
+no_share share has none = false_true (sym (ap is_some_item none) ∙ has)
   where
     false_true : false ≡ true → ⊥
     false_true e = cc
@@ -193,8 +193,8 @@ gripper_bare actor vs id v w at claim log share turns may bare = learns (λ (u :
 
 -- and one with a share anything
 pub sharer_bare : (actor : ℕ) (vs : List View) (id : ℕ) (w : View) → is_some_item w.share ≡ true → EachBare actor vs → EachBare actor (set vs id w)
-sharer_bare actor vs id w some bare = learns (λ (u : View). u.share ≡ [] → IsBare actor u) (λ (u : View). u.share ≡ [] → IsBare actor u) vs id w (λ u
-    k. k) (λ none. absurd (no_share w.share some none)) bare
+sharer_bare actor vs id w has bare = learns (λ (u : View). u.share ≡ [] → IsBare actor u) (λ (u : View). u.share ≡ [] → IsBare actor u) vs id w (λ u
+    k. k) (λ none. absurd (no_share w.share has none)) bare
 
 module _ {H : Type 0} (is_of : ℕ → H → Type 0) (journal : H → List Entry) (mailbox : H → Mailbox) (rested : H → Type 0) (given_by : H
     → ℕ) (closed_to : H → List ℕ) (actor : ℕ) where

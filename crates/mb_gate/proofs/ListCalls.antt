@@ -215,7 +215,7 @@ empty_is false (x ∷ xs) h = refl
 
 -- a seat with a share may take a list out, and one with the claim may
 pub sharer_may : (actor : ℕ) (v : View) → is_some_item v.share ≡ true → may_grip actor v ≡ true
-sharer_may actor v some = ap (λ b. b || is_some (claim_for actor v)) some
+sharer_may actor v has = ap (λ b. b || is_some (claim_for actor v)) has
 
 pub holder_may : (actor : ℕ) (v : View) (c : Held) → v.claim ≡ Some c → c.actor ≡ actor → may_grip actor v ≡ true
 holder_may actor v c has of = ap (λ (z : Option Held). is_some_item v.share || is_some z) (ap (held_of actor) has ∙ held_here actor c of) ∙ or_true

@@ -54,6 +54,7 @@ use Rattle.mb_gate.specs.declared.slot.Slot.TheVariants.{List as Listing}
 use Rattle.mb_gate.specs.View.{View, Sight, Read, Pushed, Held, Lent, owes, lending, enlisting, refusing, given_after, regiven, unloading}
 use Rattle.mb_gate.specs.Rule.{
   Word,
+  Waiting,
   Gate,
   word_offset,
   Shelf,
@@ -304,7 +305,7 @@ module _ {H : Type 0} (is_of : ℕ → H → Type 0) (journal : H → List Entry
       → ((a : ℕ) (z : Place) → (a ≡ actor → (z.ghost.listed ≡ new) × IsPart (listed l.listed) (all_numbered z.ghost)) → IsSo a z s)
       → tell (unloading s (listed l.listed) gave me.0, tail_of me.1)
       → Goes word_offset slot_offset F actor id me Gate n tell x vs
-  unloads actor id n s me c l new gave tell x vs f at has of keeps of_list carried word empty stays_closed closed counts none so told =
+  unloads actor id n s me c l new gave tell x vs f at has of keeps of_list carried word empty stays_closed closed counts uncounted so told =
       let given = listed l.listed in
       let v = me.0 in
       let h = is_held is_of journal mailbox rested given_by closed_to actor id x vs v c f at has of in
@@ -347,11 +348,11 @@ module _ {H : Type 0} (is_of : ℕ → H → Type 0) (journal : H → List Entry
                 let listed_many = ap (λ (z : MessageList). length z.messages) k.1.taken in
                 let before = f.listing.counted in omega arith;
           };
-          balance = still_balanced actor (x.row Waiting) vs id v w at (counts_no_more actor s v w refl (none actor) refl refl refl) f.balance;
+          balance = still_balanced actor (x.row Waiting) vs id v w at (counts_no_more actor s v w refl (uncounted actor) refl refl refl) f.balance;
           turns = still_turns actor x.ghost.holder (Some (id, c')) vs id v w at refl refl (sym (ap claims_out h.0)) f.turns;
           shares = shares_stay (λ (u : View). u.share) vs id v w at refl f.shares;
           bare = claimed_bare actor vs id v w c' at (ap (λ z. held_of actor (regiven given gave z)) has ∙ held_here actor c' of) refl refl refl
-              (counts_no_more actor s v w refl (none actor) refl refl refl).on f.bare;
+              (counts_no_more actor s v w refl (uncounted actor) refl refl refl).on f.bare;
           vouched = λ b. still_owed (Vouches b) (IsAmong b x.ghost.closed_to) (IsAmong b x.ghost.closed_to) vs id v w at (λ d. d)
               (λ _. among_more (Read b 1) s v.log) (f.vouched b);
           message = still_owed (PaysMessage actor) (MessageDue x) (MessageDue y) vs id v w at (λ z. z) (λ _ p. p) f.message;
@@ -367,7 +368,7 @@ module _ {H : Type 0} (is_of : ℕ → H → Type 0) (journal : H → List Entry
               c (λ e. i (sym e ∙ of))));
           list = sym (ap (lent_of a) keeps ∙ lent_else a l (λ e. i (sym e ∙ of_list)));
           debt = refl;
-          account = counts_no_more a s v w refl (none a) refl refl refl;
+          account = counts_no_more a s v w refl (uncounted a) refl refl refl;
           vouches = λ b. among_more (Read b 1) s v.log;
           knows = λ q t. record { seen = (so a q (λ e. absurd (i e)), t.seen); said = t.said };
         }) p;

@@ -75,6 +75,7 @@ use Rattle.mb_gate.specs.View.{
 use Rattle.mb_gate.specs.Waiting.{counted_on, counted_off, on_by, off_by, IsBalance}
 use Rattle.mb_gate.specs.Rule.{
   Word,
+  Waiting,
   Shelf,
   Ghost,
   held_of,
@@ -137,8 +138,8 @@ both_logs : {A : Type 0} (f : A → ℕ) (a b : List A) → total f (a ++ b) + 0
 both_logs f a b = let e = total_append f a b in omega arith
 
 pub some_left : {A : Type 0} (a b : List A) → is_some_item a ≡ true → is_some_item (a ++ b) ≡ true
-some_left [] b some = absurd (cc)
-some_left (x ∷ xs) b some = refl
+some_left [] b has = absurd (cc)
+some_left (x ∷ xs) b has = refl
 
 -- what one counted of this actor two have counted
 pub record SharesAccount (actor : ℕ) (v left right : View) : Type 0 where

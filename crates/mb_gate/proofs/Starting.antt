@@ -169,7 +169,7 @@ module _ {H : Type 0} (is_of : ℕ → H → Type 0) (journal : H → List Entry
           balance = ap (λ k. (k + total (off_by a) (alone ∷ [])) % 2 ^ 64) b.1.waiting;
           turns = refl;
           shares = first_shares (λ (u : View). u.share) alone refl;
-          bare = only_alone (λ (u : View). u.share ≡ [] → IsBare a u) (λ none. absurd (no_share (0 ∷ []) refl none));
+          bare = only_alone (λ (u : View). u.share ≡ [] → IsBare a u) (λ empty. absurd (no_share (0 ∷ []) refl empty));
           vouched = λ other is. absurd (none_among other is);
           message = λ due. absurd (let w = b.1.waiting in let d = due.1 in omega arith);
           system = λ due. absurd (let d = due.1 in cc);

@@ -51,6 +51,7 @@ use Rattle.mb_gate.specs.declared.slot.Slot.TheVariants.{Home}
 use Rattle.mb_gate.specs.View.{View, Read, Saw, rewritten, Held, owes, reading, taking, writing, idling}
 use Rattle.mb_gate.specs.Rule.{
   Word,
+  Waiting,
   Status,
   Flag,
   word_offset,

@@ -7,7 +7,7 @@ use crate::calls::{
     word,
 };
 use crate::desk::{Desk, GUARDIAN, gates_of_one};
-use crate::tries::{Missed, NOTHING, close, drain, give, got, missed};
+use crate::tries::{Miss, NOTHING, close, drain, give, got, missed};
 use mb_gate::{Gates, Left, NoGates, Pass};
 use mb_msg::SysMsg;
 use mb_status::Status;
@@ -40,7 +40,7 @@ fn an_actor_is_scheduled_and_given_back(rt: HostRuntime) -> Result<(), Fail> {
     let mut claim = got(&rt, &gates, &mut a);
     assert_eq!(rt; claim.actor(), GUARDIAN);
     assert_eq!(rt; word(&gates, &mut a), 6);
-    assert_eq!(rt; missed(&gates, &mut b), Some(Missed::Already));
+    assert_eq!(rt; missed(&gates, &mut b), Some(Miss::Already));
     assert!(rt; resume(&gates, &mut claim));
     assert_eq!(rt; word(&gates, &mut b), 2);
     give(&gates, claim, &mut a);
@@ -59,7 +59,7 @@ fn a_closed_actor_stays_closed(rt: HostRuntime) -> Result<(), Fail> {
     assert_eq!(rt; word(&gates, &mut a), 1);
     assert_eq!(rt; tally.number, 0);
     give(&gates, claim, &mut b);
-    assert_eq!(rt; missed(&gates, &mut a), Some(Missed::Closed));
+    assert_eq!(rt; missed(&gates, &mut a), Some(Miss::Closed));
     assert_eq!(rt;
         enqueue(&rt, alloc, &gates, &mut a, SysMsg::Terminate),
         None
@@ -74,8 +74,9 @@ fn a_held_cell_is_not_left(rt: HostRuntime) -> Result<(), Fail> {
     let alloc = rt.alloc();
     let (gates, mut pass) = gates_of_one(alloc)?;
     let claim = got(&rt, &gates, &mut pass);
-    assert_eq!(rt; left_of_one(alloc, gates, pass)?, None);
+    let left = left_of_one(alloc, gates, pass);
     claim.abandon();
+    assert_eq!(rt; left?, None);
     Ok(())
 }
 

@@ -49,6 +49,18 @@ struct Parked {
     ghost begun: { (taken_with claim ≡ []) × (recorded_by claim ≡ []) },
 }
 
+impl Parked {
+    // The claim, which is to be spent.
+    fn taken(self) -> Claim<Desk>
+        ensures same { result ≡ self.claim }
+        ensures own { (result.home.actor ≡ held_actor result) × (result.home.given ≡ given_to result) }
+        ensures begun { (taken_with result ≡ []) × (recorded_by result ≡ []) }
+    {
+        let Parked { claim } = self;
+        claim
+    }
+}
+
 impl Drop for Parked {
     fn drop(self) {
         let Parked { claim } = self;
@@ -61,7 +73,7 @@ fn hold<R: Wait>(rt: &R, gates: &Gates<Desk>, parked: Parked, mut pass: Pass<Des
     requires ours { (claim_id parked.claim ≡ gates_id gates.now) × (pass_id pass ≡ gates_id gates.now) }
     requires there { held_actor parked.claim < actors_of gates.now }
 {
-    let Parked { mut claim } = parked;
+    let mut claim = parked.taken();
     let mut tally = NOTHING;
     for _ in rt.forever() {
         if suspend(gates, &mut claim).is_some() {

@@ -54,22 +54,22 @@ pub fn give(gates: &Gates<Desk>, mut claim: Claim<Desk>, pass: &mut Pass<Desk>)
 
 /// What a try that does not win answers.
 #[derive(Clone, Copy, Debug, PartialEq)]
-pub enum Missed {
+pub enum Miss {
     Already,
     Closed,
     Lost,
 }
 
 /// What a try answers that does not win; a claim that is got is abandoned.
-pub fn missed(gates: &Gates<Desk>, pass: &mut Pass<Desk>) -> Option<Missed>
+pub fn missed(gates: &Gates<Desk>, pass: &mut Pass<Desk>) -> Option<Miss>
     requires ours { pass_id pass.old ≡ gates_id gates.now }
     requires there { 0 < actors_of gates.now }
     ensures ours { pass_id pass.new ≡ pass_id pass.old }
 {
     match gates.try_schedule(pass, GUARDIAN) {
-        Tried::Already => Some(Missed::Already),
-        Tried::Closed => Some(Missed::Closed),
-        Tried::Lost(_) => Some(Missed::Lost),
+        Tried::Already => Some(Miss::Already),
+        Tried::Closed => Some(Miss::Closed),
+        Tried::Lost(_) => Some(Miss::Lost),
         Tried::Got(claim) => {
             claim.abandon();
             None
