@@ -39,7 +39,9 @@ fn fill<R: Wait>(rt: &R, alloc: Global, gates: &Gates<Desk>, pass: &mut Pass<Des
     ensures ours { pass_id pass.new ≡ pass_id pass.old }
 {
     for _ in 0..NODES {
-        let node = Node::new(alloc, SysMsg::Suspend).ok()?;
+        let Ok(node) = Node::new(alloc, SysMsg::Suspend) else {
+            return None;
+        };
         let _ = gates.sys_enqueue(rt, pass, ACTOR, node);
     }
     Some(())
@@ -69,7 +71,7 @@ fn go_often<R: Wait>(
     done
 }
 
-// Puts each message of the chain into the list again, and counts them.
+// Puts each node of the chain into the list again, and counts them.
 fn put_back<R: Wait>(rt: &R, gates: &Gates<Desk>, pass: &mut Pass<Desk>, mut chain: Chain) -> u64
     requires ours { pass_id pass.old ≡ gates_id gates.now }
     requires there { 1 < actors_of gates.now }
@@ -79,7 +81,8 @@ fn put_back<R: Wait>(rt: &R, gates: &Gates<Desk>, pass: &mut Pass<Desk>, mut cha
     let mut count = 0u64;
     for _ in rt.forever() {
         match chain.next() {
-            Some((_number, node)) => {
+            Some((_number, mut node)) => {
+                node.set(SysMsg::Suspend);
                 let _ = gates.sys_enqueue(rt, pass, ACTOR, node);
             }
             None => break,

@@ -197,12 +197,12 @@ sharer_bare actor vs id w has bare = learns (λ (u : View). u.share ≡ [] → I
     k. k) (λ none. absurd (no_share w.share has none)) bare
 
 module _ {H : Type 0} (is_of : ℕ → H → Type 0) (journal : H → List Entry) (mailbox : H → Mailbox) (rested : H → Type 0) (given_by : H
-    → ℕ) (closed_to : H → List ℕ) (actor : ℕ) where
+    → ℕ) (closed_to : H → List ℕ) (actors actor : ℕ) where
   abbrev Place : Type 0
   Place = Spot Word Shelf (Slot H) Ghost
 
   abbrev Facts : Place → List View → Type 0
-  Facts = Fact is_of journal mailbox rested given_by closed_to actor
+  Facts = Fact is_of journal mailbox rested given_by closed_to actors actor
 
   pub still_kept : (x y : Place) → y.row Status ≡ x.row Status → y.row Flag ≡ x.row Flag → y.slot CellShelf ≡ x.slot CellShelf → y.ghost.journal
       ≡ x.ghost.journal → y.ghost.closed_to ≡ x.ghost.closed_to → y.ghost.listed.given ≡ x.ghost.listed.given → y.ghost.gave ≡ x.ghost.gave
@@ -258,6 +258,7 @@ module _ {H : Type 0} (is_of : ℕ → H → Type 0) (journal : H → List Entry
     shelf = f.shelf;
     ended = f.ended;
     listing = f.listing;
+    named = f.named;
     balance = still_balanced actor (x.row Waiting) vs id v w at account f.balance;
     turns = still_turns actor x.ghost.holder x.ghost.holder vs id v w at account.got account.back refl f.turns;
     shares = shares_stay (λ (u : View). u.share) vs id v w at account.share f.shares;

@@ -147,7 +147,7 @@ module _ {H : Type 0} (is_of : ℕ → H → Type 0) (journal : H → List Entry
   home_tells actor x k = ⊎_elim (λ z. inl z) (λ one. inr (k.flag ∙ ap (λ b. if b then 1 else 0) (eq-eqb (x.row Status) 1 one))) k.idle
 
   module _ (n : ℕ) (v : View) (id : ℕ) (ws : List ℕ) (xs : List (Slot H)) (s : State (Slot H) View) (r : Ruled word_offset slot_offset n (Fact is_of
-      journal mailbox rested given_by closed_to) s) (known : get_elem? s.views id ≡ some v) (words : s.words ≡ ws)
+      journal mailbox rested given_by closed_to n) s) (known : get_elem? s.views id ≡ some v) (words : s.words ≡ ws)
       (same : (k : ℕ) (y : Slot H) → get_elem? s.homes k ≡ some (some y) → get_elem? xs k ≡ some y) (actor : ℕ) (inside : actor < n) where
     abbrev here : Place
     here = spot_of word_offset slot_offset s r.ghosts actor
@@ -163,7 +163,7 @@ module _ {H : Type 0} (is_of : ℕ → H → Type 0) (journal : H → List Entry
         let flag = found (word_at actor 1) t.0.flag t.0.flag_is in
         let gate = found (word_at actor 2) t.0.gate t.0.gate_is in
         let k = at_home actor here here.ghost.holder f.cell (⊎_elim (λ z. inl (ap (λ w. w % 4) status ∙ z)) (λ o. inr (flag ∙ o)) t.0.cell) in
-        let l = (is_shelved is_of journal mailbox rested given_by closed_to actor here s.views f (ap (λ w. w % 2) gate ∙ t.0.list)).1 in
+        let l = (is_shelved is_of journal mailbox rested given_by closed_to n actor here s.views f (ap (λ w. w % 2) gate ∙ t.0.list)).1 in
         let home : k.home ≡ left.home = home_same k.home left.home (some-injective _ _ (sym (same (slot_at actor 0) (Home k.home) k.there) ∙ t.1)) in
         let list : here.ghost.listed ≡ t.2.0 = list_same {H = H} here.ghost.listed t.2.0 (some-injective _ _ (sym (same (slot_at actor 1) (Listing
         here.ghost.listed) l.there) ∙ t.2.1)) in
@@ -236,7 +236,7 @@ module _ {H : Type 0} (is_of : ℕ → H → Type 0) (journal : H → List Entry
 
   -- what was taken out of each is what is left of it
   pub are_left : (n : ℕ) (v : View) (id : ℕ) (ws : List ℕ) (xs : List (Slot H)) (all : List (Option (Left H))) → v.list ≡ None
-      → Final (Seen (Ruled word_offset slot_offset n (Fact is_of journal mailbox rested given_by closed_to)) id v) ws xs → length all ≡ n
+      → Final (Seen (Ruled word_offset slot_offset n (Fact is_of journal mailbox rested given_by closed_to n)) id v) ws xs → length all ≡ n
       → ((a : ℕ) (left : Option (Left H)) → slice_get all a ≡ Some left → IsTakenOut ws xs a left)
       → AreLeft is_of journal mailbox rested given_by closed_to n v all
   are_left n v id ws xs all bare_list final many each = record {
@@ -246,9 +246,9 @@ module _ {H : Type 0} (is_of : ℕ → H → Type 0) (journal : H → List Entry
     known = final.1.1;
     many = many;
     each = λ a left inside at. is_left n v id ws xs final.0 final.1.0 final.1.1 final.2 final.4 a inside left (each a left at);
-    out = λ whole a inside at. is_out is_of journal mailbox rested given_by closed_to a _ final.0.views id v (final.1.0.each a inside) final.1.1 whole bare_list (none_left n v id ws xs final.0 final.1.0 final.1.1
+    out = λ whole a inside at. is_out is_of journal mailbox rested given_by closed_to n a _ final.0.views id v (final.1.0.each a inside) final.1.1 whole bare_list (none_left n v id ws xs final.0 final.1.0 final.1.1
         final.2 final.4 a inside (each a None at));
-    back = λ whole a left inside at. is_back is_of journal mailbox rested given_by closed_to a _ final.0.views id v (final.1.0.each a inside) final.1.1 whole (none_holds n v id ws xs final.0 final.1.0
+    back = λ whole a left inside at. is_back is_of journal mailbox rested given_by closed_to n a _ final.0.views id v (final.1.0.each a inside) final.1.1 whole (none_holds n v id ws xs final.0 final.1.0
         final.1.1 final.2 final.4 a inside left (each a (Some left) at));
     closed = λ a other left inside there at is. shows_closed is_of journal mailbox rested given_by closed_to n final.0 final.1.0 a other inside there
         (says_closed n v id ws xs final.0 final.1.0 final.1.1 final.2 final.4 a inside left (each a (Some left) at) other is);

@@ -30,7 +30,9 @@ use Rattle.std.proofs.Common.{
   length,
   length-append,
   arith,
+  All,
 }
+use Rattle.std.proofs.lemmas.List.Elements.{All-push, All-nil}
 use mathlib.Core.Option.{none, some}
 use lib.ListN.{get_elem?}
 use Rattle.mb_status.specs.Mailbox.{Mailbox}
@@ -49,6 +51,7 @@ use Rattle.mb_rule.proofs.SeenLemmas.{learns}
 use Rattle.mb_rule.proofs.SharesLemmas.{shares_stay}
 use Rattle.mb_gate.specs.Turns.{claims_out}
 use Rattle.mb_gate.specs.Lists.{may_grip}
+use Rattle.mb_gate.specs.Named.{NamesBelow}
 use Rattle.mb_gate.specs.declared.slot.Slot.{Slot}
 use Rattle.mb_gate.specs.declared.slot.Slot.TheVariants.{List as Listing}
 use Rattle.mb_gate.specs.View.{View, Sight, Read, Pushed, Held, Lent, owes, lending, enlisting, refusing, given_after, regiven, unloading}
@@ -118,9 +121,9 @@ pub gate_even : (l : MessageList) (gave : Bool) → gate_word false l gave % 2 �
 gate_even l gave = let b = bits (is_some_item l.messages) gave l.closed in omega arith
 
 module _ {H : Type 0} (is_of : ℕ → H → Type 0) (journal : H → List Entry) (mailbox : H → Mailbox) (rested : H → Type 0) (given_by : H
-    → ℕ) (closed_to : H → List ℕ) where
+    → ℕ) (closed_to : H → List ℕ) (actors : ℕ) where
   abbrev F : ℕ → Spot Word Shelf (Slot H) Ghost → List View → Type 0
-  F = Fact is_of journal mailbox rested given_by closed_to
+  F = Fact is_of journal mailbox rested given_by closed_to actors
 
   abbrev M : Type 0
   M = Me (Slot H) View
@@ -171,11 +174,12 @@ module _ {H : Type 0} (is_of : ℕ → H → Type 0) (journal : H → List Entry
         here = record {
           valid = f.valid;
           claims = stays_locked (claim_for actor) x.ghost.holder vs id v w at refl f.claims;
-          cell = still_kept is_of journal mailbox rested given_by closed_to actor x y refl refl refl refl refl refl refl x.ghost.holder f.cell;
+          cell = still_kept is_of journal mailbox rested given_by closed_to actors actor x y refl refl refl refl refl refl refl x.ghost.holder f.cell;
           lists = takes_up (list_for actor) vs id v w l at (lent_here actor l refl) (subst (λ o. Locked (list_for actor) o vs) h.0 f.lists);
           shelf = record { taken = refl; gave = refl; word = ap (λ n. n + 1) (sym is ∙ h.1.word) ∙ sym (gate_out x.ghost.listed x.ghost.gave) };
           ended = f.ended;
           listing = f.listing;
+          named = f.named;
           balance = still_balanced actor (x.row Waiting) vs id v w at (record { on = refl; off = refl; share = refl; got = refl; back = refl })
               f.balance;
           turns = still_turns actor x.ghost.holder x.ghost.holder vs id v w at refl refl refl f.turns;
@@ -188,7 +192,7 @@ module _ {H : Type 0} (is_of : ℕ → H → Type 0) (journal : H → List Entry
           seen = let k = goes_on actor x y v grows (f.seen id v at) in
               learns (Knows actor x) (Knows actor y) vs id w (λ u. goes_on actor x y u grows) (record { seen = k.seen; said = k.said }) f.seen;
         };
-        others = λ a n z k. elsewhere is_of journal mailbox rested given_by closed_to a z vs id v w at
+        others = λ a n z k. elsewhere is_of journal mailbox rested given_by closed_to actors a z vs id v w at
             (record {
               claim = refl;
               list = lent_else a l (λ e. n (sym e)) ∙ sym (ap (lent_of a) bare);
@@ -208,8 +212,9 @@ module _ {H : Type 0} (is_of : ℕ → H → Type 0) (journal : H → List Entry
   pub enlists : (actor id n : ℕ) (me : M) (l : Lent) (m : SysMsg) (tell : M → Type 0) (x : Place) (vs : List View) → F actor x vs → get_elem? vs
       id ≡ some me.0 → me.0.list ≡ Some l → l.actor ≡ actor
       → me.1 ≡ (slot_at actor 1, Listing (with_last l.listed m)) ∷ tail_of me.1 → n ≡ gate_word false (with_last l.listed m) l.gave
+      → NamesBelow actors m
       → tell (enlisting actor (pushed l.listed) m me.0, tail_of me.1) → Goes word_offset slot_offset F actor id me Gate n tell x vs
-  enlists actor id n me l m tell x vs f at has of carried word told =
+  enlists actor id n me l m tell x vs f at has of carried word names told =
       let v = me.0 in
       let h = is_lent actor id x vs v l f at has of in
       let w = enlisting actor (pushed l.listed) m v in
@@ -242,7 +247,7 @@ module _ {H : Type 0} (is_of : ℕ → H → Type 0) (journal : H → List Entry
         here = record {
           valid = f.valid;
           claims = stays_locked (claim_for actor) x.ghost.holder vs id v w at refl f.claims;
-          cell = still_kept is_of journal mailbox rested given_by closed_to actor x y refl refl refl refl refl
+          cell = still_kept is_of journal mailbox rested given_by closed_to actors actor x y refl refl refl refl refl
               (ap (λ (z : MessageList). z.given) h.1.taken) refl x.ghost.holder f.cell;
           lists = puts_back (list_for actor) vs id v w l at refl (subst (λ o. Locked (list_for actor) o vs) h.0 f.lists);
           shelf = record { there = refl; word = word ∙ ap (gate_word false (with_last l.listed m)) h.1.gave };
@@ -253,6 +258,8 @@ module _ {H : Type 0} (is_of : ℕ → H → Type 0) (journal : H → List Entry
                 MessageList). f.listing.given ++ (z.messages ++ m ∷ [])) (sym h.1.taken));
             counted = ap (λ (z : MessageList). z.given) h.1.taken ∙ f.listing.counted;
           };
+          named = All-push (NamesBelow actors) l.listed.messages m (subst (λ (z : MessageList). All (NamesBelow actors) z.messages) (sym h.1.taken)
+              f.named) names;
           balance = still_balanced actor (x.row Waiting) vs id v w at (counts_no_more actor (Pushed actor (pushed l.listed) m) v w refl
               (refl, refl) refl refl refl)
               f.balance;
@@ -281,7 +288,7 @@ module _ {H : Type 0} (is_of : ℕ → H → Type 0) (journal : H → List Entry
                 );
               }) f.seen;
         };
-        others = λ a k z s. elsewhere is_of journal mailbox rested given_by closed_to a z vs id v w at
+        others = λ a k z s. elsewhere is_of journal mailbox rested given_by closed_to actors a z vs id v w at
             (record {
               claim = refl;
               list = sym (ap (lent_of a) has ∙ lent_else a l (λ e. k (sym e ∙ of)));
@@ -308,7 +315,7 @@ module _ {H : Type 0} (is_of : ℕ → H → Type 0) (journal : H → List Entry
   unloads actor id n s me c l new gave tell x vs f at has of keeps of_list carried word empty stays_closed closed counts uncounted so told =
       let given = listed l.listed in
       let v = me.0 in
-      let h = is_held is_of journal mailbox rested given_by closed_to actor id x vs v c f at has of in
+      let h = is_held is_of journal mailbox rested given_by closed_to actors actor id x vs v c f at has of in
       let k = is_lent actor id x vs v l f at keeps of_list in
       let lent = k in
       let w = unloading s given gave v in
@@ -348,6 +355,7 @@ module _ {H : Type 0} (is_of : ℕ → H → Type 0) (journal : H → List Entry
                 let listed_many = ap (λ (z : MessageList). length z.messages) k.1.taken in
                 let before = f.listing.counted in omega arith;
           };
+          named = subst (All (NamesBelow actors)) (sym empty) (All-nil (NamesBelow actors));
           balance = still_balanced actor (x.row Waiting) vs id v w at (counts_no_more actor s v w refl (uncounted actor) refl refl refl) f.balance;
           turns = still_turns actor x.ghost.holder (Some (id, c')) vs id v w at refl refl (sym (ap claims_out h.0)) f.turns;
           shares = shares_stay (λ (u : View). u.share) vs id v w at refl f.shares;
@@ -363,7 +371,7 @@ module _ {H : Type 0} (is_of : ℕ → H → Type 0) (journal : H → List Entry
                 said = k.said;
               }) f.seen;
         };
-        others = λ a i z p. elsewhere is_of journal mailbox rested given_by closed_to a z vs id v w at (record {
+        others = λ a i z p. elsewhere is_of journal mailbox rested given_by closed_to actors a z vs id v w at (record {
           claim = ap (λ z. held_of a (regiven given gave z)) has ∙ (held_else a c' (λ e. i (sym e ∙ of)) ∙ sym (ap (held_of a) has ∙ held_else a
               c (λ e. i (sym e ∙ of))));
           list = sym (ap (lent_of a) keeps ∙ lent_else a l (λ e. i (sym e ∙ of_list)));
@@ -384,14 +392,14 @@ module _ {H : Type 0} (is_of : ℕ → H → Type 0) (journal : H → List Entry
     deed = stays;
     kept = x.ghost;
     able = tt;
-    here = load_here is_of journal mailbox rested given_by closed_to actor x (set vs id w) Gate (views_change is_of journal mailbox rested given_by
-        closed_to actor x vs id v w at refl
+    here = load_here is_of journal mailbox rested given_by closed_to actors actor x (set vs id w) Gate (views_change is_of journal mailbox rested given_by
+        closed_to actors actor x vs id v w at refl
         refl (record { on = refl; off = refl; share = refl; got = refl; back = refl }) (λ _ p. p) (λ _ p. p) (λ k. record {
           seen = k.seen;
           said =
               ((λ _. ((λ _. shut), (λ e. absurd (cc)))), k.said);
         }) (λ b p. p) f);
-    others = λ a n y g. elsewhere is_of journal mailbox rested given_by closed_to a y vs id v w at (record {
+    others = λ a n y g. elsewhere is_of journal mailbox rested given_by closed_to actors a y vs id v w at (record {
       claim = refl;
       list = refl;
       debt = refl;

@@ -209,9 +209,9 @@ vouches_without b log is = subst (λ l. IsAmong (Read b 1) (without_counts l)) (
     from (Ended a given ∷ log) = among_more (Read b 1) (Ended a given) _ (from log)
 
 module _ {H : Type 0} (is_of : ℕ → H → Type 0) (journal : H → List Entry) (mailbox : H → Mailbox) (rested : H → Type 0) (given_by : H
-    → ℕ) (closed_to : H → List ℕ) where
+    → ℕ) (closed_to : H → List ℕ) (actors : ℕ) where
   abbrev F : ℕ → Spot Word Shelf (Slot H) Ghost → List View → Type 0
-  F = Fact is_of journal mailbox rested given_by closed_to
+  F = Fact is_of journal mailbox rested given_by closed_to actors
 
   abbrev Place : Type 0
   Place = Spot Word Shelf (Slot H) Ghost
@@ -235,6 +235,7 @@ module _ {H : Type 0} (is_of : ℕ → H → Type 0) (journal : H → List Entry
         shelf = f.shelf;
         ended = f.ended;
         listing = f.listing;
+        named = f.named;
         balance = same_balance actor (x.row Waiting) vs (set vs id left ++ right ∷ []) (total_splits (on_by actor) vs id v left right at (account
             actor).on) (total_splits (off_by actor) vs id v left right at (account actor).off) f.balance;
         turns = total_splits (got_by actor) vs id v left right at (account actor).got ∙ (f.turns ∙ sym (ap (λ n. n + claims_out x.ghost.holder)
@@ -266,6 +267,7 @@ module _ {H : Type 0} (is_of : ℕ → H → Type 0) (journal : H → List Entry
         shelf = f.shelf;
         ended = f.ended;
         listing = f.listing;
+        named = f.named;
         balance = same_balance actor (x.row Waiting) vs (set (set vs id both) other blank)
             (total_joins (on_by actor) vs id other v w both blank at there (both_logs (counted_on actor) w.log v.log))
             (total_joins (off_by actor) vs id other v w both blank at there (both_logs (counted_off actor) w.log v.log)) f.balance;

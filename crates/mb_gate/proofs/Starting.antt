@@ -32,6 +32,7 @@ use Rattle.std.proofs.Common.{
   arith,
   slice_get,
 }
+use Rattle.std.proofs.lemmas.List.Elements.{All-nil}
 use mathlib.Core.Option as maybe
 use mathlib.Core.Option.{none, some, some-ne-none, some-injective}
 use lib.ListN.{get_elem?, length-map}
@@ -49,6 +50,7 @@ use Rattle.mb_gate.proofs.Facts.{no_share}
 use Rattle.mb_gate.specs.View.{View, alone}
 use Rattle.mb_gate.specs.Waiting.{off_by}
 use Rattle.mb_gate.specs.Rule.{word_offset, slot_offset, Ghost, IsAmong, Knows, IsBare, claim_for, list_for, Fact}
+use Rattle.mb_gate.specs.Named.{NamesBelow}
 use Rattle.mb_gate.specs.Starts.{no_messages, rows_of, row_of, shelves_of, IsFresh}
 use Rattle.mb_gate.proofs.Rows.{length-rows_of, length-shelves_of}
 use Rattle.mb_gate.proofs.Wins.{free_word, free_mod, valid_word}
@@ -139,9 +141,9 @@ module _ {H : Type 0} (is_of : ℕ → H → Type 0) (journal : H → List Entry
 
   pub starts : (n : ℕ) (hs : List H) (words : List ℕ) (slots : List (Slot H)) → n ≡ length hs → words ≡ rows_of mailbox hs → slots ≡ shelves_of hs
       → ((a : ℕ) (h : H) → slice_get hs a ≡ Some h → IsFresh is_of mailbox rested given_by closed_to a h)
-      → Ruled word_offset slot_offset n (Fact is_of journal mailbox rested given_by closed_to) (opening words slots alone)
+      → Ruled word_offset slot_offset n (Fact is_of journal mailbox rested given_by closed_to n) (opening words slots alone)
   starts n hs words slots many rows shelves fresh =
-      subst (λ (z : List ℕ × List (Slot H)). Ruled word_offset slot_offset n (Fact is_of journal mailbox rested given_by closed_to)
+      subst (λ (z : List ℕ × List (Slot H)). Ruled word_offset slot_offset n (Fact is_of journal mailbox rested given_by closed_to n)
       (opening z.0 z.1 alone)) (λ i.
       (sym rows i, sym shelves i)) record {
         ghosts = begins hs;
@@ -166,6 +168,7 @@ module _ {H : Type 0} (is_of : ℕ → H → Type 0) (journal : H → List Entry
           shelf = record { there = b.1.list; word = b.1.gate };
           ended = λ e. absurd (cc);
           listing = record { given = []; joined = refl; counted = refl };
+          named = All-nil (NamesBelow n);
           balance = ap (λ k. (k + total (off_by a) (alone ∷ [])) % 2 ^ 64) b.1.waiting;
           turns = refl;
           shares = first_shares (λ (u : View). u.share) alone refl;

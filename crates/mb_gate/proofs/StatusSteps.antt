@@ -112,9 +112,9 @@ none_more : (m : ℕ) → 0 + m ≡ m
 none_more m = omega arith
 
 module _ {H : Type 0} (is_of : ℕ → H → Type 0) (journal : H → List Entry) (mailbox : H → Mailbox) (rested : H → Type 0) (given_by : H
-    → ℕ) (closed_to : H → List ℕ) where
+    → ℕ) (closed_to : H → List ℕ) (actors : ℕ) where
   abbrev F : ℕ → Spot Word Shelf (Slot H) Ghost → List View → Type 0
-  F = Fact is_of journal mailbox rested given_by closed_to
+  F = Fact is_of journal mailbox rested given_by closed_to actors
 
   abbrev M : Type 0
   M = Me (Slot H) View
@@ -131,15 +131,15 @@ module _ {H : Type 0} (is_of : ℕ → H → Type 0) (journal : H → List Entry
     deed = stays;
     kept = x.ghost;
     able = tt;
-    here = load_here is_of journal mailbox rested given_by closed_to actor x (set vs id (reading actor r v)) Status
-        (views_change is_of journal mailbox rested given_by closed_to actor x vs id v (reading actor r v) at refl refl
+    here = load_here is_of journal mailbox rested given_by closed_to actors actor x (set vs id (reading actor r v)) Status
+        (views_change is_of journal mailbox rested given_by closed_to actors actor x vs id v (reading actor r v) at refl refl
         (counts_no_more actor (Read actor r) v (reading actor r v) refl (refl, refl) refl refl refl)
         (λ due owed. subst (λ (d : Debt). IsTrue (d.message || d.sending)) (sym (owes_here actor (after_reading (mailbox_of r) (owes actor v))
         v)) (reading_pays_message r (owes actor v) due.0 owed))
         (λ due owed. subst (λ (d : Debt). IsTrue d.system) (sym (owes_here actor (after_reading (mailbox_of r) (owes actor v)) v))
         (reading_pays_system r (owes actor v) due.0 owed))
         (λ k. record { seen = ((λ _ one. one), k.seen); said = k.said }) (λ b. among_more (Read b 1) (Read actor r) v.log) f);
-    others = λ a n y g. elsewhere is_of journal mailbox rested given_by closed_to a y vs id v (reading actor r v) at
+    others = λ a n y g. elsewhere is_of journal mailbox rested given_by closed_to actors a y vs id v (reading actor r v) at
         (reading_elsewhere actor a r v n) g;
     tells = told;
   }
@@ -215,9 +215,10 @@ module _ {H : Type 0} (is_of : ℕ → H → Type 0) (journal : H → List Entry
                 else 0) (ne_eqb (x.row Status) 1 (λ e. omega arith));
           };
           lists = stays_locked (list_for actor) x.ghost.keeper vs id v w at refl f.lists;
-          shelf = still_shelved is_of journal mailbox rested given_by closed_to actor x y refl refl refl refl x.ghost.keeper f.shelf;
+          shelf = still_shelved is_of journal mailbox rested given_by closed_to actors actor x y refl refl refl refl x.ghost.keeper f.shelf;
           ended = λ e. absurd (let one = f.ended e in omega arith);
           listing = f.listing;
+          named = f.named;
           balance = same_balance actor (x.row Waiting) vs id v w at refl refl f.balance;
           turns = turns_more actor x.ghost.holder (id, c) vs id v w at (times_here actor v.got) refl (ap claims_out h.0) f.turns;
           shares = shares_stay (λ (u : View). u.share) vs id v w at refl f.shares;
@@ -229,7 +230,7 @@ module _ {H : Type 0} (is_of : ℕ → H → Type 0) (journal : H → List Entry
           seen = let k = goes_on actor x y v grows (f.seen id v at) in
               learns (Knows actor x) (Knows actor y) vs id w (λ u. goes_on actor x y u grows) (record { seen = k.seen; said = k.said }) f.seen;
         };
-        others = λ a n z g. elsewhere is_of journal mailbox rested given_by closed_to a z vs id v w at
+        others = λ a n z g. elsewhere is_of journal mailbox rested given_by closed_to actors a z vs id v w at
             (taking_elsewhere actor a old x.ghost.listed.given x.ghost.journal
             x.ghost.closed_to x.ghost.gave v n bare) g;
         tells = told;
@@ -268,9 +269,10 @@ module _ {H : Type 0} (is_of : ℕ → H → Type 0) (journal : H → List Entry
                 h.1.flag;
           };
           lists = stays_locked (list_for actor) x.ghost.keeper vs id v w at refl f.lists;
-          shelf = still_shelved is_of journal mailbox rested given_by closed_to actor x y refl refl refl refl x.ghost.keeper f.shelf;
+          shelf = still_shelved is_of journal mailbox rested given_by closed_to actors actor x y refl refl refl refl x.ghost.keeper f.shelf;
           ended = λ e. shut (f.ended e);
           listing = f.listing;
+          named = f.named;
           balance = same_balance actor (x.row Waiting) vs id v w at refl refl f.balance;
           turns = still_turns actor x.ghost.holder (Some (id, d)) vs id v w at refl refl (sym (ap claims_out h.0)) f.turns;
           shares = shares_stay (λ (u : View). u.share) vs id v w at refl f.shares;
@@ -285,7 +287,7 @@ module _ {H : Type 0} (is_of : ℕ → H → Type 0) (journal : H → List Entry
                 said = k.said;
               }) f.seen;
         };
-        others = λ a n z g. elsewhere is_of journal mailbox rested given_by closed_to a z vs id v w at
+        others = λ a n z g. elsewhere is_of journal mailbox rested given_by closed_to actors a z vs id v w at
             (writing_elsewhere actor a new c v n has of) g;
         tells = told;
       }
@@ -338,9 +340,10 @@ module _ {H : Type 0} (is_of : ℕ → H → Type 0) (journal : H → List Entry
             rest = ⊎_elim (λ one. absurd (omega arith)) (λ gave. rest (h.1.gave ∙ gave));
           };
           lists = stays_locked (list_for actor) x.ghost.keeper vs id v w at refl f.lists;
-          shelf = still_shelved is_of journal mailbox rested given_by closed_to actor x y refl refl refl refl x.ghost.keeper f.shelf;
+          shelf = still_shelved is_of journal mailbox rested given_by closed_to actors actor x y refl refl refl refl x.ghost.keeper f.shelf;
           ended = λ e. shut (f.ended e);
           listing = f.listing;
+          named = f.named;
           balance = same_balance actor (x.row Waiting) vs id v w at (none_more (on_by actor v)) (none_more (off_by actor v)) f.balance;
           turns = turns_less actor x.ghost.holder vs id v w at refl (times_here actor v.returned) (ap claims_out h.0) f.turns;
           shares = shares_stay (λ (u : View). u.share) vs id v w at refl f.shares;
@@ -360,7 +363,7 @@ module _ {H : Type 0} (is_of : ℕ → H → Type 0) (journal : H → List Entry
                 said = k.said;
               }) f.seen;
         };
-        others = λ a n z k. elsewhere is_of journal mailbox rested given_by closed_to a z vs id v w at (idling_elsewhere actor a j c v n has of) k;
+        others = λ a n z k. elsewhere is_of journal mailbox rested given_by closed_to actors a z vs id v w at (idling_elsewhere actor a j c v n has of) k;
         tells = subst (λ l. tell (w, tail_of l)) (sym carried) told;
       }
 
@@ -402,9 +405,10 @@ module _ {H : Type 0} (is_of : ℕ → H → Type 0) (journal : H → List Entry
             rest = λ _. rest;
           };
           lists = stays_locked (list_for actor) x.ghost.keeper vs id v w at refl f.lists;
-          shelf = still_shelved is_of journal mailbox rested given_by closed_to actor x y refl refl refl refl x.ghost.keeper f.shelf;
+          shelf = still_shelved is_of journal mailbox rested given_by closed_to actors actor x y refl refl refl refl x.ghost.keeper f.shelf;
           ended = f.ended;
           listing = f.listing;
+          named = f.named;
           balance = same_balance actor (x.row Waiting) vs id v w at (none_more (on_by actor v)) (none_more (off_by actor v)) f.balance;
           turns = turns_less actor x.ghost.holder vs id v w at refl (times_here actor v.returned) (ap claims_out h.0) f.turns;
           shares = shares_stay (λ (u : View). u.share) vs id v w at refl f.shares;
@@ -424,6 +428,6 @@ module _ {H : Type 0} (is_of : ℕ → H → Type 0) (journal : H → List Entry
                 said = k.said;
               }) f.seen;
         };
-        others = λ a n z k. elsewhere is_of journal mailbox rested given_by closed_to a z vs id v w at (idling_elsewhere actor a j c v n has of) k;
+        others = λ a n z k. elsewhere is_of journal mailbox rested given_by closed_to actors a z vs id v w at (idling_elsewhere actor a j c v n has of) k;
         tells = subst (λ l. tell (w, tail_of l)) (sym carried) told;
       }

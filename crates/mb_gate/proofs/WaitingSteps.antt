@@ -138,9 +138,9 @@ module _ (actor k : ℕ) (vs : List View) (id : ℕ) (v w : View) (at : get_elem
       v))) (ap (total (counted_off actor)) is ∙ (ap (λ n. n + off_by actor v) some_off ∙ if_here actor k (off_by actor v))) less was
 
 module _ {H : Type 0} (is_of : ℕ → H → Type 0) (journal : H → List Entry) (mailbox : H → Mailbox) (rested : H → Type 0) (given_by : H
-    → ℕ) (closed_to : H → List ℕ) where
+    → ℕ) (closed_to : H → List ℕ) (actors : ℕ) where
   abbrev F : ℕ → Spot Word Shelf (Slot H) Ghost → List View → Type 0
-  F = Fact is_of journal mailbox rested given_by closed_to
+  F = Fact is_of journal mailbox rested given_by closed_to actors
 
   abbrev M : Type 0
   M = Me (Slot H) View
@@ -166,11 +166,12 @@ module _ {H : Type 0} (is_of : ℕ → H → Type 0) (journal : H → List Entry
         here = record {
           valid = f.valid;
           claims = stays_locked (claim_for actor) x.ghost.holder vs id v w at refl f.claims;
-          cell = still_kept is_of journal mailbox rested given_by closed_to actor x y refl refl refl refl refl refl refl x.ghost.holder f.cell;
+          cell = still_kept is_of journal mailbox rested given_by closed_to actors actor x y refl refl refl refl refl refl refl x.ghost.holder f.cell;
           lists = stays_locked (list_for actor) x.ghost.keeper vs id v w at refl f.lists;
-          shelf = still_shelved is_of journal mailbox rested given_by closed_to actor x y refl refl refl refl x.ghost.keeper f.shelf;
+          shelf = still_shelved is_of journal mailbox rested given_by closed_to actors actor x y refl refl refl refl x.ghost.keeper f.shelf;
           ended = f.ended;
           listing = f.listing;
+          named = f.named;
           balance = balance;
           turns = still_turns actor x.ghost.holder x.ghost.holder vs id v w at refl refl refl f.turns;
           shares = shares_stay (λ (u : View). u.share) vs id v w at refl f.shares;
@@ -188,7 +189,7 @@ module _ {H : Type 0} (is_of : ℕ → H → Type 0) (journal : H → List Entry
                 said = k.said;
               }) f.seen;
         };
-        others = λ a z y g. elsewhere is_of journal mailbox rested given_by closed_to a y vs id v w at (owing_elsewhere actor a d s v z so
+        others = λ a z y g. elsewhere is_of journal mailbox rested given_by closed_to actors a y vs id v w at (owing_elsewhere actor a d s v z so
             (none a z)) g;
         tells = told;
       }
@@ -224,7 +225,7 @@ module _ {H : Type 0} (is_of : ℕ → H → Type 0) (journal : H → List Entry
       let v = me.0 in
       let s = Took actor k in
       let w = seeing s v in
-      let h = is_held is_of journal mailbox rested given_by closed_to actor id x vs v c f at has of in
+      let h = is_held is_of journal mailbox rested given_by closed_to actors actor id x vs v c f at has of in
       let y : Place = record { row = write word_offset x.row Waiting n; slot = x.slot; ghost = x.ghost } in
       let grows = grown x y (λ e. e) (λ one. one) (extends_self x.ghost.journal) refl in record {
         view = w;
@@ -234,11 +235,12 @@ module _ {H : Type 0} (is_of : ℕ → H → Type 0) (journal : H → List Entry
         here = record {
           valid = f.valid;
           claims = stays_locked (claim_for actor) x.ghost.holder vs id v w at refl f.claims;
-          cell = still_kept is_of journal mailbox rested given_by closed_to actor x y refl refl refl refl refl refl refl x.ghost.holder f.cell;
+          cell = still_kept is_of journal mailbox rested given_by closed_to actors actor x y refl refl refl refl refl refl refl x.ghost.holder f.cell;
           lists = stays_locked (list_for actor) x.ghost.keeper vs id v w at refl f.lists;
-          shelf = still_shelved is_of journal mailbox rested given_by closed_to actor x y refl refl refl refl x.ghost.keeper f.shelf;
+          shelf = still_shelved is_of journal mailbox rested given_by closed_to actors actor x y refl refl refl refl x.ghost.keeper f.shelf;
           ended = f.ended;
           listing = f.listing;
+          named = f.named;
           balance = balances_less actor k vs id v w at (x.row Waiting) n f.balance s refl refl refl less;
           turns = still_turns actor x.ghost.holder x.ghost.holder vs id v w at refl refl refl f.turns;
           shares = shares_stay (λ (u : View). u.share) vs id v w at refl f.shares;
@@ -254,7 +256,7 @@ module _ {H : Type 0} (is_of : ℕ → H → Type 0) (journal : H → List Entry
                 said = so.said;
               }) f.seen;
         };
-        others = λ a z y g. elsewhere is_of journal mailbox rested given_by closed_to a y vs id v w at (seeing_elsewhere a s v (λ b q. tt)
+        others = λ a z y g. elsewhere is_of journal mailbox rested given_by closed_to actors a y vs id v w at (seeing_elsewhere a s v (λ b q. tt)
             (refl, if_else actor a k z)) g;
         tells = told;
       }
@@ -270,13 +272,13 @@ module _ {H : Type 0} (is_of : ℕ → H → Type 0) (journal : H → List Entry
     deed = stays;
     kept = x.ghost;
     able = tt;
-    here = load_here is_of journal mailbox rested given_by closed_to actor x (set vs id w) name
-        (views_change is_of journal mailbox rested given_by closed_to actor x vs id v w at refl refl (counts_no_more actor s v w refl
+    here = load_here is_of journal mailbox rested given_by closed_to actors actor x (set vs id w) name
+        (views_change is_of journal mailbox rested given_by closed_to actors actor x vs id v w at refl refl (counts_no_more actor s v w refl
         (none actor) refl refl refl)
         (λ due p. subst (λ (z : Debt). IsTrue (z.message || z.sending)) (sym (owes_here actor d v)) (message due p))
         (λ due p. subst (λ (z : Debt). IsTrue z.system) (sym (owes_here actor d v)) (system due p))
         (λ k. record { seen = (so actor x, k.seen); said = k.said }) (λ b. among_more (Read b 1) s v.log) f);
-    others = λ a n y g. elsewhere is_of journal mailbox rested given_by closed_to a y vs id v w at (owing_elsewhere actor a d s v n so (none a)) g;
+    others = λ a n y g. elsewhere is_of journal mailbox rested given_by closed_to actors a y vs id v w at (owing_elsewhere actor a d s v n so (none a)) g;
     tells = told;
   }
 
@@ -290,14 +292,14 @@ module _ {H : Type 0} (is_of : ℕ → H → Type 0) (journal : H → List Entry
     deed = stays;
     kept = x.ghost;
     able = tt;
-    here = load_here is_of journal mailbox rested given_by closed_to actor x (set vs id w) name (views_change is_of journal mailbox rested given_by
-        closed_to actor x vs id v w at refl
+    here = load_here is_of journal mailbox rested given_by closed_to actors actor x (set vs id w) name (views_change is_of journal mailbox rested given_by
+        closed_to actors actor x vs id v w at refl
         refl (counts_no_more actor s v w refl (none actor) refl refl refl) (λ _ p. p) (λ _ p. p) (λ k. record {
           seen =
               (so actor x, k.seen);
           said = k.said;
         }) (λ b. among_more (Read b 1) s v.log) f);
-    others = λ a n y g. elsewhere is_of journal mailbox rested given_by closed_to a y vs id v w at (seeing_elsewhere a s v so (none a)) g;
+    others = λ a n y g. elsewhere is_of journal mailbox rested given_by closed_to actors a y vs id v w at (seeing_elsewhere a s v so (none a)) g;
     tells = told;
   }
 
@@ -309,11 +311,11 @@ module _ {H : Type 0} (is_of : ℕ → H → Type 0) (journal : H → List Entry
     deed = stays;
     kept = x.ghost;
     able = tt;
-    here = load_here is_of journal mailbox rested given_by closed_to actor x (set vs id v) name (views_change is_of journal mailbox rested given_by
-        closed_to actor x vs id v v at refl
+    here = load_here is_of journal mailbox rested given_by closed_to actors actor x (set vs id v) name (views_change is_of journal mailbox rested given_by
+        closed_to actors actor x vs id v v at refl
         refl (record { on = refl; off = refl; share = refl; got = refl; back = refl }) (λ _ p. p) (λ _ p. p)
         (λ k. record { seen = k.seen; said = k.said }) (λ b p. p) f);
-    others = λ a n y g. elsewhere is_of journal mailbox rested given_by closed_to a y vs id v v at (record {
+    others = λ a n y g. elsewhere is_of journal mailbox rested given_by closed_to actors a y vs id v v at (record {
       claim = refl;
       list = refl;
       debt = refl;

@@ -67,8 +67,8 @@ plus_none : (m : ℕ) → m + 0 ≡ m
 plus_none m = omega arith
 
 module _ {H : Type 0} (is_of : ℕ → H → Type 0) (journal : H → List Entry) (mailbox : H → Mailbox) (rested : H → Type 0) (given_by : H
-    → ℕ) (closed_to : H → List ℕ) (actor : ℕ) (x : Spot Word Shelf (Slot H) Ghost) (vs : List View) (id : ℕ) (v : View) (f : Fact is_of journal
-    mailbox rested given_by closed_to actor x vs) (at : get_elem? vs id ≡ some v) (whole : IsWhole v.share) where
+    → ℕ) (closed_to : H → List ℕ) (actors actor : ℕ) (x : Spot Word Shelf (Slot H) Ghost) (vs : List View) (id : ℕ) (v : View) (f : Fact is_of journal
+    mailbox rested given_by closed_to actors actor x vs) (at : get_elem? vs id ≡ some v) (whole : IsWhole v.share) where
   others_bare : (q : ℕ) (u : View) → q ≢ id → get_elem? vs q ≡ some u → IsBare actor u
   others_bare q u other there = f.bare q u there (alone (λ (z : View). z.share) vs id v at whole f.shares q u other there)
 

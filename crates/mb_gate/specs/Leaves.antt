@@ -68,7 +68,7 @@ module _ {H : Type 0} (is_of : ℕ → H → Type 0) (journal : H → List Entry
   -- claim was got that was not given back.
   pub record AreLeft (actors : ℕ) (v : View) (all : List (Option (Left H))) : Type 0 where
     pub state : State (Slot H) View
-    pub rule : Ruled word_offset slot_offset actors (Fact is_of journal mailbox rested given_by closed_to) state
+    pub rule : Ruled word_offset slot_offset actors (Fact is_of journal mailbox rested given_by closed_to actors) state
     pub seat : ℕ
     pub known : get_elem? state.views seat ≡ some v
     pub many : length all ≡ actors

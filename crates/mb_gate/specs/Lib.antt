@@ -1,6 +1,7 @@
 pub mod View
 pub mod Waiting
 pub mod Turns
+pub mod Named
 pub mod Claims
 pub mod Rule
 pub mod Plays

@@ -1,5 +1,5 @@
 -- What each step of the gates tells the seat that makes it. A step does not know its actor, so it is told of it by the word's place.
-use Rattle.std.specs.Prelude.{◌≡◌, ◌≢◌, ℕ, ◌/◌, ◌%◌, ◌==◌, Bool, false, not, IsTrue, List, [], ◌∷◌, Some, None}
+use Rattle.std.specs.Prelude.{◌≡◌, ◌≢◌, ℕ, ◌*◌, ◌/◌, ◌%◌, ◌==◌, Bool, false, not, IsTrue, List, [], ◌∷◌, Some, None, All}
 use mathlib.Core.Option.{some}
 use Rattle.atomic_table.specs.Table.{Me, Step, rest}
 use Rattle.std.specs.declared.snapshot.Snapshot.{Snapshot}
@@ -42,6 +42,7 @@ use Rattle.mb_gate.specs.View.{
   ending,
 }
 use Rattle.mb_gate.specs.Turns.{IsOwnBalance}
+use Rattle.mb_gate.specs.Named.{NamesBelow}
 use Rattle.mb_gate.specs.Rule.{Extends, is_some_item, gate_word}
 
 -- this sight allows that the actor is taken with this journal: it was not seen closed, nor was its list ended, and the journal goes on
@@ -131,15 +132,20 @@ module _ {H : Type 0} where
   Refuses st m found m' = (actor : ℕ) (message : SysMsg) → st.word ≡ word_at actor 2 → st.said ≡ some (Note message)
       → (found ≡ st.first → m' ≡ (refusing actor message m.0, m.1)) × (found ≢ st.first → m' ≡ m)
 
+  -- what was listed names actors alone; a step does not know how many there are, so it is told of it by the number of slots
+  abbrev pub NamesActors : Step (Slot H) → MessageList → Type 0
+  NamesActors st list = (actors : ℕ) → st.slots ≡ 2 * actors → All (NamesBelow actors) list.messages
+
   -- all that was listed was taken out, with the numbers that go on from how many were given
   abbrev pub Drains : Step (Slot H) → Me (Slot H) View → ℕ → Me (Slot H) View → Type 0
   Drains st m n m' = (l : Lent) (c : Held) → m.0.list ≡ Some l → m.0.claim ≡ Some c
       → (m' ≡ (draining l.actor (listed l.listed) (is_some_item l.listed.messages) m.0, rest m.1)) × (l.listed.given ≡ c.given)
+      × NamesActors st l.listed
 
   -- and the list was ended
   abbrev pub Ends : Step (Slot H) → Me (Slot H) View → ℕ → Me (Slot H) View → Type 0
   Ends st m n m' = (l : Lent) (c : Held) → m.0.list ≡ Some l → m.0.claim ≡ Some c
-      → (m' ≡ (ending l.actor (listed l.listed) c.gave m.0, rest m.1)) × (l.listed.given ≡ c.given)
+      → (m' ≡ (ending l.actor (listed l.listed) c.gave m.0, rest m.1)) × (l.listed.given ≡ c.given) × NamesActors st l.listed
 
   -- The gate's word was read by the holder: where it shows that nothing is listed and that the last drain gave nothing, this is a drain
   -- that gives nothing.

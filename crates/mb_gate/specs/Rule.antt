@@ -22,6 +22,7 @@ use Rattle.std.specs.Prelude.{
   Option,
   Some,
   None,
+  All,
 }
 use mathlib.Core.Option.{some}
 use Rattle.mb_status.specs.Mailbox.{Mailbox, word_of, is_valid}
@@ -37,6 +38,7 @@ use Rattle.mb_rule.specs.Summed.{total}
 use Rattle.mb_rule.specs.Shares.{AreShares}
 use Rattle.mb_gate.specs.Waiting.{on_by, off_by, IsBalance}
 use Rattle.mb_gate.specs.Turns.{got_by, back_by, claims_out}
+use Rattle.mb_gate.specs.Named.{NamesBelow}
 use Rattle.mb_gate.specs.declared.slot.Slot.{Slot}
 use Rattle.mb_gate.specs.declared.slot.Slot.TheVariants.{Home, List as Listing}
 
@@ -232,9 +234,9 @@ module _ {H : Type 0} (is_of : ℕ → H → Type 0) (journal : H → List Entry
   Shelving x None = IsShelved x
   Shelving x (Some k) = IsLent x k.1
 
-  -- All that holds of one actor: who has its cell, who has its list, how many are counted as waiting, what is owed and what was seen; and
-  -- of each actor that its home says is closed some seat has seen it.
-  pub record Fact (actor : ℕ) (x : Spot Word Shelf (Slot H) Ghost) (vs : List View) : Type 0 where
+  -- All that holds of one actor among so many: who has its cell, who has its list, how many are counted as waiting, what is owed and what
+  -- was seen; what is listed names actors alone; and of each actor that its home says is closed some seat has seen it.
+  pub record Fact (actors actor : ℕ) (x : Spot Word Shelf (Slot H) Ghost) (vs : List View) : Type 0 where
     pub valid : IsTrue (is_valid (x.row Status))
     pub claims : Locked (claim_for actor) x.ghost.holder vs
     pub cell : Keeping actor x x.ghost.holder
@@ -242,6 +244,7 @@ module _ {H : Type 0} (is_of : ℕ → H → Type 0) (journal : H → List Entry
     pub shelf : Shelving x x.ghost.keeper
     pub ended : IsTrue x.ghost.listed.closed → x.row Status ≡ 1
     pub listing : IsListing x.ghost.pushed x.ghost.listed
+    pub named : All (NamesBelow actors) x.ghost.listed.messages
     pub balance : IsBalance actor (x.row Waiting) vs
     pub turns : AreTurns actor x.ghost.holder vs
     pub shares : AreShares (λ (v : View). v.share) vs

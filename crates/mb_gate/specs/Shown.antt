@@ -37,7 +37,7 @@ shown actor x vs rest = record {
 -- is left of what was drained only if the last drain gave something.
 abbrev pub ShowsMachine : {H : Type 0} → (ℕ → H → Type 0) → (H → List Entry) → (H → Mailbox) → (H → Type 0) → (H → ℕ) → (H → List ℕ) → Type 0
 ShowsMachine {H} is_of journal mailbox rested given_by closed_to =
-    (n : ℕ) (s : State (Slot H) View) (r : Ruled word_offset slot_offset n (Fact is_of journal mailbox rested given_by closed_to) s) (actor : ℕ)
+    (n : ℕ) (s : State (Slot H) View) (r : Ruled word_offset slot_offset n (Fact is_of journal mailbox rested given_by closed_to n) s) (actor : ℕ)
     → actor < n →
     (let x = spot_of word_offset slot_offset s r.ghosts actor in
     (rest : List SysMsg) → (x.ghost.gave ≡ false → rest ≡ []) →
@@ -46,7 +46,7 @@ ShowsMachine {H} is_of journal mailbox rested given_by closed_to =
 -- Each actor of which another's home says that it is closed is closed, as that home is in its place or was taken: its word says so.
 abbrev pub ShowsClosed : {H : Type 0} → (ℕ → H → Type 0) → (H → List Entry) → (H → Mailbox) → (H → Type 0) → (H → ℕ) → (H → List ℕ) → Type 0
 ShowsClosed {H} is_of journal mailbox rested given_by closed_to =
-    (n : ℕ) (s : State (Slot H) View) (r : Ruled word_offset slot_offset n (Fact is_of journal mailbox rested given_by closed_to) s)
+    (n : ℕ) (s : State (Slot H) View) (r : Ruled word_offset slot_offset n (Fact is_of journal mailbox rested given_by closed_to n) s)
     (actor other : ℕ)
     → actor < n → other < n → IsAmong other (spot_of word_offset slot_offset s r.ghosts actor).ghost.closed_to
     → (spot_of word_offset slot_offset s r.ghosts other).row Status ≡ 1
@@ -54,14 +54,14 @@ ShowsClosed {H} is_of journal mailbox rested given_by closed_to =
 -- Between any two steps an actor's waiting number is what all passes and claims counted on less what they counted off, modulo 2^64.
 abbrev pub ShowsBalance : {H : Type 0} → (ℕ → H → Type 0) → (H → List Entry) → (H → Mailbox) → (H → Type 0) → (H → ℕ) → (H → List ℕ) → Type 0
 ShowsBalance {H} is_of journal mailbox rested given_by closed_to =
-    (n : ℕ) (s : State (Slot H) View) (r : Ruled word_offset slot_offset n (Fact is_of journal mailbox rested given_by closed_to) s) (actor : ℕ)
+    (n : ℕ) (s : State (Slot H) View) (r : Ruled word_offset slot_offset n (Fact is_of journal mailbox rested given_by closed_to n) s) (actor : ℕ)
     → actor < n → IsBalance actor ((spot_of word_offset slot_offset s r.ghosts actor).row Waiting) s.views
 
 -- A number names one message of an actor's list, while no more than 2^64 were ever listed: what any seat put into the list under a number
 -- is what any seat took out of it under that number.
 abbrev pub ShowsNumbers : {H : Type 0} → (ℕ → H → Type 0) → (H → List Entry) → (H → Mailbox) → (H → Type 0) → (H → ℕ) → (H → List ℕ) → Type 0
 ShowsNumbers {H} is_of journal mailbox rested given_by closed_to =
-    (n : ℕ) (s : State (Slot H) View) (r : Ruled word_offset slot_offset n (Fact is_of journal mailbox rested given_by closed_to) s) (actor : ℕ)
+    (n : ℕ) (s : State (Slot H) View) (r : Ruled word_offset slot_offset n (Fact is_of journal mailbox rested given_by closed_to n) s) (actor : ℕ)
     → actor < n → length (spot_of word_offset slot_offset s r.ghosts actor).ghost.pushed ≤ 2 ^ 64
     → (p q : ℕ) (v w : View) (number : ℕ) (put given : SysMsg) (all : List (ℕ × SysMsg)) → get_elem? s.views p ≡ some v → get_elem? s.views q ≡
     some w → IsAmong (Pushed actor number put) v.log → IsAmong (Drained actor all) w.log ⊎ IsAmong (Ended actor all) w.log → IsAmong (number, given)

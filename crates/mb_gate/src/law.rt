@@ -18,7 +18,7 @@ pub struct Law<H> {
 
 impl<H: Resident> TableRule<Slot<H>, Knowledge, Key<H>> for Law<H> {
     ghost holds = { λ key. Ruled word_offset slot_offset key.actors
-        (Fact (H.is_of key.first.value) H.journal H.mailbox H.rested H.given H.closed_to) };
+        (Fact (H.is_of key.first.value) H.journal H.mailbox H.rested H.given H.closed_to key.actors) };
 
     ghost first = { λ _. alone };
 }
