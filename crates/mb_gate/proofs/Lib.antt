@@ -17,3 +17,4 @@ pub mod ListCalls
 pub mod Shows
 pub mod Leaving
 pub mod RecordLemmas
+pub mod KnownLemmas
