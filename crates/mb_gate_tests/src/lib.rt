@@ -1,5 +1,4 @@
-//! The tests of the gates: one thread, two that contend for an actor, one that holds and two that send, and a claim that
-//! goes to another thread by a queue.
+//! The tests of the gates: one thread, two that contend for an actor, and one that holds it while two send.
 #![tactic(auto)]
 
 #[cfg(test)]
@@ -11,7 +10,13 @@ mod contend;
 #[cfg(test)]
 mod desk;
 #[cfg(test)]
-mod errand;
+mod holding;
+#[cfg(test)]
+mod shift;
+#[cfg(test)]
+mod single;
+#[cfg(test)]
+mod tally;
 #[cfg(test)]
 mod three;
 #[cfg(test)]
