@@ -20,7 +20,16 @@ impl Resident for Desk {
 
     ghost is_of = { λ first actor desk. desk.actor ≡ actor };
 
-    ghost who = { λ desk. record { this = record { 0 = desk.actor }; parent = None; actors = 2; prepared = []; strategy = []; retries = pos 0; all_for_one = false; limit = 0 } };
+    ghost who = { λ desk. record {
+      this = record { 0 = desk.actor };
+      parent = None;
+      actors = 2;
+      prepared = [];
+      strategy = [];
+      retries = pos 0;
+      all_for_one = false;
+      limit = 0;
+    } };
 
     ghost journal = { λ desk. [] };
 

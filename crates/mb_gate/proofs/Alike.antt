@@ -23,6 +23,7 @@ use Rattle.std.proofs.Common.{
   ap,
   ◌∙◌,
   subst,
+  None,
   arith,
 }
 use mathlib.Core.Logic.{dite}
@@ -62,6 +63,18 @@ either_swapped a b i = record {
   sending = or_swapped a.sending b.sending i;
 }
 
+-- what is owed to the actor whose cell was given home, and to the others
+idled_here : (actor : ℕ) (journal : List Entry) (v : View) → owes actor (idling actor journal v) ≡ record (owes actor v) {
+  system = true;
+  message = true;
+}
+idled_here actor journal v = owes_here actor (record (owes actor v) { system = true; message = true })
+    (record v { log = Saw actor journal ∷ v.log; claim = None; returned = actor ∷ v.returned })
+
+idled_else : (actor other : ℕ) (journal : List Entry) (v : View) → other ≢ actor → owes other (idling actor journal v) ≡ owes other v
+idled_else actor other journal v n = owes_else actor other (record (owes actor v) { system = true; message = true })
+    (record v { log = Saw actor journal ∷ v.log; claim = None; returned = actor ∷ v.returned }) n
+
 module _ (claim pass : View) (actor : ℕ) (journal : List Entry) where
   abbrev before : View
   before = idling actor journal (taking_in claim pass)
@@ -69,20 +82,22 @@ module _ (claim pass : View) (actor : ℕ) (journal : List Entry) where
   abbrev after : View
   after = taking_over pass (idling actor journal claim)
 
-  owed_by : (a : ℕ) → owes a before ≡ owes a after
-  owed_by a = dite (ℕ_discrete a actor)
-      (λ same. subst (λ b. owes b before ≡ owes b after) (sym same) here)
-      (λ other. owes_else actor a _ _ other ∙ (debt_of-added a pass.debts claim.debts ∙ (either_swapped (owes a pass) (owes a claim)
-      ∙ sym (debt_of-added a (idling actor journal claim).debts pass.debts ∙ ap (λ d. either_owes d (owes a pass)) (owes_else actor a _ _ other)))))
-    where
-      sent : (p c : Debt) → record (either_owes p c) { system = true; message = true } ≡ either_owes (record c { system = true; message = true }) p
-      sent p c i = record { system = true; message = true; sending = or_swapped p.sending c.sending i }
+  sent : (p c : Debt) → record (either_owes p c) { system = true; message = true } ≡ either_owes (record c { system = true; message = true }) p
+  sent p c i = record { system = true; message = true; sending = or_swapped p.sending c.sending i }
 
-      here : owes actor before ≡ owes actor after
-      here = owes_here actor _ _ ∙ (ap (λ (d : Debt). record d { system = true; message = true }) (debt_of-added actor pass.debts claim.debts)
-          ∙ (sent (owes actor pass) (owes actor claim) ∙ sym (debt_of-added actor (idling actor journal claim).debts pass.debts
-          ∙ ap (λ d. either_owes d
-          (owes actor pass)) (owes_here actor _ _))))
+  owed_here : owes actor before ≡ owes actor after
+  owed_here = idled_here actor journal (taking_in claim pass)
+      ∙ (ap (λ (d : Debt). record d { system = true; message = true }) (debt_of-added actor pass.debts claim.debts)
+      ∙ (sent (owes actor pass) (owes actor claim) ∙ sym (debt_of-added actor (idling actor journal claim).debts pass.debts
+      ∙ ap (λ (d : Debt). either_owes d (owes actor pass)) (idled_here actor journal claim))))
+
+  owed_else : (a : ℕ) → a ≢ actor → owes a before ≡ owes a after
+  owed_else a other = idled_else actor a journal (taking_in claim pass) other ∙ (debt_of-added a pass.debts claim.debts
+      ∙ (either_swapped (owes a pass) (owes a claim) ∙ sym (debt_of-added a (idling actor journal claim).debts pass.debts
+      ∙ ap (λ (d : Debt). either_owes d (owes a pass)) (idled_else actor a journal claim other))))
+
+  owed_by : (a : ℕ) → owes a before ≡ owes a after
+  owed_by a = dite (ℕ_discrete a actor) (λ same. subst (λ b. owes b before ≡ owes b after) (sym same) owed_here) (λ other. owed_else a other)
 
 pub alike : ReleasesAlike
 alike claim pass actor journal = record {

@@ -424,7 +424,8 @@ module _ {H : Type 0} (is_of : ℕ → H → Type 0) (journal : H → List Entry
     pub sends_allowed : (g : ℕ → ℕ) (k : ℕ) → ((w : ℕ) → g w % 2 ^ 64 ≡ (w + k) % 2 ^ 64) → is_some_item me.0.share ≡ true → i ≡ word_at actor 4
         → Allows (Rule n) slots id me i g (Sends (step slots i k 0 none) me)
     sends_allowed g k more share e = subst (λ j. Allows (Rule n) slots id me j g (Sends (step slots j k 0 none) me)) (sym e)
-        (allows word_offset slot_offset words_few slots_few n (F n) slots id me actor Waiting g (Sends (step slots (word_at actor 4) k 0 none) me) inside
+        (allows word_offset slot_offset words_few slots_few n (F n) slots id me actor Waiting g (Sends (step slots (word_at actor 4) k 0 none) me)
+        inside
         (λ x vs f at fits. sends is_of journal mailbox rested given_by closed_to n actor id (g (x.row Waiting)) k me (Sends (step slots
         (word_at actor 4) k 0 none) me
         (x.row Waiting)) x vs f at share (more (x.row Waiting))
@@ -538,8 +539,8 @@ module _ {H : Type 0} (is_of : ℕ → H → Type 0) (journal : H → List Entry
         vs f at has of carried word names
         (told_enlist l m (step slots (word_at actor 2) new 0 none) new has of carried)))
 
-    pub drains_allowed : (c : Held) (l : Lent) (new : ℕ) → i ≡ word_at actor 2 → slots ≡ 2 * n → me.0.claim ≡ Some c → c.actor ≡ actor → me.0.list ≡ Some l →
-        l.actor ≡ actor
+    pub drains_allowed : (c : Held) (l : Lent) (new : ℕ) → i ≡ word_at actor 2 → slots ≡ 2 * n → me.0.claim ≡ Some c → c.actor ≡ actor
+        → me.0.list ≡ Some l → l.actor ≡ actor
         → me.1 ≡ (slot_at actor 1, Listing (drained l.listed)) ∷ tail_of me.1 → new ≡ gate_word false (drained l.listed) (is_some_item
         l.listed.messages)
         → Allows (Rule n) slots id me i (λ _. new) (λ _. Drains (step slots i new 0 none) me new)
@@ -561,8 +562,8 @@ module _ {H : Type 0} (is_of : ℕ → H → Type 0) (journal : H → List Entry
           same_named n slots actor id me x vs l deep f at keeps of_list l' has',
         ))))
 
-    pub ends_allowed : (c : Held) (l : Lent) (new : ℕ) → i ≡ word_at actor 2 → slots ≡ 2 * n → me.0.claim ≡ Some c → c.actor ≡ actor → me.0.list ≡ Some l →
-        l.actor ≡ actor
+    pub ends_allowed : (c : Held) (l : Lent) (new : ℕ) → i ≡ word_at actor 2 → slots ≡ 2 * n → me.0.claim ≡ Some c → c.actor ≡ actor
+        → me.0.list ≡ Some l → l.actor ≡ actor
         → me.1 ≡ (slot_at actor 1, Listing (ended l.listed)) ∷ tail_of me.1 → new ≡ gate_word false (ended l.listed) l.gave → c.word ≡ 1
         → Allows (Rule n) slots id me i (λ _. new) (λ _. Ends (step slots i new 0 none) me new)
     ends_allowed c l new e deep has of keeps of_list carried word closed = subst (λ j. Allows (Rule n) slots id me j (λ _. new) (λ _. Ends (step slots
@@ -689,8 +690,8 @@ module _ {H : Type 0} (all_of : H → ℕ → H → Type 0) (first : Snapshot H)
     -- a seat that knows the first home tries to schedule the actor
     pub schedules_allowed : (old new : ℕ) (note : Slot H) → note ≡ First first → i ≡ word_at actor 0 → old % 4 ≡ 0 → new ≡ old + 2
         → me.0.claim ≡ None → is_some_item me.0.share ≡ true
-        → Allows (Ruled word_offset slot_offset n (G n)) slots id me i (λ k. either (k == old) new k) (Schedules all_of journal mailbox rested given_by
-        closed_to (step slots i old new (some note)) me)
+        → Allows (Ruled word_offset slot_offset n (G n)) slots id me i (λ k. either (k == old) new k) (Schedules all_of journal mailbox rested
+        given_by closed_to (step slots i old new (some note)) me)
     schedules_allowed old new note is_note e free is_new bare share = subst (λ j. Allows (Ruled word_offset slot_offset n (G n)) slots id me j
         (λ k. either (k == old) new k) (Schedules all_of journal mailbox rested given_by closed_to (step slots j old new (some note)) me)) (sym e)
         (allows word_offset slot_offset words_few slots_few n (G n) slots id me actor Status (λ k. either (k == old) new k)

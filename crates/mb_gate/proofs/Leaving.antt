@@ -246,10 +246,10 @@ module _ {H : Type 0} (is_of : ℕ → H → Type 0) (journal : H → List Entry
     known = final.1.1;
     many = many;
     each = λ a left inside at. is_left n v id ws xs final.0 final.1.0 final.1.1 final.2 final.4 a inside left (each a left at);
-    out = λ whole a inside at. is_out is_of journal mailbox rested given_by closed_to n a _ final.0.views id v (final.1.0.each a inside) final.1.1 whole bare_list (none_left n v id ws xs final.0 final.1.0 final.1.1
-        final.2 final.4 a inside (each a None at));
-    back = λ whole a left inside at. is_back is_of journal mailbox rested given_by closed_to n a _ final.0.views id v (final.1.0.each a inside) final.1.1 whole (none_holds n v id ws xs final.0 final.1.0
-        final.1.1 final.2 final.4 a inside left (each a (Some left) at));
+    out = λ whole a inside at. is_out is_of journal mailbox rested given_by closed_to n a _ final.0.views id v (final.1.0.each a inside) final.1.1
+        whole bare_list (none_left n v id ws xs final.0 final.1.0 final.1.1 final.2 final.4 a inside (each a None at));
+    back = λ whole a left inside at. is_back is_of journal mailbox rested given_by closed_to n a _ final.0.views id v (final.1.0.each a inside) final.1.1
+        whole (none_holds n v id ws xs final.0 final.1.0 final.1.1 final.2 final.4 a inside left (each a (Some left) at));
     closed = λ a other left inside there at is. shows_closed is_of journal mailbox rested given_by closed_to n final.0 final.1.0 a other inside there
         (says_closed n v id ws xs final.0 final.1.0 final.1.1 final.2 final.4 a inside left (each a (Some left) at) other is);
   }

@@ -392,8 +392,8 @@ module _ {H : Type 0} (is_of : ℕ → H → Type 0) (journal : H → List Entry
     deed = stays;
     kept = x.ghost;
     able = tt;
-    here = load_here is_of journal mailbox rested given_by closed_to actors actor x (set vs id w) Gate (views_change is_of journal mailbox rested given_by
-        closed_to actors actor x vs id v w at refl
+    here = load_here is_of journal mailbox rested given_by closed_to actors actor x (set vs id w) Gate (views_change is_of journal mailbox rested
+        given_by closed_to actors actor x vs id v w at refl
         refl (record { on = refl; off = refl; share = refl; got = refl; back = refl }) (λ _ p. p) (λ _ p. p) (λ k. record {
           seen = k.seen;
           said =

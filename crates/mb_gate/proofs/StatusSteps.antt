@@ -363,7 +363,8 @@ module _ {H : Type 0} (is_of : ℕ → H → Type 0) (journal : H → List Entry
                 said = k.said;
               }) f.seen;
         };
-        others = λ a n z k. elsewhere is_of journal mailbox rested given_by closed_to actors a z vs id v w at (idling_elsewhere actor a j c v n has of) k;
+        others = λ a n z k. elsewhere is_of journal mailbox rested given_by closed_to actors a z vs id v w at
+            (idling_elsewhere actor a j c v n has of) k;
         tells = subst (λ l. tell (w, tail_of l)) (sym carried) told;
       }
 
@@ -428,6 +429,7 @@ module _ {H : Type 0} (is_of : ℕ → H → Type 0) (journal : H → List Entry
                 said = k.said;
               }) f.seen;
         };
-        others = λ a n z k. elsewhere is_of journal mailbox rested given_by closed_to actors a z vs id v w at (idling_elsewhere actor a j c v n has of) k;
+        others = λ a n z k. elsewhere is_of journal mailbox rested given_by closed_to actors a z vs id v w at
+            (idling_elsewhere actor a j c v n has of) k;
         tells = subst (λ l. tell (w, tail_of l)) (sym carried) told;
       }

@@ -278,7 +278,8 @@ module _ {H : Type 0} (is_of : ℕ → H → Type 0) (journal : H → List Entry
         (λ due p. subst (λ (z : Debt). IsTrue (z.message || z.sending)) (sym (owes_here actor d v)) (message due p))
         (λ due p. subst (λ (z : Debt). IsTrue z.system) (sym (owes_here actor d v)) (system due p))
         (λ k. record { seen = (so actor x, k.seen); said = k.said }) (λ b. among_more (Read b 1) s v.log) f);
-    others = λ a n y g. elsewhere is_of journal mailbox rested given_by closed_to actors a y vs id v w at (owing_elsewhere actor a d s v n so (none a)) g;
+    others = λ a n y g. elsewhere is_of journal mailbox rested given_by closed_to actors a y vs id v w at
+        (owing_elsewhere actor a d s v n so (none a)) g;
     tells = told;
   }
 
@@ -292,8 +293,8 @@ module _ {H : Type 0} (is_of : ℕ → H → Type 0) (journal : H → List Entry
     deed = stays;
     kept = x.ghost;
     able = tt;
-    here = load_here is_of journal mailbox rested given_by closed_to actors actor x (set vs id w) name (views_change is_of journal mailbox rested given_by
-        closed_to actors actor x vs id v w at refl
+    here = load_here is_of journal mailbox rested given_by closed_to actors actor x (set vs id w) name (views_change is_of journal mailbox rested
+        given_by closed_to actors actor x vs id v w at refl
         refl (counts_no_more actor s v w refl (none actor) refl refl refl) (λ _ p. p) (λ _ p. p) (λ k. record {
           seen =
               (so actor x, k.seen);
@@ -311,8 +312,8 @@ module _ {H : Type 0} (is_of : ℕ → H → Type 0) (journal : H → List Entry
     deed = stays;
     kept = x.ghost;
     able = tt;
-    here = load_here is_of journal mailbox rested given_by closed_to actors actor x (set vs id v) name (views_change is_of journal mailbox rested given_by
-        closed_to actors actor x vs id v v at refl
+    here = load_here is_of journal mailbox rested given_by closed_to actors actor x (set vs id v) name (views_change is_of journal mailbox rested
+        given_by closed_to actors actor x vs id v v at refl
         refl (record { on = refl; off = refl; share = refl; got = refl; back = refl }) (λ _ p. p) (λ _ p. p)
         (λ k. record { seen = k.seen; said = k.said }) (λ b p. p) f);
     others = λ a n y g. elsewhere is_of journal mailbox rested given_by closed_to actors a y vs id v v at (record {
