@@ -138,10 +138,12 @@ fn length_of<R: Wait>(rt: &R, mut chain: Chain) -> u64
 {
     let mut count = 0u64;
     for _ in rt.forever() {
-        if chain.next().is_none() {
-            break;
+        match chain.next() {
+            Some((_number, _node)) => {
+                count = count.wrapping_add(1);
+            }
+            None => break,
         }
-        count = count.wrapping_add(1);
     }
     count
 }

@@ -84,10 +84,10 @@ fn put_back<R: Wait>(rt: &R, gates: &Gates<Desk>, pass: &mut Pass<Desk>, mut cha
             Some((_number, mut node)) => {
                 node.set(SysMsg::Suspend);
                 let _ = gates.sys_enqueue(rt, pass, ACTOR, node);
+                count = count.wrapping_add(1);
             }
             None => break,
         }
-        count = count.wrapping_add(1);
     }
     count
 }
