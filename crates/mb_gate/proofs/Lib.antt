@@ -18,3 +18,4 @@ pub mod Shows
 pub mod Leaving
 pub mod RecordLemmas
 pub mod KnownLemmas
+pub mod NamedLemmas
