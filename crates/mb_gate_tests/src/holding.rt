@@ -11,6 +11,7 @@ use std::alloc::Global;
 use std::sync::Wait;
 use std::test::Fail;
 
+/// The gates of one actor with their passes, and its claim.
 #[derive(Drop)]
 pub struct Holding {
     pub(crate) single: Single,

@@ -15,6 +15,7 @@ use std::process::Abort;
 use std::sync::Wait;
 use std::test::Fail;
 
+/// The gates of one actor, and two passes of theirs.
 #[derive(Drop)]
 pub struct Single {
     pub(crate) gates: Gates<Desk>,
