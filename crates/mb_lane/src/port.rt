@@ -76,11 +76,11 @@ impl Port {
         match &mut self.end {
             End::Unbounded(blocks, pass) => match blocks.push(rt, pass, envelope) {
                 Ok(()) => Ok(()),
-                Err(back) => Err(PushError::NoMemory(back)),
+                Err(_) => Err(PushError::NoMemory(envelope)),
             },
             End::Bounded(slots, pass) => match slots.push(rt, pass, envelope) {
                 Ok(()) => Ok(()),
-                Err(back) => Err(PushError::Full(back)),
+                Err(_) => Err(PushError::Full(envelope)),
             },
         }
     }

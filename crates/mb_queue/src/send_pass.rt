@@ -50,12 +50,13 @@ impl SendPass {
             self.pushed.add(envelope);
             return Ok(());
         }
-        match self.main.push(rt, envelope) {
+        let done = self.main.push(rt, envelope);
+        match done {
             Ok(()) => {
                 self.pushed.add(envelope);
-                Ok(())
+                done
             }
-            Err(refused) => Err(refused),
+            Err(_) => done,
         }
     }
 }
