@@ -50,13 +50,12 @@ impl SendPass {
             self.pushed.add(envelope);
             return Ok(());
         }
-        let done = self.main.push(rt, envelope);
-        match done {
+        match self.main.push(rt, envelope) {
             Ok(()) => {
                 self.pushed.add(envelope);
-                done
+                Ok(())
             }
-            Err(_) => done,
+            Err(refused) => Err(refused),
         }
     }
 }

@@ -56,9 +56,9 @@ impl TakePass {
         match next {
             Some(envelope) => {
                 self.taken.add(envelope);
-                next
+                Some(envelope)
             }
-            None => next,
+            None => None,
         }
     }
 
