@@ -12,8 +12,8 @@ pub trait Plain {
     /// Whether it was put in.
     fn put<R: Wait>(&self, rt: &R, envelope: Envelope) -> bool;
 
-    /// Whether there was one to take.
-    fn take<R: Wait>(&self, rt: &R) -> bool;
+    /// The next one.
+    fn take<R: Wait>(&self, rt: &R) -> Option<Envelope>;
 }
 
 impl Plain for SegQueue<Envelope> {
@@ -21,8 +21,8 @@ impl Plain for SegQueue<Envelope> {
         self.push(rt, envelope).is_ok()
     }
 
-    fn take<R: Wait>(&self, rt: &R) -> bool {
-        self.pop(rt).is_some()
+    fn take<R: Wait>(&self, rt: &R) -> Option<Envelope> {
+        self.pop(rt)
     }
 }
 
@@ -31,8 +31,8 @@ impl Plain for ArrayQueue<Envelope> {
         self.push(rt, envelope).is_ok()
     }
 
-    fn take<R: Wait>(&self, rt: &R) -> bool {
-        self.pop(rt).is_some()
+    fn take<R: Wait>(&self, rt: &R) -> Option<Envelope> {
+        self.pop(rt)
     }
 }
 
@@ -77,7 +77,7 @@ fn alone<R: Wait, Q: Plain>(rt: &R, queue: &Q, rounds: u64) -> u64 {
     let mut taken = 0u64;
     for number in 0..rounds {
         let _ = queue.put(rt, nth(number));
-        taken = taken.wrapping_add(u64::from(queue.take(rt)));
+        taken = taken.wrapping_add(u64::from(queue.take(rt).is_some()));
     }
     taken
 }
@@ -105,10 +105,9 @@ fn take_all<R: Wait, Q: Plain>(rt: &R, queue: &Q, rounds: u64) -> u64 {
         if taken >= rounds {
             break;
         }
-        if queue.take(rt) {
-            taken = taken.wrapping_add(1);
-        } else {
-            thread::yield_now();
+        match queue.take(rt) {
+            Some(_) => taken = taken.wrapping_add(1),
+            None => thread::yield_now(),
         }
     }
     taken

@@ -40,7 +40,7 @@ impl TakePass {
     /// Takes the next envelope by the order of the queue's kind. `None` only if the queue was empty at a moment of the call
     /// (of a control-aware queue each of its parts, not both at one); then all that a joined pass pushed was given, and where
     /// all passes are joined each later take gives `None` too.
-    #[inline]
+    #[inline(always)]
     pub fn take<R: Wait>(&mut self, rt: &R) -> Option<Envelope>
         ensures taken { self.new.taken ≡ self.old.taken ++ option_to_list result }
         ensures same { (self.new.queue ≡ self.old.queue) × (self.new.turns ≡ self.old.turns) × (self.new.accounts ≡ self.old.accounts) }
