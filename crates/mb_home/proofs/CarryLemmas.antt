@@ -1,5 +1,5 @@
 -- Acts that are carried out one by one lead on, from the status with which a claim was taken.
-use Rattle.std.proofs.Common.{◌≡◌, ℕ, ◌+◌, ◌*◌, ◌<◌, Bool, true, false, List, [], ◌∷◌, refl, sym, ap, ◌∙◌, arith}
+use Rattle.std.proofs.Common.{◌≡◌, ◌+◌, ◌*◌, ◌<◌, Bool, true, false, List, [], ◌∷◌, refl, sym, ap, ◌∙◌, arith}
 use Rattle.std.specs.Prelude.{if◌then◌else◌}
 use Rattle.mb_status.specs.Mailbox.{Mailbox, most_suspensions, word_of, idle, suspend, resume, the_closed}
 use Rattle.mb_msg.specs.declared.envelope.Body.{Body}

@@ -1,7 +1,7 @@
 -- How many system messages were applied, wait, and are dead: together as many as have a number.
-use Rattle.std.proofs.Common.{◌≡◌, ◌⊎◌, inl, inr, ℕ, ◌+◌, ◌<◌, ◌≤◌, ◌==◌, Bool, true, false, List, [], ◌∷◌, ◌++◌, length, map, filter}
-use Rattle.std.proofs.Common.{refl, sym, ap, ◌∙◌, subst, arith, length-append}
-use Rattle.std.specs.Prelude.{All, if◌then◌else◌, IsTrue, nat_lt, not, ◌&&◌, ◌||◌, Option, Some, None}
+use Rattle.std.proofs.Common.{◌≡◌, inl, inr, ℕ, ◌+◌, ◌<◌, ◌==◌, Bool, true, false, List, [], ◌∷◌, ◌++◌, length}
+use Rattle.std.proofs.Common.{refl, sym, ap, ◌∙◌, arith, length-append}
+use Rattle.std.specs.Prelude.{All, if◌then◌else◌, nat_lt, not, ◌&&◌, ◌||◌}
 use Rattle.std.proofs.lemmas.Bool.Decides.{nat_tests}
 use Rattle.std.proofs.lemmas.List.Elements.{All-nil, All-push, All-filter, All-weaker, All-head, All-tail}
 use Rattle.mb_msg.specs.declared.system.SysMsg.{SysMsg}
@@ -9,13 +9,13 @@ use Rattle.mb_msg.specs.declared.system.SysMsg.TheVariants as system
 use Rattle.mb_actor.specs.Behaviour.{Moment, Reply}
 use Rattle.mb_actor.specs.declared.phase.Phase.TheVariants.{Fresh, Ending, Ended}
 use Rattle.mb_journal.specs.Acts.{Act}
-use Rattle.mb_journal.specs.Aside.{aside, ever_aside, next_front, next_number, without_number, sets_aside, waits_for_the_end, is_child_failure}
+use Rattle.mb_journal.specs.Aside.{aside, ever_aside, next_number, without_number, sets_aside, waits_for_the_end, is_child_failure}
 use Rattle.mb_journal.specs.Entry.{Entry, Outcome, answered_failed}
 use Rattle.mb_journal.specs.Entry.Entry.{Handled, System, Dropped}
 use Rattle.mb_journal.specs.Entry.Outcome.{Applied, SetAside}
 use Rattle.mb_journal.specs.Identity.{Identity}
 use Rattle.mb_journal.specs.Lawful.{AreLawful, IsLawfulEntry, IsNumbered}
-use Rattle.mb_journal.specs.Life.{phase, closed, children}
+use Rattle.mb_journal.specs.Life.{phase, closed}
 use Rattle.mb_journal.specs.Phase.{phase_is}
 use Rattle.mb_journal.specs.Suspension.{count}
 use Rattle.mb_journal.proofs.Fold.{Queries, queries, queries-fold, starts, restarts, ends, lasts}
@@ -138,7 +138,6 @@ ends-not who before number (system.Watch w) outcome may = absurd (let no : false
 ends-not who before number (system.Unwatch w) outcome may = absurd (let no : false ≡ true = may in cc no)
 ends-not who before number (system.Failed x c) outcome may = and-false (phase_is (phase who before) Ending)
 ends-not who before number (system.Died x) outcome may = absurd (let no : false ≡ true = may in cc no)
-
 
 both-tests : (b : Bool) (x y : ℕ) → b ≡ false → b ≡ true → x ≡ y
 both-tests true x y never it = absurd (cc never)

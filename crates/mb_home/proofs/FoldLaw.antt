@@ -1,8 +1,7 @@
 -- Carrying out the acts of a lawful entry makes of the mailbox that the journal said what it says with that entry.
-use Rattle.std.proofs.Common.{◌≡◌, ℕ, ◌+◌, ◌<◌, ◌≤◌, ◌^◌, Bool, true, false, List, [], ◌∷◌, ◌++◌, length, map, refl, sym, ap, ◌∙◌, subst, arith}
-use Rattle.std.specs.Prelude.{not, nat_lt, ◌&&◌, ◌||◌, if◌then◌else◌, is_some, Option, Some, None}
-use Rattle.mb_status.specs.Mailbox.{Mailbox, most_suspensions, the_closed, idle}
-use Rattle.mb_msg.specs.declared.envelope.Envelope.{Envelope}
+use Rattle.std.proofs.Common.{◌≡◌, ℕ, ◌<◌, ◌≤◌, ◌^◌, Bool, true, false, List, [], ◌∷◌, ◌++◌, map, refl, sym, ap, ◌∙◌, subst, arith}
+use Rattle.std.specs.Prelude.{not, nat_lt, ◌&&◌, ◌||◌, if◌then◌else◌, is_some, Option, None}
+use Rattle.mb_status.specs.Mailbox.{Mailbox, most_suspensions, idle}
 use Rattle.mb_msg.specs.declared.id.ActorId.{ActorId}
 use Rattle.mb_msg.specs.declared.supervision.Cause.{Cause}
 use Rattle.mb_msg.specs.declared.supervision.Cause.TheVariants as cause
@@ -16,14 +15,13 @@ use Rattle.mb_actor.specs.declared.phase.Phase.{Phase}
 use Rattle.mb_actor.specs.declared.phase.Phase.TheVariants.{Fresh, Live, Broken, Ending, Ended}
 use Rattle.mb_journal.specs.Acts.{Act, acts, system_acts, fresh_acts, resume_acts, restart_acts, terminate_acts}
 use Rattle.mb_journal.specs.Acts.Act.{SuspendSelf, ResumeSelf, CloseSelf}
-use Rattle.mb_journal.specs.Aside.{waits_for_the_end, is_child_failure, sets_aside}
-use Rattle.mb_journal.specs.Effects.{applies}
+use Rattle.mb_journal.specs.Aside.{waits_for_the_end, is_child_failure}
 use Rattle.mb_journal.specs.Entry.{Entry, Outcome, is_applied, is_failed, answered_failed}
 use Rattle.mb_journal.specs.Entry.Entry.{Handled, System, Dropped}
 use Rattle.mb_journal.specs.Entry.Outcome.{Applied, SetAside}
 use Rattle.mb_journal.specs.Failure.{is_nobody, is_child, is_escalate, is_resume_of_failure, failed, failure_of}
 use Rattle.mb_journal.specs.Identity.{Identity, is_guardian}
-use Rattle.mb_journal.specs.Lawful.{AreLawful, IsLawful, IsLawfulEntry, IsSystem, IsGiven, call_of, envelope_call}
+use Rattle.mb_journal.specs.Lawful.{AreLawful, IsLawful, IsLawfulEntry, IsSystem, IsGiven, call_of}
 use Rattle.mb_journal.specs.Life.{children, phase, closed, is_empty, is_alone, has_start, has_ending}
 use Rattle.mb_journal.specs.Phase.{phase_is}
 use Rattle.mb_journal.specs.Supervision.{directive_of}
@@ -33,7 +31,7 @@ use Rattle.mb_journal.proofs.CountLemmas.{running}
 use Rattle.mb_journal.proofs.CreateSteps.{fails-as_answered}
 use Rattle.mb_journal.proofs.DiedSteps.{died-tests}
 use Rattle.mb_journal.proofs.EnvelopeSteps.{handled-tests, dropped-tests}
-use Rattle.mb_journal.proofs.Fold.{Queries, queries, queries-fold, marked-fold, marks_on, starts, restarts, ends, lasts}
+use Rattle.mb_journal.proofs.Fold.{Queries, queries, queries-fold, marked-fold, starts, restarts, ends, lasts}
 use Rattle.mb_journal.proofs.PhaseLemmas.{not_started, not_ending-fresh, not_ending-live, not_ending-broken, agrees}
 use Rattle.mb_journal.proofs.SetAsideSteps.{set_aside-tests}
 use Rattle.mb_journal.proofs.Steps.{Tests, tests_of, tests-are, none_passed, fails-not}
@@ -267,7 +265,7 @@ module _ (who : Identity) (gives : Moment → Reply → Type 0) (before : List E
   of-resume : (number : ℕ) (f : Bool) (a : Option Answer) (effects : List Effect) →
       IsSystem who before number (system.Resume f) (Applied a effects) →
       phase_is (phase who before) Fresh ≡ false → (p : Phase) → phase who before ≡ p →
-          IsMoved who before (applied number (system.Resume f) a effects)
+      IsMoved who before (applied number (system.Resume f) a effects)
   of-resume number f a effects due off_fresh Fresh is = absurd (let no : phase_is Fresh Fresh ≡ false = ap (λ p. phase_is p Fresh) (sym is)
       ∙ off_fresh in cc no)
   of-resume number f a effects due off_fresh Ended is =
@@ -278,7 +276,7 @@ module _ (who : Identity) (gives : Moment → Reply → Type 0) (before : List E
     t = record none_passed { resume = true; resume_of_failure = f };
     tests =
         tests-are who now (applied number (system.Resume f) a effects)
-            (record none_passed { resume = true; resume_of_failure = f }) refl refl no_restart
+        (record none_passed { resume = true; resume_of_failure = f }) refl refl no_restart
         no-end (answers-not a (restarts who now (applied number (system.Resume f) a effects)) no_restart) refl (ap (λ p. not (phase_is p Fresh)) is)
         (ap (λ p. (is_resume_of_failure (system.Resume f) && true) && phase_is p Live) is ∙ for_failure f);
     one = one-resume f;
@@ -334,7 +332,7 @@ module _ (who : Identity) (gives : Moment → Reply → Type 0) (before : List E
     t = record none_passed { restart = true; failure = is_failed a };
     tests =
         tests-are who now (applied number (system.Recreate c) a effects)
-            (record none_passed { restart = true; failure = is_failed a }) refl refl a_restart
+        (record none_passed { restart = true; failure = is_failed a }) refl refl a_restart
         no-end (fails-as_answered now (restarts who now (applied number (system.Recreate c) a effects)) (is_failed a) a_restart) refl refl refl;
     one = one-restarted false (is_failed a);
     moved =

@@ -1,6 +1,6 @@
 -- The guardian watches nobody: it has no effects.
-use Rattle.std.proofs.Common.{◌≡◌, Bool, true, false, List, [], ◌∷◌, refl, sym, ap, ◌∙◌, subst}
-use Rattle.std.specs.Prelude.{if◌then◌else◌, Option, Some, None}
+use Rattle.std.proofs.Common.{◌≡◌, Bool, true, false, List, [], ◌∷◌, refl, ap, ◌∙◌, subst}
+use Rattle.std.specs.Prelude.{if◌then◌else◌, Option, None}
 use Rattle.mb_msg.specs.declared.id.ActorId.{ActorId}
 use Rattle.mb_msg.specs.declared.system.SysMsg.{SysMsg}
 use Rattle.mb_msg.specs.declared.system.SysMsg.TheVariants as system
@@ -9,12 +9,12 @@ use Rattle.mb_actor.specs.declared.answer.Answer.{Answer}
 use Rattle.mb_actor.specs.declared.call.Call.{Call}
 use Rattle.mb_actor.specs.declared.effect.Effect.{Effect}
 use Rattle.mb_journal.specs.Effects.{lasting_effects}
-use Rattle.mb_journal.specs.Entry.{Entry, Outcome}
+use Rattle.mb_journal.specs.Entry.{Entry}
 use Rattle.mb_journal.specs.Entry.Entry.{Handled, System, Dropped}
 use Rattle.mb_journal.specs.Entry.Outcome.{Applied, SetAside}
 use Rattle.mb_journal.specs.Identity.{Identity, is_guardian}
-use Rattle.mb_journal.specs.Lawful.{AreLawful, IsLawfulEntry, IsGiven, call_of}
-use Rattle.mb_journal.specs.Life.{after_death, is_ending, is_start, is_restart, is_last}
+use Rattle.mb_journal.specs.Lawful.{AreLawful, IsLawfulEntry, IsGiven}
+use Rattle.mb_journal.specs.Life.{after_death, is_ending}
 use Rattle.mb_journal.specs.Watching.{watching, watching_after}
 
 by-message : (number : _) (m : SysMsg) (a : Option Answer) (effects : List Effect) → effects ≡ [] →
@@ -73,7 +73,7 @@ module _ (who : Identity) (gives : Moment → Reply → Type 0) (guardian : is_g
       IsGiven who gives before (if is_guardian who then None else call) a effects → effects ≡ []
   no-call before a effects call given =
       let none : IsGiven who gives before None a effects = subst (λ b. IsGiven who gives before (if b then None
-          else call) a effects) guardian given in
+      else call) a effects) guardian given in
       none.1
 
   none-last : (before : List Entry) (e : Entry) → IsLawfulEntry who gives before e → lasting_effects e ≡ []

@@ -1,10 +1,8 @@
 -- Which acts change the actor's own mailbox, and what they make of it.
-use Rattle.std.proofs.Common.{◌≡◌, ℕ, ◌+◌, ◌-◌, ◌<◌, ◌≤◌, Bool, true, false, List, [], ◌∷◌, ◌++◌, map, refl, sym, ap, ◌∙◌, subst, arith, append-nil}
-use Rattle.std.specs.Prelude.{filter, not, ◌&&◌, ◌||◌, if◌then◌else◌, Option, Some, None}
+use Rattle.std.proofs.Common.{◌≡◌, ◌+◌, ◌-◌, ◌≤◌, Bool, true, false, List, [], ◌∷◌, ◌++◌, map, refl, sym, ap, ◌∙◌, subst, arith, append-nil}
+use Rattle.std.specs.Prelude.{filter, not, ◌||◌, if◌then◌else◌, Option, Some, None}
 use Rattle.std.specs.List.{flat_map}
 use Rattle.mb_status.specs.Mailbox.{Mailbox, most_suspensions, suspend, resume, the_closed}
-use Rattle.mb_msg.specs.declared.envelope.Body.{Body}
-use Rattle.mb_msg.specs.declared.envelope.Body.TheVariants as body
 use Rattle.mb_msg.specs.declared.id.ActorId.{ActorId}
 use Rattle.mb_msg.specs.declared.supervision.Cause.{Cause}
 use Rattle.mb_msg.specs.declared.system.SysMsg.{SysMsg}
@@ -171,7 +169,9 @@ pub counts-marks : (m : Mailbox) → m.closed ≡ false → (marks : List Mark) 
     CountsEach m (map act_for marks)
 unfolding pluses
 counts-marks m opened [] few = tt
-counts-marks m opened (Plus ∷ marks) few =
-    (omega (arith, few), subst (λ (x : Mailbox). CountsEach x (map act_for marks)) (sym (suspended-open m opened))
-    (counts-marks (record m { count = m.count + 1 }) opened marks (omega (arith, few))))
+counts-marks m opened (Plus ∷ marks) few = (
+  omega (arith, few),
+  subst (λ (x : Mailbox). CountsEach x (map act_for marks)) (sym (suspended-open m opened))
+      (counts-marks (record m { count = m.count + 1 }) opened marks (omega (arith, few))),
+)
 counts-marks m opened (Minus ∷ marks) few = counts-marks (record m { count = m.count - 1 }) opened marks (omega (arith, few))

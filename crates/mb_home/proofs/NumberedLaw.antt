@@ -1,5 +1,5 @@
 -- What an actor told is numbered from 0 on: a journal has too few entries for the numbers to begin again.
-use Rattle.std.proofs.Common.{◌≡◌, ℕ, ◌+◌, ◌*◌, ◌%◌, ◌^◌, ◌<◌, ◌≤◌, Bool, true, false, List, [], ◌∷◌, ◌++◌, length, refl, sym, ap, ◌∙◌, subst}
+use Rattle.std.proofs.Common.{◌≡◌, ℕ, ◌+◌, ◌*◌, ◌^◌, ◌<◌, ◌≤◌, Bool, true, false, List, [], ◌∷◌, length, refl, subst}
 use Rattle.std.proofs.Common.{arith, length-append}
 use Rattle.std.proofs.Math.Nat.{mod-eq_of_lt}
 use Rattle.std.proofs.lemmas.Option.{slice_get_within}
@@ -14,7 +14,7 @@ use Rattle.mb_journal.specs.Watching.{watching}
 use Rattle.mb_fates.specs.Accepted.{IsNumbered}
 use Rattle.mb_fates.specs.Told.{Telling, tells, tellings, told, envelopes_from}
 use Rattle.mb_home.specs.Contents.{Contents}
-use Rattle.mb_home.specs.Settled.{IsOwn, IsSettled}
+use Rattle.mb_home.specs.Settled.{IsSettled}
 use Rattle.mb_home.proofs.GuardianLemmas.{watches-none}
 use Rattle.mb_home.proofs.TellLaw.{few-acts}
 

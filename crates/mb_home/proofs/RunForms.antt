@@ -1,12 +1,12 @@
 -- A run of the mailbox goes on by the steps of its home.
-use Rattle.std.proofs.Common.{◌≡◌, ◌⊎◌, ℕ, suc, List, ◌∷◌, Option, Some, None, sym, subst}
+use Rattle.std.proofs.Common.{◌≡◌, ℕ, suc, List, ◌∷◌, Option, Some, None, sym, subst}
 use Rattle.std.specs.Prelude.{IfSome}
 use Rattle.mb_msg.specs.declared.system.SysMsg.{SysMsg}
 use Rattle.mb_journal.specs.Aside.{next_front}
 use Rattle.mb_journal.specs.Entry.{Entry, Outcome}
 use Rattle.mb_journal.specs.Entry.Entry.{System}
 use Rattle.mb_journal.specs.Identity.{Identity}
-use Rattle.mb_journal.specs.Run.{IsBlock, IsTurns}
+use Rattle.mb_journal.specs.Run.{IsTurns}
 use Rattle.mb_journal.specs.Run.IsBlock.{one_more}
 use Rattle.mb_journal.specs.Run.IsTurns.{a_block, a_turn}
 use Rattle.mb_cell.specs.Seen.{Seen}

@@ -1,10 +1,10 @@
 -- The books stay settled through each step.
 use Rattle.std.proofs.Common.{◌≡◌, ◌≢◌, ◌⊎◌, inl, inr, ℕ, zero, suc, ◌+◌, ◌-◌, ◌%◌, ◌^◌, ◌<◌, ◌≤◌, ◌==◌, Bool, true, false, List, [], ◌∷◌, ◌++◌}
-use Rattle.std.proofs.Common.{length, map, drop, refl, sym, ap, ◌∙◌, subst, arith, lit<, append-nil, append_assoc, length-append}
+use Rattle.std.proofs.Common.{length, map, drop, refl, sym, ap, ◌∙◌, subst, arith, append-nil, append_assoc, length-append}
 use Rattle.std.proofs.lemmas.List.{length-map}
-use Rattle.std.specs.Prelude.{All, if◌then◌else◌, slice_get, slice_set, Option, Some, None, IsSome, is_some, option_map}
-use Rattle.std.proofs.Math.Nat.{mod-eq_of_lt, mod-add-mod}
-use Rattle.std.proofs.lemmas.List.Elements.{All-nil, All-push, All-set, All-weaker, All-same, All-tail}
+use Rattle.std.specs.Prelude.{All, slice_get, slice_set, Option, Some, None, IsSome, option_map}
+use Rattle.std.proofs.Math.Nat.{mod-add-mod}
+use Rattle.std.proofs.lemmas.List.Elements.{All-push, All-set, All-weaker, All-tail}
 use Rattle.std.proofs.lemmas.Option.{slice_get_within, get_or_from_slice_get, slice_get-map}
 use Rattle.std.proofs.lemmas.Bool.Decides.{nat_tests}
 use Rattle.std.proofs.Math.ListN.{length-set}
@@ -19,28 +19,26 @@ use Rattle.mb_actor.specs.ActorList.{has}
 use Rattle.mb_actor.specs.Behaviour.{Moment, Reply}
 use Rattle.mb_journal.specs.Acts.{Act, acts}
 use Rattle.mb_journal.specs.Acts.Act.{Tell}
-use Rattle.mb_journal.specs.Aside.{aside, next_front, next_number}
-use Rattle.mb_journal.specs.Entry.{Entry, Outcome}
-use Rattle.mb_journal.specs.Entry.Entry.{Handled, System, Dropped}
+use Rattle.mb_journal.specs.Aside.{next_number}
+use Rattle.mb_journal.specs.Entry.{Entry}
 use Rattle.mb_journal.specs.Identity.{Identity, is_guardian}
 use Rattle.mb_journal.specs.Lawful.{IsLawful, AreLawful, IsLawfulEntry}
 use Rattle.mb_journal.specs.Life.{closed}
 use Rattle.mb_journal.specs.Watching.{watching}
-use Rattle.mb_cell.specs.Seen.{Seen, with_entry}
+use Rattle.mb_cell.specs.Seen.{with_entry}
 use Rattle.mb_queue.specs.Passes.{Queue, Sending, Taking}
-use Rattle.mb_fates.specs.Accepted.{accepted, queued, dead_letters, to_actor}
+use Rattle.mb_fates.specs.Accepted.{queued, to_actor}
 use Rattle.mb_fates.specs.Fates.{begun}
-use Rattle.mb_fates.specs.Told.{Telling, tells, tellings, told, envelopes_from}
-use Rattle.mb_fates.specs.declared.posting.Posting.{Posting}
+use Rattle.mb_fates.specs.Told.{Telling, tells, told}
 use Rattle.mb_home.specs.Contents.{Contents}
 use Rattle.mb_home.specs.Roll.{Enrolled, queues_of, IsBounded}
-use Rattle.mb_home.specs.Settled.{IsOwn, IsFit, IsPosted, IsCounted, IsReason, IsSettled, messages_of, aside_at_end}
-use Rattle.mb_home.specs.Steps.{most_tells, next_envelope, with_pushed, IsDue}
-use Rattle.mb_home.proofs.CountLemmas.{aside-below, few-numbers, front-of, next-new, next-again, rest-first}
+use Rattle.mb_home.specs.Settled.{IsOwn, IsFit, IsCounted, IsReason, IsSettled, messages_of}
+use Rattle.mb_home.specs.Steps.{most_tells, next_envelope, with_pushed}
+use Rattle.mb_home.proofs.CountLemmas.{rest-first}
 use Rattle.mb_home.proofs.GuardianLemmas.{watches-none}
 use Rattle.mb_home.proofs.PostLemmas.{posting, told-more, told-one, queued-more, queued-same, dead-same, dead-more, to-more, to-same}
 use Rattle.mb_home.proofs.TellLaw.{few-acts}
-use Rattle.mb_home.proofs.TellLemmas.{AreFew, IsThere}
+use Rattle.mb_home.proofs.TellLemmas.{IsThere}
 
 -- ---- the acts of an entry are fit
 
@@ -421,7 +419,7 @@ rest-changed h gives pending rest dropped s counted = record {
 -- what was drained is kept
 pub settled-kept : (h : Contents) (gives : Moment → Reply → Type 0) (pending : List Act) (drained : List (ℕ × SysMsg)) → IsSettled gives pending h →
     drained ≡ numbered ((next_number h.cell.journal + h.dropped) % 2 ^ 64) (messages_of drained) →
-        IsSettled gives pending (record h { rest = drained })
+    IsSettled gives pending (record h { rest = drained })
 settled-kept h gives pending drained s goes_on =
     rest-changed h gives pending drained h.dropped s (record { rest = goes_on; aside = s.counted.aside; none = s.counted.none })
 

@@ -1,7 +1,7 @@
 -- What each step makes of a settled home.
-use Rattle.std.proofs.Common.{◌≡◌, ◌⊎◌, inl, inr, ℕ, ◌+◌, ◌%◌, ◌^◌, ◌<◌, ◌≤◌, Bool, true, false, List, [], ◌∷◌, ◌++◌, length, refl, sym, ap, ◌∙◌}
+use Rattle.std.proofs.Common.{◌≡◌, inl, inr, ℕ, ◌+◌, ◌%◌, ◌^◌, ◌<◌, ◌≤◌, Bool, true, false, List, [], ◌∷◌, ◌++◌, length, refl, sym, ap, ◌∙◌}
 use Rattle.std.proofs.Common.{subst, arith, append-nil}
-use Rattle.std.specs.Prelude.{All, Contains, if◌then◌else◌, ◌==◌, not, ◌&&◌, slice_get, Option, Some, None, IsSome, IsTrue}
+use Rattle.std.specs.Prelude.{All, Contains, if◌then◌else◌, ◌==◌, not, ◌&&◌, slice_get, Option, Some, None, IsTrue}
 use Rattle.std.proofs.Math.Nat.{mod-eq_of_lt}
 use Rattle.std.proofs.lemmas.List.Elements.{All-nil}
 use Rattle.std.proofs.lemmas.Option.{slice_get_within, get_or_from_slice_get}
@@ -12,7 +12,6 @@ use Rattle.mb_syslist.specs.MessageList.{numbered}
 use Rattle.mb_actor.specs.Behaviour.{Moment, Reply}
 use Rattle.mb_actor.specs.declared.phase.Phase.{Phase}
 use Rattle.mb_actor.specs.declared.phase.Phase.TheVariants.{Fresh, Live, Broken, Ending, Ended}
-use Rattle.mb_journal.specs.Acts.{Act, acts}
 use Rattle.mb_journal.specs.Aside.{aside, ever_aside, first_of_list, next_front, next_number}
 use Rattle.mb_journal.specs.Reading.{IsOpen}
 use Rattle.mb_journal.specs.Suspension.{count}
@@ -24,17 +23,16 @@ use Rattle.mb_journal.specs.Identity.{Identity, is_guardian}
 use Rattle.mb_journal.specs.Lawful.{IsLawful, IsNumbered}
 use Rattle.mb_journal.specs.Life.{closed, phase, phase_after}
 use Rattle.mb_journal.specs.Phase.{phase_is}
-use Rattle.mb_cell.specs.Seen.{Seen, IsOf, MayTake, TakesSystem, TakesEnvelope, with_entry}
+use Rattle.mb_cell.specs.Seen.{Seen, IsOf, MayTake, TakesSystem, TakesEnvelope}
 use Rattle.mb_queue.specs.Passes.{Sending, Taking}
-use Rattle.mb_fates.specs.Accepted.{to_actor}
 use Rattle.mb_fates.specs.Fates.{begun}
-use Rattle.mb_fates.specs.Told.{Telling, tells, told}
+use Rattle.mb_fates.specs.Told.{Telling, told}
 use Rattle.mb_home.specs.Contents.{Contents}
 use Rattle.mb_home.specs.Roll.{Enrolled}
-use Rattle.mb_home.specs.Settled.{IsOwn, IsCounted, IsReason, IsSettled, messages_of, aside_at_end}
+use Rattle.mb_home.specs.Settled.{IsOwn, IsReason, IsSettled, messages_of, aside_at_end}
 use Rattle.mb_home.specs.Steps.{most_tells, at_first, AppliesNext, IsDue}
 use Rattle.mb_home.proofs.CountLemmas.{aside-below, few-numbers, front-of, next-new, next-again, rest-first}
-use Rattle.mb_home.proofs.SettleLemmas.{with_more, settled-more}
+use Rattle.mb_home.proofs.SettleLemmas.{settled-more}
 
 -- ---- the next number
 
@@ -78,7 +76,7 @@ module _ (h : Contents) (gives : Moment → Reply → Type 0) (s : IsSettled giv
       by_front (Some front) some is =
           let less : number < next_number h.cell.journal =
           front-of (λ (x : ℕ × SysMsg). x.0 < next_number h.cell.journal) h.cell.who h.cell.journal (number, m) (some
-              ∙ ap (λ (x : ℕ × SysMsg). Some x) is.0)
+          ∙ ap (λ (x : ℕ × SysMsg). Some x) is.0)
           (aside-below h.cell.who gives h.cell.journal s.lawful.entries) in
           is.1
           ∙ s.counted.rest
@@ -217,9 +215,11 @@ rested-first cell untouched = ap (λ j. next_front cell.who j) untouched ∙ by_
 pub open-phase : (h : Contents) (gives : Moment → Reply → Type 0) (reading : ℕ) → IsSettled gives [] h → IsOpen h.cell.who h.cell.journal reading →
     (closed h.cell.who h.cell.journal ≡ false) × (phase h.cell.who h.cell.journal ≡ Live)
 open-phase h gives reading s is_open =
-    let tests : (closed h.cell.who h.cell.journal ≡ false) × (count h.cell.who h.cell.journal ≡ 0) =
-    (grind (arith, nat_tests, is_open.open_word, is_open.same_count, is_open.same_closing), grind
-    (arith, nat_tests, is_open.open_word, is_open.same_count, is_open.same_closing)) in
+    let tests : (closed h.cell.who h.cell.journal ≡ false) × (count h.cell.who h.cell.journal ≡ 0) = (
+      grind (arith, nat_tests, is_open.open_word, is_open.same_count, is_open.same_closing),
+      grind
+          (arith, nat_tests, is_open.open_word, is_open.same_count, is_open.same_closing),
+    ) in
     (tests.0, open-live h.cell.who gives h.cell.journal s.lawful.entries tests.1 tests.0)
 
 -- the guardian is given no envelope: nobody pushes for it

@@ -1,10 +1,9 @@
 -- What the acts of a lawful entry tell is to actors, and at most 17: one for each effect, and one that a watched actor has ended.
-use Rattle.std.proofs.Common.{◌≡◌, ℕ, ◌+◌, ◌<◌, ◌≤◌, Bool, true, false, List, [], ◌∷◌, ◌++◌, length, refl, sym, ap, ◌∙◌, subst, arith}
-use Rattle.std.specs.Prelude.{All, map, not, ◌&&◌, IsTrue, if◌then◌else◌, Option, Some, None}
-use Rattle.std.specs.List.{flat_map, list_all}
+use Rattle.std.proofs.Common.{◌≡◌, ◌+◌, ◌<◌, ◌≤◌, Bool, true, false, List, [], ◌∷◌, ◌++◌, length, refl, sym, subst, arith}
+use Rattle.std.specs.Prelude.{not, ◌&&◌, IsTrue, if◌then◌else◌, Option, Some, None}
+use Rattle.std.specs.List.{list_all}
 use Rattle.mb_msg.specs.declared.envelope.Body.{Body}
 use Rattle.mb_msg.specs.declared.envelope.Body.TheVariants as body
-use Rattle.mb_msg.specs.declared.envelope.Envelope.{Envelope}
 use Rattle.mb_msg.specs.declared.id.ActorId.{ActorId}
 use Rattle.mb_msg.specs.declared.supervision.Cause.{Cause}
 use Rattle.mb_msg.specs.declared.supervision.Cause.TheVariants as cause
@@ -19,24 +18,23 @@ use Rattle.mb_actor.specs.declared.call.Call.{Call}
 use Rattle.mb_actor.specs.declared.effect.Effect.{Effect}
 use Rattle.mb_actor.specs.declared.phase.Phase.TheVariants.{Fresh, Live, Broken, Ending}
 use Rattle.mb_actor.specs.Tray.{Tray, actor_of, is_actor, spawns_of}
-use Rattle.mb_journal.specs.Acts.{Act, acts, to_each, effect_acts, fail_acts, create_acts, suspend_acts, resume_acts, restart_acts, restart_for}
+use Rattle.mb_journal.specs.Acts.{Act, acts, to_each, effect_acts, fail_acts, create_acts, resume_acts, restart_acts}
 use Rattle.mb_journal.specs.Acts.{supervision_acts, end_acts}
 use Rattle.mb_journal.specs.Acts.{terminate_acts, died_acts, system_acts, fresh_acts, failure_acts, envelope_acts}
-use Rattle.mb_journal.specs.Acts.Act.{Tell, Sys, SuspendSelf, ResumeSelf, CloseSelf}
-use Rattle.mb_journal.specs.Effects.{lasting_effects}
-use Rattle.mb_journal.specs.Entry.{Entry, Outcome, is_failed}
+use Rattle.mb_journal.specs.Acts.Act.{Tell, Sys, SuspendSelf, ResumeSelf}
+use Rattle.mb_journal.specs.Entry.{Entry, is_failed}
 use Rattle.mb_journal.specs.Entry.Entry.{Handled, System, Dropped}
 use Rattle.mb_journal.specs.Entry.Outcome.{Applied, SetAside}
 use Rattle.mb_journal.specs.Failure.{is_child, failed, failure_of}
 use Rattle.mb_journal.specs.declared.failed_by.FailedBy.TheVariants.{Nobody}
 use Rattle.mb_journal.specs.Identity.{Identity, is_guardian}
-use Rattle.mb_journal.specs.Lawful.{AreLawful, IsLawfulEntry, IsGiven, call_of, envelope_call}
+use Rattle.mb_journal.specs.Lawful.{IsLawfulEntry, IsGiven, call_of, envelope_call}
 use Rattle.mb_journal.specs.Life.{children, phase, is_empty, is_alone}
 use Rattle.mb_journal.specs.Phase.{phase_is}
 use Rattle.mb_journal.specs.Retries.{meant_by, carried_out}
 use Rattle.mb_journal.specs.Watching.{watchers, watching}
 use Rattle.mb_fates.specs.Told.{tells}
-use Rattle.mb_home.proofs.TellLemmas.{AreFew, few-none, few-silent, few-append, few-more, few-tell, few-effects, few-stop, few-end, tells-append}
+use Rattle.mb_home.proofs.TellLemmas.{AreFew, few-none, few-silent, few-append, few-more, few-tell, few-effects, few-end}
 use Rattle.mb_home.proofs.TellLemmas.{tells-to_each, tells-to_some, tells-fail, tells-restarts}
 
 abbrev tray_of : Identity → Tray

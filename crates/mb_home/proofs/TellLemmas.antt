@@ -1,14 +1,12 @@
 -- What acts tell: to whom, and how many.
-use Rattle.std.proofs.Common.{◌≡◌, ℕ, ◌+◌, ◌<◌, ◌≤◌, Bool, true, false, List, [], ◌∷◌, ◌++◌, length, refl, sym, ap, ◌∙◌, subst, arith, length-append}
-use Rattle.std.specs.Prelude.{All, filter, map, not, ◌&&◌, ◌||◌, ◌==◌, nat_lt, IsTrue, if◌then◌else◌, Option, Some, None}
+use Rattle.std.proofs.Common.{◌≡◌, ℕ, ◌+◌, ◌<◌, ◌≤◌, Bool, true, false, List, [], ◌∷◌, ◌++◌, length, refl, ap, ◌∙◌, arith, length-append}
+use Rattle.std.specs.Prelude.{All, filter, map, not, ◌&&◌, ◌||◌, IsTrue, if◌then◌else◌, Option, Some, None}
 use Rattle.std.specs.List.{flat_map, list_all}
 use Rattle.std.proofs.lemmas.List.Elements.{All-nil, All-cons, All-append, All-same}
 use Rattle.mb_msg.specs.declared.envelope.Body.{Body}
 use Rattle.mb_msg.specs.declared.envelope.Body.TheVariants as body
 use Rattle.mb_msg.specs.declared.id.ActorId.{ActorId}
 use Rattle.mb_msg.specs.declared.supervision.Cause.{Cause}
-use Rattle.mb_msg.specs.declared.supervision.Directive.{Directive}
-use Rattle.mb_msg.specs.declared.supervision.Directive.TheVariants as directive
 use Rattle.mb_msg.specs.declared.system.SysMsg.{SysMsg}
 use Rattle.mb_msg.specs.declared.system.SysMsg.TheVariants as system
 use Rattle.mb_actor.specs.ActorList.{is_same, has}
@@ -18,7 +16,7 @@ use Rattle.mb_actor.specs.Tray.{Tray, actor_of, is_actor}
 use Rattle.mb_journal.specs.ActorList.{without}
 use Rattle.mb_journal.specs.Acts.{Act, to_each, effect_acts, stop_acts, report, fail_acts, restart_for, end_acts}
 use Rattle.mb_journal.specs.Acts.Act.{Tell, Sys, SuspendSelf, ResumeSelf, CloseSelf}
-use Rattle.mb_journal.specs.Failure.{is_nobody, is_child}
+use Rattle.mb_journal.specs.Failure.{is_nobody}
 use Rattle.mb_journal.specs.declared.failed_by.FailedBy.{FailedBy}
 use Rattle.mb_journal.specs.Identity.{Identity}
 use Rattle.mb_fates.specs.Told.{Telling, tells}

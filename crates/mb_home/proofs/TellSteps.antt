@@ -1,6 +1,6 @@
 -- What a tell and an envelope make of a settled home, in the forms of the calls.
-use Rattle.std.proofs.Common.{◌≡◌, ℕ, zero, suc, ◌+◌, ◌-◌, ◌%◌, ◌^◌, ◌<◌, ◌≤◌, false, List, [], ◌∷◌, ◌++◌, length, refl, sym, ap, ◌∙◌, subst, arith}
-use Rattle.std.specs.Prelude.{All, Contains, IsTrue, slice_get, slice_set, Option, Some, None, Result, Ok, Err, MatchResult, IfErr}
+use Rattle.std.proofs.Common.{◌≡◌, ℕ, zero, suc, ◌+◌, ◌-◌, ◌%◌, ◌^◌, ◌<◌, ◌≤◌, List, [], ◌∷◌, ◌++◌, length, refl, sym, ap, ◌∙◌, subst, arith}
+use Rattle.std.specs.Prelude.{Contains, IsTrue, slice_get, slice_set, Some, Result, Ok, Err, MatchResult, IfErr}
 use Rattle.std.proofs.lemmas.List.Elements.{All-head}
 use Rattle.std.proofs.lemmas.Option.{slice_get_within, get_or_from_slice_get}
 use Rattle.mb_msg.specs.declared.dead_letter.Why.{Why}
@@ -12,7 +12,6 @@ use Rattle.mb_journal.specs.Acts.{Act}
 use Rattle.mb_journal.specs.Acts.Act.{Tell}
 use Rattle.mb_journal.specs.Identity.{Identity}
 use Rattle.mb_journal.specs.Lawful.{IsLawful}
-use Rattle.mb_journal.specs.Life.{closed}
 use Rattle.mb_journal.specs.Reading.{IsOpen}
 use Rattle.mb_lane.specs.declared.refused.PushError.{PushError}
 use Rattle.mb_lane.specs.declared.refused.PushError.TheVariants.{Full, NoMemory}
@@ -23,8 +22,7 @@ use Rattle.mb_queue.specs.Passes.{Sending, Taking}
 use Rattle.mb_queue.specs.Pushes.{IsRefusal}
 use Rattle.mb_fates.specs.Told.{Telling, tells}
 use Rattle.mb_home.specs.Contents.{Contents}
-use Rattle.mb_home.specs.Roll.{Enrolled, IsBounded}
-use Rattle.mb_home.specs.Settled.{IsOwn, IsReason, IsSettled}
+use Rattle.mb_home.specs.Settled.{IsReason, IsSettled}
 use Rattle.mb_home.specs.Steps.{most_tells, next_envelope, reason_of, with_pushed, Fits, Delivers, IsRefusedBy, Pushes, PushesInto, Refuses}
 use Rattle.mb_home.proofs.SettleLemmas.{settled-dead, settled-pushed, bounded-to}
 use Rattle.mb_home.proofs.StepLemmas.{an-actor, open-phase, settled-begun}
@@ -92,7 +90,7 @@ pub settled-taken : (h : Contents) (gives : ℕ → Moment → Reply → Type 0)
 settled-taken h gives new take e reading s is_open room took lawful same taken =
     let who : new.who ≡ h.cell.who = ap (λ (x : Seen). x.who) took.adds in
     let lawful' : IsLawful new.who (gives h.cell.who.this.0) new.journal = subst (λ (w : Identity). IsLawful new.who
-        (gives w.this.0) new.journal) who lawful in
+    (gives w.this.0) new.journal) who lawful in
     subst (λ (w : Identity). IsSettled (gives w.this.0) new.acts (record h { cell = new; take = take })) (sym who)
     (settled-begun h (gives h.cell.who.this.0) new take e reading s (open-phase h
     (gives h.cell.who.this.0) reading s is_open).0 room took lawful' same taken)
@@ -131,15 +129,31 @@ pub settled-buries : (h mid new : Contents) (gives : ℕ → Moment → Reply �
     new ≡ record mid { dead = mid.dead ++ record { envelope = e; why = why } ∷ []; sent = (mid.sent + 1) % 2 ^ 64; room = new.room } →
     mid.room ≡ new.room + 1 → IsSettled (gives new.cell.who.this.0) new.cell.acts new
 settled-buries h mid new gives to told refused e why s same r e_is why_is buried room =
-    let at_h : new ≡ record h { dead = h.dead ++ record { envelope = next_envelope h to told; why = reason_of refused } ∷ []; sent =
-        (h.sent + 1) % 2 ^ 64; room = new.room } =
+    let at_h : new ≡ record h {
+      dead = h.dead ++ record { envelope = next_envelope h to told; why = reason_of refused } ∷ [];
+      sent =
+          (h.sent + 1) % 2 ^ 64;
+      room = new.room;
+    } =
     buried
-    ∙ ap (λ (x : Contents). record x { dead = x.dead ++ record { envelope = e; why = why } ∷ []; sent =
-    (x.sent + 1) % 2 ^ 64; room = new.room }) same
-    ∙ ap (λ (x : Envelope). record h { dead = h.dead ++ record { envelope = x; why = why } ∷ []; sent =
-    (h.sent + 1) % 2 ^ 64; room = new.room }) e_is
-    ∙ ap (λ (x : Why). record h { dead = h.dead ++ record { envelope = next_envelope h to told; why = x } ∷ []; sent =
-    (h.sent + 1) % 2 ^ 64; room = new.room }) why_is in
+    ∙ ap (λ (x : Contents). record x {
+      dead = x.dead ++ record { envelope = e; why = why } ∷ [];
+      sent =
+          (x.sent + 1) % 2 ^ 64;
+      room = new.room;
+    }) same
+    ∙ ap (λ (x : Envelope). record h {
+      dead = h.dead ++ record { envelope = x; why = why } ∷ [];
+      sent =
+          (h.sent + 1) % 2 ^ 64;
+      room = new.room;
+    }) e_is
+    ∙ ap (λ (x : Why). record h {
+      dead = h.dead ++ record { envelope = next_envelope h to told; why = x } ∷ [];
+      sent =
+          (h.sent + 1) % 2 ^ 64;
+      room = new.room;
+    }) why_is in
     let left : h.room ≡ new.room + 1 = sym (ap (λ (x : Contents). x.room) same) ∙ room in
     subst (λ (x : Contents). IsSettled (gives x.cell.who.this.0) x.cell.acts x) (sym at_h)
     (settled-dead h (gives h.cell.who.this.0) to told h.cell.acts (reason_of refused) new.room s left

@@ -1,6 +1,6 @@
 -- What carrying out an actor's acts makes of its mailbox (`akka.actor.dungeon.FaultHandling` suspends and resumes through the
 -- dispatcher; that these are acts, carried out one after another once a message was taken, is this project's own profile).
-use Rattle.std.specs.Prelude.{◌≡◌, ℕ, ◌<◌, List, [], ◌∷◌}
+use Rattle.std.specs.Prelude.{◌≡◌, ◌<◌, List, [], ◌∷◌}
 use Rattle.mb_status.specs.Mailbox.{Mailbox, most_suspensions, suspend, resume, the_closed, idle}
 use Rattle.mb_journal.specs.Acts.{Act, Tell, Sys, SuspendSelf, ResumeSelf, CloseSelf}
 use Rattle.mb_home.specs.AtHome.{mailbox_at}

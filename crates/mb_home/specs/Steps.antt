@@ -1,6 +1,6 @@
 -- What a step of a run does to an actor's home.
-use Rattle.std.specs.Prelude.{◌≡◌, ◌≢◌, ℕ, ◌+◌, ◌%◌, ◌^◌, ◌⊎◌, List, [], ◌∷◌, ◌++◌, map, All, option_to_list, slice_get, slice_set, Option, Some}
-use Rattle.std.specs.Prelude.{None, IsSome, IfSome}
+use Rattle.std.specs.Prelude.{◌≡◌, ◌≢◌, ℕ, ◌+◌, ◌%◌, ◌^◌, ◌⊎◌, List, [], ◌∷◌, ◌++◌, slice_get, slice_set, Option, Some}
+use Rattle.std.specs.Prelude.{None, IsSome}
 use Rattle.mb_msg.specs.declared.dead_letter.Why.{Why}
 use Rattle.mb_msg.specs.declared.dead_letter.Why.TheVariants as why
 use Rattle.mb_msg.specs.declared.envelope.Body.{Body}
@@ -10,11 +10,10 @@ use Rattle.mb_msg.specs.declared.system.SysMsg.{SysMsg}
 use Rattle.mb_lane.specs.declared.refused.PushError.{PushError}
 use Rattle.mb_lane.specs.declared.refused.PushError.TheVariants.{Full, NoMemory}
 use Rattle.mb_journal.specs.Aside.{next_front}
-use Rattle.mb_journal.specs.Entry.{Entry}
 use Rattle.mb_cell.specs.Seen.{Seen, TakesSystem, TakesEnvelope}
 use Rattle.mb_queue.specs.Passes.{Sending, Taking}
 use Rattle.mb_queue.specs.Pushes.{IsRefusal}
-use Rattle.mb_queue.specs.Takes.{IsTake, EachOnce}
+use Rattle.mb_queue.specs.Takes.{IsTake}
 use Rattle.mb_home.specs.Contents.{Contents}
 use Rattle.mb_home.specs.Roll.{Enrolled}
 

@@ -1,9 +1,4 @@
-use Rattle.std.proofs.Common.{◌≡◌, false, [], sym, ap, subst, refl, ◌∙◌}
-use Rattle.mb_cell.specs.Seen.{MayTake, TakesSystem}
-use Rattle.mb_home.specs.Contents.{Contents}
-use Rattle.mb_home.specs.Settled.{IsSettled}
-use Rattle.mb_home.specs.Steps.{AppliesNext}
-use Rattle.mb_home.proofs.StepLemmas.{number-due, settled-applied, applies-next, may-take}
+use Rattle.mb_home.proofs.StepLemmas.{settled-applied, applies-next, may-take}
 use Rattle.mb_home.proofs.LeadLemmas.{applied-leads}
 use Rattle.mb_home.proofs.home.Home.apply_next.Goals as goal
 

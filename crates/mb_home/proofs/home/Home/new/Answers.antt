@@ -1,7 +1,7 @@
-use Rattle.std.proofs.Common.{◌≡◌, List, [], map, sym, ap, subst, refl}
+use Rattle.std.proofs.Common.{[], sym, subst, refl}
 use Rattle.mb_home.specs.Contents.{Contents}
 use Rattle.mb_home.specs.Settled.{IsSettled}
-use Rattle.mb_home.specs.Steps.{IsRested, at_first}
+use Rattle.mb_home.specs.Steps.{IsRested}
 use Rattle.mb_home.proofs.StepLemmas.{settled-first, rested-first}
 use Rattle.mb_home.proofs.home.Home.new.Goals as goal
 

@@ -1,4 +1,4 @@
-use Rattle.std.proofs.Common.{◌≡◌, false, sym, ap, ◌∙◌, arith}
+use Rattle.std.proofs.Common.{false, sym, ap, ◌∙◌, arith}
 use Rattle.mb_actor.specs.declared.phase.Phase.TheVariants.{Ended}
 use Rattle.mb_journal.specs.Phase.{phase_is}
 use Rattle.mb_home.specs.AtHome.{mailbox_at}

@@ -1,12 +1,7 @@
-use Rattle.std.proofs.Common.{◌≡◌, ◌-◌, ◌≤◌, ◌<◌, sym, ap, subst, ◌∙◌, arith}
-use Rattle.std.specs.Prelude.{slice_get, Some}
+use Rattle.std.proofs.Common.{◌-◌, sym, subst, arith}
 use Rattle.mb_msg.specs.declared.envelope.Envelope.{Envelope}
-use Rattle.mb_queue.specs.Passes.{Sending}
-use Rattle.mb_home.specs.Contents.{Contents}
-use Rattle.mb_home.specs.Settled.{IsSettled}
-use Rattle.mb_home.specs.Steps.{Delivers, Fits, Pushes}
+use Rattle.mb_home.specs.Steps.{Delivers, Fits}
 use Rattle.mb_home.proofs.TellSteps.{told-there, fits-next, pushes-next, settled-pushes, settled-buries}
-use Rattle.mb_home.proofs.home.Home.push.Given as given
 use Rattle.mb_home.proofs.home.Home.push.Goals as goal
 
 pub overflow_sub-place : goal.overflow_sub-place

@@ -1,5 +1,4 @@
-use Rattle.std.proofs.Common.{◌≡◌, List, sym, subst}
-use Rattle.mb_journal.specs.Acts.{Act}
+use Rattle.std.proofs.Common.{sym, subst}
 use Rattle.mb_home.specs.Contents.{Contents}
 use Rattle.mb_home.specs.Settled.{IsSettled}
 use Rattle.mb_home.proofs.LeadLemmas.{settled-ready}

@@ -1,4 +1,4 @@
-use Rattle.std.proofs.Common.{◌≡◌, ◌<◌, length, refl}
+use Rattle.std.proofs.Common.{length, refl}
 use Rattle.std.proofs.lemmas.Option.{slice_get_read}
 use Rattle.mb_home.proofs.TellSteps.{pushed-into}
 use Rattle.mb_home.proofs.home.tells.push_into.Goals as goal
