@@ -1,0 +1,11 @@
+pub mod Begins
+pub mod Emptying
+pub mod Gathering
+pub mod Got
+pub mod Lists
+pub mod Looks
+pub mod Loops
+pub mod Moves
+pub mod Ports
+pub mod Steps
+pub mod Wholes
