@@ -165,10 +165,10 @@ module _ {H : Type 0} where
   count_ends : (old now : List (Way H)) → map (frame_of {H = H}) now ≡ map (frame_of {H = H}) old → length now ≡ length old
   count_ends old now e = sym (length-map now (frame_of {H = H})) ∙ ap length e ∙ length-map old (frame_of {H = H})
 
-  pub gathering_all : (old now : List (Way H)) (k : ℕ) → length now ≤ k → Gathering old k now → AreGathered old now
+  pub gathering_all : (old now : List (Way H)) (k : ℕ) → length old ≤ k → Gathering old k now → AreGathered old now
   gathering_all old now k le g =
-      let count = count_ends old now g.frames in let l = length-map old next_in in
-      let all : length (map next_in old) ≤ k = omega (arith, count, l, le) in record {
+      let l = length-map old next_in in
+      let all : length (map next_in old) ≤ k = omega (arith, l, le) in record {
         frames = g.frames;
         nexts = nexts_flat now ∙ ap given_of (g.nexts ∙ upto_all nothing (map next_in old) k all) ∙ flat_nothing (map next_in old);
         pushed = g.pushed;

@@ -6,7 +6,7 @@ use Rattle.mb_pool.proofs.Ports.{door_open, own_open, own_parts, next_open, took
 use Rattle.mb_pool.proofs.member.take_somewhere.Goals as goal
 
 pub take-requires : goal.take-requires
-take-requires g c = (own_open c.args.member.now.own (look_of c.args.door.now) c.args.member.now.thieves.items c.requires).share
+take-requires g c = record { share = (own_open c.args.member.now.own (look_of c.args.door.now) c.args.member.now.thieves.items c.requires).share }
 
 pub returns-in-Some-clause-taken : goal.returns-in-Some-clause-taken
 returns-in-Some-clause-taken g c = let m = c.args.member.now in let d = look_of c.args.door.now in
