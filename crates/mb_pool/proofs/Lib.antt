@@ -1,11 +1,14 @@
 pub mod Begins
 pub mod Emptying
+pub mod Ending
 pub mod Gathering
 pub mod Got
+pub mod Lent
 pub mod Lists
 pub mod Looks
 pub mod Loops
 pub mod Moves
 pub mod Ports
+pub mod Stealing
 pub mod Steps
 pub mod Wholes

@@ -48,6 +48,27 @@ module _ {H : Type 0} where
   pub last_one : (first : Look H) (count : ℕ) → first.ledger ≡ opened first.ledger.gates first.ledger.members count → with_shares 1 first ≡ borrowed first
   last_one first count e = ap (λ (a : Account H). let l : Look H = record { spot = first.spot; ledger = record a { shares = 1 } } in l) e
 
+  module _ {V : Type 0} (f : V → Look H) (doors new : List V) (last : V) (first : Look H) (k count : ℕ) (before : map f doors ≡ replicate (k - 1) (borrowed first)) (more : new ≡ doors ++ last ∷ []) where
+    -- one port more of the place
+    pub door_more : (l l' : Look H) → 1 ≤ k → l ≡ with_shares (count - (k - 1)) first → l' ≡ lent l → f last ≡ borrowed l
+        → (map f new ≡ replicate (k + 1 - 1) (borrowed first)) × (l' ≡ with_shares (count - (k + 1 - 1)) first)
+    door_more l l' low here left got =
+        let one = lent_one l first (count - (k - 1)) here in
+        let door : f last ≡ borrowed first = got ∙ one.1 in
+        let next : k - 1 + 1 ≡ k + 1 - 1 = omega (arith, low) in
+        let fewer : count - (k - 1) - 1 ≡ count - (k + 1 - 1) = omega (arith, low) in (
+          ap (map f) more ∙ map_push f doors last ∙ (λ i. before i ++ door i ∷ []) ∙ replicate_more (k - 1) (borrowed first) ∙ ap (λ n. replicate n (borrowed first)) next,
+          left ∙ one.0 ∙ ap (λ n. with_shares n first) fewer,
+        )
+
+    -- and the first one is the last
+    pub door_last : k ≡ count → 0 < count → f last ≡ with_shares (count - (k - 1)) first → first.ledger ≡ opened first.ledger.gates first.ledger.members count → map f new ≡ replicate count (borrowed first)
+    door_last end low here whole =
+        let one : count - (k - 1) ≡ 1 = omega (arith, end, low) in
+        let next : k - 1 + 1 ≡ count = omega (arith, end, low) in
+        let door : f last ≡ borrowed first = here ∙ ap (λ n. with_shares n first) one ∙ last_one first count whole in
+        ap (map f) more ∙ map_push f doors last ∙ (λ i. before i ++ door i ∷ []) ∙ replicate_more (k - 1) (borrowed first) ∙ ap (λ n. replicate n (borrowed first)) next
+
   -- each of the next ends' deques lends a share
   pub lend_one : (owns : List (Look H)) (k : ℕ) (d : Look H) → k < length owns → set (upto (lent {H = H}) k owns) k (lent (get_or owns k d)) ≡ upto (lent {H = H}) (suc k) owns
   lend_one owns k d lt = upto_set (lent {H = H}) owns k d lt

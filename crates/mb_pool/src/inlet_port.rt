@@ -53,8 +53,8 @@ impl<H: Resident> InletPort<H> {
             (λ refused. (given_back refused ≡ claim) × (self.new ≡ self.old) × IsRefusal (IsUntouched H.is_of H.journal H.mailbox H.rested H.given H.closed_to) self.old refused) }
     {
         match self.inlet.push(rt, &mut self.pass, claim) {
-            Ok(()) => Ok(()),
-            Err(back) => Err(Refused::NoMemory(back)),
+            Ok(()) => return Ok(()),
+            Err(back) => return Err(Refused::NoMemory(back)),
         }
     }
 

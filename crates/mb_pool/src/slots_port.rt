@@ -54,8 +54,8 @@ impl<H: Resident> SlotsPort<H> {
             (λ refused. (given_back refused ≡ claim) × (self.new ≡ self.old) × IsRefusal (IsUntouched H.is_of H.journal H.mailbox H.rested H.given H.closed_to) self.old refused) }
     {
         match self.slots.push(rt, &mut self.pass, claim) {
-            Ok(()) => Ok(()),
-            Err(back) => Err(Refused::Full(back)),
+            Ok(()) => return Ok(()),
+            Err(back) => return Err(Refused::Full(back)),
         }
     }
 
