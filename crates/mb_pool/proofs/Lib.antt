@@ -2,6 +2,7 @@ pub mod Begins
 pub mod Emptying
 pub mod Ending
 pub mod Gathering
+pub mod Given
 pub mod Got
 pub mod Lent
 pub mod Lists

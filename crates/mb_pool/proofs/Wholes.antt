@@ -64,7 +64,7 @@ module _ {H : Type 0} where
       all_of P h [] = All-nil P
       all_of P h (k ∷ ks) = All-cons P k ks (h k) (all_of P h ks)
 
-  count_of : (pool : Whole H) (ends : List (Way H)) → AreEnds pool ends → length ends ≡ pool.ends
+  pub count_of : (pool : Whole H) (ends : List (Way H)) → AreEnds pool ends → length ends ≡ pool.ends
   count_of pool ends e = sym (length-map ends (parts_of {H = H})) ∙ ap length e ∙ length-map (numbers 0 pool.ends) (end_parts pool) ∙ length_numbers 0 pool.ends
 
   end_at : (pool : Whole H) (ends : List (Way H)) → AreEnds pool ends → (k : ℕ) (d : Way H) → k < length ends → parts_of (get_or ends k d) ≡ end_parts pool k
