@@ -9,7 +9,7 @@ use Rattle.mb_pool.proofs.Ports.{door_open, feed_parts, take_by_door, take_same}
 use Rattle.mb_pool.proofs.end.take_first.Goals as goal
 
 pub take-requires : goal.take-requires
-take-requires g c = (door_open (way_of (look_of c.args.door.now) c.args.member.now) c.requires).share
+take-requires g c = record { share = (door_open (way_of (look_of c.args.door.now) c.args.member.now) c.requires).share }
 
 pub returns-in-None-clause-taken : goal.returns-in-None-clause-taken
 returns-in-None-clause-taken g c =
