@@ -1,6 +1,7 @@
 //! How a claim is got, and how its cell goes home.
 ghost use Rattle.std.specs.Prelude.{◌≡◌, ◌<◌, Some, IfSome};
 ghost use Rattle.mb_gate.specs.Names.{gates_id, pass_id, actors_of};
+ghost use Rattle.mb_pool.specs.Moves.{given_back};
 ghost use Rattle.mb_pool.specs.Origin.{origin_of};
 ghost use Rattle.mb_pool.specs.Untouched.{IsUntouched};
 
@@ -32,7 +33,9 @@ pub fn give<H: Resident>(gates: &Gates<H>, claim: Claim<H>, pass: &mut Pass<H>)
 }
 
 /// The claim that comes back.
-pub fn back<H>(refused: Refused<H>) -> Claim<H> {
+pub fn back<H>(refused: Refused<H>) -> Claim<H>
+    ensures { result ≡ given_back refused }
+{
     match refused {
         Refused::Full(claim) | Refused::NoMemory(claim) => claim,
     }

@@ -13,4 +13,5 @@ pub mod Moves
 pub mod Ports
 pub mod Stealing
 pub mod Steps
+pub mod Taking
 pub mod Wholes
