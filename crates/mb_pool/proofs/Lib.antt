@@ -4,6 +4,7 @@ pub mod Ending
 pub mod Gathering
 pub mod Given
 pub mod Got
+pub mod Handing
 pub mod Lending
 pub mod Lent
 pub mod Lists
