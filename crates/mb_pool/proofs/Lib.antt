@@ -12,6 +12,7 @@ pub mod Looks
 pub mod Loops
 pub mod Moves
 pub mod Ports
+pub mod Remaining
 pub mod Stealing
 pub mod Steps
 pub mod Taking

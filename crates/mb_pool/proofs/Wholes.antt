@@ -122,7 +122,7 @@ module _ {H : Type 0} where
           (all_unmap (IsAmong ends) (part_of {H = H}) v.next (All-head (λ (u : Way H). All (IsAmong ends) (parts_of u).next) v ws h)) (flat ws (All-tail (λ (u : Way H). All (IsAmong ends) (parts_of u).next) v ws h))
 
   -- how many shares these ports have, when each has one
-  sum_parts : (ls : List (Look H)) → shares_in ls ≡ sum_by (λ (p : Part H). p.shares) (map (part_of {H = H}) ls)
+  pub sum_parts : (ls : List (Look H)) → shares_in ls ≡ sum_by (λ (p : Part H). p.shares) (map (part_of {H = H}) ls)
   sum_parts [] = refl
   sum_parts (l ∷ ls) =
       let a = sum_by-cons (λ (x : Look H). x.ledger.shares) l ls in let b = sum_by-cons (λ (p : Part H). p.shares) (part_of l) (map (part_of {H = H}) ls) in let r = sum_parts ls in omega (arith, a, b, r)
@@ -131,7 +131,7 @@ module _ {H : Type 0} where
   sum_deques pool [] = refl
   sum_deques pool (s ∷ ss) = let a = sum_by-cons (λ (p : Part H). p.shares) (deque_part pool s) (deque_parts pool ss) in let r = sum_deques pool ss in omega (arith, a, r)
 
-  sum_ones : (n : ℕ) (p : Part H) → p.shares ≡ 1 → sum_by (λ (q : Part H). q.shares) (replicate n p) ≡ n
+  pub sum_ones : (n : ℕ) (p : Part H) → p.shares ≡ 1 → sum_by (λ (q : Part H). q.shares) (replicate n p) ≡ n
   sum_ones zero p e = refl
   sum_ones (suc n) p e = let a = sum_by-cons (λ (q : Part H). q.shares) p (replicate n p) in let r = sum_ones n p e in omega (arith, a, r, e)
 
@@ -182,7 +182,7 @@ module _ {H : Type 0} where
       flat [] = refl
       flat (w ∷ ws) = map-append (where_is {H = H}) w.own (owns_of ws) ∙ ap (λ l. map (where_is {H = H}) w.own ++ l) (flat ws)
 
-  doors_same : (old new : List (Way H)) → map (frame_of {H = H}) new ≡ map (frame_of {H = H}) old → doors_of new ≡ doors_of old
+  pub doors_same : (old new : List (Way H)) → map (frame_of {H = H}) new ≡ map (frame_of {H = H}) old → doors_of new ≡ doors_of old
   doors_same old new e = sym (map_map (λ (f : Frame H). f.door) (frame_of {H = H}) new) ∙ ap (map (λ (f : Frame H). f.door)) e ∙ map_map (λ (f : Frame H). f.door) (frame_of {H = H}) old
 
   -- the place of all, as each port of it has it
@@ -200,7 +200,7 @@ module _ {H : Type 0} where
   feed_doors pool feeds e = map_map (part_of {H = H}) (λ (w : Way H). w.door) feeds ∙ sym (map_map (λ (p : Parts H). p.door) (parts_of {H = H}) feeds) ∙ ap (map (λ (p : Parts H). p.door)) e
       ∙ map_replicate (λ (p : Parts H). p.door) pool.feeds (feed_parts pool)
 
-  all_here : (pool : Whole H) (ls : List (Look H)) (n : ℕ) → map (part_of {H = H}) ls ≡ replicate n (door_part pool) → All (λ (l : Look H). where_is l ≡ door_where pool) ls
+  pub all_here : (pool : Whole H) (ls : List (Look H)) (n : ℕ) → map (part_of {H = H}) ls ≡ replicate n (door_part pool) → All (λ (l : Look H). where_is l ≡ door_where pool) ls
   all_here pool ls n e = all_unmap (λ (p : Part H). where_of p ≡ door_where pool) (part_of {H = H}) ls
       (subst (All (λ (p : Part H). where_of p ≡ door_where pool)) (sym e) (All-replicate (λ (p : Part H). where_of p ≡ door_where pool) n (door_part pool) refl))
 
@@ -213,11 +213,11 @@ module _ {H : Type 0} where
   pub ends_alike : (pool : Whole H) (ends now : List (Way H)) → AreEnds pool ends → AreGathered ends now → AreAlike (doors_of now)
   ends_alike pool ends now e g = alike pool (doors_of now) (subst (All (λ (l : Look H). where_is l ≡ door_where pool)) (sym (doors_same ends now g.frames)) (all_here pool (doors_of ends) pool.ends (end_doors pool ends e)))
 
-  all_of_where : (pool : Whole H) (ls : List (Look H)) (door : Look H) → All (λ (l : Look H). where_is l ≡ door_where pool) ls → IsAllOf ls door → where_is door ≡ door_where pool
+  pub all_of_where : (pool : Whole H) (ls : List (Look H)) (door : Look H) → All (λ (l : Look H). where_is l ≡ door_where pool) ls → IsAllOf ls door → where_is door ≡ door_where pool
   all_of_where pool [] door h is = absurd is
   all_of_where pool (l ∷ ls) door h is = is.same ∙ All-head (λ (x : Look H). where_is x ≡ door_where pool) l ls h
 
-  all_of_shares : (ls : List (Look H)) (door : Look H) → IsAllOf ls door → door.ledger.shares ≡ shares_in ls
+  pub all_of_shares : (ls : List (Look H)) (door : Look H) → IsAllOf ls door → door.ledger.shares ≡ shares_in ls
   all_of_shares [] door is = absurd is
   all_of_shares (l ∷ ls) door is = let a = is.shares in let b = sum_by-cons (λ (x : Look H). x.ledger.shares) l ls in omega (arith, a, b)
 

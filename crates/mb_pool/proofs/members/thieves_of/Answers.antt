@@ -1,5 +1,6 @@
 use Rattle.std.proofs.Common.{◌≡◌, ◌<◌, ap, arith, length, map, subst, sym, ◌∙◌}
 use Rattle.std.specs.Prelude.{All}
+use Rattle.std.specs.declared.vec.Vec.{Vec}
 use Rattle.mb_pool.specs.Begins.{borrowed, borrowed_next, lent}
 use Rattle.mb_pool.specs.Places.{Look, numbers}
 use Rattle.mb_pool.proofs.Begins.{rotated, rotated_all, rotated_none}
@@ -8,7 +9,7 @@ use Rattle.mb_pool.proofs.Loops.{lists_more}
 use Rattle.mb_pool.proofs.members.thieves_of.Goals as goal
 
 pub loop-end-init : goal.loop-end-init
-loop-end-init g c = (sym (rotated_none c.args.owns.now c.requires), ap (map (λ v. v.items)) c.in_ok-lists.ensures.items)
+loop-end-init g c = (sym (rotated_none c.args.owns.now c.requires), ap (map (λ (w : Vec _ _). w.items)) c.in_ok-lists.ensures.items)
 
 pub split_at_mut-requires : goal.split_at_mut-requires
 split_at_mut-requires g c =
@@ -29,7 +30,7 @@ loop-end-preserved g c =
     let old = c.args.owns.now in let next = c.split_at_mut.ensures.back in let v = c.in_ok-thieves.thieves in (
       turned old at.owns at.end at.invariant.0 lt c.split_at_mut.result.0.now c.lend_each.new.owns c.rotate_left.new.self c.split_at_mut.ensures.front
           (c.in_ok-thieves.ensures.owns ∙ ap (map lent) next) c.rotate_left.ensures.after,
-      lists_more (λ w. w.items) old at.lists.items c.push.new.self.items v at.end at.invariant.1
+      lists_more (λ (w : Vec _ _). w.items) old at.lists.items c.push.new.self.items v at.end at.invariant.1
           (c.in_ok-thieves.ensures.thieves ∙ ap (map borrowed) next ∙ borrowed_of_next old at.owns at.end at.invariant.0 lt) c.in_ok-push.ensures.items,
     )
 
