@@ -1,4 +1,5 @@
 pub mod Begins
+pub mod Closing
 pub mod Emptying
 pub mod Ending
 pub mod Gathering
@@ -12,7 +13,6 @@ pub mod Looks
 pub mod Loops
 pub mod Moves
 pub mod Ports
-pub mod Remaining
 pub mod Stealing
 pub mod Steps
 pub mod Taking

@@ -1,1 +1,1 @@
-mod Parties
+pub mod Parties

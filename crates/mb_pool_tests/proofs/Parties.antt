@@ -22,8 +22,10 @@ module _ {H : Type 0} (pool : Whole H) where
   pub count_feeds : (feeds : List (Way H)) → AreFeeds pool feeds → length feeds ≡ pool.feeds
   count_feeds feeds are = sym (length-map feeds (parts_of {H = H})) ∙ ap length are ∙ length-replicate pool.feeds (feed_parts pool)
 
-  pub still_ends : (ends : List (Way H)) (k : ℕ) (d w : Way H) → parts_of w ≡ parts_of (get_or ends k d) → AreEnds pool ends → AreEnds pool (set ends k w)
+  pub still_ends : (ends : List (Way H)) (k : ℕ) (d w : Way H) → parts_of w ≡ parts_of (get_or ends k d) → AreEnds pool ends
+      → AreEnds pool (set ends k w)
   still_ends ends k d w same are = same_set (parts_of {H = H}) ends k d w same ∙ are
 
-  pub still_feeds : (feeds : List (Way H)) (k : ℕ) (d w : Way H) → parts_of w ≡ parts_of (get_or feeds k d) → AreFeeds pool feeds → AreFeeds pool (set feeds k w)
+  pub still_feeds : (feeds : List (Way H)) (k : ℕ) (d w : Way H) → parts_of w ≡ parts_of (get_or feeds k d) → AreFeeds pool feeds
+      → AreFeeds pool (set feeds k w)
   still_feeds feeds k d w same are = same_set (parts_of {H = H}) feeds k d w same ∙ are

@@ -113,7 +113,8 @@ impl<H: Resident> Party<H> {
     }
 
     fn left<R: Wait>(self, rt: &R, alloc: Global) -> Result<Vec<Claim<H>>, Fail>
-        ensures { IfOk result (λ claims. All (IsUntouched H.is_of H.journal H.mailbox H.rested H.given H.closed_to (Some self.pool.gates)) claims.items) }
+        ensures { IfOk result (λ claims.
+            All (IsUntouched H.is_of H.journal H.mailbox H.rested H.given H.closed_to (Some self.pool.gates)) claims.items) }
     {
         let Party { pool, ends, feeds } = self;
         let NotLeft { pool, ends, feeds } = match remaining(rt, alloc, pool, ends, feeds) {

@@ -5,7 +5,7 @@ use Rattle.mb_pool.specs.Parts.{look_of}
 use Rattle.mb_pool.specs.Places.{Way}
 use Rattle.mb_pool.specs.Untouched.{IsUntouched}
 use Rattle.mb_pool.proofs.Lent.{refilled}
-use Rattle.mb_pool.proofs.Remaining.{alike_left, feeds_alike, first_share, last_share, some_left}
+use Rattle.mb_pool.proofs.Closing.{alike_left, feeds_alike, first_share, last_share, some_left}
 use Rattle.mb_pool.proofs.Wholes.{left_is, matched}
 use Rattle.mb_pool.proofs.leaving.remaining.Goals as goal
 
