@@ -13,6 +13,7 @@ pub mod Looks
 pub mod Loops
 pub mod Moves
 pub mod Ports
+pub mod SameGates
 pub mod Stealing
 pub mod Steps
 pub mod Taking
