@@ -11,6 +11,7 @@ pub mod Lent
 pub mod Lists
 pub mod Looks
 pub mod Loops
+pub mod Making
 pub mod Moves
 pub mod Ports
 pub mod SameGates
