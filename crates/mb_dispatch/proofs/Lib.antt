@@ -1,0 +1,5 @@
+pub mod Views
+pub mod Debts
+pub mod Bits
+pub mod Posting
+pub mod Routes

@@ -1,0 +1,67 @@
+use Rattle.std.proofs.Common.{◌≡◌, ◌∙◌, ◌+◌, ◌-◌, ◌<◌, ◌++◌, [], ◌∷◌, ℕ, List}
+use Rattle.std.proofs.Common.{length, Some, None, refl, subst, sym, ap, slice_get, slice_set, arith}
+use Rattle.mb_msg.specs.declared.id.SenderId.{SenderId}
+use Rattle.std.proofs.lemmas.Option.{slice_get_read}
+use Rattle.mb_msg.specs.declared.envelope.Envelope.{Envelope}
+use Rattle.mb_fates.specs.declared.posting.Posting.{Posting}
+use Rattle.mb_dispatch.specs.Posted.{posting}
+use Rattle.mb_dispatch.specs.Sends.{AreRoutes}
+use Rattle.mb_gate.specs.Names.{known_by}
+use Rattle.mb_queue.specs.Passes.{Sending}
+use Rattle.mb_dispatch.proofs.Views.{looks-then, looks-sending, looks-unsending}
+use Rattle.mb_dispatch.proofs.Routes.{routes-more, routes-dead}
+use Rattle.mb_dispatch.proofs.sender.Sender.put.Goals as goal
+
+pub returns-in-Ok-clause-looks : goal.returns-in-Ok-clause-looks
+returns-in-Ok-clause-looks g c =
+    let id = c.args.ticket.to.0 in
+    let a = known_by c.args.self.now.waker.pass in let b = known_by c.note_sent.new.pass in let d = known_by c.register.new.self.pass in
+    looks-then id a b d (looks-sending id 1 a b c.note_sent.ensures.known) c.register.ensures.looks
+
+pub returns-in-Err-clause-looks : goal.returns-in-Err-clause-looks
+returns-in-Err-clause-looks g c =
+    let id = c.args.ticket.to.0 in
+    let a = known_by c.args.self.now.waker.pass in let b = known_by c.note_sent.new.pass in
+    let d = known_by c.note_unsent.new.pass in let e = known_by c.register-in-Err.new.self.pass in
+    looks-then id a b e (looks-sending id 1 a b c.note_sent.ensures.known)
+    (looks-then id b d e (looks-unsending id 1 b d c.note_unsent.ensures.known) c.register-in-Err.ensures.looks)
+
+pub invariant_of-self-in-Ok : goal.invariant_of-self-in-Ok
+invariant_of-self-in-Ok g c =
+    let book = c.args.self.now.book in
+    let items = c.args.self.now.sends.items in
+    let to = c.args.ticket.to.0 in
+    let k = to - 1 in
+    let old = c.index_mut.result.now in
+    let e = c.next-envelope.result in
+    let lt : k < length items = omega (arith, c.requires.all.0, c.requires.there.0, c.requires.there.1) in
+    let there = slice_get_read items (length items) k old refl lt c.index_mut.ensures.value in
+    let here : e.to.0 ≡ k + 1 = ap (λ (x : Envelope). x.to.0) c.next-envelope.ensures ∙ omega (arith, c.requires.there.0) in
+    let p = c.post_queued.ensures.posted ∙ ap (λ (l : List Posting). l ++ posting e None ∷ []) c.ready.ensures.same.3 in
+    let q = ap (λ (s : SenderId). s.0) (c.post_queued.ensures.by ∙ c.ready.ensures.same.0) in
+    let qs = sym q in
+    let ps = sym p in
+    record {
+      routes = subst (λ (y : ℕ × List Posting). AreRoutes y.0 y.1 (slice_set items k c.push.new.self)) (λ i. (qs i, ps i))
+          (routes-more book.by.0 book.posted items c.args.self.now.routes k old there e c.push.new.self c.in-Ok.ensures.pushed here);
+    }
+
+pub invariant_of-self-in-Err : goal.invariant_of-self-in-Err
+invariant_of-self-in-Err g c =
+    let book = c.args.self.now.book in
+    let items = c.args.self.now.sends.items in
+    let to = c.args.ticket.to.0 in
+    let k = to - 1 in
+    let old = c.index_mut.result.now in
+    let e = c.next-envelope.result in
+    let why = c.why_of-why.result in
+    let lt : k < length items = omega (arith, c.requires.all.0, c.requires.there.0, c.requires.there.1) in
+    let there = slice_get_read items (length items) k old refl lt c.index_mut.ensures.value in
+    let p = c.post_dead.ensures.posted ∙ ap (λ (l : List Posting). l ++ posting e (Some why) ∷ []) c.ready.ensures.same.3 in
+    let q = ap (λ (s : SenderId). s.0) (c.post_dead.ensures.by ∙ c.ready.ensures.same.0) in
+    let qs = sym q in
+    let ps = sym p in
+    record {
+      routes = subst (λ (y : ℕ × List Posting). AreRoutes y.0 y.1 (slice_set items k c.push.new.self)) (λ i. (qs i, ps i))
+          (routes-dead book.by.0 book.posted items c.args.self.now.routes k old there e c.push.new.self why c.in-Err.ensures.pushed.1);
+    }

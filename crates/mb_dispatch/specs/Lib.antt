@@ -1,0 +1,7 @@
+pub mod Owed
+pub mod Views
+pub mod Untouched
+pub mod Waking
+pub mod Posted
+pub mod Sends
+pub mod Answers

@@ -1,0 +1,4 @@
+pub mod Accepted
+pub mod Told
+pub mod Fates
+pub mod Pair
