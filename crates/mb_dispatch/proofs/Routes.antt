@@ -58,3 +58,9 @@ module _ (by : ℕ) (ps : List Posting) (sends : List Sending) (routes : AreRout
           let found : s ≡ new = set-at sends k new s (subst (λ j. slice_get (slice_set sends k new) j ≡ Some s) same at) in
           from (routes i s (subst (λ j. slice_get sends j ≡ Some s) (sym same) (there ∙ ap (λ t. Some t) (sym (found ∙ is)))))
       by_place (inr other) = from (routes i s (sym (set-other sends k i new other) ∙ at))
+
+-- the passes stay as they are where nothing was pushed
+pub routes-buried : (by : ℕ) (ps : List Posting) (sends : List Sending) (e : Envelope) (why : Why) → AreRoutes by ps sends →
+    AreRoutes by (ps ++ posting e (Some why) ∷ []) sends
+routes-buried by ps sends e why routes i s at = let route = routes i s at in
+    record { sender = route.sender; receiver = route.receiver; pushed = route.pushed ∙ sym (route-dead (i + 1) ps e why) }

@@ -1,8 +1,9 @@
 //! Whether an actor has to be given to a worker, and the claim of one that has.
-ghost use Rattle.std.specs.Prelude.{◌≡◌, ◌<◌, true, false, IfNone, IfSome};
+ghost use Rattle.std.specs.Prelude.{◌≡◌, ◌<◌, true, false, IfSome, Some};
 ghost use Rattle.mb_core.specs.Actor.{nothing};
 ghost use Rattle.mb_gate.specs.View.{owes};
 ghost use Rattle.mb_gate.specs.Names.{gates_id, pass_id, actors_of, known_by, held_actor};
+ghost use Rattle.mb_dispatch.specs.Origin.{origin_of};
 ghost use Rattle.mb_dispatch.specs.Views.{LooksAfter};
 ghost use Rattle.mb_dispatch.specs.Untouched.{IsUntouched};
 
@@ -78,7 +79,7 @@ pub(crate) fn take_due<H: Resident, R: Wait>(
     ensures looks { LooksAfter id.0 (known_by pass.old) (known_by pass.new) }
     ensures paid { owes id.0 (known_by pass.new) ≡ nothing }
     ensures claim { IfSome result (λ claim. (held_actor claim ≡ id.0)
-        × IsUntouched H.is_of H.journal H.mailbox H.rested (gates_id gates.now) (actors_of gates.now) claim) }
+        × IsUntouched H.is_of H.journal H.mailbox H.rested H.given H.closed_to (Some (origin_of gates.now)) claim) }
 {
     for _ in rt.forever() {
         if !is_due(gates, pass, id, messages, system) {

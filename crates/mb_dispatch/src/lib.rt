@@ -5,10 +5,15 @@
 mod book;
 mod due;
 mod owed;
+mod paying;
 mod put;
 mod sender;
+mod stopping;
+mod telling;
 mod ticket;
+mod unpaid;
 mod unsent;
+mod untouched;
 mod waker;
 mod way;
 
@@ -17,6 +22,7 @@ pub use owed::Owed;
 pub use put::Put;
 pub use sender::Sender;
 pub use ticket::{Look, Ticket};
+pub use unpaid::Unpaid;
 pub use unsent::Unsent;
 pub use waker::Waker;
 pub use way::{Refused, Way};

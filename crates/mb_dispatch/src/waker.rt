@@ -1,13 +1,15 @@
-ghost use Rattle.std.specs.Prelude.{◌≡◌, ◌⊎◌, ◌<◌, ◌≤◌, true};
+ghost use Rattle.std.specs.Prelude.{◌≡◌, ◌⊎◌, ◌<◌, Some, true};
 ghost use Rattle.mb_core.specs.Actor.{nothing};
 ghost use Rattle.mb_gate.specs.View.{owes};
 ghost use Rattle.mb_gate.specs.Names.{gates_id, pass_id, actors_of, known_by};
+ghost use Rattle.mb_dispatch.specs.Origin.{origin_of};
 ghost use Rattle.mb_dispatch.specs.Owed.{is_owed};
 ghost use Rattle.mb_dispatch.specs.Views.{LooksAfter};
 ghost use Rattle.mb_dispatch.specs.Waking.{IsWoken};
 
 use crate::due::take_due;
 use crate::owed::Owed;
+use crate::untouched::give_home;
 use crate::way::{Refused, Way};
 use mb_gate::{Gates, Pass, Resident};
 use mb_msg::ActorId;
@@ -38,10 +40,9 @@ impl<H: Resident, W: Way<H>> Waker<H, W> {
         messages: bool,
         system: bool,
     ) -> bool
-        requires ours { (pass_id self.old.pass ≡ gates_id gates.now) × (W.gates self.old.way ≡ gates_id gates.now) }
-        requires there { (id.0 < actors_of gates.now) × (W.actors self.old.way ≡ actors_of gates.now) × (id.0 < 64) }
-        ensures ours { (pass_id self.new.pass ≡ pass_id self.old.pass) × (W.gates self.new.way ≡ W.gates self.old.way)
-            × (W.actors self.new.way ≡ W.actors self.old.way) }
+        requires ours { (pass_id self.old.pass ≡ gates_id gates.now) × (W.origin self.old.way ≡ Some (origin_of gates.now)) }
+        requires there { (id.0 < actors_of gates.now) × (id.0 < 64) }
+        ensures ours { (pass_id self.new.pass ≡ pass_id self.old.pass) × (W.origin self.new.way ≡ W.origin self.old.way) }
         ensures looks { LooksAfter id.0 (known_by self.old.pass) (known_by self.new.pass) }
         ensures paid { (owes id.0 (known_by self.new.pass) ≡ nothing) ⊎ (is_owed self.new.owed id.0 ≡ true) }
         ensures woken { IsWoken id.0
@@ -54,7 +55,7 @@ impl<H: Resident, W: Way<H>> Waker<H, W> {
         match self.way.push(rt, claim) {
             Ok(()) => true,
             Err(Refused { claim }) => {
-                gates.release(claim, &mut self.pass);
+                give_home(gates, &mut self.pass, claim);
                 self.owed.insert(id);
                 false
             }

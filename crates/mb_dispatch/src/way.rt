@@ -1,6 +1,6 @@
-ghost use Rattle.std.specs.Prelude.{◌≡◌, ◌++◌, [], ◌∷◌, ℕ, List, MatchResult};
-ghost use Rattle.atomic_table.specs.Seated.{TableId};
+ghost use Rattle.std.specs.Prelude.{◌≡◌, ◌++◌, [], ◌∷◌, List, MatchResult, Option};
 ghost use Rattle.mb_gate.specs.declared.claim.Claim.{Claim};
+ghost use Rattle.mb_dispatch.specs.Origin.{Origin};
 ghost use Rattle.mb_dispatch.specs.Untouched.{IsUntouched};
 
 use mb_gate::{Claim, Resident};
@@ -14,10 +14,8 @@ pub struct Refused<H> {
 
 /// A way into the pool of claims: a worker's own, or a sender's.
 pub trait Way<H: Resident> {
-    // of which gates its claims are
-    ghost gates: { Self → TableId };
-    // of how many actors
-    ghost actors: { Self → ℕ };
+    // of which gates its claims are; none before that is settled
+    ghost origin: { Self → Option (Origin H) };
     // the claims that went into the pool by it, the first in front
     ghost pushed: { Self → List (Claim H) };
     // those that the pool refused
@@ -25,8 +23,8 @@ pub trait Way<H: Resident> {
 
     /// Puts a claim into the pool, or gives it back.
     fn push<R: Wait>(&mut self, rt: &R, claim: Claim<H>) -> Result<(), Refused<H>>
-        requires untouched { IsUntouched H.is_of H.journal H.mailbox H.rested (gates self.old) (actors self.old) claim }
-        ensures same { (gates self.new ≡ gates self.old) × (actors self.new ≡ actors self.old) }
+        requires untouched { IsUntouched H.is_of H.journal H.mailbox H.rested H.given H.closed_to (origin self.old) claim }
+        ensures same { origin self.new ≡ origin self.old }
         ensures pushed { MatchResult result
             (λ _. (pushed self.new ≡ pushed self.old ++ claim ∷ []) × (refused self.new ≡ refused self.old))
             (λ back. (back.claim ≡ claim) × (pushed self.new ≡ pushed self.old) × (refused self.new ≡ refused self.old ++ claim ∷ [])) };

@@ -1,0 +1,3 @@
+pub mod Owing
+pub mod Running
+pub mod Ran
