@@ -38,12 +38,10 @@ impl<H: Resident, W: Way<H>> Sender<H, W> {
         let Ok(node) = Node::new(self.alloc, SysMsg::Terminate) else {
             return Err(Unsent::NoMemory);
         };
-        match gates.sys_enqueue(rt, &mut self.waker.pass, id, node) {
-            Ok(_) => {
-                self.waker.register(rt, gates, id, false, true);
-                Ok(true)
-            }
-            Err(_) => Ok(false),
-        }
+        let Ok(_) = gates.sys_enqueue(rt, &mut self.waker.pass, id, node) else {
+            return Ok(false);
+        };
+        self.waker.register(rt, gates, id, false, true);
+        Ok(true)
     }
 }

@@ -12,7 +12,7 @@ use Rattle.mb_queue.specs.Passes.{Sending}
 use Rattle.mb_dispatch.proofs.Answering.{why-told}
 use Rattle.mb_dispatch.proofs.Views.{does-then, does-sending, does-unsending}
 use Rattle.mb_dispatch.proofs.Routes.{routes-more, routes-dead}
-use Rattle.mb_dispatch.proofs.telling.Sender.put.Goals as goal
+use Rattle.mb_dispatch.proofs.sender.Sender.put.Goals as goal
 
 pub returns-in-Ok-clause-sent : goal.returns-in-Ok-clause-sent
 returns-in-Ok-clause-sent g c =
