@@ -1,32 +1,28 @@
 //! How queues are timed.
-use crate::queue::Queue;
 use std::alloc::{AllocError, Global};
 use std::io;
 use std::sync::Wait;
 use std::thread::Threads;
 use std::time::{Clock, Instant};
 
-/// How many laps are timed, how many pushes and takes a lap has, and whether the pushes have a thread of their own.
+/// How many laps are timed, and how many pushes and takes a lap has.
 #[derive(Clone, Copy)]
 pub struct Course {
     laps: u64,
-    pub rounds: u64,
-    pub is_paired: bool,
+    rounds: u64,
 }
 
 /// On one thread a lap is so short that little falls into it.
 pub const ALONE: Course = Course {
     laps: 400,
     rounds: 1_000,
-    is_paired: false,
 };
 
-/// A lap of two threads starts one, and is so long that this counts for little.
-pub const PAIRED: Course = Course {
-    laps: 20,
-    rounds: 50_000,
-    is_paired: true,
-};
+/// A queue that laps can be timed on.
+pub trait Lapped: Drop {
+    /// So many pushes and takes. It gives itself back and how many were taken.
+    fn lap<R: Threads + Wait + Sync>(self, rt: &R, rounds: u64) -> (Self, u64);
+}
 
 /// How many were taken in all, and the nanoseconds of each lap.
 #[derive(Drop)]
@@ -59,14 +55,14 @@ impl Laps {
 }
 
 /// Times one lap.
-fn timed<R: Clock + Threads + Wait + Sync>(
+fn timed<R: Clock + Threads + Wait + Sync, Q: Lapped>(
     rt: &R,
-    queue: Queue,
-    course: Course,
+    queue: Q,
+    rounds: u64,
     laps: &mut Laps,
-) -> Result<Queue, AllocError> {
+) -> Result<Q, AllocError> {
     let begin = Instant::now(rt).ok();
-    let (queue, taken) = queue.lap(rt, course);
+    let (queue, taken) = queue.lap(rt, rounds);
     laps.add(taken, elapsed(rt, begin))?;
     Ok(queue)
 }
@@ -83,13 +79,13 @@ fn elapsed<R: Clock>(rt: &R, begin: Option<Instant>) -> u64 {
 }
 
 /// Times a queue of a mailbox and a plain one in turn, and tells both.
-pub(crate) fn compare<R>(
+pub(crate) fn compare<R, A: Lapped, B: Lapped>(
     rt: &R,
     alloc: Global,
     course: Course,
     what: &str,
-    mut ours: Queue,
-    mut plain: Queue,
+    mut ours: A,
+    mut plain: B,
 ) -> io::Result<()>
 where
     R: Clock + Threads + Wait + Sync + Print + Eprint,
@@ -97,8 +93,8 @@ where
     let mut our_laps = Laps::new(alloc);
     let mut plain_laps = Laps::new(alloc);
     for _ in 0..course.laps {
-        ours = timed(rt, ours, course, &mut our_laps)?;
-        plain = timed(rt, plain, course, &mut plain_laps)?;
+        ours = timed(rt, ours, course.rounds, &mut our_laps)?;
+        plain = timed(rt, plain, course.rounds, &mut plain_laps)?;
     }
     println!(rt;
         "{what}: {} taken, plain {} taken",
@@ -110,19 +106,19 @@ where
 }
 
 /// Times one queue.
-pub(crate) fn measure<R>(
+pub(crate) fn measure<R, A: Lapped>(
     rt: &R,
     alloc: Global,
     course: Course,
     what: &str,
-    mut ours: Queue,
+    mut ours: A,
 ) -> io::Result<()>
 where
     R: Clock + Threads + Wait + Sync + Print + Eprint,
 {
     let mut laps = Laps::new(alloc);
     for _ in 0..course.laps {
-        ours = timed(rt, ours, course, &mut laps)?;
+        ours = timed(rt, ours, course.rounds, &mut laps)?;
     }
     println!(rt; "{what}: {} taken", laps.taken)?;
     let _ = eprintln!(rt;
