@@ -1,2 +1,3 @@
 pub mod EffectLemmas
+pub mod HandledLemmas
 pub mod RetryLemmas

@@ -1,5 +1,5 @@
 -- How the books of a cell are kept, with room for what one message may add.
-use Rattle.std.specs.Prelude.{◌≡◌, ℕ, ◌+◌, ◌*◌, ◌≤◌, true, vec_len, vec_capacity}
+use Rattle.std.specs.Prelude.{◌≡◌, ℕ, ◌+◌, ◌*◌, ◌≤◌, true, false, vec_len, vec_capacity}
 use Rattle.mb_books.specs.BooksRecord.{Books}
 use Rattle.mb_books.specs.declared.books.Books.TheInside.{Inside}
 
@@ -36,6 +36,8 @@ pub record HasRoom (b : Inside) : Type 0 where
   pub retries : vec_len b.retries + (vec_len b.children + 1) ≤ vec_capacity b.retries
   pub acts : most_acts (vec_len b.children) (vec_len b.watchers) (vec_len b.watching) b.fanout ≤ b.acts.room
 
--- books that are ready have room
+-- books that are ready have room, and so have those whose last message used none of it
 pub record IsBooks (b : Inside) : Type 0 where
   pub room : b.ready ≡ true → HasRoom b
+  pub left : b.unused ≡ true → HasRoom b
+  pub taken_up : b.ready ≡ true → b.unused ≡ false

@@ -8,8 +8,9 @@ use Rattle.mb_journal.specs.declared.failed_by.FailedBy.{FailedBy}
 
 -- where the actor stands in its life; how often its mailbox is suspended; by whom it is failed; its children, its watchers,
 -- whom it watches and whose end it is still to be told; what is set aside; whether it was Live when it was told to end;
--- whose permission to be started afresh was asked for, where there is a limit to keep to; the acts that are to be carried out; how many children a start may start; and
--- whether there is room for one message more (fields of `akka.actor.ActorCell`; that they are queries of a journal is this project's own profile)
+-- whose permission to be started afresh was asked for, where there is a limit to keep to; the acts that are to be carried out;
+-- how many children a start may start; and whether there is room for one message more
+-- (fields of `akka.actor.ActorCell`; that they are queries of a journal is this project's own profile)
 pub record Books : Type 0 where
   pub phase : Phase
   pub count : ℕ

@@ -82,7 +82,7 @@ impl ActQueue {
         requires { 0 < self.old.room }
         ensures { self.new ≡ record { acts = self.old.acts ++ task_act task ∷ []; room = self.old.room - 1 } }
     {
-        self.tasks.push(task).unwrap();
+        self.tasks.push_reserved(task);
         self.room -= 1;
     }
 

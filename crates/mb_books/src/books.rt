@@ -42,6 +42,8 @@ pub struct Books {
     acts: ActQueue,
     fanout: usize,
     ready: bool,
+    /// Whether the room that was made is there still, since the message that came used none of it.
+    unused: bool,
 }
 
 impl Model for Books {
@@ -90,6 +92,7 @@ impl Books {
             acts: ActQueue::new(alloc),
             fanout,
             ready: false,
+            unused: false,
         }
     }
 
@@ -97,6 +100,7 @@ impl Books {
     /// and to its acts as many as one message can have.
     ///
     /// It answers `AllocError` if memory was refused. Nothing has changed then.
+    #[inline]
     pub fn make_room(&mut self) -> Result<(), AllocError>
         requires few_children { length self.old.children < 2 ^ 44 }
         requires few_watchers { length self.old.watchers < 2 ^ 44 }
@@ -109,6 +113,26 @@ impl Books {
         if self.ready {
             return Ok(());
         }
+        if self.unused {
+            self.unused = false;
+            self.ready = true;
+            return Ok(());
+        }
+        self.reserve()
+    }
+
+    /// Makes room in each list and for the acts.
+    #[inline(never)]
+    fn reserve(&mut self) -> Result<(), AllocError>
+        requires few_children { length self.old.children < 2 ^ 44 }
+        requires few_watchers { length self.old.watchers < 2 ^ 44 }
+        requires few_watched { length self.old.watching < 2 ^ 44 }
+        requires small_fanout { self.old.fanout < 2 ^ 44 }
+        requires not_ready { self.old.is_ready ≡ false }
+        ensures ok { OnOk result (self.new ≡ record self.old { is_ready = true }) }
+        ensures err { OnErr result (self.new ≡ self.old) }
+    {
+        self.unused = false;
         self.children.reserve(EFFECTS + self.fanout)?;
         self.watchers.reserve(1)?;
         self.watching.reserve(EFFECTS)?;

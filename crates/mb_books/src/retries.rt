@@ -12,7 +12,8 @@ use mb_msg::ActorId;
 pub(crate) fn ask(limit: i64, children: &[ActorId], asked: &mut Vec<ActorId>) -> bool
     requires room { vec_len asked.old + length children.now ≤ vec_capacity asked.old }
     ensures all { result ≡ list_all (λ (y : ActorId). permits limit (times_in asked.old.items y + 1)) children.now }
-    ensures kept { asked.new.items ≡ asked.old.items ++ requests_kept limit (through_refusal (λ (y : ActorId). permits limit (times_in asked.old.items y + 1)) children.now) }
+    ensures kept { asked.new.items ≡ asked.old.items
+        ++ requests_kept limit (through_refusal (λ (y : ActorId). permits limit (times_in asked.old.items y + 1)) children.now) }
 {
     let Ok(limit) = usize::try_from(limit) else {
         return true;

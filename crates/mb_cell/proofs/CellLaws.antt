@@ -115,7 +115,8 @@ kept-silent place old new e after gives books new_books tray new_tray actor own_
       (λ a plays.
       at-log
       (λ limit journal. Plays (identity_of place limit) journal after gives (own_after a) (own_gives a) (content a) (made a)) old new e added
-      (plays-on (identity_of place old.limit) old.entries e after gives (own_after a) (own_gives a) (content a) (made a) silent (same plays.no_guardian) plays))
+      (plays-on (identity_of place old.limit) old.entries e after gives (own_after a) (own_gives a) (content a) (made a) silent
+      (same plays.no_guardian) plays))
       kept.2,
 )
 

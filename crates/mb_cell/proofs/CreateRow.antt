@@ -133,7 +133,8 @@ module _ (who : Identity) (before : List Entry) (gives : Moment → Reply → Ty
       answered = refl;
       lawful = λ given. (
         record { not_ended = not_ended; numbered = numbered; by_rule = sym (ap not (sets_aside-create who before)) },
-        subst (λ (call : Option Call). IsGiven who gives before call (Some a) effects) (sym (call_of-create who before number a effects fresh an_actor))
+        subst (λ (call : Option Call). IsGiven who gives before call (Some a) effects)
+            (sym (call_of-create who before number a effects fresh an_actor))
             given,
       );
       step =

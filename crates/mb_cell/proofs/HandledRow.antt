@@ -138,7 +138,8 @@ body_acts who before body.PoisonPill a effects other = absurd (other refl)
 body_acts who before body.Kill a effects other = refl
 body_acts who before (body.Terminated x) a effects other = refl
 
-same_failure : (who : Identity) (before : List Entry) (envelope : Envelope) (reading : ℕ) (a : Option Answer) (effects : List Effect) (c : Option Cause) →
+same_failure : (who : Identity) (before : List Entry) (envelope : Envelope) (reading : ℕ) (a : Option Answer) (effects : List Effect)
+    (c : Option Cause) →
     failure_acts who before c effects ≡ failure_acts_of who (queries who before) envelope reading a effects c
 same_failure who before envelope reading a effects None = refl
 same_failure who before envelope reading a effects (Some c) = refl

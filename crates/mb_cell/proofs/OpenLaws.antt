@@ -20,7 +20,8 @@ use Rattle.mb_journal.specs.Phase.{phase_is}
 use Rattle.mb_journal.specs.Suspension.{Mark, mark_if, marks, count, count_after, is_suspend}
 use Rattle.mb_journal.specs.Suspension.Mark.{Plus, Minus}
 use Rattle.mb_journal.proofs.CountLemmas.{running, count_after-running}
-use Rattle.mb_journal.proofs.Fold.{Queries, queries, queries-fold, marked-fold, marks_on, phase_on, starts, ends, lasts, restarts, fails, escalates, off_fresh}
+use Rattle.mb_journal.proofs.Fold.{Queries, queries, queries-fold, marked-fold, marks_on, phase_on}
+use Rattle.mb_journal.proofs.Fold.{starts, ends, lasts, restarts, fails, escalates, off_fresh}
 use Rattle.mb_journal.proofs.TestLemmas.{and-false}
 use Rattle.mb_cell.proofs.StartLemmas.{started-once}
 use Rattle.mb_cell.proofs.GuardianLemmas.{broken-actor}

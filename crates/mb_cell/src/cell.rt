@@ -1,4 +1,5 @@
-ghost use Rattle.std.specs.Prelude.{◌≡◌, ◌≢◌, ◌↔◌, ◌<◌, ◌≤◌, [], ◌++◌, length, map, option_to_list, true, false, IsTrue, IsSome, IsOk, IsErrOf, OnOk, OnErr, IfNone, IfSome, MatchOption, not, is_some};
+ghost use Rattle.std.specs.Prelude.{◌≡◌, ◌≢◌, ◌↔◌, ◌<◌, ◌≤◌, [], ◌++◌, length, map, option_to_list, true, false};
+ghost use Rattle.std.specs.Prelude.{IsTrue, IsSome, IsOk, IsErrOf, OnOk, OnErr, IfNone, IfSome, MatchOption, not, is_some};
 ghost use Rattle.std.specs.List.{All};
 ghost use Rattle.mb_msg.specs.Limits.{most_actors};
 ghost use Rattle.mb_actor.specs.Behaviour.{AllowsSame};

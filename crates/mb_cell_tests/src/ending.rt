@@ -1,239 +1,56 @@
 //! How an actor ends.
 
-use crate::player::{Move, Plan, QUIET};
-use crate::stage::{Asked, Step, actor, decided};
-use mb_actor::{Effect, Phase};
-use mb_journal::Arrival;
-use mb_msg::{ActorId, Body, Cause, Directive, SysMsg};
+use crate::story::each_case;
 use std::test::Fail;
 
-/// It waits for its children; what is set aside meanwhile is dead at its end. What it watched is told no more.
-#[test]
-fn terminate_of_an_actor_with_children(rt: HostRuntime) -> Result<(), Fail> {
-    let mut stage = actor(
-        rt.alloc(),
-        Plan {
-            start: [Move::Spawn(2), Move::Watch(4)],
-            stop: [Move::Tell(5), Move::Fail(1)],
-            ..QUIET
-        },
-        decided(rt.alloc(), Directive::Restart)?,
-    )?;
-    stage.play(
-        &rt,
-        &[
-            Step::System(
-                SysMsg::Create,
-                &[
-                    Asked::Resume,
-                    Asked::Sys(2, SysMsg::Create),
-                    Asked::Sys(4, SysMsg::Watch(ActorId(1))),
-                ],
-            ),
-            Step::System(SysMsg::Watch(ActorId(6)), &[]),
-            Step::System(
-                SysMsg::Terminate,
-                &[
-                    Asked::Sys(4, SysMsg::Unwatch(ActorId(1))),
-                    Asked::Sys(2, SysMsg::Terminate),
-                    Asked::Suspend,
-                ],
-            ),
-            Step::Stands(Phase::Ending, 1, &[]),
-            Step::System(SysMsg::Suspend, &[]),
-            Step::System(SysMsg::Resume { of_failure: true }, &[]),
-            Step::System(SysMsg::Recreate(Cause::Error(1)), &[]),
-            Step::System(SysMsg::Failed(ActorId(2), Cause::Error(1)), &[]),
-            Step::Stands(
-                Phase::Ending,
-                1,
-                &[
-                    (3, SysMsg::Suspend),
-                    (4, SysMsg::Resume { of_failure: true }),
-                    (5, SysMsg::Recreate(Cause::Error(1))),
-                    (6, SysMsg::Failed(ActorId(2), Cause::Error(1))),
-                ],
-            ),
-            Step::System(SysMsg::Terminate, &[]),
-            Step::System(SysMsg::Watch(ActorId(7)), &[]),
-            Step::System(SysMsg::Died(ActorId(4)), &[]),
-            Step::System(
-                SysMsg::Died(ActorId(2)),
-                &[
-                    Asked::Tell(5, Body::User { kind: 1, value: 9 }),
-                    Asked::Close,
-                    Asked::Sys(0, SysMsg::Died(ActorId(1))),
-                    Asked::Sys(6, SysMsg::Died(ActorId(1))),
-                    Asked::Sys(7, SysMsg::Died(ActorId(1))),
-                ],
-            ),
-            Step::Stands(Phase::Ended, 0, &[]),
-        ],
-    );
-    Ok(())
-}
+const ENDS: &str = "
+It waits for its children, and what it watched is told no more. What is set aside meanwhile is dead at its end. Then it is
+called, its parent is told, and all who watch it.
+actor 1 of 0; children 2 to 3; start spawn 2, watch 4; stop tell 5, fail 1; rules restart error
+create | handled: spawn 2, watch 4 | resume, 2: create, 4: watch 1 | live 0 0
+watch 6 | none | - | live 0 0
+terminate | none | 4: unwatch 1, 2: terminate, suspend | ending 1 0
+suspend | set aside | - | ending 1 0 | 3 suspend
+resume failure | set aside | - | ending 1 0 | 3 suspend, 4 resume failure
+recreate error 1 | set aside | - | ending 1 0 | 3 suspend, 4 resume failure, 5 recreate error 1
+failed 2 error 1 | set aside | - | ending 1 0 | 3 suspend, 4 resume failure, 5 recreate error 1, 6 failed 2 error 1
+terminate | none | - | ending 1 0 | 3 suspend, 4 resume failure, 5 recreate error 1, 6 failed 2 error 1
+create | none | - | ending 1 0 | 3 suspend, 4 resume failure, 5 recreate error 1, 6 failed 2 error 1
+watch 7 | none | - | ending 1 0 | 3 suspend, 4 resume failure, 5 recreate error 1, 6 failed 2 error 1
+died 4 | none | - | ending 1 0 | 3 suspend, 4 resume failure, 5 recreate error 1, 6 failed 2 error 1
+died 2 | none: tell 5 add 9 | 5: user add 9, close, 0: died 1, 6: died 1, 7: died 1 | ended 0 0
 
-/// Of the effects of its stop only what it tells is carried out. A parent that watches is told once.
-#[test]
-fn terminate_of_an_actor_without_children(rt: HostRuntime) -> Result<(), Fail> {
-    let mut stage = actor(
-        rt.alloc(),
-        Plan {
-            stop: [Move::Tell(4), Move::Stop(5)],
-            ..QUIET
-        },
-        decided(rt.alloc(), Directive::Restart)?,
-    )?;
-    stage.play(
-        &rt,
-        &[
-            Step::System(SysMsg::Create, &[Asked::Resume]),
-            Step::System(SysMsg::Watch(ActorId(0)), &[]),
-            Step::System(SysMsg::Watch(ActorId(4)), &[]),
-            Step::System(
-                SysMsg::Terminate,
-                &[
-                    Asked::Tell(4, Body::User { kind: 1, value: 9 }),
-                    Asked::Close,
-                    Asked::Sys(0, SysMsg::Died(ActorId(1))),
-                    Asked::Sys(4, SysMsg::Died(ActorId(1))),
-                ],
-            ),
-            Step::Entry(
-                Arrival::System {
-                    answer: None,
-                    number: 3,
-                    message: SysMsg::Terminate,
-                },
-                &[
-                    Effect::Tell {
-                        to: ActorId(4),
-                        kind: 1,
-                        value: 9,
-                    },
-                    Effect::Stop(ActorId(5)),
-                ],
-            ),
-            Step::Stands(Phase::Ended, 0, &[]),
-            Step::Counted(0),
-        ],
-    );
-    Ok(())
-}
+Of the effects of its stop only what it tells is carried out. A parent that watches is told once.
+actor 1 of 0; children 2 to 3; stop tell 4, stop 5; rules restart error
+create | handled | resume | live 0 0
+watch 0 | none | - | live 0 0
+watch 4 | none | - | live 0 0
+terminate | none: tell 4 add 9, stop 5 | 4: user add 9, close, 0: died 1, 4: died 1 | ended 0 0
+
+One that is suspended and has a child ends after it; the failure that waited is dead then.
+actor 1 of 0; children 2 to 3; start spawn 2; rules restart error
+create | handled: spawn 2 | resume, 2: create | live 0 0
+suspend | none | suspend, 2: suspend | live 1 0
+failed 2 error 1 | set aside | - | live 1 0 | 2 failed 2 error 1
+terminate | none | 2: terminate, suspend | ending 2 0 | 2 failed 2 error 1
+died 2 | none | close, 0: died 1 | ended 0 0
+
+The stop of one that is not Live is not called.
+actor 1 of 0; children 2 to 3; start fail 1; stop tell 4; rules restart error
+create | failed 1 | resume, suspend, 0: failed 1 init | broken 1 0
+terminate | none | close, 0: died 1 | ended 0 0
+
+The last of two children ends it, and a death that is told again is nothing.
+actor 1 of 0; children 2 to 3; start spawn 2, spawn 3; rules restart error
+create | handled: spawn 2, spawn 3 | resume, 2: create, 3: create | live 0 0
+terminate | none | 2: terminate, 3: terminate, suspend | ending 1 0
+died 3 | none | - | ending 1 0
+died 3 | none | - | ending 1 0
+died 2 | none | close, 0: died 1 | ended 0 0
+";
 
 #[test]
-fn terminate_of_a_suspended_actor(rt: HostRuntime) -> Result<(), Fail> {
-    let mut stage = actor(
-        rt.alloc(),
-        Plan {
-            start: [Move::Spawn(2), Move::Rest],
-            ..QUIET
-        },
-        decided(rt.alloc(), Directive::Restart)?,
-    )?;
-    stage.play(
-        &rt,
-        &[
-            Step::System(
-                SysMsg::Create,
-                &[Asked::Resume, Asked::Sys(2, SysMsg::Create)],
-            ),
-            Step::System(
-                SysMsg::Suspend,
-                &[Asked::Suspend, Asked::Sys(2, SysMsg::Suspend)],
-            ),
-            Step::System(SysMsg::Failed(ActorId(2), Cause::Error(1)), &[]),
-            Step::System(
-                SysMsg::Terminate,
-                &[Asked::Sys(2, SysMsg::Terminate), Asked::Suspend],
-            ),
-            Step::Stands(
-                Phase::Ending,
-                2,
-                &[(2, SysMsg::Failed(ActorId(2), Cause::Error(1)))],
-            ),
-            Step::System(
-                SysMsg::Died(ActorId(2)),
-                &[Asked::Close, Asked::Sys(0, SysMsg::Died(ActorId(1)))],
-            ),
-            Step::Stands(Phase::Ended, 0, &[]),
-        ],
-    );
-    Ok(())
-}
-
-/// Its stop is not called.
-#[test]
-fn terminate_of_an_actor_that_is_not_live(rt: HostRuntime) -> Result<(), Fail> {
-    let mut stage = actor(
-        rt.alloc(),
-        Plan {
-            start: [Move::Fail(1), Move::Rest],
-            stop: [Move::Tell(4), Move::Rest],
-            ..QUIET
-        },
-        decided(rt.alloc(), Directive::Restart)?,
-    )?;
-    stage.play(
-        &rt,
-        &[
-            Step::System(
-                SysMsg::Create,
-                &[
-                    Asked::Resume,
-                    Asked::Suspend,
-                    Asked::Sys(0, SysMsg::Failed(ActorId(1), Cause::Init)),
-                ],
-            ),
-            Step::System(
-                SysMsg::Terminate,
-                &[Asked::Close, Asked::Sys(0, SysMsg::Died(ActorId(1)))],
-            ),
-            Step::Stands(Phase::Ended, 0, &[]),
-        ],
-    );
-    Ok(())
-}
-
-#[test]
-fn the_last_of_two_children(rt: HostRuntime) -> Result<(), Fail> {
-    let mut stage = actor(
-        rt.alloc(),
-        Plan {
-            start: [Move::Spawn(2), Move::Spawn(3)],
-            ..QUIET
-        },
-        decided(rt.alloc(), Directive::Restart)?,
-    )?;
-    stage.play(
-        &rt,
-        &[
-            Step::System(
-                SysMsg::Create,
-                &[
-                    Asked::Resume,
-                    Asked::Sys(2, SysMsg::Create),
-                    Asked::Sys(3, SysMsg::Create),
-                ],
-            ),
-            Step::System(
-                SysMsg::Terminate,
-                &[
-                    Asked::Sys(2, SysMsg::Terminate),
-                    Asked::Sys(3, SysMsg::Terminate),
-                    Asked::Suspend,
-                ],
-            ),
-            Step::System(SysMsg::Died(ActorId(3)), &[]),
-            Step::Stands(Phase::Ending, 1, &[]),
-            Step::System(SysMsg::Died(ActorId(3)), &[]),
-            Step::Stands(Phase::Ending, 1, &[]),
-            Step::System(
-                SysMsg::Died(ActorId(2)),
-                &[Asked::Close, Asked::Sys(0, SysMsg::Died(ActorId(1)))],
-            ),
-            Step::Stands(Phase::Ended, 0, &[]),
-        ],
-    );
+fn ends(rt: HostRuntime) -> Result<(), Fail> {
+    each_case(&rt, rt.alloc(), ENDS, 28)?;
     Ok(())
 }

@@ -1,10 +1,16 @@
-//! The tests of the cell: each rule on a cell, with what the rule says of it worked out by hand.
+//! The tests of the cell: tables of what comes to an actor and what its cell makes of it, worked out by hand from the rules.
 #![tactic(auto)]
 
+#[cfg(test)]
+mod cast;
+#[cfg(test)]
+mod crowd;
 #[cfg(test)]
 mod ending;
 #[cfg(test)]
 mod envelopes;
+#[cfg(test)]
+mod memory;
 #[cfg(test)]
 mod player;
 #[cfg(test)]
@@ -12,12 +18,18 @@ mod restart;
 #[cfg(test)]
 mod rows;
 #[cfg(test)]
+mod shown;
+#[cfg(test)]
 mod stage;
 #[cfg(test)]
 mod start;
+#[cfg(test)]
+mod story;
 #[cfg(test)]
 mod supervision;
 #[cfg(test)]
 mod suspension;
 #[cfg(test)]
 mod watching;
+#[cfg(test)]
+mod words;

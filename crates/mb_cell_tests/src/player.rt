@@ -6,7 +6,7 @@ use mb_actor::{Actor, Answer, Behaviours, Message, Outbox};
 use mb_msg::{ActorId, Cause};
 
 /// What the actor does at a call: one effect, or how it answers.
-#[derive(Clone, Copy, Debug)]
+#[derive(Clone, Copy)]
 pub(crate) enum Move {
     Rest,
     Leave,
@@ -19,21 +19,13 @@ pub(crate) enum Move {
 }
 
 /// What it does at its start, its restarts and its stop, in order, and whether it handles the end of another.
-#[derive(Clone, Copy, Debug)]
+#[derive(Clone, Copy)]
 pub(crate) struct Plan {
     pub(crate) start: [Move; 2],
     pub(crate) restart: [Move; 2],
     pub(crate) stop: [Move; 2],
     pub(crate) heeds: bool,
 }
-
-/// An actor that does nothing.
-pub(crate) const QUIET: Plan = Plan {
-    start: [Move::Rest, Move::Rest],
-    restart: [Move::Rest, Move::Rest],
-    stop: [Move::Rest, Move::Rest],
-    heeds: true,
-};
 
 /// It counts the messages that it gets.
 #[derive(Drop)]
@@ -100,7 +92,7 @@ impl Actor for Player {
 }
 
 /// What a message of this kind, with the number of an actor or of an error as its value, makes the actor do.
-fn move_of(kind: u32, value: i64) -> Move {
+pub(crate) fn move_of(kind: u32, value: i64) -> Move {
     let of = u32::try_from(value).unwrap_or(0);
     match kind {
         2 => Move::Fail(of),

@@ -1,200 +1,43 @@
 //! How an actor is started afresh.
 
-use crate::player::{Move, Plan, QUIET};
-use crate::stage::{Asked, Step, actor, decided};
-use mb_actor::Phase;
-use mb_msg::{ActorId, Body, Cause, Directive, SysMsg};
+use crate::story::each_case;
 use std::test::Fail;
 
-/// The children that it had are started afresh too; those that the restart starts are not. It is not failed any more.
-#[test]
-fn recreate(rt: HostRuntime) -> Result<(), Fail> {
-    let mut stage = actor(
-        rt.alloc(),
-        Plan {
-            start: [Move::Spawn(2), Move::Rest],
-            restart: [Move::Spawn(3), Move::Tell(4)],
-            ..QUIET
-        },
-        decided(rt.alloc(), Directive::Restart)?,
-    )?;
-    stage.play(
-        &rt,
-        &[
-            Step::System(
-                SysMsg::Create,
-                &[Asked::Resume, Asked::Sys(2, SysMsg::Create)],
-            ),
-            Step::Envelope(Body::User { kind: 1, value: 0 }, &[]),
-            Step::Envelope(
-                Body::User { kind: 2, value: 5 },
-                &[
-                    Asked::Suspend,
-                    Asked::Sys(2, SysMsg::Suspend),
-                    Asked::Sys(0, SysMsg::Failed(ActorId(1), Cause::Error(5))),
-                ],
-            ),
-            Step::Stands(Phase::Live, 1, &[]),
-            Step::Counted(2),
-            Step::System(
-                SysMsg::Recreate(Cause::Error(5)),
-                &[
-                    Asked::Resume,
-                    Asked::Sys(3, SysMsg::Create),
-                    Asked::Tell(4, Body::User { kind: 1, value: 9 }),
-                    Asked::Sys(2, SysMsg::Recreate(Cause::Error(5))),
-                ],
-            ),
-            Step::Stands(Phase::Live, 0, &[]),
-            Step::Counted(0),
-            Step::Envelope(
-                Body::User { kind: 2, value: 6 },
-                &[
-                    Asked::Suspend,
-                    Asked::Sys(2, SysMsg::Suspend),
-                    Asked::Sys(3, SysMsg::Suspend),
-                    Asked::Sys(0, SysMsg::Failed(ActorId(1), Cause::Error(6))),
-                ],
-            ),
-        ],
-    );
-    Ok(())
-}
+const RESTARTS: &str = "
+The children that it had are started afresh too; those that the restart starts are not. It is not failed any more.
+actor 1 of 0; children 2 to 3; start spawn 2; restart spawn 3, tell 4; rules restart error
+create | handled: spawn 2 | resume, 2: create | live 0 0
+user add | handled | - | live 0 1
+user fail 5 | failed 5 | suspend, 2: suspend, 0: failed 1 error 5 | live 1 2
+recreate error 5 | handled: spawn 3, tell 4 add 9 | resume, 3: create, 4: user add 9, 2: recreate error 5 | live 0 0
+user fail 6 | failed 6 | suspend, 2: suspend, 3: suspend, 0: failed 1 error 6 | live 1 1
 
-/// The children that it had before are not suspended again.
-#[test]
-fn recreate_of_one_whose_restart_fails(rt: HostRuntime) -> Result<(), Fail> {
-    let mut stage = actor(
-        rt.alloc(),
-        Plan {
-            start: [Move::Spawn(2), Move::Rest],
-            restart: [Move::Spawn(3), Move::Fail(4)],
-            ..QUIET
-        },
-        decided(rt.alloc(), Directive::Restart)?,
-    )?;
-    stage.play(
-        &rt,
-        &[
-            Step::System(
-                SysMsg::Create,
-                &[Asked::Resume, Asked::Sys(2, SysMsg::Create)],
-            ),
-            Step::Envelope(
-                Body::User { kind: 2, value: 5 },
-                &[
-                    Asked::Suspend,
-                    Asked::Sys(2, SysMsg::Suspend),
-                    Asked::Sys(0, SysMsg::Failed(ActorId(1), Cause::Error(5))),
-                ],
-            ),
-            Step::System(
-                SysMsg::Recreate(Cause::Error(5)),
-                &[
-                    Asked::Resume,
-                    Asked::Sys(3, SysMsg::Create),
-                    Asked::Suspend,
-                    Asked::Sys(3, SysMsg::Suspend),
-                    Asked::Sys(0, SysMsg::Failed(ActorId(1), Cause::Init)),
-                ],
-            ),
-            Step::Stands(Phase::Broken, 1, &[]),
-            Step::System(
-                SysMsg::Suspend,
-                &[
-                    Asked::Suspend,
-                    Asked::Sys(2, SysMsg::Suspend),
-                    Asked::Sys(3, SysMsg::Suspend),
-                ],
-            ),
-            Step::Stands(Phase::Broken, 2, &[]),
-            Step::System(
-                SysMsg::Recreate(Cause::Error(6)),
-                &[
-                    Asked::Resume,
-                    Asked::Suspend,
-                    Asked::Sys(0, SysMsg::Failed(ActorId(1), Cause::Init)),
-                ],
-            ),
-            Step::Stands(Phase::Broken, 2, &[]),
-        ],
-    );
-    Ok(())
-}
+A restart that fails is Broken; the children that it had before are not suspended again. So is a restart of a Broken one.
+actor 1 of 0; children 2 to 3; start spawn 2; restart spawn 3, fail 4; rules restart error
+create | handled: spawn 2 | resume, 2: create | live 0 0
+user fail 5 | failed 5 | suspend, 2: suspend, 0: failed 1 error 5 | live 1 1
+recreate error 5 | failed 4: spawn 3 | resume, 3: create, suspend, 3: suspend, 0: failed 1 init | broken 1 0
+suspend | none | suspend, 2: suspend, 3: suspend | broken 2 0
+recreate error 6 | failed 4 | resume, suspend, 0: failed 1 init | broken 2 0
+
+A restart that does not know what to do counts as done.
+actor 1 of 0; children 2 to 3; start spawn 2; restart tell 4, leave
+create | handled: spawn 2 | resume, 2: create | live 0 0
+recreate error 5 | unhandled: tell 4 add 9 | resume, 4: user add 9, 2: recreate error 5 | live 0 0
+
+A Resume of a Broken actor starts it afresh, and it can fail again.
+actor 1 of 0; children 2 to 3; start spawn 2, fail 1; rules restart error
+create | failed 1: spawn 2 | resume, 2: create, suspend, 2: suspend, 0: failed 1 init | broken 1 0
+resume failure | handled | resume, 2: recreate init | live 0 0
+kill | none | suspend, 2: suspend, 0: failed 1 killed | live 1 0
+
+actor 1 of 0; children 2 to 3; start spawn 2, fail 1; rules restart error
+create | failed 1: spawn 2 | resume, 2: create, suspend, 2: suspend, 0: failed 1 init | broken 1 0
+recreate error 3 | handled | resume, 2: recreate error 3 | live 0 0
+";
 
 #[test]
-fn resume_of_a_broken_actor(rt: HostRuntime) -> Result<(), Fail> {
-    let mut stage = actor(
-        rt.alloc(),
-        Plan {
-            start: [Move::Spawn(2), Move::Fail(1)],
-            ..QUIET
-        },
-        decided(rt.alloc(), Directive::Restart)?,
-    )?;
-    stage.play(
-        &rt,
-        &[
-            Step::System(
-                SysMsg::Create,
-                &[
-                    Asked::Resume,
-                    Asked::Sys(2, SysMsg::Create),
-                    Asked::Suspend,
-                    Asked::Sys(2, SysMsg::Suspend),
-                    Asked::Sys(0, SysMsg::Failed(ActorId(1), Cause::Init)),
-                ],
-            ),
-            Step::System(
-                SysMsg::Resume { of_failure: true },
-                &[Asked::Resume, Asked::Sys(2, SysMsg::Recreate(Cause::Init))],
-            ),
-            Step::Stands(Phase::Live, 0, &[]),
-            Step::Envelope(
-                Body::Kill,
-                &[
-                    Asked::Suspend,
-                    Asked::Sys(2, SysMsg::Suspend),
-                    Asked::Sys(0, SysMsg::Failed(ActorId(1), Cause::Killed)),
-                ],
-            ),
-        ],
-    );
-    Ok(())
-}
-
-#[test]
-fn recreate_of_a_broken_actor(rt: HostRuntime) -> Result<(), Fail> {
-    let mut stage = actor(
-        rt.alloc(),
-        Plan {
-            start: [Move::Spawn(2), Move::Fail(1)],
-            ..QUIET
-        },
-        decided(rt.alloc(), Directive::Restart)?,
-    )?;
-    stage.play(
-        &rt,
-        &[
-            Step::System(
-                SysMsg::Create,
-                &[
-                    Asked::Resume,
-                    Asked::Sys(2, SysMsg::Create),
-                    Asked::Suspend,
-                    Asked::Sys(2, SysMsg::Suspend),
-                    Asked::Sys(0, SysMsg::Failed(ActorId(1), Cause::Init)),
-                ],
-            ),
-            Step::System(
-                SysMsg::Recreate(Cause::Error(3)),
-                &[
-                    Asked::Resume,
-                    Asked::Sys(2, SysMsg::Recreate(Cause::Error(3))),
-                ],
-            ),
-            Step::Stands(Phase::Live, 0, &[]),
-        ],
-    );
+fn restarts(rt: HostRuntime) -> Result<(), Fail> {
+    each_case(&rt, rt.alloc(), RESTARTS, 17)?;
     Ok(())
 }

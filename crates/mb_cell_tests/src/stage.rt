@@ -1,68 +1,35 @@
-//! A cell that is given messages one by one, with what it asks for compared at once.
+//! A cell that is given messages one by one, and tells in words what it makes of each.
 
 ghost use Rattle.std.specs.Prelude.{◌≡◌, ◌<◌, ◌≤◌, [], true, length};
 ghost use Rattle.std.specs.List.{All};
 ghost use Rattle.mb_msg.specs.Limits.{most_actors};
+ghost use Rattle.mb_actor.specs.Behaviour.{AllowsSame};
 
-use crate::player::{Counting, Plan, Player};
-use mb_actor::{Effect, Phase};
-use mb_cell::{Act, Cell};
-use mb_journal::{Arrival, Pattern, ReadyError, Strategy};
-use mb_msg::{ActorId, Body, Directive, Envelope, SenderId, SysMsg};
+use crate::shown::{
+    Given, act_shown, add, aside_shown, effects_shown, or_dash, outcome_shown, phase_shown,
+};
+use crate::words::{Trouble, body_of, first_word, number, system_of};
+use mb_actor::{Actor, Behaviours, Phase};
+use mb_cell::Cell;
+use mb_journal::{ReadyError, Strategy};
+use mb_msg::{ActorId, Body, Envelope, SenderId, SysMsg};
 use mb_status::Status;
 use std::alloc::{AllocError, Global};
 use std::marker::Model;
 use std::process::Abort;
 
-/// What a cell asks for, as it is compared.
-#[derive(Clone, Copy, Debug, PartialEq)]
-pub(crate) enum Asked {
-    Tell(u32, Body),
-    Sys(u32, SysMsg),
-    Suspend,
-    Resume,
-    Close,
-}
-
-/// What an act asks for.
-fn shown(act: Act) -> Asked {
-    match act {
-        Act::Tell(to, body) => Asked::Tell(to.0, body),
-        Act::Sys(to, node) => Asked::Sys(to.0, node.msg()),
-        Act::SuspendSelf => Asked::Suspend,
-        Act::ResumeSelf => Asked::Resume,
-        Act::CloseSelf => Asked::Close,
-    }
-}
-
-/// What comes to a cell and what it asks for then; or what is seen of it.
-#[derive(Clone, Copy, Debug)]
-pub(crate) enum Step<'a> {
-    /// The next new system message.
-    System(SysMsg, &'a [Asked]),
-    /// The message that goes before all others, which is to be this one.
-    Front((u64, SysMsg), &'a [Asked]),
-    /// An envelope with this body.
-    Envelope(Body, &'a [Asked]),
-    /// Where the actor stands, how often it is suspended, and what is set aside.
-    Stands(Phase, u64, &'a [(u64, SysMsg)]),
-    /// How many messages the actor counts.
-    Counted(i64),
-    /// The newest entry of the journal.
-    Entry(Arrival, &'a [Effect]),
-}
-
-/// A cell whose acts are carried out, with the number of the system message that comes next.
+/// A cell, with the number of the system message that comes next.
 #[derive(Drop)]
-pub(crate) struct Stage {
-    cell: Cell<Player, Counting>,
+pub(crate) struct Stage<A: Actor, K: Behaviours> {
+    cell: Cell<A, K>,
     next: u64,
     this: u32,
     is_guardian: bool,
+    was_refused: bool,
 }
 
-impl Model for Stage {
-    ghost use Rattle.std.specs.Prelude.{◌≡◌, []};
+impl<A: Actor, K: Behaviours> Model for Stage<A, K> {
+    ghost use Rattle.std.specs.Prelude.{◌≡◌};
     ghost use Rattle.mb_journal.specs.Aside.{next_number};
     ghost use Rattle.mb_cell.specs.Seen.{Seen};
 
@@ -73,147 +40,113 @@ impl Model for Stage {
     ghost use Rattle.mb_journal.specs.Identity.{is_guardian as is_the_guardian};
 
     ghost invariant = { λ s.
-        (s.next ≡ next_number s.cell.journal) × (s.cell.acts ≡ [])
-        × (s.cell.who.this.0 ≡ s.this) × (is_the_guardian s.cell.who ≡ s.is_guardian) };
+        (s.next ≡ next_number s.cell.journal) × (s.cell.who.this.0 ≡ s.this)
+        × (is_the_guardian s.cell.who ≡ s.is_guardian) };
 }
 
-/// The cell of actor 1, a child of the guardian, which may start the actors 2 and 3.
-pub(crate) fn actor(alloc: Global, plan: Plan, strategy: Strategy) -> Result<Stage, AllocError> {
-    let prepared = vec![in alloc; ActorId(2), ActorId(3)]?;
-    Ok(placed(alloc, 1, 0, plan, prepared, strategy))
-}
-
-/// The cell of an actor that starts no others.
-pub(crate) fn leaf(alloc: Global, this: u32, parent: u32, plan: Plan) -> Stage {
-    let strategy = Strategy {
-        rows: Vec::new(alloc),
-        retries: -1,
-        all_for_one: false,
-    };
-    placed(alloc, this, parent, plan, Vec::new(alloc), strategy)
-}
-
-/// The cell of an actor in its place.
-#[tactic(auto, unfolding(mb_journal::specs::Aside::next_number))]
-fn placed(
-    alloc: Global,
-    this: u32,
-    parent: u32,
-    plan: Plan,
-    prepared: Vec<ActorId>,
-    strategy: Strategy,
-) -> Stage
-    requires few { length prepared.items ≤ 64 }
-    requires numbered { All (λ x. x.0 < most_actors) prepared.items }
-{
-    let player = Player { plan, count: 0 };
-    let cell = Cell::new(
-        alloc,
-        ActorId(this),
-        64,
-        Some(ActorId(parent)),
-        Some(player),
-        prepared,
-        strategy,
-        1000,
-    );
-    Stage {
-        cell,
-        next: 0,
-        this,
-        is_guardian: false,
-    }
-}
-
-/// The cell of the guardian, which may start the actors 2 and 3.
-#[tactic(auto, unfolding(mb_journal::specs::Aside::next_number))]
-pub(crate) fn guardian(alloc: Global) -> Result<Stage, AllocError> {
-    let prepared = vec![in alloc; ActorId(2), ActorId(3)]?;
-    let strategy = Strategy {
-        rows: Vec::new(alloc),
-        retries: -1,
-        all_for_one: false,
-    };
-    let cell = Cell::new(alloc, ActorId(0), 8, None, None, prepared, strategy, 100);
-    Ok(Stage {
-        cell,
-        next: 0,
-        this: 0,
-        is_guardian: true,
-    })
-}
-
-/// No limit of retries, and one for one: what the pattern is about is treated so.
-pub(crate) fn ruled(
-    alloc: Global,
-    pattern: Pattern,
-    directive: Directive,
-) -> Result<Strategy, AllocError> {
-    Ok(Strategy {
-        rows: vec![in alloc; (pattern, directive)]?,
-        retries: -1,
-        all_for_one: false,
-    })
-}
-
-/// No limit of retries, and one for one: what fails is treated so if it is an error.
-pub(crate) fn decided(alloc: Global, directive: Directive) -> Result<Strategy, AllocError> {
-    limited(alloc, directive, -1, false)
-}
-
-/// The same with a limit of retries, for all or for one.
-pub(crate) fn limited(
-    alloc: Global,
-    directive: Directive,
-    retries: i64,
-    all_for_one: bool,
-) -> Result<Strategy, AllocError> {
-    Ok(Strategy {
-        rows: vec![in alloc; (Pattern::AnyError, directive)]?,
-        retries,
-        all_for_one,
-    })
-}
-
-impl Stage {
-    /// Takes each step.
-    pub(crate) fn play(&mut self, rt: &impl Abort, steps: &[Step<'_>]) {
-        for step in steps {
-            match *step {
-                Step::System(message, expected) => self.system(rt, message, expected),
-                Step::Front(due, expected) => self.front(rt, due, expected),
-                Step::Envelope(body, expected) => self.envelope(rt, body, expected),
-                Step::Stands(phase, count, aside) => self.stands(rt, phase, count, aside),
-                Step::Counted(messages) => self.counted(rt, messages),
-                Step::Entry(arrival, effects) => self.entry(rt, arrival, effects),
-            }
+impl<A: Actor, K: Behaviours> Stage<A, K> {
+    /// The cell of an actor that is not started yet.
+    #[tactic(auto, unfolding(mb_journal::specs::Aside::next_number))]
+    pub(crate) fn of(
+        alloc: Global,
+        this: u32,
+        parent: u32,
+        actor: A,
+        prepared: Vec<ActorId>,
+        strategy: Strategy,
+    ) -> Self
+        requires few { length prepared.items ≤ 64 }
+        requires numbered { All (λ x. x.0 < most_actors) prepared.items }
+        requires unused { A.content actor ≡ A.after actor [] }
+        requires behaves { A.after actor ≡ K.after this }
+        requires allows { AllowsSame (A.gives actor) (K.gives this) }
+    {
+        let cell = Cell::new(
+            alloc,
+            ActorId(this),
+            64,
+            Some(ActorId(parent)),
+            Some(actor),
+            prepared,
+            strategy,
+            1000,
+        );
+        Stage {
+            cell,
+            next: 0,
+            this,
+            is_guardian: false,
+            was_refused: false,
         }
     }
 
-    /// Gives the cell the next system message, and compares what it asks for.
-    fn system(&mut self, rt: &impl Abort, message: SysMsg, expected: &[Asked]) {
-        make_ready(rt, &mut self.cell);
+    /// The cell of the guardian.
+    #[tactic(auto, unfolding(mb_journal::specs::Aside::next_number))]
+    pub(crate) fn of_guardian(alloc: Global, prepared: Vec<ActorId>, strategy: Strategy) -> Self
+        requires few { length prepared.items ≤ 64 }
+        requires numbered { All (λ x. x.0 < most_actors) prepared.items }
+    {
+        let cell = Cell::new(alloc, ActorId(0), 64, None, None, prepared, strategy, 1000);
+        Stage {
+            cell,
+            next: 0,
+            this: 0,
+            is_guardian: true,
+            was_refused: false,
+        }
+    }
+
+    /// Gives the cell the message of this case, and tells the case as it is: the message, what its entry says became of it,
+    /// what the cell asks for, where the actor stands, and what is set aside, if something is.
+    pub(crate) fn told<R: Abort>(
+        &mut self,
+        rt: &R,
+        alloc: Global,
+        case: &str,
+    ) -> Result<String, Trouble> {
+        let (message, _) = case.split_once(" | ").ok_or(Trouble::Words("no case"))?;
+        let given = self.give(rt, message)?;
+        Ok(self.case_shown(rt, alloc, message, given)?)
+    }
+
+    fn give<R: Abort>(&mut self, rt: &R, message: &str) -> Result<Given, Trouble> {
+        if let Some(due) = message.strip_prefix("front ") {
+            return self.front(rt, due);
+        }
+        if let Some(body) = body_of(message)? {
+            return Ok(self.envelope(rt, body));
+        }
+        let message = system_of(message)?;
+        Ok(self.system(rt, message))
+    }
+
+    /// Gives the cell the next system message.
+    fn system<R: Abort>(&mut self, rt: &R, message: SysMsg) -> Given {
+        self.was_refused |= make_ready(rt, &mut self.cell);
         assert!(rt; !matches!(self.cell.phase(), Phase::Ended));
         assert!(rt; self.next < 1000);
-        self.cell.apply_system(self.next, message);
-        self.next += 1;
-        carry_out(rt, &mut self.cell, expected);
+        let number = self.next;
+        self.cell.apply_system(number, message);
+        self.next = number + 1;
+        Given::System(number, message)
     }
 
     /// Gives it again the message that goes before all others, which is to be this one.
-    fn front(&mut self, rt: &impl Abort, due: (u64, SysMsg), expected: &[Asked]) {
-        make_ready(rt, &mut self.cell);
+    fn front<R: Abort>(&mut self, rt: &R, due: &str) -> Result<Given, Trouble> {
+        let (due_number, due_message) = first_word(due);
+        let due = (u64::from(number(due_number)?), system_of(due_message)?);
+        self.was_refused |= make_ready(rt, &mut self.cell);
         assert!(rt; !matches!(self.cell.phase(), Phase::Ended));
         let (number, message) = self.cell.next_front().expect(rt, "a message that waits");
         assert_eq!(rt; (number, message), due);
         assert!(rt; number < self.next);
         self.cell.apply_system(number, message);
-        carry_out(rt, &mut self.cell, expected);
+        Ok(Given::System(number, message))
     }
 
     /// Gives it an envelope with this body.
-    fn envelope(&mut self, rt: &impl Abort, body: Body, expected: &[Asked]) {
-        make_ready(rt, &mut self.cell);
+    fn envelope<R: Abort>(&mut self, rt: &R, body: Body) -> Given {
+        self.was_refused |= make_ready(rt, &mut self.cell);
         assert!(rt; matches!(self.cell.phase(), Phase::Live));
         assert!(rt; self.cell.count() == 0);
         assert!(rt; !self.is_guardian);
@@ -225,37 +158,49 @@ impl Stage {
             body,
         };
         self.cell.apply_envelope(reading, envelope);
-        carry_out(rt, &mut self.cell, expected);
+        Given::Envelope(envelope)
     }
 
-    /// Compares where the actor stands, how often it is suspended, and what is set aside.
-    fn stands(&self, rt: &impl Abort, phase: Phase, count: u64, aside: &[(u64, SysMsg)]) {
-        assert_eq!(rt; self.cell.phase(), phase);
-        assert_eq!(rt; self.cell.count(), count);
-        assert_eq!(rt; self.cell.aside(), aside);
+    fn case_shown<R: Abort>(
+        &mut self,
+        rt: &R,
+        alloc: Global,
+        message: &str,
+        given: Given,
+    ) -> Result<String, AllocError> {
+        let entry = entry_shown(rt, alloc, &self.cell, given)?;
+        let acts = or_dash(acts_shown(alloc, &mut self.cell)?)?;
+        let stands = self.stands_shown(alloc)?;
+        let aside = aside_shown(alloc, self.cell.aside())?;
+        if aside.is_empty() {
+            format!(in alloc; "{message} | {entry} | {acts} | {stands}")
+        } else {
+            format!(in alloc; "{message} | {entry} | {acts} | {stands} | {aside}")
+        }
     }
 
-    /// Compares the newest entry of the journal.
-    fn entry(&self, rt: &impl Abort, arrival: Arrival, effects: &[Effect]) {
-        let journal = self.cell.journal();
-        let entries = journal.len();
-        assert!(rt; entries > 0);
-        let newest = journal.get(entries - 1);
-        assert_eq!(rt; newest.arrival, arrival);
-        assert_eq!(rt; newest.effects, effects);
+    /// Whether memory was refused to make room, so far.
+    pub(crate) fn was_refused(&self) -> bool {
+        self.was_refused
     }
 
-    /// Compares the actor's content.
-    fn counted(&self, rt: &impl Abort, messages: i64) {
-        assert_eq!(rt; self.cell.state(), Some(messages));
+    /// Where the actor stands, how often it is suspended, and its content; the guardian has none.
+    pub(crate) fn stands_shown(&self, alloc: Global) -> Result<String, AllocError> {
+        let phase = phase_shown(self.cell.phase());
+        let count = self.cell.count();
+        match self.cell.state() {
+            Some(content) => format!(in alloc; "{phase} {count} {content}"),
+            None => format!(in alloc; "{phase} {count} -"),
+        }
     }
 }
 
-/// Makes room for a message. Where memory is refused, the cell is as before, and the same call succeeds when there is
-/// memory.
-fn make_ready(rt: &impl Abort, cell: &mut Cell<Player, Counting>)
-    ensures { cell.new ≡ record cell.old { is_ready = true } }
+/// Makes room for a message, once nothing is left of the last. Where memory is refused, the cell is as before, and the same
+/// call succeeds when there is memory. Answers whether memory was refused.
+fn make_ready<R: Abort, A: Actor, K: Behaviours>(rt: &R, cell: &mut Cell<A, K>) -> bool
+    ensures { cell.new ≡ record cell.old { acts = []; is_ready = true } }
 {
+    assert!(rt; cell.next_act().is_none(), "an act that is left");
     let before = (
         cell.journal().len(),
         cell.phase(),
@@ -272,16 +217,44 @@ fn make_ready(rt: &impl Abort, cell: &mut Cell<Player, Counting>)
         );
         assert_eq!(rt; before, after);
         cell.ready().expect(rt, "there is memory again");
+        return true;
     }
+    false
 }
 
-/// Takes each act, and compares it with what is expected.
-fn carry_out(rt: &impl Abort, cell: &mut Cell<Player, Counting>, expected: &[Asked])
-    ensures none_left { cell.new.acts ≡ [] }
-    ensures rest { cell.new ≡ record cell.old { acts = [] } }
-{
-    for one in expected {
-        assert_eq!(rt; cell.next_act().map(shown), Some(*one));
+/// What the newest entry says: what became of what was given, and the effects of it.
+fn entry_shown<R: Abort, A: Actor, K: Behaviours>(
+    rt: &R,
+    alloc: Global,
+    cell: &Cell<A, K>,
+    given: Given,
+) -> Result<String, AllocError> {
+    let journal = cell.journal();
+    let entries = journal.len();
+    assert!(rt; entries > 0);
+    let newest = journal.get(entries - 1);
+    let outcome = outcome_shown(alloc, newest.arrival, given)?;
+    let effects = effects_shown(alloc, newest.effects)?;
+    if effects.is_empty() {
+        return Ok(outcome);
     }
-    assert!(rt; cell.next_act().is_none(), "an act more than expected");
+    format!(in alloc; "{outcome}: {effects}")
+}
+
+/// Takes each act, in order.
+fn acts_shown<A: Actor, K: Behaviours>(
+    alloc: Global,
+    cell: &mut Cell<A, K>,
+) -> Result<String, AllocError>
+    ensures rest { cell.new ≡ record cell.old { acts = cell.new.acts } }
+{
+    let mut list = String::new(alloc);
+    for _ in 0..1000u32 {
+        let Some(act) = cell.next_act() else {
+            break;
+        };
+        let item = act_shown(alloc, act)?;
+        add(&mut list, item.as_str())?;
+    }
+    Ok(list)
 }

@@ -1,178 +1,63 @@
 //! How an actor is started, and what comes to one that was not.
 
-use crate::player::{Move, Plan, QUIET};
-use crate::stage::{Asked, Step, actor, decided, guardian};
-use mb_actor::{Answer, Effect, Phase};
-use mb_journal::Arrival;
-use mb_msg::{ActorId, Body, Cause, Directive, SysMsg};
+use crate::story::each_case;
 use std::test::Fail;
 
+const STARTS: &str = "
+Create starts it; what it asks for is carried out after its suspension is undone.
+actor 1 of 0; children 2 to 3; start spawn 2, tell 4; rules restart error
+create | handled: spawn 2, tell 4 add 9 | resume, 2: create, 4: user add 9 | live 0 0
+
+A start that fails is Broken: its effects are carried out, then it is suspended with its child, and its parent is told.
+actor 1 of 0; children 2 to 3; start spawn 2, fail 1; rules restart error
+create | failed 1: spawn 2 | resume, 2: create, suspend, 2: suspend, 0: failed 1 init | broken 1 0
+
+A start that does not know what to do counts as done.
+actor 1 of 0; children 2 to 3; start spawn 2, leave
+create | unhandled: spawn 2 | resume, 2: create | live 0 0
+
+A Create that comes again does nothing, whether the start was done or failed.
+actor 1 of 0; children 2 to 3; start spawn 2; rules restart error
+create | handled: spawn 2 | resume, 2: create | live 0 0
+create | none | - | live 0 0
+
+actor 1 of 0; start fail 1
+create | failed 1 | resume, suspend, 0: failed 1 init | broken 1 0
+create | none | - | broken 1 0
+
+All but Create, Terminate, Watch and Unwatch does nothing to an actor that was not started.
+actor 1 of 0; children 2 to 3; start spawn 2; rules restart error
+suspend | none | - | fresh 1 0
+resume failure | none | - | fresh 1 0
+recreate error 1 | none | - | fresh 1 0
+failed 2 error 1 | none | - | fresh 1 0
+died 2 | none | - | fresh 1 0
+watch 5 | none | - | fresh 1 0
+watch 6 | none | - | fresh 1 0
+unwatch 5 | none | - | fresh 1 0
+terminate | none | close, 0: died 1, 6: died 1 | ended 0 0
+";
+
+const GUARDIAN: &str = "
+It has no parent to tell, decides by the default alone, is not started afresh, and ends after its children.
+guardian; children 2 to 3; rules resume any
+create | none | resume, 2: create, 3: create | live 0 -
+recreate error 1 | none | - | live 0 -
+failed 2 error 1 | none | 2: recreate error 1 | live 0 -
+failed 2 killed | none | 2: terminate | live 0 -
+terminate | none | 2: terminate, 3: terminate, suspend | ending 1 -
+died 2 | none | - | ending 1 -
+died 3 | none | close | ended 0 -
+";
+
 #[test]
-fn create(rt: HostRuntime) -> Result<(), Fail> {
-    let mut stage = actor(
-        rt.alloc(),
-        Plan {
-            start: [Move::Spawn(2), Move::Tell(4)],
-            ..QUIET
-        },
-        decided(rt.alloc(), Directive::Restart)?,
-    )?;
-    stage.play(
-        &rt,
-        &[
-            Step::Stands(Phase::Fresh, 1, &[]),
-            Step::System(
-                SysMsg::Create,
-                &[
-                    Asked::Resume,
-                    Asked::Sys(2, SysMsg::Create),
-                    Asked::Tell(4, Body::User { kind: 1, value: 9 }),
-                ],
-            ),
-            Step::Stands(Phase::Live, 0, &[]),
-            Step::Counted(0),
-        ],
-    );
+fn starts(rt: HostRuntime) -> Result<(), Fail> {
+    each_case(&rt, rt.alloc(), STARTS, 16)?;
     Ok(())
 }
 
 #[test]
-fn create_of_one_whose_start_fails(rt: HostRuntime) -> Result<(), Fail> {
-    let mut stage = actor(
-        rt.alloc(),
-        Plan {
-            start: [Move::Spawn(2), Move::Fail(1)],
-            ..QUIET
-        },
-        decided(rt.alloc(), Directive::Restart)?,
-    )?;
-    stage.play(
-        &rt,
-        &[
-            Step::System(
-                SysMsg::Create,
-                &[
-                    Asked::Resume,
-                    Asked::Sys(2, SysMsg::Create),
-                    Asked::Suspend,
-                    Asked::Sys(2, SysMsg::Suspend),
-                    Asked::Sys(0, SysMsg::Failed(ActorId(1), Cause::Init)),
-                ],
-            ),
-            Step::Entry(
-                Arrival::System {
-                    answer: Some(Answer::Failed(1)),
-                    number: 0,
-                    message: SysMsg::Create,
-                },
-                &[Effect::Spawn(ActorId(2))],
-            ),
-            Step::Stands(Phase::Broken, 1, &[]),
-        ],
-    );
-    Ok(())
-}
-
-#[test]
-fn create_that_comes_again(rt: HostRuntime) -> Result<(), Fail> {
-    let mut stage = actor(
-        rt.alloc(),
-        Plan {
-            start: [Move::Spawn(2), Move::Rest],
-            ..QUIET
-        },
-        decided(rt.alloc(), Directive::Restart)?,
-    )?;
-    stage.play(
-        &rt,
-        &[
-            Step::System(
-                SysMsg::Create,
-                &[Asked::Resume, Asked::Sys(2, SysMsg::Create)],
-            ),
-            Step::System(SysMsg::Create, &[]),
-            Step::Stands(Phase::Live, 0, &[]),
-        ],
-    );
-    Ok(())
-}
-
-/// All but Create, Terminate, Watch and Unwatch does nothing to an actor that was not started.
-#[test]
-fn fresh(rt: HostRuntime) -> Result<(), Fail> {
-    let mut stage = actor(
-        rt.alloc(),
-        Plan {
-            start: [Move::Spawn(2), Move::Rest],
-            ..QUIET
-        },
-        decided(rt.alloc(), Directive::Restart)?,
-    )?;
-    stage.play(
-        &rt,
-        &[
-            Step::System(SysMsg::Suspend, &[]),
-            Step::System(SysMsg::Resume { of_failure: true }, &[]),
-            Step::System(SysMsg::Recreate(Cause::Error(1)), &[]),
-            Step::System(SysMsg::Failed(ActorId(2), Cause::Error(1)), &[]),
-            Step::System(SysMsg::Died(ActorId(2)), &[]),
-            Step::Stands(Phase::Fresh, 1, &[]),
-            Step::System(SysMsg::Watch(ActorId(5)), &[]),
-            Step::System(SysMsg::Watch(ActorId(6)), &[]),
-            Step::System(SysMsg::Unwatch(ActorId(5)), &[]),
-            Step::System(
-                SysMsg::Terminate,
-                &[
-                    Asked::Close,
-                    Asked::Sys(0, SysMsg::Died(ActorId(1))),
-                    Asked::Sys(6, SysMsg::Died(ActorId(1))),
-                ],
-            ),
-            Step::Stands(Phase::Ended, 0, &[]),
-        ],
-    );
-    Ok(())
-}
-
-/// The guardian has no parent to tell, decides by the default alone, and is not started afresh.
-#[test]
-fn guardian_starts_its_children_and_ends_after_them(rt: HostRuntime) -> Result<(), Fail> {
-    let mut stage = guardian(rt.alloc())?;
-    stage.play(
-        &rt,
-        &[
-            Step::System(
-                SysMsg::Create,
-                &[
-                    Asked::Resume,
-                    Asked::Sys(2, SysMsg::Create),
-                    Asked::Sys(3, SysMsg::Create),
-                ],
-            ),
-            Step::Stands(Phase::Live, 0, &[]),
-            Step::System(SysMsg::Recreate(Cause::Error(1)), &[]),
-            Step::Stands(Phase::Live, 0, &[]),
-            Step::System(
-                SysMsg::Failed(ActorId(2), Cause::Error(1)),
-                &[Asked::Sys(2, SysMsg::Recreate(Cause::Error(1)))],
-            ),
-            Step::System(
-                SysMsg::Failed(ActorId(2), Cause::Killed),
-                &[Asked::Sys(2, SysMsg::Terminate)],
-            ),
-            Step::System(
-                SysMsg::Terminate,
-                &[
-                    Asked::Sys(2, SysMsg::Terminate),
-                    Asked::Sys(3, SysMsg::Terminate),
-                    Asked::Suspend,
-                ],
-            ),
-            Step::Stands(Phase::Ending, 1, &[]),
-            Step::System(SysMsg::Died(ActorId(2)), &[]),
-            Step::System(SysMsg::Died(ActorId(3)), &[Asked::Close]),
-            Step::Stands(Phase::Ended, 0, &[]),
-        ],
-    );
+fn guardian(rt: HostRuntime) -> Result<(), Fail> {
+    each_case(&rt, rt.alloc(), GUARDIAN, 7)?;
     Ok(())
 }

@@ -1,402 +1,109 @@
 //! What an actor does about a child that failed.
 
-use crate::player::{Move, Plan, QUIET};
-use crate::stage::{Asked, Step, actor, decided, limited};
-use mb_actor::Phase;
-use mb_msg::{ActorId, Body, Cause, Directive, SysMsg};
+use crate::story::each_case;
 use std::test::Fail;
 
-#[test]
-fn directive_resume(rt: HostRuntime) -> Result<(), Fail> {
-    let mut stage = actor(
-        rt.alloc(),
-        Plan {
-            start: [Move::Spawn(2), Move::Spawn(3)],
-            ..QUIET
-        },
-        decided(rt.alloc(), Directive::Resume)?,
-    )?;
-    stage.play(
-        &rt,
-        &[
-            Step::System(
-                SysMsg::Create,
-                &[
-                    Asked::Resume,
-                    Asked::Sys(2, SysMsg::Create),
-                    Asked::Sys(3, SysMsg::Create),
-                ],
-            ),
-            Step::System(
-                SysMsg::Failed(ActorId(2), Cause::Error(1)),
-                &[Asked::Sys(2, SysMsg::Resume { of_failure: true })],
-            ),
-            Step::System(SysMsg::Failed(ActorId(4), Cause::Error(1)), &[]),
-            Step::Stands(Phase::Live, 0, &[]),
-        ],
-    );
-    Ok(())
-}
+const DIRECTIVES: &str = "
+Resume is for the child that failed alone; the failure of one that is no child is nothing.
+actor 1 of 0; children 2 to 3; start spawn 2, spawn 3; rules resume error
+create | handled: spawn 2, spawn 3 | resume, 2: create, 3: create | live 0 0
+failed 2 error 1 | none | 2: resume failure | live 0 0
+failed 4 error 1 | none | - | live 0 0
 
-/// Without a limit of retries it is never refused.
-#[test]
-fn directive_restart(rt: HostRuntime) -> Result<(), Fail> {
-    let mut stage = actor(
-        rt.alloc(),
-        Plan {
-            start: [Move::Spawn(2), Move::Spawn(3)],
-            ..QUIET
-        },
-        decided(rt.alloc(), Directive::Restart)?,
-    )?;
-    stage.play(
-        &rt,
-        &[
-            Step::System(
-                SysMsg::Create,
-                &[
-                    Asked::Resume,
-                    Asked::Sys(2, SysMsg::Create),
-                    Asked::Sys(3, SysMsg::Create),
-                ],
-            ),
-            Step::System(
-                SysMsg::Failed(ActorId(3), Cause::Error(1)),
-                &[Asked::Sys(3, SysMsg::Recreate(Cause::Error(1)))],
-            ),
-            Step::System(
-                SysMsg::Failed(ActorId(3), Cause::Error(1)),
-                &[Asked::Sys(3, SysMsg::Recreate(Cause::Error(1)))],
-            ),
-            Step::System(
-                SysMsg::Failed(ActorId(3), Cause::Error(1)),
-                &[Asked::Sys(3, SysMsg::Recreate(Cause::Error(1)))],
-            ),
-            Step::Stands(Phase::Live, 0, &[]),
-        ],
-    );
-    Ok(())
-}
+Without a limit of retries a restart is never refused.
+actor 1 of 0; children 2 to 3; start spawn 2, spawn 3; rules restart error
+create | handled: spawn 2, spawn 3 | resume, 2: create, 3: create | live 0 0
+failed 3 error 1 | none | 3: recreate error 1 | live 0 0
+failed 3 error 1 | none | 3: recreate error 1 | live 0 0
+failed 3 error 1 | none | 3: recreate error 1 | live 0 0
+
+actor 1 of 0; children 2 to 3; start spawn 2, spawn 3; rules stop error
+create | handled: spawn 2, spawn 3 | resume, 2: create, 3: create | live 0 0
+failed 2 error 1 | none | 2: terminate | live 0 0
+
+Where no rule matches the default decides: an error restarts, all else stops.
+actor 1 of 0; children 2 to 3; start spawn 2, spawn 3; rules resume error
+create | handled: spawn 2, spawn 3 | resume, 2: create, 3: create | live 0 0
+failed 2 init | none | 2: terminate | live 0 0
+failed 2 killed | none | 2: terminate | live 0 0
+failed 2 death pact | none | 2: terminate | live 0 0
+
+actor 1 of 0; children 2 to 3; start spawn 2, spawn 3
+create | handled: spawn 2, spawn 3 | resume, 2: create, 3: create | live 0 0
+failed 2 error 4 | none | 2: recreate error 4 | live 0 0
+failed 3 init | none | 3: terminate | live 0 0
+
+The first rule that matches decides.
+actor 1 of 0; children 2 to 3; start spawn 2, spawn 3; rules stop error 4, resume error, restart killed, resume death pact, restart any
+create | handled: spawn 2, spawn 3 | resume, 2: create, 3: create | live 0 0
+failed 2 error 4 | none | 2: terminate | live 0 0
+failed 3 error 5 | none | 3: resume failure | live 0 0
+failed 3 killed | none | 3: recreate killed | live 0 0
+failed 3 death pact | none | 3: resume failure | live 0 0
+failed 3 init | none | 3: recreate init | live 0 0
+";
+
+const RETRIES: &str = "
+Each child has a count of its own, and is stopped once it was started afresh twice.
+actor 1 of 0; children 2 to 3; start spawn 2, spawn 3; rules restart error; retries 2
+create | handled: spawn 2, spawn 3 | resume, 2: create, 3: create | live 0 0
+failed 2 error 1 | none | 2: recreate error 1 | live 0 0
+failed 2 error 1 | none | 2: recreate error 1 | live 0 0
+failed 2 error 1 | none | 2: terminate | live 0 0
+failed 3 error 1 | none | 3: recreate error 1 | live 0 0
+failed 2 error 1 | none | 2: terminate | live 0 0
+
+actor 1 of 0; children 2 to 3; start spawn 2, spawn 3; rules restart error; retries 0
+create | handled: spawn 2, spawn 3 | resume, 2: create, 3: create | live 0 0
+failed 2 error 1 | none | 2: terminate | live 0 0
+";
+
+const ALL_FOR_ONE: &str = "
+Those that had not failed are suspended first.
+actor 1 of 0; children 2 to 3; start spawn 2, spawn 3; rules restart error; all for one
+create | handled: spawn 2, spawn 3 | resume, 2: create, 3: create | live 0 0
+failed 3 error 1 | none | 2: suspend, 2: recreate error 1, 3: recreate error 1 | live 0 0
+failed 2 error 1 | none | 2: recreate error 1, 3: suspend, 3: recreate error 1 | live 0 0
+
+actor 1 of 0; children 2 to 3; start spawn 2, spawn 3; rules stop error; all for one
+create | handled: spawn 2, spawn 3 | resume, 2: create, 3: create | live 0 0
+failed 3 error 1 | none | 2: terminate, 3: terminate | live 0 0
+
+Resume is for the child that failed alone, and so is what is passed up.
+actor 1 of 0; children 2 to 3; start spawn 2, spawn 3; rules resume error; all for one
+create | handled: spawn 2, spawn 3 | resume, 2: create, 3: create | live 0 0
+failed 3 error 1 | none | 3: resume failure | live 0 0
+
+actor 1 of 0; children 2 to 3; start spawn 2, spawn 3; rules escalate error; all for one
+create | handled: spawn 2, spawn 3 | resume, 2: create, 3: create | live 0 0
+failed 3 error 1 | none | suspend, 2: suspend, 0: failed 1 error 1 | live 1 0
+
+The older child was started afresh as often as it may be, so both are stopped for the failure of the younger.
+actor 1 of 0; children 2 to 3; start spawn 2; rules restart error; retries 1; all for one
+create | handled: spawn 2 | resume, 2: create | live 0 0
+failed 2 error 1 | none | 2: recreate error 1 | live 0 0
+user spawn 3 | handled: spawn 3 | 3: create | live 0 1
+failed 3 error 1 | none | 2: terminate, 3: terminate | live 0 1
+
+actor 1 of 0; children 2 to 3; start spawn 2, spawn 3; rules restart error; retries 0; all for one
+create | handled: spawn 2, spawn 3 | resume, 2: create, 3: create | live 0 0
+failed 2 error 1 | none | 2: terminate, 3: terminate | live 0 0
+";
 
 #[test]
-fn directive_stop(rt: HostRuntime) -> Result<(), Fail> {
-    let mut stage = actor(
-        rt.alloc(),
-        Plan {
-            start: [Move::Spawn(2), Move::Spawn(3)],
-            ..QUIET
-        },
-        decided(rt.alloc(), Directive::Stop)?,
-    )?;
-    stage.play(
-        &rt,
-        &[
-            Step::System(
-                SysMsg::Create,
-                &[
-                    Asked::Resume,
-                    Asked::Sys(2, SysMsg::Create),
-                    Asked::Sys(3, SysMsg::Create),
-                ],
-            ),
-            Step::System(
-                SysMsg::Failed(ActorId(2), Cause::Error(1)),
-                &[Asked::Sys(2, SysMsg::Terminate)],
-            ),
-            Step::Stands(Phase::Live, 0, &[]),
-        ],
-    );
+fn directives(rt: HostRuntime) -> Result<(), Fail> {
+    each_case(&rt, rt.alloc(), DIRECTIVES, 22)?;
     Ok(())
 }
 
 #[test]
-fn default_where_no_row_matches(rt: HostRuntime) -> Result<(), Fail> {
-    let mut stage = actor(
-        rt.alloc(),
-        Plan {
-            start: [Move::Spawn(2), Move::Spawn(3)],
-            ..QUIET
-        },
-        decided(rt.alloc(), Directive::Resume)?,
-    )?;
-    stage.play(
-        &rt,
-        &[
-            Step::System(
-                SysMsg::Create,
-                &[
-                    Asked::Resume,
-                    Asked::Sys(2, SysMsg::Create),
-                    Asked::Sys(3, SysMsg::Create),
-                ],
-            ),
-            Step::System(
-                SysMsg::Failed(ActorId(2), Cause::Init),
-                &[Asked::Sys(2, SysMsg::Terminate)],
-            ),
-            Step::System(
-                SysMsg::Failed(ActorId(2), Cause::Killed),
-                &[Asked::Sys(2, SysMsg::Terminate)],
-            ),
-            Step::System(
-                SysMsg::Failed(ActorId(2), Cause::DeathPact),
-                &[Asked::Sys(2, SysMsg::Terminate)],
-            ),
-        ],
-    );
-    Ok(())
-}
-
-/// Each child has a count of its own.
-#[test]
-fn two_retries(rt: HostRuntime) -> Result<(), Fail> {
-    let mut stage = actor(
-        rt.alloc(),
-        Plan {
-            start: [Move::Spawn(2), Move::Spawn(3)],
-            ..QUIET
-        },
-        limited(rt.alloc(), Directive::Restart, 2, false)?,
-    )?;
-    stage.play(
-        &rt,
-        &[
-            Step::System(
-                SysMsg::Create,
-                &[
-                    Asked::Resume,
-                    Asked::Sys(2, SysMsg::Create),
-                    Asked::Sys(3, SysMsg::Create),
-                ],
-            ),
-            Step::System(
-                SysMsg::Failed(ActorId(2), Cause::Error(1)),
-                &[Asked::Sys(2, SysMsg::Recreate(Cause::Error(1)))],
-            ),
-            Step::System(
-                SysMsg::Failed(ActorId(2), Cause::Error(1)),
-                &[Asked::Sys(2, SysMsg::Recreate(Cause::Error(1)))],
-            ),
-            Step::System(
-                SysMsg::Failed(ActorId(2), Cause::Error(1)),
-                &[Asked::Sys(2, SysMsg::Terminate)],
-            ),
-            Step::System(
-                SysMsg::Failed(ActorId(3), Cause::Error(1)),
-                &[Asked::Sys(3, SysMsg::Recreate(Cause::Error(1)))],
-            ),
-            Step::System(
-                SysMsg::Failed(ActorId(2), Cause::Error(1)),
-                &[Asked::Sys(2, SysMsg::Terminate)],
-            ),
-        ],
-    );
+fn retries(rt: HostRuntime) -> Result<(), Fail> {
+    each_case(&rt, rt.alloc(), RETRIES, 8)?;
     Ok(())
 }
 
 #[test]
-fn no_retries(rt: HostRuntime) -> Result<(), Fail> {
-    let mut stage = actor(
-        rt.alloc(),
-        Plan {
-            start: [Move::Spawn(2), Move::Spawn(3)],
-            ..QUIET
-        },
-        limited(rt.alloc(), Directive::Restart, 0, false)?,
-    )?;
-    stage.play(
-        &rt,
-        &[
-            Step::System(
-                SysMsg::Create,
-                &[
-                    Asked::Resume,
-                    Asked::Sys(2, SysMsg::Create),
-                    Asked::Sys(3, SysMsg::Create),
-                ],
-            ),
-            Step::System(
-                SysMsg::Failed(ActorId(2), Cause::Error(1)),
-                &[Asked::Sys(2, SysMsg::Terminate)],
-            ),
-        ],
-    );
-    Ok(())
-}
-
-/// Those that had not failed are suspended first.
-#[test]
-fn restart_all_for_one(rt: HostRuntime) -> Result<(), Fail> {
-    let mut stage = actor(
-        rt.alloc(),
-        Plan {
-            start: [Move::Spawn(2), Move::Spawn(3)],
-            ..QUIET
-        },
-        limited(rt.alloc(), Directive::Restart, -1, true)?,
-    )?;
-    stage.play(
-        &rt,
-        &[
-            Step::System(
-                SysMsg::Create,
-                &[
-                    Asked::Resume,
-                    Asked::Sys(2, SysMsg::Create),
-                    Asked::Sys(3, SysMsg::Create),
-                ],
-            ),
-            Step::System(
-                SysMsg::Failed(ActorId(3), Cause::Error(1)),
-                &[
-                    Asked::Sys(2, SysMsg::Suspend),
-                    Asked::Sys(2, SysMsg::Recreate(Cause::Error(1))),
-                    Asked::Sys(3, SysMsg::Recreate(Cause::Error(1))),
-                ],
-            ),
-            Step::System(
-                SysMsg::Failed(ActorId(2), Cause::Error(1)),
-                &[
-                    Asked::Sys(2, SysMsg::Recreate(Cause::Error(1))),
-                    Asked::Sys(3, SysMsg::Suspend),
-                    Asked::Sys(3, SysMsg::Recreate(Cause::Error(1))),
-                ],
-            ),
-        ],
-    );
-    Ok(())
-}
-
-#[test]
-fn stop_all_for_one(rt: HostRuntime) -> Result<(), Fail> {
-    let mut stage = actor(
-        rt.alloc(),
-        Plan {
-            start: [Move::Spawn(2), Move::Spawn(3)],
-            ..QUIET
-        },
-        limited(rt.alloc(), Directive::Stop, -1, true)?,
-    )?;
-    stage.play(
-        &rt,
-        &[
-            Step::System(
-                SysMsg::Create,
-                &[
-                    Asked::Resume,
-                    Asked::Sys(2, SysMsg::Create),
-                    Asked::Sys(3, SysMsg::Create),
-                ],
-            ),
-            Step::System(
-                SysMsg::Failed(ActorId(3), Cause::Error(1)),
-                &[
-                    Asked::Sys(2, SysMsg::Terminate),
-                    Asked::Sys(3, SysMsg::Terminate),
-                ],
-            ),
-        ],
-    );
-    Ok(())
-}
-
-#[test]
-fn resume_under_all_for_one(rt: HostRuntime) -> Result<(), Fail> {
-    let mut stage = actor(
-        rt.alloc(),
-        Plan {
-            start: [Move::Spawn(2), Move::Spawn(3)],
-            ..QUIET
-        },
-        limited(rt.alloc(), Directive::Resume, -1, true)?,
-    )?;
-    stage.play(
-        &rt,
-        &[
-            Step::System(
-                SysMsg::Create,
-                &[
-                    Asked::Resume,
-                    Asked::Sys(2, SysMsg::Create),
-                    Asked::Sys(3, SysMsg::Create),
-                ],
-            ),
-            Step::System(
-                SysMsg::Failed(ActorId(3), Cause::Error(1)),
-                &[Asked::Sys(3, SysMsg::Resume { of_failure: true })],
-            ),
-        ],
-    );
-    Ok(())
-}
-
-/// The older child was started afresh as often as it may be, so both are stopped for the failure of the younger.
-#[test]
-fn one_refusal_under_all_for_one(rt: HostRuntime) -> Result<(), Fail> {
-    let mut stage = actor(
-        rt.alloc(),
-        Plan {
-            start: [Move::Spawn(2), Move::Rest],
-            ..QUIET
-        },
-        limited(rt.alloc(), Directive::Restart, 1, true)?,
-    )?;
-    stage.play(
-        &rt,
-        &[
-            Step::System(
-                SysMsg::Create,
-                &[Asked::Resume, Asked::Sys(2, SysMsg::Create)],
-            ),
-            Step::System(
-                SysMsg::Failed(ActorId(2), Cause::Error(1)),
-                &[Asked::Sys(2, SysMsg::Recreate(Cause::Error(1)))],
-            ),
-            Step::Envelope(
-                Body::User { kind: 7, value: 3 },
-                &[Asked::Sys(3, SysMsg::Create)],
-            ),
-            Step::System(
-                SysMsg::Failed(ActorId(3), Cause::Error(1)),
-                &[
-                    Asked::Sys(2, SysMsg::Terminate),
-                    Asked::Sys(3, SysMsg::Terminate),
-                ],
-            ),
-        ],
-    );
-    Ok(())
-}
-
-#[test]
-fn no_retries_under_all_for_one(rt: HostRuntime) -> Result<(), Fail> {
-    let mut stage = actor(
-        rt.alloc(),
-        Plan {
-            start: [Move::Spawn(2), Move::Spawn(3)],
-            ..QUIET
-        },
-        limited(rt.alloc(), Directive::Restart, 0, true)?,
-    )?;
-    stage.play(
-        &rt,
-        &[
-            Step::System(
-                SysMsg::Create,
-                &[
-                    Asked::Resume,
-                    Asked::Sys(2, SysMsg::Create),
-                    Asked::Sys(3, SysMsg::Create),
-                ],
-            ),
-            Step::System(
-                SysMsg::Failed(ActorId(2), Cause::Error(1)),
-                &[
-                    Asked::Sys(2, SysMsg::Terminate),
-                    Asked::Sys(3, SysMsg::Terminate),
-                ],
-            ),
-        ],
-    );
+fn all_for_one(rt: HostRuntime) -> Result<(), Fail> {
+    each_case(&rt, rt.alloc(), ALL_FOR_ONE, 15)?;
     Ok(())
 }

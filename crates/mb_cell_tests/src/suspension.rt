@@ -1,318 +1,65 @@
 //! How an actor is suspended and resumed, and what waits until then.
 
-use crate::player::{Move, Plan, QUIET};
-use crate::stage::{Asked, Step, actor, decided};
-use mb_actor::Phase;
-use mb_journal::Arrival;
-use mb_msg::{ActorId, Body, Cause, Directive, Envelope, SysMsg};
+use crate::story::each_case;
 use std::test::Fail;
 
-#[test]
-fn suspend_and_resume(rt: HostRuntime) -> Result<(), Fail> {
-    let mut stage = actor(
-        rt.alloc(),
-        Plan {
-            start: [Move::Spawn(2), Move::Spawn(3)],
-            ..QUIET
-        },
-        decided(rt.alloc(), Directive::Restart)?,
-    )?;
-    stage.play(
-        &rt,
-        &[
-            Step::System(
-                SysMsg::Create,
-                &[
-                    Asked::Resume,
-                    Asked::Sys(2, SysMsg::Create),
-                    Asked::Sys(3, SysMsg::Create),
-                ],
-            ),
-            Step::System(
-                SysMsg::Suspend,
-                &[
-                    Asked::Suspend,
-                    Asked::Sys(2, SysMsg::Suspend),
-                    Asked::Sys(3, SysMsg::Suspend),
-                ],
-            ),
-            Step::System(
-                SysMsg::Suspend,
-                &[
-                    Asked::Suspend,
-                    Asked::Sys(2, SysMsg::Suspend),
-                    Asked::Sys(3, SysMsg::Suspend),
-                ],
-            ),
-            Step::Stands(Phase::Live, 2, &[]),
-            Step::System(
-                SysMsg::Resume { of_failure: true },
-                &[
-                    Asked::Resume,
-                    Asked::Sys(2, SysMsg::Resume { of_failure: false }),
-                    Asked::Sys(3, SysMsg::Resume { of_failure: false }),
-                ],
-            ),
-            Step::Stands(Phase::Live, 1, &[]),
-            Step::System(
-                SysMsg::Resume { of_failure: false },
-                &[
-                    Asked::Resume,
-                    Asked::Sys(2, SysMsg::Resume { of_failure: false }),
-                    Asked::Sys(3, SysMsg::Resume { of_failure: false }),
-                ],
-            ),
-            Step::Stands(Phase::Live, 0, &[]),
-            Step::System(
-                SysMsg::Resume { of_failure: false },
-                &[
-                    Asked::Resume,
-                    Asked::Sys(2, SysMsg::Resume { of_failure: false }),
-                    Asked::Sys(3, SysMsg::Resume { of_failure: false }),
-                ],
-            ),
-            Step::Stands(Phase::Live, 0, &[]),
-        ],
-    );
-    Ok(())
-}
+const SUSPENSIONS: &str = "
+Each Suspend counts, and its children get it too; a Resume undoes one, and where there is none its children get it still.
+actor 1 of 0; children 2 to 3; start spawn 2, spawn 3; rules restart error
+create | handled: spawn 2, spawn 3 | resume, 2: create, 3: create | live 0 0
+suspend | none | suspend, 2: suspend, 3: suspend | live 1 0
+suspend | none | suspend, 2: suspend, 3: suspend | live 2 0
+resume failure | none | resume, 2: resume, 3: resume | live 1 0
+resume | none | resume, 2: resume, 3: resume | live 0 0
+resume | none | resume, 2: resume, 3: resume | live 0 0
 
-/// They are applied in front of all that comes later, the earliest first.
-#[test]
-fn failure_of_a_child_waits_while_suspended(rt: HostRuntime) -> Result<(), Fail> {
-    let mut stage = actor(
-        rt.alloc(),
-        Plan {
-            start: [Move::Spawn(2), Move::Spawn(3)],
-            ..QUIET
-        },
-        decided(rt.alloc(), Directive::Restart)?,
-    )?;
-    stage.play(
-        &rt,
-        &[
-            Step::System(
-                SysMsg::Create,
-                &[
-                    Asked::Resume,
-                    Asked::Sys(2, SysMsg::Create),
-                    Asked::Sys(3, SysMsg::Create),
-                ],
-            ),
-            Step::System(
-                SysMsg::Suspend,
-                &[
-                    Asked::Suspend,
-                    Asked::Sys(2, SysMsg::Suspend),
-                    Asked::Sys(3, SysMsg::Suspend),
-                ],
-            ),
-            Step::System(SysMsg::Failed(ActorId(2), Cause::Error(7)), &[]),
-            Step::Entry(
-                Arrival::SetAside {
-                    number: 2,
-                    message: SysMsg::Failed(ActorId(2), Cause::Error(7)),
-                },
-                &[],
-            ),
-            Step::System(SysMsg::Failed(ActorId(3), Cause::Error(8)), &[]),
-            Step::Stands(
-                Phase::Live,
-                1,
-                &[
-                    (2, SysMsg::Failed(ActorId(2), Cause::Error(7))),
-                    (3, SysMsg::Failed(ActorId(3), Cause::Error(8))),
-                ],
-            ),
-            Step::System(
-                SysMsg::Resume { of_failure: false },
-                &[
-                    Asked::Resume,
-                    Asked::Sys(2, SysMsg::Resume { of_failure: false }),
-                    Asked::Sys(3, SysMsg::Resume { of_failure: false }),
-                ],
-            ),
-            Step::Front(
-                (2, SysMsg::Failed(ActorId(2), Cause::Error(7))),
-                &[Asked::Sys(2, SysMsg::Recreate(Cause::Error(7)))],
-            ),
-            Step::Entry(
-                Arrival::System {
-                    answer: None,
-                    number: 2,
-                    message: SysMsg::Failed(ActorId(2), Cause::Error(7)),
-                },
-                &[],
-            ),
-            Step::Stands(
-                Phase::Live,
-                0,
-                &[(3, SysMsg::Failed(ActorId(3), Cause::Error(8)))],
-            ),
-            Step::Front(
-                (3, SysMsg::Failed(ActorId(3), Cause::Error(8))),
-                &[Asked::Sys(3, SysMsg::Recreate(Cause::Error(8)))],
-            ),
-            Step::Stands(Phase::Live, 0, &[]),
-            Step::System(SysMsg::Watch(ActorId(5)), &[]),
-        ],
-    );
-    Ok(())
-}
+A failure of a child waits while it is suspended, and goes in front of all that comes later, the earliest first.
+actor 1 of 0; children 2 to 3; start spawn 2, spawn 3; rules restart error
+create | handled: spawn 2, spawn 3 | resume, 2: create, 3: create | live 0 0
+suspend | none | suspend, 2: suspend, 3: suspend | live 1 0
+failed 2 error 7 | set aside | - | live 1 0 | 2 failed 2 error 7
+failed 3 error 8 | set aside | - | live 1 0 | 2 failed 2 error 7, 3 failed 3 error 8
+resume | none | resume, 2: resume, 3: resume | live 0 0 | 2 failed 2 error 7, 3 failed 3 error 8
+front 2 failed 2 error 7 | none | 2: recreate error 7 | live 0 0 | 3 failed 3 error 8
+front 3 failed 3 error 8 | none | 3: recreate error 8 | live 0 0
+watch 5 | none | - | live 0 0
+";
 
-/// The child that failed is not suspended again, and it alone is resumed for its failure.
+const FAILURES: &str = "
+A failure that is passed up: the child that failed is not suspended again, and it alone is resumed for its failure.
+actor 1 of 0; children 2 to 3; start spawn 2, spawn 3; rules escalate error
+create | handled: spawn 2, spawn 3 | resume, 2: create, 3: create | live 0 0
+failed 2 error 1 | none | suspend, 3: suspend, 0: failed 1 error 1 | live 1 0
+resume failure | none | resume, 2: resume failure, 3: resume | live 0 0
+failed 3 error 2 | none | suspend, 2: suspend, 0: failed 1 error 2 | live 1 0
+
+One that is no child any more is not resumed for it.
+actor 1 of 0; children 2 to 3; start spawn 2, spawn 3; rules escalate error
+create | handled: spawn 2, spawn 3 | resume, 2: create, 3: create | live 0 0
+failed 2 error 1 | none | suspend, 3: suspend, 0: failed 1 error 1 | live 1 0
+died 2 | none | - | live 1 0
+resume failure | none | resume, 3: resume | live 0 0
+
+An actor that is failed already does not fail, until it is resumed for its failure.
+actor 1 of 0; children 2 to 3; start spawn 2; rules escalate error
+create | handled: spawn 2 | resume, 2: create | live 0 0
+kill | none | suspend, 2: suspend, 0: failed 1 killed | live 1 0
+resume | none | resume, 2: resume | live 0 0
+kill | none | - | live 0 0
+user fail 5 | failed 5 | - | live 0 1
+failed 2 error 1 | none | - | live 0 1
+resume failure | none | resume, 2: resume | live 0 1
+kill | none | suspend, 2: suspend, 0: failed 1 killed | live 1 1
+";
+
 #[test]
-fn escalation_and_the_resume_for_it(rt: HostRuntime) -> Result<(), Fail> {
-    let mut stage = actor(
-        rt.alloc(),
-        Plan {
-            start: [Move::Spawn(2), Move::Spawn(3)],
-            ..QUIET
-        },
-        decided(rt.alloc(), Directive::Escalate)?,
-    )?;
-    stage.play(
-        &rt,
-        &[
-            Step::System(
-                SysMsg::Create,
-                &[
-                    Asked::Resume,
-                    Asked::Sys(2, SysMsg::Create),
-                    Asked::Sys(3, SysMsg::Create),
-                ],
-            ),
-            Step::System(
-                SysMsg::Failed(ActorId(2), Cause::Error(1)),
-                &[
-                    Asked::Suspend,
-                    Asked::Sys(3, SysMsg::Suspend),
-                    Asked::Sys(0, SysMsg::Failed(ActorId(1), Cause::Error(1))),
-                ],
-            ),
-            Step::Stands(Phase::Live, 1, &[]),
-            Step::System(
-                SysMsg::Resume { of_failure: true },
-                &[
-                    Asked::Resume,
-                    Asked::Sys(2, SysMsg::Resume { of_failure: true }),
-                    Asked::Sys(3, SysMsg::Resume { of_failure: false }),
-                ],
-            ),
-            Step::Stands(Phase::Live, 0, &[]),
-            Step::System(
-                SysMsg::Failed(ActorId(3), Cause::Error(2)),
-                &[
-                    Asked::Suspend,
-                    Asked::Sys(2, SysMsg::Suspend),
-                    Asked::Sys(0, SysMsg::Failed(ActorId(1), Cause::Error(2))),
-                ],
-            ),
-            Step::Stands(Phase::Live, 1, &[]),
-        ],
-    );
+fn suspensions(rt: HostRuntime) -> Result<(), Fail> {
+    each_case(&rt, rt.alloc(), SUSPENSIONS, 14)?;
     Ok(())
 }
 
 #[test]
-fn escalation_of_one_that_is_no_child_any_more(rt: HostRuntime) -> Result<(), Fail> {
-    let mut stage = actor(
-        rt.alloc(),
-        Plan {
-            start: [Move::Spawn(2), Move::Spawn(3)],
-            ..QUIET
-        },
-        decided(rt.alloc(), Directive::Escalate)?,
-    )?;
-    stage.play(
-        &rt,
-        &[
-            Step::System(
-                SysMsg::Create,
-                &[
-                    Asked::Resume,
-                    Asked::Sys(2, SysMsg::Create),
-                    Asked::Sys(3, SysMsg::Create),
-                ],
-            ),
-            Step::System(
-                SysMsg::Failed(ActorId(2), Cause::Error(1)),
-                &[
-                    Asked::Suspend,
-                    Asked::Sys(3, SysMsg::Suspend),
-                    Asked::Sys(0, SysMsg::Failed(ActorId(1), Cause::Error(1))),
-                ],
-            ),
-            Step::System(SysMsg::Died(ActorId(2)), &[]),
-            Step::System(
-                SysMsg::Resume { of_failure: true },
-                &[
-                    Asked::Resume,
-                    Asked::Sys(3, SysMsg::Resume { of_failure: false }),
-                ],
-            ),
-            Step::Stands(Phase::Live, 0, &[]),
-        ],
-    );
-    Ok(())
-}
-
-/// An actor that is failed already does not fail, until it is resumed for its failure.
-#[test]
-fn failure_while_failed(rt: HostRuntime) -> Result<(), Fail> {
-    let mut stage = actor(
-        rt.alloc(),
-        Plan {
-            start: [Move::Spawn(2), Move::Rest],
-            ..QUIET
-        },
-        decided(rt.alloc(), Directive::Escalate)?,
-    )?;
-    stage.play(
-        &rt,
-        &[
-            Step::System(
-                SysMsg::Create,
-                &[Asked::Resume, Asked::Sys(2, SysMsg::Create)],
-            ),
-            Step::Envelope(
-                Body::Kill,
-                &[
-                    Asked::Suspend,
-                    Asked::Sys(2, SysMsg::Suspend),
-                    Asked::Sys(0, SysMsg::Failed(ActorId(1), Cause::Killed)),
-                ],
-            ),
-            Step::Stands(Phase::Live, 1, &[]),
-            Step::System(
-                SysMsg::Resume { of_failure: false },
-                &[
-                    Asked::Resume,
-                    Asked::Sys(2, SysMsg::Resume { of_failure: false }),
-                ],
-            ),
-            Step::Stands(Phase::Live, 0, &[]),
-            Step::Envelope(Body::Kill, &[]),
-            Step::Envelope(Body::User { kind: 2, value: 5 }, &[]),
-            Step::System(SysMsg::Failed(ActorId(2), Cause::Error(1)), &[]),
-            Step::Stands(Phase::Live, 0, &[]),
-            Step::System(
-                SysMsg::Resume { of_failure: true },
-                &[
-                    Asked::Resume,
-                    Asked::Sys(2, SysMsg::Resume { of_failure: false }),
-                ],
-            ),
-            Step::Envelope(
-                Body::Kill,
-                &[
-                    Asked::Suspend,
-                    Asked::Sys(2, SysMsg::Suspend),
-                    Asked::Sys(0, SysMsg::Failed(ActorId(1), Cause::Killed)),
-                ],
-            ),
-            Step::Stands(Phase::Live, 1, &[]),
-        ],
-    );
+fn failures(rt: HostRuntime) -> Result<(), Fail> {
+    each_case(&rt, rt.alloc(), FAILURES, 16)?;
     Ok(())
 }

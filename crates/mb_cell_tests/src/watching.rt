@@ -1,197 +1,72 @@
 //! How an actor watches others, and is watched.
 
-use crate::player::{Move, Plan, QUIET};
-use crate::stage::{Asked, Step, actor, decided};
-use mb_actor::Phase;
-use mb_journal::Arrival;
-use mb_msg::{ActorId, Body, Cause, Directive, Envelope, SenderId, SysMsg};
+use crate::story::each_case;
 use std::test::Fail;
 
-/// Each that watches is told once, in the order in which they came.
-#[test]
-fn watch_and_unwatch(rt: HostRuntime) -> Result<(), Fail> {
-    let mut stage = actor(rt.alloc(), QUIET, decided(rt.alloc(), Directive::Restart)?)?;
-    stage.play(
-        &rt,
-        &[
-            Step::System(SysMsg::Create, &[Asked::Resume]),
-            Step::System(SysMsg::Watch(ActorId(4)), &[]),
-            Step::System(SysMsg::Watch(ActorId(5)), &[]),
-            Step::System(SysMsg::Watch(ActorId(4)), &[]),
-            Step::System(SysMsg::Watch(ActorId(6)), &[]),
-            Step::System(SysMsg::Unwatch(ActorId(5)), &[]),
-            Step::System(
-                SysMsg::Terminate,
-                &[
-                    Asked::Close,
-                    Asked::Sys(0, SysMsg::Died(ActorId(1))),
-                    Asked::Sys(4, SysMsg::Died(ActorId(1))),
-                    Asked::Sys(6, SysMsg::Died(ActorId(1))),
-                ],
-            ),
-        ],
-    );
-    Ok(())
-}
+const WATCHED: &str = "
+Each that watches is told once, in the order in which they came.
+actor 1 of 0; children 2 to 3; rules restart error
+create | handled | resume | live 0 0
+watch 4 | none | - | live 0 0
+watch 5 | none | - | live 0 0
+watch 4 | none | - | live 0 0
+watch 6 | none | - | live 0 0
+unwatch 5 | none | - | live 0 0
+terminate | none | close, 0: died 1, 4: died 1, 6: died 1 | ended 0 0
+";
 
-/// One that is watched already is not watched again, and nobody watches itself.
-#[test]
-fn effects_of_watching(rt: HostRuntime) -> Result<(), Fail> {
-    let mut stage = actor(rt.alloc(), QUIET, decided(rt.alloc(), Directive::Restart)?)?;
-    stage.play(
-        &rt,
-        &[
-            Step::System(SysMsg::Create, &[Asked::Resume]),
-            Step::Envelope(
-                Body::User { kind: 4, value: 4 },
-                &[Asked::Sys(4, SysMsg::Watch(ActorId(1)))],
-            ),
-            Step::Envelope(Body::User { kind: 4, value: 4 }, &[]),
-            Step::Envelope(Body::User { kind: 4, value: 1 }, &[]),
-            Step::Envelope(
-                Body::User { kind: 5, value: 4 },
-                &[Asked::Sys(4, SysMsg::Unwatch(ActorId(1)))],
-            ),
-            Step::Envelope(Body::User { kind: 5, value: 4 }, &[]),
-            Step::System(SysMsg::Died(ActorId(4)), &[]),
-            Step::Counted(5),
-        ],
-    );
-    Ok(())
-}
+const WATCHING: &str = "
+One that is watched already is not watched again, and nobody watches itself.
+actor 1 of 0; children 2 to 3; rules restart error
+create | handled | resume | live 0 0
+user watch 4 | handled: watch 4 | 4: watch 1 | live 0 1
+user watch 4 | handled: watch 4 | - | live 0 2
+user watch 1 | handled: watch 1 | - | live 0 3
+user unwatch 4 | handled: unwatch 4 | 4: unwatch 1 | live 0 4
+user unwatch 4 | handled: unwatch 4 | - | live 0 5
+died 4 | none | - | live 0 5
 
-/// Its end is told once, and handled once.
+The end of one that it watches is told once, and handled once.
+actor 1 of 0; children 2 to 3; rules restart error
+create | handled | resume | live 0 0
+user watch 4 | handled: watch 4 | 4: watch 1 | live 0 1
+died 4 | none | 1: terminated 4 | live 0 1
+died 4 | none | - | live 0 1
+terminated 4 | handled | - | live 0 2
+terminated 4 | dropped | - | live 0 2
+
+One that it unwatches before the end is told is nothing to it any more.
+actor 1 of 0; children 2 to 3; rules restart error
+create | handled | resume | live 0 0
+user watch 4 | handled: watch 4 | 4: watch 1 | live 0 1
+died 4 | none | 1: terminated 4 | live 0 1
+user unwatch 4 | handled: unwatch 4 | - | live 0 2
+terminated 4 | dropped | - | live 0 2
+
+An end that it does not handle fails it.
+actor 1 of 0; children 2 to 3; start spawn 2; leaves ends; rules restart error
+create | handled: spawn 2 | resume, 2: create | live 0 0
+user watch 4 | handled: watch 4 | 4: watch 1 | live 0 1
+died 4 | none | 1: terminated 4 | live 0 1
+terminated 4 | unhandled | suspend, 2: suspend, 0: failed 1 death pact | live 1 2
+
+A parent that watches its child is told of its end, and has it no more.
+actor 1 of 0; children 2 to 3; start spawn 2, watch 2; rules restart error
+create | handled: spawn 2, watch 2 | resume, 2: create, 2: watch 1 | live 0 0
+died 2 | none | 1: terminated 2 | live 0 0
+suspend | none | suspend | live 1 0
+resume | none | resume | live 0 0
+terminated 2 | handled | - | live 0 1
+";
+
 #[test]
-fn end_of_a_watched_actor(rt: HostRuntime) -> Result<(), Fail> {
-    let mut stage = actor(rt.alloc(), QUIET, decided(rt.alloc(), Directive::Restart)?)?;
-    stage.play(
-        &rt,
-        &[
-            Step::System(SysMsg::Create, &[Asked::Resume]),
-            Step::Envelope(
-                Body::User { kind: 4, value: 4 },
-                &[Asked::Sys(4, SysMsg::Watch(ActorId(1)))],
-            ),
-            Step::System(
-                SysMsg::Died(ActorId(4)),
-                &[Asked::Tell(1, Body::Terminated(ActorId(4)))],
-            ),
-            Step::System(SysMsg::Died(ActorId(4)), &[]),
-            Step::Envelope(Body::Terminated(ActorId(4)), &[]),
-            Step::Counted(2),
-            Step::Envelope(Body::Terminated(ActorId(4)), &[]),
-            Step::Entry(
-                Arrival::Dropped {
-                    envelope: Envelope {
-                        by: SenderId(64),
-                        number: 0,
-                        to: ActorId(1),
-                        body: Body::Terminated(ActorId(4)),
-                    },
-                },
-                &[],
-            ),
-            Step::Counted(2),
-            Step::Stands(Phase::Live, 0, &[]),
-        ],
-    );
+fn watched(rt: HostRuntime) -> Result<(), Fail> {
+    each_case(&rt, rt.alloc(), WATCHED, 7)?;
     Ok(())
 }
 
 #[test]
-fn unwatch_before_the_end_is_told(rt: HostRuntime) -> Result<(), Fail> {
-    let mut stage = actor(rt.alloc(), QUIET, decided(rt.alloc(), Directive::Restart)?)?;
-    stage.play(
-        &rt,
-        &[
-            Step::System(SysMsg::Create, &[Asked::Resume]),
-            Step::Envelope(
-                Body::User { kind: 4, value: 4 },
-                &[Asked::Sys(4, SysMsg::Watch(ActorId(1)))],
-            ),
-            Step::System(
-                SysMsg::Died(ActorId(4)),
-                &[Asked::Tell(1, Body::Terminated(ActorId(4)))],
-            ),
-            Step::Envelope(Body::User { kind: 5, value: 4 }, &[]),
-            Step::Envelope(Body::Terminated(ActorId(4)), &[]),
-            Step::Counted(2),
-        ],
-    );
-    Ok(())
-}
-
-#[test]
-fn end_that_is_not_handled(rt: HostRuntime) -> Result<(), Fail> {
-    let mut stage = actor(
-        rt.alloc(),
-        Plan {
-            start: [Move::Spawn(2), Move::Rest],
-            heeds: false,
-            ..QUIET
-        },
-        decided(rt.alloc(), Directive::Restart)?,
-    )?;
-    stage.play(
-        &rt,
-        &[
-            Step::System(
-                SysMsg::Create,
-                &[Asked::Resume, Asked::Sys(2, SysMsg::Create)],
-            ),
-            Step::Envelope(
-                Body::User { kind: 4, value: 4 },
-                &[Asked::Sys(4, SysMsg::Watch(ActorId(1)))],
-            ),
-            Step::System(
-                SysMsg::Died(ActorId(4)),
-                &[Asked::Tell(1, Body::Terminated(ActorId(4)))],
-            ),
-            Step::Envelope(
-                Body::Terminated(ActorId(4)),
-                &[
-                    Asked::Suspend,
-                    Asked::Sys(2, SysMsg::Suspend),
-                    Asked::Sys(0, SysMsg::Failed(ActorId(1), Cause::DeathPact)),
-                ],
-            ),
-            Step::Stands(Phase::Live, 1, &[]),
-            Step::Counted(2),
-        ],
-    );
-    Ok(())
-}
-
-#[test]
-fn parent_that_watches_its_child(rt: HostRuntime) -> Result<(), Fail> {
-    let mut stage = actor(
-        rt.alloc(),
-        Plan {
-            start: [Move::Spawn(2), Move::Watch(2)],
-            ..QUIET
-        },
-        decided(rt.alloc(), Directive::Restart)?,
-    )?;
-    stage.play(
-        &rt,
-        &[
-            Step::System(
-                SysMsg::Create,
-                &[
-                    Asked::Resume,
-                    Asked::Sys(2, SysMsg::Create),
-                    Asked::Sys(2, SysMsg::Watch(ActorId(1))),
-                ],
-            ),
-            Step::System(
-                SysMsg::Died(ActorId(2)),
-                &[Asked::Tell(1, Body::Terminated(ActorId(2)))],
-            ),
-            Step::System(SysMsg::Suspend, &[Asked::Suspend]),
-            Step::System(SysMsg::Resume { of_failure: false }, &[Asked::Resume]),
-            Step::Envelope(Body::Terminated(ActorId(2)), &[]),
-            Step::Counted(1),
-        ],
-    );
+fn watching(rt: HostRuntime) -> Result<(), Fail> {
+    each_case(&rt, rt.alloc(), WATCHING, 27)?;
     Ok(())
 }

@@ -83,6 +83,7 @@ use Rattle.mb_gate.specs.View.{
   blank,
   claim_alone,
   without_claim,
+  copied,
   taking_over,
   taking_in,
   given_after,
@@ -138,9 +139,16 @@ use Rattle.mb_gate.specs.Claims.{IsKnownClosed}
 use Rattle.mb_gate.proofs.Numbers.{length_numbered}
 use Rattle.mb_gate.proofs.Views.{drained_nothing}
 use Rattle.mb_gate.proofs.StatusSteps.{reads, is_home, is_held, schedules, writes, idles, idles_closed}
-use Rattle.mb_gate.proofs.WaitingSteps.{sends, unsends, takes_one, counts, looks, sees, glances}
+use Rattle.mb_gate.proofs.WaitingSteps.{sends, unsends, takes_some, counts, looks, sees, glances}
 use Rattle.mb_gate.proofs.ListSteps.{is_shelved, is_lent, grips, enlists, unloads, refuses}
-use Rattle.mb_gate.proofs.Parting.{parts, takes_over}
+use Rattle.mb_gate.proofs.Parting.{parts, takes_over, each_without, no_counts_on, no_counts_off, vouches_without}
+use Rattle.mb_gate.specs.Waiting.{on_by, off_by}
+
+no_more : (m k : ℕ) → k ≡ 0 → m + k ≡ m
+no_more m k is_none = omega arith
+
+none_more : (m : ℕ) → 0 + m ≡ m
+none_more m = omega arith
 
 pub words_few : (w : Word) → word_offset w < 8
 words_few Status = omega arith
@@ -373,29 +381,29 @@ module _ {H : Type 0} (is_of : ℕ → H → Type 0) (journal : H → List Entry
         actor 1) 1 0 none) me 1) x vs f at has of carried own longer count known closed word rest
         (told_idle home (step slots (word_at actor 1) 1 0 none) 1 carried)))
 
-    pub sends_allowed : (g : ℕ → ℕ) (k : ℕ) → i ≡ word_at actor 4 → Allows (Rule n) slots id me i g (Sends (step slots i k 0 none) me)
-    sends_allowed g k e = subst (λ j. Allows (Rule n) slots id me j g (Sends (step slots j k 0 none) me)) (sym e)
+    pub sends_allowed : (g : ℕ → ℕ) (k : ℕ) → ((w : ℕ) → g w % 2 ^ 64 ≡ (w + k) % 2 ^ 64) → i ≡ word_at actor 4 → Allows (Rule n) slots id me i g (Sends (step slots i k 0 none) me)
+    sends_allowed g k more e = subst (λ j. Allows (Rule n) slots id me j g (Sends (step slots j k 0 none) me)) (sym e)
         (allows word_offset slot_offset words_few slots_few n F slots id me actor Waiting g (Sends (step slots (word_at actor 4) k 0 none) me) inside
         (λ x vs f at fits. sends is_of journal mailbox rested given_by closed_to actor id (g (x.row Waiting)) k me (Sends (step slots (word_at actor 4) k 0 none) me
-        (x.row Waiting)) x vs f at
+        (x.row Waiting)) x vs f at (more (x.row Waiting))
         (λ a w z. (sending (same_actor actor a 4 w z) k me.0, me.1))))
 
-    pub unsends_allowed : (g : ℕ → ℕ) (k : ℕ) → i ≡ word_at actor 4 → Allows (Rule n) slots id me i g (Unsends (step slots i k 0 none) me)
-    unsends_allowed g k e = subst (λ j. Allows (Rule n) slots id me j g (Unsends (step slots j k 0 none) me)) (sym e)
+    pub unsends_allowed : (g : ℕ → ℕ) (k : ℕ) → ((w : ℕ) → (g w + k) % 2 ^ 64 ≡ w % 2 ^ 64) → i ≡ word_at actor 4 → Allows (Rule n) slots id me i g (Unsends (step slots i k 0 none) me)
+    unsends_allowed g k less e = subst (λ j. Allows (Rule n) slots id me j g (Unsends (step slots j k 0 none) me)) (sym e)
         (allows word_offset slot_offset words_few slots_few n F slots id me actor Waiting g (Unsends (step slots (word_at actor 4) k 0 none) me)
         inside
         (λ x vs f at fits. unsends is_of journal mailbox rested given_by closed_to actor id (g (x.row Waiting)) k me (Unsends (step slots (word_at actor 4) k 0 none)
-        me (x.row Waiting)) x vs f at
+        me (x.row Waiting)) x vs f at (less (x.row Waiting))
         (λ a w z. (unsending (same_actor actor a 4 w z) k me.0, me.1))))
 
-    pub takes_allowed : (c : Held) (g : ℕ → ℕ) (k : ℕ) → i ≡ word_at actor 4 → me.0.claim ≡ Some c → c.actor ≡ actor → Allows (Rule n) slots id
+    pub takes_allowed : (c : Held) (g : ℕ → ℕ) (k : ℕ) → ((w : ℕ) → (g w + k) % 2 ^ 64 ≡ w % 2 ^ 64) → i ≡ word_at actor 4 → me.0.claim ≡ Some c → c.actor ≡ actor → Allows (Rule n) slots id
         me i g (CountsOff (step slots i k 0 none) me)
-    takes_allowed c g k e has of = subst (λ j. Allows (Rule n) slots id me j g (CountsOff (step slots j k 0 none) me)) (sym e)
+    takes_allowed c g k less e has of = subst (λ j. Allows (Rule n) slots id me j g (CountsOff (step slots j k 0 none) me)) (sym e)
         (allows word_offset slot_offset words_few slots_few n F slots id me actor Waiting g (CountsOff (step slots
         (word_at actor 4) k 0 none) me) inside
-        (λ x vs f at fits. takes_one is_of journal mailbox rested given_by closed_to actor id (g (x.row Waiting)) (Took actor k) me c (CountsOff
+        (λ x vs f at fits. takes_some is_of journal mailbox rested given_by closed_to actor id (g (x.row Waiting)) k me c (CountsOff
         (step slots (word_at actor 4) k 0
-        none) me (x.row Waiting)) x vs (λ a y. tt) f at has of (λ a w z. (counting_off (same_actor actor a 4 w z) k me.0, me.1))))
+        none) me (x.row Waiting)) x vs f at has of (less (x.row Waiting)) (λ a w z. (counting_off (same_actor actor a 4 w z) k me.0, me.1))))
 
     pub counts_allowed : i ≡ word_at actor 4 → Allows (Rule n) slots id me i (λ k. k) (Counts (step slots i 0 0 none) me)
     counts_allowed e = subst (λ j. Allows (Rule n) slots id me j (λ k. k) (Counts (step slots j 0 0 none) me)) (sym e)
@@ -485,7 +493,7 @@ module _ {H : Type 0} (is_of : ℕ → H → Type 0) (journal : H → List Entry
         0 none) me new) inside
         (λ x vs f at fits. unloads is_of journal mailbox rested given_by closed_to actor id new (Drained actor (listed l.listed)) me c l
         (drained l.listed) (is_some_item l.listed.messages) (Drains (step slots (word_at actor 2) new 0 none) me new) x vs f at
-        has of keeps of_list carried word refl (λ e. e) (λ e. inl e) (given_listed l.listed) (λ a z e w. (e (sym w)).1)
+        has of keeps of_list carried word refl (λ e. e) (λ e. inl e) (given_listed l.listed) (λ a. (refl, refl)) (λ a z e w. (e (sym w)).1)
         (λ l' c' has' claim'. (
           (λ z. (
             draining ((sym of_list ∙ ap (λ (h : Lent). h.actor) (some_same l l' (sym keeps
@@ -509,7 +517,7 @@ module _ {H : Type 0} (is_of : ℕ → H → Type 0) (journal : H → List Entry
         journal mailbox rested given_by closed_to actor id x vs me.0 c f at has of).1.gave in
         unloads is_of journal mailbox rested given_by closed_to actor id new (Ended actor (listed l.listed)) me c l (ended l.listed)
         l.gave (Ends (step slots (word_at actor 2) new 0 none) me new) x vs f at
-        has of keeps of_list carried word refl (λ e. refl) (λ e. inr closed) (given_listed l.listed)
+        has of keeps of_list carried word refl (λ e. refl) (λ e. inr closed) (given_listed l.listed) (λ a. (refl, refl))
         (λ a z e w. (ap (λ (m : MessageList). m.closed) (e (sym w)).0, (e (sym w)).1))
         (λ l' c' list' claim'. (
           (λ z. (
@@ -527,7 +535,7 @@ module _ {H : Type 0} (is_of : ℕ → H → Type 0) (journal : H → List Entry
         me) inside
         (λ x vs f at fits. let tell = Glances (step slots (word_at actor 2) 0 0 none) me (x.row Gate) in
         dite (ℕ_discrete (x.row Gate % 8) 0)
-        (λ hit. sees is_of journal mailbox rested given_by closed_to actor id Gate (Drained actor []) me tell x vs (λ a y e. record { before = []; after = all_numbered y.ghost; joined = refl }) f at
+        (λ hit. sees is_of journal mailbox rested given_by closed_to actor id Gate (Drained actor []) me tell x vs (λ a y e. record { before = []; after = all_numbered y.ghost; joined = refl }) (λ a. (refl, refl)) f at
         (λ a c w has of bare. let who : actor ≡ a = same_actor actor a 2 w in
         let gave : c.gave ≡ false = (is_held is_of journal mailbox rested given_by closed_to actor id x vs me.0 c f at has (of ∙ sym who)).1.gave ∙ (gave_by x
         x.ghost.keeper f.shelf hit).1 in
@@ -556,15 +564,18 @@ module _ {H : Type 0} (is_of : ℕ → H → Type 0) (journal : H → List Entry
 
   module _ (n id : ℕ) where
     -- a view is copied for a seat more
-    pub copies_allowed : (v : View) → v.claim ≡ None → v.list ≡ None → Splits (Rule n) id v v v
-    copies_allowed v bare no_list = splits word_offset slot_offset words_few slots_few n F id v v v (parts is_of journal mailbox rested given_by closed_to id v v v
-        refl bare no_list no_list no_list refl refl refl (λ a x k. k))
+    pub copies_allowed : (v : View) → v.claim ≡ None → v.list ≡ None → Splits (Rule n) id v v (copied v)
+    copies_allowed v bare no_list = splits word_offset slot_offset words_few slots_few n F id v v (copied v) (parts is_of journal mailbox rested given_by
+        closed_to id v v (copied v) refl bare no_list no_list no_list refl
+        (λ a. record { on = no_more (on_by a v) _ (no_counts_on a v.log); off = no_more (off_by a v) _ (no_counts_off a v.log) })
+        (λ b. vouches_without b v.log) (λ a x k. k) (λ a x k. record { seen = each_without (IsSo a x) v.log k.seen; said = k.said }))
 
     -- the claim gets a view of its own
     pub claims_allowed : (v : View) → v.list ≡ None → Splits (Rule n) id v (claim_alone v) (without_claim v)
     claims_allowed v no_list = splits word_offset slot_offset words_few slots_few n F id v (claim_alone v) (without_claim v)
-        (parts is_of journal mailbox rested given_by closed_to id v (claim_alone v) (without_claim v) refl refl no_list refl no_list refl refl refl (λ a x k. record
-        { seen = tt; said = tt }))
+        (parts is_of journal mailbox rested given_by closed_to id v (claim_alone v) (without_claim v) refl refl no_list refl no_list refl
+        (λ a. record { on = none_more (on_by a v); off = none_more (off_by a v) }) (λ b p. p) (λ a x k. record { seen = tt; said = tt }) (λ a x k. record
+        { seen = k.seen; said = k.said }))
 
     pub joins_allowed : (v : View) (other : ℕ) (w : View) → w.claim ≡ None → w.list ≡ None → Joins (Rule n) id v other w (taking_over v w) blank
     joins_allowed v other w bare no_list = joins word_offset slot_offset words_few slots_few n F id v other w (taking_over v w) blank (takes_over

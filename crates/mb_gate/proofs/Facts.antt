@@ -2,7 +2,9 @@
 use Rattle.std.proofs.Common.{
   ◌≡◌,
   ℕ,
+  ◌+◌,
   ◌%◌,
+  ◌^◌,
   ◌==◌,
   if◌then◌else◌,
   ◌⊎◌,
@@ -35,6 +37,8 @@ use Rattle.mb_rule.specs.Layout.{Spot, write}
 use Rattle.mb_rule.proofs.LockedLemmas.{stays_locked}
 use Rattle.mb_rule.proofs.OwedLemmas.{still_owed}
 use Rattle.mb_rule.proofs.SeenLemmas.{learns}
+use Rattle.mb_rule.specs.Summed.{total}
+use Rattle.mb_rule.proofs.SummedLemmas.{total_stays}
 use Rattle.mb_gate.specs.declared.slot.Slot.{Slot}
 use Rattle.mb_gate.specs.View.{View, Held, Lent}
 use Rattle.mb_gate.specs.Rule.{
@@ -62,7 +66,8 @@ use Rattle.mb_gate.specs.Rule.{
   Shelving,
   Fact,
 }
-use Rattle.mb_gate.proofs.Views.{Elsewhere}
+use Rattle.mb_gate.specs.Waiting.{on_by, off_by, IsBalance}
+use Rattle.mb_gate.proofs.Views.{SameAccount, Elsewhere}
 
 -- a word that is written as it was leaves the row as it was
 same_word : (row : Word → ℕ) (name w : Word) → write word_offset row name (row name) w ≡ row w
@@ -85,6 +90,12 @@ same_word row Waiting Waiting = refl
 
 pub same_row : (row : Word → ℕ) (name : Word) → write word_offset row name (row name) ≡ row
 same_row row name i w = same_word row name w i
+
+-- the waiting count stays that of all seats where one changes that counted no more
+pub still_balanced : (actor n : ℕ) (vs : List View) (id : ℕ) (v w : View) → get_elem? vs id ≡ some v → SameAccount actor v w → IsBalance actor n
+    vs → IsBalance actor n (set vs id w)
+still_balanced actor n vs id v w at same b = ap (λ k. (n + k) % 2 ^ 64) (total_stays (off_by actor) vs id v w at same.off) ∙ (b ∙ sym (ap (λ k. k
+    % 2 ^ 64) (total_stays (on_by actor) vs id v w at same.on)))
 
 module _ {H : Type 0} (is_of : ℕ → H → Type 0) (journal : H → List Entry) (mailbox : H → Mailbox) (rested : H → Type 0) (given_by : H → ℕ) (closed_to : H → List ℕ) (actor : ℕ) where
   abbrev Place : Type 0
@@ -134,10 +145,10 @@ module _ {H : Type 0} (is_of : ℕ → H → Type 0) (journal : H → List Entry
 
   -- only the view of one seat changes
   pub views_change : (x : Place) (vs : List View) (id : ℕ) (v w : View) → get_elem? vs id ≡ some v → claim_for actor w ≡ claim_for actor v →
-      list_for actor w ≡ list_for actor v
+      list_for actor w ≡ list_for actor v → SameAccount actor v w
       → (MessageDue x → PaysMessage actor v → PaysMessage actor w) → (SystemDue x → PaysSystem actor v → PaysSystem actor w) → (Knows actor x v →
       Knows actor x w) → ((other : ℕ) → Vouches other v → Vouches other w) → Facts x vs → Facts x (set vs id w)
-  views_change x vs id v w at claim list message system knows vouches f = record {
+  views_change x vs id v w at claim list account message system knows vouches f = record {
     valid = f.valid;
     claims = stays_locked (claim_for actor) x.ghost.holder vs id v w at claim f.claims;
     cell = f.cell;
@@ -145,6 +156,7 @@ module _ {H : Type 0} (is_of : ℕ → H → Type 0) (journal : H → List Entry
     shelf = f.shelf;
     ended = f.ended;
     listing = f.listing;
+    balance = still_balanced actor (x.row Waiting) vs id v w at account f.balance;
     vouched = λ other. still_owed (Vouches other) (IsAmong other x.ghost.closed_to) (IsAmong other x.ghost.closed_to) vs id v w at (λ d. d) (λ _.
         vouches other) (f.vouched other);
     message = still_owed (PaysMessage actor) (MessageDue x) (MessageDue x) vs id v w at (λ d. d) message f.message;
@@ -155,7 +167,7 @@ module _ {H : Type 0} (is_of : ℕ → H → Type 0) (journal : H → List Entry
   -- the view of a seat that made a step elsewhere
   pub elsewhere : (x : Place) (vs : List View) (id : ℕ) (v w : View) → get_elem? vs id ≡ some v → Elsewhere H actor v w → Facts x vs → Facts x
       (set vs id w)
-  elsewhere x vs id v w at same = views_change x vs id v w at same.claim same.list
+  elsewhere x vs id v w at same = views_change x vs id v w at same.claim same.list same.account
       (λ _. subst (λ (d : Debt). IsTrue (d.message || d.sending)) (sym same.debt)) (λ _. subst (λ (d : Debt). IsTrue d.system) (sym same.debt))
       (same.knows x) same.vouches
 

@@ -18,10 +18,10 @@ use Rattle.mb_rule.proofs.SeenLemmas.{learns}
 use Rattle.mb_gate.specs.declared.slot.Slot.{Slot}
 use Rattle.mb_gate.specs.declared.slot.Slot.TheVariants.{List as Listing}
 use Rattle.mb_gate.specs.View.{View, Sight, Read, Pushed, Held, Lent, owes, lending, enlisting, refusing, given_after, regiven, unloading}
-use Rattle.mb_gate.specs.Rule.{Word, Gate, word_offset, Shelf, ListShelf, slot_offset, Ghost, is_some_item, gate_word, held_of, lent_of, claim_for, list_for, IsSo, IsAmong, IsPart, Vouches, all_numbered, Knows, MessageDue, SystemDue, PaysMessage, PaysSystem, IsShelved, IsLent, Shelving, Fact}
-use Rattle.mb_gate.proofs.Views.{held_here, held_else, lent_here, lent_else, owes_here, owes_else, extends_self, Grown, grown, goes_on}
+use Rattle.mb_gate.specs.Rule.{Word, Waiting, Gate, word_offset, Shelf, ListShelf, slot_offset, Ghost, is_some_item, gate_word, held_of, lent_of, claim_for, list_for, IsSo, IsAmong, IsPart, Vouches, all_numbered, Knows, MessageDue, SystemDue, PaysMessage, PaysSystem, IsShelved, IsLent, Shelving, Fact}
+use Rattle.mb_gate.proofs.Views.{CountsNothing, counts_no_more, held_here, held_else, lent_here, lent_else, owes_here, owes_else, extends_self, Grown, grown, goes_on}
 use Rattle.mb_gate.proofs.Numbers.{among_more, pushed_so, part_so, length_numbered}
-use Rattle.mb_gate.proofs.Facts.{still_kept, views_change, elsewhere, load_here}
+use Rattle.mb_gate.proofs.Facts.{still_kept, still_balanced, views_change, elsewhere, load_here}
 use Rattle.mb_gate.proofs.StatusSteps.{is_held}
 
 bits : (a b c : Bool) → ((if a then 2 else 0) + (if b then 4 else 0) + (if c then 8 else 0)) % 2 ≡ 0
@@ -98,6 +98,7 @@ module _ {H : Type 0} (is_of : ℕ → H → Type 0) (journal : H → List Entry
           shelf = record { taken = refl; gave = refl; word = ap (λ n. n + 1) (sym is ∙ h.1.word) ∙ sym (gate_out x.ghost.listed x.ghost.gave) };
           ended = f.ended;
           listing = f.listing;
+          balance = still_balanced actor (x.row Waiting) vs id v w at (record { on = refl; off = refl }) f.balance;
           vouched = λ b. still_owed (Vouches b) (IsAmong b x.ghost.closed_to) (IsAmong b x.ghost.closed_to) vs id v w at (λ d. d) (λ _ p. p)
               (f.vouched b);
           message = still_owed (PaysMessage actor) (MessageDue x) (MessageDue y) vs id v w at (λ d. d) (λ _ p. p) f.message;
@@ -110,6 +111,7 @@ module _ {H : Type 0} (is_of : ℕ → H → Type 0) (journal : H → List Entry
               claim = refl;
               list = lent_else a l (λ e. n (sym e)) ∙ sym (ap (lent_of a) bare);
               debt = refl;
+              account = record { on = refl; off = refl };
               vouches = λ b p. p;
               knows = λ _ s. record {
                 seen
@@ -159,6 +161,8 @@ module _ {H : Type 0} (is_of : ℕ → H → Type 0) (journal : H → List Entry
                 MessageList). f.listing.given ++ (z.messages ++ m ∷ [])) (sym h.1.taken));
             counted = ap (λ (z : MessageList). z.given) h.1.taken ∙ f.listing.counted;
           };
+          balance = still_balanced actor (x.row Waiting) vs id v w at (counts_no_more actor (Pushed actor (pushed l.listed) m) v w refl (refl, refl))
+              f.balance;
           vouched = λ b. still_owed (Vouches b) (IsAmong b x.ghost.closed_to) (IsAmong b x.ghost.closed_to) vs id v w at (λ d. d)
               (λ _. among_more (Read b 1) (Pushed actor (pushed l.listed) m) v.log) (f.vouched b);
           message = still_owed (PaysMessage actor) (MessageDue x) (MessageDue y) vs id v w at (λ z. z) (λ _. subst (λ (z : Debt). IsTrue
@@ -185,6 +189,7 @@ module _ {H : Type 0} (is_of : ℕ → H → Type 0) (journal : H → List Entry
               claim = refl;
               list = sym (ap (lent_of a) has ∙ lent_else a l (λ e. k (sym e ∙ of)));
               debt = owes_else actor a d u k;
+              account = counts_no_more a (Pushed actor (pushed l.listed) m) v w refl (refl, refl);
               vouches = λ b. among_more (Read b 1) (Pushed actor (pushed l.listed) m) v.log;
               knows
                   = λ _ t. record { seen = ((λ e. absurd (k (sym e))), t.seen); said = ((λ e. absurd (k (sym e))), t.said) };
@@ -199,10 +204,11 @@ module _ {H : Type 0} (is_of : ℕ → H → Type 0) (journal : H → List Entry
       gate_word false new gave
       → new.messages ≡ [] → (IsTrue l.listed.closed → IsTrue new.closed) → (IsTrue new.closed → IsTrue l.listed.closed ⊎ (c.word ≡ 1))
       → new.given ≡ given_after l.listed.given (listed l.listed)
+      → ((a : ℕ) → CountsNothing a s)
       → ((a : ℕ) (z : Place) → (a ≡ actor → (z.ghost.listed ≡ new) × IsPart (listed l.listed) (all_numbered z.ghost)) → IsSo a z s)
       → tell (unloading s (listed l.listed) gave me.0, tail_of me.1)
       → Goes word_offset slot_offset F actor id me Gate n tell x vs
-  unloads actor id n s me c l new gave tell x vs f at has of keeps of_list carried word empty stays_closed closed counts so told =
+  unloads actor id n s me c l new gave tell x vs f at has of keeps of_list carried word empty stays_closed closed counts uncounted so told =
       let given = listed l.listed in
       let v = me.0 in
       let h = is_held is_of journal mailbox rested given_by closed_to actor id x vs v c f at has of in
@@ -245,6 +251,7 @@ module _ {H : Type 0} (is_of : ℕ → H → Type 0) (journal : H → List Entry
                 let listed_many = ap (λ (z : MessageList). length z.messages) k.1.taken in
                 let before = f.listing.counted in omega arith;
           };
+          balance = still_balanced actor (x.row Waiting) vs id v w at (counts_no_more actor s v w refl (uncounted actor)) f.balance;
           vouched = λ b. still_owed (Vouches b) (IsAmong b x.ghost.closed_to) (IsAmong b x.ghost.closed_to) vs id v w at (λ d. d)
               (λ _. among_more (Read b 1) s v.log) (f.vouched b);
           message = still_owed (PaysMessage actor) (MessageDue x) (MessageDue y) vs id v w at (λ z. z) (λ _ p. p) f.message;
@@ -260,6 +267,7 @@ module _ {H : Type 0} (is_of : ℕ → H → Type 0) (journal : H → List Entry
               c (λ e. i (sym e ∙ of))));
           list = sym (ap (lent_of a) keeps ∙ lent_else a l (λ e. i (sym e ∙ of_list)));
           debt = refl;
+          account = counts_no_more a s v w refl (uncounted a);
           vouches = λ b. among_more (Read b 1) s v.log;
           knows = λ q t. record { seen = (so a q (λ e. absurd (i e)), t.seen); said = t.said };
         }) p;
@@ -276,11 +284,12 @@ module _ {H : Type 0} (is_of : ℕ → H → Type 0) (journal : H → List Entry
     kept = x.ghost;
     able = tt;
     here = load_here is_of journal mailbox rested given_by closed_to actor x (set vs id w) Gate (views_change is_of journal mailbox rested given_by closed_to actor x vs id v w at refl
-        refl (λ _ p. p) (λ _ p. p) (λ k. record { seen = k.seen; said = ((λ _. ((λ _. shut), (λ e. absurd (cc)))), k.said) }) (λ b p. p) f);
+        refl (record { on = refl; off = refl }) (λ _ p. p) (λ _ p. p) (λ k. record { seen = k.seen; said = ((λ _. ((λ _. shut), (λ e. absurd (cc)))), k.said) }) (λ b p. p) f);
     others = λ a n y g. elsewhere is_of journal mailbox rested given_by closed_to a y vs id v w at (record {
       claim = refl;
       list = refl;
       debt = refl;
+      account = record { on = refl; off = refl };
       vouches = λ b p. p;
       knows = λ _ t.
           record { seen = t.seen; said = ((λ e. absurd (n (sym e))), t.said) };

@@ -2,6 +2,9 @@
 use Rattle.std.proofs.Common.{
   ◌≡◌,
   ℕ,
+  ◌+◌,
+  ◌%◌,
+  ◌^◌,
   ◌==◌,
   if◌then◌else◌,
   ◌⊎◌,
@@ -24,10 +27,12 @@ use Rattle.std.proofs.Common.{
   ◌∙◌,
   subst,
   None,
+  arith,
 }
 use mathlib.Core.Option.{some}
 use lib.ListN.{get_elem?}
 use Rattle.mb_status.specs.Mailbox.{Mailbox}
+use Rattle.mb_msg.specs.declared.system.SysMsg.{SysMsg}
 use Rattle.mb_journal.specs.Entry.{Entry}
 use Rattle.mb_core.specs.declared.debt.Debt.{Debt}
 use Rattle.mb_rule.specs.Layout.{Spot}
@@ -35,13 +40,17 @@ use Rattle.mb_rule.specs.Seen.{Each}
 use Rattle.mb_rule.proofs.LockedLemmas.{splits_locked, joins_locked}
 use Rattle.mb_rule.proofs.OwedLemmas.{splits_owed, joins_owed}
 use Rattle.mb_rule.proofs.SeenLemmas.{splits_seen, joins_seen, each_append}
+use Rattle.mb_rule.specs.Summed.{total}
+use Rattle.mb_rule.proofs.SummedLemmas.{total_append, total_splits, total_joins}
 use Rattle.atomic_table.proofs.Lists.{set_else}
 use Rattle.std.proofs.lemmas.Bool.{eqb-true}
 use Rattle.mb_gate.specs.declared.slot.Slot.{Slot}
-use Rattle.mb_gate.proofs.Numbers.{among_left, among_right}
-use Rattle.mb_gate.specs.View.{View, Read, Said, debt_of, owes, blank, either_owes, added_debts, taking_over}
+use Rattle.mb_gate.proofs.Numbers.{among_left, among_right, among_first, among_more}
+use Rattle.mb_gate.specs.View.{View, Sight, Read, Saw, Counted, Looked, Sent, Unsent, Took, Pushed, Drained, Ended, Said, debt_of, owes, blank, either_owes, added_debts, without_counts, taking_over}
+use Rattle.mb_gate.specs.Waiting.{counted_on, counted_off, on_by, off_by, IsBalance}
 use Rattle.mb_gate.specs.Rule.{
   Word,
+  Waiting,
   Shelf,
   Ghost,
   held_of,
@@ -94,6 +103,73 @@ either_system a b h = cases a.system b.system h
     cases false false (inl h) = h
     cases false false (inr h) = h
 
+same_balance : (actor n : ℕ) (vs ws : List View) → total (on_by actor) ws ≡ total (on_by actor) vs → total (off_by actor) ws ≡ total (off_by actor)
+    vs → IsBalance actor n vs → IsBalance actor n ws
+same_balance actor n vs ws on off b = ap (λ k. (n + k) % 2 ^ 64) off ∙ (b ∙ sym (ap (λ k. k % 2 ^ 64) on))
+
+both_logs : (f : Sight → ℕ) (a b : List Sight) → total f (a ++ b) + 0 ≡ total f b + total f a
+both_logs f a b = let e = total_append f a b in omega arith
+
+-- what one counted of this actor two have counted
+pub record SharesAccount (actor : ℕ) (v left right : View) : Type 0 where
+  pub on : on_by actor left + on_by actor right ≡ on_by actor v
+  pub off : off_by actor left + off_by actor right ≡ off_by actor v
+
+-- what holds of each sight holds of those that are not counts
+pub each_without : (P : Sight → Type 0) (log : List Sight) → Each P log → Each P (without_counts log)
+each_without P [] h = tt
+each_without P (Read a w ∷ log) h = (h.0, each_without P log h.1)
+each_without P (Saw a j ∷ log) h = (h.0, each_without P log h.1)
+each_without P (Counted a n ∷ log) h = (h.0, each_without P log h.1)
+each_without P (Looked a b ∷ log) h = (h.0, each_without P log h.1)
+each_without P (Sent a n ∷ log) h = each_without P log h.1
+each_without P (Unsent a n ∷ log) h = each_without P log h.1
+each_without P (Took a n ∷ log) h = each_without P log h.1
+each_without P (Pushed a n m ∷ log) h = (h.0, each_without P log h.1)
+each_without P (Drained a given ∷ log) h = (h.0, each_without P log h.1)
+each_without P (Ended a given ∷ log) h = (h.0, each_without P log h.1)
+
+-- and nothing is counted by those
+nothing_left : (f : Sight → ℕ) (log : List Sight) → ((a w : ℕ) → f (Read a w) ≡ 0) → ((a : ℕ) (j : List Entry) → f (Saw a j) ≡ 0) → ((a n : ℕ) → f
+    (Counted a n) ≡ 0) → ((a : ℕ) (b : Bool) → f (Looked a b) ≡ 0) → ((a n : ℕ) (m : SysMsg) → f (Pushed a n m) ≡ 0) → ((a : ℕ) (l : List (ℕ ×
+    SysMsg)) → f (Drained a l) ≡ 0) → ((a : ℕ) (l : List (ℕ × SysMsg)) → f (Ended a l) ≡ 0) → total f (without_counts log) ≡ 0
+nothing_left f [] r s c l p d e = refl
+nothing_left f (Read a w ∷ log) r s c l p d e = let z = r a w in let rest = nothing_left f log r s c l p d e in omega arith
+nothing_left f (Saw a j ∷ log) r s c l p d e = let z = s a j in let rest = nothing_left f log r s c l p d e in omega arith
+nothing_left f (Counted a n ∷ log) r s c l p d e = let z = c a n in let rest = nothing_left f log r s c l p d e in omega arith
+nothing_left f (Looked a b ∷ log) r s c l p d e = let z = l a b in let rest = nothing_left f log r s c l p d e in omega arith
+nothing_left f (Sent a n ∷ log) r s c l p d e = nothing_left f log r s c l p d e
+nothing_left f (Unsent a n ∷ log) r s c l p d e = nothing_left f log r s c l p d e
+nothing_left f (Took a n ∷ log) r s c l p d e = nothing_left f log r s c l p d e
+nothing_left f (Pushed a n m ∷ log) r s c l p d e = let z = p a n m in let rest = nothing_left f log r s c l p d e in omega arith
+nothing_left f (Drained a g ∷ log) r s c l p d e = let z = d a g in let rest = nothing_left f log r s c l p d e in omega arith
+nothing_left f (Ended a g ∷ log) r s c l p d e = let z = e a g in let rest = nothing_left f log r s c l p d e in omega arith
+
+pub no_counts_on : (actor : ℕ) (log : List Sight) → total (counted_on actor) (without_counts log) ≡ 0
+no_counts_on actor log = nothing_left (counted_on actor) log (λ a w. refl) (λ a j. refl) (λ a n. refl) (λ a b. refl) (λ a n m. refl) (λ a l. refl)
+    (λ a l. refl)
+
+pub no_counts_off : (actor : ℕ) (log : List Sight) → total (counted_off actor) (without_counts log) ≡ 0
+no_counts_off actor log = nothing_left (counted_off actor) log (λ a w. refl) (λ a j. refl) (λ a n. refl) (λ a b. refl) (λ a n m. refl) (λ a l.
+    refl) (λ a l. refl)
+
+-- who was seen closed is so still
+pub vouches_without : (b : ℕ) (log : List Sight) → IsAmong (Read b 1) log → IsAmong (Read b 1) (without_counts log)
+vouches_without b log is = subst (λ l. IsAmong (Read b 1) (without_counts l)) (sym is.joined) (from is.before)
+  where
+    from : (before : List Sight) → IsAmong (Read b 1) (without_counts (before ++ Read b 1 ∷ is.after))
+    from [] = among_first (Read b 1) (without_counts is.after)
+    from (Read a w ∷ log) = among_more (Read b 1) (Read a w) _ (from log)
+    from (Saw a j ∷ log) = among_more (Read b 1) (Saw a j) _ (from log)
+    from (Counted a n ∷ log) = among_more (Read b 1) (Counted a n) _ (from log)
+    from (Looked a g ∷ log) = among_more (Read b 1) (Looked a g) _ (from log)
+    from (Sent a n ∷ log) = from log
+    from (Unsent a n ∷ log) = from log
+    from (Took a n ∷ log) = from log
+    from (Pushed a n m ∷ log) = among_more (Read b 1) (Pushed a n m) _ (from log)
+    from (Drained a given ∷ log) = among_more (Read b 1) (Drained a given) _ (from log)
+    from (Ended a given ∷ log) = among_more (Read b 1) (Ended a given) _ (from log)
+
 module _ {H : Type 0} (is_of : ℕ → H → Type 0) (journal : H → List Entry) (mailbox : H → Mailbox) (rested : H → Type 0) (given_by : H → ℕ) (closed_to : H → List ℕ) where
   abbrev F : ℕ → Spot Word Shelf (Slot H) Ghost → List View → Type 0
   F = Fact is_of journal mailbox rested given_by closed_to
@@ -103,10 +179,10 @@ module _ {H : Type 0} (is_of : ℕ → H → Type 0) (journal : H → List Entry
 
   -- a view is cut in two: the first keeps the claim, no list is out, and what was owed and seen is the second's
   pub parts : (id : ℕ) (v left right : View) → left.claim ≡ v.claim → right.claim ≡ None → v.list ≡ None → left.list ≡ None → right.list ≡ None →
-      right.debts ≡ v.debts → right.log ≡ v.log → right.said ≡ v.said
-      → ((actor : ℕ) (x : Place) → Knows actor x v → Knows actor x left)
+      right.debts ≡ v.debts → ((actor : ℕ) → SharesAccount actor v left right) → ((b : ℕ) → Vouches b v → Vouches b right)
+      → ((actor : ℕ) (x : Place) → Knows actor x v → Knows actor x left) → ((actor : ℕ) (x : Place) → Knows actor x v → Knows actor x right)
       → (actor : ℕ) (x : Place) (vs : List View) → get_elem? vs id ≡ some v → F actor x vs → F actor x (set vs id left ++ right ∷ [])
-  parts id v left right claim no_claim list no_list no_list_2 debts log said knows actor x vs at f = record {
+  parts id v left right claim no_claim list no_list no_list_2 debts account vouches knows knows_too actor x vs at f = record {
     valid = f.valid;
     claims = splits_locked (claim_for actor) x.ghost.holder vs id v left right at (ap (held_of actor) claim) (ap (held_of actor) no_claim) f.claims;
     cell = f.cell;
@@ -115,18 +191,14 @@ module _ {H : Type 0} (is_of : ℕ → H → Type 0) (journal : H → List Entry
     shelf = f.shelf;
     ended = f.ended;
     listing = f.listing;
-    vouched = λ b. splits_owed (Vouches b) (IsAmong b x.ghost.closed_to) vs id v left right at (λ p. inr (subst (λ l. IsAmong (Read b 1) l) (sym log)
-        p)) (f.vouched b);
+    balance = same_balance actor (x.row Waiting) vs (set vs id left ++ right ∷ []) (total_splits (on_by actor) vs id v left right at (account
+        actor).on) (total_splits (off_by actor) vs id v left right at (account actor).off) f.balance;
+    vouched = λ b. splits_owed (Vouches b) (IsAmong b x.ghost.closed_to) vs id v left right at (λ p. inr (vouches b p)) (f.vouched b);
     message = splits_owed (PaysMessage actor) (MessageDue x) vs id v left right at (λ p. inr (subst (λ ds. IsTrue ((debt_of actor ds).message ||
         (debt_of actor ds).sending)) (sym debts) p)) f.message;
     system = splits_owed (PaysSystem actor) (SystemDue x) vs id v left right at (λ p. inr (subst (λ ds. IsTrue (debt_of actor ds).system) (sym
         debts) p)) f.system;
-    seen = splits_seen (Knows actor x) vs id left right (knows actor x (f.seen id v at))
-        (record {
-          seen = subst (Each (IsSo actor x)) (sym log) (f.seen id v at).seen;
-          said = subst (Each (IsTold actor x)) (sym said) (f.seen id
-              v at).said;
-        }) f.seen;
+    seen = splits_seen (Knows actor x) vs id left right (knows actor x (f.seen id v at)) (knows_too actor x (f.seen id v at)) f.seen;
   }
 
   -- a seat takes over the view of one that has no claim and no list, and what one of the two said
@@ -143,6 +215,9 @@ module _ {H : Type 0} (is_of : ℕ → H → Type 0) (journal : H → List Entry
         shelf = f.shelf;
         ended = f.ended;
         listing = f.listing;
+        balance = same_balance actor (x.row Waiting) vs (set (set vs id both) other blank)
+            (total_joins (on_by actor) vs id other v w both blank at there (both_logs (counted_on actor) w.log v.log))
+            (total_joins (off_by actor) vs id other v w both blank at there (both_logs (counted_off actor) w.log v.log)) f.balance;
         vouched = λ b. joins_owed (Vouches b) (IsAmong b x.ghost.closed_to) vs id other v w both blank at apart there
             (λ p. among_right (Read b 1) w.log v.log p) (λ p. among_left (Read b 1) w.log v.log p) (f.vouched b);
         message = joins_owed (PaysMessage actor) (MessageDue x) vs id other v w both blank at apart there

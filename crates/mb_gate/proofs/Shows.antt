@@ -57,7 +57,7 @@ use Rattle.mb_gate.specs.declared.slot.Slot.{Slot}
 use Rattle.mb_gate.specs.View.{View, Read, Held, owes}
 use Rattle.mb_gate.specs.Rule.{Word, Status, word_offset, Shelf, slot_offset, Ghost, is_some_item, has_work, claim_for, IsSo, Keeping}
 use Rattle.mb_gate.proofs.Numbers.{each_among}
-use Rattle.mb_gate.specs.Shown.{ShowsClosed, holder_of, ShowsMachine}
+use Rattle.mb_gate.specs.Shown.{ShowsClosed, ShowsBalance, holder_of, ShowsMachine}
 
 valid_possible : (w : ℕ) → IsTrue (is_valid w) → IsTrue (is_possible (mailbox_of w))
 valid_possible w v = grind (arith, nat_tests)
@@ -161,3 +161,6 @@ module _ {H : Type 0} (is_of : ℕ → H → Type 0) (journal : H → List Entry
       let p = (r.each actor inside).vouched other is in
       let k = (r.each other there).seen p.seat p.view p.there in
       each_among (IsSo other (spot_of word_offset slot_offset s r.ghosts other)) (Read other 1) p.view.log k.seen p.pays refl refl
+
+  pub shows_balance : ShowsBalance is_of journal mailbox rested given_by closed_to
+  shows_balance n s r actor inside = (r.each actor inside).balance

@@ -7,6 +7,7 @@ use Rattle.std.proofs.Common.{
   ◌+◌,
   ◌*◌,
   ◌%◌,
+  ◌^◌,
   ◌<◌,
   if◌then◌else◌,
   inl,
@@ -42,7 +43,9 @@ use Rattle.mb_rule.specs.Ruled.{Ruled}
 use Rattle.mb_rule.specs.Locked.{ticket_at}
 use Rattle.mb_gate.specs.declared.slot.Slot.{Slot}
 use Rattle.mb_gate.specs.declared.slot.Slot.TheVariants.{Home, List as Listing}
+use Rattle.mb_rule.specs.Summed.{total}
 use Rattle.mb_gate.specs.View.{View, blank}
+use Rattle.mb_gate.specs.Waiting.{off_by}
 use Rattle.mb_gate.specs.Rule.{word_offset, slot_offset, Ghost, IsAmong, Knows, claim_for, list_for, Fact}
 use Rattle.mb_gate.specs.Starts.{no_messages, rows_of, row_of, shelves_of, IsFresh}
 use Rattle.mb_gate.proofs.Rows.{length-rows_of, length-shelves_of}
@@ -150,6 +153,7 @@ module _ {H : Type 0} (is_of : ℕ → H → Type 0) (journal : H → List Entry
           shelf = record { there = b.1.list; word = b.1.gate };
           ended = λ e. absurd (cc);
           listing = record { given = []; joined = refl; counted = refl };
+          balance = ap (λ k. (k + total (off_by a) (blank ∷ [])) % 2 ^ 64) b.1.waiting;
           vouched = λ other is. absurd (none_among other is);
           message = λ due. absurd (let w = b.1.waiting in let d = due.1 in omega arith);
           system = λ due. absurd (let d = due.1 in cc);

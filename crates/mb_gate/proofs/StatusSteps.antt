@@ -51,6 +51,7 @@ use Rattle.mb_gate.specs.declared.slot.Slot.TheVariants.{Home}
 use Rattle.mb_gate.specs.View.{View, Read, Saw, rewritten, Held, owes, reading, taking, writing, idling}
 use Rattle.mb_gate.specs.Rule.{
   Word,
+  Waiting,
   Status,
   Flag,
   word_offset,
@@ -75,6 +76,7 @@ use Rattle.mb_gate.specs.Rule.{
   Fact,
 }
 use Rattle.mb_gate.proofs.Views.{
+  counts_no_more,
   held_here,
   owes_here,
   extends_self,
@@ -87,7 +89,7 @@ use Rattle.mb_gate.proofs.Views.{
 }
 use Rattle.mb_gate.specs.Claims.{IsKnownClosed}
 use Rattle.mb_gate.proofs.Numbers.{among_more, each_among}
-use Rattle.mb_gate.proofs.Facts.{still_shelved, views_change, elsewhere, load_here}
+use Rattle.mb_gate.proofs.Facts.{still_shelved, still_balanced, views_change, elsewhere, load_here}
 use Rattle.mb_gate.proofs.Words.{scheduled_valid, reading_pays_message, reading_pays_system}
 
 module _ {H : Type 0} (is_of : ℕ → H → Type 0) (journal : H → List Entry) (mailbox : H → Mailbox) (rested : H → Type 0) (given_by : H → ℕ) (closed_to : H → List ℕ) where
@@ -111,6 +113,7 @@ module _ {H : Type 0} (is_of : ℕ → H → Type 0) (journal : H → List Entry
     able = tt;
     here = load_here is_of journal mailbox rested given_by closed_to actor x (set vs id (reading actor r v)) Status
         (views_change is_of journal mailbox rested given_by closed_to actor x vs id v (reading actor r v) at refl refl
+        (counts_no_more actor (Read actor r) v (reading actor r v) refl (refl, refl))
         (λ due owed. subst (λ (d : Debt). IsTrue (d.message || d.sending)) (sym (owes_here actor (after_reading (mailbox_of r) (owes actor v))
         v)) (reading_pays_message r (owes actor v) due.0 owed))
         (λ due owed. subst (λ (d : Debt). IsTrue d.system) (sym (owes_here actor (after_reading (mailbox_of r) (owes actor v)) v))
@@ -181,6 +184,7 @@ module _ {H : Type 0} (is_of : ℕ → H → Type 0) (journal : H → List Entry
           shelf = still_shelved is_of journal mailbox rested given_by closed_to actor x y refl refl refl refl x.ghost.keeper f.shelf;
           ended = λ e. absurd (let one = f.ended e in omega arith);
           listing = f.listing;
+          balance = still_balanced actor (x.row Waiting) vs id v w at (record { on = refl; off = refl }) f.balance;
           vouched = λ b. still_owed (Vouches b) (IsAmong b x.ghost.closed_to) (IsAmong b x.ghost.closed_to) vs id v w at (λ d. d) (λ _ p. p) (f.vouched b);
           message = λ due. absurd (let z = due.0 in omega arith);
           system = λ due. absurd (let z = due.0 in omega arith);
@@ -218,6 +222,7 @@ module _ {H : Type 0} (is_of : ℕ → H → Type 0) (journal : H → List Entry
           shelf = still_shelved is_of journal mailbox rested given_by closed_to actor x y refl refl refl refl x.ghost.keeper f.shelf;
           ended = λ e. shut (f.ended e);
           listing = f.listing;
+          balance = still_balanced actor (x.row Waiting) vs id v w at (record { on = refl; off = refl }) f.balance;
           vouched = λ b. still_owed (Vouches b) (IsAmong b x.ghost.closed_to) (IsAmong b x.ghost.closed_to) vs id v w at (λ d. d) (λ _ p. p) (f.vouched b);
           message = λ due. absurd (let z : new ≡ 0 = due.0 in ⊎_elim (λ b. omega arith) (λ b. omega arith) busy);
           system = λ due. absurd (let z : new % 4 ≡ 0 = due.0 in ⊎_elim (λ b. omega arith) (λ b. omega arith) busy);
@@ -281,6 +286,7 @@ module _ {H : Type 0} (is_of : ℕ → H → Type 0) (journal : H → List Entry
           shelf = still_shelved is_of journal mailbox rested given_by closed_to actor x y refl refl refl refl x.ghost.keeper f.shelf;
           ended = λ e. shut (f.ended e);
           listing = f.listing;
+          balance = still_balanced actor (x.row Waiting) vs id v w at (counts_no_more actor (Saw actor j) v w refl (refl, refl)) f.balance;
           vouched = vouches_home actor j v c x.ghost.closed_to (closed_to home) vs id at h.1.shut known f.vouched;
           message = pays (PaysMessage actor) (MessageDue y) vs id v w at (subst (λ (d : Debt). IsTrue (d.message || d.sending)) (sym (owes_here
               actor debt (record v { log = Saw actor j ∷ v.log; claim = None }))) refl);
@@ -340,6 +346,7 @@ module _ {H : Type 0} (is_of : ℕ → H → Type 0) (journal : H → List Entry
           shelf = still_shelved is_of journal mailbox rested given_by closed_to actor x y refl refl refl refl x.ghost.keeper f.shelf;
           ended = f.ended;
           listing = f.listing;
+          balance = still_balanced actor (x.row Waiting) vs id v w at (counts_no_more actor (Saw actor j) v w refl (refl, refl)) f.balance;
           vouched = vouches_home actor j v c x.ghost.closed_to (closed_to home) vs id at h.1.shut known f.vouched;
           message = pays (PaysMessage actor) (MessageDue y) vs id v w at (subst (λ (d : Debt). IsTrue (d.message || d.sending)) (sym (owes_here
               actor debt (record v { log = Saw actor j ∷ v.log; claim = None }))) refl);

@@ -31,6 +31,7 @@ use Rattle.std.proofs.Common.{
   append_assoc,
   append-nil,
 }
+use Rattle.mb_rule.specs.Summed.{total}
 use Rattle.mb_journal.specs.Entry.{Entry}
 use Rattle.mb_core.specs.declared.debt.Debt.{Debt}
 use Rattle.mb_core.specs.Actor.{nothing}
@@ -71,6 +72,7 @@ use Rattle.mb_gate.specs.View.{
   regiven,
   draining,
 }
+use Rattle.mb_gate.specs.Waiting.{counted_on, counted_off, on_by, off_by}
 use Rattle.mb_gate.specs.Rule.{Word, Shelf, Ghost, Status, held_of, lent_of, claim_for, list_for, Extends, IsPart, Vouches, IsSo, IsAmong, IsTold, all_numbered, Knows}
 
 pub held_here : (actor : ℕ) (c : Held) → c.actor ≡ actor → held_of actor (Some c) ≡ Some c
@@ -113,12 +115,31 @@ drained_nothing actor c v has no_list gave small i = record v { log = Drained ac
     same : v.claim ≡ regiven [] false v.claim
     same = has ∙ ((λ k. Some (record c { gave = gave k; given = fits k; drained = sym (append-nil c.drained) k })) ∙ sym (ap (regiven [] false) has))
 
+-- w counted of this actor what v did
+pub record SameAccount (actor : ℕ) (v w : View) : Type 0 where
+  pub on : on_by actor w ≡ on_by actor v
+  pub off : off_by actor w ≡ off_by actor v
+
+-- the sight counts nothing of this actor
+abbrev pub CountsNothing : ℕ → Sight → Type 0
+CountsNothing actor s = (counted_on actor s ≡ 0) × (counted_off actor s ≡ 0)
+
+none_more : (m n : ℕ) → m ≡ 0 → m + n ≡ n
+none_more m n none = omega arith
+
+pub counts_no_more : (actor : ℕ) (s : Sight) (v w : View) → w.log ≡ s ∷ v.log → CountsNothing actor s → SameAccount actor v w
+counts_no_more actor s v w is none = record {
+  on = ap (total (counted_on actor)) is ∙ none_more (counted_on actor s) (on_by actor v) none.0;
+  off = ap (total (counted_off actor)) is ∙ none_more (counted_off actor s) (off_by actor v) none.1;
+}
+
 -- Towards this actor, w is as v: of its cell, its list and what is owed; what it has seen is so where what v has seen is; and it has seen
 -- closed whom v has.
 pub record Elsewhere (H : Type 0) (actor : ℕ) (v w : View) : Type 0 where
   pub claim : claim_for actor w ≡ claim_for actor v
   pub list : list_for actor w ≡ list_for actor v
   pub debt : owes actor w ≡ owes actor v
+  pub account : SameAccount actor v w
   pub vouches : (other : ℕ) → Vouches other v → Vouches other w
   pub knows : (x : Spot Word Shelf (Slot H) Ghost) → Knows actor x v → Knows actor x w
 
@@ -127,11 +148,12 @@ abbrev pub IsQuiet : Type 0 → Sight → Type 0
 IsQuiet H s = (a : ℕ) (x : Spot Word Shelf (Slot H) Ghost) → IsSo a x s
 
 module _ {H : Type 0} where
-  pub seeing_elsewhere : (other : ℕ) (s : Sight) (v : View) → IsQuiet H s → Elsewhere H other v (seeing s v)
-  seeing_elsewhere other s v so = record {
+  pub seeing_elsewhere : (other : ℕ) (s : Sight) (v : View) → IsQuiet H s → CountsNothing other s → Elsewhere H other v (seeing s v)
+  seeing_elsewhere other s v so none = record {
     claim = refl;
     list = refl;
     debt = refl;
+    account = counts_no_more other s v (seeing s v) refl none;
     vouches = λ a. among_more (Read a 1) s v.log;
     knows = λ x k. record {
       seen = (so other x, k.seen);
@@ -140,12 +162,13 @@ module _ {H : Type 0} where
     };
   }
 
-  pub owing_elsewhere : (actor other : ℕ) (d : Debt) (s : Sight) (v : View) → other ≢ actor → IsQuiet H s → Elsewhere H other v (owing actor d
-      (seeing s v))
-  owing_elsewhere actor other d s v n so = record {
+  pub owing_elsewhere : (actor other : ℕ) (d : Debt) (s : Sight) (v : View) → other ≢ actor → IsQuiet H s → CountsNothing other s → Elsewhere H
+      other v (owing actor d (seeing s v))
+  owing_elsewhere actor other d s v n so none = record {
     claim = refl;
     list = refl;
     debt = owes_else actor other d v n;
+    account = counts_no_more other s v (owing actor d (seeing s v)) refl none;
     vouches = λ a. among_more (Read a 1) s v.log;
     knows = λ x k. record {
       seen =
@@ -159,6 +182,7 @@ module _ {H : Type 0} where
     claim = refl;
     list = refl;
     debt = owes_else actor other (after_reading (mailbox_of word) (owes actor v)) v n;
+    account = counts_no_more other (Read actor word) v (reading actor word v) refl (refl, refl);
     vouches = λ a. among_more (Read a 1) (Read actor word) v.log;
     knows = λ x k. record { seen = ((λ e _. absurd (n (sym e))), k.seen); said = k.said };
   }
@@ -170,6 +194,7 @@ module _ {H : Type 0} where
         (held_of other) bare);
     list = refl;
     debt = owes_else actor other nothing v n;
+    account = record { on = refl; off = refl };
     vouches = λ a k. k;
     knows = λ x k. record { seen = k.seen; said = k.said };
   }
@@ -181,6 +206,7 @@ module _ {H : Type 0} where
         other) has ∙ held_else other c (λ e. n (sym e ∙ of))));
     list = refl;
     debt = refl;
+    account = record { on = refl; off = refl };
     vouches = λ a k. k;
     knows = λ x k. record { seen = k.seen; said = k.said };
   }
@@ -191,6 +217,7 @@ module _ {H : Type 0} where
     claim = sym (ap (held_of other) has ∙ held_else other c (λ e. n (sym e ∙ of)));
     list = refl;
     debt = owes_else actor other (record (owes actor v) { system = true; message = true }) v n;
+    account = counts_no_more other (Saw actor j) v (idling actor j v) refl (refl, refl);
     vouches = λ a. among_more (Read a 1) (Saw actor j) v.log;
     knows = λ x k. record { seen = ((λ e. absurd (n (sym e))), k.seen); said = k.said };
   }

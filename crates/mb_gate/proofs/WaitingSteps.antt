@@ -1,5 +1,5 @@
 -- The steps on an actor's waiting count, and a look at its list's gate, keep the rule.
-use Rattle.std.proofs.Common.{◌≡◌, ℕ, ◌==◌, if◌then◌else◌, ⊎_elim, Bool, true, false, ◌||◌, IsTrue, List, set, sym, refl, subst, Some, arith}
+use Rattle.std.proofs.Common.{◌≡◌, ◌≢◌, ℕ, ◌+◌, ◌%◌, ◌^◌, ◌==◌, if◌then◌else◌, ⊎_elim, Bool, true, false, ◌||◌, IsTrue, List, ◌∷◌, set, sym, refl, ap, ◌∙◌, subst, Some, eq-eqb, ne_eqb, arith}
 use mathlib.Core.Option.{some}
 use lib.ListN.{get_elem?}
 use Rattle.mb_status.specs.Mailbox.{Mailbox}
@@ -11,8 +11,11 @@ use Rattle.mb_rule.specs.Ruled.{Goes, stays}
 use Rattle.mb_rule.proofs.LockedLemmas.{stays_locked}
 use Rattle.mb_rule.proofs.OwedLemmas.{pays, still_owed}
 use Rattle.mb_rule.proofs.SeenLemmas.{learns}
+use Rattle.mb_rule.specs.Summed.{total}
+use Rattle.mb_rule.proofs.SummedLemmas.{total_set}
 use Rattle.mb_gate.specs.declared.slot.Slot.{Slot}
-use Rattle.mb_gate.specs.View.{View, Sight, Read, Counted, Looked, Sent, Unsent, Held, owes, owing, seeing, sending, unsending, counting, looking}
+use Rattle.mb_gate.specs.View.{View, Sight, Read, Counted, Looked, Sent, Unsent, Took, Held, owes, owing, seeing, sending, unsending, counting_off, counting, looking}
+use Rattle.mb_gate.specs.Waiting.{counted_on, counted_off, on_by, off_by, IsBalance}
 use Rattle.mb_gate.specs.Rule.{
   Word,
   Gate,
@@ -33,11 +36,46 @@ use Rattle.mb_gate.specs.Rule.{
   has_work,
   Fact,
 }
-use Rattle.mb_gate.proofs.Views.{owes_here, extends_self, IsQuiet, seeing_elsewhere, owing_elsewhere, grown, goes_on}
+use Rattle.mb_gate.proofs.Views.{owes_here, extends_self, IsQuiet, CountsNothing, counts_no_more, seeing_elsewhere, owing_elsewhere, grown, goes_on}
 use Rattle.mb_gate.proofs.Numbers.{among_more}
-use Rattle.mb_gate.proofs.Facts.{still_kept, still_shelved, views_change, elsewhere, load_here}
+use Rattle.mb_gate.proofs.Facts.{still_kept, still_shelved, still_balanced, views_change, elsewhere, load_here}
 use Rattle.mb_gate.proofs.StatusSteps.{is_held}
 use Rattle.std.proofs.lemmas.Bool.{eqb-true}
+
+-- so many more are waiting, and one seat counted so many on
+adds : (n w k on on' off off' a a' b b' : ℕ) → on' + a ≡ on + a' → off' + b ≡ off + b' → a' ≡ k + a → b' ≡ b → n % 2 ^ 64 ≡ (w + k) % 2 ^ 64 →
+    (w + off) % 2 ^ 64 ≡ on % 2 ^ 64 → (n + off') % 2 ^ 64 ≡ on' % 2 ^ 64
+adds n w k on on' off off' a a' b b' e f g h more was = omega arith
+
+-- so many less, and it counted so many off
+takes : (n w k on on' off off' a a' b b' : ℕ) → on' + a ≡ on + a' → off' + b ≡ off + b' → a' ≡ a → b' ≡ k + b → (n + k) % 2 ^ 64 ≡ w % 2 ^ 64 →
+    (w + off) % 2 ^ 64 ≡ on % 2 ^ 64 → (n + off') % 2 ^ 64 ≡ on' % 2 ^ 64
+takes n w k on on' off off' a a' b b' e f g h less was = omega arith
+
+if_here : (actor k m : ℕ) → (if actor == actor then k else 0) + m ≡ k + m
+if_here actor k m = ap (λ (b : Bool). (if b then k else 0) + m) (eq-eqb actor actor refl)
+
+if_else : (actor other k : ℕ) → other ≢ actor → (if actor == other then k else 0) ≡ 0
+if_else actor other k n = ap (λ (b : Bool). if b then k else 0) (ne_eqb actor other (λ e. n (sym e)))
+
+none_more : (m : ℕ) → 0 + m ≡ m
+none_more m = omega arith
+
+module _ (actor k : ℕ) (vs : List View) (id : ℕ) (v w : View) (at : get_elem? vs id ≡ some v) (before after : ℕ) (was : IsBalance actor before vs) where
+  -- one seat counted so many on
+  balances_more : w.log ≡ Sent actor k ∷ v.log → after % 2 ^ 64 ≡ (before + k) % 2 ^ 64 → IsBalance actor after (set vs id w)
+  balances_more is more = adds after before k (total (on_by actor) vs) (total (on_by actor) (set vs id w)) (total (off_by actor) vs) (total (off_by
+      actor) (set vs id w)) (on_by actor v) (on_by actor w) (off_by actor v) (off_by actor w) (total_set (on_by actor) vs id v w at)
+      (total_set (off_by actor) vs id v w at) (ap (total (counted_on actor)) is ∙ if_here actor k (on_by actor v))
+      (ap (total (counted_off actor)) is ∙ none_more (off_by actor v)) more was
+
+  -- or off
+  balances_less : (s : Sight) → w.log ≡ s ∷ v.log → counted_on actor s ≡ 0 → counted_off actor s ≡ (if actor == actor then k else 0) → (after + k)
+      % 2 ^ 64 ≡ before % 2 ^ 64 → IsBalance actor after (set vs id w)
+  balances_less s is none some_off less = takes after before k (total (on_by actor) vs) (total (on_by actor) (set vs id w)) (total (off_by actor)
+      vs) (total (off_by actor) (set vs id w)) (on_by actor v) (on_by actor w) (off_by actor v) (off_by actor w) (total_set (on_by actor) vs id v w
+      at) (total_set (off_by actor) vs id v w at) (ap (total (counted_on actor)) is ∙ (ap (λ n. n + on_by actor v) none ∙ none_more (on_by actor
+      v))) (ap (total (counted_off actor)) is ∙ (ap (λ n. n + off_by actor v) some_off ∙ if_here actor k (off_by actor v))) less was
 
 module _ {H : Type 0} (is_of : ℕ → H → Type 0) (journal : H → List Entry) (mailbox : H → Mailbox) (rested : H → Type 0) (given_by : H → ℕ) (closed_to : H → List ℕ) where
   abbrev F : ℕ → Spot Word Shelf (Slot H) Ghost → List View → Type 0
@@ -50,14 +88,11 @@ module _ {H : Type 0} (is_of : ℕ → H → Type 0) (journal : H → List Entry
   Place = Spot Word Shelf (Slot H) Ghost
 
   -- the waiting number changes, and the seat owes a wake-up where one is due
-  recounts : (actor id n : ℕ) (d : Debt) (s : Sight) (me : M) (tell : M → Type 0) (x : Place) (vs : List View) → IsQuiet H s → F actor x vs
-      → get_elem? vs id ≡ some me.0 → IsTrue (d.message || d.sending) → d.system ≡ (owes actor me.0).system → tell (
-        owing actor d (seeing s
-            me.0),
-        me.1,
-      ) → Goes word_offset slot_offset F
+  recounts : (actor id n : ℕ) (d : Debt) (s : Sight) (me : M) (tell : M → Type 0) (x : Place) (vs : List View) → IsQuiet H s → ((a : ℕ) → a ≢ actor →
+      CountsNothing a s) → F actor x vs → get_elem? vs id ≡ some me.0 → IsBalance actor n (set vs id (owing actor d (seeing s me.0)))
+      → IsTrue (d.message || d.sending) → d.system ≡ (owes actor me.0).system → tell (owing actor d (seeing s me.0), me.1) → Goes word_offset slot_offset F
       actor id me Waiting n tell x vs
-  recounts actor id n d s me tell x vs so f at owed same told =
+  recounts actor id n d s me tell x vs so none f at balance owed same told =
       let v = me.0 in
       let w = owing actor d (seeing s v) in
       let y : Place = record { row = write word_offset x.row Waiting n; slot = x.slot; ghost = x.ghost } in
@@ -74,6 +109,7 @@ module _ {H : Type 0} (is_of : ℕ → H → Type 0) (journal : H → List Entry
           shelf = still_shelved is_of journal mailbox rested given_by closed_to actor x y refl refl refl refl x.ghost.keeper f.shelf;
           ended = f.ended;
           listing = f.listing;
+          balance = balance;
           vouched = λ b. still_owed (Vouches b) (IsAmong b x.ghost.closed_to) (IsAmong b x.ghost.closed_to) vs id v w at (λ d. d)
               (λ _. among_more (Read b 1) s v.log) (f.vouched b);
           message = pays (PaysMessage actor) (MessageDue y) vs id v w at (subst (λ (z : Debt). IsTrue (z.message || z.sending)) (sym (owes_here
@@ -83,7 +119,7 @@ module _ {H : Type 0} (is_of : ℕ → H → Type 0) (journal : H → List Entry
           seen = let k = goes_on actor x y v grows (f.seen id v at) in
               learns (Knows actor x) (Knows actor y) vs id w (λ u. goes_on actor x y u grows) (record { seen = (so actor y, k.seen); said = k.said }) f.seen;
         };
-        others = λ a z y g. elsewhere is_of journal mailbox rested given_by closed_to a y vs id v w at (owing_elsewhere actor a d s v z so) g;
+        others = λ a z y g. elsewhere is_of journal mailbox rested given_by closed_to a y vs id v w at (owing_elsewhere actor a d s v z so (none a z)) g;
         tells = told;
       }
 
@@ -92,23 +128,26 @@ module _ {H : Type 0} (is_of : ℕ → H → Type 0) (journal : H → List Entry
   or_true false = refl
 
   -- a seat counts one more, before it is queued
-  pub sends : (actor id n k : ℕ) (me : M) (tell : M → Type 0) (x : Place) (vs : List View) → F actor x vs → get_elem? vs id ≡ some me.0 → tell
-      (sending actor k me.0, me.1) → Goes word_offset slot_offset F actor id me Waiting n tell x vs
-  sends actor id n k me tell x vs f at told = recounts actor id n (record (owes actor me.0) { sending = true }) (Sent actor k) me tell x vs (λ a y.
-      tt) f at (or_true (owes actor me.0).message) refl told
+  pub sends : (actor id n k : ℕ) (me : M) (tell : M → Type 0) (x : Place) (vs : List View) → F actor x vs → get_elem? vs id ≡ some me.0 → n % 2 ^
+      64 ≡ (x.row Waiting + k) % 2 ^ 64 → tell (sending actor k me.0, me.1) → Goes word_offset slot_offset F actor id me Waiting n tell x vs
+  sends actor id n k me tell x vs f at more told = recounts actor id n (record (owes actor me.0) { sending = true }) (Sent actor k) me tell x vs (λ
+      a y. tt) (λ a z. (if_else actor a k z, refl)) f at (balances_more actor k vs id me.0 (sending actor k me.0) at (x.row Waiting) n f.balance refl
+      more) (or_true (owes actor me.0).message) refl told
 
   -- a seat takes back what it counted
-  pub unsends : (actor id n k : ℕ) (me : M) (tell : M → Type 0) (x : Place) (vs : List View) → F actor x vs → get_elem? vs id ≡ some me.0 → tell
-      (unsending actor k me.0, me.1) → Goes word_offset slot_offset F actor id me Waiting n tell x vs
-  unsends actor id n k me tell x vs f at told = recounts actor id n (record (owes actor me.0) { message = true; sending = false }) (Unsent actor k)
-      me tell x vs (λ a y. tt) f at refl refl told
+  pub unsends : (actor id n k : ℕ) (me : M) (tell : M → Type 0) (x : Place) (vs : List View) → F actor x vs → get_elem? vs id ≡ some me.0 → (n + k)
+      % 2 ^ 64 ≡ x.row Waiting % 2 ^ 64 → tell (unsending actor k me.0, me.1) → Goes word_offset slot_offset F actor id me Waiting n tell x vs
+  unsends actor id n k me tell x vs f at less told = recounts actor id n (record (owes actor me.0) { message = true; sending = false }) (Unsent
+      actor k) me tell x vs (λ a y. tt) (λ a z. (refl, if_else actor a k z)) f at (balances_less actor k vs id me.0 (unsending actor k me.0) at (x.row
+      Waiting) n f.balance (Unsent actor k) refl refl refl less) refl refl told
 
   -- the holder counts less
-  pub takes_one : (actor id n : ℕ) (s : Sight) (me : M) (c : Held) (tell : M → Type 0) (x : Place) (vs : List View) → IsQuiet H s → F actor
-      x vs → get_elem? vs id ≡ some me.0 → me.0.claim ≡ Some c → c.actor ≡ actor → tell (seeing s me.0, me.1)
+  pub takes_some : (actor id n k : ℕ) (me : M) (c : Held) (tell : M → Type 0) (x : Place) (vs : List View) → F actor x vs → get_elem? vs id ≡ some
+      me.0 → me.0.claim ≡ Some c → c.actor ≡ actor → (n + k) % 2 ^ 64 ≡ x.row Waiting % 2 ^ 64 → tell (counting_off actor k me.0, me.1)
       → Goes word_offset slot_offset F actor id me Waiting n tell x vs
-  takes_one actor id n s me c tell x vs so f at has of told =
+  takes_some actor id n k me c tell x vs f at has of less told =
       let v = me.0 in
+      let s = Took actor k in
       let w = seeing s v in
       let h = is_held is_of journal mailbox rested given_by closed_to actor id x vs v c f at has of in
       let y : Place = record { row = write word_offset x.row Waiting n; slot = x.slot; ghost = x.ghost } in
@@ -125,48 +164,49 @@ module _ {H : Type 0} (is_of : ℕ → H → Type 0) (journal : H → List Entry
           shelf = still_shelved is_of journal mailbox rested given_by closed_to actor x y refl refl refl refl x.ghost.keeper f.shelf;
           ended = f.ended;
           listing = f.listing;
+          balance = balances_less actor k vs id v w at (x.row Waiting) n f.balance s refl refl refl less;
           vouched = λ b. still_owed (Vouches b) (IsAmong b x.ghost.closed_to) (IsAmong b x.ghost.closed_to) vs id v w at (λ d. d)
               (λ _. among_more (Read b 1) s v.log) (f.vouched b);
           message = λ due. absurd (let z = due.0 in ⊎_elim (λ b. omega arith) (λ b. omega arith) h.1.busy);
           system = still_owed (PaysSystem actor) (SystemDue x) (SystemDue y) vs id v w at (λ due. due) (λ _ p. p) f.system;
-          seen = let k = goes_on actor x y v grows (f.seen id v at) in
-              learns (Knows actor x) (Knows actor y) vs id w (λ u. goes_on actor x y u grows) (record { seen = (so actor y, k.seen); said = k.said }) f.seen;
+          seen = let so = goes_on actor x y v grows (f.seen id v at) in
+              learns (Knows actor x) (Knows actor y) vs id w (λ u. goes_on actor x y u grows) (record { seen = (tt, so.seen); said = so.said }) f.seen;
         };
-        others = λ a z y g. elsewhere is_of journal mailbox rested given_by closed_to a y vs id v w at (seeing_elsewhere a s v so) g;
+        others = λ a z y g. elsewhere is_of journal mailbox rested given_by closed_to a y vs id v w at (seeing_elsewhere a s v (λ b q. tt) (refl, if_else actor a k z)) g;
         tells = told;
       }
 
   -- a load after which the seat owes this actor no more than d, where what d leaves out is not due
-  pub finds : (actor id : ℕ) (name : Word) (d : Debt) (s : Sight) (me : M) (tell : M → Type 0) (x : Place) (vs : List View) → IsQuiet H s → F
-      actor x vs → get_elem? vs id ≡ some me.0
+  pub finds : (actor id : ℕ) (name : Word) (d : Debt) (s : Sight) (me : M) (tell : M → Type 0) (x : Place) (vs : List View) → IsQuiet H s →
+      ((a : ℕ) → CountsNothing a s) → F actor x vs → get_elem? vs id ≡ some me.0
       → (MessageDue x → IsTrue ((owes actor me.0).message || (owes actor me.0).sending) → IsTrue (d.message || d.sending)) → (SystemDue x →
       IsTrue (owes actor me.0).system → IsTrue d.system)
       → tell (owing actor d (seeing s me.0), me.1) → Goes word_offset slot_offset F actor id me name (x.row name) tell x vs
-  finds actor id name d s me tell x vs so f at message system told = let v = me.0 in let w = owing actor d (seeing s v) in record {
+  finds actor id name d s me tell x vs so none f at message system told = let v = me.0 in let w = owing actor d (seeing s v) in record {
     view = w;
     deed = stays;
     kept = x.ghost;
     able = tt;
     here = load_here is_of journal mailbox rested given_by closed_to actor x (set vs id w) name
-        (views_change is_of journal mailbox rested given_by closed_to actor x vs id v w at refl refl
+        (views_change is_of journal mailbox rested given_by closed_to actor x vs id v w at refl refl (counts_no_more actor s v w refl (none actor))
         (λ due p. subst (λ (z : Debt). IsTrue (z.message || z.sending)) (sym (owes_here actor d v)) (message due p))
         (λ due p. subst (λ (z : Debt). IsTrue z.system) (sym (owes_here actor d v)) (system due p))
         (λ k. record { seen = (so actor x, k.seen); said = k.said }) (λ b. among_more (Read b 1) s v.log) f);
-    others = λ a n y g. elsewhere is_of journal mailbox rested given_by closed_to a y vs id v w at (owing_elsewhere actor a d s v n so) g;
+    others = λ a n y g. elsewhere is_of journal mailbox rested given_by closed_to a y vs id v w at (owing_elsewhere actor a d s v n so (none a)) g;
     tells = told;
   }
 
   -- a load of which the seat keeps what it saw
-  pub sees : (actor id : ℕ) (name : Word) (s : Sight) (me : M) (tell : M → Type 0) (x : Place) (vs : List View) → IsQuiet H s → F actor x vs
-      → get_elem? vs id ≡ some me.0 → tell (seeing s me.0, me.1) → Goes word_offset slot_offset F actor id me name (x.row name) tell x vs
-  sees actor id name s me tell x vs so f at told = let v = me.0 in let w = seeing s v in record {
+  pub sees : (actor id : ℕ) (name : Word) (s : Sight) (me : M) (tell : M → Type 0) (x : Place) (vs : List View) → IsQuiet H s → ((a : ℕ) → CountsNothing a s)
+      → F actor x vs → get_elem? vs id ≡ some me.0 → tell (seeing s me.0, me.1) → Goes word_offset slot_offset F actor id me name (x.row name) tell x vs
+  sees actor id name s me tell x vs so none f at told = let v = me.0 in let w = seeing s v in record {
     view = w;
     deed = stays;
     kept = x.ghost;
     able = tt;
     here = load_here is_of journal mailbox rested given_by closed_to actor x (set vs id w) name (views_change is_of journal mailbox rested given_by closed_to actor x vs id v w at refl
-        refl (λ _ p. p) (λ _ p. p) (λ k. record { seen = (so actor x, k.seen); said = k.said }) (λ b. among_more (Read b 1) s v.log) f);
-    others = λ a n y g. elsewhere is_of journal mailbox rested given_by closed_to a y vs id v w at (seeing_elsewhere a s v so) g;
+        refl (counts_no_more actor s v w refl (none actor)) (λ _ p. p) (λ _ p. p) (λ k. record { seen = (so actor x, k.seen); said = k.said }) (λ b. among_more (Read b 1) s v.log) f);
+    others = λ a n y g. elsewhere is_of journal mailbox rested given_by closed_to a y vs id v w at (seeing_elsewhere a s v so (none a)) g;
     tells = told;
   }
 
@@ -179,11 +219,12 @@ module _ {H : Type 0} (is_of : ℕ → H → Type 0) (journal : H → List Entry
     kept = x.ghost;
     able = tt;
     here = load_here is_of journal mailbox rested given_by closed_to actor x (set vs id v) name (views_change is_of journal mailbox rested given_by closed_to actor x vs id v v at refl
-        refl (λ _ p. p) (λ _ p. p) (λ k. record { seen = k.seen; said = k.said }) (λ b p. p) f);
+        refl (record { on = refl; off = refl }) (λ _ p. p) (λ _ p. p) (λ k. record { seen = k.seen; said = k.said }) (λ b p. p) f);
     others = λ a n y g. elsewhere is_of journal mailbox rested given_by closed_to a y vs id v v at (record {
       claim = refl;
       list = refl;
       debt = refl;
+      account = record { on = refl; off = refl };
       vouches = λ b p. p;
       knows = λ _ k.
           record { seen = k.seen; said = k.said };
@@ -199,9 +240,9 @@ module _ {H : Type 0} (is_of : ℕ → H → Type 0) (journal : H → List Entry
         me.1,
       ) → Goes word_offset slot_offset F actor id me Waiting (x.row Waiting) tell x vs
   counts_as actor id me tell x vs true is f at told = finds actor id Waiting (record (owes actor me.0) { message = false }) (Counted actor (x.row
-      Waiting)) me tell x vs (λ a y. tt) f at
+      Waiting)) me tell x vs (λ a y. tt) (λ a. (refl, refl)) f at
       (λ due. absurd (let zero : x.row Waiting ≡ 0 = eqb-true (x.row Waiting) 0 is in let z = due.1 in omega arith)) (λ _ p. p) told
-  counts_as actor id me tell x vs false is f at told = sees actor id Waiting (Counted actor (x.row Waiting)) me tell x vs (λ a y. tt) f at told
+  counts_as actor id me tell x vs false is f at told = sees actor id Waiting (Counted actor (x.row Waiting)) me tell x vs (λ a y. tt) (λ a. (refl, refl)) f at told
 
   -- a seat reads the waiting number
   pub counts : (actor id : ℕ) (me : M) (tell : M → Type 0) (x : Place) (vs : List View) → F actor x vs → get_elem? vs id ≡ some me.0 → tell
@@ -213,6 +254,6 @@ module _ {H : Type 0} (is_of : ℕ → H → Type 0) (journal : H → List Entry
   pub looks : (actor id : ℕ) (me : M) (b : Bool) (tell : M → Type 0) (x : Place) (vs : List View) → has_work x.ghost ≡ b → F actor x vs →
       get_elem? vs id ≡ some me.0 → tell (looking actor b me.0, me.1)
       → Goes word_offset slot_offset F actor id me Gate (x.row Gate) tell x vs
-  looks actor id me true tell x vs is f at told = sees actor id Gate (Looked actor true) me tell x vs (λ a y. tt) f at told
+  looks actor id me true tell x vs is f at told = sees actor id Gate (Looked actor true) me tell x vs (λ a y. tt) (λ a. (refl, refl)) f at told
   looks actor id me false tell x vs is f at told = finds actor id Gate (record (owes actor me.0) { system = false }) (Looked actor false) me tell x
-      vs (λ a y. tt) f at (λ _ p. p) (λ due. absurd (let no = due.1 in cc)) told
+      vs (λ a y. tt) (λ a. (refl, refl)) f at (λ _ p. p) (λ due. absurd (let no = due.1 in cc)) told

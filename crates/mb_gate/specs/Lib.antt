@@ -1,4 +1,5 @@
 pub mod View
+pub mod Waiting
 pub mod Claims
 pub mod Rule
 pub mod Plays

@@ -33,6 +33,7 @@ use Rattle.mb_rule.specs.Locked.{Locked}
 use Rattle.mb_rule.specs.Owed.{Owed}
 use Rattle.mb_rule.specs.Seen.{EachView, Each}
 use Rattle.mb_gate.specs.View.{View, Sight, Read, Saw, Counted, Looked, Sent, Unsent, Took, Pushed, Drained, Ended, Held, Lent, Said, owes}
+use Rattle.mb_gate.specs.Waiting.{IsBalance}
 use Rattle.mb_gate.specs.declared.slot.Slot.{Slot}
 use Rattle.mb_gate.specs.declared.slot.Slot.TheVariants.{Home, List as Listing}
 
@@ -212,8 +213,8 @@ module _ {H : Type 0} (is_of : ℕ → H → Type 0) (journal : H → List Entry
   Shelving x None = IsShelved x
   Shelving x (Some k) = IsLent x k.1
 
-  -- All that holds of one actor: who has its cell, who has its list, what is owed and what was seen; and of each actor that its home says
-  -- is closed some seat has seen it.
+  -- All that holds of one actor: who has its cell, who has its list, how many are counted as waiting, what is owed and what was seen; and
+  -- of each actor that its home says is closed some seat has seen it.
   pub record Fact (actor : ℕ) (x : Spot Word Shelf (Slot H) Ghost) (vs : List View) : Type 0 where
     pub valid : IsTrue (is_valid (x.row Status))
     pub claims : Locked (claim_for actor) x.ghost.holder vs
@@ -222,6 +223,7 @@ module _ {H : Type 0} (is_of : ℕ → H → Type 0) (journal : H → List Entry
     pub shelf : Shelving x x.ghost.keeper
     pub ended : IsTrue x.ghost.listed.closed → x.row Status ≡ 1
     pub listing : IsListing x.ghost.pushed x.ghost.listed
+    pub balance : IsBalance actor (x.row Waiting) vs
     pub vouched : (other : ℕ) → Owed (IsAmong other x.ghost.closed_to) (Vouches other) vs
     pub message : Owed (MessageDue x) (PaysMessage actor) vs
     pub system : Owed (SystemDue x) (PaysSystem actor) vs

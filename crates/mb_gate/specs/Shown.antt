@@ -12,6 +12,7 @@ use Rattle.mb_rule.specs.Layout.{Spot, spot_of}
 use Rattle.mb_rule.specs.Ruled.{Ruled}
 use Rattle.mb_gate.specs.declared.slot.Slot.{Slot}
 use Rattle.mb_gate.specs.View.{View, Held, owes}
+use Rattle.mb_gate.specs.Waiting.{IsBalance}
 use Rattle.mb_gate.specs.Rule.{Word, Status, Waiting, word_offset, Shelf, slot_offset, Ghost, IsAmong, Fact}
 
 abbrev pub holder_of : Option (ℕ × Held) → Option ℕ
@@ -44,3 +45,9 @@ ShowsClosed {H} is_of journal mailbox rested given_by closed_to =
     (n : ℕ) (s : State (Slot H) View) (r : Ruled word_offset slot_offset n (Fact is_of journal mailbox rested given_by closed_to) s) (actor other : ℕ)
     → actor < n → other < n → IsAmong other (spot_of word_offset slot_offset s r.ghosts actor).ghost.closed_to
     → (spot_of word_offset slot_offset s r.ghosts other).row Status ≡ 1
+
+-- Between any two steps an actor's waiting number is what all passes and claims counted on less what they counted off, modulo 2^64.
+abbrev pub ShowsBalance : {H : Type 0} → (ℕ → H → Type 0) → (H → List Entry) → (H → Mailbox) → (H → Type 0) → (H → ℕ) → (H → List ℕ) → Type 0
+ShowsBalance {H} is_of journal mailbox rested given_by closed_to =
+    (n : ℕ) (s : State (Slot H) View) (r : Ruled word_offset slot_offset n (Fact is_of journal mailbox rested given_by closed_to) s) (actor : ℕ)
+    → actor < n → IsBalance actor ((spot_of word_offset slot_offset s r.ghosts actor).row Waiting) s.views

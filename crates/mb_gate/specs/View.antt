@@ -94,6 +94,18 @@ claim_alone v = record blank { claim = v.claim }
 abbrev pub without_claim : View → View
 without_claim v = record v { claim = None }
 
+-- the sights without those of what was counted, which are one seat's own
+abbrev pub without_counts : List Sight → List Sight
+without_counts [] = []
+without_counts (Sent a n ∷ log) = without_counts log
+without_counts (Unsent a n ∷ log) = without_counts log
+without_counts (Took a n ∷ log) = without_counts log
+without_counts (s ∷ log) = s ∷ without_counts log
+
+-- what a second seat knows and owes
+abbrev pub copied : View → View
+copied v = record v { log = without_counts v.log }
+
 -- the claim, which knows this word
 abbrev pub rewritten : ℕ → Option Held → Option Held
 rewritten word None = None

@@ -1,5 +1,5 @@
 ghost use Rattle.mb_rule.specs.Ruled.{Ruled};
-ghost use Rattle.mb_gate.specs.View.{blank, claim_alone, without_claim, taking_over, taking_in};
+ghost use Rattle.mb_gate.specs.View.{blank, claim_alone, without_claim, copied, taking_over, taking_in};
 ghost use Rattle.mb_gate.specs.Rule.{word_offset, slot_offset, Fact};
 ghost use Rattle.mb_gate.specs.Plays.{Reads, Writes, Sends, Unsends, CountsOff, Counts, Looks};
 ghost use Rattle.mb_gate.specs.Plays.{Grips, Enlists, Refuses, Drains, Ends, Glances, Schedules, Idles};
@@ -121,13 +121,13 @@ impl Split<Knowledge> for Part {
     ghost right = { without_claim };
 }
 
-/// Each knows and owes what the one did.
+/// Each knows and owes what the one did, which keeps the account of what it counted.
 pub struct Twin;
 
 impl Split<Knowledge> for Twin {
     ghost left = { λ v. v };
 
-    ghost right = { λ v. v };
+    ghost right = { copied };
 }
 
 /// A claim's seat takes in a whole pass.

@@ -1,4 +1,4 @@
-ghost use Rattle.mb_gate.specs.Shown.{ShowsMachine, ShowsClosed};
+ghost use Rattle.mb_gate.specs.Shown.{ShowsMachine, ShowsClosed, ShowsBalance};
 
 use crate::resident::Resident;
 
@@ -12,4 +12,10 @@ pub fn words_show_the_machine<H: Resident>()
 /// A law: between any two atomic steps each actor of which a home says that it is closed is closed.
 pub fn closed_receivers_are_closed<H: Resident>()
     ensures { (first : H) → ShowsClosed (H.is_of first) H.journal H.mailbox H.rested H.given H.closed_to }
+{}
+
+/// A law: between any two atomic steps each actor's waiting number is what all passes and claims together counted as sent,
+/// less what they took back and what they counted as taken, modulo 2^64.
+pub fn waiting_is_sent_less_taken<H: Resident>()
+    ensures { (first : H) → ShowsBalance (H.is_of first) H.journal H.mailbox H.rested H.given H.closed_to }
 {}

@@ -5,10 +5,10 @@
 //! interleaving of any number of passes: a scheduled actor has one claim, a closed one at most one, every other none; a
 //! cell at home is its actor's own, and its word is the one of its journal, which goes on from all that any pass has seen;
 //! what was seen closed is closed; an open actor that nobody holds is owed a look by some pass where it has system work,
-//! and a wake-up where it may handle envelopes and some are counted as waiting. What each call adds to what its pass or
-//! claim knows is said exactly, and each step leaves a trace there, so that a body that makes no step meets no clause. At
-//! the end each cell that no claim has comes out. No clause says that a try ever wins, or that a debt is ever paid; how
-//! many a waiting count counts is tested alone.
+//! and a wake-up where it may handle envelopes and some are counted as waiting, which is how many all passes and claims
+//! counted as sent less those that were taken back or taken. What each call adds to what its pass or claim knows is said
+//! exactly, and each step leaves a trace there, so that a body that makes no step meets no clause. At the end each cell
+//! that no claim has comes out. No clause says that a try ever wins, or that a debt is ever paid.
 #![tactic(auto)]
 
 mod claim;
@@ -30,13 +30,11 @@ mod sayings;
 mod schedule;
 mod sending;
 mod slot;
-#[cfg(test)]
-mod tests;
 mod view;
 
 pub use claim::Claim;
 pub use gates::Gates;
-pub use laws::{closed_receivers_are_closed, words_show_the_machine};
+pub use laws::{closed_receivers_are_closed, waiting_is_sent_less_taken, words_show_the_machine};
 pub use left::Left;
 pub use new::NoGates;
 pub use pass::Pass;

@@ -1,6 +1,6 @@
 //! A pass for another thread, and a pass that comes back.
 ghost use Rattle.std.specs.Prelude.{◌≡◌};
-ghost use Rattle.mb_gate.specs.View.{taking_over};
+ghost use Rattle.mb_gate.specs.View.{copied, taking_over};
 ghost use Rattle.mb_gate.specs.Names.{gates_id, pass_id, known_by};
 
 use crate::gates::Gates;
@@ -9,11 +9,11 @@ use crate::pass::Pass;
 use crate::resident::Resident;
 
 impl<H: Resident> Gates<H> {
-    /// A second pass, which knows and owes what this one does.
+    /// A second pass, which knows and owes what this one does. What this one counted as sent and as refused stays its own.
     pub fn another(&self, pass: &mut Pass<H>) -> Pass<H>
         requires ours { pass_id pass.old ≡ gates_id self.now }
         ensures ours { (pass_id pass.new ≡ pass_id pass.old) × (pass_id result ≡ pass_id pass.old) }
-        ensures known { (known_by pass.new ≡ known_by pass.old) × (known_by result ≡ known_by pass.old) }
+        ensures known { (known_by pass.new ≡ known_by pass.old) × (known_by result ≡ copied (known_by pass.old)) }
     {
         let seat = self.table.shared.split_seat::<Twin>(&mut pass.seat);
         Pass { seat }

@@ -33,7 +33,8 @@ use Rattle.mb_journal.proofs.TestLemmas.{none_excepted, if_true, if_same}
 -- the first Create of an actor that is not the guardian may come, with an answer and effects that its start may give
 pub lawful-create : (who : Identity) (gives : Moment → Reply → Type 0) (before : List Entry) (number : ℕ) (a : Answer) (effects : List Effect) →
     phase who before ≡ Fresh → is_guardian who ≡ false → number ≡ next_number before →
-    gives (moment who before Start) (record { answer = Some a; effects = effects }) → CanHold (record { effects = effects; actors = who.actors; unspawned = unspawned who before }) →
+    gives (moment who before Start) (record { answer = Some a; effects = effects }) →
+    CanHold (record { effects = effects; actors = who.actors; unspawned = unspawned who before }) →
     IsLawfulEntry who gives before (System number system.Create (Applied (Some a) effects))
 lawful-create who gives before number a effects fresh an_actor next given held = (
   record {

@@ -1,4 +1,5 @@
-ghost use Rattle.std.specs.Prelude.{◌≡◌, ◌↔◌, ◌<◌, ◌≤◌, [], ◌∷◌, false, true, length, reverse, slice_get, slice_range, Some, IsTrue, IsErrOf, IsOk, OnOk, OnErr};
+ghost use Rattle.std.specs.Prelude.{◌≡◌, ◌↔◌, ◌+◌, ◌<◌, ◌≤◌, [], ◌∷◌, ◌++◌, false, true};
+ghost use Rattle.std.specs.Prelude.{length, reverse, slice_get, slice_range, vec_len, vec_capacity, Some, IsTrue, IsErrOf, IsOk, OnOk, OnErr};
 ghost use Rattle.mb_journal.specs.Entry.Entry.{Handled, System, Dropped};
 ghost use Rattle.mb_journal.specs.Entry.Outcome.{Applied, SetAside};
 ghost use Rattle.mb_journal.specs.Stored as stored;
@@ -98,6 +99,7 @@ impl Journal {
 
     /// Adds an envelope that was handled, with the status word that was read before it, what the actor answered, if it
     /// was called, and the effects that it asked for.
+    #[inline]
     pub fn push_handled(
         &mut self,
         envelope: Envelope,
@@ -107,7 +109,10 @@ impl Journal {
     )
         requires ready { IsTrue self.old.is_ready }
         requires few { length effects.now ≤ 16 }
-        ensures added { self.new ≡ record self.old { entries = Handled envelope reading (Applied answer effects.now) ∷ self.old.entries; is_ready = false } }
+        ensures added { self.new ≡ record self.old {
+          entries = Handled envelope reading (Applied answer effects.now) ∷ self.old.entries;
+          is_ready = false;
+        } }
         ensures within { length self.new.entries ≤ self.new.limit }
     {
         self.push(
@@ -131,7 +136,10 @@ impl Journal {
     )
         requires ready { IsTrue self.old.is_ready }
         requires few { length effects.now ≤ 16 }
-        ensures added { self.new ≡ record self.old { entries = System number message (Applied answer effects.now) ∷ self.old.entries; is_ready = false } }
+        ensures added { self.new ≡ record self.old {
+          entries = System number message (Applied answer effects.now) ∷ self.old.entries;
+          is_ready = false;
+        } }
         ensures within { length self.new.entries ≤ self.new.limit }
     {
         self.push(
@@ -163,6 +171,7 @@ impl Journal {
     }
 
     /// Adds an entry and its effects where there is room.
+    #[inline(always)]
     fn push(&mut self, arrival: Arrival, effects: &[Effect])
         requires ready { IsTrue self.old.is_ready }
         requires few { length effects.now ≤ 16 }
@@ -170,9 +179,9 @@ impl Journal {
         ensures within { length self.new.entries ≤ self.new.limit }
     {
         self.ready = false;
-        self.effects.extend_from_slice(effects).unwrap();
+        add_all(&mut self.effects, effects);
         let end = self.effects.len();
-        self.rows.push(Row { arrival, end }).unwrap();
+        self.rows.push_reserved(Row { arrival, end });
     }
 
     /// The entry of this place, the first entry's being 0.
@@ -186,6 +195,17 @@ impl Journal {
             arrival: row.arrival,
             effects: part(&self.effects, from, row.end),
         }
+    }
+}
+
+/// Adds these effects where there is room for them.
+#[inline(always)]
+fn add_all(list: &mut Vec<Effect>, effects: &[Effect])
+    requires { vec_len list.old + length effects.now ≤ vec_capacity list.old }
+    ensures { list.new.items ≡ list.old.items ++ effects.now }
+{
+    for effect in effects {
+        list.push_reserved(*effect);
     }
 }
 

@@ -9,6 +9,8 @@ use Rattle.mb_lane.specs.declared.ledger.Scope.{Scope}
 use Rattle.mb_lane.specs.declared.ledger.Ledger.TheVariants.{Sender, Taker, Spent}
 use Rattle.mb_lane.specs.declared.refused.PushError.{PushError}
 use Rattle.mb_lane.specs.declared.refused.PushError.TheVariants.{Full, NoMemory}
+use Rattle.mb_lane.specs.declared.refused.Refusal.{Refusal}
+use Rattle.mb_lane.specs.declared.refused.Refusal.TheVariants as why
 use Rattle.mb_lane.specs.Ledger.{IsOfPart, sent_by, account}
 
 -- the envelope is one that a lane of this scope has: by one of its senders, to its actor, and of its part
@@ -70,11 +72,16 @@ FoundNext Spent e = ⊥
 
 -- Why a push was refused, of what a lane holds at most and what the port knows: only a lane with a bound is found full, and
 -- only one without a bound wants memory.
-abbrev pub IsRefusal : Option ℕ → Ledger → PushError → Type 0
-IsRefusal capacity ledger (Full e) = (most : ℕ) × (capacity ≡ Some most) × FoundFull most ledger
-IsRefusal capacity ledger (NoMemory e) = capacity ≡ None
+abbrev pub IsRefusal : Option ℕ → Ledger → Refusal → Type 0
+IsRefusal capacity ledger why.Full = (most : ℕ) × (capacity ≡ Some most) × FoundFull most ledger
+IsRefusal capacity ledger why.NoMemory = capacity ≡ None
 
 -- the envelope that comes back
 abbrev pub given_back : PushError → Envelope
 given_back (Full e) = e
 given_back (NoMemory e) = e
+
+-- and why it does
+abbrev pub reason_of : PushError → Refusal
+reason_of (Full e) = why.Full
+reason_of (NoMemory e) = why.NoMemory

@@ -2,10 +2,12 @@
 ghost use Rattle.std.specs.Prelude.{◌≡◌, [], IfOk, MatchOption, MatchResult};
 ghost use Rattle.crossbeam_queue.specs.SegTies.{IsSegPassOf};
 ghost use Rattle.mb_lane.specs.declared.ledger.Ledger.TheVariants.{Taker};
+ghost use Rattle.mb_lane.specs.declared.refused.Refusal.TheVariants.{NoMemory};
 ghost use Rattle.mb_lane.specs.Ledger.{IsSender, IsTaker, IsUnused, MayLend, MayPush, pushing, taking, lending, borrowing, joining};
 ghost use Rattle.mb_lane.specs.Rule.{FoundEmpty, FoundNext};
 
 use crate::ledger::Ledger;
+use crate::refused::Refusal;
 use crate::rule::{Accounted, Joins, Lends, Named, Opens, Pushed, Scoped, Taken};
 use crossbeam_queue::{RuledSegQueue, SegPass};
 use mb_msg::Envelope;
@@ -35,23 +37,26 @@ impl Blocks {
         Ok((Blocks { queue }, pass))
     }
 
-    #[inline]
+    #[inline(always)]
     pub fn push<R: Wait>(
         &self,
         rt: &R,
         pass: &mut BlocksPass,
         envelope: Envelope,
-    ) -> Result<(), Envelope>
+    ) -> Result<(), Refusal>
         requires queue { IsSegPassOf self.now.queue pass.old }
         requires sender { MayPush envelope pass.old.me.view.client }
         ensures queue { IsSegPassOf self.now.queue pass.new }
         ensures pushed { MatchResult result (λ _. pass.new.me.view.client ≡ pushing pass.old.me.view.client envelope)
-            (λ back. (back ≡ envelope) × (pass.new.me.view.client ≡ pass.old.me.view.client)) }
+            (λ refusal. (refusal ≡ NoMemory) × (pass.new.me.view.client ≡ pass.old.me.view.client)) }
     {
-        self.queue.push_as::<Pushed, R>(rt, pass, envelope)
+        match self.queue.push_as::<Pushed, R>(rt, pass, envelope) {
+            Ok(()) => Ok(()),
+            Err(_) => Err(Refusal::NoMemory),
+        }
     }
 
-    #[inline]
+    #[inline(always)]
     pub fn take<R: Wait>(&self, rt: &R, pass: &mut BlocksPass) -> Option<Envelope>
         requires queue { IsSegPassOf self.now.queue pass.old }
         requires taker { IsTaker pass.old.me.view.client }

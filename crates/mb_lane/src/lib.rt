@@ -15,4 +15,4 @@ mod slots;
 pub use ledger::{Account, Ledger, Part, Scope};
 pub use log::Log;
 pub use port::Port;
-pub use refused::PushError;
+pub use refused::{PushError, Refusal};

@@ -2,11 +2,11 @@
 ghost use Rattle.std.specs.Prelude.{◌≡◌, ◌<◌, [], Some, None, IfOk, MatchOption, MatchResult, IfErr};
 ghost use Rattle.mb_lane.specs.declared.ledger.Ledger.TheVariants.{Taker};
 ghost use Rattle.mb_lane.specs.Ledger.{IsSender, IsTaker, IsUnused, MayLend, MayPush, pushing, scope_of, taking, lending, borrowing, joining};
-ghost use Rattle.mb_lane.specs.Rule.{FoundEmpty, FoundNext, IsRefusal, given_back};
+ghost use Rattle.mb_lane.specs.Rule.{FoundEmpty, FoundNext, IsRefusal};
 
 use crate::blocks::{Blocks, BlocksPass};
 use crate::ledger::Part;
-use crate::refused::PushError;
+use crate::refused::Refusal;
 use crate::rule::{Named, Scoped};
 use crate::slots::{Slots, SlotsPass};
 use mb_msg::{ActorId, Envelope, SenderId};
@@ -65,28 +65,24 @@ impl Port {
         })
     }
 
-    /// Puts the envelope last, or gives it back.
-    #[inline]
-    pub fn push<R: Wait>(&mut self, rt: &R, envelope: Envelope) -> Result<(), PushError>
+    /// Puts the envelope last. Where it is refused, nothing has changed.
+    // Its answer fits a register, so a call costs less than what it would spread into its callers.
+    #[inline(never)]
+    pub fn push<R: Wait>(&mut self, rt: &R, envelope: Envelope) -> Result<(), Refusal>
         requires { MayPush envelope self.old.ledger }
         ensures pushed { MatchResult result (λ _. self.new ≡ record self.old { ledger = pushing self.old.ledger envelope })
-            (λ refused. (given_back refused ≡ envelope) × (self.new ≡ self.old)) }
+            (λ _. self.new ≡ self.old) }
         ensures refused { IfErr result (IsRefusal self.old.lane.capacity self.old.ledger) }
     {
         match &mut self.end {
-            End::Unbounded(blocks, pass) => match blocks.push(rt, pass, envelope) {
-                Ok(()) => Ok(()),
-                Err(back) => Err(PushError::NoMemory(back)),
-            },
-            End::Bounded(slots, pass) => match slots.push(rt, pass, envelope) {
-                Ok(()) => Ok(()),
-                Err(back) => Err(PushError::Full(back)),
-            },
+            End::Unbounded(blocks, pass) => blocks.push(rt, pass, envelope),
+            End::Bounded(slots, pass) => slots.push(rt, pass, envelope),
         }
     }
 
     /// Takes the first envelope. `None` only if the lane was empty at a moment of the call.
-    #[inline]
+    // Each call that it is spared is one copy of an envelope less.
+    #[inline(always)]
     pub fn take<R: Wait>(&mut self, rt: &R) -> Option<Envelope>
         requires { IsTaker self.old.ledger }
         ensures { MatchOption result ((self.new ≡ self.old) × FoundEmpty self.old.ledger)

@@ -2,10 +2,12 @@
 ghost use Rattle.std.specs.Prelude.{◌≡◌, ◌<◌, [], IfOk, MatchOption, MatchResult};
 ghost use Rattle.crossbeam_queue.specs.Passes.{view, IsPassOf, ruled_capacity};
 ghost use Rattle.mb_lane.specs.declared.ledger.Ledger.TheVariants.{Taker};
+ghost use Rattle.mb_lane.specs.declared.refused.Refusal.TheVariants.{Full};
 ghost use Rattle.mb_lane.specs.Ledger.{IsSender, IsTaker, IsUnused, MayLend, MayPush, pushing, taking, lending, borrowing, joining};
 ghost use Rattle.mb_lane.specs.Rule.{FoundEmpty, FoundFull, FoundNext};
 
 use crate::ledger::Ledger;
+use crate::refused::Refusal;
 use crate::rule::{Accounted, Joins, Lends, Named, Opens, Pushed, Scoped, Taken};
 use crossbeam_queue::{Pass, RuledArrayQueue};
 use mb_msg::Envelope;
@@ -31,23 +33,26 @@ impl Slots {
         Ok((Slots { queue }, pass))
     }
 
-    #[inline]
+    #[inline(always)]
     pub fn push<R: Wait>(
         &self,
         rt: &R,
         pass: &mut SlotsPass,
         envelope: Envelope,
-    ) -> Result<(), Envelope>
+    ) -> Result<(), Refusal>
         requires queue { IsPassOf self.now.queue pass.old }
         requires sender { MayPush envelope (view pass.old) }
         ensures queue { IsPassOf self.now.queue pass.new }
         ensures pushed { MatchResult result (λ _. (view pass.new) ≡ pushing (view pass.old) envelope)
-            (λ back. (back ≡ envelope) × ((view pass.new) ≡ (view pass.old)) × FoundFull (ruled_capacity self.now.queue) (view pass.old)) }
+            (λ refusal. (refusal ≡ Full) × ((view pass.new) ≡ (view pass.old)) × FoundFull (ruled_capacity self.now.queue) (view pass.old)) }
     {
-        self.queue.push_as::<Pushed, R>(rt, pass, envelope)
+        match self.queue.push_as::<Pushed, R>(rt, pass, envelope) {
+            Ok(()) => Ok(()),
+            Err(_) => Err(Refusal::Full),
+        }
     }
 
-    #[inline]
+    #[inline(always)]
     pub fn take<R: Wait>(&self, rt: &R, pass: &mut SlotsPass) -> Option<Envelope>
         requires queue { IsPassOf self.now.queue pass.old }
         requires taker { IsTaker (view pass.old) }

@@ -33,13 +33,13 @@ count-cond p true x l = sum_by-cons (λ y. cond (p y) 1 0) x l
 count-cond p false x l = omega arith
 
 module _ (p q : Envelope → Bool) where
-  filter-swap : (xs : List Envelope) → filter p (filter q xs) ≡ filter q (filter p xs)
+  pub filter-swap : (xs : List Envelope) → filter p (filter q xs) ≡ filter q (filter p xs)
   filter-swap [] = refl
   filter-swap (x ∷ xs) =
       filter-cond p (q x) x (filter q xs) ∙ cond-swap (p x) (q x) x (filter p (filter q xs))
       ∙ ap (λ l. cond (p x) (cond (q x) (x ∷ l) l) l) (filter-swap xs) ∙ sym (filter-cond q (p x) x (filter p xs))
 
-  count-filter : (xs : List Envelope) → count_by p (filter q xs) ≡ count_by (λ x. q x && p x) xs
+  pub count-filter : (xs : List Envelope) → count_by p (filter q xs) ≡ count_by (λ x. q x && p x) xs
   count-filter [] = refl
   count-filter (x ∷ xs) =
       count-cond p (q x) x (filter q xs) ∙ ap (λ n. cond (q x && p x) 1 0 + n) (count-filter xs) ∙ sym (sum_by-cons (λ y. cond (q y && p y) 1 0) x xs)

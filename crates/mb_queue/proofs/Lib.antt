@@ -1,5 +1,6 @@
 pub mod Bags
 pub mod Distinct
+pub mod Emptied
 pub mod Joins
 pub mod Lends
 pub mod Pairs

@@ -17,7 +17,7 @@ was_full most by main pushed kept found = let f = subst (lane.FoundFull most) ke
     (f.0, f.1, f.2, (λ k d lt. let b = f.3 k d lt in (b.0, b.1)), f.4)
 
 pub refused : (by : ℕ) (main : Known) (control : Option Known) (pushed : List Envelope) (e : PushError) → IsSending by main control pushed
-    → lane.IsRefusal main.lane.capacity main.ledger e
+    → lane.IsRefusal main.lane.capacity main.ledger (lane.reason_of e)
     → IsRefusal (sending by main control pushed) e
 refused by main None pushed (Full e) kept r = (r.0, r.1, was_full r.0 by main pushed kept r.2)
 refused by main None pushed (NoMemory e) kept r = r

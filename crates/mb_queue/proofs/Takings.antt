@@ -104,7 +104,7 @@ module _ (main : Known) (taken : List Envelope) (accounts : List Account) where
     abbrev gone : List Envelope
     gone = gone_of main.ledger
 
-    came_all : (fresh : List Envelope) (main' : Known) → main' ≡ record main { ledger = taking_all main.ledger fresh }
+    pub came_all : (fresh : List Envelope) (main' : Known) → main' ≡ record main { ledger = taking_all main.ledger fresh }
         → Took main' ours Whole (gone ++ fresh) accounts
     came_all fresh main' came = ap (λ (p : Known). p.ledger) came ∙ ap (λ l. taking_all l fresh) kept.0
 
@@ -142,7 +142,7 @@ module _ (main : Known) (taken : List Envelope) (accounts : List Account) where
         → All (lane.Belongs ours) (envelopes_of choice'.waiting)
     rank_none_known choice' main' step = subst (λ l. All (lane.Belongs ours) (envelopes_of l)) (sym step.choice.1) (All-nil (lane.Belongs ours))
 
-    rank_bag : (e : Envelope) (choice' : Choice) (main' : Known) → (step : RankTakes choice main (Some e) choice' main')
+    pub rank_bag : (e : Envelope) (choice' : Choice) (main' : Known) → (step : RankTakes choice main (Some e) choice' main')
         → IsSameBag (gone ++ step.taken_in.more.fresh) ((taken ++ e ∷ []) ++ envelopes_of choice'.waiting)
     rank_bag e choice' main' step = bag_given choice.ranks choice.other
         (length gone) gone step.taken_in.more.fresh taken choice.waiting step.held choice'.waiting e kept.2
@@ -167,6 +167,7 @@ module _ (main : Known) (taken : List Envelope) (accounts : List Account) where
           held = step.held;
           arrived = out;
           arrivals = came_in result choice' main' step;
+          room = step.taken_in.room;
           enough = ⊎_elim (λ h. inl h) (λ h. inr (found_empty ours Whole (gone_of main'.ledger) accounts main' at_out h)) step.taken_in.enough;
           next = ⊎_elim (λ h. inl h) (λ h. inr (subst Begins at_out h)) m.begins;
           choice = step.choice;

@@ -1,5 +1,5 @@
 -- What a take does to the ports of the lanes.
-use Rattle.std.specs.Prelude.{◌≡◌, ℕ, ◌+◌, ◌⊎◌, List, [], ◌∷◌, ◌++◌, length, Option, Some, None, IsPermutation, All}
+use Rattle.std.specs.Prelude.{◌≡◌, ℕ, ◌+◌, ◌≤◌, ◌⊎◌, List, [], ◌∷◌, ◌++◌, length, Option, Some, None, IsPermutation, All}
 use Rattle.mb_msg.specs.declared.envelope.Envelope.{Envelope}
 use Rattle.mb_lane.specs.declared.ledger.Ledger.{Ledger}
 use Rattle.mb_lane.specs.declared.ledger.Ledger.TheVariants.{Sender, Taker, Spent}
@@ -60,9 +60,10 @@ pub record TakesMore (old : Choice) (port : Known) (new : Choice) (port' : Known
   pub known : All (lane.Belongs (scope_in port.ledger)) fresh
   pub held : IsPermutation (old.waiting ++ arrivals_from old.ranks old.other old.next fresh) new.waiting
 
--- so many that as many are held as may be, or the lane was empty
+-- so many that as many are held as may be, or the lane was empty, and no more than may be
 pub record TakenIn (old : Choice) (port : Known) (new : Choice) (port' : Known) : Type 0 where
   pub more : TakesMore old port new port'
+  pub room : length new.waiting ≤ 1024
   pub enough : (length new.waiting ≡ 1024) ⊎ lane.FoundEmpty port'.ledger
 
 -- and then the first of those held was given

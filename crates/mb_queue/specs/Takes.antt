@@ -1,5 +1,5 @@
 -- What a take gives, by the kind of the queue.
-use Rattle.std.specs.Prelude.{◌≡◌, ℕ, ◌+◌, ◌⊎◌, Bool, MatchBool, List, [], ◌∷◌, ◌++◌, length, count_by, map, All, Option, Some, None, IsPermutation}
+use Rattle.std.specs.Prelude.{◌≡◌, ℕ, ◌+◌, ◌≤◌, ◌⊎◌, Bool, MatchBool, List, [], ◌∷◌, ◌++◌, length, count_by, map, All, Option, Some, None, IsPermutation}
 use Rattle.mb_msg.specs.declared.envelope.Envelope.{Envelope}
 use Rattle.mb_lane.specs.declared.ledger.Account.{Account}
 use Rattle.mb_lane.specs.Ledger.{account, is_control, sent_by}
@@ -51,13 +51,14 @@ abbrev pub Chooses : List Arrival → Option Envelope → List Arrival → Type 
 Chooses held None rest = (held ≡ []) × (rest ≡ [])
 Chooses held (Some e) rest = (first : Arrival) × (first.envelope ≡ e) × IsPermutation held (first ∷ rest) × All (IsBehind first) rest
 
--- By rank. Some arrivals are taken in, in their order, until so many are held as may be or nothing was there at a moment.
+-- By rank. Some arrivals are taken in, in their order, until so many are held as may be (never more) or nothing was there at a moment.
 -- Of those held the first by rank, and then by arrival, is given: all that stay are behind it. None only if none is held.
 pub record TakesByRank (rows : List RankRow) (other : ℕ) (old : Taking) (result : Option Envelope) (new : Taking) : Type 0 where
   pub fresh : List Envelope
   pub held : List Arrival
   pub arrived : new.arrived ≡ old.arrived ++ fresh
   pub arrivals : IsPermutation (old.waiting ++ arrivals_from rows other (length old.arrived) fresh) held
+  pub room : length held ≤ 1024
   pub enough : (length held ≡ 1024) ⊎ AllOut whole old.accounts new.arrived
   pub next : (fresh ≡ []) ⊎ AllBegin whole old.accounts new.arrived
   pub choice : Chooses held result new.waiting

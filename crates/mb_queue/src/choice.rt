@@ -35,6 +35,7 @@ impl Choice {
 
 /// Takes arrivals in until as many are held as may be or the lane was empty, and gives the first of those held by rank and
 /// then by arrival.
+#[inline(never)]
 pub fn take_first<R: Wait>(rt: &R, choice: &mut Choice, main: &mut Port) -> Option<Envelope>
     requires { IsTaker main.old.ledger }
     ensures { RankTakes choice.old main.old result choice.new main.new }

@@ -18,7 +18,7 @@ pub enum Order {
 }
 
 /// Takes the next envelope.
-#[inline]
+#[inline(always)]
 pub fn take_next<R: Wait>(rt: &R, main: &mut Port, order: &mut Order) -> Option<Envelope>
     requires { AllTake main.old order.old }
     ensures { IsStep main.old order.old result main.new order.new }
@@ -31,7 +31,7 @@ pub fn take_next<R: Wait>(rt: &R, main: &mut Port, order: &mut Order) -> Option<
 }
 
 /// Takes a control message, and another one only where there is none.
-#[inline]
+#[inline(never)]
 fn take_control_first<R: Wait>(rt: &R, control: &mut Port, main: &mut Port) -> Option<Envelope>
     requires { IsTaker control.old.ledger × IsTaker main.old.ledger }
     ensures { TakesOfTwo control.old main.old result control.new main.new }

@@ -35,7 +35,7 @@ impl SendPass {
 
     /// Puts an envelope of this sender, to the queue's actor, last in the queue, or gives it back: `Full` only where the queue has a bound and was
     /// full at a moment of the call, `NoMemory` where a queue without a bound found no memory. Refused, it changes nothing.
-    #[inline]
+    #[inline(always)]
     pub fn push<R: Wait>(&mut self, rt: &R, envelope: Envelope) -> Result<(), PushError>
         requires sender { envelope.by.0 ≡ self.old.by }
         requires addressed { envelope.to.0 ≡ self.old.queue.to }
@@ -46,7 +46,9 @@ impl SendPass {
         if let Some(control) = &mut self.control
             && is_control(envelope.body)
         {
-            control.push(rt, envelope)?;
+            if let Err(refusal) = control.push(rt, envelope) {
+                return Err(refusal.of(envelope));
+            }
             self.pushed.add(envelope);
             return Ok(());
         }
@@ -55,7 +57,7 @@ impl SendPass {
                 self.pushed.add(envelope);
                 Ok(())
             }
-            Err(refused) => Err(refused),
+            Err(refusal) => Err(refusal.of(envelope)),
         }
     }
 }

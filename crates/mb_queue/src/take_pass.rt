@@ -1,7 +1,7 @@
 //! The mailbox's way into its queue.
-ghost use Rattle.std.specs.Prelude.{◌≡◌, ◌≢◌, ℕ, Some, [], ◌∷◌, ◌++◌, Contains, IfNone, IfSome, option_to_list};
+ghost use Rattle.std.specs.Prelude.{◌≡◌, ◌≢◌, ℕ, None, Some, [], ◌∷◌, ◌++◌, Contains, IfNone, IfSome, option_to_list};
 ghost use Rattle.mb_lane.specs.Ledger.{home};
-ghost use Rattle.mb_queue.specs.Fates.{InOrder, pushed_by};
+ghost use Rattle.mb_queue.specs.Fates.{AllJoined, InOrder, NothingLeft, pushed_by};
 ghost use Rattle.mb_queue.specs.Passes.{first_in_first_out};
 ghost use Rattle.mb_queue.specs.Takes.{EachOnce, IsTake};
 
@@ -38,8 +38,9 @@ impl TakePass {
     ghost use Rattle.mb_queue.specs.Passes.{Taking};
 
     /// Takes the next envelope by the order of the queue's kind. `None` only if the queue was empty at a moment of the call
-    /// (of a control-aware queue each of its parts, not both at one); then all that a joined pass pushed was given.
-    #[inline]
+    /// (of a control-aware queue each of its parts, not both at one); then all that a joined pass pushed was given, and where
+    /// all passes are joined each later take gives `None` too.
+    #[inline(always)]
     pub fn take<R: Wait>(&mut self, rt: &R) -> Option<Envelope>
         ensures taken { self.new.taken ≡ self.old.taken ++ option_to_list result }
         ensures same { (self.new.queue ≡ self.old.queue) × (self.new.turns ≡ self.old.turns) × (self.new.accounts ≡ self.old.accounts) }
@@ -48,6 +49,8 @@ impl TakePass {
         ensures turn { IsTake self.old.turns self.old result self.new }
         ensures each_once { IfNone result (EachOnce self.new) }
         ensures in_order { IfNone result (self.old.turns ≡ first_in_first_out → InOrder self.new) }
+        ensures emptied { IfNone result (AllJoined self.new → NothingLeft self.new) }
+        ensures ended { NothingLeft self.old → result ≡ None }
     {
         let next = take_next(rt, &mut self.main, &mut self.order);
         match next {

@@ -3,3 +3,4 @@ pub mod OwedLemmas
 pub mod SeenLemmas
 pub mod LayoutLemmas
 pub mod RuledLemmas
+pub mod SummedLemmas

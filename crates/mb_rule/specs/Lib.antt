@@ -3,3 +3,4 @@ pub mod Owed
 pub mod Seen
 pub mod Layout
 pub mod Ruled
+pub mod Summed

@@ -1,7 +1,8 @@
-ghost use Rattle.std.specs.Prelude.{◌≡◌, ◌+◌, ◌≤◌, ◌<◌, ◌^◌, [], IsTrue, Some, None, length};
+ghost use Rattle.std.specs.Prelude.{◌≡◌, ◌+◌, ◌≤◌, ◌<◌, ◌^◌, List, [], IsTrue, Some, None, length};
+ghost use Rattle.mb_msg.specs.declared.id.ActorId.{ActorId};
 ghost use Rattle.mb_journal.specs.Failure.{failure_of as cause_of};
 ghost use Rattle.mb_books.specs.Place.{identity_of};
-ghost use Rattle.mb_books.specs.Rows.{handled, poisoned, let_go};
+ghost use Rattle.mb_books.specs.Rows.{due_told, handled, poisoned, let_go};
 
 use crate::act_queue::Task;
 use crate::actor_list::leave;
@@ -15,7 +16,25 @@ use mb_msg::{Body, Cause, SysMsg};
 
 impl Books {
     /// An envelope with this body was handled, with this answer, if the actor was called, and these effects.
+    #[inline(always)]
     pub fn handle(&mut self, place: &Place, body: Body, answer: Option<Answer>, effects: &[Effect])
+        requires ready { IsTrue self.old.is_ready }
+        requires carried_out { self.old.acts ≡ [] }
+        requires small { self.old.count < 2 ^ 60 }
+        requires few { length effects.now ≤ 16 }
+        ensures { self.new ≡ handled (identity_of place.now 0) body answer effects.now self.old }
+    {
+        if uses_nothing(body, answer, effects) {
+            self.ready = false;
+            self.unused = true;
+        } else {
+            self.handle_all(place, body, answer, effects);
+        }
+    }
+
+    /// The same, whatever it uses of the room that was made.
+    #[inline(never)]
+    fn handle_all(&mut self, place: &Place, body: Body, answer: Option<Answer>, effects: &[Effect])
         requires ready { IsTrue self.old.is_ready }
         requires carried_out { self.old.acts ≡ [] }
         requires small { self.old.count < 2 ^ 60 }
@@ -65,6 +84,20 @@ impl Books {
         ensures { self.new ≡ let_go self.old }
     {
         self.ready = false;
+    }
+}
+
+/// Whether a message with this body, answered so and with these effects, changes nothing that is kept beside the journal,
+/// and asks for nothing: most messages do.
+fn uses_nothing(body: Body, answer: Option<Answer>, effects: &[Effect]) -> bool
+    ensures calm { IsTrue result → cause_of body answer ≡ None }
+    ensures same_due { IsTrue result → (list : List ActorId) → due_told body list ≡ list }
+    ensures no_effects { IsTrue result → effects.now ≡ [] }
+{
+    match (body, answer, effects) {
+        (Body::User { .. } | Body::Control { .. }, Some(Answer::Handled | Answer::Unhandled), []) =>
+            true,
+        _ => false,
     }
 }
 

@@ -11,5 +11,6 @@ impl Books {
     {
         forget(&mut self.aside, number);
         self.ready = false;
+        self.unused = false;
     }
 }

@@ -25,6 +25,7 @@ impl Books {
     {
         forget(&mut self.aside, number);
         self.ready = false;
+        self.unused = false;
         leave(&mut self.watchers, watcher);
     }
 }

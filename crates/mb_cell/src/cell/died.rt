@@ -14,7 +14,8 @@ impl<A: Actor, K: Behaviours> Cell<A, K> {
     pub(super) fn apply_died(&mut self, number: u64, id: ActorId)
         requires may_take { MayTake self.old number (SysMsg.Died id) }
         requires off_fresh { phase_is (phase_of self.old.who self.old.journal) Fresh ≡ false }
-        requires not_last { (phase_is (phase_of self.old.who self.old.journal) Ending && is_alone (children self.old.who self.old.journal) id) ≡ false }
+        requires not_last { (phase_is (phase_of self.old.who self.old.journal) Ending
+            && is_alone (children self.old.who self.old.journal) id) ≡ false }
         ensures taken { TakesSystem self.old self.new number (SysMsg.Died id) }
         ensures lawful { IsLawful self.new.who (K.gives self.new.who.this.0) self.new.journal }
     {

@@ -57,4 +57,7 @@ apply_envelope-requires g c =
       live = so_far.idle.live;
       open_reading = idle-open cell c.open-reading.result so_far.idle c.open-reading.ensures;
     } in
-    record { may_handle = subst (λ (s : Seen). MayHandle s c.envelope.result (word_of c.open-reading.result)) (sym c.in_ok-ready.ensures.ok) readied }
+    record {
+      may_handle = subst (λ (s : Seen). MayHandle s c.envelope.result (word_of c.open-reading.result))
+          (sym c.in_ok-ready.ensures.ok) readied;
+    }

@@ -15,7 +15,9 @@ next c = from-next c.args.effects.now c.loop-effect.effect-index _ c.loop-effect
 
 pub loop-effect-preserved : goal.loop-effect-preserved
 loop-effect-preserved c = record {
-  acts = acts-step c.args.this _ _ _ _ _ (the_effect c) _ _ c.carry_out_one.ensures.acts c.carry_out_one.ensures.watching (next c) c.loop-effect.invariant.acts;
+  acts =
+      acts-step c.args.this _ _ _ _ _ (the_effect c) _ _ c.carry_out_one.ensures.acts c.carry_out_one.ensures.watching (next c)
+      c.loop-effect.invariant.acts;
   children = children-step _ _ _ (the_effect c) _ _ c.carry_out_one.ensures.children (next c) c.loop-effect.invariant.children;
   watching = watching-step c.args.this _ _ _ (the_effect c) _ _ c.carry_out_one.ensures.watching (next c) c.loop-effect.invariant.watching;
   due = due-step _ _ _ (the_effect c) _ _ c.carry_out_one.ensures.due (next c) c.loop-effect.invariant.due;

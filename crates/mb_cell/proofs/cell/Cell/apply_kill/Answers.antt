@@ -36,7 +36,8 @@ row : (g : given.Over) (c : goal.After-push_handled g) →
 row g c =
     kill-row _ _ _ _ _ c.self.invariant.0 (may_handle g c).carried_out c.args.envelope c.word.result (may_handle g c).an_actor
     (may_handle g c).addressed (may_handle g c).live
-    (subst (λ w. IsOpen (identity_of c.self.inside.place c.self.inside.journal.limit) c.self.inside.journal.entries w) (sym c.word.ensures.word) (may_handle g c).open_reading)
+    (subst (λ w. IsOpen (identity_of c.self.inside.place c.self.inside.journal.limit) c.self.inside.journal.entries w)
+    (sym c.word.ensures.word) (may_handle g c).open_reading)
     c.requires.kill c.handle.new.self c.handle.ensures
 
 pub invariant_of-self : goal.invariant_of-self

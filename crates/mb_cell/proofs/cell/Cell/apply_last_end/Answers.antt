@@ -22,7 +22,8 @@ row g c =
     (subst (λ (s : Seen). closed s.who s.journal ≡ false) (sym c.self.view_is) c.requires.may_take.not_ended)
     (ap (λ (s : Seen). s.acts) c.self.view_is ∙ c.requires.may_take.carried_out)
     c.args.id
-    (subst (λ (s : Seen). (phase_is (phase s.who s.journal) Ending && is_alone (children s.who s.journal) c.args.id) ≡ true) (sym c.self.view_is) c.requires.last)
+    (subst (λ (s : Seen). (phase_is (phase s.who s.journal) Ending && is_alone (children s.who s.journal) c.args.id) ≡ true)
+    (sym c.self.view_is) c.requires.last)
     (subst (λ (s : Seen). (not (is_guardian s.who) && was_live s.who s.journal) ≡ false) (sym c.self.view_is) c.requires.silent)
     c.died_last.new.self c.died_last.ensures
 

@@ -56,13 +56,15 @@ row : (g : given.Over) (c : goal.After-clear g) →
     (subst (λ (s : Seen). closed s.who s.journal ≡ false) (sym c.self.view_is) c.requires.may_take.not_ended)
     (ap (λ (s : Seen). s.acts) c.self.view_is ∙ c.requires.may_take.carried_out)
     c.args.id c.effects-effects.result.now
-    (subst (λ (s : Seen). (phase_is (phase s.who s.journal) Ending && is_alone (children s.who s.journal) c.args.id) ≡ true) (sym c.self.view_is) c.requires.last))
+    (subst (λ (s : Seen). (phase_is (phase s.who s.journal) Ending && is_alone (children s.who s.journal) c.args.id) ≡ true)
+    (sym c.self.view_is) c.requires.last))
 row g c =
     stop_last-row _ _ _ _ _ c.self.invariant.0 c.args.number
     (subst (λ (s : Seen). closed s.who s.journal ≡ false) (sym c.self.view_is) c.requires.may_take.not_ended)
     (ap (λ (s : Seen). s.acts) c.self.view_is ∙ c.requires.may_take.carried_out)
     c.args.id c.effects-effects.result.now
-    (subst (λ (s : Seen). (phase_is (phase s.who s.journal) Ending && is_alone (children s.who s.journal) c.args.id) ≡ true) (sym c.self.view_is) c.requires.last)
+    (subst (λ (s : Seen). (phase_is (phase s.who s.journal) Ending && is_alone (children s.who s.journal) c.args.id) ≡ true)
+    (sym c.self.view_is) c.requires.last)
     (plays g c).no_guardian
     (subst (λ (s : Seen). was_live s.who s.journal ≡ true) (sym c.self.view_is) c.requires.live)
     (subst (λ (s : Seen). IsNumbered s.who s.journal c.args.number (system.Died c.args.id)) (sym c.self.view_is) c.requires.may_take.numbered)

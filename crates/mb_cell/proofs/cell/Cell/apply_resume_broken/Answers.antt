@@ -62,7 +62,8 @@ row g c =
     (ap (λ (s : Seen). s.acts) c.self.view_is ∙ c.requires.may_take.carried_out)
     (plays g c).no_guardian c.restart-answer.result c.effects-effects.result.now c.args.of_failure
     (subst (λ (s : Seen). phase s.who s.journal ≡ Broken) (sym c.self.view_is) c.requires.broken)
-    (subst (λ (s : Seen). IsNumbered s.who s.journal c.args.number (system.Resume c.args.of_failure)) (sym c.self.view_is) c.requires.may_take.numbered)
+    (subst (λ (s : Seen). IsNumbered s.who s.journal c.args.number (system.Resume c.args.of_failure))
+    (sym c.self.view_is) c.requires.may_take.numbered)
     (subst (λ (s : Seen). sets_aside s.who s.journal (system.Resume c.args.of_failure) ≡ false) (sym c.self.view_is) c.requires.applied)
     c.recreate.new.self c.recreate.ensures
 

@@ -31,7 +31,8 @@ row g c =
     drop-row _ _ _ _ _ c.self.invariant.0 (may_handle g c).carried_out c.args.envelope (word_of c.args.reading) (may_handle g c).an_actor
     (may_handle g c).addressed (may_handle g c).live
     (may_handle g c).open_reading
-    (subst (λ (s : Seen). IsUnexpected s.who s.journal c.args.envelope.body) (sym c.self.view_is) c.requires.unexpected) c.let_go.new.self c.let_go.ensures
+    (subst (λ (s : Seen). IsUnexpected s.who s.journal c.args.envelope.body) (sym c.self.view_is) c.requires.unexpected)
+    c.let_go.new.self c.let_go.ensures
 
 pub invariant_of-self : goal.invariant_of-self
 invariant_of-self g c =

@@ -6,14 +6,11 @@ use Rattle.mb_cell.proofs.NumberLemmas.{numbered_envelope}
 use Rattle.mb_cell_tests.proofs.stage.Stage.envelope.Goals as goal
 
 pub invariant_of-self : goal.invariant_of-self
-invariant_of-self g c = (
-  c.self.invariant.0
-      ∙ (ap (λ (s : Seen). next_number s.journal) (sym c.make_ready.ensures)
-      ∙ (numbered_envelope _ _ _ _ c.apply_envelope.ensures.taken
-      ∙ ap (λ (s : Seen). next_number s.journal) (sym c.carry_out.ensures.rest))),
-  c.carry_out.ensures.none_left,
-  ap (λ (w : Identity). w.this.0) (ap (λ (s : Seen). s.who) c.carry_out.ensures.rest
-      ∙ (ap (λ (s : Seen). s.who) c.apply_envelope.ensures.taken.adds ∙ ap (λ (s : Seen). s.who) c.make_ready.ensures)) ∙ c.self.invariant.2,
-  ap is_guardian (ap (λ (s : Seen). s.who) c.carry_out.ensures.rest
-      ∙ (ap (λ (s : Seen). s.who) c.apply_envelope.ensures.taken.adds ∙ ap (λ (s : Seen). s.who) c.make_ready.ensures)) ∙ c.self.invariant.3,
-)
+invariant_of-self g c =
+    let who = ap (λ (s : Seen). s.who) c.apply_envelope.ensures.taken.adds ∙ ap (λ (s : Seen). s.who) c.make_ready.ensures in (
+      c.self.invariant.0
+          ∙ (ap (λ (s : Seen). next_number s.journal) (sym c.make_ready.ensures)
+          ∙ numbered_envelope _ _ _ _ c.apply_envelope.ensures.taken),
+      ap (λ (w : Identity). w.this.0) who ∙ c.self.invariant.1,
+      ap is_guardian who ∙ c.self.invariant.2,
+    )

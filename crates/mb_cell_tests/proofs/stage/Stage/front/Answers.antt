@@ -7,13 +7,10 @@ use Rattle.mb_cell_tests.proofs.stage.Stage.front.Goals as goal
 
 pub invariant_of-self : goal.invariant_of-self
 invariant_of-self g c =
-    let numbered = c.self.invariant.0 ∙ ap (λ (s : Seen). next_number s.journal) (sym c.make_ready.ensures) in (
+    let numbered = c.self.invariant.0 ∙ ap (λ (s : Seen). next_number s.journal) (sym c.make_ready.ensures) in
+    let who = ap (λ (s : Seen). s.who) c.apply_system.ensures.taken.adds ∙ ap (λ (s : Seen). s.who) c.make_ready.ensures in (
       numbered
-          ∙ (numbered_front _ _ _ _ c.apply_system.ensures.taken (subst (λ n. c.expect-number.result.0 < n) numbered (omega arith))
-          ∙ ap (λ (s : Seen). next_number s.journal) (sym c.carry_out.ensures.rest)),
-      c.carry_out.ensures.none_left,
-      ap (λ (w : Identity). w.this.0) (ap (λ (s : Seen). s.who) c.carry_out.ensures.rest
-          ∙ (ap (λ (s : Seen). s.who) c.apply_system.ensures.taken.adds ∙ ap (λ (s : Seen). s.who) c.make_ready.ensures)) ∙ c.self.invariant.2,
-      ap is_guardian (ap (λ (s : Seen). s.who) c.carry_out.ensures.rest
-          ∙ (ap (λ (s : Seen). s.who) c.apply_system.ensures.taken.adds ∙ ap (λ (s : Seen). s.who) c.make_ready.ensures)) ∙ c.self.invariant.3,
+          ∙ numbered_front _ _ _ _ c.apply_system.ensures.taken (subst (λ n. c.expect-number.result.0 < n) numbered (omega arith)),
+      ap (λ (w : Identity). w.this.0) who ∙ c.self.invariant.1,
+      ap is_guardian who ∙ c.self.invariant.2,
     )

@@ -6,13 +6,10 @@ use Rattle.mb_cell.proofs.NumberLemmas.{numbered_next}
 use Rattle.mb_cell_tests.proofs.stage.Stage.system.Goals as goal
 
 pub invariant_of-self : goal.invariant_of-self
-invariant_of-self g c = (
-  numbered_next _ _ _ _ c.apply_system.ensures.taken
-      (c.self.invariant.0 ∙ ap (λ (s : Seen). next_number s.journal) (sym c.make_ready.ensures))
-      ∙ ap (λ (s : Seen). next_number s.journal) (sym c.carry_out.ensures.rest),
-  c.carry_out.ensures.none_left,
-  ap (λ (w : Identity). w.this.0) (ap (λ (s : Seen). s.who) c.carry_out.ensures.rest
-      ∙ (ap (λ (s : Seen). s.who) c.apply_system.ensures.taken.adds ∙ ap (λ (s : Seen). s.who) c.make_ready.ensures)) ∙ c.self.invariant.2,
-  ap is_guardian (ap (λ (s : Seen). s.who) c.carry_out.ensures.rest
-      ∙ (ap (λ (s : Seen). s.who) c.apply_system.ensures.taken.adds ∙ ap (λ (s : Seen). s.who) c.make_ready.ensures)) ∙ c.self.invariant.3,
-)
+invariant_of-self g c =
+    let who = ap (λ (s : Seen). s.who) c.apply_system.ensures.taken.adds ∙ ap (λ (s : Seen). s.who) c.make_ready.ensures in (
+      numbered_next _ _ _ _ c.apply_system.ensures.taken
+          (c.self.invariant.0 ∙ ap (λ (s : Seen). next_number s.journal) (sym c.make_ready.ensures)),
+      ap (λ (w : Identity). w.this.0) who ∙ c.self.invariant.1,
+      ap is_guardian who ∙ c.self.invariant.2,
+    )

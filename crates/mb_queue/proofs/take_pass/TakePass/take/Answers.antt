@@ -1,8 +1,10 @@
 use Rattle.std.proofs.Common.{◌≡◌, subst, sym, Some, None, ◌++◌, ◌∷◌, []}
 use Rattle.std.specs.List.{Contains}
+use Rattle.mb_queue.specs.Fates.{NothingLeft}
 use Rattle.mb_queue.specs.Kept.{IsTaking, taking_of}
 use Rattle.mb_queue.specs.Passes.{Taking}
 use Rattle.mb_queue.specs.Takes.{EachOnce, IsTake}
+use Rattle.mb_queue.proofs.Emptied.{emptied, none_held}
 use Rattle.mb_queue.proofs.Takings.{each_once, given_known, kept_none, kept_some, turn_none, turn_some}
 use Rattle.mb_queue.proofs.take_pass.TakePass.take.Goals as goal
 
@@ -39,3 +41,15 @@ returns-in-None-clause-turn g c = let i = c.self.inside in let next = c.take_nex
 pub returns-in-None-clause-each_once : goal.returns-in-None-clause-each_once
 returns-in-None-clause-each_once g c = let i = c.self.inside in let next = c.take_next-next.new in
     each_once i.main i.order i.taken i.accounts next.main next.order c.self.invariant c.in-None.ensures
+
+pub returns-in-Some-clause-ended : goal.returns-in-Some-clause-ended
+returns-in-Some-clause-ended g c = λ nothing. let i = c.self.inside in let next = c.take_next-next.new in
+    absurd (emptied i.main i.order i.taken i.accounts c.in-Some.envelope next.main next.order c.self.invariant c.in-Some.ensures
+    (subst NothingLeft (sym c.self.view_is) nothing))
+
+pub returns-in-None-clause-emptied : goal.returns-in-None-clause-emptied
+returns-in-None-clause-emptied g c = λ joined. let i = c.self.inside in let next = c.take_next-next.new in (
+  joined,
+  each_once i.main i.order i.taken i.accounts next.main next.order c.self.invariant c.in-None.ensures,
+  none_held i.main i.order next.main next.order c.in-None.ensures,
+)

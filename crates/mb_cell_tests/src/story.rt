@@ -1,0 +1,62 @@
+//! Stories, which are data: a cell, and then a line a case, with what comes to it and what it makes of that.
+
+use crate::cast::cast;
+use crate::stage::Stage;
+use crate::words::Trouble;
+use mb_actor::{Actor, Behaviours};
+use std::alloc::Global;
+use std::process::Abort;
+
+/// Sees to it that each case of each story is as it says, and that there are so many. Stories stand apart by an empty line. A
+/// case is a line with bars, a head is one that begins with `actor` or `guardian`, and all others are comments.
+pub(crate) fn each_case<R: Abort>(
+    rt: &R,
+    alloc: Global,
+    stories: &str,
+    count: u32,
+) -> Result<(), Trouble> {
+    let mut found: u32 = 0;
+    for story in stories.split("\n\n") {
+        found = found.wrapping_add(play(rt, alloc, story)?);
+    }
+    assert_eq!(rt; found, count, "cases");
+    Ok(())
+}
+
+/// Sees to it that each case of one story is as it says, and answers how many it has.
+pub(crate) fn play<R: Abort>(rt: &R, alloc: Global, story: &str) -> Result<u32, Trouble> {
+    let head = head_of(story);
+    let mut stage = cast(alloc, head)?;
+    go_through(rt, alloc, &mut stage, head, story)
+}
+
+/// The line that says whose story it is.
+pub(crate) fn head_of(story: &str) -> &str {
+    for line in story.lines() {
+        if line.starts_with("actor ") || line.starts_with("guardian") {
+            return line;
+        }
+    }
+    ""
+}
+
+/// Goes through the cases of a story on a cell to which nothing came yet.
+pub(crate) fn go_through<R: Abort, A: Actor, K: Behaviours>(
+    rt: &R,
+    alloc: Global,
+    stage: &mut Stage<A, K>,
+    head: &str,
+    story: &str,
+) -> Result<u32, Trouble> {
+    let begins = stage.stands_shown(alloc)?;
+    assert!(rt; begins.as_str().starts_with("fresh 1 "), "{head}");
+    let mut count: u32 = 0;
+    for line in story.lines() {
+        if line.contains(" | ") {
+            count = count.wrapping_add(1);
+            let told = stage.told(rt, alloc, line)?;
+            assert_eq!(rt; told.as_str(), line, "case {count} of {head}");
+        }
+    }
+    Ok(count)
+}

@@ -1,0 +1,15 @@
+//! The tests of the gates: one thread, two that contend for an actor, and one that holds it while two send.
+#![tactic(auto)]
+
+#[cfg(test)]
+mod alone;
+#[cfg(test)]
+mod calls;
+#[cfg(test)]
+mod contend;
+#[cfg(test)]
+mod desk;
+#[cfg(test)]
+mod three;
+#[cfg(test)]
+mod tries;

@@ -1,0 +1,162 @@
+//! Tries to schedule, what a holder drains, and how it gives its claim back.
+ghost use Rattle.std.specs.Prelude.{◌≡◌, ◌+◌, ◌%◌, ◌^◌, ◌<◌, [], IfSome, length};
+ghost use Rattle.mb_gate.specs.Names.{gates_id, pass_id, claim_id, actors_of, held_actor, taken_with, given_to, recorded_by};
+
+use crate::desk::{Desk, GUARDIAN};
+use mb_gate::{Claim, Gates, Pass, Tried};
+use mb_msg::{ActorId, SysMsg};
+use mb_syslist::Chain;
+use std::process::Abort;
+use std::sync::Wait;
+
+/// A claim, if the try wins.
+pub fn attempt(gates: &Gates<Desk>, pass: &mut Pass<Desk>) -> Option<Claim<Desk>>
+    requires ours { pass_id pass.old ≡ gates_id gates.now }
+    requires there { 0 < actors_of gates.now }
+    ensures ours { pass_id pass.new ≡ pass_id pass.old }
+    ensures got { IfSome result (λ claim. (claim_id claim ≡ gates_id gates.now) × (held_actor claim ≡ 0)) }
+    ensures own { IfSome result (λ claim. (claim.home.actor ≡ 0) × (claim.home.given ≡ given_to claim)) }
+    ensures begun { IfSome result (λ claim. (taken_with claim ≡ []) × (recorded_by claim ≡ [])) }
+{
+    match gates.try_schedule(pass, GUARDIAN) {
+        Tried::Got(claim) => Some(claim),
+        Tried::Already | Tried::Closed | Tried::Lost(_) => None,
+    }
+}
+
+/// A claim that is got.
+pub fn got<R: Abort>(rt: &R, gates: &Gates<Desk>, pass: &mut Pass<Desk>) -> Claim<Desk>
+    requires ours { pass_id pass.old ≡ gates_id gates.now }
+    requires there { 0 < actors_of gates.now }
+    ensures ours { pass_id pass.new ≡ pass_id pass.old }
+    ensures got { (claim_id result ≡ gates_id gates.now) × (held_actor result ≡ 0) }
+    ensures own { (result.home.actor ≡ 0) × (result.home.given ≡ given_to result) }
+    ensures begun { (taken_with result ≡ []) × (recorded_by result ≡ []) }
+{
+    match attempt(gates, pass) {
+        Some(claim) => claim,
+        None => panic!(rt; "it was not got"),
+    }
+}
+
+/// The claim goes home with the status that it has.
+#[tactic(auto, using(mb_gate::proofs::RecordLemmas::nothing_since))]
+pub fn give(gates: &Gates<Desk>, mut claim: Claim<Desk>, pass: &mut Pass<Desk>)
+    requires ours { (claim_id claim ≡ gates_id gates.now) × (pass_id pass.old ≡ gates_id gates.now) }
+    requires there { held_actor claim < actors_of gates.now }
+    requires own { (claim.home.actor ≡ held_actor claim) × (claim.home.given ≡ given_to claim) }
+    requires begun { (taken_with claim ≡ []) × (recorded_by claim ≡ []) }
+    ensures ours { pass_id pass.new ≡ pass_id pass.old }
+{
+    claim.home.status = claim.status().idle();
+    gates.release(claim, pass);
+}
+
+/// What a try that does not win answers.
+#[derive(Clone, Copy, Debug, PartialEq)]
+pub enum Miss {
+    Already,
+    Closed,
+    Lost,
+}
+
+/// What a try answers that does not win; a claim that is got is abandoned.
+pub fn missed(gates: &Gates<Desk>, pass: &mut Pass<Desk>) -> Option<Miss>
+    requires ours { pass_id pass.old ≡ gates_id gates.now }
+    requires there { 0 < actors_of gates.now }
+    ensures ours { pass_id pass.new ≡ pass_id pass.old }
+{
+    match gates.try_schedule(pass, GUARDIAN) {
+        Tried::Already => Some(Miss::Already),
+        Tried::Closed => Some(Miss::Closed),
+        Tried::Lost(_) => Some(Miss::Lost),
+        Tried::Got(claim) => {
+            claim.abandon();
+            None
+        }
+    }
+}
+
+/// What a holder saw: the number of the next message, and of the next Watch and Unwatch; and whether all came in order.
+#[derive(Clone, Copy)]
+pub struct Tally {
+    pub number: u64,
+    pub first: u32,
+    pub second: u32,
+    pub in_order: bool,
+}
+
+pub const NOTHING: Tally = Tally {
+    number: 0,
+    first: 0,
+    second: 0,
+    in_order: true,
+};
+
+impl Tally {
+    fn add(&mut self, number: u64, message: SysMsg) {
+        let is_next = match message {
+            SysMsg::Watch(ActorId(n)) => {
+                let is_next = n == self.first;
+                self.first = self.first.wrapping_add(1);
+                is_next
+            }
+            SysMsg::Unwatch(ActorId(n)) => {
+                let is_next = n == self.second;
+                self.second = self.second.wrapping_add(1);
+                is_next
+            }
+            _ => false,
+        };
+        self.in_order = self.in_order && is_next && number == self.number;
+        self.number = self.number.wrapping_add(1);
+    }
+}
+
+/// Drains the list, and adds what it gave to the tally. The home counts it.
+pub fn drain<R: Wait>(rt: &R, gates: &Gates<Desk>, claim: &mut Claim<Desk>, tally: &mut Tally)
+    requires ours { claim_id claim.old ≡ gates_id gates.now }
+    requires there { held_actor claim.old < actors_of gates.now }
+    requires counts { claim.old.home.given ≡ given_to claim.old }
+    ensures ours { (claim_id claim.new ≡ claim_id claim.old) × (held_actor claim.new ≡ held_actor claim.old) }
+    ensures own { claim.new.home.actor ≡ claim.old.home.actor }
+    ensures same { (taken_with claim.new ≡ taken_with claim.old) × (recorded_by claim.new ≡ recorded_by claim.old) }
+    ensures counts { claim.new.home.given ≡ given_to claim.new }
+{
+    let chain = gates.sys_drain(rt, claim);
+    let count = add_all(rt, chain, tally);
+    claim.home.given = claim.home.given.wrapping_add(count);
+}
+
+/// Closes the actor and its list, and adds what that gave to the tally. The home counts it.
+pub fn close<R: Wait>(rt: &R, gates: &Gates<Desk>, claim: &mut Claim<Desk>, tally: &mut Tally)
+    requires ours { claim_id claim.old ≡ gates_id gates.now }
+    requires there { held_actor claim.old < actors_of gates.now }
+    requires counts { claim.old.home.given ≡ given_to claim.old }
+    ensures ours { (claim_id claim.new ≡ claim_id claim.old) × (held_actor claim.new ≡ held_actor claim.old) }
+    ensures own { claim.new.home.actor ≡ claim.old.home.actor }
+    ensures same { (taken_with claim.new ≡ taken_with claim.old) × (recorded_by claim.new ≡ recorded_by claim.old) }
+    ensures counts { claim.new.home.given ≡ given_to claim.new }
+{
+    gates.close_mailbox(claim);
+    let chain = gates.sys_close(rt, claim);
+    let count = add_all(rt, chain, tally);
+    claim.home.given = claim.home.given.wrapping_add(count);
+}
+
+// How many were in the chain.
+fn add_all<R: Wait>(rt: &R, mut chain: Chain, tally: &mut Tally) -> u64
+    ensures { result ≡ length chain % 2 ^ 64 }
+{
+    let mut count = 0u64;
+    for _ in rt.forever() {
+        match chain.next() {
+            Some((number, node)) => {
+                tally.add(number, node.msg());
+                count = count.wrapping_add(1);
+            }
+            None => break,
+        }
+    }
+    count
+}

@@ -1,0 +1,23 @@
+use Rattle.std.proofs.Common.{◌≡◌, List, [], ◌∷◌, ◌++◌, sym, ap, subst, ◌∙◌}
+use Rattle.mb_msg.specs.declared.envelope.Envelope.{Envelope}
+use Rattle.mb_home.specs.Contents.{Contents}
+use Rattle.mb_home.specs.Settled.{IsSettled}
+use Rattle.mb_home.proofs.SettleLemmas.{settled-clean}
+use Rattle.mb_home.proofs.home.Home.clean_next.Goals as goal
+
+pub returns-clause-settled : goal.returns-clause-settled
+returns-clause-settled g c =
+    let h : Contents = c.args.self.now in
+    let e : Envelope = c.in-Some.envelope in
+    let items : c.push_reserved.new.self.items ≡ h.cleaned ++ e ∷ [] =
+    c.push_reserved.ensures.items
+    ∙ ap (λ (l : List Envelope). l ++ e ∷ []) c.reserve.ensures.items
+    ∙ ap (λ (x : Contents). x.cleaned ++ e ∷ []) c.self.view_is in
+    let done =
+    settled-clean h (g.K.Behaviours.gives h.cell.who.this.0) h.cell.acts c.take.new.self e c.requires.settled c.requires.ended
+    (c.take.ensures.same.0 ∙ ap (λ (x : Contents). x.take.queue) c.self.view_is)
+    (c.in-Some.ensures.taken ∙ ap (λ (x : Contents). x.take.taken ++ e ∷ []) c.self.view_is) in
+    subst (λ (x : Contents). IsSettled (g.K.Behaviours.gives x.cell.who.this.0) x.cell.acts x)
+    (sym (ap (λ (x : Contents). record x { take = c.take.new.self; cleaned = c.push_reserved.new.self.items }) c.self.view_is))
+    (subst (λ (l : List Envelope). IsSettled (g.K.Behaviours.gives h.cell.who.this.0) h.cell.acts (record h { take = c.take.new.self; cleaned = l }))
+    (sym items) done)

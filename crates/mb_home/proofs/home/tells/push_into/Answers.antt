@@ -1,0 +1,13 @@
+use Rattle.std.proofs.Common.{length, refl}
+use Rattle.std.proofs.lemmas.Option.{slice_get_read}
+use Rattle.mb_home.proofs.TellSteps.{pushed-into}
+use Rattle.mb_home.proofs.home.tells.push_into.Goals as goal
+
+pub returns : goal.returns
+returns g c =
+    record {
+      pushed =
+          pushed-into c.args.sends.now.items c.args.place c.args.envelope c.index_mut.result.now c.push.new.self c.push.result
+          (slice_get_read c.args.sends.now.items (length c.args.sends.now.items) c.args.place c.index_mut.result.now refl c.requires.there
+          c.index_mut.ensures.value) c.push.ensures.pushed c.push.ensures.refused;
+    }

@@ -1,0 +1,167 @@
+ghost use Rattle.std.specs.Prelude.{◌≡◌, ◌+◌, ◌%◌, ◌^◌, ◌<◌, [], All, map};
+ghost use Rattle.mb_queue.specs.Passes.{Sending};
+ghost use Rattle.mb_home.specs.Settled.{IsOwn, IsSettled};
+ghost use Rattle.mb_home.specs.Steps.{IsRested, at_first};
+
+use crate::named::Named;
+use mb_actor::{Actor, Behaviours};
+use mb_cell::Cell;
+use mb_msg::{ActorId, DeadLetter, Envelope};
+use mb_queue::{SendPass, TakePass};
+use mb_syslist::Chain;
+use std::alloc::Global;
+use std::marker::Model;
+use std::snapshot::Snapshot;
+
+mod clean_up;
+mod envelopes;
+mod resident;
+mod status;
+mod systems;
+mod tells;
+
+/// What lies at an actor's home while nobody holds it: its cell, and the books beside that.
+#[derive(Drop)]
+pub struct Home<A: Actor, K: Behaviours> {
+    id: ActorId,
+    cell: Cell<A, K>,
+    take: TakePass,
+    sends: Vec<SendPass>,
+    rest: Chain,
+    sent: u64,
+    dead: Vec<DeadLetter>,
+    cleaned: Vec<Envelope>,
+    aside_dead: u64,
+    dropped: u64,
+    roll: Snapshot<Vec<Named<A, K>>>,
+}
+
+impl<A: Actor, K: Behaviours> Model for Home<A, K> {
+    ghost use Rattle.std.specs.Prelude.{◌≡◌, ◌-◌, ◌^◌, ◌<◌, map, vec_len, vec_capacity};
+    ghost use Rattle.mb_home.specs.Contents.{Contents};
+
+    ghost Value = { Contents };
+
+    ghost view = { λ h. record {
+      cell = h.cell;
+      take = h.take;
+      sends = h.sends.items;
+      rest = h.rest;
+      sent = h.sent;
+      dead = h.dead.items;
+      cleaned = h.cleaned.items;
+      aside_dead = h.aside_dead;
+      dropped = h.dropped;
+      room = vec_capacity h.dead - vec_len h.dead;
+      roll = map (λ n. record { who = n.cell.value.who; queue = n.take.value.queue }) h.roll.value.items;
+    } };
+
+    ghost invariant = { λ h. (h.id ≡ h.cell.who.this) × (h.cell.who.limit < 2 ^ 32) };
+}
+
+/// What a home leaves at the end.
+#[derive(Drop)]
+pub struct Parts<A: Actor, K: Behaviours> {
+    /// The cell.
+    pub cell: Cell<A, K>,
+    /// The pass of its queue.
+    pub take: TakePass,
+    /// The passes that it sent by, one for each receiver from the number 1 on.
+    pub sends: Vec<SendPass>,
+    /// How many envelopes it sent, modulo 2^64.
+    pub sent: u64,
+    /// Those of them that are dead letters, in order.
+    pub dead: Vec<DeadLetter>,
+    /// The envelopes that were still queued when it ended, in order.
+    pub cleaned: Vec<Envelope>,
+    /// How many numbered system messages to it were never applied and are dead, modulo 2^64.
+    pub dead_system: u64,
+}
+
+impl<A: Actor, K: Behaviours> Home<A, K> {
+    /// The home of an actor to which nothing came yet: of its cell, the pass of its queue and the passes that it sends by, one
+    /// for each receiver from the number 1 on, in order. The roll has the cells and passes of all actors, by number.
+    pub fn new(
+        alloc: Global,
+        id: ActorId,
+        cell: Cell<A, K>,
+        take: TakePass,
+        sends: Vec<SendPass>,
+        roll: &Vec<Named<A, K>>,
+    ) -> Self
+        requires number { id ≡ cell.who.this }
+        requires untouched { (cell.journal ≡ []) × (cell.acts ≡ []) }
+        requires none_taken { take.taken ≡ [] }
+        requires none_pushed { All (λ (p : Sending). p.pushed ≡ []) sends.items }
+        requires own { IsOwn (at_first cell take sends.items 0
+            (map (λ n. record { who = n.cell.value.who; queue = n.take.value.queue }) roll.now.items)) }
+        ensures first { result ≡ at_first cell take sends.items result.room
+            (map (λ n. record { who = n.cell.value.who; queue = n.take.value.queue }) roll.now.items) }
+        ensures settled { IsSettled (K.gives cell.who.this.0) [] result }
+        ensures rested { IsRested result }
+    {
+        let _ = cell.journal();
+        Self::unused(alloc, id, cell, take, sends, roll)
+    }
+
+    /// The fields of an unused home.
+    fn unused(
+        alloc: Global,
+        id: ActorId,
+        cell: Cell<A, K>,
+        take: TakePass,
+        sends: Vec<SendPass>,
+        roll: &Vec<Named<A, K>>,
+    ) -> Self
+        requires number { id ≡ cell.who.this }
+        requires few { cell.who.limit < 2 ^ 32 }
+        ensures { result ≡ at_first cell take sends.items result.room
+            (map (λ n. record { who = n.cell.value.who; queue = n.take.value.queue }) roll.now.items) }
+    {
+        Home {
+            id,
+            cell,
+            take,
+            sends,
+            rest: Chain::new(),
+            sent: 0,
+            dead: Vec::new(alloc),
+            cleaned: Vec::new(alloc),
+            aside_dead: 0,
+            dropped: 0,
+            roll: Snapshot::of(roll),
+        }
+    }
+
+    /// What the home leaves at the end.
+    pub fn into_parts(self) -> Parts<A, K>
+        ensures cell { result.cell ≡ self.cell }
+        ensures passes { (result.take ≡ self.take) × (result.sends.items ≡ self.sends) }
+        ensures sent { (result.sent ≡ self.sent) × (result.dead.items ≡ self.dead) }
+        ensures cleaned { result.cleaned.items ≡ self.cleaned }
+        ensures dead_system { result.dead_system ≡ (self.aside_dead + self.dropped) % 2 ^ 64 }
+    {
+        let Home {
+            id: _,
+            cell,
+            take,
+            sends,
+            rest: _,
+            sent,
+            dead,
+            cleaned,
+            aside_dead,
+            dropped,
+            roll: _,
+        } = self;
+        Parts {
+            cell,
+            take,
+            sends,
+            sent,
+            dead,
+            cleaned,
+            dead_system: aside_dead.wrapping_add(dropped),
+        }
+    }
+}

@@ -1,0 +1,34 @@
+//! Laws of what lies at home, for the crates above.
+ghost use Rattle.std.specs.Prelude.{◌≡◌, ℕ, ◌+◌, ◌<◌, true, List, length};
+ghost use Rattle.mb_journal.specs.Acts.{Act};
+ghost use Rattle.mb_journal.specs.Aside.{ever_aside, next_number};
+ghost use Rattle.mb_journal.specs.Life.{closed};
+ghost use Rattle.mb_fates.specs.Accepted.{IsNumbered};
+ghost use Rattle.mb_fates.specs.Told.{told};
+ghost use Rattle.mb_home.specs.Contents.{Contents};
+ghost use Rattle.mb_home.specs.Numbers.{applied_numbers, numbers_in, times};
+ghost use Rattle.mb_home.specs.Settled.{IsSettled};
+
+use mb_actor::Behaviours;
+
+/// A law: an actor with a settled home numbered all that it told from 0 on, so that each of its envelopes has a name of its own.
+pub fn tellings_are_numbered<K: Behaviours>()
+    ensures { (pending : List Act) (h : Contents) → IsSettled (K.gives h.cell.who.this.0) pending h
+        → IsNumbered h.cell.who.this.0 0 (told h.cell.who h.cell.journal) }
+{}
+
+/// A law: of a settled home, each system message whose number is below the next was applied once, or waits once among those that
+/// were set aside, and not both; so as many as have a number were applied or wait.
+pub fn system_messages_stand_once<K: Behaviours>()
+    ensures once { (pending : List Act) (h : Contents) (n : ℕ) → IsSettled (K.gives h.cell.who.this.0) pending h
+        → n < next_number h.cell.journal
+        → times n (applied_numbers h.cell.journal) + times n (numbers_in (ever_aside h.cell.journal)) ≡ 1 }
+    ensures all { (pending : List Act) (h : Contents) → IsSettled (K.gives h.cell.who.this.0) pending h
+        → length (applied_numbers h.cell.journal) + length (ever_aside h.cell.journal) ≡ next_number h.cell.journal }
+{}
+
+/// A law: once its actor ended, a settled home counts as dead all that wait.
+pub fn what_waits_at_the_end_is_dead<K: Behaviours>()
+    ensures { (pending : List Act) (h : Contents) → IsSettled (K.gives h.cell.who.this.0) pending h
+        → closed h.cell.who h.cell.journal ≡ true → h.aside_dead ≡ length (ever_aside h.cell.journal) }
+{}
