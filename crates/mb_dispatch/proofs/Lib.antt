@@ -1,7 +1,0 @@
-pub mod Views
-pub mod AtHome
-pub mod Debts
-pub mod Bits
-pub mod Posting
-pub mod Routes
-pub mod Answering

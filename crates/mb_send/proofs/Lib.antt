@@ -1,0 +1,3 @@
+pub mod Posting
+pub mod Routes
+pub mod Answering

@@ -1,0 +1,3 @@
+pub mod Posted
+pub mod Sends
+pub mod Answers
