@@ -5,7 +5,7 @@ use Rattle.mb_msg.specs.declared.id.ActorId.{ActorId}
 use Rattle.mb_msg.specs.declared.id.SenderId.{SenderId}
 use Rattle.mb_msg.specs.declared.envelope.Body.{Body}
 use Rattle.mb_msg.specs.declared.system.SysMsg.TheVariants as system
-use Rattle.mb_gate.specs.View.{View, Sight, Sent, Unsent, Pushed, reading, refusing}
+use Rattle.mb_gate.specs.View.{View, Sight, Sent, Unsent, Pushed, reading}
 use Rattle.mb_fates.specs.declared.posting.Posting.{Posting}
 use Rattle.mb_queue.specs.Passes.{Sending}
 use Rattle.mb_queue.specs.Pushes.{WasFull}
@@ -84,8 +84,8 @@ module _ (by : SenderId) (number : ℕ) (to : ActorId) (body : Body) (posted pos
     pub seen : IsSeen to look old between
     pub follows : FollowsLook sends between new put look
 
--- One Terminate was put into the actor's list, which is all that was said; or the list was found ended.
+-- One Terminate was put into the actor's list, or found the list ended; that is all that was said.
 abbrev pub Stops : ℕ → View → View → Bool → Type 0
 Stops id old new true = (number : ℕ)
     × Does id (Pushed id number system.Terminate ∷ []) (record { to = id; message = system.Terminate; was_ended = false } ∷ []) old new
-Stops id old new false = new ≡ refusing id system.Terminate old
+Stops id old new false = Does id [] (record { to = id; message = system.Terminate; was_ended = true } ∷ []) old new

@@ -1,5 +1,5 @@
 //! Stopping an actor from outside.
-ghost use Rattle.std.specs.Prelude.{◌≡◌, ◌⊎◌, ◌+◌, ◌<◌, ◌≤◌, true, vec_len, IfOk, IsErrOf, IsTrue, OnErr, Some};
+ghost use Rattle.std.specs.Prelude.{◌≡◌, ◌⊎◌, ◌+◌, ◌<◌, ◌≤◌, true, vec_len, IfOk, IsErrOf, OnErr, Some};
 ghost use Rattle.mb_core.specs.Actor.{nothing};
 ghost use Rattle.mb_gate.specs.View.{owes};
 ghost use Rattle.mb_gate.specs.Names.{gates_id, pass_id, actors_of, known_by};
@@ -28,8 +28,8 @@ impl<H: Resident, W: Way<H>> Sender<H, W> {
         ensures refused { OnErr result ((self.new ≡ self.old) × ((IsErrOf result Unsent.NoSuchActor × (actors_of gates.now ≤ id.0))
             ⊎ (IsErrOf result Unsent.NoMemory × (id.0 < actors_of gates.now)))) }
         ensures stopped { IfOk result (Stops id.0 (known_by self.old.waker.pass) (known_by self.new.waker.pass)) }
-        ensures paid { IfOk result (λ listed. IsTrue listed
-            → (owes id.0 (known_by self.new.waker.pass) ≡ nothing) ⊎ (is_owed self.new.waker.owed id.0 ≡ true)) }
+        ensures paid { IfOk result (λ _. (owes id.0 (known_by self.new.waker.pass) ≡ nothing) ⊎ (is_owed self.new.waker.owed id.0 ≡ true)) }
+        ensures ours { (pass_id self.new.waker.pass ≡ pass_id self.old.waker.pass) × (W.origin self.new.waker.way ≡ W.origin self.old.waker.way) }
         ensures same { (self.new.book ≡ self.old.book) × (self.new.sends ≡ self.old.sends) }
     {
         if id.0 as usize > self.sends.len() {
@@ -39,6 +39,7 @@ impl<H: Resident, W: Way<H>> Sender<H, W> {
             return Err(Unsent::NoMemory);
         };
         let Ok(_) = gates.sys_enqueue(rt, &mut self.waker.pass, id, node) else {
+            self.waker.register(rt, gates, id, false, false);
             return Ok(false);
         };
         self.waker.register(rt, gates, id, false, true);

@@ -40,6 +40,7 @@ impl<H: Resident, W: Way<H>> Sender<H, W> {
             self.old.sends.items (known_by self.old.waker.pass) (known_by self.new.waker.pass)) }
         ensures paid { IfOk result (λ _. (owes ticket.to.0 (known_by self.new.waker.pass) ≡ nothing) ⊎ (is_owed self.new.waker.owed ticket.to.0
             ≡ true)) }
+        ensures ours { (pass_id self.new.waker.pass ≡ pass_id self.old.waker.pass) × (W.origin self.new.waker.way ≡ W.origin self.old.waker.way) }
         ensures same { self.new.book.by ≡ self.old.book.by }
     {
         self.book.ready()?;
@@ -82,6 +83,7 @@ impl<H: Resident, W: Way<H>> Sender<H, W> {
         ensures told { IfOk result (IsTold self.old.book.by self.old.book.sent to body self.old.book.posted self.new.book.posted
             self.old.sends.items (known_by self.old.waker.pass) (known_by self.new.waker.pass)) }
         ensures paid { IfOk result (λ _. (owes to.0 (known_by self.new.waker.pass) ≡ nothing) ⊎ (is_owed self.new.waker.owed to.0 ≡ true)) }
+        ensures ours { (pass_id self.new.waker.pass ≡ pass_id self.old.waker.pass) × (W.origin self.new.waker.way ≡ W.origin self.old.waker.way) }
         ensures same { self.new.book.by ≡ self.old.book.by }
     {
         let look = self.look(gates, to)?;

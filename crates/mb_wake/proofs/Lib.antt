@@ -2,4 +2,4 @@ pub mod Views
 pub mod AtHome
 pub mod Debts
 pub mod Bits
-pub mod Paying
+pub mod Pays

@@ -1,6 +1,6 @@
 use Rattle.std.proofs.Common.{◌≡◌}
 use Rattle.mb_gate.specs.Names.{pass_id, known_by}
-use Rattle.mb_wake.proofs.Paying.{IsPaidBelow}
+use Rattle.mb_wake.proofs.Pays.{IsPaidBelow}
 use Rattle.mb_wake.proofs.waker.Waker.pay.Given as goal
 
 abbrev pub invariant-loop-number : goal.invariant-loop-number
