@@ -4,4 +4,5 @@ pub mod LeadLemmas
 pub mod CallerLemmas
 pub mod HoldLemmas
 pub mod RestLemmas
+pub mod SettledLemmas
 pub mod RunningSteps

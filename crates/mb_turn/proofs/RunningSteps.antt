@@ -1,6 +1,6 @@
 -- What holds of a claim in its run holds after each step.
-use Rattle.std.proofs.Common.{◌≡◌, ◌⊎◌, inl, inr, ℕ, ◌+◌, ◌<◌, Bool, true, false, List, [], ◌∷◌, ◌++◌, All, length, Option, Some, None}
-use Rattle.std.proofs.Common.{refl, sym, ap, ◌∙◌, subst, append-nil}
+use Rattle.std.proofs.Common.{◌≡◌, ◌⊎◌, ℕ, ◌+◌, ◌<◌, Bool, true, false, List, [], ◌∷◌, ◌++◌, length, Some, None}
+use Rattle.std.proofs.Common.{refl, sym, ap, ◌∙◌, subst}
 use Rattle.std.specs.Prelude.{if◌then◌else◌, IfSome}
 use Rattle.std.specs.Global.{Box}
 use Rattle.mb_status.specs.Mailbox.{Mailbox, most_suspensions, idle, suspend, resume, the_closed}
@@ -26,6 +26,7 @@ use Rattle.mb_turn.specs.Hold.{Hold}
 use Rattle.mb_turn.specs.Proper.{SendProper, ArrivedProper, IsPeer}
 use Rattle.mb_turn.specs.Running.{IsRunning, IsShutTo}
 use Rattle.mb_turn.specs.Told.{IsSaidBut}
+use Rattle.mb_turn.proofs.SettledLemmas.{settled-silent}
 use Rattle.mb_turn.proofs.ShutLemmas.{shut-more, shut-own}
 use Rattle.mb_turn.proofs.ToldLemmas.{told-tell, told-suspend, told-resume, told-close, told-listed, told-dropped, told-answered, told-parting}
 
@@ -119,11 +120,6 @@ module _ (gives : ℕ → Moment → Reply → Type 0) (origin : Origin (Box Con
       owes_nothing = r.owes_nothing;
     }
 
-    -- acts on the own mailbox tell nothing
-    settled-own : (rest : List Act) (own : Act) → IsSettled (gives h.actor) (own ∷ rest) h.home →
-        (IsSettled (gives h.actor) (own ∷ rest) h.home → IsSettled (gives h.actor) rest h.home) → IsSettled (gives h.actor) rest h.home
-    settled-own rest own s f = f s
-
     suspend-closed : (m : Mailbox) → (suspend m).closed ≡ m.closed
     suspend-closed m = either m.closed refl
       where
@@ -131,9 +127,10 @@ module _ (gives : ℕ → Moment → Reply → Type 0) (origin : Origin (Box Con
         either true is = ap (λ c. (if c then m else record m { count = m.count + 1 }).closed) is
         either false is = ap (λ c. (if c then m else record m { count = m.count + 1 }).closed) is
 
-    pub running-suspend : (rest : List Act) → IsRunning gives origin (SuspendSelf ∷ rest) seen h → IsSettled (gives h.actor) rest h.home →
+    pub running-suspend : (rest : List Act) → IsRunning gives origin (SuspendSelf ∷ rest) seen h →
         (h.status.count < most_suspensions) × IsRunning gives origin rest seen (record h { status = suspend h.status })
-    running-suspend rest r settled =
+    running-suspend rest r =
+        let settled = settled-silent (gives h.actor) (SuspendSelf ∷ rest) rest h.home refl r.settled in
         let leads = leads-suspend h.status (mailbox_at h.home.cell.who h.home.cell.journal) rest r.leads in
         let told = told-suspend h.home.cell.who h.actor h.before h.home.cell.journal rest h.recorded h.status.closed r.told in
         (
@@ -143,16 +140,18 @@ module _ (gives : ℕ → Moment → Reply → Type 0) (origin : Origin (Box Con
           r.sends,
         )
 
-    pub running-resume : (rest : List Act) → IsRunning gives origin (ResumeSelf ∷ rest) seen h → IsSettled (gives h.actor) rest h.home →
+    pub running-resume : (rest : List Act) → IsRunning gives origin (ResumeSelf ∷ rest) seen h →
         IsRunning gives origin rest seen (record h { status = resume h.status })
-    running-resume rest r settled =
+    running-resume rest r =
+        let settled = settled-silent (gives h.actor) (ResumeSelf ∷ rest) rest h.home refl r.settled in
         running-status (ResumeSelf ∷ rest) rest (resume h.status) r settled
         (leads-resume h.status (mailbox_at h.home.cell.who h.home.cell.journal) rest r.leads)
         (told-resume h.home.cell.who h.actor h.before h.home.cell.journal rest h.recorded h.status.closed r.told) r.sends
 
-    pub running-close : (rest : List Act) → IsRunning gives origin (CloseSelf ∷ rest) seen h → IsSettled (gives h.actor) rest h.home →
+    pub running-close : (rest : List Act) → IsRunning gives origin (CloseSelf ∷ rest) seen h →
         IsRunning gives origin rest seen (record h { status = the_closed })
-    running-close rest r settled =
+    running-close rest r =
+        let settled = settled-silent (gives h.actor) (CloseSelf ∷ rest) rest h.home refl r.settled in
         running-status (CloseSelf ∷ rest) rest the_closed r settled
         (leads-close h.status (mailbox_at h.home.cell.who h.home.cell.journal) rest r.leads)
         (told-close h.home.cell.who h.actor h.before h.home.cell.journal rest h.recorded h.status.closed r.told) r.sends
@@ -178,13 +177,12 @@ module _ (gives : ℕ → Moment → Reply → Type 0) (origin : Origin (Box Con
       owes_nothing = r.owes_nothing;
     }
 
-    module _ (rest : List Act) (to : ActorId) (message : SysMsg) (r : IsRunning gives origin (Sys to message ∷ rest) seen h)
-        (settled : IsSettled (gives h.actor) rest h.home) where
+    module _ (rest : List Act) (to : ActorId) (message : SysMsg) (r : IsRunning gives origin (Sys to message ∷ rest) seen h) where
+      settled : IsSettled (gives h.actor) rest h.home
+      settled = settled-silent (gives h.actor) (Sys to message ∷ rest) rest h.home refl r.settled
+
       leads_on : Leads h.status rest (mailbox_at h.home.cell.who h.home.cell.journal)
       leads_on = leads-sys h.status (mailbox_at h.home.cell.who h.home.cell.journal) rest to message r.leads
-
-      said_of : Bool → Said
-      said_of ended = record { to = to.0; message = message; was_ended = ended }
 
       pub running-listed : IsRunning gives origin rest seen (record h {
         recorded = h.recorded ++ record { to = to.0; message = message; was_ended = false } ∷ [];

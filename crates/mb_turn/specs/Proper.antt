@@ -1,8 +1,9 @@
 -- System messages among the actors of one system: to actors that there are, and of watchers that there are.
-use Rattle.std.specs.Prelude.{◌≡◌, ℕ, ◌<◌, List, All, IfSome, length}
+use Rattle.std.specs.Prelude.{◌≡◌, ℕ, ◌<◌, List, IfSome, length}
 use Rattle.mb_msg.specs.declared.system.SysMsg.{SysMsg}
 use Rattle.mb_msg.specs.declared.system.SysMsg.TheVariants as system
 use Rattle.mb_journal.specs.Acts.{Act}
+use Rattle.mb_rule.specs.Seen.{Each}
 use Rattle.mb_gate.specs.Record.{messages_of}
 use Rattle.mb_home.specs.Contents.{Contents}
 
@@ -13,11 +14,11 @@ IsProper actors _ = Unit {0}
 
 -- each message that these acts send is proper, and to one of the actors
 abbrev pub SendProper : ℕ → List Act → Type 0
-SendProper actors pending = All (λ (m : ℕ × SysMsg). (m.0 < actors) × IsProper actors m.1) (messages_of pending)
+SendProper actors pending = Each (λ (m : ℕ × SysMsg). (m.0 < actors) × IsProper actors m.1) (messages_of pending)
 
 -- each that was drained and not applied is proper
 abbrev pub ArrivedProper : ℕ → List (ℕ × SysMsg) → Type 0
-ArrivedProper actors = All (λ (m : ℕ × SysMsg). IsProper actors m.1)
+ArrivedProper actors = Each (λ (m : ℕ × SysMsg). IsProper actors m.1)
 
 -- the roll has as many actors as the gates, and the parent of this one is among them
 pub record IsPeer (actors : ℕ) (h : Contents) : Type 0 where
