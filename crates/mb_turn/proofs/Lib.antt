@@ -6,3 +6,6 @@ pub mod HoldLemmas
 pub mod RestLemmas
 pub mod SettledLemmas
 pub mod RunningSteps
+pub mod BesideLemmas
+pub mod RunningMoves
+pub mod AnswerLemmas

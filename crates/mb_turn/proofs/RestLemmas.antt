@@ -44,12 +44,12 @@ closed-front who journal shut =
 none-aside : (who : Identity) (gives : Moment → Reply → Type 0) (journal : List Entry) → AreLawful who gives journal → count who journal ≡ 0 →
     closed who journal ≡ false → next_front who journal ≡ None → ever_aside journal ≡ []
 unfolding next_front aside
-none-aside who gives journal lawful none open nothing =
-    let live : phase who journal ≡ Live = open-live who gives journal lawful none open in
+none-aside who gives journal lawful none not_closed nothing =
+    let live : phase who journal ≡ Live = open-live who gives journal lawful none not_closed in
     let zero : (count who journal == 0) ≡ true = ap (λ n. n == 0) none in
     let not_ending : not (phase_is (phase who journal) Ending) ≡ true = ap (λ (p : Phase). not (phase_is p Ending)) live in
     let all = if closed who journal then [] else ever_aside journal in
-    sym (ap (λ b. if b then [] else ever_aside journal) open)
+    sym (ap (λ b. if b then [] else ever_aside journal) not_closed)
     ∙ none-first all (sym (both-tests (count who journal == 0) (not (phase_is (phase who journal) Ending)) all zero not_ending) ∙ nothing)
 
 same-aside : (before : List Entry) (e : Entry) (envelope : Envelope) (reading : ℕ) → IsOf envelope reading e → ever_aside (e ∷ before)
@@ -62,11 +62,11 @@ same-aside before (Dropped x) envelope reading of_it = refl
 -- nothing is left beside the cell after an envelope, where nothing was before
 pub begun-rested : (old new : Contents) (reading : ℕ) (gives : Moment → Reply → Type 0) → AreLawful old.cell.who gives old.cell.journal →
     count old.cell.who old.cell.journal ≡ 0 → closed old.cell.who old.cell.journal ≡ false → Begins old new reading → IsRested old → IsRested new
-begun-rested old new reading gives lawful none open b r = record {
+begun-rested old new reading gives lawful none not_closed b r = record {
   no_rest = ap (λ (h : Contents). h.rest) b.same ∙ r.no_rest;
   no_front =
       ap (λ (c : Seen). next_front c.who c.journal) b.taken.adds
       ∙ next_front-none old.cell.who (b.taken.entry ∷ old.cell.journal)
       (same-aside old.cell.journal b.taken.entry b.envelope reading b.taken.of_it
-      ∙ none-aside old.cell.who gives old.cell.journal lawful none open r.no_front);
+      ∙ none-aside old.cell.who gives old.cell.journal lawful none not_closed r.no_front);
 }

@@ -35,9 +35,9 @@ pub status-at : (h : Hold) → Leads h.status [] (mailbox_at h.home.cell.who h.h
     ≡ mailbox_at h.home.cell.who h.home.cell.journal
 status-at h leads = leads-nowhere h.status (mailbox_at h.home.cell.who h.home.cell.journal) leads
 
-pub open-journal : (h : Hold) → Leads h.status [] (mailbox_at h.home.cell.who h.home.cell.journal) → h.status.closed ≡ false →
+pub journal-open : (h : Hold) → Leads h.status [] (mailbox_at h.home.cell.who h.home.cell.journal) → h.status.closed ≡ false →
     closed h.home.cell.who h.home.cell.journal ≡ false
-open-journal h leads open = sym (ap (λ (m : Mailbox). m.closed) (status-at h leads)) ∙ open
+journal-open h leads not_closed = sym (ap (λ (m : Mailbox). m.closed) (status-at h leads)) ∙ not_closed
 
 -- what is left of those that were drained is proper still
 arrived-due : (actors : ℕ) (front : Option (ℕ × SysMsg)) (rest left : List (ℕ × SysMsg)) (number : ℕ) (m : SysMsg) → IsDue front rest number m left →
@@ -85,9 +85,9 @@ module _ (gives : ℕ → Moment → Reply → Type 0) (origin : Origin (Box Con
       running-entry b.taken.entry b.taken.adds leads settled (ap (λ (x : Contents). x.roll) b.same) (ap (λ (x : Contents). x.dead) b.same) sends
       (subst (ArrivedProper origin.actors) (sym (ap (λ (x : Contents). x.rest) b.same)) r.arrived)
 
-  module _ (s : IsBeside h) (open : h.status.closed ≡ false) where
+  module _ (s : IsBeside h) (not_closed : h.status.closed ≡ false) where
     open_rest : h.gave ≡ false → IsRested h.home
-    open_rest = subst (λ b. MatchBool b (h.home.rest ≡ []) (h.gave ≡ false → IsRested h.home)) open s.rest
+    open_rest = subst (λ b. MatchBool b (h.home.rest ≡ []) (h.gave ≡ false → IsRested h.home)) not_closed s.rest
 
     none-next : IsRested h.home → HasNext h.home → IsRested new
     none-next rested (inl some) = absurd (subst (λ (x : Option (ℕ × SysMsg)). IsSome x) rested.no_front some)
@@ -96,17 +96,17 @@ module _ (gives : ℕ → Moment → Reply → Type 0) (origin : Origin (Box Con
     beside-open : given_of new ≡ h.given → (h.gave ≡ false → IsRested new) → IsBeside (record h { home = new })
     beside-open count rest = record {
       count = count;
-      rest = subst (λ b. MatchBool b (new.rest ≡ []) (h.gave ≡ false → IsRested new)) (sym open) rest;
+      rest = subst (λ b. MatchBool b (new.rest ≡ []) (h.gave ≡ false → IsRested new)) (sym not_closed) rest;
     }
 
     pub beside-applied : HasNext h.home → AppliesNext h.home new → IsBeside (record h { home = new })
     beside-applied next a =
-        beside-open (given-applied h.home (gives h.actor) r.settled (open-journal h r.leads open) new a ∙ s.count)
+        beside-open (given-applied h.home (gives h.actor) r.settled (journal-open h r.leads not_closed) new a ∙ s.count)
         (λ nothing. none-next (open_rest nothing) next)
 
     pub beside-begun : (reading : ℕ) → count h.home.cell.who h.home.cell.journal ≡ 0 → Begins h.home new reading →
         IsBeside (record h { home = new })
     beside-begun reading none b =
         beside-open (given-begun h.home new reading b ∙ s.count)
-        (λ nothing. begun-rested h.home new reading (gives h.actor) r.settled.lawful.entries none (open-journal h r.leads open) b
+        (λ nothing. begun-rested h.home new reading (gives h.actor) r.settled.lawful.entries none (journal-open h r.leads not_closed) b
         (open_rest nothing))

@@ -132,12 +132,11 @@ module _ (gives : ℕ → Moment → Reply → Type 0) (origin : Origin (Box Con
     running-suspend rest r =
         let settled = settled-silent (gives h.actor) (SuspendSelf ∷ rest) rest h.home refl r.settled in
         let leads = leads-suspend h.status (mailbox_at h.home.cell.who h.home.cell.journal) rest r.leads in
-        let told = told-suspend h.home.cell.who h.actor h.before h.home.cell.journal rest h.recorded h.status.closed r.told in
-        (
+        let told = told-suspend h.home.cell.who h.actor h.before h.home.cell.journal rest h.recorded h.status.closed r.told in (
           leads.0,
           running-status (SuspendSelf ∷ rest) rest (suspend h.status) r settled leads.1
-          (subst (λ b. IsSaidBut h.home.cell.who h.actor b h.home.cell.journal h.before rest h.recorded) (sym (suspend-closed h.status)) told)
-          r.sends,
+              (subst (λ b. IsSaidBut h.home.cell.who h.actor b h.home.cell.journal h.before rest h.recorded) (sym (suspend-closed h.status)) told)
+              r.sends,
         )
 
     pub running-resume : (rest : List Act) → IsRunning gives origin (ResumeSelf ∷ rest) seen h →

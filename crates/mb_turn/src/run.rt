@@ -46,7 +46,7 @@ pub fn run_mailbox<A: Actor, K: Behaviours, W: Way<Place<A, K>>, R: Wait>(
     ensures ran { (journal : List Entry) × MatchResult result
         (λ turn. (stopped : Stopped) × HadRoom stopped × LeavesRun throughput claim (known_by waker.new.pass) journal turn stopped)
         (λ _. (turn : Turn) × LeavesRun throughput claim (known_by waker.new.pass) journal turn NoRoom
-            × (IsErrOf result ReadyError.JournalFull → claim.home.value.cell.who.limit ≤ length journal)) }
+        × (IsErrOf result ReadyError.JournalFull → claim.home.value.cell.who.limit ≤ length journal)) }
 {
     let mut claim = claim;
     let actor = claim.actor();

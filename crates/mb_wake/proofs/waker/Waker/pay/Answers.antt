@@ -18,11 +18,10 @@ loop-number-preserved g c =
     let old = c.args.self.now in let mid = c.loop-number.self in let now = c.pay_one.new.self in
     let n = c.loop-number.number in
     let few : n < 64 = omega (arith, c.loop-number-test.true) in
-    let paid = c.pay_one.ensures in
-    (
+    let paid = c.pay_one.ensures in (
       paid.ours.0 ∙ c.loop-number.invariant.0,
       paid.ours.1 ∙ c.loop-number.invariant.1,
       paid-next n old.owed mid.owed now.owed (known_by old.pass) (known_by mid.pass) (known_by now.pass) few c.loop-number.invariant.2
-      (λ out. (ap (λ (w : Waker _ _). w.owed) (paid.none out), ap (λ (w : Waker _ _). known_by w.pass) (paid.none out))) paid.looks paid.others
-      c.in_ok-pay_one.ensures.done paid.paid,
+          (λ out. (ap (λ (w : Waker _ _). w.owed) (paid.none out), ap (λ (w : Waker _ _). known_by w.pass) (paid.none out))) paid.looks paid.others
+          c.in_ok-pay_one.ensures.done paid.paid,
     )
