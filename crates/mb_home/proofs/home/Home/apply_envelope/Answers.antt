@@ -1,13 +1,15 @@
-use Rattle.std.proofs.Common.{[], ◌∷◌, ◌++◌, sym, ap, subst, ◌∙◌}
+use Rattle.std.proofs.Common.{List, [], ◌∷◌, ◌++◌, append-nil, sym, ap, subst, ◌∙◌}
 use Rattle.std.specs.Prelude.{Contains}
 use Rattle.mb_status.specs.Mailbox.{word_of}
 use Rattle.mb_msg.specs.declared.envelope.Envelope.{Envelope}
+use Rattle.mb_journal.specs.Acts.{Act}
 use Rattle.mb_cell.specs.MayHandle.{MayHandle}
 use Rattle.mb_cell.specs.Seen.{Seen, TakesEnvelope}
 use Rattle.mb_home.specs.Contents.{Contents}
 use Rattle.mb_home.specs.Settled.{IsSettled}
 use Rattle.mb_home.specs.Carried.{LeadsOn}
 use Rattle.mb_home.proofs.LeadLemmas.{begun-leads}
+use Rattle.mb_home.proofs.SettleLemmas.{settled-take}
 use Rattle.mb_home.proofs.TellSteps.{may-handle, settled-taken}
 use Rattle.mb_home.proofs.home.Home.apply_envelope.Goals as goal
 
@@ -46,3 +48,14 @@ returns-clause-leads g c =
     e (word_of c.args.reading) c.requires.settled
     (subst (λ (x : Contents). TakesEnvelope x.cell new e (word_of c.args.reading)) c.self.view_is c.apply_envelope.ensures.taken)
     c.apply_envelope.ensures.lawful)
+
+-- nothing was taken: the books stand as they did
+pub returns-in_default-clause-settled : goal.returns-in_default-clause-settled
+returns-in_default-clause-settled g c =
+    let h : Contents = c.args.self.now in
+    subst (λ (x : Contents). IsSettled (g.K.Behaviours.gives x.cell.who.this.0) x.cell.acts x)
+    (sym (ap (λ (x : Contents). record x { take = c.take.new.self }) c.self.view_is))
+    (settled-take h (g.K.Behaviours.gives h.cell.who.this.0) h.cell.acts c.take.new.self
+    (subst (λ (l : List Act). IsSettled (g.K.Behaviours.gives h.cell.who.this.0) l h) (sym c.requires.carried_out) c.requires.settled)
+    (c.take.ensures.same.0 ∙ ap (λ (x : Contents). x.take.queue) c.self.view_is)
+    (c.in_default.ensures.taken ∙ append-nil c.self.inside.take.taken ∙ ap (λ (x : Contents). x.take.taken) c.self.view_is))
