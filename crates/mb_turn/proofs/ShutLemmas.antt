@@ -1,10 +1,13 @@
 -- Whom a run knows to be closed it knows still when it saw more.
-use Rattle.std.proofs.Common.{◌≡◌, ◌⊎◌, inl, inr, ℕ, List, [], ◌∷◌, ◌++◌, refl, sym, ap, ◌∙◌, subst, append_assoc}
+use Rattle.std.proofs.Common.{◌≡◌, ◌⊎◌, inl, inr, ℕ, List, [], ◌∷◌, ◌++◌, refl, sym, ap, ◌∙◌, subst, append_assoc, append-nil}
+use Rattle.std.specs.List.{flat_map}
+use Rattle.mb_msg.specs.declared.dead_letter.DeadLetter.{DeadLetter}
 use Rattle.mb_rule.specs.Seen.{Each}
 use Rattle.mb_rule.proofs.SeenLemmas.{each_weaker, each_append}
 use Rattle.mb_gate.specs.Rule.{IsAmong}
 use Rattle.mb_gate.specs.View.{Sight, Read}
 use Rattle.mb_gate.proofs.Numbers.{among_first, among_left, among_more, among_right}
+use Rattle.mb_home.specs.AtHome.{closed_receivers, receiver_if_closed}
 use Rattle.mb_turn.specs.Hold.{Hold}
 use Rattle.mb_turn.specs.Running.{IsShutTo}
 
@@ -59,7 +62,13 @@ shut-own more seen h new dead log same known = each_weaker (IsShutTo seen h) (Is
 pub shut-read : (seen : List Sight) (h : Hold) (other : ℕ) → IsShutTo (Read other 1 ∷ seen) h other
 shut-read seen h other = inr (among_left (Read other 1) (Read other 1 ∷ seen) h.log (among_first (Read other 1) seen))
 
--- and stands with those that were known before
-pub shut-next : (seen : List Sight) (h : Hold) (dead : List ℕ) (other : ℕ) → Each (IsShutTo seen h) dead → IsShutTo seen h other →
-    Each (IsShutTo seen h) (dead ++ other ∷ [])
-shut-next seen h dead other known is = each_append (IsShutTo seen h) dead (other ∷ []) known (is, tt)
+flat-more : {A B : Type 0} (f : A → List B) (xs : List A) (x : A) → flat_map f (xs ++ x ∷ []) ≡ flat_map f xs ++ f x
+flat-more f [] x = append-nil (f x)
+flat-more f (y ∷ ys) x = ap (λ z. f y ++ z) (flat-more f ys x) ∙ sym (append_assoc (f y) (flat_map f ys) (f x))
+
+-- a dead letter more: it counts only where it says that its receiver was closed
+pub shut-buried : (seen : List Sight) (h : Hold) (dead : List DeadLetter) (d : DeadLetter) → Each (IsShutTo seen h) (closed_receivers dead) →
+    Each (IsShutTo seen h) (receiver_if_closed d.why d.envelope.to.0) → Each (IsShutTo seen h) (closed_receivers (dead ++ d ∷ []))
+shut-buried seen h dead d known is =
+    subst (Each (IsShutTo seen h)) (sym (flat-more (λ (x : DeadLetter). receiver_if_closed x.why x.envelope.to.0) dead d))
+    (each_append (IsShutTo seen h) (closed_receivers dead) (receiver_if_closed d.why d.envelope.to.0) known is)

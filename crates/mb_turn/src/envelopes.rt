@@ -47,7 +47,7 @@ pub(crate) fn apply_envelopes<A: Actor, K: Behaviours, W: Way<Place<A, K>>, R: W
         × IsReason claim.new.home.value.cell.who throughput turn.new.envelopes claim.new.home.value.cell.journal stopped) }
     ensures full { IsErrOf result ReadyError.JournalFull → claim.new.home.value.cell.who.limit ≤ length claim.new.home.value.cell.journal }
 {
-    for _ in 0..throughput.max(1) {
+    for _handled in 0..throughput.max(1) {
         if !apply_envelope(rt, gates, waker, claim, turn)? {
             return Ok(());
         }
