@@ -1,7 +1,8 @@
 //! System messages that an actor sends.
-ghost use Rattle.std.specs.Prelude.{◌≡◌, ◌<◌, ◌∷◌, Some};
+ghost use Rattle.std.specs.Prelude.{◌≡◌, ◌<◌, ◌∷◌};
 ghost use Rattle.mb_journal.specs.Acts.Act.{Sys};
 ghost use Rattle.mb_gate.specs.Names.{actors_of, known_by, held_actor};
+ghost use Rattle.mb_gate.specs.Record.{answered_to};
 ghost use Rattle.mb_wake.specs.Origin.{origin_of};
 ghost use Rattle.mb_turn.specs.Caller.{IsWakerOf, caller_of, GoesFurther};
 ghost use Rattle.mb_turn.specs.Hold.{hold_of};
@@ -60,7 +61,7 @@ fn answer<A: Actor, K: Behaviours, W: Way<Place<A, K>>, R: Wait>(
     requires there { held_actor claim.old < actors_of gates.now }
     requires proper { IsProper (actors_of gates.now) node }
     ensures ours { IsWakerOf W.origin gates.now waker.new }
-    ensures answered { IsAnswered (asker (Some claim.old.actor) node) ended.0 claim.old claim.new }
+    ensures answered { IsAnswered (answered_to (held_actor claim.old) node) ended.0 claim.old claim.new }
     ensures goes { GoesFurther (caller_of W.pushed W.refused waker.old) (caller_of W.pushed W.refused waker.new) }
 {
     if let Some(whom) = asker_of(Some(claim.actor()), node.msg()) {
