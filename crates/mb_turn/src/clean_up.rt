@@ -79,12 +79,12 @@ fn clean_envelopes<A: Actor, K: Behaviours, R: Wait>(
     gates: &Gates<Place<A, K>>,
     claim: &mut Claim<Place<A, K>>,
 ) -> Result<(), AllocError>
-    ghost seen: { List Sight }
     requires closed { (status_of claim.old).closed ≡ true }
     requires ended { WasEnded (held_actor claim.old) (known_of claim.old).log }
-    requires running { IsRunning K.gives (origin_of gates.now) claim.old.home.value.cell.acts seen (hold_of claim.old) }
+    requires running { (seen : List Sight) × IsRunning K.gives (origin_of gates.now) claim.old.home.value.cell.acts seen (hold_of claim.old) }
     requires none { claim.old.home.value.rest ≡ [] }
-    ensures running { IsRunning K.gives (origin_of gates.now) claim.new.home.value.cell.acts seen (hold_of claim.new) }
+    ensures running { (seen : List Sight) → IsRunning K.gives (origin_of gates.now) claim.old.home.value.cell.acts seen (hold_of claim.old)
+        → IsRunning K.gives (origin_of gates.now) claim.new.home.value.cell.acts seen (hold_of claim.new) }
     ensures none { claim.new.home.value.rest ≡ [] }
     ensures closed { (status_of claim.new).closed ≡ true }
     ensures given { (given_of claim.new.home.value ≡ given_of claim.old.home.value) × (given_to claim.new ≡ given_to claim.old) }

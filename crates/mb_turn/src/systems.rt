@@ -93,13 +93,13 @@ fn drain<A: Actor, K: Behaviours, R: Wait>(
     gates: &Gates<Place<A, K>>,
     claim: &mut Claim<Place<A, K>>,
 ) -> bool
-    ghost seen: { List Sight }
     requires rested { IsRested claim.old.home.value }
     requires not_closed { (status_of claim.old).closed ≡ false }
-    requires running { IsRunning K.gives (origin_of gates.now) [] seen (hold_of claim.old) }
+    requires running { (seen : List Sight) × IsRunning K.gives (origin_of gates.now) [] seen (hold_of claim.old) }
     requires beside { IsBeside (hold_of claim.old) }
     requires carried_out { claim.old.home.value.cell.acts ≡ [] }
-    ensures running { IsRunning K.gives (origin_of gates.now) [] seen (hold_of claim.new) }
+    ensures running { (seen : List Sight) → IsRunning K.gives (origin_of gates.now) [] seen (hold_of claim.old)
+        → IsRunning K.gives (origin_of gates.now) [] seen (hold_of claim.new) }
     ensures beside { IsBeside (hold_of claim.new) }
     ensures left { claim.new.home.value.cell ≡ claim.old.home.value.cell }
     ensures same { KeepsJournal (hold_of claim.old) (hold_of claim.new) }
