@@ -1,6 +1,5 @@
 //! The acts of a message.
 ghost use Rattle.std.specs.Prelude.{◌≡◌, [], ◌∷◌, IsErrOf, OnErr};
-ghost use Rattle.mb_journal.specs.declared.ready_error.ReadyError.TheVariants as ReadyError;
 ghost use Rattle.mb_books.specs.ActQueue.{act_of};
 ghost use Rattle.mb_journal.specs.Acts.Act.{CloseSelf};
 ghost use Rattle.mb_gate.specs.Names.{known_by};

@@ -1,7 +1,6 @@
 //! Envelopes.
 ghost use Rattle.std.specs.Prelude.{◌≡◌, ◌⊎◌, ◌≤◌, ◌+◌, [], true, length, IfOk, IsErrOf, MatchBool};
 ghost use Rattle.mb_journal.specs.Run.{Stopped, IsReason, most_envelopes};
-ghost use Rattle.mb_journal.specs.declared.ready_error.ReadyError.TheVariants as ReadyError;
 ghost use Rattle.mb_gate.specs.Names.{status_of, held_actor, known_of};
 ghost use Rattle.mb_gate.specs.Names.{known_by};
 ghost use Rattle.mb_wake.specs.Origin.{origin_of};

@@ -3,7 +3,6 @@ ghost use Rattle.std.specs.Prelude.{◌≡◌, ◌≤◌, [], length, List, Matc
 ghost use Rattle.mb_journal.specs.Entry.{Entry};
 ghost use Rattle.mb_journal.specs.Run.{Stopped, IsReason, most_envelopes};
 ghost use Rattle.mb_journal.specs.Run.Stopped.{NoRoom};
-ghost use Rattle.mb_journal.specs.declared.ready_error.ReadyError.TheVariants as ReadyError;
 ghost use Rattle.mb_gate.specs.Names.{actors_of, known_by, known_of, held_actor};
 ghost use Rattle.mb_wake.specs.Origin.{origin_of};
 ghost use Rattle.mb_turn.specs.Caller.{IsWakerOf, caller_of, GoesFurther, IsPaid};

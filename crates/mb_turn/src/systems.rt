@@ -1,7 +1,6 @@
 //! System messages.
 ghost use Rattle.std.specs.Prelude.{◌≡◌, ◌⊎◌, ◌≤◌, [], true, false, length, List, IfOk, IsErrOf};
 ghost use Rattle.mb_gate.specs.View.{Sight};
-ghost use Rattle.mb_journal.specs.declared.ready_error.ReadyError.TheVariants as ReadyError;
 ghost use Rattle.mb_gate.specs.Names.{status_of};
 ghost use Rattle.mb_home.specs.Steps.{HasNext, IsRested};
 ghost use Rattle.mb_gate.specs.Names.{known_by};
