@@ -12,8 +12,6 @@ mod scenario;
 mod scripts;
 mod sends;
 mod strategy;
-#[cfg(test)]
-mod tests;
 
 pub use fault::Fault;
 pub use limits::SCENARIO_BYTES;

@@ -1,7 +1,7 @@
 //! Memory that is refused: run this with each allocation refused in turn (`tools/refuse_each_allocation_of_scenarios`).
 
-use super::whole::{WHOLE, check_whole};
-use crate::{Fault, Scenario, read};
+use crate::whole::{WHOLE, check_whole};
+use mb_reader::{Fault, Scenario, read};
 use std::alloc::Global;
 use std::process::Abort;
 use std::test::Fail;
