@@ -1,13 +1,14 @@
 -- What an envelope makes of an actor at rest.
-use Rattle.std.proofs.Common.{◌≡◌, ℕ, ◌+◌, ℤ, true, false, List, [], ◌∷◌, ◌++◌, length, suc, map, refl, sym, ap, subst, ◌∙◌, arith}
+use Rattle.std.proofs.Common.{◌≡◌, ℕ, zero, ◌+◌, ℤ, Bool, true, false, List, [], ◌∷◌, ◌++◌, length, suc, map, refl, sym, ap, subst, ◌∙◌, arith}
 use Rattle.std.proofs.Common.{append_assoc}
 use Rattle.std.specs.Prelude.{is_some, Option, Some}
 use Rattle.std.specs.List.{AllByRecursion}
+use Rattle.std.proofs.lemmas.Bool.{false≢true}
 use Rattle.std.proofs.lemmas.List.{append-nil}
 use Rattle.mb_msg.specs.declared.envelope.Body.{Body}
 use Rattle.mb_msg.specs.declared.envelope.Body.TheVariants.{User}
 use Rattle.mb_msg.specs.declared.envelope.Envelope.{Envelope}
-use Rattle.mb_status.specs.Mailbox.{Mailbox, word_of}
+use Rattle.mb_status.specs.Mailbox.{Mailbox, should_process, word_of}
 use Rattle.mb_actor.specs.Behaviour.{Moment, Reply}
 use Rattle.mb_actor.specs.declared.answer.Answer.{Answer}
 use Rattle.mb_actor.specs.declared.effect.Effect.{Effect}
@@ -29,7 +30,6 @@ use Rattle.mb_journal.proofs.LawfulLemmas.{next_front-none}
 use Rattle.mb_cell.specs.MayHandle.{MayHandle}
 use Rattle.mb_cell.specs.Seen.{IsOf, Seen, TakesEnvelope, with_entry}
 use Rattle.mb_cell.proofs.RunLaws.{turn-more}
-use Rattle.mailrun.specs.Begun.{open_mailbox}
 use Rattle.mailrun.specs.Calm.{IsQuiet, IsRunning, IsUser}
 use Rattle.mailrun.specs.Fates.{envelopes_of, messages_in}
 use Rattle.mailrun.specs.Rest.{IsAtRest, IsKept, World, world}
@@ -39,14 +39,27 @@ use Rattle.mailrun.specs.Sent.{messages_of}
 pub running-not_closed : (who : Identity) (journal : List Entry) → IsRunning who journal → closed who journal ≡ false
 running-not_closed who journal running = ap (λ p. phase_is p Ended) running.live
 
--- a mailbox that is open shows the word of an actor that runs
-pub running-open : (who : Identity) (journal : List Entry) (m : Mailbox) → IsRunning who journal → m ≡ open_mailbox → IsOpen who journal (word_of m)
-running-open who journal m running is =
-    subst (λ (b : Mailbox). IsOpen who journal (word_of b)) (sym is) (record {
-      open_word = refl;
-      same_count = sym running.unsuspended;
-      same_closing = sym (running-not_closed who journal running);
-    })
+-- the same, field by field
+open_so : (who : Identity) (journal : List Entry) (closed scheduled : Bool) (count : ℕ) → IsRunning who journal →
+    should_process (record { closed = closed; scheduled = scheduled; count = count }) ≡ true →
+    IsOpen who journal (word_of (record { closed = closed; scheduled = scheduled; count = count }))
+open_so who journal true scheduled count running is = absurd (false≢true is)
+open_so who journal false true zero running is = record {
+  open_word = refl;
+  same_count = sym running.unsuspended;
+  same_closing = sym (running-not_closed who journal running);
+}
+open_so who journal false false zero running is = record {
+  open_word = refl;
+  same_count = sym running.unsuspended;
+  same_closing = sym (running-not_closed who journal running);
+}
+open_so who journal false scheduled (suc n) running is = absurd (false≢true is)
+
+-- a mailbox that is open, scheduled or not, shows the word of an actor that runs
+pub running-open : (who : Identity) (journal : List Entry) (m : Mailbox) → IsRunning who journal → should_process m ≡ true →
+    IsOpen who journal (word_of m)
+running-open who journal m running is = open_so who journal m.closed m.scheduled m.count running is
 
 -- what an envelope makes of what is at rest
 pub record EnvelopeStep (old new : World) : Type 0 where
@@ -161,7 +174,7 @@ readied_rest w rest = record {
 
 -- an envelope that waits may be handled
 pub may_handle : (w : World) (ready : Seen) (envelope : Envelope) (envelopes : List Envelope) (m : Mailbox) → IsAtRest w →
-    ready ≡ record w.cell { is_ready = true } → w.envelopes ≡ envelope ∷ envelopes → m ≡ open_mailbox → MayHandle ready envelope (word_of m)
+    ready ≡ record w.cell { is_ready = true } → w.envelopes ≡ envelope ∷ envelopes → should_process m ≡ true → MayHandle ready envelope (word_of m)
 may_handle w ready envelope envelopes m rest is_ready some opened =
     subst (λ (s : Seen). MayHandle s envelope (word_of m)) (sym is_ready) (record {
       ready = refl;

@@ -1,5 +1,8 @@
 -- Runs of a mailbox, put together from their steps.
-use Rattle.std.proofs.Common.{◌≡◌, ◌↔◌, ℕ, suc, ◌+◌, ◌<◌, ◌≤◌, List, [], length, None, Result, Err, IsErrOf, refl, sym, ap, subst, ◌∙◌, arith}
+use Rattle.std.proofs.Common.{◌≡◌, ◌↔◌, ℕ, suc, ◌+◌, ◌<◌, ◌≤◌, List, [], ◌++◌, length, take, drop, true, None, Result, Err, IsErrOf}
+use Rattle.std.proofs.Common.{refl, sym, ap, subst, ◌∙◌, arith}
+use Rattle.std.proofs.lemmas.List.{length-append}
+use Rattle.std.proofs.Math.Seq.{drop-append-add, drop-append_seam, take-append-add, take-append_seam}
 use Rattle.mb_msg.specs.declared.envelope.Envelope.{Envelope}
 use Rattle.mb_journal.specs.Entry.{Entry}
 use Rattle.mb_journal.specs.Identity.{Identity}
@@ -10,10 +13,10 @@ use Rattle.mb_journal.specs.Aside.{next_front}
 use Rattle.mb_journal.proofs.LawfulLemmas.{next_front-none}
 use Rattle.mb_journal.specs.declared.error.ReadyError.{ReadyError}
 use Rattle.mb_journal.specs.declared.error.ReadyError.TheVariants.{JournalFull}
-use Rattle.mb_status.specs.Mailbox.{Mailbox, word_of}
+use Rattle.mb_status.specs.Mailbox.{Mailbox, should_process, word_of}
 use Rattle.mb_cell.specs.Seen.{Seen}
-use Rattle.mailrun.specs.Begun.{open_mailbox}
-use Rattle.mailrun.specs.Rest.{IsAtRest, IsEnd, IsKept, IsRunOf, IsWholeRun, World, messages_in_all}
+use Rattle.mailrun.specs.Fates.{envelopes_of}
+use Rattle.mailrun.specs.Rest.{HasHandled, IsAtRest, IsEnd, IsKept, IsRunOf, IsWholeRun, World, messages_in_all}
 use Rattle.mailrun.proofs.EnvelopeStep.{running-open}
 
 -- what is kept twice is kept
@@ -53,6 +56,21 @@ no_room throughput old new n turns at_most rest kept = run_from throughput old n
 nothing_in_front : (old new : World) → IsKept old new → IsAtRest new → next_front old.cell.who new.cell.journal ≡ None
 nothing_in_front old new kept rest = next_front-none old.cell.who new.cell.journal rest.running.none_aside
 
+-- where so many fewer wait, these were handled, the first ones first
+pub handled_first : (old new : World) (n : ℕ) → IsKept old new → n + length new.envelopes ≡ length old.envelopes → HasHandled old new n
+handled_first old new n kept taken =
+    let now = envelopes_of new.cell.journal in
+    let before = envelopes_of old.cell.journal in
+    let in_all = sym (length-append now new.envelopes) ∙ ap (λ (l : List Envelope). length l) kept.envelopes ∙ length-append before old.envelopes in
+    let more : length now ≡ length before + n = omega (arith, in_all, taken) in
+    record {
+      taken = sym taken;
+      told = sym (take-append_seam now new.envelopes) ∙ ap (λ (l : List Envelope). take (length now) l) kept.envelopes
+          ∙ ap (λ (k : ℕ). take k (before ++ old.envelopes)) more ∙ take-append-add before old.envelopes n;
+      left = sym (drop-append_seam now new.envelopes) ∙ ap (λ (l : List Envelope). drop (length now) l) kept.envelopes
+          ∙ ap (λ (k : ℕ). drop k (before ++ old.envelopes)) more ∙ drop-append-add before old.envelopes n;
+    }
+
 -- a run that used up the throughput
 pub used_up : (throughput : ℕ) (old new : World) (n : ℕ) → n ≡ most_envelopes throughput → AreTurns old new n → IsAtRest new → IsKept old new →
     n + length new.envelopes ≡ length old.envelopes → IsWholeRun throughput old new n
@@ -60,12 +78,11 @@ used_up throughput old new n is turns rest kept taken = record {
   stopped = UsedUp;
   is_end = tt;
   run_of = run_from throughput old new n UsedUp (is, nothing_in_front old new kept rest) turns (omega (arith, is)) rest kept;
-  taken = taken;
   progress = λ some. omega (arith, is);
 }
 
 -- a run that found no envelope
-pub found_none : (throughput : ℕ) (old new : World) (n : ℕ) (status : Mailbox) → status ≡ open_mailbox → n < most_envelopes throughput →
+pub found_none : (throughput : ℕ) (old new : World) (n : ℕ) (status : Mailbox) → should_process status ≡ true → n < most_envelopes throughput →
     AreTurns old new n → IsAtRest new → IsKept old new → n + length new.envelopes ≡ length old.envelopes → new.envelopes ≡ [] →
     IsWholeRun throughput old new n
 found_none throughput old new n status opened fewer turns rest kept taken none =
@@ -78,7 +95,6 @@ found_none throughput old new n status opened fewer turns rest kept taken none =
       run_of = run_from throughput old new n (NoEnvelope (word_of status)) (fewer, word, nothing_in_front old new kept rest) turns (omega
           (arith, fewer))
           rest kept;
-      taken = taken;
       progress = λ some. omega (arith, taken, no_more);
     }
 

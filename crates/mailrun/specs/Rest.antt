@@ -1,5 +1,5 @@
 -- What holds between two envelopes, and what a run of the mailbox does.
-use Rattle.std.specs.Prelude.{◌≡◌, ℕ, ◌+◌, ◌<◌, suc, Bool, true, false, List, [], ◌++◌, length, count_by}
+use Rattle.std.specs.Prelude.{◌≡◌, ℕ, ◌+◌, ◌<◌, suc, Bool, true, false, List, [], ◌++◌, length, take, drop, count_by}
 use Rattle.std.specs.List.{AllByRecursion}
 use Rattle.mb_msg.specs.declared.envelope.Envelope.{Envelope}
 use Rattle.mb_journal.specs.Entry.{Entry}
@@ -64,10 +64,16 @@ pub record IsRunOf (throughput : ℕ) (old new : World) (stopped : Stopped) : Ty
   pub rest : IsAtRest new
   pub kept : IsKept old new
 
--- the run ended by itself, and handled so many; at least one, if one waited
+-- so many envelopes were handled: they are the first that waited, which the journal tells of in that order, and the others
+-- still wait
+pub record HasHandled (old new : World) (handled : ℕ) : Type 0 where
+  pub taken : length old.envelopes ≡ handled + length new.envelopes
+  pub told : envelopes_of new.cell.journal ≡ envelopes_of old.cell.journal ++ take handled old.envelopes
+  pub left : new.envelopes ≡ drop handled old.envelopes
+
+-- the run ended by itself, and handled so many: at least one, if one waited
 pub record IsWholeRun (throughput : ℕ) (old new : World) (handled : ℕ) : Type 0 where
   pub stopped : Stopped
   pub is_end : IsEnd stopped new
   pub run_of : IsRunOf throughput old new stopped
-  pub taken : handled + length new.envelopes ≡ length old.envelopes
   pub progress : 0 < length old.envelopes → 0 < handled

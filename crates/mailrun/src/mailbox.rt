@@ -1,9 +1,9 @@
-ghost use Rattle.std.specs.Prelude.{◌≡◌, ◌↔◌, ◌+◌, ◌<◌, ◌≤◌, length, IfOk, OnErr, MatchResult, IsErrOf};
+ghost use Rattle.std.specs.Prelude.{◌≡◌, ◌↔◌, ◌+◌, ◌<◌, ◌≤◌, true, length, IfOk, OnErr, MatchResult, IsErrOf};
+ghost use Rattle.mb_status.specs.Mailbox.{should_process};
 ghost use Rattle.mb_journal.specs.Run.{most_envelopes};
 ghost use Rattle.mb_journal.specs.Run.Stopped.{NoRoom};
-ghost use Rattle.mailrun.specs.Begun.{open_mailbox};
 ghost use Rattle.mailrun.specs.Calm.{IsQuiet};
-ghost use Rattle.mailrun.specs.Rest.{IsAtRest, IsKept, IsNext, IsRunOf, IsWholeRun, world};
+ghost use Rattle.mailrun.specs.Rest.{HasHandled, IsAtRest, IsKept, IsNext, IsRunOf, IsWholeRun, world};
 
 use mb_actor::{Actor, Behaviours};
 use mb_cell::Cell;
@@ -13,7 +13,8 @@ use mb_status::Status;
 use std::collections::VecDeque;
 
 /// One run of the mailbox (`akka.dispatch.Mailbox.run`) of an actor that was started, that never fails, and that asks for
-/// nothing: at most as many envelopes as the throughput says, of which 0 counts as 1. It answers how many it handled.
+/// nothing: at most as many envelopes as the throughput says, of which 0 counts as 1. It answers how many it handled. The
+/// status is that of the mailbox, which is open, and whether it is scheduled makes no difference.
 ///
 /// It stops before an envelope for which there is no room, with everything before it kept: room is made before each is
 /// taken, also where none comes. The answer is `JournalFull` exactly where the journal is full then, else `NoMemory`.
@@ -25,8 +26,9 @@ pub fn run_mailbox<A: Actor, K: Behaviours>(
 ) -> Result<usize, ReadyError>
     requires rest { IsAtRest (world cell.old envelopes.old.items) }
     requires quiet { IsQuiet (K.gives cell.old.who.this.0) }
-    requires open { status ≡ open_mailbox }
+    requires open { should_process status ≡ true }
     ensures whole { IfOk result (IsWholeRun throughput (world cell.old envelopes.old.items) (world cell.new envelopes.new.items)) }
+    ensures handled { IfOk result (HasHandled (world cell.old envelopes.old.items) (world cell.new envelopes.new.items)) }
     ensures stopped { OnErr result (IsRunOf throughput (world cell.old envelopes.old.items) (world cell.new envelopes.new.items) NoRoom) }
     ensures full { IsErrOf result ReadyError.JournalFull ↔ (cell.new.who.limit ≤ length cell.new.journal)
         × (length envelopes.old.items < length envelopes.new.items + most_envelopes throughput) }
@@ -50,7 +52,7 @@ fn handle_next<A: Actor, K: Behaviours>(
 ) -> Result<bool, ReadyError>
     requires rest { IsAtRest (world cell.old envelopes.old.items) }
     requires quiet { IsQuiet (K.gives cell.old.who.this.0) }
-    requires open { status ≡ open_mailbox }
+    requires open { should_process status ≡ true }
     ensures rest { IsAtRest (world cell.new envelopes.new.items) }
     ensures kept { IsKept (world cell.old envelopes.old.items) (world cell.new envelopes.new.items) }
     ensures next { MatchResult result (λ took. IsNext took (world cell.old envelopes.old.items) (world cell.new envelopes.new.items))

@@ -1,9 +1,10 @@
 ghost use Rattle.std.specs.Prelude.{◌≡◌, ◌+◌, ◌≤◌, [], true, length, IfOk, OnOk, IsErrOf, Err};
 ghost use Rattle.std.specs.List.{list_all};
+ghost use Rattle.mb_status.specs.Mailbox.{should_process};
 ghost use Rattle.mb_actor.specs.Behaviour.{AllowsSame};
 ghost use Rattle.mb_reader.specs.View.{strategy_data};
 ghost use Rattle.mb_journal.specs.Run.{IsBlock};
-ghost use Rattle.mailrun.specs.Begun.{open_mailbox, the_actor};
+ghost use Rattle.mailrun.specs.Begun.{the_actor};
 ghost use Rattle.mailrun.specs.Calm.{IsQuiet};
 ghost use Rattle.mailrun.specs.Rest.{IsAtRest, IsKept, world};
 ghost use Rattle.mailrun.specs.Scope.{is_plain_send};
@@ -84,7 +85,7 @@ fn run_all<A: Actor, K: Behaviours>(
     requires rest { IsAtRest (world cell.old envelopes.old.items) }
     requires started { IsBlock cell.old.who [] cell.old.journal }
     requires quiet { IsQuiet (K.gives cell.old.who.this.0) }
-    requires open { status ≡ open_mailbox }
+    requires open { should_process status ≡ true }
     ensures rest { IsAtRest (world cell.new envelopes.new.items) }
     ensures kept { IsKept (world cell.old envelopes.old.items) (world cell.new envelopes.new.items) }
     ensures none_left { OnOk result (envelopes.new.items ≡ []) }
