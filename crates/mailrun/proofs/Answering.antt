@@ -1,5 +1,5 @@
 -- The parts of a scenario that can be run, and its outcome.
-use Rattle.std.proofs.Common.{◌≡◌, ℕ, suc, ◌+◌, List, [], ◌∷◌, ◌++◌, length, map, refl, sym, ap, subst, ◌∙◌, arith, length-append}
+use Rattle.std.proofs.Common.{◌≡◌, ℕ, suc, List, [], ◌∷◌, ◌++◌, length, map, sym, ap, ◌∙◌, arith, length-append}
 use Rattle.mb_plan.specs.declared.actor_plan.ActorPlan.{ActorPlan}
 use Rattle.mb_reader.specs.View.{actor_data}
 use Rattle.mb_report.specs.Lines.{report_text_of}

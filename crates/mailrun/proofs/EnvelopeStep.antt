@@ -1,9 +1,9 @@
 -- What an envelope makes of an actor at rest.
-use Rattle.std.proofs.Common.{◌≡◌, ℕ, zero, ◌+◌, ℤ, Bool, true, false, List, [], ◌∷◌, ◌++◌, length, suc, map, refl, sym, ap, subst, ◌∙◌, arith}
+use Rattle.std.proofs.Common.{◌≡◌, ℕ, zero, ℤ, Bool, true, false, List, [], ◌∷◌, ◌++◌, length, suc, refl, sym, ap, subst, ◌∙◌, arith}
 use Rattle.std.proofs.Common.{append_assoc}
-use Rattle.std.specs.Prelude.{is_some, Option, Some}
+use Rattle.std.specs.Prelude.{is_some, not, Option}
 use Rattle.std.specs.List.{AllByRecursion}
-use Rattle.std.proofs.lemmas.Bool.{false≢true}
+use Rattle.std.proofs.lemmas.Bool.{false≢true, lt-ltb}
 use Rattle.std.proofs.lemmas.List.{append-nil}
 use Rattle.mb_msg.specs.declared.envelope.Body.{Body}
 use Rattle.mb_msg.specs.declared.envelope.Body.TheVariants.{User}
@@ -18,7 +18,7 @@ use Rattle.mb_journal.specs.Entry.{Entry, is_failed}
 use Rattle.mb_journal.specs.Entry.Entry.{Handled, System, Dropped}
 use Rattle.mb_journal.specs.Entry.Outcome.{Applied, SetAside}
 use Rattle.mb_journal.specs.Failure.{failure_of}
-use Rattle.mb_journal.specs.Identity.{Identity, is_guardian}
+use Rattle.mb_journal.specs.Identity.{Identity}
 use Rattle.mb_journal.specs.Incarnation.{body_messages}
 use Rattle.mb_journal.specs.Lawful.{AreLawful, IsGiven, IsLawful, IsLawfulEntry, IsUnexpected, envelope_call}
 use Rattle.mb_journal.specs.Life.{closed}
@@ -33,7 +33,6 @@ use Rattle.mb_cell.proofs.RunLaws.{turn-more}
 use Rattle.mailrun.specs.Calm.{IsQuiet, IsRunning, IsUser}
 use Rattle.mailrun.specs.Fates.{envelopes_of, messages_in}
 use Rattle.mailrun.specs.Rest.{IsAtRest, IsKept, World, world}
-use Rattle.mailrun.specs.Sent.{messages_of}
 
 -- an actor that runs has not ended
 pub running-not_closed : (who : Identity) (journal : List Entry) → IsRunning who journal → closed who journal ≡ false
@@ -54,7 +53,7 @@ open_so who journal false false zero running is = record {
   same_count = sym running.unsuspended;
   same_closing = sym (running-not_closed who journal running);
 }
-open_so who journal false scheduled (suc n) running is = absurd (false≢true is)
+open_so who journal false scheduled (suc n) running is = absurd (false≢true (sym (ap not (lt-ltb 0 (suc n) (omega arith))) ∙ is))
 
 -- a mailbox that is open, scheduled or not, shows the word of an actor that runs
 pub running-open : (who : Identity) (journal : List Entry) (m : Mailbox) → IsRunning who journal → should_process m ≡ true →

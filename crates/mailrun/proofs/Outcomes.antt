@@ -1,6 +1,6 @@
 -- The text of the report of a run.
-use Rattle.std.proofs.Common.{◌≡◌, ℕ, ◌+◌, ℤ, Bool, true, false, ◌==◌, List, []}
-use Rattle.std.proofs.Common.{◌∷◌, ◌++◌, length, count_by, sum_by, codes, refl, sym, ap, ◌∙◌, arith}
+use Rattle.std.proofs.Common.{◌≡◌, ℕ, ◌+◌, ℤ, true, List, []}
+use Rattle.std.proofs.Common.{◌∷◌, ◌++◌, length, count_by, codes, refl, sym, ap, ◌∙◌, arith}
 use Rattle.std.proofs.Common.{cond, length-append, zero-add}
 use Rattle.std.proofs.lemmas.List.Sums.{sum_by-cons}
 use Rattle.std.specs.Prelude.{Option, Some, None}
@@ -9,7 +9,6 @@ use Rattle.mb_msg.specs.declared.dead_letter.DeadLetter.{DeadLetter}
 use Rattle.mb_msg.specs.declared.envelope.Envelope.{Envelope}
 use Rattle.mb_msg.specs.declared.system.SysMsg.TheVariants.{Create}
 use Rattle.mb_actor.specs.declared.message.Message.{Message}
-use Rattle.mb_actor.specs.declared.phase.Phase.{Phase}
 use Rattle.mb_actor.specs.declared.phase.Phase.TheVariants.{Live}
 use Rattle.mb_journal.specs.Entry.{Entry}
 use Rattle.mb_journal.specs.Entry.Entry.{Handled, System, Dropped}
@@ -24,13 +23,13 @@ use Rattle.mb_report.specs.declared.report.Report.{Report}
 use Rattle.mb_report.specs.declared.report.SenderReport.{SenderReport}
 use Rattle.mb_reader.specs.Plans.{ScenarioData}
 use Rattle.mb_script.specs.Script.{Scripted, after_of}
-use Rattle.mailrun.specs.Begun.{started_guardian, the_guardian}
+use Rattle.mailrun.specs.Begun.{the_guardian}
 use Rattle.mailrun.specs.Fates.{envelope_in, envelopes_of}
 use Rattle.mailrun.specs.Outcome.{calm_line, lines_of, report_of, state_after}
-use Rattle.mailrun.specs.Reported.{AreSenders, IsReportedOf}
+use Rattle.mailrun.specs.Reported.{AreSenders}
 use Rattle.mailrun.specs.Scope.{is_plain_send}
-use Rattle.mailrun.specs.Sent.{bodies, sent}
-use Rattle.mailrun.specs.Told.{HasRun, IsTold}
+use Rattle.mailrun.specs.Sent.{bodies}
+use Rattle.mailrun.specs.Told.{HasRun}
 use Rattle.mailrun.proofs.SentLemmas.{length-bodies, length-sent}
 
 -- as many entries tell of an envelope as there are envelopes

@@ -1,7 +1,6 @@
 -- A text that is a scenario which can be run is not at fault.
-use Rattle.std.proofs.Common.{◌≡◌, true, ℕ, List, arith, sym, ap, ◌∙◌, subst}
-use Rattle.mb_format.specs.Check.{document_check}
-use Rattle.mb_reader.specs.Plans.{ScenarioData, scenario_of}
+use Rattle.std.proofs.Common.{◌≡◌, true, ℕ, List, arith, ap}
+use Rattle.mb_reader.specs.Plans.{ScenarioData}
 use Rattle.mb_reader.specs.Reading.{Finds, IsReadAs, too_long, in_document}
 use Rattle.mb_reader.specs.declared.fault.Fault.TheVariants.{NoMemory, NotToml, BadScenario}
 use Rattle.mb_format.specs.Place.{Fault as Found}

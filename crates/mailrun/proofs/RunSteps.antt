@@ -16,7 +16,7 @@ use Rattle.mb_journal.specs.declared.error.ReadyError.TheVariants.{JournalFull}
 use Rattle.mb_status.specs.Mailbox.{Mailbox, should_process, word_of}
 use Rattle.mb_cell.specs.Seen.{Seen}
 use Rattle.mailrun.specs.Fates.{envelopes_of}
-use Rattle.mailrun.specs.Rest.{HasHandled, IsAtRest, IsEnd, IsKept, IsRunOf, IsWholeRun, World, messages_in_all}
+use Rattle.mailrun.specs.Rest.{HasHandled, IsAtRest, IsKept, IsRunOf, IsWholeRun, World}
 use Rattle.mailrun.proofs.EnvelopeStep.{running-open}
 
 -- what is kept twice is kept

@@ -1,5 +1,5 @@
 -- The runs of a mailbox, one after another.
-use Rattle.std.proofs.Common.{◌≡◌, ℕ, ◌<◌, List, [], length, sym, ap, ◌∙◌, inl, inr, ◌⊎◌}
+use Rattle.std.proofs.Common.{◌≡◌, ℕ, List, [], inl, inr, ◌⊎◌}
 use Rattle.mb_journal.specs.Entry.{Entry}
 use Rattle.mb_journal.specs.Identity.{Identity}
 use Rattle.mb_journal.specs.Run.{IsBlock, IsRun, Stopped}

@@ -1,8 +1,8 @@
 -- What is so of a scenario that can be run.
-use Rattle.std.proofs.Common.{◌≡◌, ℕ, ◌+◌, ◌<◌, Bool, true, ◌&&◌, ◌==◌, List, [], ◌∷◌, length, map, refl, ap, sym, ◌∙◌, subst, arith}
+use Rattle.std.proofs.Common.{◌≡◌, ℕ, ◌+◌, ◌<◌, true, ◌&&◌, ◌==◌, List, [], ◌∷◌, length, refl, sym, subst}
 use Rattle.std.specs.List.{list_all}
 use Rattle.std.proofs.lemmas.Bool.{eqb-true, ltb-true}
-use Rattle.toml.specs.Data.{Data, Items, no_items, item}
+use Rattle.toml.specs.Data.{Items, no_items, item}
 use Rattle.mb_format.specs.Context.{KinData}
 use Rattle.mb_reader.specs.Fields.{map_items}
 use Rattle.mb_reader.specs.Plans.{ScenarioData}

@@ -1,6 +1,6 @@
 -- What its Create makes of an actor that never fails and asks for nothing, and of the guardian.
 use Rattle.std.proofs.Common.{◌≡◌, ℕ, ◌-◌, false, true, List, [], ◌∷◌, refl, ap, sym, subst, ◌∙◌, inl}
-use Rattle.std.specs.Prelude.{not, Option, Some, None}
+use Rattle.std.specs.Prelude.{Option, Some, None}
 use Rattle.std.proofs.lemmas.Bool.{false≢true}
 use Rattle.mb_msg.specs.declared.id.ActorId.{ActorId}
 use Rattle.mb_msg.specs.declared.system.SysMsg.{SysMsg}

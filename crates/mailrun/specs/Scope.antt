@@ -1,8 +1,8 @@
 -- Which scenarios can be run today (this project's own profile).
-use Rattle.std.specs.Prelude.{ℕ, ◌+◌, ◌==◌, nat_lt, Bool, true, false, ◌&&◌, is_none, List, [], ◌∷◌, length}
+use Rattle.std.specs.Prelude.{◌+◌, ◌==◌, nat_lt, Bool, true, false, ◌&&◌, is_none, List, [], ◌∷◌, length}
 use Rattle.std.specs.List.{list_all}
 use Rattle.mb_msg.specs.declared.envelope.Body.TheVariants.{User}
-use Rattle.mb_reader.specs.Plans.{ActorData, KindData, ScenarioData, unbounded, bounded, priority, control}
+use Rattle.mb_reader.specs.Plans.{ActorData, KindData, ScenarioData, unbounded}
 use Rattle.mb_reader.specs.declared.scenario.Sending.{Sending}
 use Rattle.mb_reader.specs.declared.scenario.What.{What}
 use Rattle.mb_reader.specs.declared.scenario.What.TheVariants.{Envelope}

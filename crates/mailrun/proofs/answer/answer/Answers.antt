@@ -1,9 +1,8 @@
-use Rattle.std.proofs.Common.{◌≡◌, true, false, Err, List, [], ◌∷◌, length, map, refl, sym, ap, subst, ◌∙◌, arith, string_bytes, String}
+use Rattle.std.proofs.Common.{◌≡◌, true, false, Err, List, length, map, sym, ap, subst, ◌∙◌, arith, string_bytes, String}
 use Rattle.std.specs.List.{list_all}
 use Rattle.std.specs.declared.alloc.Global.{Global}
 use Rattle.std.proofs.lemmas.Grind.{common_steps}
 use Rattle.mb_journal.specs.declared.error.ReadyError.{ReadyError}
-use Rattle.mb_plan.specs.declared.actor_plan.ActorPlan.{ActorPlan}
 use Rattle.mb_reader.specs.View.{actor_data, scenario_data, strategy_data}
 use Rattle.mb_reader.specs.declared.scenario.Sending.{Sending}
 use Rattle.mb_report.specs.Lines.{report_text_of}

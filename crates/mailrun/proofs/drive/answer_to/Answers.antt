@@ -1,4 +1,4 @@
-use Rattle.std.proofs.Common.{◌≡◌, ℕ, List, sym, subst, ◌∙◌, IfErr, Result}
+use Rattle.std.proofs.Common.{ℕ, List, sym, subst, ◌∙◌, IfErr, Result}
 use Rattle.std.proofs.Common.{String}
 use Rattle.std.specs.declared.alloc.Global.{Global}
 use Rattle.std.proofs.lemmas.Result.{err_from_is_err_and}

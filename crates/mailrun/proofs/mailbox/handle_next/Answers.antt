@@ -1,8 +1,6 @@
-use Rattle.std.proofs.Common.{◌≡◌, length, refl, sym, ap, subst, ◌∙◌, arith}
-use Rattle.mb_status.specs.Mailbox.{word_of}
-use Rattle.mb_cell.specs.Seen.{Seen}
-use Rattle.mailrun.proofs.EnvelopeStep.{EnvelopeStep, envelope_step, may_handle, readied_rest}
-use Rattle.mailrun.specs.Rest.{IsAtRest, world}
+use Rattle.std.proofs.Common.{length, ap, arith}
+use Rattle.mailrun.proofs.EnvelopeStep.{envelope_step, may_handle}
+use Rattle.mailrun.specs.Rest.{world}
 use Rattle.mailrun.proofs.mailbox.handle_next.Goals as goal
 
 pub apply_envelope-requires : goal.apply_envelope-requires

@@ -1,4 +1,4 @@
-use Rattle.std.proofs.Common.{Err, ◌≡◌, List, length, ap}
+use Rattle.std.proofs.Common.{Err, ◌≡◌, length, ap}
 use Rattle.std.proofs.lemmas.Result.{err_from_is_err_and}
 use Rattle.mb_journal.specs.Identity.{Identity}
 use Rattle.mb_journal.specs.declared.error.ReadyError.{ReadyError}

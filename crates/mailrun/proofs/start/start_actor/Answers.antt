@@ -1,10 +1,7 @@
-use Rattle.std.proofs.Common.{◌≡◌, true, List, [], refl, sym, ap, subst, ◌∙◌, inl}
+use Rattle.std.proofs.Common.{true, [], ap, subst, ◌∙◌}
 use Rattle.mb_msg.specs.declared.system.SysMsg.{SysMsg}
-use Rattle.mb_msg.specs.declared.system.SysMsg.TheVariants.{Create}
-use Rattle.mb_actor.specs.declared.phase.Phase.TheVariants.{Ended}
-use Rattle.mb_journal.specs.Phase.{phase_is}
-use Rattle.mb_cell.specs.Seen.{MayTake, Seen, TakesSystem}
-use Rattle.mailrun.proofs.StartSteps.{Starts, begun, next_number-none, phase-none, may_start, ready_cell, starts_actor}
+use Rattle.mb_cell.specs.Seen.{Seen, TakesSystem}
+use Rattle.mailrun.proofs.StartSteps.{Starts, begun, may_start, starts_actor}
 use Rattle.mailrun.proofs.start.start_actor.Goals as goal
 
 pub apply_system-requires : goal.apply_system-requires

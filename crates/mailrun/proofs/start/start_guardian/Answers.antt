@@ -1,8 +1,7 @@
-use Rattle.std.proofs.Common.{◌≡◌, true, List, [], ◌∷◌, refl, sym, ap, subst, ◌∙◌}
-use Rattle.mb_journal.specs.Acts.{Act}
+use Rattle.std.proofs.Common.{true, refl, sym, ap, ◌∙◌}
 use Rattle.mb_cell.specs.Seen.{Seen}
-use Rattle.mailrun.specs.Begun.{started_guardian, the_guardian}
-use Rattle.mailrun.proofs.StartSteps.{guardian_resumes, guardian_tells, is_telling, may_start, starting_guardian, starts_guardian}
+use Rattle.mailrun.specs.Begun.{the_guardian}
+use Rattle.mailrun.proofs.StartSteps.{guardian_resumes, guardian_tells, is_telling, may_start, starts_guardian}
 use Rattle.mailrun.proofs.start.start_guardian.Goals as goal
 
 pub apply_system-requires : goal.apply_system-requires
