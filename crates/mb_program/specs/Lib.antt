@@ -1,0 +1,6 @@
+pub mod Answer
+pub mod Failure
+pub mod Outcome
+pub mod Ran
+pub mod Scope
+pub mod Written
