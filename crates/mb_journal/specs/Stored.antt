@@ -1,5 +1,6 @@
 -- How the rows of a journal keep its entries: one after another, and all their effects in one list beside them.
 use Rattle.std.specs.Prelude.{◌≡◌, ℕ, zero, suc, ◌+◌, ◌<◌, ◌≤◌, true, List, [], ◌∷◌, length, slice_range, vec_len, vec_capacity}
+use Rattle.mb_msg.specs.Limits.{most_effects}
 use Rattle.mb_actor.specs.declared.effect.Effect.{Effect}
 use Rattle.mb_journal.specs.Entry.{Entry}
 use Rattle.mb_journal.specs.Log.{entry_with}
@@ -21,10 +22,6 @@ unfoldable pub start_of : ℕ → List Row → ℕ → ℕ
 start_of from rows zero = from
 start_of from [] (suc i) = from
 start_of from (row ∷ rows) (suc i) = start_of row.end rows i
-
--- how many effects one call of an actor asks for at most (this project's own limit)
-abbrev pub most_effects : ℕ
-most_effects = 16
 
 -- what holds of the rows and effects of a journal at rest: the effects of the rows are those of the list, there are no more rows than there may
 -- be, and a journal that is ready has room for a row and all the effects of a call
