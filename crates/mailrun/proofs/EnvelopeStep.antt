@@ -32,7 +32,7 @@ use Rattle.mb_cell.specs.Seen.{IsOf, Seen, TakesEnvelope, with_entry}
 use Rattle.mb_cell.proofs.RunLaws.{turn-more}
 use Rattle.mailrun.specs.Calm.{IsQuiet, IsRunning, IsUser}
 use Rattle.mailrun.specs.Fates.{envelopes_of, messages_in}
-use Rattle.mailrun.specs.Rest.{IsAtRest, IsKept, World, world}
+use Rattle.mailrun.specs.Rest.{IsAtRest, LosesNothing, World, world}
 
 -- an actor that runs has not ended
 pub running-not_closed : (who : Identity) (journal : List Entry) → IsRunning who journal → closed who journal ≡ false
@@ -63,7 +63,7 @@ running-open who journal m running is = open_so who journal m.closed m.scheduled
 -- what an envelope makes of what is at rest
 pub record EnvelopeStep (old new : World) : Type 0 where
   pub rest : IsAtRest new
-  pub kept : IsKept old new
+  pub kept : LosesNothing old new
   pub turn : (from : List Entry) (n : ℕ) → IsTurns old.cell.who from n old.cell.journal → IsTurns old.cell.who from (suc n) new.cell.journal
 
 -- the envelope is told of last

@@ -16,15 +16,15 @@ use Rattle.mb_journal.specs.declared.error.ReadyError.TheVariants.{JournalFull}
 use Rattle.mb_status.specs.Mailbox.{Mailbox, should_process, word_of}
 use Rattle.mb_cell.specs.Seen.{Seen}
 use Rattle.mailrun.specs.Fates.{envelopes_of}
-use Rattle.mailrun.specs.Rest.{HasHandled, IsAtRest, IsKept, IsRunOf, IsWholeRun, World}
+use Rattle.mailrun.specs.Rest.{HasHandled, IsAtRest, IsRunOf, IsWholeRun, LosesNothing, World}
 use Rattle.mailrun.proofs.EnvelopeStep.{running-open}
 
 -- what is kept twice is kept
-pub kept_after : (first middle last : World) → IsKept first middle → IsKept middle last → IsKept first last
+pub kept_after : (first middle last : World) → LosesNothing first middle → LosesNothing middle last → LosesNothing first last
 kept_after first middle last a b = record { same_who = b.same_who ∙ a.same_who; envelopes = b.envelopes ∙ a.envelopes; in_all = b.in_all ∙ a.in_all }
 
 -- what nothing changed is kept
-pub kept_itself : (w : World) → IsKept w w
+pub kept_itself : (w : World) → LosesNothing w w
 kept_itself w = record { same_who = refl; envelopes = refl; in_all = refl }
 
 -- so many turns after each journal behind which only system messages lie
@@ -32,7 +32,7 @@ abbrev pub AreTurns : World → World → ℕ → Type 0
 AreTurns old new n = (from : List Entry) → IsBlock old.cell.who from old.cell.journal → IsTurns old.cell.who from n new.cell.journal
 
 -- one envelope more
-pub turn_more : (first old new : World) (n : ℕ) → IsKept first old →
+pub turn_more : (first old new : World) (n : ℕ) → LosesNothing first old →
     ((from : List Entry) (k : ℕ) → IsTurns old.cell.who from k old.cell.journal → IsTurns old.cell.who from (suc k) new.cell.journal) →
     AreTurns first old n → AreTurns first new (suc n)
 turn_more first old new n to_old turn turns = λ from block.
@@ -41,7 +41,7 @@ turn_more first old new n to_old turn turns = λ from block.
 
 -- a run from its turns
 run_from : (throughput : ℕ) (old new : World) (n : ℕ) (stopped : Stopped) → IsReason old.cell.who throughput n new.cell.journal stopped →
-    AreTurns old new n → n ≤ most_envelopes throughput → IsAtRest new → IsKept old new → IsRunOf throughput old new stopped
+    AreTurns old new n → n ≤ most_envelopes throughput → IsAtRest new → LosesNothing old new → IsRunOf throughput old new stopped
 run_from throughput old new n stopped reason turns at_most rest kept = record {
   run = λ from block. record { envelopes = n; turns = turns from block; at_most = at_most; reason = reason };
   rest = rest;
@@ -49,15 +49,15 @@ run_from throughput old new n stopped reason turns at_most rest kept = record {
 }
 
 -- a run for which there was no room
-pub no_room : (throughput : ℕ) (old new : World) (n : ℕ) → AreTurns old new n → n ≤ most_envelopes throughput → IsAtRest new → IsKept old new →
+pub no_room : (throughput : ℕ) (old new : World) (n : ℕ) → AreTurns old new n → n ≤ most_envelopes throughput → IsAtRest new → LosesNothing old new →
     IsRunOf throughput old new NoRoom
 no_room throughput old new n turns at_most rest kept = run_from throughput old new n NoRoom tt turns at_most rest kept
 
-nothing_in_front : (old new : World) → IsKept old new → IsAtRest new → next_front old.cell.who new.cell.journal ≡ None
+nothing_in_front : (old new : World) → LosesNothing old new → IsAtRest new → next_front old.cell.who new.cell.journal ≡ None
 nothing_in_front old new kept rest = next_front-none old.cell.who new.cell.journal rest.running.none_aside
 
 -- where so many fewer wait, these were handled, the first ones first
-pub handled_first : (old new : World) (n : ℕ) → IsKept old new → n + length new.envelopes ≡ length old.envelopes → HasHandled old new n
+pub handled_first : (old new : World) (n : ℕ) → LosesNothing old new → n + length new.envelopes ≡ length old.envelopes → HasHandled old new n
 handled_first old new n kept taken =
     let now = envelopes_of new.cell.journal in
     let before = envelopes_of old.cell.journal in
@@ -72,7 +72,7 @@ handled_first old new n kept taken =
     }
 
 -- a run that used up the throughput
-pub used_up : (throughput : ℕ) (old new : World) (n : ℕ) → n ≡ most_envelopes throughput → AreTurns old new n → IsAtRest new → IsKept old new →
+pub used_up : (throughput : ℕ) (old new : World) (n : ℕ) → n ≡ most_envelopes throughput → AreTurns old new n → IsAtRest new → LosesNothing old new →
     n + length new.envelopes ≡ length old.envelopes → IsWholeRun throughput old new n
 used_up throughput old new n is turns rest kept taken = record {
   stopped = UsedUp;
@@ -83,7 +83,7 @@ used_up throughput old new n is turns rest kept taken = record {
 
 -- a run that found no envelope
 pub found_none : (throughput : ℕ) (old new : World) (n : ℕ) (status : Mailbox) → should_process status ≡ true → n < most_envelopes throughput →
-    AreTurns old new n → IsAtRest new → IsKept old new → n + length new.envelopes ≡ length old.envelopes → new.envelopes ≡ [] →
+    AreTurns old new n → IsAtRest new → LosesNothing old new → n + length new.envelopes ≡ length old.envelopes → new.envelopes ≡ [] →
     IsWholeRun throughput old new n
 found_none throughput old new n status opened fewer turns rest kept taken none =
     let word = subst (λ (who : Identity). IsOpen who new.cell.journal (word_of status)) kept.same_who

@@ -26,7 +26,7 @@ use Rattle.mailrun.specs.Begun.{IsBegun, started_guardian, the_actor}
 use Rattle.mailrun.specs.Calm.{IsUser}
 use Rattle.mailrun.specs.Fates.{envelopes_of, messages_in}
 use Rattle.mailrun.specs.Reported.{IsReportedOf, Reports}
-use Rattle.mailrun.specs.Rest.{IsAtRest, IsKept, messages_in_all, world}
+use Rattle.mailrun.specs.Rest.{IsAtRest, LosesNothing, messages_in_all, world}
 use Rattle.mailrun.specs.Scope.{is_plain_send}
 use Rattle.mailrun.specs.Sent.{bodies, messages_of, sent}
 use Rattle.mailrun.specs.Told.{AreRuns, IsTold}
@@ -78,7 +78,7 @@ begun_kept cell sends envelopes begun are plain =
     )
 
 -- a journal that is full has an entry for each message that ever came
-pub full_needs : (first last : Seen) (before after : List Envelope) (limit sends : ℕ) → IsKept (world first before) (world last after) →
+pub full_needs : (first last : Seen) (before after : List Envelope) (limit sends : ℕ) → LosesNothing (world first before) (world last after) →
     first.who.limit ≡ limit → messages_in_all (world first before) ≡ sends + 1 → last.who.limit ≤ length last.journal → limit ≤ sends + 1
 full_needs first last before after limit sends kept who in_all full =
     let same = ap (λ (w : Identity). w.limit) kept.same_who in
@@ -89,7 +89,7 @@ full_needs first last before after limit sends kept who in_all full =
 pub told_run : (after : ℕ → List Message → ℤ) (gives : ℕ → Moment → Reply → Type 0) (guardian first last : Seen) (before left : List Envelope)
     (strategy : StrategyData) (limit throughput : ℕ) (sends : List Sending) (report : Report) → IsBegun first → guardian ≡ started_guardian limit →
     first.who ≡ the_actor strategy limit → before ≡ sent 0 (bodies sends) → list_all is_plain_send sends ≡ true → IsAtRest (world last left) →
-    IsKept (world first before) (world last left) → left ≡ [] → AreRuns first.who throughput last.journal →
+    LosesNothing (world first before) (world last left) → left ≡ [] → AreRuns first.who throughput last.journal →
     Reports after gives guardian last (length sends) report →
     IsTold (after 1) (gives 0) (gives 1) (the_actor strategy limit) throughput sends report
 told_run after gives guardian first last before left strategy limit throughput sends report begun guardian_is who are plain rest kept none runs

@@ -36,7 +36,7 @@ abbrev pub messages_in_all : World → ℕ
 messages_in_all w = length w.cell.journal + length w.envelopes
 
 -- nothing is lost or made: what the journal tells of and what waits is together what it was
-pub record IsKept (old new : World) : Type 0 where
+pub record LosesNothing (old new : World) : Type 0 where
   pub same_who : new.cell.who ≡ old.cell.who
   pub envelopes : envelopes_of new.cell.journal ++ new.envelopes ≡ envelopes_of old.cell.journal ++ old.envelopes
   pub in_all : messages_in_all new ≡ messages_in_all old
@@ -62,7 +62,7 @@ IsEnd NoRoom w = ⊥
 pub record IsRunOf (throughput : ℕ) (old new : World) (stopped : Stopped) : Type 0 where
   pub run : (from : List Entry) → IsBlock old.cell.who from old.cell.journal → IsRun old.cell.who throughput from new.cell.journal stopped
   pub rest : IsAtRest new
-  pub kept : IsKept old new
+  pub kept : LosesNothing old new
 
 -- so many envelopes were handled: they are the first that waited, which the journal tells of in that order, and the others
 -- still wait

@@ -109,7 +109,7 @@ fn refuse<E: Write>(alloc: Global, errors: &mut Watched<E>, failure: &Failure) -
         Failure::Os => say(errors, "mailrun: 2 Os\n"),
         Failure::Arguments => say(errors, "mailrun: 12 BadScenario arguments: too many\n"),
         Failure::NotYet => say(errors, "mailrun: 12 BadScenario top: not yet\n"),
-        Failure::Input(fault) => match line_of(alloc, fault) {
+        Failure::Input(fault) => match fault_line(alloc, fault) {
             Ok(line) => say(errors, line.as_str()),
             Err(_) => {
                 say(errors, "mailrun: 1 NoMemory\n");
@@ -121,7 +121,7 @@ fn refuse<E: Write>(alloc: Global, errors: &mut Watched<E>, failure: &Failure) -
 }
 
 /// The line of a fault of the input.
-fn line_of(alloc: Global, fault: &Fault) -> Result<String, AllocError>
+fn fault_line(alloc: Global, fault: &Fault) -> Result<String, AllocError>
     ensures { IfOk result (λ line. string_bytes line ≡ error_line (Failure.Input fault.now)) }
 {
     format!(in alloc; "mailrun: {fault}\n")

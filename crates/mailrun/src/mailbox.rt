@@ -3,7 +3,7 @@ ghost use Rattle.mb_status.specs.Mailbox.{should_process};
 ghost use Rattle.mb_journal.specs.Run.{most_envelopes};
 ghost use Rattle.mb_journal.specs.Run.Stopped.{NoRoom};
 ghost use Rattle.mailrun.specs.Calm.{IsQuiet};
-ghost use Rattle.mailrun.specs.Rest.{HasHandled, IsAtRest, IsKept, IsNext, IsRunOf, IsWholeRun, world};
+ghost use Rattle.mailrun.specs.Rest.{HasHandled, IsAtRest, IsNext, IsRunOf, IsWholeRun, LosesNothing, world};
 
 use mb_actor::{Actor, Behaviours};
 use mb_cell::Cell;
@@ -54,7 +54,7 @@ fn handle_next<A: Actor, K: Behaviours>(
     requires quiet { IsQuiet (K.gives cell.old.who.this.0) }
     requires open { should_process status ≡ true }
     ensures rest { IsAtRest (world cell.new envelopes.new.items) }
-    ensures kept { IsKept (world cell.old envelopes.old.items) (world cell.new envelopes.new.items) }
+    ensures kept { LosesNothing (world cell.old envelopes.old.items) (world cell.new envelopes.new.items) }
     ensures next { MatchResult result (λ took. IsNext took (world cell.old envelopes.old.items) (world cell.new envelopes.new.items))
         (λ _. (cell.new ≡ cell.old) × (envelopes.new.items ≡ envelopes.old.items)) }
     ensures full { IsErrOf result ReadyError.JournalFull ↔ (cell.old.who.limit ≤ length cell.old.journal) }

@@ -6,7 +6,7 @@ ghost use Rattle.mb_reader.specs.View.{strategy_data};
 ghost use Rattle.mb_journal.specs.Run.{IsBlock};
 ghost use Rattle.mailrun.specs.Begun.{the_actor};
 ghost use Rattle.mailrun.specs.Calm.{IsQuiet};
-ghost use Rattle.mailrun.specs.Rest.{IsAtRest, IsKept, world};
+ghost use Rattle.mailrun.specs.Rest.{IsAtRest, LosesNothing, world};
 ghost use Rattle.mailrun.specs.Scope.{is_plain_send};
 ghost use Rattle.mailrun.specs.Sent.{bodies, envelope_of, sent};
 ghost use Rattle.mailrun.specs.Told.{AreRuns, IsTold};
@@ -87,7 +87,7 @@ fn run_all<A: Actor, K: Behaviours>(
     requires quiet { IsQuiet (K.gives cell.old.who.this.0) }
     requires open { should_process status ≡ true }
     ensures rest { IsAtRest (world cell.new envelopes.new.items) }
-    ensures kept { IsKept (world cell.old envelopes.old.items) (world cell.new envelopes.new.items) }
+    ensures kept { LosesNothing (world cell.old envelopes.old.items) (world cell.new envelopes.new.items) }
     ensures none_left { OnOk result (envelopes.new.items ≡ []) }
     ensures runs { OnOk result (AreRuns cell.old.who throughput cell.new.journal) }
     ensures full { IsErrOf result ReadyError.JournalFull → cell.new.who.limit ≤ length cell.new.journal }
