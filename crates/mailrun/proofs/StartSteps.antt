@@ -110,8 +110,9 @@ first_entry : (who : Identity) (gives : Moment → Reply → Type 0) (e : Entry)
 unfolding AreLawful
 first_entry who gives e lawful = lawful.entries.0
 
-pub starts_actor : (gives : ℕ → Moment → Reply → Type 0) (who : Identity) (ready cell : Seen) → is_guardian who ≡ false → IsQuiet (gives who.this.0) →
-    ready ≡ ready_cell who → TakesSystem ready cell 0 Create → IsLawful cell.who (gives cell.who.this.0) cell.journal → Starts who cell
+pub starts_actor : (gives : ℕ → Moment → Reply → Type 0) (who : Identity) (ready cell : Seen) → is_guardian who ≡ false →
+    IsQuiet (gives who.this.0) → ready ≡ ready_cell who → TakesSystem ready cell 0 Create →
+    IsLawful cell.who (gives cell.who.this.0) cell.journal → Starts who cell
 starts_actor gives who ready cell an_actor quiet is_ready took lawful =
     let e : Entry = System 0 Create took.outcome in
     let is : cell ≡ with_entry (ready_cell who) e = took.adds ∙ ap (λ (s : Seen). with_entry s e) is_ready in
@@ -168,8 +169,8 @@ may_start who ready message is_ready create =
     subst (λ (s : Seen). MayTake s 0 message) (sym is_ready) (subst (λ (m : SysMsg). MayTake (ready_cell who) 0 m) (sym create) there)
 
 -- an actor that starts has begun once its act is carried out
-pub begun : (who : Identity) (cell taken : Seen) → Starts who cell → cell.acts ≡ ResumeSelf ∷ taken.acts → taken ≡ record cell { acts = taken.acts } →
-    IsBegun taken
+pub begun : (who : Identity) (cell taken : Seen) → Starts who cell → cell.acts ≡ ResumeSelf ∷ taken.acts →
+    taken ≡ record cell { acts = taken.acts } → IsBegun taken
 begun who cell taken step first same =
     let none : taken.acts ≡ [] = let is = step.acts_are in cc in
     let there : IsBegun (record cell { acts = [] }) = record {

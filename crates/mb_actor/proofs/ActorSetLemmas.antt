@@ -1,5 +1,6 @@
 -- The bits of a word that keeps a set of actors.
-use Rattle.std.proofs.Common.{ℕ, ◌*◌, ◌-◌, ◌%◌, ◌^◌, ◌<◌, ◌≤◌, ◌≡◌, false, not, ◌&&◌, ◌||◌, ◌==◌, min, bit_and, bit_or, ⊎_elim, ap, ◌∙◌, sym, arith, w64}
+use Rattle.std.proofs.Common.{ℕ, ◌*◌, ◌-◌, ◌%◌, ◌^◌, ◌<◌, ◌≤◌, ◌≡◌, false, not, ◌&&◌, ◌||◌, ◌==◌, min, bit_and, bit_or, ⊎_elim}
+use Rattle.std.proofs.Common.{ap, ◌∙◌, sym, arith, w64}
 use Rattle.std.specs.Int.{bit_at, bit_not}
 use Rattle.std.proofs.lemmas.Bool.{cases_lt}
 use Rattle.std.proofs.lemmas.Nat.Bits.{bit_at_and, bit_at_not, bit_at_set_same, bit_at_set_other, bit_at_above, bit_at-lt}

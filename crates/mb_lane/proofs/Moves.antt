@@ -25,7 +25,8 @@ module _ (scope : Scope) (holder : ℕ → ℕ) (taker : ℕ) (taken all : List 
   Now = Fits scope holder taker taken all
 
   -- a push by the holder of its sender's account is none of the other ports' business
-  push_else : (e : Envelope) (port j : ℕ) (u : Ledger) → port ≡ holder e.by.0 → j ≢ port → Now j u → Fits scope holder taker taken (all ++ e ∷ []) j u
+  push_else : (e : Envelope) (port j : ℕ) (u : Ledger) → port ≡ holder e.by.0 → j ≢ port → Now j u
+      → Fits scope holder taker taken (all ++ e ∷ []) j u
   push_else e port j (Sender ours by pushed) at ne f =
       (f.0, f.1, f.2, f.3 ∙ sym (sent_by-other by all e (λ same. ne (f.2 ∙ ap holder same ∙ sym at))))
   push_else e port j (Taker ours gone accounts) at ne f =

@@ -42,7 +42,8 @@ module _ (p q : Envelope → Bool) where
   pub count-filter : (xs : List Envelope) → count_by p (filter q xs) ≡ count_by (λ x. q x && p x) xs
   count-filter [] = refl
   count-filter (x ∷ xs) =
-      count-cond p (q x) x (filter q xs) ∙ ap (λ n. cond (q x && p x) 1 0 + n) (count-filter xs) ∙ sym (sum_by-cons (λ y. cond (q y && p y) 1 0) x xs)
+      count-cond p (q x) x (filter q xs) ∙ ap (λ n. cond (q x && p x) 1 0 + n) (count-filter xs)
+      ∙ sym (sum_by-cons (λ y. cond (q y && p y) 1 0) x xs)
 
 module _ (sender : ℕ) (pushed : List Envelope) where
   -- all that was pushed came out in order, of each part
@@ -72,13 +73,15 @@ envelopes-arrivals rows other number [] = refl
 envelopes-arrivals rows other number (e ∷ es) = ap (λ l. e ∷ l) (envelopes-arrivals rows other (number + 1) es)
 
 -- what holds of those that were held and of those that came in holds of all that are held then
-pub all_held : (P : Envelope → Type 0) (rows : List RankRow) (other number : ℕ) (waiting : List Arrival) (fresh : List Envelope) (held : List Arrival)
+pub all_held : (P : Envelope → Type 0) (rows : List RankRow) (other number : ℕ) (waiting : List Arrival) (fresh : List Envelope)
+    (held : List Arrival)
     → IsPermutation (waiting ++ arrivals_from rows other number fresh) held → All P (envelopes_of waiting) → All P fresh → All P (envelopes_of held)
 all_held P rows other number waiting fresh held same old new =
     let in' = arrivals_from rows other number fresh in
     let all : envelopes_of (waiting ++ in') ≡ envelopes_of waiting ++ fresh =
     map-append (λ (x : Arrival). x.envelope) waiting in' ∙ ap (λ l. envelopes_of waiting ++ l) (envelopes-arrivals rows other number fresh) in
-    All-permutation P (envelopes_of (waiting ++ in')) (envelopes_of held) (IsPermutation-map (λ (x : Arrival). x.envelope) (waiting ++ in') held same)
+    All-permutation P (envelopes_of (waiting ++ in')) (envelopes_of held)
+    (IsPermutation-map (λ (x : Arrival). x.envelope) (waiting ++ in') held same)
     (subst (All P) (sym all) (All-append P (envelopes_of waiting) fresh old new))
 
 -- and of the one that is chosen, and those that stay
@@ -92,7 +95,8 @@ all_chosen P held e rest choice all =
     (IsPermutation-map (λ (x : Arrival). x.envelope) held (first ∷ rest) choice.2) all in
     (subst P choice.1 (All-head P (first.envelope) (envelopes_of rest) now), All-tail P first.envelope (envelopes_of rest) now)
 
-count-held : (test : Envelope → Bool) (xs ys : List Arrival) → IsPermutation xs ys → count_by test (envelopes_of ys) ≡ count_by test (envelopes_of xs)
+count-held : (test : Envelope → Bool) (xs ys : List Arrival) → IsPermutation xs ys
+    → count_by test (envelopes_of ys) ≡ count_by test (envelopes_of xs)
 count-held test xs ys same = sum_by-IsPermutation (λ e. cond (test e) 1 0) (envelopes_of xs) (envelopes_of ys)
     (IsPermutation-map (λ (a : Arrival). a.envelope) xs ys same)
 

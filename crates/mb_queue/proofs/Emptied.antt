@@ -81,7 +81,8 @@ pushed_of : (o : Option (List Envelope)) → IsSome o → (pushed : List Envelop
 pushed_of None is = absurd (false≢true is)
 pushed_of (Some pushed) is = (pushed, refl)
 
-module _ (main : Known) (taken : List Envelope) (accounts : List Account) (choice : Choice) (kept : IsTaking main (ByRank choice) taken accounts) where
+module _ (main : Known) (taken : List Envelope) (accounts : List Account) (choice : Choice)
+    (kept : IsTaking main (ByRank choice) taken accounts) where
   rank_emptied : (sender : ℕ) (pushed : List Envelope) (e : Envelope) (choice' : Choice) (main' : Known) → choice.waiting ≡ []
       → IsSameBag pushed (sent_by sender taken) → account accounts sender ≡ Some pushed → sender ≡ e.by.0
       → RankTakes choice main (Some e) choice' main' → ⊥

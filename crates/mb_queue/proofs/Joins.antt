@@ -35,7 +35,8 @@ module _ (main own : Known) (taken : List Envelope) (accounts : List Account) (b
   abbrev all : List Account
   all = accounts ++ home by pushed ∷ []
 
-  pub fifo_joined : IsTaking main FirstInFirstOut taken accounts → IsSending by own None pushed → IsTaking (joined main own) FirstInFirstOut taken all
+  pub fifo_joined : IsTaking main FirstInFirstOut taken accounts → IsSending by own None pushed
+      → IsTaking (joined main own) FirstInFirstOut taken all
   fifo_joined kept sent =
       settled (scope_in main.ledger) Whole taken all (joined main own)
       (joined_took (scope_in main.ledger) _ Whole taken pushed accounts by main own kept sent)

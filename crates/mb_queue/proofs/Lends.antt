@@ -79,7 +79,8 @@ take_kept s main FirstInFirstOut taken accounts kept =
     (lent_took s ss Whole taken accounts main kept)
 take_kept s main (ControlFirst control) taken accounts kept =
     let ss = scope_in main.ledger in let same = sym (lent_scope s ss Others (others taken) (accounts_of others accounts) main kept.0) in (
-      subst (λ (y : Scope × List Account). Took (main_lent s main) y.0 Others (others taken) y.1) (λ i. (same i, sym (lent_part others s accounts) i))
+      subst (λ (y : Scope × List Account). Took (main_lent s main) y.0 Others (others taken) y.1)
+          (λ i. (same i, sym (lent_part others s accounts) i))
           (lent_took s ss Others (others taken) (accounts_of others accounts) main kept.0),
       subst (λ (y : Scope × List Account). Took (main_lent s control) y.0 Controls (controls taken) y.1)
           (λ i. (same i, sym (lent_part controls s accounts) i))

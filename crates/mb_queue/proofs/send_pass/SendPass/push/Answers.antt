@@ -11,6 +11,7 @@ returns-in-Err-push-clause-refused g c =
     let r = subst (λ why. lane.IsRefusal at.lane.capacity at.ledger why) (sym c.of-in-Err-push.ensures.1) c.in-Err-push.ensures.refused in
     let same : lane.IsRefusal i.main.lane.capacity i.main.ledger (lane.reason_of e) = elim c.in_default.branch [
       | in_default-via-in-None-1 w ↦ subst (λ j. lane.IsRefusal j.main.lane.capacity j.main.ledger (lane.reason_of e)) w.self-inside-is r
-      | in_default-via-in-Some+else-is_control w ↦ subst (λ j. lane.IsRefusal j.main.lane.capacity j.main.ledger (lane.reason_of e)) w.self-inside-is r
+      | in_default-via-in-Some+else-is_control w ↦
+          subst (λ j. lane.IsRefusal j.main.lane.capacity j.main.ledger (lane.reason_of e)) w.self-inside-is r
     ] in
     subst (λ v. IsRefusal v e) c.self.view_is (refused i.by.0 i.main i.control i.pushed e c.self.invariant same)
