@@ -1,5 +1,5 @@
 -- The worked documents: what is found in each is computed from the definition.
-use Rattle.std.proofs.Common.{◌≡◌, ℕ, List, codes, Option, Some, None, option_map, refl}
+use Rattle.std.proofs.Common.{◌≡◌, ℕ, List, [], ◌∷◌, ◌++◌, codes, Option, Some, None, option_map, refl}
 use Rattle.std.specs.Fmt.{digits}
 use Rattle.toml.proofs.OnLiterals.{toml_on_literals}
 use Rattle.toml.specs.Parse.{parse_document}
@@ -61,13 +61,19 @@ no_document : found_in (codes "[[actor") ≡ None
 unfolding toml_on_literals digits
 no_document = refl
 
+-- the byte FF, which is no text
+no_text : found_in (255 ∷ []) ≡ None
+unfolding toml_on_literals digits
+no_text = refl
+
 -- a document in which nothing is wrong
 nothing_wrong : found_in (codes "[[actor]]\nname = \"a\"\n[[actor.on]]\nkind = 1\ndo = [\"add\"]\n[[send]]\nto = \"a\"\nkind = 1\n") ≡ Some None
 unfolding toml_on_literals digits
 nothing_wrong = refl
 
 -- 64 actors
-actors_many : found_in (codes "actor=[{},{},{},{},{},{},{},{},{},{},{},{},{},{},{},{},{},{},{},{},{},{},{},{},{},{},{},{},{},{},{},{},{},{},{},{},{},{},{},{},{},{},{},{},{},{},{},{},{},{},{},{},{},{},{},{},{},{},{},{},{},{},{},{}]\n")
+actors_many : found_in (codes "actor=[{},{},{},{},{},{},{},{},{},{},{},{},{},{},{},{},{},{},{},{},{},{},{},{},{},{},{},{},{},{},{},{},"
+    ++ codes "{},{},{},{},{},{},{},{},{},{},{},{},{},{},{},{},{},{},{},{},{},{},{},{},{},{},{},{},{},{},{},{}]\n")
     ≡ fault (codes "actor") TooMany
 unfolding toml_on_literals digits
 actors_many = refl
