@@ -1,5 +1,5 @@
 -- The worked scenario: what it says of a whole small document is computed from the definitions.
-use Rattle.std.proofs.Common.{◌≡◌, ℕ, pos, negsuc, List, [], ◌∷◌, codes, Option, Some, None, option_map, false, true, refl}
+use Rattle.std.proofs.Common.{◌≡◌, ℕ, pos, negsuc, List, [], ◌∷◌, ◌++◌, codes, Option, Some, None, option_map, false, true, refl}
 use Rattle.std.specs.Fmt.{digits}
 use Rattle.toml.proofs.OnLiterals.{toml_on_literals}
 use Rattle.toml.specs.Parse.{parse_document}
@@ -48,7 +48,10 @@ unfolding toml_on_literals digits
 counter = refl
 
 -- a parent and its child, with other values than those that stand for absent keys
-family : says (codes "throughput = 2\npool = \"stealing\"\n[[actor]]\nname = \"p\"\nstart = [\"spawn c\"]\nretries = 3\n[[actor.strategy]]\ncause = \"error\"\nthen = \"resume\"\n[[actor]]\nname = \"c\"\nparent = \"p\"\nmailbox = \"bounded\"\ncapacity = 8\ninitial = -1\n[[send]]\nfrom = 2\nto = \"guardian\"\nwhat = \"stop\"\ntimes = 9\n")
+family : says (codes "throughput = 2\npool = \"stealing\"\n[[actor]]\nname = \"p\"\nstart = [\"spawn c\"]\nretries = 3\n"
+    ++ codes "[[actor.strategy]]\ncause = \"error\"\nthen = \"resume\"\n"
+    ++ codes "[[actor]]\nname = \"c\"\nparent = \"p\"\nmailbox = \"bounded\"\ncapacity = 8\ninitial = -1\n"
+    ++ codes "[[send]]\nfrom = 2\nto = \"guardian\"\nwhat = \"stop\"\ntimes = 9\n")
     ≡ Some (record {
       plan = record {
         throughput = 2;
