@@ -2,6 +2,8 @@
 #![tactic(auto)]
 
 #[cfg(test)]
+mod boxed;
+#[cfg(test)]
 mod cast;
 #[cfg(test)]
 mod crowd;
@@ -19,6 +21,8 @@ mod restart;
 mod rows;
 #[cfg(test)]
 mod shown;
+#[cfg(test)]
+mod sleeper;
 #[cfg(test)]
 mod stage;
 #[cfg(test)]
