@@ -1,5 +1,6 @@
 ghost use Rattle.std.specs.Prelude.{◌≡◌, ◌↔◌, ◌+◌, ◌<◌, ◌≤◌, [], ◌∷◌, ◌++◌, false, true};
 ghost use Rattle.std.specs.Prelude.{length, reverse, slice_get, slice_range, vec_len, vec_capacity, Some, IsTrue, IsErrOf, IsOk, OnOk, OnErr};
+ghost use Rattle.mb_msg.specs.Limits.{most_effects};
 ghost use Rattle.mb_journal.specs.Entry.Entry.{Handled, System, Dropped};
 ghost use Rattle.mb_journal.specs.Entry.Outcome.{Applied, SetAside};
 ghost use Rattle.mb_journal.specs.Stored as stored;
@@ -108,7 +109,7 @@ impl Journal {
         effects: &[Effect],
     )
         requires ready { IsTrue self.old.is_ready }
-        requires few { length effects.now ≤ 16 }
+        requires few { length effects.now ≤ most_effects }
         ensures added { self.new ≡ record self.old {
           entries = Handled envelope reading (Applied answer effects.now) ∷ self.old.entries;
           is_ready = false;
@@ -135,7 +136,7 @@ impl Journal {
         effects: &[Effect],
     )
         requires ready { IsTrue self.old.is_ready }
-        requires few { length effects.now ≤ 16 }
+        requires few { length effects.now ≤ most_effects }
         ensures added { self.new ≡ record self.old {
           entries = System number message (Applied answer effects.now) ∷ self.old.entries;
           is_ready = false;
@@ -174,7 +175,7 @@ impl Journal {
     #[inline(always)]
     fn push(&mut self, arrival: Arrival, effects: &[Effect])
         requires ready { IsTrue self.old.is_ready }
-        requires few { length effects.now ≤ 16 }
+        requires few { length effects.now ≤ most_effects }
         ensures added { self.new ≡ record self.old { entries = entry_with arrival effects.now ∷ self.old.entries; is_ready = false } }
         ensures within { length self.new.entries ≤ self.new.limit }
     {

@@ -1,4 +1,5 @@
 ghost use Rattle.std.specs.Prelude.{◌≡◌, ◌+◌, ◌≤◌, ◌<◌, ◌^◌, [], IsTrue, Some, length};
+ghost use Rattle.mb_msg.specs.Limits.{most_effects};
 ghost use Rattle.mb_books.specs.Place.{identity_of};
 ghost use Rattle.mb_books.specs.Rows.{created, created_guardian};
 
@@ -18,7 +19,7 @@ impl Books {
         requires ready { IsTrue self.old.is_ready }
         requires carried_out { self.old.acts ≡ [] }
         requires small { self.old.count < 2 ^ 60 }
-        requires few { length effects.now ≤ 16 }
+        requires few { length effects.now ≤ most_effects }
         ensures { self.new ≡ created (identity_of place.now 0) (Some answer) effects.now number self.old }
     {
         forget(&mut self.aside, number);

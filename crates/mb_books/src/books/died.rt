@@ -1,4 +1,5 @@
 ghost use Rattle.std.specs.Prelude.{◌≡◌, ◌+◌, ◌≤◌, [], IsTrue, length};
+ghost use Rattle.mb_msg.specs.Limits.{most_effects};
 ghost use Rattle.mb_books.specs.Place.{identity_of};
 ghost use Rattle.mb_books.specs.Rows.{told_of_death, ended};
 
@@ -32,7 +33,7 @@ impl Books {
     pub fn died_last(&mut self, place: &Place, id: ActorId, effects: &[Effect], number: u64)
         requires ready { IsTrue self.old.is_ready }
         requires carried_out { self.old.acts ≡ [] }
-        requires few { length effects.now ≤ 16 }
+        requires few { length effects.now ≤ most_effects }
         ensures { self.new ≡ ended (identity_of place.now 0) effects.now (told_of_death (identity_of place.now 0) id number self.old) }
     {
         self.ready = false;

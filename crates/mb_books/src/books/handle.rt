@@ -1,5 +1,6 @@
 ghost use Rattle.std.specs.Prelude.{◌≡◌, ◌+◌, ◌≤◌, ◌<◌, ◌^◌, List, [], IsTrue, Some, None, length};
 ghost use Rattle.mb_msg.specs.declared.id.ActorId.{ActorId};
+ghost use Rattle.mb_msg.specs.Limits.{most_effects};
 ghost use Rattle.mb_journal.specs.Failure.{failure_of as cause_of};
 ghost use Rattle.mb_books.specs.Place.{identity_of};
 ghost use Rattle.mb_books.specs.Rows.{due_told, handled, poisoned, let_go};
@@ -21,7 +22,7 @@ impl Books {
         requires ready { IsTrue self.old.is_ready }
         requires carried_out { self.old.acts ≡ [] }
         requires small { self.old.count < 2 ^ 60 }
-        requires few { length effects.now ≤ 16 }
+        requires few { length effects.now ≤ most_effects }
         ensures { self.new ≡ handled (identity_of place.now 0) body answer effects.now self.old }
     {
         if uses_nothing(body, answer, effects) {
@@ -38,7 +39,7 @@ impl Books {
         requires ready { IsTrue self.old.is_ready }
         requires carried_out { self.old.acts ≡ [] }
         requires small { self.old.count < 2 ^ 60 }
-        requires few { length effects.now ≤ 16 }
+        requires few { length effects.now ≤ most_effects }
         ensures { self.new ≡ handled (identity_of place.now 0) body answer effects.now self.old }
     {
         self.ready = false;

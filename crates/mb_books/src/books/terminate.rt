@@ -1,4 +1,5 @@
 ghost use Rattle.std.specs.Prelude.{◌≡◌, ◌+◌, ◌≤◌, ◌<◌, ◌^◌, [], IsTrue, length};
+ghost use Rattle.mb_msg.specs.Limits.{most_effects};
 ghost use Rattle.mb_books.specs.Place.{identity_of};
 ghost use Rattle.mb_books.specs.Rows.{ending, ended_at_once};
 
@@ -37,7 +38,7 @@ impl Books {
     pub fn end_at_once(&mut self, place: &Place, effects: &[Effect], number: u64)
         requires ready { IsTrue self.old.is_ready }
         requires carried_out { self.old.acts ≡ [] }
-        requires few { length effects.now ≤ 16 }
+        requires few { length effects.now ≤ most_effects }
         ensures { self.new ≡ ended_at_once (identity_of place.now 0) effects.now number self.old }
     {
         forget(&mut self.aside, number);
