@@ -1,5 +1,6 @@
 //! How queues are timed.
-use crate::queue::Queue;
+ghost use denote.Param.Send.{IsSync};
+
 use std::alloc::{AllocError, Global};
 use std::io;
 use std::sync::Wait;
@@ -27,6 +28,13 @@ pub const PAIRED: Course = Course {
     rounds: 50_000,
     is_paired: true,
 };
+
+/// A queue that laps can be timed on.
+pub trait Lapped: Drop {
+    /// So many pushes and takes. It gives itself back and how many were taken.
+    fn lap<R: Threads + Wait + Sync>(self, rt: &R, course: Course) -> (Self, u64)
+        requires shared { IsSync R.row };
+}
 
 /// How many were taken in all, and the nanoseconds of each lap.
 #[derive(Drop)]
@@ -59,12 +67,12 @@ impl Laps {
 }
 
 /// Times one lap.
-fn timed<R: Clock + Threads + Wait + Sync>(
+fn timed<R: Clock + Threads + Wait + Sync, Q: Lapped>(
     rt: &R,
-    queue: Queue,
+    queue: Q,
     course: Course,
     laps: &mut Laps,
-) -> Result<Queue, AllocError> {
+) -> Result<Q, AllocError> {
     let begin = Instant::now(rt).ok();
     let (queue, taken) = queue.lap(rt, course);
     laps.add(taken, elapsed(rt, begin))?;
@@ -83,13 +91,13 @@ fn elapsed<R: Clock>(rt: &R, begin: Option<Instant>) -> u64 {
 }
 
 /// Times a queue of a mailbox and a plain one in turn, and tells both.
-pub(crate) fn compare<R>(
+pub(crate) fn compare<R, A: Lapped, B: Lapped>(
     rt: &R,
     alloc: Global,
     course: Course,
     what: &str,
-    mut ours: Queue,
-    mut plain: Queue,
+    mut ours: A,
+    mut plain: B,
 ) -> io::Result<()>
 where
     R: Clock + Threads + Wait + Sync + Print + Eprint,
@@ -110,12 +118,12 @@ where
 }
 
 /// Times one queue.
-pub(crate) fn measure<R>(
+pub(crate) fn measure<R, A: Lapped>(
     rt: &R,
     alloc: Global,
     course: Course,
     what: &str,
-    mut ours: Queue,
+    mut ours: A,
 ) -> io::Result<()>
 where
     R: Clock + Threads + Wait + Sync + Print + Eprint,

@@ -2,7 +2,7 @@
 ghost use Rattle.std.specs.Prelude.{◌≡◌, ◌<◌};
 ghost use Rattle.mb_queue.specs.Made.{IsMakeable};
 
-use crate::lap::Course;
+use crate::lap::{Course, Lapped};
 use crate::sender::{RECEIVER, SENDER, Sender};
 use mb_queue::{Kind, MailQueue, TakePass};
 use std::alloc::{AllocError, Global};
@@ -41,15 +41,6 @@ impl Mail {
         Ok(mail)
     }
 
-    /// So many pushes and takes. It gives itself back and how many were taken.
-    pub(crate) fn lap<R: Threads + Wait + Sync>(self, rt: &R, course: Course) -> (Mail, u64) {
-        if course.is_paired {
-            self.paired(rt, course.rounds)
-        } else {
-            self.alone(rt, course.rounds)
-        }
-    }
-
     /// Each push with its take, on this thread.
     fn alone<R: Wait>(self, rt: &R, rounds: u64) -> (Mail, u64) {
         let mut mail = self;
@@ -70,6 +61,16 @@ impl Mail {
             move || take_all(rt, take, rounds),
         );
         (Mail { take, send }, taken)
+    }
+}
+
+impl Lapped for Mail {
+    fn lap<R: Threads + Wait + Sync>(self, rt: &R, course: Course) -> (Mail, u64) {
+        if course.is_paired {
+            self.paired(rt, course.rounds)
+        } else {
+            self.alone(rt, course.rounds)
+        }
     }
 }
 

@@ -8,14 +8,12 @@
 mod lap;
 mod mail;
 mod plain;
-mod queue;
 mod sender;
 
 use crossbeam_queue::{ArrayQueue, SegQueue};
 use lap::{ALONE, Course, PAIRED, compare, measure};
 use mail::Mail;
 use mb_queue::{Kind, RankRow, Ranks};
-use queue::Queue;
 use std::alloc::{AllocError, Global};
 use std::io;
 use std::sync::Wait;
@@ -40,14 +38,7 @@ fn unbounded<R: Clock + Threads + Wait + Sync + Print + Eprint>(
 ) -> io::Result<()> {
     let mail = Mail::new(rt, alloc, Kind::Unbounded, 0)?;
     let plain = SegQueue::new(alloc)?;
-    compare(
-        rt,
-        alloc,
-        course,
-        what,
-        Queue::Mail(mail),
-        Queue::Unbounded(plain),
-    )
+    compare(rt, alloc, course, what, mail, plain)
 }
 
 fn bounded<R: Clock + Threads + Wait + Sync + Print + Eprint>(
@@ -58,14 +49,7 @@ fn bounded<R: Clock + Threads + Wait + Sync + Print + Eprint>(
 ) -> io::Result<()> {
     let mail = Mail::new(rt, alloc, Kind::Bounded(1_024), 0)?;
     let plain = ArrayQueue::new(alloc, 1_024)?;
-    compare(
-        rt,
-        alloc,
-        course,
-        what,
-        Queue::Mail(mail),
-        Queue::Bounded(plain),
-    )
+    compare(rt, alloc, course, what, mail, plain)
 }
 
 fn control<R: Clock + Threads + Wait + Sync + Print + Eprint>(
@@ -73,7 +57,7 @@ fn control<R: Clock + Threads + Wait + Sync + Print + Eprint>(
     alloc: Global,
 ) -> io::Result<()> {
     let mail = Mail::new(rt, alloc, Kind::Control, 0)?;
-    measure(rt, alloc, ALONE, "control-aware", Queue::Mail(mail))
+    measure(rt, alloc, ALONE, "control-aware", mail)
 }
 
 fn priority<R: Clock + Threads + Wait + Sync + Print + Eprint>(
@@ -82,7 +66,7 @@ fn priority<R: Clock + Threads + Wait + Sync + Print + Eprint>(
 ) -> io::Result<()> {
     let rows = ranks(alloc)?;
     let mail = Mail::new(rt, alloc, Kind::Priority { rows, other: 9 }, 1_000)?;
-    measure(rt, alloc, ALONE, "priority, 1000 held", Queue::Mail(mail))
+    measure(rt, alloc, ALONE, "priority, 1000 held", mail)
 }
 
 /// Of the four kinds of message that are pushed three have rows, in no order.

@@ -1,5 +1,5 @@
 //! The kit's plain queues.
-use crate::lap::Course;
+use crate::lap::{Course, Lapped};
 use crate::sender::nth;
 use crossbeam_queue::{ArrayQueue, SegQueue};
 use mb_msg::Envelope;
@@ -36,16 +36,34 @@ impl Plain for ArrayQueue<Envelope> {
     }
 }
 
-/// So many pushes and takes of the unbounded one; how many were taken.
-pub(crate) fn lap_unbounded<R: Threads + Wait + Sync>(
+impl Lapped for SegQueue<Envelope> {
+    fn lap<R: Threads + Wait + Sync>(self, rt: &R, course: Course) -> (SegQueue<Envelope>, u64) {
+        let taken = if course.is_paired {
+            unbounded_paired(rt, &self, course.rounds)
+        } else {
+            alone(rt, &self, course.rounds)
+        };
+        (self, taken)
+    }
+}
+
+impl Lapped for ArrayQueue<Envelope> {
+    fn lap<R: Threads + Wait + Sync>(self, rt: &R, course: Course) -> (ArrayQueue<Envelope>, u64) {
+        let taken = if course.is_paired {
+            bounded_paired(rt, &self, course.rounds)
+        } else {
+            alone(rt, &self, course.rounds)
+        };
+        (self, taken)
+    }
+}
+
+/// The pushes on a thread of their own, and the takes on this one.
+fn unbounded_paired<R: Threads + Wait + Sync>(
     rt: &R,
     queue: &SegQueue<Envelope>,
-    course: Course,
+    rounds: u64,
 ) -> u64 {
-    if !course.is_paired {
-        return alone(rt, queue, course.rounds);
-    }
-    let rounds = course.rounds;
     thread::join(
         rt,
         || push_all(rt, queue, rounds),
@@ -55,15 +73,11 @@ pub(crate) fn lap_unbounded<R: Threads + Wait + Sync>(
 }
 
 /// The same of the one with a bound.
-pub(crate) fn lap_bounded<R: Threads + Wait + Sync>(
+fn bounded_paired<R: Threads + Wait + Sync>(
     rt: &R,
     queue: &ArrayQueue<Envelope>,
-    course: Course,
+    rounds: u64,
 ) -> u64 {
-    if !course.is_paired {
-        return alone(rt, queue, course.rounds);
-    }
-    let rounds = course.rounds;
     thread::join(
         rt,
         || push_all(rt, queue, rounds),
