@@ -17,20 +17,24 @@ pub trait Plain {
 }
 
 impl Plain for SegQueue<Envelope> {
+    #[inline(always)]
     fn put<R: Wait>(&self, rt: &R, envelope: Envelope) -> bool {
         self.push(rt, envelope).is_ok()
     }
 
+    #[inline(always)]
     fn take<R: Wait>(&self, rt: &R) -> Option<Envelope> {
         self.pop(rt)
     }
 }
 
 impl Plain for ArrayQueue<Envelope> {
+    #[inline(always)]
     fn put<R: Wait>(&self, rt: &R, envelope: Envelope) -> bool {
         self.push(rt, envelope).is_ok()
     }
 
+    #[inline(always)]
     fn take<R: Wait>(&self, rt: &R) -> Option<Envelope> {
         self.pop(rt)
     }
