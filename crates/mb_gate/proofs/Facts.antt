@@ -16,6 +16,7 @@ use Rattle.std.proofs.Common.{
   ◌||◌,
   IsTrue,
   List,
+  [],
   set,
   sym,
   refl,
@@ -25,6 +26,8 @@ use Rattle.std.proofs.Common.{
   Option,
   Some,
   None,
+  is_some,
+  arith,
 }
 use mathlib.Core.Option.{some}
 use lib.ListN.{get_elem?}
@@ -38,7 +41,8 @@ use Rattle.mb_rule.proofs.LockedLemmas.{stays_locked}
 use Rattle.mb_rule.proofs.OwedLemmas.{still_owed}
 use Rattle.mb_rule.proofs.SeenLemmas.{learns}
 use Rattle.mb_rule.specs.Summed.{total}
-use Rattle.mb_rule.proofs.SummedLemmas.{total_stays}
+use Rattle.mb_rule.proofs.SummedLemmas.{total_set, total_stays}
+use Rattle.mb_rule.proofs.SharesLemmas.{shares_stay}
 use Rattle.mb_gate.specs.declared.slot.Slot.{Slot}
 use Rattle.mb_gate.specs.View.{View, Held, Lent}
 use Rattle.mb_gate.specs.Rule.{
@@ -61,12 +65,19 @@ use Rattle.mb_gate.specs.Rule.{
   SystemDue,
   PaysMessage,
   PaysSystem,
+  held_of,
+  is_some_item,
+  IsBare,
+  EachBare,
+  AreTurns,
   gate_word,
   Keeping,
   Shelving,
   Fact,
 }
-use Rattle.mb_gate.specs.Waiting.{on_by, off_by, IsBalance}
+use Rattle.mb_gate.specs.Waiting.{counted_on, on_by, off_by, IsBalance}
+use Rattle.mb_gate.specs.Lists.{may_grip}
+use Rattle.mb_gate.specs.Turns.{times, got_by, back_by, claims_out}
 use Rattle.mb_gate.proofs.Views.{SameAccount, Elsewhere}
 
 -- a word that is written as it was leaves the row as it was
@@ -92,23 +103,111 @@ pub same_row : (row : Word → ℕ) (name : Word) → write word_offset row name
 same_row row name i w = same_word row name w i
 
 -- the waiting count stays that of all seats where one changes that counted no more
+pub same_balance : (actor n : ℕ) (vs : List View) (id : ℕ) (v w : View) → get_elem? vs id ≡ some v → on_by actor w ≡ on_by actor v → off_by actor w
+    ≡ off_by actor v → IsBalance actor n vs → IsBalance actor n (set vs id w)
+same_balance actor n vs id v w at on off b = ap (λ k. (n + k) % 2 ^ 64) (total_stays (off_by actor) vs id v w at off) ∙ (b ∙ sym (ap (λ k. k % 2 ^
+    64) (total_stays (on_by actor) vs id v w at on)))
+
 pub still_balanced : (actor n : ℕ) (vs : List View) (id : ℕ) (v w : View) → get_elem? vs id ≡ some v → SameAccount actor v w → IsBalance actor n
     vs → IsBalance actor n (set vs id w)
-still_balanced actor n vs id v w at same b = ap (λ k. (n + k) % 2 ^ 64) (total_stays (off_by actor) vs id v w at same.off) ∙ (b ∙ sym (ap (λ k. k
-    % 2 ^ 64) (total_stays (on_by actor) vs id v w at same.on)))
+still_balanced actor n vs id v w at same b = same_balance actor n vs id v w at same.on same.off b
 
-module _ {H : Type 0} (is_of : ℕ → H → Type 0) (journal : H → List Entry) (mailbox : H → Mailbox) (rested : H → Type 0) (given_by : H → ℕ)
-    (closed_to : H → List ℕ) (actor : ℕ) where
+-- and so do the claims that are out
+pub still_turns : (actor : ℕ) (old new : Option (ℕ × Held)) (vs : List View) (id : ℕ) (v w : View) → get_elem? vs id ≡ some v → got_by actor w ≡
+    got_by actor v → back_by actor w ≡ back_by actor v → claims_out new ≡ claims_out old → AreTurns actor old vs → AreTurns actor new (set vs id w)
+still_turns actor old new vs id v w at got back same t = total_stays (got_by actor) vs id v w at got ∙ (t ∙ sym (ap (λ n. n + claims_out new)
+    (total_stays (back_by actor) vs id v w at back) ∙ ap (λ n. total (back_by actor) vs + n) same))
+
+one_more : (got got' back k m m' : ℕ) → got' + m ≡ got + m' → m' ≡ 1 + m → k ≡ 0 → got ≡ back + k → got' ≡ back + 1
+one_more got got' back k m m' e more none t = omega arith
+
+one_less : (got back back' k m m' : ℕ) → back' + m ≡ back + m' → m' ≡ 1 + m → k ≡ 1 → got ≡ back + k → got ≡ back' + 0
+one_less got back back' k m m' e more one t = omega arith
+
+-- a claim is got, where none was out
+pub turns_more : (actor : ℕ) (old : Option (ℕ × Held)) (h : ℕ × Held) (vs : List View) (id : ℕ) (v w : View) → get_elem? vs id ≡ some v → got_by
+    actor w ≡ 1 + got_by actor v → back_by actor w ≡ back_by actor v → claims_out old ≡ 0 → AreTurns actor old vs → AreTurns actor (Some h) (set vs
+    id w)
+turns_more actor old h vs id v w at more same none t = one_more (total (got_by actor) vs) (total (got_by actor) (set vs id w)) (total (back_by
+    actor) vs) (claims_out old) (got_by actor v) (got_by actor w) (total_set (got_by actor) vs id v w at) more none t ∙ ap (λ n. n + 1) (sym
+    (total_stays (back_by actor) vs id v w at same))
+
+-- and given back
+pub turns_less : (actor : ℕ) (old : Option (ℕ × Held)) (vs : List View) (id : ℕ) (v w : View) → get_elem? vs id ≡ some v → got_by actor w ≡ got_by
+    actor v → back_by actor w ≡ 1 + back_by actor v → claims_out old ≡ 1 → AreTurns actor old vs → AreTurns actor None (set vs id w)
+turns_less actor old vs id v w at same more one t = total_stays (got_by actor) vs id v w at same ∙ one_less (total (got_by actor) vs) (total
+    (back_by actor) vs) (total (back_by actor) (set vs id w)) (claims_out old) (back_by actor v) (back_by actor w) (total_set (back_by actor) vs id v
+    w at) more one t
+
+-- and what a seat without a share has, where the one that changes has no more
+pub still_bare : (actor : ℕ) (vs : List View) (id : ℕ) (v w : View) → get_elem? vs id ≡ some v → SameAccount actor v w
+    → (claim_for actor w ≡ None → claim_for actor v ≡ None) → (list_for actor v ≡ None → list_for actor w ≡ None) → EachBare actor vs
+    → EachBare actor
+    (set vs id w)
+still_bare actor vs id v w at same claim list bare = learns (λ (u : View). u.share ≡ [] → IsBare actor u) (λ (u : View). u.share ≡ [] → IsBare actor
+    u) vs id w (λ u k. k) (λ none. let b = bare id v at (sym same.share ∙ none) in record {
+      got = same.got ∙ b.got;
+      back = same.back ∙ b.back;
+      on = same.on ∙ b.on;
+      rest = λ c. (list (b.rest (claim c)).0, same.off ∙ (b.rest (claim c)).1);
+    }) bare
+
+-- a seat with a claim may have done more to its actor
+pub claimed_bare : (actor : ℕ) (vs : List View) (id : ℕ) (v w : View) (c : Held) → get_elem? vs id ≡ some v → claim_for actor w ≡ Some c → w.share ≡
+    v.share → got_by actor w ≡ got_by actor v → back_by actor w ≡ back_by actor v → on_by actor w ≡ on_by actor v → EachBare actor vs → EachBare
+    actor (set vs id w)
+claimed_bare actor vs id v w c at has share got back on bare = learns (λ (u : View). u.share ≡ [] → IsBare actor u) (λ (u : View). u.share ≡ [] →
+    IsBare actor u) vs id w (λ u k. k) (λ none. let b = bare id v at (sym share ∙ none) in record {
+      got = got ∙ b.got;
+      back = back ∙ b.back;
+      on = on ∙ b.on;
+      rest = λ n. absurd (some_none c (sym has ∙ n));
+    }) bare
+  where
+    some_none : (c : Held) → Some c ≡ None → ⊥
+    some_none c e = cc
+
+pub no_share : (share : List ℕ) → is_some_item share ≡ true → share ≡ [] → ⊥
+no_share share has none = false_true (sym (ap is_some_item none) ∙ has)
+  where
+    false_true : false ≡ true → ⊥
+    false_true e = cc
+
+-- and one that has a share or the claim may have the list
+pub gripper_bare : (actor : ℕ) (vs : List View) (id : ℕ) (v w : View) → get_elem? vs id ≡ some v → w.claim ≡ v.claim → w.log ≡ v.log → w.share ≡
+    v.share → (w.got ≡ v.got) × (w.returned ≡ v.returned) → may_grip actor v ≡ true → EachBare actor vs → EachBare actor (set vs id w)
+gripper_bare actor vs id v w at claim log share turns may bare = learns (λ (u : View). u.share ≡ [] → IsBare actor u) (λ (u : View). u.share ≡ [] →
+    IsBare actor u) vs id w (λ u k. k) (λ none. let b = bare id v at (sym share ∙ none) in record {
+      got = ap (times actor) turns.0 ∙ b.got;
+      back = ap (times actor) turns.1 ∙ b.back;
+      on = ap (total (counted_on actor)) log ∙ b.on;
+      rest = λ n. absurd (no_claim (ap (held_of actor) (sym claim) ∙ n) (sym share ∙ none));
+    }) bare
+  where
+    false_true : false ≡ true → ⊥
+    false_true e = cc
+
+    no_claim : claim_for actor v ≡ None → v.share ≡ [] → ⊥
+    no_claim n none = false_true (sym (ap (λ (z : Option Held). is_some_item v.share || is_some z) n ∙ ap (λ (l : List ℕ). is_some_item l || false)
+        none) ∙ may)
+
+-- and one with a share anything
+pub sharer_bare : (actor : ℕ) (vs : List View) (id : ℕ) (w : View) → is_some_item w.share ≡ true → EachBare actor vs → EachBare actor (set vs id w)
+sharer_bare actor vs id w has bare = learns (λ (u : View). u.share ≡ [] → IsBare actor u) (λ (u : View). u.share ≡ [] → IsBare actor u) vs id w (λ u
+    k. k) (λ none. absurd (no_share w.share has none)) bare
+
+module _ {H : Type 0} (is_of : ℕ → H → Type 0) (journal : H → List Entry) (mailbox : H → Mailbox) (rested : H → Type 0) (given_by : H
+    → ℕ) (closed_to : H → List ℕ) (actors actor : ℕ) where
   abbrev Place : Type 0
   Place = Spot Word Shelf (Slot H) Ghost
 
   abbrev Facts : Place → List View → Type 0
-  Facts = Fact is_of journal mailbox rested given_by closed_to actor
+  Facts = Fact is_of journal mailbox rested given_by closed_to actors actor
 
   pub still_kept : (x y : Place) → y.row Status ≡ x.row Status → y.row Flag ≡ x.row Flag → y.slot CellShelf ≡ x.slot CellShelf → y.ghost.journal
       ≡ x.ghost.journal → y.ghost.closed_to ≡ x.ghost.closed_to → y.ghost.listed.given ≡ x.ghost.listed.given → y.ghost.gave ≡ x.ghost.gave
-      → (holder : Option (ℕ × Held)) → Keeping is_of journal mailbox rested given_by closed_to actor x holder →
-      Keeping is_of journal mailbox rested given_by closed_to actor y holder
+      → (holder : Option (ℕ × Held)) → Keeping is_of journal mailbox rested given_by closed_to actor x holder
+      → Keeping is_of journal mailbox rested given_by closed_to actor y holder
   still_kept x y status flag slot tale shut count gave None k = record {
     home = k.home;
     there = slot ∙ k.there;
@@ -134,8 +233,8 @@ module _ {H : Type 0} (is_of : ℕ → H → Type 0) (journal : H → List Entry
 
   pub still_shelved : (x y : Place) → y.row Gate ≡ x.row Gate → y.slot ListShelf ≡ x.slot ListShelf → y.ghost.listed ≡ x.ghost.listed →
       y.ghost.gave ≡ x.ghost.gave
-      → (keeper : Option (ℕ × Lent)) → Shelving is_of journal mailbox rested given_by closed_to x keeper →
-      Shelving is_of journal mailbox rested given_by closed_to y keeper
+      → (keeper : Option (ℕ × Lent)) → Shelving is_of journal mailbox rested given_by closed_to x keeper
+      → Shelving is_of journal mailbox rested given_by closed_to y keeper
   still_shelved x y gate slot items gave None k = record {
     there = slot ∙ (k.there ∙ ap (λ (l : MessageList). some (some (Listing l))) (sym items));
     word = gate ∙ (k.word ∙ (λ i. gate_word false (sym items i) (sym gave i)));
@@ -159,7 +258,11 @@ module _ {H : Type 0} (is_of : ℕ → H → Type 0) (journal : H → List Entry
     shelf = f.shelf;
     ended = f.ended;
     listing = f.listing;
+    named = f.named;
     balance = still_balanced actor (x.row Waiting) vs id v w at account f.balance;
+    turns = still_turns actor x.ghost.holder x.ghost.holder vs id v w at account.got account.back refl f.turns;
+    shares = shares_stay (λ (u : View). u.share) vs id v w at account.share f.shares;
+    bare = still_bare actor vs id v w at account (λ c. sym claim ∙ c) (λ c. list ∙ c) f.bare;
     vouched = λ other. still_owed (Vouches other) (IsAmong other x.ghost.closed_to) (IsAmong other x.ghost.closed_to) vs id v w at (λ d. d) (λ _.
         vouches other) (f.vouched other);
     message = still_owed (PaysMessage actor) (MessageDue x) (MessageDue x) vs id v w at (λ d. d) message f.message;

@@ -57,8 +57,24 @@ use Rattle.mb_gate.specs.declared.slot.Slot.{Slot}
 use Rattle.mb_gate.specs.declared.slot.Slot.TheVariants.{Home, List as Listing}
 use Rattle.mb_gate.specs.declared.left.Left.{Left}
 use Rattle.mb_gate.specs.View.{View, Read, Saw, Counted, Looked, Sent, Unsent, Took, Pushed, Drained, Ended, Held, Lent}
-use Rattle.mb_gate.specs.Rule.{Word, Status, Flag, Gate, word_offset, Shelf, slot_offset, Ghost, IsSo, IsAmong, IsHome, Keeping, Shelving, Fact}
+use Rattle.mb_gate.specs.Rule.{
+  Word,
+  Status,
+  Flag,
+  Gate,
+  word_offset,
+  Shelf,
+  slot_offset,
+  Ghost,
+  IsSo,
+  IsAmong,
+  IsHome,
+  Keeping,
+  Shelving,
+  Fact,
+}
 use Rattle.mb_gate.specs.Leaves.{IsTakenOut, IsKept, IsLeft, AreLeft}
+use Rattle.mb_gate.proofs.Whole.{is_out, is_back}
 use Rattle.mb_gate.proofs.ListSteps.{is_shelved, gate_even}
 use Rattle.mb_gate.proofs.Shows.{shows_closed}
 
@@ -111,22 +127,27 @@ module _ (fs : List Bool) (a : ℕ) (inside : 2 * a + 2 ≤ length fs) where
   still_filled k l e = get_or-set_other (set fs (slot_at a 0) false) (slot_at a 1) k false false (λ n. omega arith) ∙ (get_or-set_other fs
       (slot_at a 0) k false false (λ n. omega arith) ∙ e)
 
-module _ {H : Type 0} (is_of : ℕ → H → Type 0) (journal : H → List Entry) (mailbox : H → Mailbox) (rested : H → Type 0) (given_by : H → ℕ)
-    (closed_to : H → List ℕ) where
+module _ {H : Type 0} (is_of : ℕ → H → Type 0) (journal : H → List Entry) (mailbox : H → Mailbox) (rested : H → Type 0) (given_by : H
+    → ℕ) (closed_to : H → List ℕ) where
   abbrev Place : Type 0
   Place = Spot Word Shelf (Slot H) Ghost
 
-  at_home : (actor : ℕ) (x : Place) (holder : Option (ℕ × Held)) → Keeping is_of journal mailbox rested given_by closed_to actor x holder →
-      (x.row Status % 4 ≡ 0) ⊎
+  at_home : (actor : ℕ) (x : Place) (holder : Option (ℕ × Held)) → Keeping is_of journal mailbox rested given_by closed_to actor x holder
+      → (x.row Status % 4 ≡ 0) ⊎
       (x.row Flag ≡ 1) → IsHome is_of journal mailbox rested given_by closed_to actor x
   at_home actor x None k c = k
   at_home actor x (Some h) k c = absurd (⊎_elim (λ z. ⊎_elim (λ b. omega arith) (λ b. omega arith) k.busy) (λ o. let g = k.flag in omega arith) c)
+
+  no_holder : (actor : ℕ) (x : Place) (holder : Option (ℕ × Held)) → Keeping is_of journal mailbox rested given_by closed_to actor x holder →
+      (x.row Status % 4 ≡ 0) ⊎ (x.row Flag ≡ 1) → holder ≡ None
+  no_holder actor x None k c = refl
+  no_holder actor x (Some h) k c = absurd (⊎_elim (λ z. ⊎_elim (λ b. omega arith) (λ b. omega arith) k.busy) (λ o. let g = k.flag in omega arith) c)
 
   home_tells : (actor : ℕ) (x : Place) → IsHome is_of journal mailbox rested given_by closed_to actor x → (x.row Status % 4 ≡ 0) ⊎ (x.row Flag ≡ 1)
   home_tells actor x k = ⊎_elim (λ z. inl z) (λ one. inr (k.flag ∙ ap (λ b. if b then 1 else 0) (eq-eqb (x.row Status) 1 one))) k.idle
 
   module _ (n : ℕ) (v : View) (id : ℕ) (ws : List ℕ) (xs : List (Slot H)) (s : State (Slot H) View) (r : Ruled word_offset slot_offset n (Fact is_of
-      journal mailbox rested given_by closed_to) s) (known : get_elem? s.views id ≡ some v) (words : s.words ≡ ws)
+      journal mailbox rested given_by closed_to n) s) (known : get_elem? s.views id ≡ some v) (words : s.words ≡ ws)
       (same : (k : ℕ) (y : Slot H) → get_elem? s.homes k ≡ some (some y) → get_elem? xs k ≡ some y) (actor : ℕ) (inside : actor < n) where
     abbrev here : Place
     here = spot_of word_offset slot_offset s r.ghosts actor
@@ -142,7 +163,7 @@ module _ {H : Type 0} (is_of : ℕ → H → Type 0) (journal : H → List Entry
         let flag = found (word_at actor 1) t.0.flag t.0.flag_is in
         let gate = found (word_at actor 2) t.0.gate t.0.gate_is in
         let k = at_home actor here here.ghost.holder f.cell (⊎_elim (λ z. inl (ap (λ w. w % 4) status ∙ z)) (λ o. inr (flag ∙ o)) t.0.cell) in
-        let l = (is_shelved is_of journal mailbox rested given_by closed_to actor here s.views f (ap (λ w. w % 2) gate ∙ t.0.list)).1 in
+        let l = (is_shelved is_of journal mailbox rested given_by closed_to n actor here s.views f (ap (λ w. w % 2) gate ∙ t.0.list)).1 in
         let home : k.home ≡ left.home = home_same k.home left.home (some-injective _ _ (sym (same (slot_at actor 0) (Home k.home) k.there) ∙ t.1)) in
         let list : here.ghost.listed ≡ t.2.0 = list_same {H = H} here.ghost.listed t.2.0 (some-injective _ _ (sym (same (slot_at actor 1) (Listing
         here.ghost.listed) l.there) ∙ t.2.1)) in
@@ -168,6 +189,14 @@ module _ {H : Type 0} (is_of : ℕ → H → Type 0) (journal : H → List Entry
           (λ why. subst rested home (k.rest why)),
         )
 
+    -- and nobody holds the actor
+    none_holds : (left : Left H) → IsTakenOut ws xs actor (Some left) → here.ghost.holder ≡ None
+    none_holds left t =
+        let f = r.each actor inside in
+        let status = found (word_at actor 0) t.0.status t.0.status_is in
+        let flag = found (word_at actor 1) t.0.flag t.0.flag_is in
+        no_holder actor here here.ghost.holder f.cell (⊎_elim (λ z. inl (ap (λ w. w % 4) status ∙ z)) (λ o. inr (flag ∙ o)) t.0.cell)
+
     -- whom the home that is left says to be closed the rule says so
     says_closed : (left : Left H) → IsTakenOut ws xs actor (Some left) → (other : ℕ) → IsAmong other (closed_to left.home) → IsAmong other
         here.ghost.closed_to
@@ -185,8 +214,8 @@ module _ {H : Type 0} (is_of : ℕ → H → Type 0) (journal : H → List Entry
         at : (k : ℕ) → k < 16 * n → get_elem? ws k ≡ some (slice_index s.words k)
         at k l = subst (λ z. get_elem? z k ≡ some (slice_index s.words k)) words (word_there s.words k (let wide = r.wide in omega arith))
 
-        cases : (holder : Option (ℕ × Held)) (keeper : Option (ℕ × Lent)) →
-            Keeping is_of journal mailbox rested given_by closed_to actor here holder → Shelving is_of
+        cases : (holder : Option (ℕ × Held)) (keeper : Option (ℕ × Lent)) → Keeping is_of journal mailbox rested given_by closed_to actor here
+            holder → Shelving is_of
             journal mailbox rested given_by closed_to here keeper → (holder ≢ None) ⊎ (keeper ≢ None)
         cases (Some h) keeper k l = inl (λ e. cc)
         cases None (Some h) k l = inr (λ e. cc)
@@ -206,17 +235,22 @@ module _ {H : Type 0} (is_of : ℕ → H → Type 0) (journal : H → List Entry
     is_left None t = none_left t
 
   -- what was taken out of each is what is left of it
-  pub are_left : (n : ℕ) (v : View) (id : ℕ) (ws : List ℕ) (xs : List (Slot H)) (all : List (Option (Left H)))
-      → Final (Seen (Ruled word_offset slot_offset n (Fact is_of journal mailbox rested given_by closed_to)) id v) ws xs → length all ≡ n
-      → ((a : ℕ) (left : Option (Left H)) → slice_get all a ≡ Some left → IsTakenOut ws xs a left) →
-      AreLeft is_of journal mailbox rested given_by closed_to n v all
-  are_left n v id ws xs all final many each = record {
+  pub are_left : (n : ℕ) (v : View) (id : ℕ) (ws : List ℕ) (xs : List (Slot H)) (all : List (Option (Left H))) → v.list ≡ None
+      → Final (Seen (Ruled word_offset slot_offset n (Fact is_of journal mailbox rested given_by closed_to n)) id v) ws xs → length all ≡ n
+      → ((a : ℕ) (left : Option (Left H)) → slice_get all a ≡ Some left → IsTakenOut ws xs a left)
+      → AreLeft is_of journal mailbox rested given_by closed_to n v all
+  are_left n v id ws xs all bare_list final many each = record {
     state = final.0;
     rule = final.1.0;
     seat = id;
     known = final.1.1;
     many = many;
     each = λ a left inside at. is_left n v id ws xs final.0 final.1.0 final.1.1 final.2 final.4 a inside left (each a left at);
+    out = λ whole a inside at. is_out is_of journal mailbox rested given_by closed_to n a _ final.0.views id v (final.1.0.each a inside) final.1.1
+        whole bare_list (none_left n v id ws xs final.0 final.1.0 final.1.1 final.2 final.4 a inside (each a None at));
+    back = λ whole a left inside at. is_back is_of journal mailbox rested given_by closed_to n a _ final.0.views id v
+        (final.1.0.each a inside) final.1.1 whole
+        (none_holds n v id ws xs final.0 final.1.0 final.1.1 final.2 final.4 a inside left (each a (Some left) at));
     closed = λ a other left inside there at is. shows_closed is_of journal mailbox rested given_by closed_to n final.0 final.1.0 a other inside there
         (says_closed n v id ws xs final.0 final.1.0 final.1.1 final.2 final.4 a inside left (each a (Some left) at) other is);
   }

@@ -1,11 +1,14 @@
 pub mod Numbers
+pub mod OneNumber
 pub mod Views
 pub mod Facts
 pub mod Words
 pub mod StatusSteps
 pub mod WaitingSteps
 pub mod Parting
+pub mod Alike
 pub mod ListSteps
+pub mod Whole
 pub mod Allowed
 pub mod Wins
 pub mod Rows
@@ -14,3 +17,5 @@ pub mod ListCalls
 pub mod Shows
 pub mod Leaving
 pub mod RecordLemmas
+pub mod KnownLemmas
+pub mod NamedLemmas

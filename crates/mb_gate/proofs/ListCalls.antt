@@ -13,7 +13,11 @@ use Rattle.std.proofs.Common.{
   true,
   false,
   not,
+  ◌||◌,
   IsTrue,
+  Option,
+  Some,
+  is_some,
   List,
   [],
   ◌∷◌,
@@ -35,10 +39,11 @@ use Rattle.mb_syslist.specs.MessageList.{MessageList, with_last, drained, ended,
 use Rattle.mb_rule.specs.Layout.{slot_at}
 use Rattle.mb_gate.specs.declared.slot.Slot.{Slot}
 use Rattle.mb_gate.specs.declared.slot.Slot.TheVariants.{Empty, List as Listing}
-use Rattle.mb_gate.specs.View.{View, lending}
-use Rattle.mb_gate.specs.Rule.{is_some_item, gate_word}
+use Rattle.mb_gate.specs.View.{View, Held, lending}
+use Rattle.mb_gate.specs.Rule.{is_some_item, held_of, claim_for, gate_word}
 use Rattle.mb_gate.specs.Plays.{Gripped}
-use Rattle.mb_gate.specs.Lists.{IsLentBy, IsOut, with_listed, with_drained, with_ended}
+use Rattle.mb_gate.proofs.Views.{held_here}
+use Rattle.mb_gate.specs.Lists.{may_grip, IsLentBy, IsOut, with_listed, with_drained, with_ended}
 
 head_same : {A : Type 0} (a b : A) (xs ys : List A) → a ∷ xs ≡ b ∷ ys → a ≡ b
 head_same a b xs ys e = cc
@@ -207,3 +212,15 @@ empty_is true [] h = refl
 empty_is true (x ∷ xs) h = let no = h.0 refl in absurd (cc)
 empty_is false [] h = let no = h.1 refl in absurd (cc)
 empty_is false (x ∷ xs) h = refl
+
+-- a seat with a share may take a list out, and one with the claim may
+pub sharer_may : (actor : ℕ) (v : View) → is_some_item v.share ≡ true → may_grip actor v ≡ true
+sharer_may actor v has = ap (λ b. b || is_some (claim_for actor v)) has
+
+pub holder_may : (actor : ℕ) (v : View) (c : Held) → v.claim ≡ Some c → c.actor ≡ actor → may_grip actor v ≡ true
+holder_may actor v c has of = ap (λ (z : Option Held). is_some_item v.share || is_some z) (ap (held_of actor) has ∙ held_here actor c of) ∙ or_true
+    (is_some_item v.share)
+  where
+    or_true : (b : Bool) → (b || true) ≡ true
+    or_true true = refl
+    or_true false = refl

@@ -1,6 +1,38 @@
 -- The steps on the gate of an actor's list keep the rule.
-use Rattle.std.proofs.Common.{◌≡◌, ℕ, ◌+◌, ◌%◌, if◌then◌else◌, ◌⊎◌, ⊎_elim, Bool, true, false, ◌||◌, IsTrue, List, [], ◌∷◌, ◌++◌, set, sym}
-use Rattle.std.proofs.Common.{refl, ap, ◌∙◌, subst, Option, Some, None, append_assoc, append-nil, length, length-append, arith}
+use Rattle.std.proofs.Common.{
+  ◌≡◌,
+  ℕ,
+  ◌+◌,
+  ◌%◌,
+  if◌then◌else◌,
+  ◌⊎◌,
+  ⊎_elim,
+  Bool,
+  true,
+  false,
+  ◌||◌,
+  IsTrue,
+  List,
+  [],
+  ◌∷◌,
+  ◌++◌,
+  set,
+  sym,
+  refl,
+  ap,
+  ◌∙◌,
+  subst,
+  Option,
+  Some,
+  None,
+  append_assoc,
+  append-nil,
+  length,
+  length-append,
+  arith,
+  All,
+}
+use Rattle.std.proofs.lemmas.List.Elements.{All-push, All-nil}
 use mathlib.Core.Option.{none, some}
 use lib.ListN.{get_elem?}
 use Rattle.mb_status.specs.Mailbox.{Mailbox}
@@ -16,16 +48,59 @@ use Rattle.mb_rule.specs.Ruled.{Goes, stays, takes_from, gives_to}
 use Rattle.mb_rule.proofs.LockedLemmas.{stays_locked, takes_up, turns_over, puts_back, is_holder}
 use Rattle.mb_rule.proofs.OwedLemmas.{pays, still_owed}
 use Rattle.mb_rule.proofs.SeenLemmas.{learns}
+use Rattle.mb_rule.proofs.SharesLemmas.{shares_stay}
+use Rattle.mb_gate.specs.Turns.{claims_out}
+use Rattle.mb_gate.specs.Lists.{may_grip}
+use Rattle.mb_gate.specs.Named.{NamesBelow}
 use Rattle.mb_gate.specs.declared.slot.Slot.{Slot}
 use Rattle.mb_gate.specs.declared.slot.Slot.TheVariants.{List as Listing}
 use Rattle.mb_gate.specs.View.{View, Sight, Read, Pushed, Held, Lent, owes, lending, enlisting, refusing, given_after, regiven, unloading}
-use Rattle.mb_gate.specs.Rule.{Word, Waiting, Gate, word_offset, Shelf, ListShelf, slot_offset, Ghost, is_some_item, gate_word, held_of}
-use Rattle.mb_gate.specs.Rule.{lent_of, claim_for, list_for, IsSo, IsAmong, IsPart, Vouches, all_numbered, Knows, MessageDue, SystemDue}
-use Rattle.mb_gate.specs.Rule.{PaysMessage, PaysSystem, IsShelved, IsLent, Shelving, Fact}
-use Rattle.mb_gate.proofs.Views.{CountsNothing, counts_no_more, held_here, held_else, lent_here, lent_else, owes_here, owes_else}
-use Rattle.mb_gate.proofs.Views.{extends_self, Grown, grown, goes_on}
+use Rattle.mb_gate.specs.Rule.{
+  Word,
+  Waiting,
+  Gate,
+  word_offset,
+  Shelf,
+  ListShelf,
+  slot_offset,
+  Ghost,
+  is_some_item,
+  gate_word,
+  held_of,
+  lent_of,
+  claim_for,
+  list_for,
+  IsSo,
+  IsAmong,
+  IsPart,
+  Vouches,
+  all_numbered,
+  Knows,
+  MessageDue,
+  SystemDue,
+  PaysMessage,
+  PaysSystem,
+  IsShelved,
+  IsLent,
+  Shelving,
+  Fact,
+}
+use Rattle.mb_gate.proofs.Views.{
+  CountsNothing,
+  counts_no_more,
+  held_here,
+  held_else,
+  lent_here,
+  lent_else,
+  owes_here,
+  owes_else,
+  extends_self,
+  Grown,
+  grown,
+  goes_on,
+}
 use Rattle.mb_gate.proofs.Numbers.{among_more, pushed_so, part_so, length_numbered}
-use Rattle.mb_gate.proofs.Facts.{still_kept, still_balanced, views_change, elsewhere, load_here}
+use Rattle.mb_gate.proofs.Facts.{still_kept, still_balanced, still_turns, still_bare, claimed_bare, gripper_bare, views_change, elsewhere, load_here}
 use Rattle.mb_gate.proofs.StatusSteps.{is_held}
 
 bits : (a b c : Bool) → ((if a then 2 else 0) + (if b then 4 else 0) + (if c then 8 else 0)) % 2 ≡ 0
@@ -45,10 +120,10 @@ gate_out l gave = omega arith
 pub gate_even : (l : MessageList) (gave : Bool) → gate_word false l gave % 2 ≡ 0
 gate_even l gave = let b = bits (is_some_item l.messages) gave l.closed in omega arith
 
-module _ {H : Type 0} (is_of : ℕ → H → Type 0) (journal : H → List Entry) (mailbox : H → Mailbox) (rested : H → Type 0) (given_by : H → ℕ)
-    (closed_to : H → List ℕ) where
+module _ {H : Type 0} (is_of : ℕ → H → Type 0) (journal : H → List Entry) (mailbox : H → Mailbox) (rested : H → Type 0) (given_by : H
+    → ℕ) (closed_to : H → List ℕ) (actors : ℕ) where
   abbrev F : ℕ → Spot Word Shelf (Slot H) Ghost → List View → Type 0
-  F = Fact is_of journal mailbox rested given_by closed_to
+  F = Fact is_of journal mailbox rested given_by closed_to actors
 
   abbrev M : Type 0
   M = Me (Slot H) View
@@ -56,8 +131,8 @@ module _ {H : Type 0} (is_of : ℕ → H → Type 0) (journal : H → List Entry
   abbrev Place : Type 0
   Place = Spot Word Shelf (Slot H) Ghost
 
-  no_keeper : (x : Place) (keeper : Option (ℕ × Lent)) → x.row Gate % 2 ≡ 0 →
-      Shelving is_of journal mailbox rested given_by closed_to x keeper → keeper ≡ None
+  no_keeper : (x : Place) (keeper : Option (ℕ × Lent)) → x.row Gate % 2 ≡ 0 → Shelving is_of journal mailbox rested given_by closed_to x keeper
+      → keeper ≡ None
   no_keeper x None even k = refl
   no_keeper x (Some h) even k = absurd (let w = k.word in let o = gate_out x.ghost.listed x.ghost.gave in let e = gate_even x.ghost.listed
       x.ghost.gave in omega arith)
@@ -81,10 +156,10 @@ module _ {H : Type 0} (is_of : ℕ → H → Type 0) (journal : H → List Entry
 
   -- a seat takes the list out
   pub grips : (actor id : ℕ) (me : M) (old : ℕ) (tell : M → Type 0) (x : Place) (vs : List View) → F actor x vs → get_elem? vs id ≡ some me.0 →
-      x.row Gate % 2 ≡ 0 → x.row Gate ≡ old → me.0.list ≡ None
+      x.row Gate % 2 ≡ 0 → x.row Gate ≡ old → me.0.list ≡ None → may_grip actor me.0 ≡ true
       → tell (lending actor x.ghost.listed x.ghost.gave me.0, (slot_at actor 1, Listing x.ghost.listed) ∷ me.1)
       → Goes word_offset slot_offset F actor id me Gate (old + 1) tell x vs
-  grips actor id me old tell x vs f at even is bare told =
+  grips actor id me old tell x vs f at even is bare may told =
       let v = me.0 in
       let h = is_shelved actor x vs f even in
       let l : Lent = record { actor = actor; listed = x.ghost.listed; gave = x.ghost.gave } in
@@ -99,12 +174,18 @@ module _ {H : Type 0} (is_of : ℕ → H → Type 0) (journal : H → List Entry
         here = record {
           valid = f.valid;
           claims = stays_locked (claim_for actor) x.ghost.holder vs id v w at refl f.claims;
-          cell = still_kept is_of journal mailbox rested given_by closed_to actor x y refl refl refl refl refl refl refl x.ghost.holder f.cell;
+          cell =
+              still_kept is_of journal mailbox rested given_by closed_to actors actor x y refl refl refl refl refl refl refl x.ghost.holder f.cell;
           lists = takes_up (list_for actor) vs id v w l at (lent_here actor l refl) (subst (λ o. Locked (list_for actor) o vs) h.0 f.lists);
           shelf = record { taken = refl; gave = refl; word = ap (λ n. n + 1) (sym is ∙ h.1.word) ∙ sym (gate_out x.ghost.listed x.ghost.gave) };
           ended = f.ended;
           listing = f.listing;
-          balance = still_balanced actor (x.row Waiting) vs id v w at (record { on = refl; off = refl }) f.balance;
+          named = f.named;
+          balance = still_balanced actor (x.row Waiting) vs id v w at (record { on = refl; off = refl; share = refl; got = refl; back = refl })
+              f.balance;
+          turns = still_turns actor x.ghost.holder x.ghost.holder vs id v w at refl refl refl f.turns;
+          shares = shares_stay (λ (u : View). u.share) vs id v w at refl f.shares;
+          bare = gripper_bare actor vs id v w at refl refl refl (refl, refl) may f.bare;
           vouched = λ b. still_owed (Vouches b) (IsAmong b x.ghost.closed_to) (IsAmong b x.ghost.closed_to) vs id v w at (λ d. d) (λ _ p. p)
               (f.vouched b);
           message = still_owed (PaysMessage actor) (MessageDue x) (MessageDue y) vs id v w at (λ d. d) (λ _ p. p) f.message;
@@ -112,12 +193,12 @@ module _ {H : Type 0} (is_of : ℕ → H → Type 0) (journal : H → List Entry
           seen = let k = goes_on actor x y v grows (f.seen id v at) in
               learns (Knows actor x) (Knows actor y) vs id w (λ u. goes_on actor x y u grows) (record { seen = k.seen; said = k.said }) f.seen;
         };
-        others = λ a n z k. elsewhere is_of journal mailbox rested given_by closed_to a z vs id v w at
+        others = λ a n z k. elsewhere is_of journal mailbox rested given_by closed_to actors a z vs id v w at
             (record {
               claim = refl;
               list = lent_else a l (λ e. n (sym e)) ∙ sym (ap (lent_of a) bare);
               debt = refl;
-              account = record { on = refl; off = refl };
+              account = record { on = refl; off = refl; share = refl; got = refl; back = refl };
               vouches = λ b p. p;
               knows = λ _ s. record {
                 seen
@@ -132,8 +213,9 @@ module _ {H : Type 0} (is_of : ℕ → H → Type 0) (journal : H → List Entry
   pub enlists : (actor id n : ℕ) (me : M) (l : Lent) (m : SysMsg) (tell : M → Type 0) (x : Place) (vs : List View) → F actor x vs → get_elem? vs
       id ≡ some me.0 → me.0.list ≡ Some l → l.actor ≡ actor
       → me.1 ≡ (slot_at actor 1, Listing (with_last l.listed m)) ∷ tail_of me.1 → n ≡ gate_word false (with_last l.listed m) l.gave
+      → NamesBelow actors m
       → tell (enlisting actor (pushed l.listed) m me.0, tail_of me.1) → Goes word_offset slot_offset F actor id me Gate n tell x vs
-  enlists actor id n me l m tell x vs f at has of carried word told =
+  enlists actor id n me l m tell x vs f at has of carried word names told =
       let v = me.0 in
       let h = is_lent actor id x vs v l f at has of in
       let w = enlisting actor (pushed l.listed) m v in
@@ -141,7 +223,12 @@ module _ {H : Type 0} (is_of : ℕ → H → Type 0) (journal : H → List Entry
       let u : View = record v {
         log = Pushed actor (pushed l.listed) m ∷ v.log;
         list = None;
-        said = record { to = actor; message = m; was_ended = false } ∷ v.said;
+        said = record {
+          to = actor;
+          message = m;
+          was_ended =
+              false;
+        } ∷ v.said;
       } in
       let g : Ghost = record x.ghost { keeper = None; listed = with_last l.listed m; pushed = x.ghost.pushed ++ m ∷ [] } in
       let same_end : IsTrue x.ghost.listed.closed → IsTrue l.listed.closed = (λ e. ap (λ (z : MessageList). z.closed) h.1.taken ∙ e) in
@@ -151,13 +238,8 @@ module _ {H : Type 0} (is_of : ℕ → H → Type 0) (journal : H → List Entry
             m)));
         ghost = g;
       } in
-      let grows : Grown x y = record {
-        still = same_end;
-        closed = λ one. one;
-        longer = extends_self x.ghost.journal;
-        more = m ∷ [];
-        pushed = refl;
-      } in
+      let grows : Grown x y = record { still = same_end; closed = λ one. one; longer = extends_self x.ghost.journal; more = m ∷ []; pushed = refl }
+      in
       record {
         view = w;
         deed = gives_to ListShelf (Listing (with_last l.listed m));
@@ -166,7 +248,7 @@ module _ {H : Type 0} (is_of : ℕ → H → Type 0) (journal : H → List Entry
         here = record {
           valid = f.valid;
           claims = stays_locked (claim_for actor) x.ghost.holder vs id v w at refl f.claims;
-          cell = still_kept is_of journal mailbox rested given_by closed_to actor x y refl refl refl refl refl
+          cell = still_kept is_of journal mailbox rested given_by closed_to actors actor x y refl refl refl refl refl
               (ap (λ (z : MessageList). z.given) h.1.taken) refl x.ghost.holder f.cell;
           lists = puts_back (list_for actor) vs id v w l at refl (subst (λ o. Locked (list_for actor) o vs) h.0 f.lists);
           shelf = record { there = refl; word = word ∙ ap (gate_word false (with_last l.listed m)) h.1.gave };
@@ -177,8 +259,15 @@ module _ {H : Type 0} (is_of : ℕ → H → Type 0) (journal : H → List Entry
                 MessageList). f.listing.given ++ (z.messages ++ m ∷ [])) (sym h.1.taken));
             counted = ap (λ (z : MessageList). z.given) h.1.taken ∙ f.listing.counted;
           };
-          balance = still_balanced actor (x.row Waiting) vs id v w at (counts_no_more actor (Pushed actor (pushed l.listed) m) v w refl (refl, refl))
+          named = All-push (NamesBelow actors) l.listed.messages m (subst (λ (z : MessageList). All (NamesBelow actors) z.messages) (sym h.1.taken)
+              f.named) names;
+          balance = still_balanced actor (x.row Waiting) vs id v w at (counts_no_more actor (Pushed actor (pushed l.listed) m) v w refl
+              (refl, refl) refl refl refl)
               f.balance;
+          turns = still_turns actor x.ghost.holder x.ghost.holder vs id v w at refl refl refl f.turns;
+          shares = shares_stay (λ (u : View). u.share) vs id v w at refl f.shares;
+          bare = still_bare actor vs id v w at (counts_no_more actor (Pushed actor (pushed l.listed) m) v w refl (refl, refl) refl refl refl)
+              (λ c. c) (λ c. refl) f.bare;
           vouched = λ b. still_owed (Vouches b) (IsAmong b x.ghost.closed_to) (IsAmong b x.ghost.closed_to) vs id v w at (λ d. d)
               (λ _. among_more (Read b 1) (Pushed actor (pushed l.listed) m) v.log) (f.vouched b);
           message = still_owed (PaysMessage actor) (MessageDue x) (MessageDue y) vs id v w at (λ z. z) (λ _. subst (λ (z : Debt). IsTrue
@@ -200,12 +289,12 @@ module _ {H : Type 0} (is_of : ℕ → H → Type 0) (journal : H → List Entry
                 );
               }) f.seen;
         };
-        others = λ a k z s. elsewhere is_of journal mailbox rested given_by closed_to a z vs id v w at
+        others = λ a k z s. elsewhere is_of journal mailbox rested given_by closed_to actors a z vs id v w at
             (record {
               claim = refl;
               list = sym (ap (lent_of a) has ∙ lent_else a l (λ e. k (sym e ∙ of)));
               debt = owes_else actor a d u k;
-              account = counts_no_more a (Pushed actor (pushed l.listed) m) v w refl (refl, refl);
+              account = counts_no_more a (Pushed actor (pushed l.listed) m) v w refl (refl, refl) refl refl refl;
               vouches = λ b. among_more (Read b 1) (Pushed actor (pushed l.listed) m) v.log;
               knows
                   = λ _ t. record { seen = ((λ e. absurd (k (sym e))), t.seen); said = ((λ e. absurd (k (sym e))), t.said) };
@@ -227,7 +316,7 @@ module _ {H : Type 0} (is_of : ℕ → H → Type 0) (journal : H → List Entry
   unloads actor id n s me c l new gave tell x vs f at has of keeps of_list carried word empty stays_closed closed counts uncounted so told =
       let given = listed l.listed in
       let v = me.0 in
-      let h = is_held is_of journal mailbox rested given_by closed_to actor id x vs v c f at has of in
+      let h = is_held is_of journal mailbox rested given_by closed_to actors actor id x vs v c f at has of in
       let k = is_lent actor id x vs v l f at keeps of_list in
       let lent = k in
       let w = unloading s given gave v in
@@ -267,7 +356,12 @@ module _ {H : Type 0} (is_of : ℕ → H → Type 0) (journal : H → List Entry
                 let listed_many = ap (λ (z : MessageList). length z.messages) k.1.taken in
                 let before = f.listing.counted in omega arith;
           };
-          balance = still_balanced actor (x.row Waiting) vs id v w at (counts_no_more actor s v w refl (uncounted actor)) f.balance;
+          named = subst (All (NamesBelow actors)) (sym empty) (All-nil (NamesBelow actors));
+          balance = still_balanced actor (x.row Waiting) vs id v w at (counts_no_more actor s v w refl (uncounted actor) refl refl refl) f.balance;
+          turns = still_turns actor x.ghost.holder (Some (id, c')) vs id v w at refl refl (sym (ap claims_out h.0)) f.turns;
+          shares = shares_stay (λ (u : View). u.share) vs id v w at refl f.shares;
+          bare = claimed_bare actor vs id v w c' at (ap (λ z. held_of actor (regiven given gave z)) has ∙ held_here actor c' of) refl refl refl
+              (counts_no_more actor s v w refl (uncounted actor) refl refl refl).on f.bare;
           vouched = λ b. still_owed (Vouches b) (IsAmong b x.ghost.closed_to) (IsAmong b x.ghost.closed_to) vs id v w at (λ d. d)
               (λ _. among_more (Read b 1) s v.log) (f.vouched b);
           message = still_owed (PaysMessage actor) (MessageDue x) (MessageDue y) vs id v w at (λ z. z) (λ _ p. p) f.message;
@@ -278,12 +372,12 @@ module _ {H : Type 0} (is_of : ℕ → H → Type 0) (journal : H → List Entry
                 said = k.said;
               }) f.seen;
         };
-        others = λ a i z p. elsewhere is_of journal mailbox rested given_by closed_to a z vs id v w at (record {
+        others = λ a i z p. elsewhere is_of journal mailbox rested given_by closed_to actors a z vs id v w at (record {
           claim = ap (λ z. held_of a (regiven given gave z)) has ∙ (held_else a c' (λ e. i (sym e ∙ of)) ∙ sym (ap (held_of a) has ∙ held_else a
               c (λ e. i (sym e ∙ of))));
           list = sym (ap (lent_of a) keeps ∙ lent_else a l (λ e. i (sym e ∙ of_list)));
           debt = refl;
-          account = counts_no_more a s v w refl (uncounted a);
+          account = counts_no_more a s v w refl (uncounted a) refl refl refl;
           vouches = λ b. among_more (Read b 1) s v.log;
           knows = λ q t. record { seen = (so a q (λ e. absurd (i e)), t.seen); said = t.said };
         }) p;
@@ -299,15 +393,18 @@ module _ {H : Type 0} (is_of : ℕ → H → Type 0) (journal : H → List Entry
     deed = stays;
     kept = x.ghost;
     able = tt;
-    here = load_here is_of journal mailbox rested given_by closed_to actor x (set vs id w) Gate
-        (views_change is_of journal mailbox rested given_by closed_to actor x vs id v w at refl
-        refl (record { on = refl; off = refl }) (λ _ p. p) (λ _ p. p)
-        (λ k. record { seen = k.seen; said = ((λ _. ((λ _. shut), (λ e. absurd (cc)))), k.said) }) (λ b p. p) f);
-    others = λ a n y g. elsewhere is_of journal mailbox rested given_by closed_to a y vs id v w at (record {
+    here = load_here is_of journal mailbox rested given_by closed_to actors actor x (set vs id w) Gate (views_change is_of journal mailbox rested
+        given_by closed_to actors actor x vs id v w at refl
+        refl (record { on = refl; off = refl; share = refl; got = refl; back = refl }) (λ _ p. p) (λ _ p. p) (λ k. record {
+          seen = k.seen;
+          said =
+              ((λ _. ((λ _. shut), (λ e. absurd (cc)))), k.said);
+        }) (λ b p. p) f);
+    others = λ a n y g. elsewhere is_of journal mailbox rested given_by closed_to actors a y vs id v w at (record {
       claim = refl;
       list = refl;
       debt = refl;
-      account = record { on = refl; off = refl };
+      account = record { on = refl; off = refl; share = refl; got = refl; back = refl };
       vouches = λ b p. p;
       knows = λ _ t.
           record { seen = t.seen; said = ((λ e. absurd (n (sym e))), t.said) };

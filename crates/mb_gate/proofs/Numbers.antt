@@ -1,6 +1,29 @@
 -- The numbers of messages, and what stands in a list.
-use Rattle.std.proofs.Common.{◌≡◌, ℕ, suc, ◌+◌, ◌%◌, ◌^◌, ◌<◌, List, [], ◌∷◌, ◌++◌, length, sym, refl, ap, ◌∙◌, subst, append_assoc}
-use Rattle.std.proofs.Common.{append-nil, length-append, arith}
+use Rattle.std.proofs.Common.{
+  ◌≡◌,
+  ℕ,
+  suc,
+  ◌+◌,
+  ◌%◌,
+  ◌^◌,
+  ◌<◌,
+  List,
+  [],
+  ◌∷◌,
+  ◌++◌,
+  length,
+  sym,
+  refl,
+  ap,
+  ◌∙◌,
+  subst,
+  append_assoc,
+  append-nil,
+  length-append,
+  arith,
+  All,
+}
+use Rattle.std.proofs.lemmas.List.Elements.{All-nil, All-cons, All-head, All-tail}
 use Rattle.mb_msg.specs.declared.system.SysMsg.{SysMsg}
 use Rattle.mb_syslist.specs.MessageList.{MessageList, numbered, listed, pushed}
 use Rattle.mb_rule.specs.Seen.{Each}
@@ -53,15 +76,21 @@ pub length_numbered : (n : ℕ) (ms : List SysMsg) → length (numbered n ms) �
 length_numbered n [] = refl
 length_numbered n (m ∷ ms) = ap suc (length_numbered ((n + 1) % 2 ^ 64) ms)
 
+-- what holds of each message holds of each with its number
+pub all_with_numbers : (P : SysMsg → Type 0) (n : ℕ) (ms : List SysMsg) → All P ms → All (λ (m : ℕ × SysMsg). P m.1) (numbered n ms)
+all_with_numbers P n [] h = All-nil (λ (m : ℕ × SysMsg). P m.1)
+all_with_numbers P n (m ∷ ms) h = All-cons (λ (k : ℕ × SysMsg). P k.1) (n, m) (numbered ((n + 1) % 2 ^ 64) ms) (All-head P m ms h)
+    (all_with_numbers P ((n + 1) % 2 ^ 64) ms (All-tail P m ms h))
+
 -- what is put last into the list has the list's next number
-pub pushed_so : (g : Ghost) (l : MessageList) (m : SysMsg) → l ≡ g.listed → IsListing g.pushed g.listed → IsAmong (pushed l, m)
-    (numbered 0 (g.pushed ++ m ∷ []))
+pub pushed_so : (g : Ghost) (l : MessageList) (m : SysMsg) → l ≡ g.listed → IsListing g.pushed g.listed
+    → IsAmong (pushed l, m) (numbered 0 (g.pushed ++ m ∷ []))
 pushed_so g l m same li = subst (λ z. IsAmong (pushed z, m) (numbered 0 (g.pushed ++ m ∷ []))) (sym same)
     (subst (λ z. IsAmong (pushed g.listed, m) (numbered 0 (z ++ m ∷ []))) (sym li.joined)
     (last li.given g.listed.messages g.listed.given li.counted))
   where
-    last : (given ms : List SysMsg) (n : ℕ) → n ≡ length given % 2 ^ 64 → IsAmong ((n + length ms) % 2 ^ 64, m)
-        (numbered 0 ((given ++ ms) ++ m ∷ []))
+    last : (given ms : List SysMsg) (n : ℕ) → n ≡ length given % 2 ^ 64 → IsAmong ((n + length ms) % 2 ^ 64, m) (numbered 0
+        ((given ++ ms) ++ m ∷ []))
     last given ms n e = record {
       before = numbered 0 (given ++ ms);
       after = [];

@@ -42,12 +42,36 @@ use Rattle.mb_rule.proofs.OwedLemmas.{splits_owed, joins_owed}
 use Rattle.mb_rule.proofs.SeenLemmas.{splits_seen, joins_seen, each_append}
 use Rattle.mb_rule.specs.Summed.{total}
 use Rattle.mb_rule.proofs.SummedLemmas.{total_append, total_splits, total_joins}
+use Rattle.mb_rule.specs.Shares.{FitsIn, amount}
+use Rattle.mb_rule.proofs.SharesLemmas.{splits_shares, joins_shares}
+use Rattle.mb_gate.specs.Turns.{got_by, back_by, claims_out}
+use Rattle.mb_gate.proofs.Facts.{no_share}
 use Rattle.atomic_table.proofs.Lists.{set_else}
 use Rattle.std.proofs.lemmas.Bool.{eqb-true}
 use Rattle.mb_gate.specs.declared.slot.Slot.{Slot}
 use Rattle.mb_gate.proofs.Numbers.{among_left, among_right, among_first, among_more}
-use Rattle.mb_gate.specs.View.{View, Sight, Read, Saw, Counted, Looked, Sent, Unsent, Took, Pushed, Drained, Ended, Said, debt_of, owes}
-use Rattle.mb_gate.specs.View.{blank, either_owes, added_debts, without_counts, taking_over}
+use Rattle.mb_gate.specs.View.{
+  View,
+  Sight,
+  Read,
+  Saw,
+  Counted,
+  Looked,
+  Sent,
+  Unsent,
+  Took,
+  Pushed,
+  Drained,
+  Ended,
+  Said,
+  debt_of,
+  owes,
+  blank,
+  either_owes,
+  added_debts,
+  without_counts,
+  taking_over,
+}
 use Rattle.mb_gate.specs.Waiting.{counted_on, counted_off, on_by, off_by, IsBalance}
 use Rattle.mb_gate.specs.Rule.{
   Word,
@@ -67,6 +91,8 @@ use Rattle.mb_gate.specs.Rule.{
   SystemDue,
   PaysMessage,
   PaysSystem,
+  is_some_item,
+  IsBare,
   Fact,
 }
 
@@ -108,13 +134,24 @@ same_balance : (actor n : ℕ) (vs ws : List View) → total (on_by actor) ws �
     vs → IsBalance actor n vs → IsBalance actor n ws
 same_balance actor n vs ws on off b = ap (λ k. (n + k) % 2 ^ 64) off ∙ (b ∙ sym (ap (λ k. k % 2 ^ 64) on))
 
-both_logs : (f : Sight → ℕ) (a b : List Sight) → total f (a ++ b) + 0 ≡ total f b + total f a
+both_logs : {A : Type 0} (f : A → ℕ) (a b : List A) → total f (a ++ b) + 0 ≡ total f b + total f a
 both_logs f a b = let e = total_append f a b in omega arith
+
+pub some_left : {A : Type 0} (a b : List A) → is_some_item a ≡ true → is_some_item (a ++ b) ≡ true
+some_left [] b has = absurd (cc)
+some_left (x ∷ xs) b has = refl
 
 -- what one counted of this actor two have counted
 pub record SharesAccount (actor : ℕ) (v left right : View) : Type 0 where
   pub on : on_by actor left + on_by actor right ≡ on_by actor v
   pub off : off_by actor left + off_by actor right ≡ off_by actor v
+  pub got : got_by actor left + got_by actor right ≡ got_by actor v
+  pub back : back_by actor left + back_by actor right ≡ back_by actor v
+
+-- and what share one had they have
+pub record SharesShare (v left right : View) (e : ℕ) : Type 0 where
+  pub fits : FitsIn e v.share
+  pub amounts : amount e left.share + amount e right.share ≡ amount e v.share
 
 -- what holds of each sight holds of those that are not counts
 pub each_without : (P : Sight → Type 0) (log : List Sight) → Each P log → Each P (without_counts log)
@@ -171,44 +208,56 @@ vouches_without b log is = subst (λ l. IsAmong (Read b 1) (without_counts l)) (
     from (Drained a given ∷ log) = among_more (Read b 1) (Drained a given) _ (from log)
     from (Ended a given ∷ log) = among_more (Read b 1) (Ended a given) _ (from log)
 
-module _ {H : Type 0} (is_of : ℕ → H → Type 0) (journal : H → List Entry) (mailbox : H → Mailbox) (rested : H → Type 0) (given_by : H → ℕ)
-    (closed_to : H → List ℕ) where
+module _ {H : Type 0} (is_of : ℕ → H → Type 0) (journal : H → List Entry) (mailbox : H → Mailbox) (rested : H → Type 0) (given_by : H
+    → ℕ) (closed_to : H → List ℕ) (actors : ℕ) where
   abbrev F : ℕ → Spot Word Shelf (Slot H) Ghost → List View → Type 0
-  F = Fact is_of journal mailbox rested given_by closed_to
+  F = Fact is_of journal mailbox rested given_by closed_to actors
 
   abbrev Place : Type 0
   Place = Spot Word Shelf (Slot H) Ghost
 
   -- a view is cut in two: the first keeps the claim, no list is out, and what was owed and seen is the second's
   pub parts : (id : ℕ) (v left right : View) → left.claim ≡ v.claim → right.claim ≡ None → v.list ≡ None → left.list ≡ None → right.list ≡ None →
-      right.debts ≡ v.debts → ((actor : ℕ) → SharesAccount actor v left right) → ((b : ℕ) → Vouches b v → Vouches b right)
+      right.debts ≡ v.debts → ((actor : ℕ) → SharesAccount actor v left right) → ((e : ℕ) → FitsIn e left.share → FitsIn e right.share
+      → SharesShare v
+      left right e) → ((actor : ℕ) → left.share ≡ [] → IsBare actor left) → ((actor : ℕ) → right.share ≡ [] → IsBare actor right)
+      → ((b : ℕ) → Vouches b v → Vouches b right)
       → ((actor : ℕ) (x : Place) → Knows actor x v → Knows actor x left) → ((actor : ℕ) (x : Place) → Knows actor x v → Knows actor x right)
       → (actor : ℕ) (x : Place) (vs : List View) → get_elem? vs id ≡ some v → F actor x vs → F actor x (set vs id left ++ right ∷ [])
-  parts id v left right claim no_claim list no_list no_list_2 debts account vouches knows knows_too actor x vs at f = record {
-    valid = f.valid;
-    claims = splits_locked (claim_for actor) x.ghost.holder vs id v left right at (ap (held_of actor) claim) (ap (held_of actor) no_claim) f.claims;
-    cell = f.cell;
-    lists = splits_locked (list_for actor) x.ghost.keeper vs id v left right at (ap (lent_of actor) no_list ∙ sym (ap (lent_of actor) list)) (ap
-        (lent_of actor) no_list_2) f.lists;
-    shelf = f.shelf;
-    ended = f.ended;
-    listing = f.listing;
-    balance = same_balance actor (x.row Waiting) vs (set vs id left ++ right ∷ []) (total_splits (on_by actor) vs id v left right at (account
-        actor).on) (total_splits (off_by actor) vs id v left right at (account actor).off) f.balance;
-    vouched = λ b. splits_owed (Vouches b) (IsAmong b x.ghost.closed_to) vs id v left right at (λ p. inr (vouches b p)) (f.vouched b);
-    message = splits_owed (PaysMessage actor) (MessageDue x) vs id v left right at (λ p. inr (subst (λ ds. IsTrue ((debt_of actor ds).message ||
-        (debt_of actor ds).sending)) (sym debts) p)) f.message;
-    system = splits_owed (PaysSystem actor) (SystemDue x) vs id v left right at (λ p. inr (subst (λ ds. IsTrue (debt_of actor ds).system) (sym
-        debts) p)) f.system;
-    seen = splits_seen (Knows actor x) vs id left right (knows actor x (f.seen id v at)) (knows_too actor x (f.seen id v at)) f.seen;
-  }
+  parts id v left right claim no_claim list no_list no_list_2 debts account share bare_left bare_right vouches knows knows_too actor x vs at f =
+      record {
+        valid = f.valid;
+        claims = splits_locked (claim_for actor) x.ghost.holder vs id v left right at (ap (held_of actor) claim) (ap (held_of actor) no_claim)
+            f.claims;
+        cell = f.cell;
+        lists = splits_locked (list_for actor) x.ghost.keeper vs id v left right at (ap (lent_of actor) no_list ∙ sym (ap (lent_of actor) list)) (ap
+            (lent_of actor) no_list_2) f.lists;
+        shelf = f.shelf;
+        ended = f.ended;
+        listing = f.listing;
+        named = f.named;
+        balance = same_balance actor (x.row Waiting) vs (set vs id left ++ right ∷ []) (total_splits (on_by actor) vs id v left right at (account
+            actor).on) (total_splits (off_by actor) vs id v left right at (account actor).off) f.balance;
+        turns = total_splits (got_by actor) vs id v left right at (account actor).got ∙ (f.turns ∙ sym (ap (λ n. n + claims_out x.ghost.holder)
+            (total_splits (back_by actor) vs id v left right at (account actor).back)));
+        shares = splits_shares (λ (u : View). u.share) vs id v left right at (λ e l r. let s = share e l r in (s.fits, s.amounts)) f.shares;
+        bare = splits_seen (λ (u : View). u.share ≡ [] → IsBare actor u) vs id left right (bare_left actor) (bare_right actor) f.bare;
+        vouched = λ b. splits_owed (Vouches b) (IsAmong b x.ghost.closed_to) vs id v left right at (λ p. inr (vouches b p)) (f.vouched b);
+        message = splits_owed (PaysMessage actor) (MessageDue x) vs id v left right at (λ p. inr (subst (λ ds. IsTrue ((debt_of actor ds).message ||
+            (debt_of actor ds).sending)) (sym debts) p)) f.message;
+        system = splits_owed (PaysSystem actor) (SystemDue x) vs id v left right at (λ p. inr (subst (λ ds. IsTrue (debt_of actor ds).system) (sym
+            debts) p)) f.system;
+        seen = splits_seen (Knows actor x) vs id left right (knows actor x (f.seen id v at)) (knows_too actor x (f.seen id v at)) f.seen;
+      }
 
   -- a seat takes over the view of one that has no claim and no list, and what one of the two said
-  pub takes_over : (id : ℕ) (v : View) (other : ℕ) (w : View) (said : List Said) → (said ≡ v.said) ⊎ (said ≡ w.said) → w.claim ≡ None → w.list ≡ None
-      → (actor : ℕ) (x : Place) (vs : List View) → get_elem? vs id ≡ some v → ¬ (other ≡ id) → get_elem?
-      (set vs id (record (taking_over v w) { said = said })) other ≡ some w
+  pub takes_over : (id : ℕ) (v : View) (other : ℕ) (w : View) (said : List Said) → (said ≡ v.said) ⊎ (said ≡ w.said) → w.claim ≡ None
+      → w.list ≡ None →
+      is_some_item w.share ≡ true
+      → (actor : ℕ) (x : Place) (vs : List View) → get_elem? vs id ≡ some v → ¬ (other ≡ id)
+      → get_elem? (set vs id (record (taking_over v w) { said = said })) other ≡ some w
       → F actor x vs → F actor x (set (set vs id (record (taking_over v w) { said = said })) other blank)
-  takes_over id v other w said whose bare bare_list actor x vs at apart there f =
+  takes_over id v other w said whose bare bare_list sharer actor x vs at apart there f =
       let both : View = record (taking_over v w) { said = said } in
       let at_other : get_elem? vs other ≡ some w = sym (set_else vs id other both apart) ∙ there in record {
         valid = f.valid;
@@ -218,9 +267,16 @@ module _ {H : Type 0} (is_of : ℕ → H → Type 0) (journal : H → List Entry
         shelf = f.shelf;
         ended = f.ended;
         listing = f.listing;
+        named = f.named;
         balance = same_balance actor (x.row Waiting) vs (set (set vs id both) other blank)
             (total_joins (on_by actor) vs id other v w both blank at there (both_logs (counted_on actor) w.log v.log))
             (total_joins (off_by actor) vs id other v w both blank at there (both_logs (counted_off actor) w.log v.log)) f.balance;
+        turns = total_joins (got_by actor) vs id other v w both blank at there (both_logs (λ a. if a == actor then 1 else 0) w.got v.got)
+            ∙ (f.turns ∙ sym (ap (λ n. n + claims_out x.ghost.holder) (total_joins (back_by actor) vs id other v w both blank at there
+            (both_logs (λ a. if a == actor then 1 else 0) w.returned v.returned))));
+        shares = joins_shares (λ (u : View). u.share) vs id other v w both blank at apart there refl refl f.shares;
+        bare = joins_seen (λ (u : View). u.share ≡ [] → IsBare actor u) vs id other both blank (λ none. absurd (no_share (w.share ++ v.share)
+            (some_left w.share v.share sharer) none)) (λ _. record { got = refl; back = refl; on = refl; rest = λ _. (refl, refl) }) f.bare;
         vouched = λ b. joins_owed (Vouches b) (IsAmong b x.ghost.closed_to) vs id other v w both blank at apart there
             (λ p. among_right (Read b 1) w.log v.log p) (λ p. among_left (Read b 1) w.log v.log p) (f.vouched b);
         message = joins_owed (PaysMessage actor) (MessageDue x) vs id other v w both blank at apart there

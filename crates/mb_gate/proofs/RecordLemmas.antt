@@ -59,8 +59,8 @@ module _ (actor : ℕ) (closed : Bool) (due : List (ℕ × SysMsg)) (said : List
       record { parts = m.parts; said_is = m.said_is; due_is = sym (append-nil due) ∙ m.due_is; right = m.right }
 
 -- what was said while the actor was open is what was said of a closed one too
-pub once_closed : (actor : ℕ) (closed : Bool) (due : List (ℕ × SysMsg)) (said : List Said) → IsSaid actor closed due said →
-    IsSaid actor true due said
+pub once_closed : (actor : ℕ) (closed : Bool) (due : List (ℕ × SysMsg)) (said : List Said) → IsSaid actor closed due said
+    → IsSaid actor true due said
 once_closed actor closed due said s = record {
   parts = s.parts;
   said_is = s.said_is;

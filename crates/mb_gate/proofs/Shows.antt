@@ -54,10 +54,11 @@ use Rattle.mb_rule.specs.Layout.{Spot, spot_of}
 use Rattle.mb_rule.specs.Locked.{ticket_at, Locked}
 use Rattle.mb_rule.specs.Owed.{Payer}
 use Rattle.mb_gate.specs.declared.slot.Slot.{Slot}
-use Rattle.mb_gate.specs.View.{View, Read, Held, owes}
-use Rattle.mb_gate.specs.Rule.{Word, Status, word_offset, Shelf, slot_offset, Ghost, is_some_item, has_work, claim_for, IsSo, Keeping}
+use Rattle.mb_gate.specs.View.{View, Read, Pushed, Drained, Ended, Held, owes}
+use Rattle.mb_gate.specs.Rule.{Word, Status, word_offset, Shelf, slot_offset, Ghost, is_some_item, has_work, claim_for, IsSo, all_numbered, Keeping}
 use Rattle.mb_gate.proofs.Numbers.{each_among}
-use Rattle.mb_gate.specs.Shown.{ShowsClosed, ShowsBalance, holder_of, ShowsMachine}
+use Rattle.mb_gate.specs.Shown.{ShowsClosed, ShowsBalance, ShowsNumbers, holder_of, ShowsMachine}
+use Rattle.mb_gate.proofs.OneNumber.{one_message, among_part}
 
 valid_possible : (w : ℕ) → IsTrue (is_valid w) → IsTrue (is_possible (mailbox_of w))
 valid_possible w v = grind (arith, nat_tests)
@@ -104,16 +105,16 @@ scheduled_not_free : (w : ℕ) → IsTrue (mailbox_of w).scheduled → (w % 4 �
 scheduled_not_free w s (inl z) = grind (arith, nat_tests)
 scheduled_not_free w s (inr z) = grind (arith, nat_tests)
 
-module _ {H : Type 0} (is_of : ℕ → H → Type 0) (journal : H → List Entry) (mailbox : H → Mailbox) (rested : H → Type 0) (given_by : H → ℕ)
-    (closed_to : H → List ℕ) where
-  held : (actor : ℕ) (x : Spot Word Shelf (Slot H) Ghost) (holder : Option (ℕ × Held)) →
-      Keeping is_of journal mailbox rested given_by closed_to actor x holder →
+module _ {H : Type 0} (is_of : ℕ → H → Type 0) (journal : H → List Entry) (mailbox : H → Mailbox) (rested : H → Type 0) (given_by : H
+    → ℕ) (closed_to : H → List ℕ) where
+  held : (actor : ℕ) (x : Spot Word Shelf (Slot H) Ghost) (holder : Option (ℕ × Held)) → Keeping is_of journal mailbox rested given_by closed_to
+      actor x holder →
       IsTrue (mailbox_of (x.row Status)).scheduled → IsSome (holder_of holder)
   held actor x None k s = absurd (scheduled_not_free (x.row Status) s k.idle)
   held actor x (Some h) k s = refl
 
-  free : (actor : ℕ) (x : Spot Word Shelf (Slot H) Ghost) (holder : Option (ℕ × Held)) →
-      Keeping is_of journal mailbox rested given_by closed_to actor x holder →
+  free : (actor : ℕ) (x : Spot Word Shelf (Slot H) Ghost) (holder : Option (ℕ × Held)) → Keeping is_of journal mailbox rested given_by closed_to
+      actor x holder →
       x.row Status % 4 ≡ 0 → IsNone (holder_of holder)
   free actor x None k z = refl
   free actor x (Some h) k z = absurd (⊎_elim (λ b. omega arith) (λ b. omega arith) k.busy)
@@ -167,3 +168,12 @@ module _ {H : Type 0} (is_of : ℕ → H → Type 0) (journal : H → List Entry
 
   pub shows_balance : ShowsBalance is_of journal mailbox rested given_by closed_to
   shows_balance n s r actor inside = (r.each actor inside).balance
+
+  pub shows_numbers : ShowsNumbers is_of journal mailbox rested given_by closed_to
+  shows_numbers n s r actor inside few p q v w number put given all at there pushes gives in_all =
+      let x = spot_of word_offset slot_offset s r.ghosts actor in
+      let f = r.each actor inside in
+      let listed = each_among (IsSo actor x) (Pushed actor number put) v.log (f.seen p v at).seen pushes refl in
+      let part = ⊎_elim (λ d. each_among (IsSo actor x) (Drained actor all) w.log (f.seen q w there).seen d refl)
+      (λ e. (each_among (IsSo actor x) (Ended actor all) w.log (f.seen q w there).seen e refl).1) gives in
+      one_message x.ghost.pushed number put given few listed (among_part (number, given) all (all_numbered x.ghost) part in_all)

@@ -32,6 +32,7 @@ use Rattle.std.proofs.Common.{
   arith,
   slice_get,
 }
+use Rattle.std.proofs.lemmas.List.Elements.{All-nil}
 use mathlib.Core.Option as maybe
 use mathlib.Core.Option.{none, some, some-ne-none, some-injective}
 use lib.ListN.{get_elem?, length-map}
@@ -44,9 +45,12 @@ use Rattle.mb_rule.specs.Locked.{ticket_at}
 use Rattle.mb_gate.specs.declared.slot.Slot.{Slot}
 use Rattle.mb_gate.specs.declared.slot.Slot.TheVariants.{Home, List as Listing}
 use Rattle.mb_rule.specs.Summed.{total}
-use Rattle.mb_gate.specs.View.{View, blank}
+use Rattle.mb_rule.proofs.SharesLemmas.{first_shares}
+use Rattle.mb_gate.proofs.Facts.{no_share}
+use Rattle.mb_gate.specs.View.{View, alone}
 use Rattle.mb_gate.specs.Waiting.{off_by}
-use Rattle.mb_gate.specs.Rule.{word_offset, slot_offset, Ghost, IsAmong, Knows, claim_for, list_for, Fact}
+use Rattle.mb_gate.specs.Rule.{word_offset, slot_offset, Ghost, IsAmong, Knows, IsBare, claim_for, list_for, Fact}
+use Rattle.mb_gate.specs.Named.{NamesBelow}
 use Rattle.mb_gate.specs.Starts.{no_messages, rows_of, row_of, shelves_of, IsFresh}
 use Rattle.mb_gate.proofs.Rows.{length-rows_of, length-shelves_of}
 use Rattle.mb_gate.proofs.Wins.{free_word, free_mod, valid_word}
@@ -106,13 +110,13 @@ module _ {H : Type 0} (journal : H → List Entry) (mailbox : H → Mailbox) whe
     },
   )
 
-nobody_has : {T : Type 0} (ticket : View → Option T) → ticket blank ≡ None → (q : ℕ) → ticket_at ticket (blank ∷ []) q ≡ None
+nobody_has : {T : Type 0} (ticket : View → Option T) → ticket alone ≡ None → (q : ℕ) → ticket_at ticket (alone ∷ []) q ≡ None
 nobody_has ticket bare zero = bare
 nobody_has ticket bare (suc q) = refl
 
-only_blank : (P : View → Type 0) → P blank → (q : ℕ) (v : View) → get_elem? (blank ∷ []) q ≡ some v → P v
-only_blank P p zero v at = subst P (some-injective blank v at) p
-only_blank P p (suc q) v at = absurd (some-ne-none v (sym at))
+only_alone : (P : View → Type 0) → P alone → (q : ℕ) (v : View) → get_elem? (alone ∷ []) q ≡ some v → P v
+only_alone P p zero v at = subst P (some-injective alone v at) p
+only_alone P p (suc q) v at = absurd (some-ne-none v (sym at))
 
 none_among : (a : ℕ) → IsAmong a [] → ⊥
 none_among a is = cases is.before is.joined
@@ -121,8 +125,8 @@ none_among a is = cases is.before is.joined
     cases [] e = cc
     cases (b ∷ bs) e = cc
 
-module _ {H : Type 0} (is_of : ℕ → H → Type 0) (journal : H → List Entry) (mailbox : H → Mailbox) (rested : H → Type 0) (given_by : H → ℕ)
-    (closed_to : H → List ℕ) where
+module _ {H : Type 0} (is_of : ℕ → H → Type 0) (journal : H → List Entry) (mailbox : H → Mailbox) (rested : H → Type 0) (given_by : H
+    → ℕ) (closed_to : H → List ℕ) where
   abbrev begins : (hs : List H) → ℕ → Ghost
   begins hs a = record {
     holder = None;
@@ -130,16 +134,17 @@ module _ {H : Type 0} (is_of : ℕ → H → Type 0) (journal : H → List Entry
     closed_to = [];
     keeper = None;
     listed = no_messages;
-    gave = false;
+    gave =
+        false;
     pushed = [];
   }
 
   pub starts : (n : ℕ) (hs : List H) (words : List ℕ) (slots : List (Slot H)) → n ≡ length hs → words ≡ rows_of mailbox hs → slots ≡ shelves_of hs
       → ((a : ℕ) (h : H) → slice_get hs a ≡ Some h → IsFresh is_of mailbox rested given_by closed_to a h)
-      → Ruled word_offset slot_offset n (Fact is_of journal mailbox rested given_by closed_to) (opening words slots blank)
+      → Ruled word_offset slot_offset n (Fact is_of journal mailbox rested given_by closed_to n) (opening words slots alone)
   starts n hs words slots many rows shelves fresh =
-      subst (λ (z : List ℕ × List (Slot H)). Ruled word_offset slot_offset n (Fact is_of journal mailbox rested given_by closed_to)
-      (opening z.0 z.1 blank)) (λ i.
+      subst (λ (z : List ℕ × List (Slot H)). Ruled word_offset slot_offset n (Fact is_of journal mailbox rested given_by closed_to n)
+      (opening z.0 z.1 alone)) (λ i.
       (sym rows i, sym shelves i)) record {
         ghosts = begins hs;
         wide = length-rows_of mailbox hs ∙ ap (λ k. 16 * k) (sym many);
@@ -163,10 +168,14 @@ module _ {H : Type 0} (is_of : ℕ → H → Type 0) (journal : H → List Entry
           shelf = record { there = b.1.list; word = b.1.gate };
           ended = λ e. absurd (cc);
           listing = record { given = []; joined = refl; counted = refl };
-          balance = ap (λ k. (k + total (off_by a) (blank ∷ [])) % 2 ^ 64) b.1.waiting;
+          named = All-nil (NamesBelow n);
+          balance = ap (λ k. (k + total (off_by a) (alone ∷ [])) % 2 ^ 64) b.1.waiting;
+          turns = refl;
+          shares = first_shares (λ (u : View). u.share) alone refl;
+          bare = only_alone (λ (u : View). u.share ≡ [] → IsBare a u) (λ empty. absurd (no_share (0 ∷ []) refl empty));
           vouched = λ other is. absurd (none_among other is);
           message = λ due. absurd (let w = b.1.waiting in let d = due.1 in omega arith);
           system = λ due. absurd (let d = due.1 in cc);
-          seen = only_blank (Knows a _) (record { seen = tt; said = tt });
+          seen = only_alone (Knows a _) (record { seen = tt; said = tt });
         };
       }

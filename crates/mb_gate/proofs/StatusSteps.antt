@@ -70,13 +70,18 @@ use Rattle.mb_gate.specs.Rule.{
   SystemDue,
   PaysMessage,
   PaysSystem,
+  is_some_item,
   IsHome,
   IsHeld,
   Keeping,
   Fact,
 }
+use Rattle.mb_rule.proofs.SharesLemmas.{shares_stay}
+use Rattle.mb_gate.specs.Waiting.{on_by, off_by}
+use Rattle.mb_gate.specs.Turns.{claims_out}
 use Rattle.mb_gate.proofs.Views.{
   counts_no_more,
+  times_here,
   held_here,
   owes_here,
   extends_self,
@@ -89,13 +94,27 @@ use Rattle.mb_gate.proofs.Views.{
 }
 use Rattle.mb_gate.specs.Claims.{IsKnownClosed}
 use Rattle.mb_gate.proofs.Numbers.{among_more, each_among}
-use Rattle.mb_gate.proofs.Facts.{still_shelved, still_balanced, views_change, elsewhere, load_here}
+use Rattle.mb_gate.proofs.Facts.{
+  still_shelved,
+  same_balance,
+  still_turns,
+  turns_more,
+  turns_less,
+  claimed_bare,
+  sharer_bare,
+  views_change,
+  elsewhere,
+  load_here,
+}
 use Rattle.mb_gate.proofs.Words.{scheduled_valid, reading_pays_message, reading_pays_system}
 
-module _ {H : Type 0} (is_of : ℕ → H → Type 0) (journal : H → List Entry) (mailbox : H → Mailbox) (rested : H → Type 0) (given_by : H → ℕ)
-    (closed_to : H → List ℕ) where
+none_more : (m : ℕ) → 0 + m ≡ m
+none_more m = omega arith
+
+module _ {H : Type 0} (is_of : ℕ → H → Type 0) (journal : H → List Entry) (mailbox : H → Mailbox) (rested : H → Type 0) (given_by : H
+    → ℕ) (closed_to : H → List ℕ) (actors : ℕ) where
   abbrev F : ℕ → Spot Word Shelf (Slot H) Ghost → List View → Type 0
-  F = Fact is_of journal mailbox rested given_by closed_to
+  F = Fact is_of journal mailbox rested given_by closed_to actors
 
   abbrev M : Type 0
   M = Me (Slot H) View
@@ -112,21 +131,21 @@ module _ {H : Type 0} (is_of : ℕ → H → Type 0) (journal : H → List Entry
     deed = stays;
     kept = x.ghost;
     able = tt;
-    here = load_here is_of journal mailbox rested given_by closed_to actor x (set vs id (reading actor r v)) Status
-        (views_change is_of journal mailbox rested given_by closed_to actor x vs id v (reading actor r v) at refl refl
-        (counts_no_more actor (Read actor r) v (reading actor r v) refl (refl, refl))
+    here = load_here is_of journal mailbox rested given_by closed_to actors actor x (set vs id (reading actor r v)) Status
+        (views_change is_of journal mailbox rested given_by closed_to actors actor x vs id v (reading actor r v) at refl refl
+        (counts_no_more actor (Read actor r) v (reading actor r v) refl (refl, refl) refl refl refl)
         (λ due owed. subst (λ (d : Debt). IsTrue (d.message || d.sending)) (sym (owes_here actor (after_reading (mailbox_of r) (owes actor v))
         v)) (reading_pays_message r (owes actor v) due.0 owed))
         (λ due owed. subst (λ (d : Debt). IsTrue d.system) (sym (owes_here actor (after_reading (mailbox_of r) (owes actor v)) v))
         (reading_pays_system r (owes actor v) due.0 owed))
         (λ k. record { seen = ((λ _ one. one), k.seen); said = k.said }) (λ b. among_more (Read b 1) (Read actor r) v.log) f);
-    others = λ a n y g. elsewhere is_of journal mailbox rested given_by closed_to a y vs id v (reading actor r v) at
+    others = λ a n y g. elsewhere is_of journal mailbox rested given_by closed_to actors a y vs id v (reading actor r v) at
         (reading_elsewhere actor a r v n) g;
     tells = told;
   }
 
-  nobody : (actor : ℕ) (x : Place) (holder : Option (ℕ × Held)) → x.row Status % 4 ≡ 0 →
-      Keeping is_of journal mailbox rested given_by closed_to actor x holder →
+  nobody : (actor : ℕ) (x : Place) (holder : Option (ℕ × Held)) → x.row Status % 4 ≡ 0 → Keeping is_of journal mailbox rested given_by closed_to
+      actor x holder →
       holder ≡ None
   nobody actor x None free k = refl
   nobody actor x (Some h) free k = absurd (⊎_elim (λ b. omega arith) (λ b. omega arith) k.busy)
@@ -150,11 +169,13 @@ module _ {H : Type 0} (is_of : ℕ → H → Type 0) (journal : H → List Entry
 
   -- a seat schedules the actor, and takes its cell
   pub schedules : (actor id : ℕ) (me : M) (old : ℕ) (tell : M → Type 0) (x : Place) (vs : List View) (f : F actor x vs) → get_elem? vs id ≡ some
-      me.0 → (free : x.row Status % 4 ≡ 0) → x.row Status ≡ old → me.0.claim ≡ None
-      → (let h = (is_home actor x vs f free).1 in tell
-      (taking actor x.ghost.journal x.ghost.closed_to old x.ghost.gave x.ghost.listed.given me.0, (slot_at actor 0, Home h.home) ∷ me.1))
+      me.0 → (free : x.row Status % 4 ≡ 0) → x.row Status ≡ old → me.0.claim ≡ None → is_some_item me.0.share ≡ true
+      → (let h = (is_home actor x vs f free).1 in tell (
+        taking actor x.ghost.journal x.ghost.closed_to old x.ghost.gave x.ghost.listed.given me.0,
+        (slot_at actor 0, Home h.home) ∷ me.1,
+      ))
       → Goes word_offset slot_offset F actor id me Status (old + 2) tell x vs
-  schedules actor id me old tell x vs f at free is bare told =
+  schedules actor id me old tell x vs f at free is bare share told =
       let v = me.0 in
       let h = is_home actor x vs f free in
       let c : Held = record {
@@ -163,7 +184,8 @@ module _ {H : Type 0} (is_of : ℕ → H → Type 0) (journal : H → List Entry
         closed_to = x.ghost.closed_to;
         word = old + 2;
         gave = x.ghost.gave;
-        given = x.ghost.listed.given;
+        given =
+            x.ghost.listed.given;
         drained = [];
       } in
       let w = taking actor x.ghost.journal x.ghost.closed_to old x.ghost.gave x.ghost.listed.given v in
@@ -193,10 +215,14 @@ module _ {H : Type 0} (is_of : ℕ → H → Type 0) (journal : H → List Entry
                 else 0) (ne_eqb (x.row Status) 1 (λ e. omega arith));
           };
           lists = stays_locked (list_for actor) x.ghost.keeper vs id v w at refl f.lists;
-          shelf = still_shelved is_of journal mailbox rested given_by closed_to actor x y refl refl refl refl x.ghost.keeper f.shelf;
+          shelf = still_shelved is_of journal mailbox rested given_by closed_to actors actor x y refl refl refl refl x.ghost.keeper f.shelf;
           ended = λ e. absurd (let one = f.ended e in omega arith);
           listing = f.listing;
-          balance = still_balanced actor (x.row Waiting) vs id v w at (record { on = refl; off = refl }) f.balance;
+          named = f.named;
+          balance = same_balance actor (x.row Waiting) vs id v w at refl refl f.balance;
+          turns = turns_more actor x.ghost.holder (id, c) vs id v w at (times_here actor v.got) refl (ap claims_out h.0) f.turns;
+          shares = shares_stay (λ (u : View). u.share) vs id v w at refl f.shares;
+          bare = sharer_bare actor vs id w share f.bare;
           vouched = λ b. still_owed (Vouches b) (IsAmong b x.ghost.closed_to) (IsAmong b x.ghost.closed_to) vs id v w at (λ d. d) (λ _ p. p)
               (f.vouched b);
           message = λ due. absurd (let z = due.0 in omega arith);
@@ -204,7 +230,7 @@ module _ {H : Type 0} (is_of : ℕ → H → Type 0) (journal : H → List Entry
           seen = let k = goes_on actor x y v grows (f.seen id v at) in
               learns (Knows actor x) (Knows actor y) vs id w (λ u. goes_on actor x y u grows) (record { seen = k.seen; said = k.said }) f.seen;
         };
-        others = λ a n z g. elsewhere is_of journal mailbox rested given_by closed_to a z vs id v w at
+        others = λ a n z g. elsewhere is_of journal mailbox rested given_by closed_to actors a z vs id v w at
             (taking_elsewhere actor a old x.ghost.listed.given x.ghost.journal
             x.ghost.closed_to x.ghost.gave v n bare) g;
         tells = told;
@@ -239,13 +265,18 @@ module _ {H : Type 0} (is_of : ℕ → H → Type 0) (journal : H → List Entry
             gave = h.1.gave;
             word = refl;
             busy = busy;
-            flag = h.1.flag;
+            flag =
+                h.1.flag;
           };
           lists = stays_locked (list_for actor) x.ghost.keeper vs id v w at refl f.lists;
-          shelf = still_shelved is_of journal mailbox rested given_by closed_to actor x y refl refl refl refl x.ghost.keeper f.shelf;
+          shelf = still_shelved is_of journal mailbox rested given_by closed_to actors actor x y refl refl refl refl x.ghost.keeper f.shelf;
           ended = λ e. shut (f.ended e);
           listing = f.listing;
-          balance = still_balanced actor (x.row Waiting) vs id v w at (record { on = refl; off = refl }) f.balance;
+          named = f.named;
+          balance = same_balance actor (x.row Waiting) vs id v w at refl refl f.balance;
+          turns = still_turns actor x.ghost.holder (Some (id, d)) vs id v w at refl refl (sym (ap claims_out h.0)) f.turns;
+          shares = shares_stay (λ (u : View). u.share) vs id v w at refl f.shares;
+          bare = claimed_bare actor vs id v w d at (ap (λ z. held_of actor (rewritten new z)) has ∙ held_here actor d of) refl refl refl refl f.bare;
           vouched = λ b. still_owed (Vouches b) (IsAmong b x.ghost.closed_to) (IsAmong b x.ghost.closed_to) vs id v w at (λ d. d) (λ _ p. p)
               (f.vouched b);
           message = λ due. absurd (let z : new ≡ 0 = due.0 in ⊎_elim (λ b. omega arith) (λ b. omega arith) busy);
@@ -256,7 +287,7 @@ module _ {H : Type 0} (is_of : ℕ → H → Type 0) (journal : H → List Entry
                 said = k.said;
               }) f.seen;
         };
-        others = λ a n z g. elsewhere is_of journal mailbox rested given_by closed_to a z vs id v w at
+        others = λ a n z g. elsewhere is_of journal mailbox rested given_by closed_to actors a z vs id v w at
             (writing_elsewhere actor a new c v n has of) g;
         tells = told;
       }
@@ -274,11 +305,11 @@ module _ {H : Type 0} (is_of : ℕ → H → Type 0) (journal : H → List Entry
   -- the holder gives the cell of an open actor home
   pub idles : (actor id : ℕ) (me : M) (c : Held) (home : H) (new : ℕ) (tell : M → Type 0) (x : Place) (vs : List View) → F actor x vs → get_elem?
       vs id ≡ some me.0 → me.0.claim ≡ Some c → c.actor ≡ actor
-      → me.1 ≡ (slot_at actor 0, Home home) ∷ [] → is_of actor home → Extends (journal home) c.journal → given_by home ≡ c.given → Each
-      (λ b. IsKnownClosed b c.closed_to me.0) (closed_to home) → c.word ≢ 1 → IsTrue (is_valid new) → new
-      % 4 ≡ 0 → new ≡ word_of (mailbox home) → (c.gave ≡ false → rested home)
+      → me.1 ≡ (slot_at actor 0, Home home) ∷ [] → is_of actor home → Extends (journal home) c.journal → given_by home ≡ c.given
+      → Each (λ b. IsKnownClosed b c.closed_to me.0) (closed_to home) → c.word ≢ 1 → IsTrue (is_valid new) → new
+      % 4 ≡ 0 → new ≡ word_of (mailbox home) → (c.gave ≡ false → rested home) → is_some_item me.0.share ≡ true
       → tell (idling actor (journal home) me.0, []) → Goes word_offset slot_offset F actor id me Status new tell x vs
-  idles actor id me c home new tell x vs f at has of carried own longer count known unshut valid free word rest told =
+  idles actor id me c home new tell x vs f at has of carried own longer count known unshut valid free word rest share told =
       let v = me.0 in
       let h = is_held actor id x vs v c f at has of in
       let j = journal home in
@@ -309,15 +340,19 @@ module _ {H : Type 0} (is_of : ℕ → H → Type 0) (journal : H → List Entry
             rest = ⊎_elim (λ one. absurd (omega arith)) (λ gave. rest (h.1.gave ∙ gave));
           };
           lists = stays_locked (list_for actor) x.ghost.keeper vs id v w at refl f.lists;
-          shelf = still_shelved is_of journal mailbox rested given_by closed_to actor x y refl refl refl refl x.ghost.keeper f.shelf;
+          shelf = still_shelved is_of journal mailbox rested given_by closed_to actors actor x y refl refl refl refl x.ghost.keeper f.shelf;
           ended = λ e. shut (f.ended e);
           listing = f.listing;
-          balance = still_balanced actor (x.row Waiting) vs id v w at (counts_no_more actor (Saw actor j) v w refl (refl, refl)) f.balance;
+          named = f.named;
+          balance = same_balance actor (x.row Waiting) vs id v w at (none_more (on_by actor v)) (none_more (off_by actor v)) f.balance;
+          turns = turns_less actor x.ghost.holder vs id v w at refl (times_here actor v.returned) (ap claims_out h.0) f.turns;
+          shares = shares_stay (λ (u : View). u.share) vs id v w at refl f.shares;
+          bare = sharer_bare actor vs id w share f.bare;
           vouched = vouches_home actor j v c x.ghost.closed_to (closed_to home) vs id at h.1.shut known f.vouched;
           message = pays (PaysMessage actor) (MessageDue y) vs id v w at (subst (λ (d : Debt). IsTrue (d.message || d.sending)) (sym (owes_here
-              actor debt (record v { log = Saw actor j ∷ v.log; claim = None }))) refl);
+              actor debt (record v { log = Saw actor j ∷ v.log; claim = None; returned = actor ∷ v.returned }))) refl);
           system = pays (PaysSystem actor) (SystemDue y) vs id v w at (subst (λ (d : Debt). IsTrue d.system) (sym (owes_here actor debt (record v
-              { log = Saw actor j ∷ v.log; claim = None }))) refl);
+              { log = Saw actor j ∷ v.log; claim = None; returned = actor ∷ v.returned }))) refl);
           seen = let k = goes_on actor x y v grows (f.seen id v at) in
               learns (Knows actor x) (Knows actor y) vs id w (λ u. goes_on actor x y u grows) (record {
                 seen = (
@@ -328,18 +363,19 @@ module _ {H : Type 0} (is_of : ℕ → H → Type 0) (journal : H → List Entry
                 said = k.said;
               }) f.seen;
         };
-        others = λ a n z k. elsewhere is_of journal mailbox rested given_by closed_to a z vs id v w at (idling_elsewhere actor a j c v n has of) k;
+        others = λ a n z k. elsewhere is_of journal mailbox rested given_by closed_to actors a z vs id v w at
+            (idling_elsewhere actor a j c v n has of) k;
         tells = subst (λ l. tell (w, tail_of l)) (sym carried) told;
       }
 
   -- the holder gives the cell of a closed actor home, by its flag
   pub idles_closed : (actor id : ℕ) (me : M) (c : Held) (home : H) (tell : M → Type 0) (x : Place) (vs : List View) → F actor x vs → get_elem? vs
       id ≡ some me.0 → me.0.claim ≡ Some c → c.actor ≡ actor
-      → me.1 ≡ (slot_at actor 0, Home home) ∷ [] → is_of actor home → Extends (journal home) c.journal → given_by home ≡ c.given → Each
-      (λ b. IsKnownClosed b c.closed_to me.0) (closed_to home) → c.word ≡ 1 → 1 ≡ word_of (mailbox home)
-      → rested home
+      → me.1 ≡ (slot_at actor 0, Home home) ∷ [] → is_of actor home → Extends (journal home) c.journal → given_by home ≡ c.given
+      → Each (λ b. IsKnownClosed b c.closed_to me.0) (closed_to home) → c.word ≡ 1 → 1 ≡ word_of (mailbox home)
+      → rested home → is_some_item me.0.share ≡ true
       → tell (idling actor (journal home) me.0, []) → Goes word_offset slot_offset F actor id me Flag 1 tell x vs
-  idles_closed actor id me c home tell x vs f at has of carried own longer count known closed word rest told =
+  idles_closed actor id me c home tell x vs f at has of carried own longer count known closed word rest share told =
       let v = me.0 in
       let h = is_held actor id x vs v c f at has of in
       let j = journal home in
@@ -370,15 +406,19 @@ module _ {H : Type 0} (is_of : ℕ → H → Type 0) (journal : H → List Entry
             rest = λ _. rest;
           };
           lists = stays_locked (list_for actor) x.ghost.keeper vs id v w at refl f.lists;
-          shelf = still_shelved is_of journal mailbox rested given_by closed_to actor x y refl refl refl refl x.ghost.keeper f.shelf;
+          shelf = still_shelved is_of journal mailbox rested given_by closed_to actors actor x y refl refl refl refl x.ghost.keeper f.shelf;
           ended = f.ended;
           listing = f.listing;
-          balance = still_balanced actor (x.row Waiting) vs id v w at (counts_no_more actor (Saw actor j) v w refl (refl, refl)) f.balance;
+          named = f.named;
+          balance = same_balance actor (x.row Waiting) vs id v w at (none_more (on_by actor v)) (none_more (off_by actor v)) f.balance;
+          turns = turns_less actor x.ghost.holder vs id v w at refl (times_here actor v.returned) (ap claims_out h.0) f.turns;
+          shares = shares_stay (λ (u : View). u.share) vs id v w at refl f.shares;
+          bare = sharer_bare actor vs id w share f.bare;
           vouched = vouches_home actor j v c x.ghost.closed_to (closed_to home) vs id at h.1.shut known f.vouched;
           message = pays (PaysMessage actor) (MessageDue y) vs id v w at (subst (λ (d : Debt). IsTrue (d.message || d.sending)) (sym (owes_here
-              actor debt (record v { log = Saw actor j ∷ v.log; claim = None }))) refl);
+              actor debt (record v { log = Saw actor j ∷ v.log; claim = None; returned = actor ∷ v.returned }))) refl);
           system = pays (PaysSystem actor) (SystemDue y) vs id v w at (subst (λ (d : Debt). IsTrue d.system) (sym (owes_here actor debt (record v
-              { log = Saw actor j ∷ v.log; claim = None }))) refl);
+              { log = Saw actor j ∷ v.log; claim = None; returned = actor ∷ v.returned }))) refl);
           seen = let k = goes_on actor x y v grows (f.seen id v at) in
               learns (Knows actor x) (Knows actor y) vs id w (λ u. goes_on actor x y u grows) (record {
                 seen = (
@@ -389,6 +429,7 @@ module _ {H : Type 0} (is_of : ℕ → H → Type 0) (journal : H → List Entry
                 said = k.said;
               }) f.seen;
         };
-        others = λ a n z k. elsewhere is_of journal mailbox rested given_by closed_to a z vs id v w at (idling_elsewhere actor a j c v n has of) k;
+        others = λ a n z k. elsewhere is_of journal mailbox rested given_by closed_to actors a z vs id v w at
+            (idling_elsewhere actor a j c v n has of) k;
         tells = subst (λ l. tell (w, tail_of l)) (sym carried) told;
       }

@@ -73,8 +73,25 @@ use Rattle.mb_gate.specs.View.{
   draining,
 }
 use Rattle.mb_gate.specs.Waiting.{counted_on, counted_off, on_by, off_by}
-use Rattle.mb_gate.specs.Rule.{Word, Shelf, Ghost, Status, held_of, lent_of, claim_for, list_for, Extends, IsPart, Vouches, IsSo, IsAmong}
-use Rattle.mb_gate.specs.Rule.{IsTold, all_numbered, Knows}
+use Rattle.mb_gate.specs.Turns.{times, got_by, back_by}
+use Rattle.mb_gate.specs.Rule.{
+  Word,
+  Shelf,
+  Ghost,
+  Status,
+  held_of,
+  lent_of,
+  claim_for,
+  list_for,
+  Extends,
+  IsPart,
+  Vouches,
+  IsSo,
+  IsAmong,
+  IsTold,
+  all_numbered,
+  Knows,
+}
 
 pub held_here : (actor : ℕ) (c : Held) → c.actor ≡ actor → held_of actor (Some c) ≡ Some c
 held_here actor c e = ap (λ b. if b then Some c else None) (eq-eqb c.actor actor e)
@@ -106,8 +123,8 @@ extends_more j k l a b = record {
 }
 
 -- a drain of nothing is seen alone, where the last drain gave nothing
-pub drained_nothing : (actor : ℕ) (c : Held) (v : View) → v.claim ≡ Some c → v.list ≡ None → c.gave ≡ false → c.given < 2 ^ 64 → seeing
-    (Drained actor []) v ≡
+pub drained_nothing : (actor : ℕ) (c : Held) (v : View) → v.claim ≡ Some c → v.list ≡ None → c.gave ≡ false → c.given < 2 ^ 64
+    → seeing (Drained actor []) v ≡
     draining actor [] false v
 drained_nothing actor c v has no_list gave small i = record v { log = Drained actor [] ∷ v.log; list = no_list i; claim = same i }
   where
@@ -117,10 +134,13 @@ drained_nothing actor c v has no_list gave small i = record v { log = Drained ac
     same : v.claim ≡ regiven [] false v.claim
     same = has ∙ ((λ k. Some (record c { gave = gave k; given = fits k; drained = sym (append-nil c.drained) k })) ∙ sym (ap (regiven [] false) has))
 
--- w counted of this actor what v did
+-- w did of this actor what v did, and has the same share
 pub record SameAccount (actor : ℕ) (v w : View) : Type 0 where
   pub on : on_by actor w ≡ on_by actor v
   pub off : off_by actor w ≡ off_by actor v
+  pub share : w.share ≡ v.share
+  pub got : got_by actor w ≡ got_by actor v
+  pub back : back_by actor w ≡ back_by actor v
 
 -- the sight counts nothing of this actor
 abbrev pub CountsNothing : ℕ → Sight → Type 0
@@ -129,11 +149,23 @@ CountsNothing actor s = (counted_on actor s ≡ 0) × (counted_off actor s ≡ 0
 none_more : (m n : ℕ) → m ≡ 0 → m + n ≡ n
 none_more m n none = omega arith
 
-pub counts_no_more : (actor : ℕ) (s : Sight) (v w : View) → w.log ≡ s ∷ v.log → CountsNothing actor s → SameAccount actor v w
-counts_no_more actor s v w is none = record {
+pub counts_no_more : (actor : ℕ) (s : Sight) (v w : View) → w.log ≡ s ∷ v.log → CountsNothing actor s → w.share ≡ v.share → got_by actor w ≡ got_by
+    actor v → back_by actor w ≡ back_by actor v → SameAccount actor v w
+counts_no_more actor s v w is none share got back = record {
   on = ap (total (counted_on actor)) is ∙ none_more (counted_on actor s) (on_by actor v) none.0;
   off = ap (total (counted_off actor)) is ∙ none_more (counted_off actor s) (off_by actor v) none.1;
+  share = share;
+  got = got;
+  back = back;
 }
+
+-- one more of an actor is none of another
+pub times_else : (actor other : ℕ) (actors : List ℕ) → other ≢ actor → times other (actor ∷ actors) ≡ times other actors
+times_else actor other actors n = none_more (if actor == other then 1 else 0) (times other actors) (ap (λ (b : Bool). if b then 1 else 0) (ne_eqb
+    actor other (λ e. n (sym e))))
+
+pub times_here : (actor : ℕ) (actors : List ℕ) → times actor (actor ∷ actors) ≡ 1 + times actor actors
+times_here actor actors = ap (λ (b : Bool). (if b then 1 else 0) + times actor actors) (eq-eqb actor actor refl)
 
 -- Towards this actor, w is as v: of its cell, its list and what is owed; what it has seen is so where what v has seen is; and it has seen
 -- closed whom v has.
@@ -155,7 +187,7 @@ module _ {H : Type 0} where
     claim = refl;
     list = refl;
     debt = refl;
-    account = counts_no_more other s v (seeing s v) refl none;
+    account = counts_no_more other s v (seeing s v) refl none refl refl refl;
     vouches = λ a. among_more (Read a 1) s v.log;
     knows = λ x k. record {
       seen = (so other x, k.seen);
@@ -170,7 +202,7 @@ module _ {H : Type 0} where
     claim = refl;
     list = refl;
     debt = owes_else actor other d v n;
-    account = counts_no_more other s v (owing actor d (seeing s v)) refl none;
+    account = counts_no_more other s v (owing actor d (seeing s v)) refl none refl refl refl;
     vouches = λ a. among_more (Read a 1) s v.log;
     knows = λ x k. record {
       seen =
@@ -184,28 +216,21 @@ module _ {H : Type 0} where
     claim = refl;
     list = refl;
     debt = owes_else actor other (after_reading (mailbox_of word) (owes actor v)) v n;
-    account = counts_no_more other (Read actor word) v (reading actor word v) refl (refl, refl);
+    account = counts_no_more other (Read actor word) v (reading actor word v) refl (refl, refl) refl refl refl;
     vouches = λ a. among_more (Read a 1) (Read actor word) v.log;
     knows = λ x k. record { seen = ((λ e _. absurd (n (sym e))), k.seen); said = k.said };
   }
 
-  pub taking_elsewhere : (actor other word given : ℕ) (j : List Entry) (shut : List ℕ) (gave : Bool) (v : View) → other ≢ actor →
-      v.claim ≡ None → Elsewhere H other v
+  pub taking_elsewhere : (actor other word given : ℕ) (j : List Entry) (shut : List ℕ) (gave : Bool) (v : View) → other ≢ actor → v.claim ≡ None
+      → Elsewhere H other v
       (taking actor j shut word gave given v)
   taking_elsewhere actor other word given j shut gave v n bare = record {
-    claim = held_else other (record {
-      actor = actor;
-      journal = j;
-      closed_to = shut;
-      word = word + 2;
-      gave = gave;
-      given = given;
-      drained = [];
-    }) (λ e. n (sym e)) ∙ sym (ap
+    claim = held_else other (record { actor = actor; journal = j; closed_to = shut; word = word + 2; gave = gave; given = given; drained = [] })
+        (λ e. n (sym e)) ∙ sym (ap
         (held_of other) bare);
     list = refl;
     debt = owes_else actor other nothing v n;
-    account = record { on = refl; off = refl };
+    account = record { on = refl; off = refl; share = refl; got = times_else actor other v.got n; back = refl };
     vouches = λ a k. k;
     knows = λ x k. record { seen = k.seen; said = k.said };
   }
@@ -217,7 +242,7 @@ module _ {H : Type 0} where
         other) has ∙ held_else other c (λ e. n (sym e ∙ of))));
     list = refl;
     debt = refl;
-    account = record { on = refl; off = refl };
+    account = record { on = refl; off = refl; share = refl; got = refl; back = refl };
     vouches = λ a k. k;
     knows = λ x k. record { seen = k.seen; said = k.said };
   }
@@ -228,7 +253,7 @@ module _ {H : Type 0} where
     claim = sym (ap (held_of other) has ∙ held_else other c (λ e. n (sym e ∙ of)));
     list = refl;
     debt = owes_else actor other (record (owes actor v) { system = true; message = true }) v n;
-    account = counts_no_more other (Saw actor j) v (idling actor j v) refl (refl, refl);
+    account = counts_no_more other (Saw actor j) v (idling actor j v) refl (refl, refl) refl refl (times_else actor other v.returned n);
     vouches = λ a. among_more (Read a 1) (Saw actor j) v.log;
     knows = λ x k. record { seen = ((λ e. absurd (n (sym e))), k.seen); said = k.said };
   }

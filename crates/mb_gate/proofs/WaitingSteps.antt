@@ -1,6 +1,32 @@
 -- The steps on an actor's waiting count, and a look at its list's gate, keep the rule.
-use Rattle.std.proofs.Common.{◌≡◌, ◌≢◌, ℕ, ◌+◌, ◌%◌, ◌^◌, ◌==◌, if◌then◌else◌, ⊎_elim, Bool, true, false, ◌||◌, IsTrue, List, ◌∷◌, set}
-use Rattle.std.proofs.Common.{sym, refl, ap, ◌∙◌, subst, Some, eq-eqb, ne_eqb, arith}
+use Rattle.std.proofs.Common.{
+  ◌≡◌,
+  ◌≢◌,
+  ℕ,
+  ◌+◌,
+  ◌%◌,
+  ◌^◌,
+  ◌==◌,
+  if◌then◌else◌,
+  ⊎_elim,
+  Bool,
+  true,
+  false,
+  ◌||◌,
+  IsTrue,
+  List,
+  ◌∷◌,
+  set,
+  sym,
+  refl,
+  ap,
+  ◌∙◌,
+  subst,
+  Some,
+  eq-eqb,
+  ne_eqb,
+  arith,
+}
 use mathlib.Core.Option.{some}
 use lib.ListN.{get_elem?}
 use Rattle.mb_status.specs.Mailbox.{Mailbox}
@@ -14,9 +40,27 @@ use Rattle.mb_rule.proofs.OwedLemmas.{pays, still_owed}
 use Rattle.mb_rule.proofs.SeenLemmas.{learns}
 use Rattle.mb_rule.specs.Summed.{total}
 use Rattle.mb_rule.proofs.SummedLemmas.{total_set}
+use Rattle.mb_rule.proofs.SharesLemmas.{shares_stay}
 use Rattle.mb_gate.specs.declared.slot.Slot.{Slot}
-use Rattle.mb_gate.specs.View.{View, Sight, Read, Counted, Looked, Sent, Unsent, Took, Held, owes, owing, seeing, sending, unsending}
-use Rattle.mb_gate.specs.View.{counting_off, counting, looking}
+use Rattle.mb_gate.specs.View.{
+  View,
+  Sight,
+  Read,
+  Counted,
+  Looked,
+  Sent,
+  Unsent,
+  Took,
+  Held,
+  owes,
+  owing,
+  seeing,
+  sending,
+  unsending,
+  counting_off,
+  counting,
+  looking,
+}
 use Rattle.mb_gate.specs.Waiting.{counted_on, counted_off, on_by, off_by, IsBalance}
 use Rattle.mb_gate.specs.Rule.{
   Word,
@@ -35,12 +79,25 @@ use Rattle.mb_gate.specs.Rule.{
   SystemDue,
   PaysMessage,
   PaysSystem,
+  held_of,
+  is_some_item,
   has_work,
   Fact,
 }
-use Rattle.mb_gate.proofs.Views.{owes_here, extends_self, IsQuiet, CountsNothing, counts_no_more, seeing_elsewhere, owing_elsewhere, grown, goes_on}
+use Rattle.mb_gate.proofs.Views.{
+  held_here,
+  owes_here,
+  extends_self,
+  IsQuiet,
+  CountsNothing,
+  counts_no_more,
+  seeing_elsewhere,
+  owing_elsewhere,
+  grown,
+  goes_on,
+}
 use Rattle.mb_gate.proofs.Numbers.{among_more}
-use Rattle.mb_gate.proofs.Facts.{still_kept, still_shelved, still_balanced, views_change, elsewhere, load_here}
+use Rattle.mb_gate.proofs.Facts.{still_kept, still_shelved, still_turns, claimed_bare, sharer_bare, views_change, elsewhere, load_here}
 use Rattle.mb_gate.proofs.StatusSteps.{is_held}
 use Rattle.std.proofs.lemmas.Bool.{eqb-true}
 
@@ -80,10 +137,10 @@ module _ (actor k : ℕ) (vs : List View) (id : ℕ) (v w : View) (at : get_elem
       at) (total_set (off_by actor) vs id v w at) (ap (total (counted_on actor)) is ∙ (ap (λ n. n + on_by actor v) none ∙ none_more (on_by actor
       v))) (ap (total (counted_off actor)) is ∙ (ap (λ n. n + off_by actor v) some_off ∙ if_here actor k (off_by actor v))) less was
 
-module _ {H : Type 0} (is_of : ℕ → H → Type 0) (journal : H → List Entry) (mailbox : H → Mailbox) (rested : H → Type 0) (given_by : H → ℕ)
-    (closed_to : H → List ℕ) where
+module _ {H : Type 0} (is_of : ℕ → H → Type 0) (journal : H → List Entry) (mailbox : H → Mailbox) (rested : H → Type 0) (given_by : H
+    → ℕ) (closed_to : H → List ℕ) (actors : ℕ) where
   abbrev F : ℕ → Spot Word Shelf (Slot H) Ghost → List View → Type 0
-  F = Fact is_of journal mailbox rested given_by closed_to
+  F = Fact is_of journal mailbox rested given_by closed_to actors
 
   abbrev M : Type 0
   M = Me (Slot H) View
@@ -94,10 +151,10 @@ module _ {H : Type 0} (is_of : ℕ → H → Type 0) (journal : H → List Entry
   -- the waiting number changes, and the seat owes a wake-up where one is due
   recounts : (actor id n : ℕ) (d : Debt) (s : Sight) (me : M) (tell : M → Type 0) (x : Place) (vs : List View) → IsQuiet H s → ((a : ℕ) → a ≢ actor →
       CountsNothing a s) → F actor x vs → get_elem? vs id ≡ some me.0 → IsBalance actor n (set vs id (owing actor d (seeing s me.0)))
-      → IsTrue (d.message || d.sending) → d.system ≡ (owes actor me.0).system → tell (owing actor d (seeing s me.0), me.1) →
-      Goes word_offset slot_offset F
+      → is_some_item me.0.share ≡ true → IsTrue (d.message || d.sending) → d.system ≡ (owes actor me.0).system
+      → tell (owing actor d (seeing s me.0), me.1) → Goes word_offset slot_offset F
       actor id me Waiting n tell x vs
-  recounts actor id n d s me tell x vs so none f at balance owed same told =
+  recounts actor id n d s me tell x vs so none f at balance share owed same told =
       let v = me.0 in
       let w = owing actor d (seeing s v) in
       let y : Place = record { row = write word_offset x.row Waiting n; slot = x.slot; ghost = x.ghost } in
@@ -109,12 +166,17 @@ module _ {H : Type 0} (is_of : ℕ → H → Type 0) (journal : H → List Entry
         here = record {
           valid = f.valid;
           claims = stays_locked (claim_for actor) x.ghost.holder vs id v w at refl f.claims;
-          cell = still_kept is_of journal mailbox rested given_by closed_to actor x y refl refl refl refl refl refl refl x.ghost.holder f.cell;
+          cell =
+              still_kept is_of journal mailbox rested given_by closed_to actors actor x y refl refl refl refl refl refl refl x.ghost.holder f.cell;
           lists = stays_locked (list_for actor) x.ghost.keeper vs id v w at refl f.lists;
-          shelf = still_shelved is_of journal mailbox rested given_by closed_to actor x y refl refl refl refl x.ghost.keeper f.shelf;
+          shelf = still_shelved is_of journal mailbox rested given_by closed_to actors actor x y refl refl refl refl x.ghost.keeper f.shelf;
           ended = f.ended;
           listing = f.listing;
+          named = f.named;
           balance = balance;
+          turns = still_turns actor x.ghost.holder x.ghost.holder vs id v w at refl refl refl f.turns;
+          shares = shares_stay (λ (u : View). u.share) vs id v w at refl f.shares;
+          bare = sharer_bare actor vs id w share f.bare;
           vouched = λ b. still_owed (Vouches b) (IsAmong b x.ghost.closed_to) (IsAmong b x.ghost.closed_to) vs id v w at (λ d. d)
               (λ _. among_more (Read b 1) s v.log) (f.vouched b);
           message = pays (PaysMessage actor) (MessageDue y) vs id v w at (subst (λ (z : Debt). IsTrue (z.message || z.sending)) (sym (owes_here
@@ -122,11 +184,14 @@ module _ {H : Type 0} (is_of : ℕ → H → Type 0) (journal : H → List Entry
           system = still_owed (PaysSystem actor) (SystemDue x) (SystemDue y) vs id v w at (λ due. due) (λ _ p. subst (λ (z : Debt). IsTrue
               z.system) (sym (owes_here actor d v)) (subst IsTrue (sym same) p)) f.system;
           seen = let k = goes_on actor x y v grows (f.seen id v at) in
-              learns (Knows actor x) (Knows actor y) vs id w (λ u. goes_on actor x y u grows)
-              (record { seen = (so actor y, k.seen); said = k.said }) f.seen;
+              learns (Knows actor x) (Knows actor y) vs id w (λ u. goes_on actor x y u grows) (record {
+                seen =
+                    (so actor y, k.seen);
+                said = k.said;
+              }) f.seen;
         };
-        others = λ a z y g. elsewhere is_of journal mailbox rested given_by closed_to a y vs id v w at
-            (owing_elsewhere actor a d s v z so (none a z)) g;
+        others = λ a z y g. elsewhere is_of journal mailbox rested given_by closed_to actors a y vs id v w at (owing_elsewhere actor a d s v z so
+            (none a z)) g;
         tells = told;
       }
 
@@ -135,19 +200,23 @@ module _ {H : Type 0} (is_of : ℕ → H → Type 0) (journal : H → List Entry
   or_true false = refl
 
   -- a seat counts one more, before it is queued
-  pub sends : (actor id n k : ℕ) (me : M) (tell : M → Type 0) (x : Place) (vs : List View) → F actor x vs → get_elem? vs id ≡ some me.0 → n % 2 ^
-      64 ≡ (x.row Waiting + k) % 2 ^ 64 → tell (sending actor k me.0, me.1) → Goes word_offset slot_offset F actor id me Waiting n tell x vs
-  sends actor id n k me tell x vs f at more told = recounts actor id n (record (owes actor me.0) { sending = true }) (Sent actor k) me tell x vs (λ
+  pub sends : (actor id n k : ℕ) (me : M) (tell : M → Type 0) (x : Place) (vs : List View) → F actor x vs → get_elem? vs id ≡ some me.0
+      → is_some_item
+      me.0.share ≡ true → n % 2 ^ 64 ≡ (x.row Waiting + k) % 2 ^ 64 → tell (sending actor k me.0, me.1)
+      → Goes word_offset slot_offset F actor id me Waiting n tell x vs
+  sends actor id n k me tell x vs f at share more told = recounts actor id n (record (owes actor me.0) { sending = true })
+      (Sent actor k) me tell x vs (λ
       a y. tt) (λ a z. (if_else actor a k z, refl)) f at (balances_more actor k vs id me.0 (sending actor k me.0) at (x.row Waiting) n f.balance refl
-      more) (or_true (owes actor me.0).message) refl told
+      more) share (or_true (owes actor me.0).message) refl told
 
   -- a seat takes back what it counted
-  pub unsends : (actor id n k : ℕ) (me : M) (tell : M → Type 0) (x : Place) (vs : List View) → F actor x vs → get_elem? vs id ≡ some me.0 → (n + k)
-      % 2 ^ 64 ≡ x.row Waiting % 2 ^ 64 → tell (unsending actor k me.0, me.1) → Goes word_offset slot_offset F actor id me Waiting n tell x vs
-  unsends actor id n k me tell x vs f at less told = recounts actor id n (record (owes actor me.0) { message = true; sending = false }) (Unsent
-      actor k) me tell x vs (λ a y. tt) (λ a z. (refl, if_else actor a k z)) f at
-      (balances_less actor k vs id me.0 (unsending actor k me.0) at (x.row
-      Waiting) n f.balance (Unsent actor k) refl refl refl less) refl refl told
+  pub unsends : (actor id n k : ℕ) (me : M) (tell : M → Type 0) (x : Place) (vs : List View) → F actor x vs → get_elem? vs id ≡ some me.0 →
+      is_some_item me.0.share ≡ true → (n + k) % 2 ^ 64 ≡ x.row Waiting % 2 ^ 64 → tell (unsending actor k me.0, me.1)
+      → Goes word_offset slot_offset F actor id me Waiting n tell x vs
+  unsends actor id n k me tell x vs f at share less told = recounts actor id n (record (owes actor me.0) { message = true; sending = false }) (Unsent
+      actor k) me tell x vs (λ a y. tt) (λ a z. (refl, if_else actor a k z)) f at (balances_less actor k vs id me.0 (unsending actor k me.0) at
+      (x.row
+      Waiting) n f.balance (Unsent actor k) refl refl refl less) share refl refl told
 
   -- the holder counts less
   pub takes_some : (actor id n k : ℕ) (me : M) (c : Held) (tell : M → Type 0) (x : Place) (vs : List View) → F actor x vs → get_elem? vs id ≡ some
@@ -157,7 +226,7 @@ module _ {H : Type 0} (is_of : ℕ → H → Type 0) (journal : H → List Entry
       let v = me.0 in
       let s = Took actor k in
       let w = seeing s v in
-      let h = is_held is_of journal mailbox rested given_by closed_to actor id x vs v c f at has of in
+      let h = is_held is_of journal mailbox rested given_by closed_to actors actor id x vs v c f at has of in
       let y : Place = record { row = write word_offset x.row Waiting n; slot = x.slot; ghost = x.ghost } in
       let grows = grown x y (λ e. e) (λ one. one) (extends_self x.ghost.journal) refl in record {
         view = w;
@@ -167,22 +236,30 @@ module _ {H : Type 0} (is_of : ℕ → H → Type 0) (journal : H → List Entry
         here = record {
           valid = f.valid;
           claims = stays_locked (claim_for actor) x.ghost.holder vs id v w at refl f.claims;
-          cell = still_kept is_of journal mailbox rested given_by closed_to actor x y refl refl refl refl refl refl refl x.ghost.holder f.cell;
+          cell =
+              still_kept is_of journal mailbox rested given_by closed_to actors actor x y refl refl refl refl refl refl refl x.ghost.holder f.cell;
           lists = stays_locked (list_for actor) x.ghost.keeper vs id v w at refl f.lists;
-          shelf = still_shelved is_of journal mailbox rested given_by closed_to actor x y refl refl refl refl x.ghost.keeper f.shelf;
+          shelf = still_shelved is_of journal mailbox rested given_by closed_to actors actor x y refl refl refl refl x.ghost.keeper f.shelf;
           ended = f.ended;
           listing = f.listing;
+          named = f.named;
           balance = balances_less actor k vs id v w at (x.row Waiting) n f.balance s refl refl refl less;
+          turns = still_turns actor x.ghost.holder x.ghost.holder vs id v w at refl refl refl f.turns;
+          shares = shares_stay (λ (u : View). u.share) vs id v w at refl f.shares;
+          bare = claimed_bare actor vs id v w c at (ap (held_of actor) has ∙ held_here actor c of) refl refl refl (none_more (on_by actor v)) f.bare;
           vouched = λ b. still_owed (Vouches b) (IsAmong b x.ghost.closed_to) (IsAmong b x.ghost.closed_to) vs id v w at (λ d. d)
               (λ _. among_more (Read b 1) s v.log) (f.vouched b);
           message = λ due. absurd (let z = due.0 in ⊎_elim (λ b. omega arith) (λ b. omega arith) h.1.busy);
           system = still_owed (PaysSystem actor) (SystemDue x) (SystemDue y) vs id v w at (λ due. due) (λ _ p. p) f.system;
           seen = let so = goes_on actor x y v grows (f.seen id v at) in
-              learns (Knows actor x) (Knows actor y) vs id w (λ u. goes_on actor x y u grows)
-              (record { seen = (tt, so.seen); said = so.said }) f.seen;
+              learns (Knows actor x) (Knows actor y) vs id w (λ u. goes_on actor x y u grows) (record {
+                seen =
+                    (tt, so.seen);
+                said = so.said;
+              }) f.seen;
         };
-        others = λ a z y g. elsewhere is_of journal mailbox rested given_by closed_to a y vs id v w at
-            (seeing_elsewhere a s v (λ b q. tt) (refl, if_else actor a k z)) g;
+        others = λ a z y g. elsewhere is_of journal mailbox rested given_by closed_to actors a y vs id v w at (seeing_elsewhere a s v (λ b q. tt)
+            (refl, if_else actor a k z)) g;
         tells = told;
       }
 
@@ -197,18 +274,20 @@ module _ {H : Type 0} (is_of : ℕ → H → Type 0) (journal : H → List Entry
     deed = stays;
     kept = x.ghost;
     able = tt;
-    here = load_here is_of journal mailbox rested given_by closed_to actor x (set vs id w) name
-        (views_change is_of journal mailbox rested given_by closed_to actor x vs id v w at refl refl (counts_no_more actor s v w refl (none actor))
+    here = load_here is_of journal mailbox rested given_by closed_to actors actor x (set vs id w) name
+        (views_change is_of journal mailbox rested given_by closed_to actors actor x vs id v w at refl refl (counts_no_more actor s v w refl
+        (none actor) refl refl refl)
         (λ due p. subst (λ (z : Debt). IsTrue (z.message || z.sending)) (sym (owes_here actor d v)) (message due p))
         (λ due p. subst (λ (z : Debt). IsTrue z.system) (sym (owes_here actor d v)) (system due p))
         (λ k. record { seen = (so actor x, k.seen); said = k.said }) (λ b. among_more (Read b 1) s v.log) f);
-    others = λ a n y g. elsewhere is_of journal mailbox rested given_by closed_to a y vs id v w at (owing_elsewhere actor a d s v n so (none a)) g;
+    others = λ a n y g. elsewhere is_of journal mailbox rested given_by closed_to actors a y vs id v w at
+        (owing_elsewhere actor a d s v n so (none a)) g;
     tells = told;
   }
 
   -- a load of which the seat keeps what it saw
-  pub sees : (actor id : ℕ) (name : Word) (s : Sight) (me : M) (tell : M → Type 0) (x : Place) (vs : List View) → IsQuiet H s →
-      ((a : ℕ) → CountsNothing a s)
+  pub sees : (actor id : ℕ) (name : Word) (s : Sight) (me : M) (tell : M → Type 0) (x : Place) (vs : List View) → IsQuiet H s → ((a : ℕ)
+      → CountsNothing a s)
       → F actor x vs → get_elem? vs id ≡ some me.0 → tell (seeing s me.0, me.1) → Goes word_offset slot_offset F actor id me name
       (x.row name) tell x vs
   sees actor id name s me tell x vs so none f at told = let v = me.0 in let w = seeing s v in record {
@@ -216,11 +295,14 @@ module _ {H : Type 0} (is_of : ℕ → H → Type 0) (journal : H → List Entry
     deed = stays;
     kept = x.ghost;
     able = tt;
-    here = load_here is_of journal mailbox rested given_by closed_to actor x (set vs id w) name
-        (views_change is_of journal mailbox rested given_by closed_to actor x vs id v w at refl
-        refl (counts_no_more actor s v w refl (none actor)) (λ _ p. p) (λ _ p. p)
-        (λ k. record { seen = (so actor x, k.seen); said = k.said }) (λ b. among_more (Read b 1) s v.log) f);
-    others = λ a n y g. elsewhere is_of journal mailbox rested given_by closed_to a y vs id v w at (seeing_elsewhere a s v so (none a)) g;
+    here = load_here is_of journal mailbox rested given_by closed_to actors actor x (set vs id w) name (views_change is_of journal mailbox rested
+        given_by closed_to actors actor x vs id v w at refl
+        refl (counts_no_more actor s v w refl (none actor) refl refl refl) (λ _ p. p) (λ _ p. p) (λ k. record {
+          seen =
+              (so actor x, k.seen);
+          said = k.said;
+        }) (λ b. among_more (Read b 1) s v.log) f);
+    others = λ a n y g. elsewhere is_of journal mailbox rested given_by closed_to actors a y vs id v w at (seeing_elsewhere a s v so (none a)) g;
     tells = told;
   }
 
@@ -232,14 +314,15 @@ module _ {H : Type 0} (is_of : ℕ → H → Type 0) (journal : H → List Entry
     deed = stays;
     kept = x.ghost;
     able = tt;
-    here = load_here is_of journal mailbox rested given_by closed_to actor x (set vs id v) name
-        (views_change is_of journal mailbox rested given_by closed_to actor x vs id v v at refl
-        refl (record { on = refl; off = refl }) (λ _ p. p) (λ _ p. p) (λ k. record { seen = k.seen; said = k.said }) (λ b p. p) f);
-    others = λ a n y g. elsewhere is_of journal mailbox rested given_by closed_to a y vs id v v at (record {
+    here = load_here is_of journal mailbox rested given_by closed_to actors actor x (set vs id v) name (views_change is_of journal mailbox rested
+        given_by closed_to actors actor x vs id v v at refl
+        refl (record { on = refl; off = refl; share = refl; got = refl; back = refl }) (λ _ p. p) (λ _ p. p)
+        (λ k. record { seen = k.seen; said = k.said }) (λ b p. p) f);
+    others = λ a n y g. elsewhere is_of journal mailbox rested given_by closed_to actors a y vs id v v at (record {
       claim = refl;
       list = refl;
       debt = refl;
-      account = record { on = refl; off = refl };
+      account = record { on = refl; off = refl; share = refl; got = refl; back = refl };
       vouches = λ b p. p;
       knows = λ _ k.
           record { seen = k.seen; said = k.said };
@@ -257,8 +340,8 @@ module _ {H : Type 0} (is_of : ℕ → H → Type 0) (journal : H → List Entry
   counts_as actor id me tell x vs true is f at told = finds actor id Waiting (record (owes actor me.0) { message = false }) (Counted actor (x.row
       Waiting)) me tell x vs (λ a y. tt) (λ a. (refl, refl)) f at
       (λ due. absurd (let zero : x.row Waiting ≡ 0 = eqb-true (x.row Waiting) 0 is in let z = due.1 in omega arith)) (λ _ p. p) told
-  counts_as actor id me tell x vs false is f at told = sees actor id Waiting (Counted actor (x.row Waiting)) me tell x vs (λ a y. tt)
-      (λ a. (refl, refl)) f at told
+  counts_as actor id me tell x vs false is f at told = sees actor id Waiting (Counted actor (x.row Waiting)) me tell x vs (λ a y. tt) (λ a.
+      (refl, refl)) f at told
 
   -- a seat reads the waiting number
   pub counts : (actor id : ℕ) (me : M) (tell : M → Type 0) (x : Place) (vs : List View) → F actor x vs → get_elem? vs id ≡ some me.0 → tell

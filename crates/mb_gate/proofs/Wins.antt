@@ -35,12 +35,12 @@ use Rattle.std.proofs.lemmas.Bool.{eqb-true}
 use Rattle.atomic_table.specs.Table.{Me}
 use Rattle.mb_status.specs.Mailbox.{Mailbox, word_of, is_valid, is_possible, most_suspensions, suspend, resume, idle}
 use Rattle.mb_journal.specs.Entry.{Entry}
-use Rattle.mb_core.specs.Actor.{nothing}
 use Rattle.mb_rule.specs.Layout.{slot_at}
 use Rattle.mb_gate.specs.declared.slot.Slot.{Slot}
 use Rattle.mb_gate.specs.declared.slot.Slot.TheVariants.{Home}
 use Rattle.mb_gate.specs.declared.claim.Claim.{Claim}
-use Rattle.mb_gate.specs.View.{View, owing, claim_alone, without_claim}
+use Rattle.mb_gate.specs.View.{View, winning, claim_alone, without_claim}
+use Rattle.mb_gate.specs.Rule.{is_some_item}
 use Rattle.mb_gate.specs.Claims.{held_in, claimed, is_busy}
 use Rattle.mb_gate.specs.Plays.{GoesOn, Won}
 use Rattle.mb_gate.specs.Names.{known_of, held_actor, status_of, gave_last, recorded_by}
@@ -68,12 +68,13 @@ free_mod m f = let w = free_word m f in omega arith
 pub scheduled_word : (m s : Mailbox) → IsFree m → s ≡ record m { scheduled = true } → word_of s ≡ word_of m + 2
 scheduled_word m s f e = ap word_of e ∙ (open_word (record m { scheduled = true }) f.open_yet ∙ ap (λ n. n + 2) (sym (free_word m f)))
 
-module _ {H : Type 0} (is_of : ℕ → H → Type 0) (journal : H → List Entry) (mailbox : H → Mailbox) (rested : H → Type 0) (given_by : H → ℕ)
-    (closed_to : H → List ℕ) (actor found : ℕ) (m m' :
+module _ {H : Type 0} (is_of : ℕ → H → Type 0) (journal : H → List Entry) (mailbox : H → Mailbox) (rested : H → Type 0) (given_by : H
+    → ℕ) (closed_to : H → List ℕ) (actor found : ℕ) (m m' :
     Me (Slot H) View) (w : Won is_of journal mailbox rested given_by closed_to actor found m m') where
   -- the seat has the claim and the cell
-  pub taken : (status : Mailbox) → word_of status ≡ found + 2 → m.1 ≡ [] → m.0.list ≡ None → Taken journal given_by closed_to actor status m'
-  taken status word bare no_list = record {
+  pub taken : (status : Mailbox) → word_of status ≡ found + 2 → m.1 ≡ [] → m.0.list ≡ None → is_some_item m.0.share ≡ true
+      → Taken journal given_by closed_to actor status m'
+  taken status word bare no_list share = record {
     home = w.home;
     carried = ap (λ (z : Me (Slot H) View). z.1) w.now ∙ ap (λ c. (slot_at actor 0, Home w.home) ∷ c) bare;
     gave = w.gave;
@@ -87,18 +88,19 @@ module _ {H : Type 0} (is_of : ℕ → H → Type 0) (journal : H → List Entry
       drained = [];
     }));
     no_list = ap (λ (z : Me (Slot H) View). z.0.list) w.now ∙ no_list;
+    share = ap (λ (z : Me (Slot H) View). is_some_item z.0.share) w.now ∙ share;
   }
 
   pub got : (seen : Mailbox) (claim : Claim H) (after : View) → IsFree seen → found ≡ word_of seen → m.0.claim ≡ None → status_of claim ≡ record
       seen { scheduled = true } → held_actor claim ≡ actor
-      → recorded_by claim ≡ [] → known_of claim ≡ claim_alone m'.0 → m'.1 ≡ (slot_at actor 0, Home claim.home) ∷ [] →
-      after ≡ without_claim m'.0 → IsGot is_of journal
+      → recorded_by claim ≡ [] → known_of claim ≡ claim_alone m'.0 → m'.1 ≡ (slot_at actor 0, Home claim.home) ∷ [] → after ≡ without_claim m'.0
+      → IsGot is_of journal
       mailbox rested given_by closed_to actor m.0 after seen claim
   got seen claim after free is_seen bare status of none known carried rest =
       let same : w.home ≡ claim.home = home_same w.home claim.home (ap (λ (z : ℕ × Slot H). z.1) (head_same _ _ _ _ (sym (ap (λ (z : Me (Slot H)
       View). z.1) w.now) ∙ carried))) in
-      let all : known_of claim ≡ claimed actor (journal w.home) (closed_to w.home) (found + 2) w.gave (given_by w.home) = known ∙ ap
-      (λ (z : Me (Slot H) View). claim_alone z.0) w.now in
+      let all : known_of claim ≡ claimed actor (journal w.home) (closed_to w.home) (found + 2) w.gave (given_by w.home) = known
+      ∙ ap (λ (z : Me (Slot H) View). claim_alone z.0) w.now in
       let gave : gave_last claim ≡ w.gave = ap (λ v. (held_in v).gave) all in
       let word : found + 2 ≡ word_of (status_of claim) = ap (λ n. n + 2) is_seen
       ∙ sym (scheduled_word seen (status_of claim) free status) in record {
@@ -111,7 +113,7 @@ module _ {H : Type 0} (is_of : ℕ → H → Type 0) (journal : H → List Entry
         rest = λ no. subst rested same (w.rest (sym gave ∙ no));
         known = all ∙ (λ i. claimed actor (journal (same i)) (closed_to (same i)) (word i) (sym gave i) (given_by (same i)));
         recorded = none;
-        pass = rest ∙ (ap (λ (z : Me (Slot H) View). without_claim z.0) w.now ∙ (λ i. record (owing actor nothing m.0) { claim = sym bare i }));
+        pass = rest ∙ (ap (λ (z : Me (Slot H) View). without_claim z.0) w.now ∙ (λ i. record (winning actor m.0) { claim = sym bare i }));
       }
 
 -- the word of a possible mailbox is valid

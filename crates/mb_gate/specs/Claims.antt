@@ -8,7 +8,7 @@ use Rattle.mb_rule.specs.Seen.{Each}
 use Rattle.mb_gate.specs.declared.slot.Slot.{Slot}
 use Rattle.mb_gate.specs.declared.slot.Slot.TheVariants.{Home}
 use Rattle.mb_gate.specs.View.{View, Held, blank, idling}
-use Rattle.mb_gate.specs.Rule.{Extends, IsAmong, Vouches}
+use Rattle.mb_gate.specs.Rule.{Extends, IsAmong, Vouches, is_some_item}
 
 abbrev pub nobody : Held
 nobody = record { actor = 0; journal = []; closed_to = []; word = 0; gave = false; given = 0; drained = [] }
@@ -45,8 +45,8 @@ claimed actor journal shut word gave given =
 abbrev pub IsKnownClosed : ℕ → List ℕ → View → Type 0
 IsKnownClosed actor shut v = IsAmong actor shut ⊎ Vouches actor v
 
-module _ {H : Type 0} (is_of : ℕ → H → Type 0) (journal : H → List Entry) (mailbox : H → Mailbox) (rested : H → Type 0) (given_by : H → ℕ)
-    (closed_to : H → List ℕ) where
+module _ {H : Type 0} (is_of : ℕ → H → Type 0) (journal : H → List Entry) (mailbox : H → Mailbox) (rested : H → Type 0) (given_by : H
+    → ℕ) (closed_to : H → List ℕ) where
   -- A seat has the claim of the actor with this status and carries its cell, which may go home: it is the actor's own, its journal goes
   -- on from the one that was taken, its word is the one of the status; it knows how many its list gave; each actor that it says is closed
   -- is known to be; and unless the actor is open and its last drain gave something, nothing is left beside it.
@@ -62,6 +62,7 @@ module _ {H : Type 0} (is_of : ℕ → H → Type 0) (journal : H → List Entry
     pub count : given_by home ≡ (held_in me.0).given
     pub shut : Each (λ other. IsKnownClosed other (held_in me.0).closed_to me.0) (closed_to home)
     pub rest : (status.closed ≡ true) ⊎ ((held_in me.0).gave ≡ false) → rested home
+    pub share : is_some_item me.0.share ≡ true
 
 -- the cell that the seat carried went home
 abbrev pub Idled : {H : Type 0} → (H → List Entry) → ℕ → Me (Slot H) View → Me (Slot H) View → Type 0

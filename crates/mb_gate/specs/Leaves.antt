@@ -1,5 +1,5 @@
 -- What the gates leave at their end.
-use Rattle.std.specs.Prelude.{◌≡◌, ◌≢◌, ◌⊎◌, ℕ, ◌%◌, ◌<◌, Bool, false, List, length, Option, Some, None, slice_get, slice_set}
+use Rattle.std.specs.Prelude.{◌≡◌, ◌≢◌, ◌⊎◌, ℕ, ◌+◌, ◌%◌, ◌<◌, Bool, false, List, length, Option, Some, None, slice_get, slice_set}
 use mathlib.Core.Option.{some}
 use lib.ListN.{get_elem?}
 use Rattle.atomic_table.specs.Table.{State}
@@ -9,10 +9,12 @@ use Rattle.mb_journal.specs.Entry.{Entry}
 use Rattle.mb_rule.specs.Layout.{Spot, spot_of, word_at, slot_at}
 use Rattle.mb_rule.specs.Ruled.{Ruled}
 use Rattle.mb_rule.specs.Seen.{Each}
+use Rattle.mb_rule.specs.Shares.{IsWhole}
 use Rattle.mb_gate.specs.declared.slot.Slot.{Slot}
 use Rattle.mb_gate.specs.declared.slot.Slot.TheVariants.{Home, List as Listing}
 use Rattle.mb_gate.specs.declared.left.Left.{Left}
 use Rattle.mb_gate.specs.View.{View, Sight, Read, Saw, Counted, Looked, Sent, Unsent, Took, Pushed, Drained, Ended}
+use Rattle.mb_gate.specs.Turns.{got_by, back_by}
 use Rattle.mb_gate.specs.Rule.{Word, Status, word_offset, Shelf, slot_offset, Ghost, Extends, IsAmong, Fact}
 
 -- by its words, the actor's cell and its list are at home: it is not scheduled, or a closed one's flag tells it; and its gate is not taken
@@ -50,8 +52,8 @@ IsKept actor journal word (Took a n) = Unit {0}
 IsKept actor journal word (Pushed a n m) = Unit {0}
 IsKept actor journal word (Drained a given) = Unit {0}
 
-module _ {H : Type 0} (is_of : ℕ → H → Type 0) (journal : H → List Entry) (mailbox : H → Mailbox) (rested : H → Type 0) (given_by : H → ℕ)
-    (closed_to : H → List ℕ) where
+module _ {H : Type 0} (is_of : ℕ → H → Type 0) (journal : H → List Entry) (mailbox : H → Mailbox) (rested : H → Type 0) (given_by : H
+    → ℕ) (closed_to : H → List ℕ) where
   -- What is left of an actor whose words and slots these are: its home, which is its own; its word is the one of its journal, which goes
   -- on from all that was seen; how many its list gave, which the home knows; and unless the actor is open and its last drain gave something,
   -- nothing is left beside its cell. There is none only where a claim has the cell, or a seat the list.
@@ -62,14 +64,18 @@ module _ {H : Type 0} (is_of : ℕ → H → Type 0) (journal : H → List Entry
   IsLeft actor x v None = (x.ghost.holder ≢ None) ⊎ (x.ghost.keeper ≢ None)
 
   -- of each actor, in a last state of the table that meets the rule, in which the pass has this view; and each actor of which a home that
-  -- is left says that it is closed is closed
+  -- is left says that it is closed is closed. A pass that has taken in all others knows which actors have no home left: those of which a
+  -- claim was got that was not given back.
   pub record AreLeft (actors : ℕ) (v : View) (all : List (Option (Left H))) : Type 0 where
     pub state : State (Slot H) View
-    pub rule : Ruled word_offset slot_offset actors (Fact is_of journal mailbox rested given_by closed_to) state
+    pub rule : Ruled word_offset slot_offset actors (Fact is_of journal mailbox rested given_by closed_to actors) state
     pub seat : ℕ
     pub known : get_elem? state.views seat ≡ some v
     pub many : length all ≡ actors
     pub each : (actor : ℕ) (left : Option (Left H)) → actor < actors → slice_get all actor ≡ Some left
         → IsLeft actor (spot_of word_offset slot_offset state rule.ghosts actor) v left
+    pub out : IsWhole v.share → (actor : ℕ) → actor < actors → slice_get all actor ≡ Some None → got_by actor v ≡ back_by actor v + 1
+    pub back : IsWhole v.share → (actor : ℕ) (left : Left H) → actor < actors → slice_get all actor ≡ Some (Some left) → got_by actor v ≡ back_by
+        actor v
     pub closed : (actor other : ℕ) (left : Left H) → actor < actors → other < actors → slice_get all actor ≡ Some (Some left)
         → IsAmong other (closed_to left.home) → (spot_of word_offset slot_offset state rule.ghosts other).row Status ≡ 1

@@ -1,5 +1,8 @@
 pub mod View
 pub mod Waiting
+pub mod Turns
+pub mod Named
+pub mod Untouched
 pub mod Claims
 pub mod Rule
 pub mod Plays

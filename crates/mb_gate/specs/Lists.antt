@@ -1,5 +1,5 @@
 -- A list that a seat took out, and the words of its gate.
-use Rattle.std.specs.Prelude.{◌≡◌, ℕ, ◌+◌, ◌*◌, ◌/◌, ◌%◌, ◌==◌, Bool, false, if◌then◌else◌, List, ◌∷◌, Some}
+use Rattle.std.specs.Prelude.{◌≡◌, ℕ, ◌+◌, ◌*◌, ◌/◌, ◌%◌, ◌==◌, Bool, false, ◌||◌, if◌then◌else◌, List, ◌∷◌, Some, is_some}
 use Rattle.atomic_table.specs.Table.{Me, rest}
 use Rattle.mb_syslist.specs.MessageList.{MessageList, numbered}
 use Rattle.mb_msg.specs.declared.system.SysMsg.{SysMsg}
@@ -8,7 +8,7 @@ use Rattle.mb_gate.specs.declared.slot.Slot.{Slot}
 use Rattle.mb_gate.specs.declared.slot.Slot.TheVariants.{Empty}
 use Rattle.mb_gate.specs.View.{View, lending}
 use Rattle.mb_gate.specs.Claims.{held_in}
-use Rattle.mb_gate.specs.Rule.{gate_word}
+use Rattle.mb_gate.specs.Rule.{gate_word, is_some_item, claim_for}
 
 -- the seat took out the list of the actor, by an exchange that found this word at its gate
 pub record IsLentBy {H : Type 0} (actor : ℕ) (word : ℕ) (listed : MessageList) (m m' : Me (Slot H) View) : Type 0 where
@@ -27,6 +27,10 @@ pub record IsOut {H : Type 0} (actor : ℕ) (word : ℕ) (listed : MessageList) 
 pub record HasClaim {H : Type 0} (actor : ℕ) (m : Me (Slot H) View) : Type 0 where
   pub has : m.0.claim ≡ Some (held_in m.0)
   pub of : (held_in m.0).actor ≡ actor
+
+-- the seat may take out the list of the actor: it is a pass's, or has the actor's claim
+abbrev pub may_grip : ℕ → View → Bool
+may_grip actor v = is_some_item v.share || is_some (claim_for actor v)
 
 -- these have the numbers that go on from this one, modulo 2^64
 pub record IsNumberedFrom (number : ℕ) (given : List (ℕ × SysMsg)) : Type 0 where

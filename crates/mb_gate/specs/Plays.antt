@@ -1,5 +1,5 @@
 -- What each step of the gates tells the seat that makes it. A step does not know its actor, so it is told of it by the word's place.
-use Rattle.std.specs.Prelude.{◌≡◌, ◌≢◌, ℕ, ◌/◌, ◌%◌, ◌==◌, Bool, false, not, IsTrue, List, [], ◌∷◌, Some, None}
+use Rattle.std.specs.Prelude.{◌≡◌, ◌≢◌, ℕ, ◌*◌, ◌/◌, ◌%◌, ◌==◌, Bool, false, not, IsTrue, List, [], ◌∷◌, Some, None, All}
 use mathlib.Core.Option.{some}
 use Rattle.atomic_table.specs.Table.{Me, Step, rest}
 use Rattle.std.specs.declared.snapshot.Snapshot.{Snapshot}
@@ -41,6 +41,8 @@ use Rattle.mb_gate.specs.View.{
   draining,
   ending,
 }
+use Rattle.mb_gate.specs.Turns.{IsOwnBalance}
+use Rattle.mb_gate.specs.Named.{NamesBelow}
 use Rattle.mb_gate.specs.Rule.{Extends, is_some_item, gate_word}
 
 -- this sight allows that the actor is taken with this journal: it was not seen closed, nor was its list ended, and the journal goes on
@@ -101,7 +103,7 @@ module _ {H : Type 0} where
   CountsOff st m found m' = (actor : ℕ) → st.word ≡ word_at actor 4 → m' ≡ (counting_off actor st.first m.0, m.1)
 
   abbrev pub Counts : Step (Slot H) → Me (Slot H) View → ℕ → Me (Slot H) View → Type 0
-  Counts st m found m' = (actor : ℕ) → st.word ≡ word_at actor 4 → m' ≡ (counting actor found m.0, m.1)
+  Counts st m found m' = (actor : ℕ) → st.word ≡ word_at actor 4 → (m' ≡ (counting actor found m.0, m.1)) × IsOwnBalance actor found m.0
 
   abbrev pub Looks : Step (Slot H) → Me (Slot H) View → ℕ → Me (Slot H) View → Type 0
   Looks st m found m' = (actor : ℕ) → st.word ≡ word_at actor 2 → m' ≡ (looking actor (shows_work found) m.0, m.1)
@@ -130,15 +132,20 @@ module _ {H : Type 0} where
   Refuses st m found m' = (actor : ℕ) (message : SysMsg) → st.word ≡ word_at actor 2 → st.said ≡ some (Note message)
       → (found ≡ st.first → m' ≡ (refusing actor message m.0, m.1)) × (found ≢ st.first → m' ≡ m)
 
+  -- what was listed names actors alone; a step does not know how many there are, so it is told of it by the number of slots
+  abbrev pub NamesActors : Step (Slot H) → MessageList → Type 0
+  NamesActors st list = (actors : ℕ) → st.slots ≡ 2 * actors → All (NamesBelow actors) list.messages
+
   -- all that was listed was taken out, with the numbers that go on from how many were given
   abbrev pub Drains : Step (Slot H) → Me (Slot H) View → ℕ → Me (Slot H) View → Type 0
   Drains st m n m' = (l : Lent) (c : Held) → m.0.list ≡ Some l → m.0.claim ≡ Some c
       → (m' ≡ (draining l.actor (listed l.listed) (is_some_item l.listed.messages) m.0, rest m.1)) × (l.listed.given ≡ c.given)
+      × NamesActors st l.listed
 
   -- and the list was ended
   abbrev pub Ends : Step (Slot H) → Me (Slot H) View → ℕ → Me (Slot H) View → Type 0
   Ends st m n m' = (l : Lent) (c : Held) → m.0.list ≡ Some l → m.0.claim ≡ Some c
-      → (m' ≡ (ending l.actor (listed l.listed) c.gave m.0, rest m.1)) × (l.listed.given ≡ c.given)
+      → (m' ≡ (ending l.actor (listed l.listed) c.gave m.0, rest m.1)) × (l.listed.given ≡ c.given) × NamesActors st l.listed
 
   -- The gate's word was read by the holder: where it shows that nothing is listed and that the last drain gave nothing, this is a drain
   -- that gives nothing.
@@ -146,8 +153,8 @@ module _ {H : Type 0} where
   Glances st m found m' = (actor : ℕ) (c : Held) → st.word ≡ word_at actor 2 → m.0.claim ≡ Some c → c.actor ≡ actor → m.0.list ≡ None
       → (found % 8 ≡ 0 → m' ≡ (draining actor [] false m.0, m.1)) × (found % 8 ≢ 0 → m' ≡ m)
 
-module _ {H : Type 0} (is_of : ℕ → H → Type 0) (journal : H → List Entry) (mailbox : H → Mailbox) (rested : H → Type 0) (given_by : H → ℕ)
-    (closed_to : H → List ℕ) where
+module _ {H : Type 0} (is_of : ℕ → H → Type 0) (journal : H → List Entry) (mailbox : H → Mailbox) (rested : H → Type 0) (given_by : H
+    → ℕ) (closed_to : H → List ℕ) where
   -- The actor was scheduled by an exchange that found this word, and its cell was taken: it is the actor's own, its journal goes on
   -- from all that was seen, its word is the one found; it knows how many its list gave; and unless the last drain gave something, nothing
   -- is left beside it.
@@ -160,8 +167,8 @@ module _ {H : Type 0} (is_of : ℕ → H → Type 0) (journal : H → List Entry
     pub seen : GoesOn actor (journal home) m.0
     pub now : m' ≡ (taking actor (journal home) (closed_to home) found gave (given_by home) m.0, (slot_at actor 0, Home home) ∷ m.1)
 
-module _ {H : Type 0} (is_of : H → ℕ → H → Type 0) (journal : H → List Entry) (mailbox : H → Mailbox) (rested : H → Type 0)
-    (given_by : H → ℕ) (closed_to : H → List ℕ) where
+module _ {H : Type 0} (is_of : H → ℕ → H → Type 0) (journal : H → List Entry) (mailbox : H → Mailbox) (rested : H → Type 0) (given_by : H
+    → ℕ) (closed_to : H → List ℕ) where
   -- a step that knows the first home tried to schedule an actor
   abbrev pub Schedules : Step (Slot H) → Me (Slot H) View → ℕ → Me (Slot H) View → Type 0
   Schedules st m found m' = (actor : ℕ) (first : Snapshot H) → st.word ≡ word_at actor 0 → st.said ≡ some (First first)

@@ -22,6 +22,7 @@ use Rattle.std.specs.Prelude.{
   Option,
   Some,
   None,
+  All,
 }
 use mathlib.Core.Option.{some}
 use Rattle.mb_status.specs.Mailbox.{Mailbox, word_of, is_valid}
@@ -33,7 +34,11 @@ use Rattle.mb_rule.specs.Locked.{Locked}
 use Rattle.mb_rule.specs.Owed.{Owed}
 use Rattle.mb_rule.specs.Seen.{EachView, Each}
 use Rattle.mb_gate.specs.View.{View, Sight, Read, Saw, Counted, Looked, Sent, Unsent, Took, Pushed, Drained, Ended, Held, Lent, Said, owes}
-use Rattle.mb_gate.specs.Waiting.{IsBalance}
+use Rattle.mb_rule.specs.Summed.{total}
+use Rattle.mb_rule.specs.Shares.{AreShares}
+use Rattle.mb_gate.specs.Waiting.{on_by, off_by, IsBalance}
+use Rattle.mb_gate.specs.Turns.{got_by, back_by, claims_out}
+use Rattle.mb_gate.specs.Named.{NamesBelow}
 use Rattle.mb_gate.specs.declared.slot.Slot.{Slot}
 use Rattle.mb_gate.specs.declared.slot.Slot.TheVariants.{Home, List as Listing}
 
@@ -99,6 +104,21 @@ claim_for actor v = held_of actor v.claim
 
 abbrev pub list_for : ℕ → View → Option Lent
 list_for actor v = lent_of actor v.list
+
+-- What a seat that has no share of the whole has of the actor: it got no claim and gave none back, and counted nothing on; and unless it
+-- has the claim, it has not the list, and counted nothing off.
+pub record IsBare (actor : ℕ) (v : View) : Type 0 where
+  pub got : got_by actor v ≡ 0
+  pub back : back_by actor v ≡ 0
+  pub on : on_by actor v ≡ 0
+  pub rest : claim_for actor v ≡ None → (list_for actor v ≡ None) × (off_by actor v ≡ 0)
+
+abbrev pub EachBare : ℕ → List View → Type 0
+EachBare actor vs = EachView (λ (v : View). v.share ≡ [] → IsBare actor v) vs
+
+-- all claims that were got were given back, but one where the actor is held
+abbrev pub AreTurns : ℕ → Option (ℕ × Held) → List View → Type 0
+AreTurns actor holder vs = total (got_by actor) vs ≡ total (back_by actor) vs + claims_out holder
 
 -- a journal goes on from another: newest first, it ends with the other
 pub record Extends (journal before : List Entry) : Type 0 where
@@ -168,8 +188,8 @@ pub record IsListing (pushed : List SysMsg) (listed : MessageList) : Type 0 wher
 abbrev pub Vouches : ℕ → View → Type 0
 Vouches actor v = IsAmong (Read actor 1) v.log
 
-module _ {H : Type 0} (is_of : ℕ → H → Type 0) (journal : H → List Entry) (mailbox : H → Mailbox) (rested : H → Type 0) (given_by : H → ℕ)
-    (closed_to : H → List ℕ) where
+module _ {H : Type 0} (is_of : ℕ → H → Type 0) (journal : H → List Entry) (mailbox : H → Mailbox) (rested : H → Type 0) (given_by : H
+    → ℕ) (closed_to : H → List ℕ) where
   -- The cell is at home: it is the actor's own, its word is that of its journal, it knows how many its list gave, and only an open actor
   -- of which the last drain gave something may have something left beside its cell that is to be applied. The flag tells it of a closed
   -- one.
@@ -214,9 +234,9 @@ module _ {H : Type 0} (is_of : ℕ → H → Type 0) (journal : H → List Entry
   Shelving x None = IsShelved x
   Shelving x (Some k) = IsLent x k.1
 
-  -- All that holds of one actor: who has its cell, who has its list, how many are counted as waiting, what is owed and what was seen; and
-  -- of each actor that its home says is closed some seat has seen it.
-  pub record Fact (actor : ℕ) (x : Spot Word Shelf (Slot H) Ghost) (vs : List View) : Type 0 where
+  -- All that holds of one actor among so many: who has its cell, who has its list, how many are counted as waiting, what is owed and what
+  -- was seen; what is listed names actors alone; and of each actor that its home says is closed some seat has seen it.
+  pub record Fact (actors actor : ℕ) (x : Spot Word Shelf (Slot H) Ghost) (vs : List View) : Type 0 where
     pub valid : IsTrue (is_valid (x.row Status))
     pub claims : Locked (claim_for actor) x.ghost.holder vs
     pub cell : Keeping actor x x.ghost.holder
@@ -224,7 +244,11 @@ module _ {H : Type 0} (is_of : ℕ → H → Type 0) (journal : H → List Entry
     pub shelf : Shelving x x.ghost.keeper
     pub ended : IsTrue x.ghost.listed.closed → x.row Status ≡ 1
     pub listing : IsListing x.ghost.pushed x.ghost.listed
+    pub named : All (NamesBelow actors) x.ghost.listed.messages
     pub balance : IsBalance actor (x.row Waiting) vs
+    pub turns : AreTurns actor x.ghost.holder vs
+    pub shares : AreShares (λ (v : View). v.share) vs
+    pub bare : EachBare actor vs
     pub vouched : (other : ℕ) → Owed (IsAmong other x.ghost.closed_to) (Vouches other) vs
     pub message : Owed (MessageDue x) (PaysMessage actor) vs
     pub system : Owed (SystemDue x) (PaysSystem actor) vs

@@ -1,6 +1,8 @@
 -- The state of the machine that the table shows of an actor: its words, and all views by what they owe it. The envelopes are no part
 -- of the table.
-use Rattle.std.specs.Prelude.{◌≡◌, ℕ, ◌<◌, false, List, [], ◌++◌, map, Option, Some, None}
+use Rattle.std.specs.Prelude.{◌≡◌, ◌↔◌, ◌⊎◌, ℕ, ◌^◌, ◌<◌, ◌≤◌, false, List, [], ◌++◌, length, map, Option, Some, None}
+use mathlib.Core.Option.{some}
+use lib.ListN.{get_elem?}
 use Rattle.atomic_table.specs.Table.{State}
 use Rattle.mb_status.specs.Mailbox.{Mailbox, mailbox_of}
 use Rattle.mb_msg.specs.declared.system.SysMsg.{SysMsg}
@@ -10,9 +12,10 @@ use Rattle.mb_core.specs.Held.{IsHeldRightly, HasPossibleMailbox}
 use Rattle.mb_core.specs.Settled.{IsSettled}
 use Rattle.mb_rule.specs.Layout.{Spot, spot_of}
 use Rattle.mb_rule.specs.Ruled.{Ruled}
+use Rattle.mb_rule.specs.Shares.{IsWhole}
 use Rattle.mb_gate.specs.declared.slot.Slot.{Slot}
-use Rattle.mb_gate.specs.View.{View, Held, owes}
-use Rattle.mb_gate.specs.Waiting.{IsBalance}
+use Rattle.mb_gate.specs.View.{View, Sight, Pushed, Drained, Ended, Held, owes, alone, copied, halving, idling, taking_in, taking_over}
+use Rattle.mb_gate.specs.Waiting.{on_by, off_by, IsBalance}
 use Rattle.mb_gate.specs.Rule.{Word, Status, Waiting, word_offset, Shelf, slot_offset, Ghost, IsAmong, Fact}
 
 abbrev pub holder_of : Option (ℕ × Held) → Option ℕ
@@ -34,8 +37,8 @@ shown actor x vs rest = record {
 -- is left of what was drained only if the last drain gave something.
 abbrev pub ShowsMachine : {H : Type 0} → (ℕ → H → Type 0) → (H → List Entry) → (H → Mailbox) → (H → Type 0) → (H → ℕ) → (H → List ℕ) → Type 0
 ShowsMachine {H} is_of journal mailbox rested given_by closed_to =
-    (n : ℕ) (s : State (Slot H) View) (r : Ruled word_offset slot_offset n (Fact is_of journal mailbox rested given_by closed_to) s)
-    (actor : ℕ) → actor < n →
+    (n : ℕ) (s : State (Slot H) View) (r : Ruled word_offset slot_offset n (Fact is_of journal mailbox rested given_by closed_to n) s) (actor : ℕ)
+    → actor < n →
     (let x = spot_of word_offset slot_offset s r.ghosts actor in
     (rest : List SysMsg) → (x.ghost.gave ≡ false → rest ≡ []) →
     HasPossibleMailbox (shown actor x s.views rest) × IsHeldRightly (shown actor x s.views rest) × IsSettled (shown actor x s.views rest))
@@ -43,7 +46,7 @@ ShowsMachine {H} is_of journal mailbox rested given_by closed_to =
 -- Each actor of which another's home says that it is closed is closed, as that home is in its place or was taken: its word says so.
 abbrev pub ShowsClosed : {H : Type 0} → (ℕ → H → Type 0) → (H → List Entry) → (H → Mailbox) → (H → Type 0) → (H → ℕ) → (H → List ℕ) → Type 0
 ShowsClosed {H} is_of journal mailbox rested given_by closed_to =
-    (n : ℕ) (s : State (Slot H) View) (r : Ruled word_offset slot_offset n (Fact is_of journal mailbox rested given_by closed_to) s)
+    (n : ℕ) (s : State (Slot H) View) (r : Ruled word_offset slot_offset n (Fact is_of journal mailbox rested given_by closed_to n) s)
     (actor other : ℕ)
     → actor < n → other < n → IsAmong other (spot_of word_offset slot_offset s r.ghosts actor).ghost.closed_to
     → (spot_of word_offset slot_offset s r.ghosts other).row Status ≡ 1
@@ -51,5 +54,32 @@ ShowsClosed {H} is_of journal mailbox rested given_by closed_to =
 -- Between any two steps an actor's waiting number is what all passes and claims counted on less what they counted off, modulo 2^64.
 abbrev pub ShowsBalance : {H : Type 0} → (ℕ → H → Type 0) → (H → List Entry) → (H → Mailbox) → (H → Type 0) → (H → ℕ) → (H → List ℕ) → Type 0
 ShowsBalance {H} is_of journal mailbox rested given_by closed_to =
-    (n : ℕ) (s : State (Slot H) View) (r : Ruled word_offset slot_offset n (Fact is_of journal mailbox rested given_by closed_to) s) (actor : ℕ)
+    (n : ℕ) (s : State (Slot H) View) (r : Ruled word_offset slot_offset n (Fact is_of journal mailbox rested given_by closed_to n) s) (actor : ℕ)
     → actor < n → IsBalance actor ((spot_of word_offset slot_offset s r.ghosts actor).row Waiting) s.views
+
+-- A number names one message of an actor's list, while no more than 2^64 were ever listed: what any seat put into the list under a number
+-- is what any seat took out of it under that number.
+abbrev pub ShowsNumbers : {H : Type 0} → (ℕ → H → Type 0) → (H → List Entry) → (H → Mailbox) → (H → Type 0) → (H → ℕ) → (H → List ℕ) → Type 0
+ShowsNumbers {H} is_of journal mailbox rested given_by closed_to =
+    (n : ℕ) (s : State (Slot H) View) (r : Ruled word_offset slot_offset n (Fact is_of journal mailbox rested given_by closed_to n) s) (actor : ℕ)
+    → actor < n → length (spot_of word_offset slot_offset s r.ghosts actor).ghost.pushed ≤ 2 ^ 64
+    → (p q : ℕ) (v w : View) (number : ℕ) (put given : SysMsg) (all : List (ℕ × SysMsg)) → get_elem? s.views p ≡ some v → get_elem? s.views q ≡
+    some w → IsAmong (Pushed actor number put) v.log → IsAmong (Drained actor all) w.log ⊎ IsAmong (Ended actor all) w.log → IsAmong (number, given)
+    all → put ≡ given
+
+-- Two views know the same: they have the same sights, in whatever order, and counted, said and owe the same.
+pub record KnowsTheSame (v w : View) : Type 0 where
+  pub seen : (s : Sight) → IsAmong s v.log ↔ IsAmong s w.log
+  pub on : (actor : ℕ) → on_by actor v ≡ on_by actor w
+  pub off : (actor : ℕ) → off_by actor v ≡ off_by actor w
+  pub said : v.said ≡ w.said
+  pub owed : (actor : ℕ) → owes actor v ≡ owes actor w
+
+-- Whether a claim's seat takes in the pass before it gives the cell home, or the pass takes over what the claim's seat knew after that.
+abbrev pub ReleasesAlike : Type 0
+ReleasesAlike = (claim pass : View) (actor : ℕ) (journal : List Entry) → KnowsTheSame (idling actor journal (taking_in claim pass)) (taking_over pass
+    (idling actor journal claim))
+
+-- The first pass has the whole share, and so has a pass again that had it, once it took over what was split off it.
+abbrev pub MakesWhole : Type 0
+MakesWhole = IsWhole alone.share × ((v : View) → IsWhole v.share → IsWhole (taking_over (halving v) (copied v)).share)

@@ -35,8 +35,8 @@ module _ {H : Type 0} where
 
   -- a home with which the gates may begin at this actor: its own, neither closed nor scheduled, that knows of no message given and of no
   -- actor closed, and with nothing left beside its cell
-  pub record IsFresh (is_of : ℕ → H → Type 0) (mailbox : H → Mailbox) (rested : H → Type 0) (given_by : H → ℕ) (closed_to : H → List ℕ)
-      (actor : ℕ) (h : H) : Type 0 where
+  pub record IsFresh (is_of : ℕ → H → Type 0) (mailbox : H → Mailbox) (rested : H → Type 0) (given_by : H → ℕ) (closed_to : H
+      → List ℕ) (actor : ℕ) (h : H) : Type 0 where
     pub own : is_of actor h
     pub none_given : given_by h ≡ 0
     pub none_closed : closed_to h ≡ []

@@ -8,8 +8,8 @@ use Rattle.mb_gate.specs.declared.slot.Slot.{Slot}
 use Rattle.mb_gate.specs.declared.slot.Slot.TheVariants.{Home}
 use Rattle.mb_status.specs.Mailbox.{Mailbox, word_of}
 use Rattle.mb_journal.specs.Entry.{Entry}
-use Rattle.mb_core.specs.Actor.{nothing}
-use Rattle.mb_gate.specs.View.{View, owing, reading}
+use Rattle.mb_gate.specs.View.{View, winning, reading}
+use Rattle.mb_gate.specs.Rule.{is_some_item}
 use Rattle.mb_gate.specs.Claims.{claimed}
 use Rattle.mb_gate.specs.Plays.{GoesOn}
 use Rattle.mb_gate.specs.Names.{claim_id, known_of, held_actor, status_of, gave_last, recorded_by}
@@ -23,8 +23,8 @@ pub record IsFree (seen : Mailbox) : Type 0 where
   pub free : seen.scheduled ≡ false
 
 -- what the seat has, once its exchange was won: the claim of the actor with this status, the cell, and nothing else
-pub record Taken {H : Type 0} (journal : H → List Entry) (given_by : H → ℕ) (closed_to : H → List ℕ) (actor : ℕ) (status : Mailbox)
-    (me : Me (Slot H) View) : Type 0 where
+pub record Taken {H : Type 0} (journal : H → List Entry) (given_by : H → ℕ) (closed_to : H
+    → List ℕ) (actor : ℕ) (status : Mailbox) (me : Me (Slot H) View) : Type 0 where
   pub home : H
   pub carried : me.1 ≡ (slot_at actor 0, Home home) ∷ []
   pub gave : Bool
@@ -38,14 +38,15 @@ pub record Taken {H : Type 0} (journal : H → List Entry) (given_by : H → ℕ
     drained = [];
   })
   pub no_list : me.0.list ≡ None
+  pub share : is_some_item me.0.share ≡ true
 
 -- a claim that was got is of these gates
 abbrev pub IsOf : {H : Type 0} → TableId → Tried H → Type 0
 IsOf gates (Got claim) = claim_id claim ≡ gates
 IsOf gates _ = Unit {0}
 
-module _ {H : Type 0} (is_of : ℕ → H → Type 0) (journal : H → List Entry) (mailbox : H → Mailbox) (rested : H → Type 0) (given_by : H → ℕ)
-    (closed_to : H → List ℕ) (actor : ℕ) (before after
+module _ {H : Type 0} (is_of : ℕ → H → Type 0) (journal : H → List Entry) (mailbox : H → Mailbox) (rested : H → Type 0) (given_by : H
+    → ℕ) (closed_to : H → List ℕ) (actor : ℕ) (before after
     : View) (seen : Mailbox) where
   -- The claim of the actor was got by the exchange of this status, which is now scheduled. Its cell is the actor's own, its word the
   -- one of its journal, and this goes on from all that the pass has seen; it knows how many its list gave; unless the last drain gave
@@ -61,7 +62,7 @@ module _ {H : Type 0} (is_of : ℕ → H → Type 0) (journal : H → List Entry
     pub known : known_of claim ≡ claimed actor (journal claim.home) (closed_to claim.home) (word_of (status_of claim)) (gave_last claim)
         (given_by claim.home)
     pub recorded : recorded_by claim ≡ []
-    pub pass : after ≡ owing actor nothing before
+    pub pass : after ≡ winning actor before
 
   -- What the exchange answers, the pass having known this before it: Got by that exchange; Lost with the word that it found.
   abbrev pub IsExchanged : Tried H → Type 0
@@ -69,8 +70,8 @@ module _ {H : Type 0} (is_of : ℕ → H → Type 0) (journal : H → List Entry
   IsExchanged (Lost found) = IsFree seen × (word_of found ≢ word_of seen) × (after ≡ reading actor (word_of found) before)
   IsExchanged _ = ⊥
 
-module _ {H : Type 0} (is_of : ℕ → H → Type 0) (journal : H → List Entry) (mailbox : H → Mailbox) (rested : H → Type 0) (given_by : H → ℕ)
-    (closed_to : H → List ℕ) (actor : ℕ) (before after
+module _ {H : Type 0} (is_of : ℕ → H → Type 0) (journal : H → List Entry) (mailbox : H → Mailbox) (rested : H → Type 0) (given_by : H
+    → ℕ) (closed_to : H → List ℕ) (actor : ℕ) (before after
     : View) (seen : Mailbox) where
   -- What the call answers, having read this status: Got by its own exchange; Already and Closed as it read; Lost with another word that
   -- its exchange found.

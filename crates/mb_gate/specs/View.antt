@@ -8,6 +8,7 @@ use Rattle.mb_journal.specs.Entry.{Entry}
 use Rattle.mb_core.specs.declared.debt.Debt.{Debt}
 use Rattle.mb_core.specs.Actor.{nothing}
 use Rattle.mb_core.specs.Run.{after_reading}
+use Rattle.mb_rule.specs.Shares.{halved, half_of}
 
 -- One thing that a seat saw or did at an actor, whose number stands first: it read its status word; it saw its journal; it read how many
 -- are counted as waiting; it looked at the list's gate, which showed system work or none; it counted so many as waiting, took so many
@@ -50,13 +51,17 @@ pub record Said : Type 0 where
   pub was_ended : Bool
 
 -- what was seen and done, the newest first; what is owed, by the actor, of which the newest counts; what was said, the newest first;
--- and the claim and the list that it has, if any
+-- the claim and the list that it has, if any; its share of the one whole of all passes; and the actors of which it got a claim, and
+-- those of which it gave one back, the newest first
 pub record View : Type 0 where
   pub log : List Sight
   pub debts : List (ℕ × Debt)
   pub said : List Said
   pub claim : Option Held
   pub list : Option Lent
+  pub share : List ℕ
+  pub got : List ℕ
+  pub returned : List ℕ
 
 abbrev pub debt_of : ℕ → List (ℕ × Debt) → Debt
 debt_of actor [] = nothing
@@ -68,7 +73,11 @@ owes actor v = debt_of actor v.debts
 
 -- the seat knows nothing and owes nothing
 abbrev pub blank : View
-blank = record { log = []; debts = []; said = []; claim = None; list = None }
+blank = record { log = []; debts = []; said = []; claim = None; list = None; share = []; got = []; returned = [] }
+
+-- the first pass, beside which there is no other
+abbrev pub alone : View
+alone = record blank { share = 0 ∷ [] }
 
 -- it owes this actor this
 abbrev pub owing : ℕ → Debt → View → View
@@ -95,7 +104,12 @@ taking actor journal shut word gave given v =
         given = given;
         drained = [];
       });
+      got = actor ∷ v.got;
     })
+
+-- what the pass knows then, without the claim
+abbrev pub winning : ℕ → View → View
+winning actor v = owing actor nothing (record v { got = actor ∷ v.got })
 
 -- the claim in a view of its own, and the view without it
 abbrev pub claim_alone : View → View
@@ -112,9 +126,12 @@ without_counts (Unsent a n ∷ log) = without_counts log
 without_counts (Took a n ∷ log) = without_counts log
 without_counts (s ∷ log) = s ∷ without_counts log
 
--- what a second seat knows and owes
+-- what a second pass knows and owes, with a half of a part of the share; and what stays with the first
 abbrev pub copied : View → View
-copied v = record v { log = without_counts v.log }
+copied v = record v { log = without_counts v.log; share = half_of v.share; got = []; returned = [] }
+
+abbrev pub halving : View → View
+halving v = record v { share = halved v.share }
 
 -- the claim, which knows this word
 abbrev pub rewritten : ℕ → Option Held → Option Held
@@ -129,7 +146,7 @@ writing word v = record v { claim = rewritten word v.claim }
 abbrev pub idling : ℕ → List Entry → View → View
 idling actor journal v =
     owing actor (record (owes actor v) { system = true; message = true })
-    (record v { log = Saw actor journal ∷ v.log; claim = None })
+    (record v { log = Saw actor journal ∷ v.log; claim = None; returned = actor ∷ v.returned })
 
 -- so many were counted as waiting, before their envelopes are queued
 abbrev pub sending : ℕ → ℕ → View → View
@@ -165,11 +182,17 @@ added_debts (d ∷ ds) old = (d.0, either_owes d.1 (debt_of d.0 old)) ∷ added_
 
 -- a seat takes over what another has seen and what it owes; what it said stays its own
 abbrev pub taking_over : View → View → View
-taking_over v w = record v { log = w.log ++ v.log; debts = added_debts w.debts v.debts }
+taking_over v w = record v {
+  log = w.log ++ v.log;
+  debts = added_debts w.debts v.debts;
+  share = w.share ++ v.share;
+  got = w.got ++ v.got;
+  returned = w.returned ++ v.returned;
+}
 
 -- a claim's seat takes a whole pass in: what that has seen and said, and what it owes
 abbrev pub taking_in : View → View → View
-taking_in v w = record v { log = w.log ++ v.log; debts = added_debts w.debts v.debts; said = w.said }
+taking_in v w = record (taking_over v w) { said = w.said }
 
 -- the list was taken out
 abbrev pub lending : ℕ → MessageList → Bool → View → View

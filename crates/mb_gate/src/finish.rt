@@ -22,7 +22,8 @@ impl<H: Resident> Gates<H> {
         requires ours { pass_id pass ≡ gates_id self }
         requires empty { room.items ≡ [] }
         requires room { actors_of self ≤ vec_capacity room }
-        ensures left { AreLeft (H.is_of (first_of self)) H.journal H.mailbox H.rested H.given H.closed_to (actors_of self) (known_by pass) result.items }
+        ensures left { AreLeft (H.is_of (first_of self)) H.journal H.mailbox H.rested H.given H.closed_to
+            (actors_of self) (known_by pass) result.items }
     {
         let Gates {
             table,

@@ -4,7 +4,7 @@ ghost use Rattle.mb_status.specs.Mailbox.{most_suspensions, should_process, susp
 ghost use Rattle.mb_rule.specs.Layout.{slot_at};
 ghost use Rattle.mb_gate.specs.View.{idling, taking_in, writing};
 ghost use Rattle.mb_gate.specs.Claims.{is_busy, IsReady, Idled, IsKnownClosed};
-ghost use Rattle.mb_gate.specs.Rule.{Extends};
+ghost use Rattle.mb_gate.specs.Rule.{Extends, is_some_item};
 ghost use Rattle.mb_gate.specs.Record.{IsSaidSince};
 ghost use Rattle.mb_rule.specs.Seen.{Each};
 ghost use Rattle.mb_gate.specs.Names.{gates_id, pass_id, claim_id, actors_of, first_of, known_by};
@@ -113,8 +113,10 @@ impl<H: Resident> Gates<H> {
         requires longer { Extends (H.journal claim.home) (taken_with claim) }
         requires fold { word_of (H.mailbox claim.home) ≡ word_of (idle (status_of claim)) }
         requires count { H.given claim.home ≡ given_to claim }
-        requires shut { Each (λ other. IsKnownClosed other (closed_with claim) (taking_in (known_of claim) (known_by pass.old))) (H.closed_to claim.home) }
-        requires told { IsSaidSince (H.who claim.home) (held_actor claim) (status_of claim).closed (H.journal claim.home) (taken_with claim) (recorded_by claim) }
+        requires shut { Each (λ other. IsKnownClosed other (closed_with claim) (taking_in (known_of claim) (known_by pass.old)))
+            (H.closed_to claim.home) }
+        requires told { IsSaidSince (H.who claim.home) (held_actor claim) (status_of claim).closed (H.journal claim.home)
+            (taken_with claim) (recorded_by claim) }
         requires rest { ((status_of claim).closed ≡ true) ⊎ (gave_last claim ≡ false) → H.rested claim.home }
         ensures ours { pass_id pass.new ≡ pass_id pass.old }
         ensures known { known_by pass.new ≡ idling (held_actor claim) (H.journal claim.home) (taking_in (known_of claim) (known_by pass.old)) }
@@ -135,6 +137,7 @@ impl<H: Resident> Gates<H> {
     fn take_in(&self, seat: &mut Seat<Slot<H>, Knowledge>, mine: Seat<Slot<H>, Knowledge>)
         requires ours { (seat.old.table_id ≡ gates_id self.now) × (mine.table_id ≡ gates_id self.now) }
         requires nothing { (seat.old.me.1 ≡ []) × (seat.old.me.0.claim ≡ None) × (seat.old.me.0.list ≡ None) }
+        requires share { is_some_item seat.old.me.0.share ≡ true }
         ensures ours { seat.new.table_id ≡ gates_id self.now }
         ensures known { seat.new.me ≡ (taking_in mine.me.0 seat.old.me.0, mine.me.1) }
     {

@@ -1,5 +1,5 @@
 ghost use Rattle.mb_rule.specs.Ruled.{Ruled};
-ghost use Rattle.mb_gate.specs.View.{blank, claim_alone, without_claim, copied, taking_over, taking_in};
+ghost use Rattle.mb_gate.specs.View.{alone, blank, claim_alone, without_claim, copied, halving, taking_over, taking_in};
 ghost use Rattle.mb_gate.specs.Rule.{word_offset, slot_offset, Fact};
 ghost use Rattle.mb_gate.specs.Plays.{Reads, Writes, Sends, Unsends, CountsOff, Counts, Looks};
 ghost use Rattle.mb_gate.specs.Plays.{Grips, Enlists, Refuses, Drains, Ends, Glances, Schedules, Idles};
@@ -17,9 +17,10 @@ pub struct Law<H> {
 }
 
 impl<H: Resident> TableRule<Slot<H>, Knowledge, Key<H>> for Law<H> {
-    ghost holds = { λ key. Ruled word_offset slot_offset key.actors (Fact (H.is_of key.first.value) H.journal H.mailbox H.rested H.given H.closed_to) };
+    ghost holds = { λ key. Ruled word_offset slot_offset key.actors
+        (Fact (H.is_of key.first.value) H.journal H.mailbox H.rested H.given H.closed_to key.actors) };
 
-    ghost first = { λ _. blank };
+    ghost first = { λ _. alone };
 }
 
 pub struct Read;
@@ -125,7 +126,7 @@ impl Split<Knowledge> for Part {
 pub struct Twin;
 
 impl Split<Knowledge> for Twin {
-    ghost left = { λ v. v };
+    ghost left = { halving };
 
     ghost right = { copied };
 }

@@ -1,4 +1,4 @@
-ghost use Rattle.mb_gate.specs.Shown.{ShowsMachine, ShowsClosed, ShowsBalance};
+ghost use Rattle.mb_gate.specs.Shown.{MakesWhole, ShowsMachine, ShowsClosed, ShowsBalance, ShowsNumbers, ReleasesAlike};
 
 use crate::resident::Resident;
 
@@ -18,4 +18,22 @@ pub fn closed_receivers_are_closed<H: Resident>()
 /// less what they took back and what they counted as taken, modulo 2^64.
 pub fn waiting_is_sent_less_taken<H: Resident>()
     ensures { (first : H) → ShowsBalance (H.is_of first) H.journal H.mailbox H.rested H.given H.closed_to }
+{}
+
+/// A law: a number names one message of an actor's list, while no more than 2^64 were ever listed. What `sys_enqueue` put
+/// into it under the number that it answered is what a drain gave, or gives, under that number.
+pub fn a_number_names_one_message<H: Resident>()
+    ensures { (first : H) → ShowsNumbers (H.is_of first) H.journal H.mailbox H.rested H.given H.closed_to }
+{}
+
+/// A law: that in `release` the claim's seat takes the pass in before the cell goes home tells the pass the same as if it
+/// took over what the claim's seat knew after that.
+pub fn releases_are_alike()
+    ensures { ReleasesAlike }
+{}
+
+/// A law: the first pass has the whole share, and a pass that had it has it again once it has taken in what was split off
+/// it.
+pub fn what_was_split_is_whole_again()
+    ensures { MakesWhole }
 {}

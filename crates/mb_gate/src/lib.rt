@@ -34,7 +34,10 @@ mod view;
 
 pub use claim::Claim;
 pub use gates::Gates;
-pub use laws::{closed_receivers_are_closed, waiting_is_sent_less_taken, words_show_the_machine};
+pub use laws::{
+    a_number_names_one_message, closed_receivers_are_closed, releases_are_alike,
+    waiting_is_sent_less_taken, what_was_split_is_whole_again, words_show_the_machine,
+};
 pub use left::Left;
 pub use new::NoGates;
 pub use pass::Pass;

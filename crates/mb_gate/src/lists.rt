@@ -8,7 +8,8 @@ ghost use Rattle.mb_gate.specs.declared.slot.Slot.TheVariants.{Empty, List};
 ghost use Rattle.mb_gate.specs.View.{enlisting, refusing, draining, ending, given_after};
 ghost use Rattle.mb_gate.specs.Rule.{is_some_item};
 ghost use Rattle.mb_gate.specs.Claims.{held_in};
-ghost use Rattle.mb_gate.specs.Lists.{IsLentBy, IsOut, HasClaim, IsNumberedFrom, with_listed, with_drained, with_ended};
+ghost use Rattle.mb_gate.specs.Named.{NamesBelow, EachNamesBelow};
+ghost use Rattle.mb_gate.specs.Lists.{IsLentBy, IsOut, HasClaim, IsNumberedFrom, may_grip, with_listed, with_drained, with_ended};
 ghost use Rattle.mb_gate.specs.Names.{gates_id, pass_id, claim_id, actors_of, known_by};
 ghost use Rattle.mb_gate.specs.Names.{known_of, held_actor, status_of, taken_with, closed_with, gave_last, given_to};
 ghost use Rattle.mb_gate.specs.Names.{drained_by, recorded_by, IsRecorded};
@@ -63,6 +64,7 @@ impl<H: Resident> Gates<H> {
         requires there { id.0 < actors_of self.now }
         requires in_slot { word % 2 ≡ 0 }
         requires no_list { seat.old.me.0.list ≡ None }
+        requires may { may_grip id.0 seat.old.me.0 ≡ true }
         ensures ours { seat.new.table_id ≡ seat.old.table_id }
         ensures answer { MatchOption result (seat.new.me ≡ seat.old.me) (λ list. IsLentBy id.0 word list seat.old.me seat.new.me) }
     {
@@ -115,6 +117,7 @@ impl<H: Resident> Gates<H> {
         requires ours { seat.old.table_id ≡ gates_id self.now }
         requires there { id.0 < actors_of self.now }
         requires no_list { seat.old.me.0.list ≡ None }
+        requires share { is_some_item seat.old.me.0.share ≡ true }
         ensures ours { seat.new.table_id ≡ seat.old.table_id }
         ensures refused { result ≡ None → seat.new.me ≡ (refusing id.0 message seat.old.me.0, seat.old.me.1) }
         ensures lent { IfSome result (λ got. IsLentBy id.0 got.0 got.1 seat.old.me seat.new.me × (got.1.closed ≡ false)) }
@@ -144,6 +147,7 @@ impl<H: Resident> Gates<H> {
         requires ours { seat.old.table_id ≡ gates_id self.now }
         requires there { id.0 < actors_of self.now }
         requires no_list { seat.old.me.0.list ≡ None }
+        requires holder { HasClaim id.0 seat.old.me }
         ensures ours { seat.new.table_id ≡ seat.old.table_id }
         ensures answer { IsLentBy id.0 result.0 result.1 seat.old.me seat.new.me }
     {
@@ -175,7 +179,8 @@ impl<H: Resident> Gates<H> {
 
     /// Puts a node last into the actor's list, and says so (`systemEnqueue`). It answers the message's number: how many were
     /// put into the list before, modulo 2^64; a drain gives the message with this number. From now on the pass owes the
-    /// actor a look at it. It takes no memory, and may wait for the list's gate.
+    /// actor a look at it. It takes no memory, and may wait for the list's gate. The message names actors of these gates
+    /// alone, so that who drains it can send to each that it names.
     ///
     /// It answers `ListClosed` with the same node if the list is ended, and says that too.
     pub fn sys_enqueue<R: Wait>(
@@ -187,6 +192,7 @@ impl<H: Resident> Gates<H> {
     ) -> Result<u64, ListClosed>
         requires ours { pass_id pass.old ≡ gates_id self.now }
         requires there { id.0 < actors_of self.now }
+        requires named { NamesBelow (actors_of self.now) node }
         ensures ours { pass_id pass.new ≡ pass_id pass.old }
         ensures listed { IfOk result (λ number. known_by pass.new ≡ enlisting id.0 number node (known_by pass.old)) }
         ensures ended { IfErr result (λ refused. (refused.0 ≡ node) × (known_by pass.new ≡ refusing id.0 node (known_by pass.old))) }
@@ -208,6 +214,7 @@ impl<H: Resident> Gates<H> {
     ) -> Result<u64, ListClosed>
         requires ours { pass_id pass.old ≡ gates_id self.now }
         requires there { id.0 < actors_of self.now }
+        requires named { NamesBelow (actors_of self.now) node }
         ensures ours { pass_id pass.new ≡ pass_id pass.old }
         ensures listed { IfOk result (λ number. known_by pass.new ≡ enlisting id.0 number node (known_by pass.old)) }
         ensures ended { IfErr result (λ refused. (refused.0 ≡ node) × (known_by pass.new ≡ refusing id.0 node (known_by pass.old))) }
@@ -232,6 +239,7 @@ impl<H: Resident> Gates<H> {
         requires there { id.0 < actors_of self.now }
         requires lent { IsOut id.0 word list seat.old.me }
         requires not_ended { list.closed ≡ false }
+        requires named { NamesBelow (actors_of self.now) node }
         ensures ours { seat.new.table_id ≡ seat.old.table_id }
         ensures listed { seat.new.me ≡ (enlisting id.0 result node seat.old.me.0, rest seat.old.me.1) }
     {
@@ -276,6 +284,7 @@ impl<H: Resident> Gates<H> {
         ensures ours { seat.new.table_id ≡ seat.old.table_id }
         ensures drained { seat.new.me ≡ (draining id.0 result (is_some_item result) seat.old.me.0, rest seat.old.me.1) }
         ensures numbers { IsNumberedFrom (held_in seat.old.me.0).given result }
+        ensures named { EachNamesBelow (actors_of self.now) result }
     {
         let gate = word_index(id, GATE);
         let chain = list.drain();
@@ -301,6 +310,7 @@ impl<H: Resident> Gates<H> {
         ensures ours { seat.new.table_id ≡ seat.old.table_id }
         ensures drained { seat.new.me ≡ (ending id.0 result (held_in seat.old.me.0).gave seat.old.me.0, rest seat.old.me.1) }
         ensures numbers { IsNumberedFrom (held_in seat.old.me.0).given result }
+        ensures named { EachNamesBelow (actors_of self.now) result }
     {
         let gate = word_index(id, GATE);
         let chain = list.close();
@@ -311,8 +321,9 @@ impl<H: Resident> Gates<H> {
     }
 
     /// Takes all system messages that are listed out of the list of the claim's actor, the earliest first, with their
-    /// numbers, which go on from how many were given before (`systemDrain`). It takes no memory, and may wait for the
-    /// list's gate; a drain of an empty list, where the last drain gave nothing, is one load.
+    /// numbers, which go on from how many were given before (`systemDrain`). Each names actors of these gates alone. It
+    /// takes no memory, and may wait for the list's gate; a drain of an empty list, where the last drain gave nothing, is
+    /// one load.
     pub fn sys_drain<R: Wait>(&self, rt: &R, claim: &mut Claim<H>) -> Chain
         requires ours { claim_id claim.old ≡ gates_id self.now }
         requires there { held_actor claim.old < actors_of self.now }
@@ -322,6 +333,7 @@ impl<H: Resident> Gates<H> {
         ensures taken { (taken_with claim.new ≡ taken_with claim.old) × (closed_with claim.new ≡ closed_with claim.old) }
         ensures recorded { recorded_by claim.new ≡ recorded_by claim.old }
         ensures numbers { IsNumberedFrom (given_to claim.old) result }
+        ensures named { EachNamesBelow (actors_of self.now) result }
         ensures given { given_to claim.new ≡ given_after (given_to claim.old) result }
         ensures gave { gave_last claim.new ≡ is_some_item result }
         ensures drained { drained_by claim.new ≡ drained_by claim.old ++ result }
@@ -345,6 +357,7 @@ impl<H: Resident> Gates<H> {
         ensures taken { (taken_with claim.new ≡ taken_with claim.old) × (closed_with claim.new ≡ closed_with claim.old) }
         ensures recorded { recorded_by claim.new ≡ recorded_by claim.old }
         ensures numbers { IsNumberedFrom (given_to claim.old) result }
+        ensures named { EachNamesBelow (actors_of self.now) result }
         ensures given { given_to claim.new ≡ given_after (given_to claim.old) result }
         ensures gave { gave_last claim.new ≡ gave_last claim.old }
         ensures drained { drained_by claim.new ≡ drained_by claim.old ++ result }

@@ -1,7 +1,7 @@
 //! How the gates begin.
 ghost use Rattle.std.specs.Prelude.{◌≡◌, ℕ, ◌+◌, ◌*◌, ◌<◌, ◌≤◌, [], ◌∷◌, ◌++◌, length, slice_get, Some, IfOk, IfErr, OnOk, vec_len, vec_capacity};
 ghost use Rattle.mb_status.specs.Mailbox.{word_of};
-ghost use Rattle.mb_gate.specs.View.{blank};
+ghost use Rattle.mb_gate.specs.View.{alone};
 ghost use Rattle.mb_gate.specs.Starts.{row_of, rows_of, shelves_of, homes_in, IsFresh};
 ghost use Rattle.mb_gate.specs.Names.{gates_id, pass_id, actors_of, first_of, known_by};
 
@@ -31,7 +31,7 @@ impl<H: Resident> Gates<H> {
         requires few { vec_len homes ≤ 4294967296 }
         requires fresh { (first : H) → slice_get homes.items 0 ≡ Some first → (actor : ℕ) (home : H) → slice_get homes.items actor ≡ Some home →
             IsFresh (H.is_of first) H.mailbox H.rested H.given H.closed_to actor home }
-        ensures ok { IfOk result (λ made. (actors_of made.0 ≡ vec_len homes) × (pass_id made.1 ≡ gates_id made.0) × (known_by made.1 ≡ blank)) }
+        ensures ok { IfOk result (λ made. (actors_of made.0 ≡ vec_len homes) × (pass_id made.1 ≡ gates_id made.0) × (known_by made.1 ≡ alone)) }
         ensures first { IfOk result (λ made. slice_get homes.items 0 ≡ Some (first_of made.0)) }
         ensures err { IfErr result (λ refused. refused.homes.items ≡ homes.items) }
     {

@@ -1,4 +1,5 @@
-ghost use Rattle.std.specs.Prelude.{◌≡◌, [], None};
+ghost use Rattle.std.specs.Prelude.{◌≡◌, [], None, true};
+ghost use Rattle.mb_gate.specs.Rule.{is_some_item};
 ghost use Rattle.atomic_table.specs.Seated.{TableId};
 
 use crate::slot::Slot;
@@ -7,9 +8,11 @@ use atomic_table::Seat;
 
 /// The right to step on the words of the gates. Each thread has one of its own; a second one is split off it.
 ///
-/// It has no bytes. What it knows exists in clauses alone: what was read and seen of each actor, and what it owes each.
+/// It has no bytes. What it knows exists in clauses alone: what was read and seen of each actor, what it owes each, and its
+/// share of one whole: who has taken in all other passes has the whole, and knows that no other is there.
 #[derive(Drop)]
 pub struct Pass<H> {
     pub(crate) seat: Seat<Slot<H>, Knowledge>,
     ghost holds_nothing: { (seat.me.1 ≡ []) × (seat.me.0.claim ≡ None) × (seat.me.0.list ≡ None) },
+    ghost shares: { is_some_item seat.me.0.share ≡ true },
 }

@@ -1,6 +1,6 @@
 //! A pass for another thread, and a pass that comes back.
 ghost use Rattle.std.specs.Prelude.{◌≡◌};
-ghost use Rattle.mb_gate.specs.View.{copied, taking_over};
+ghost use Rattle.mb_gate.specs.View.{copied, halving, taking_over};
 ghost use Rattle.mb_gate.specs.Names.{gates_id, pass_id, known_by};
 
 use crate::gates::Gates;
@@ -13,7 +13,7 @@ impl<H: Resident> Gates<H> {
     pub fn another(&self, pass: &mut Pass<H>) -> Pass<H>
         requires ours { pass_id pass.old ≡ gates_id self.now }
         ensures ours { (pass_id pass.new ≡ pass_id pass.old) × (pass_id result ≡ pass_id pass.old) }
-        ensures known { (known_by pass.new ≡ known_by pass.old) × (known_by result ≡ copied (known_by pass.old)) }
+        ensures known { (known_by pass.new ≡ halving (known_by pass.old)) × (known_by result ≡ copied (known_by pass.old)) }
     {
         let seat = self.table.shared.split_seat::<Twin>(&mut pass.seat);
         Pass { seat }

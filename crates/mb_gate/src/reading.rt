@@ -2,6 +2,7 @@
 ghost use Rattle.std.specs.Prelude.{◌≡◌, ◌<◌};
 ghost use Rattle.mb_status.specs.Mailbox.{word_of};
 ghost use Rattle.mb_gate.specs.View.{reading, counting, looking};
+ghost use Rattle.mb_gate.specs.Turns.{IsOwnBalance};
 ghost use Rattle.mb_gate.specs.Plays.{StaysClosed};
 ghost use Rattle.mb_gate.specs.Names.{gates_id, pass_id, claim_id, actors_of, known_by, known_of, held_actor, status_of};
 
@@ -52,12 +53,15 @@ impl<H: Resident> Gates<H> {
         }
     }
 
-    /// Reads how many envelopes are counted as waiting, modulo 2^64 (this project's own profile: Akka asks the queue).
+    /// Reads how many envelopes are counted as waiting, modulo 2^64 (this project's own profile: Akka asks the queue). A pass
+    /// that has taken in all others, with no claim of the actor out, reads what it counted as sent less what it counted as
+    /// refused or taken.
     pub fn waiting(&self, pass: &mut Pass<H>, id: ActorId) -> u64
         requires ours { pass_id pass.old ≡ gates_id self.now }
         requires there { id.0 < actors_of self.now }
         ensures ours { pass_id pass.new ≡ pass_id pass.old }
         ensures known { known_by pass.new ≡ counting id.0 result (known_by pass.old) }
+        ensures own { IsOwnBalance id.0 result (known_by pass.old) }
     {
         self.count(&mut pass.seat, id)
     }
@@ -67,6 +71,7 @@ impl<H: Resident> Gates<H> {
         requires there { id.0 < actors_of self.now }
         ensures ours { seat.new.table_id ≡ seat.old.table_id }
         ensures known { seat.new.me ≡ (counting id.0 result seat.old.me.0, seat.old.me.1) }
+        ensures own { IsOwnBalance id.0 result seat.old.me.0 }
     {
         self.table
             .shared

@@ -44,7 +44,8 @@ impl<H: Resident> Gates<H> {
         requires ours { pass_id pass.old ≡ gates_id self.now }
         requires there { id.0 < actors_of self.now }
         ensures ours { (pass_id pass.new ≡ pass_id pass.old) × IsOf (gates_id self.now) result }
-        ensures answer { (seen : Mailbox) × IsTried (H.is_of (first_of self.now)) H.journal H.mailbox H.rested H.given H.closed_to id.0 (known_by pass.old) (known_by pass.new) seen result }
+        ensures answer { (seen : Mailbox) × IsTried (H.is_of (first_of self.now)) H.journal H.mailbox H.rested H.given H.closed_to
+            id.0 (known_by pass.old) (known_by pass.new) seen result }
     {
         let seen = self.status(pass, id);
         if seen.closed() {
@@ -68,7 +69,8 @@ impl<H: Resident> Gates<H> {
         requires free { IsFree seen }
         requires scheduled { status ≡ record seen { scheduled = true } }
         ensures ours { (pass_id pass.new ≡ pass_id pass.old) × IsOf (gates_id self.now) result }
-        ensures answer { IsExchanged (H.is_of (first_of self.now)) H.journal H.mailbox H.rested H.given H.closed_to id.0 (known_by pass.old) (known_by pass.new) seen result }
+        ensures answer { IsExchanged (H.is_of (first_of self.now)) H.journal H.mailbox H.rested H.given H.closed_to
+            id.0 (known_by pass.old) (known_by pass.new) seen result }
     {
         let old = seen.word();
         let new = status.word();

@@ -1,5 +1,6 @@
 //! The waiting count: how many envelopes were announced and not taken.
-ghost use Rattle.std.specs.Prelude.{◌≡◌, ◌<◌, IsTrue};
+ghost use Rattle.std.specs.Prelude.{◌≡◌, ◌<◌, IsTrue, true};
+ghost use Rattle.mb_gate.specs.Rule.{is_some_item};
 ghost use Rattle.mb_gate.specs.View.{owes, sending, unsending, counting_off};
 ghost use Rattle.mb_gate.specs.Lists.{HasClaim};
 ghost use Rattle.mb_gate.specs.Names.{gates_id, pass_id, claim_id, actors_of, known_by, known_of, held_actor, status_of, SameTaken};
@@ -29,6 +30,7 @@ impl<H: Resident> Gates<H> {
     fn count_on(&self, seat: &mut Seat<Slot<H>, Knowledge>, id: ActorId)
         requires ours { seat.old.table_id ≡ gates_id self.now }
         requires there { id.0 < actors_of self.now }
+        requires share { is_some_item seat.old.me.0.share ≡ true }
         ensures ours { seat.new.table_id ≡ seat.old.table_id }
         ensures known { seat.new.me ≡ (sending id.0 1 seat.old.me.0, seat.old.me.1) }
     {
@@ -51,6 +53,7 @@ impl<H: Resident> Gates<H> {
     fn count_back(&self, seat: &mut Seat<Slot<H>, Knowledge>, id: ActorId)
         requires ours { seat.old.table_id ≡ gates_id self.now }
         requires there { id.0 < actors_of self.now }
+        requires share { is_some_item seat.old.me.0.share ≡ true }
         ensures ours { seat.new.table_id ≡ seat.old.table_id }
         ensures known { seat.new.me ≡ (unsending id.0 1 seat.old.me.0, seat.old.me.1) }
     {

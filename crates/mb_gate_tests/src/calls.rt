@@ -1,5 +1,6 @@
 //! The calls by which a pass looks and counts, with no more of their contracts than the tests need.
 ghost use Rattle.std.specs.Prelude.{◌≡◌, ◌<◌};
+ghost use Rattle.mb_gate.specs.Named.{NamesBelow};
 ghost use Rattle.mb_gate.specs.Names.{gates_id, pass_id, claim_id, actors_of, held_actor, taken_with, given_to, recorded_by};
 
 use crate::desk::{Desk, GUARDIAN};
@@ -63,7 +64,8 @@ pub fn note_refused(gates: &Gates<Desk>, pass: &mut Pass<Desk>)
     gates.note_unsent(pass, GUARDIAN);
 }
 
-/// A message is put into the list: its number, or `None` where there was no memory for it or the list is ended.
+/// A message is put into the one actor's list, which names no other: its number, or `None` where there was no memory for it
+/// or the list is ended.
 pub fn enqueue<R: Wait>(
     rt: &R,
     alloc: Global,
@@ -72,10 +74,13 @@ pub fn enqueue<R: Wait>(
     message: SysMsg,
 ) -> Option<u64>
     requires ours { pass_id pass.old ≡ gates_id gates.now }
-    requires there { 0 < actors_of gates.now }
+    requires one { actors_of gates.now ≡ 1 }
+    requires named { NamesBelow 1 message }
     ensures ours { pass_id pass.new ≡ pass_id pass.old }
 {
-    let node = Node::new(alloc, message).ok()?;
+    let Ok(node) = Node::new(alloc, message) else {
+        return None;
+    };
     gates.sys_enqueue(rt, pass, GUARDIAN, node).ok()
 }
 

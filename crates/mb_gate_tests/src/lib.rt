@@ -10,6 +10,14 @@ mod contend;
 #[cfg(test)]
 mod desk;
 #[cfg(test)]
+mod holding;
+#[cfg(test)]
+mod shift;
+#[cfg(test)]
+mod single;
+#[cfg(test)]
+mod tally;
+#[cfg(test)]
 mod three;
 #[cfg(test)]
 mod tries;

@@ -1,12 +1,15 @@
 //! One thread holds an actor, suspends and resumes it and drains its list; two others send to it.
-ghost use Rattle.std.specs.Prelude.{◌≡◌, ◌<◌, []};
-ghost use Rattle.mb_gate.specs.Names.{gates_id, pass_id, claim_id, actors_of, held_actor, taken_with, given_to, recorded_by};
+ghost use Rattle.std.specs.Prelude.{◌≡◌, ◌<◌};
+ghost use Rattle.mb_gate.specs.Named.{NamesBelow};
+ghost use Rattle.mb_gate.specs.Names.{gates_id, pass_id, claim_id, actors_of, held_actor};
 
-use crate::calls::{enqueue, note_sent, resume, second, suspend, waiting, word};
-use crate::desk::{Desk, gates_of_one};
-use crate::tries::{NOTHING, Tally, drain, give, got};
-use mb_gate::{Claim, Gates, Pass};
-use mb_msg::{ActorId, SysMsg};
+use crate::calls::{enqueue, note_sent, second, waiting, word};
+use crate::desk::{Desk, GUARDIAN, gates_of_one};
+use crate::shift::Shift;
+use crate::tally::{NOTHING, Tally};
+use crate::tries::got;
+use mb_gate::{Gates, Pass};
+use mb_msg::{Cause, SysMsg};
 use std::alloc::Global;
 use std::sync::Wait;
 use std::test::Fail;
@@ -15,6 +18,17 @@ use std::thread::{Threads, join};
 
 /// How many messages and envelopes each of two senders sends.
 const SENDS: u32 = 1_000;
+
+// The message of this number, of the first sender or the second.
+fn message_of(number: u32, is_first: bool) -> SysMsg
+    ensures named { NamesBelow 1 result }
+{
+    let cause = Cause::Error(number);
+    if is_first {
+        return SysMsg::Recreate(cause);
+    }
+    SysMsg::Failed(GUARDIAN, cause)
+}
 
 // Sends so many messages and counts as many envelopes, and answers how many were taken into the list.
 fn send<R: Wait>(
@@ -25,15 +39,11 @@ fn send<R: Wait>(
     is_first: bool,
 ) -> u32
     requires ours { pass_id pass ≡ gates_id gates.now }
-    requires there { 0 < actors_of gates.now }
+    requires one { actors_of gates.now ≡ 1 }
 {
     let mut sent = 0u32;
     for number in 0..SENDS {
-        let message = if is_first {
-            SysMsg::Watch(ActorId(number))
-        } else {
-            SysMsg::Unwatch(ActorId(number))
-        };
+        let message = message_of(number, is_first);
         note_sent(gates, &mut pass);
         if enqueue(rt, alloc, gates, &mut pass, message).is_some() {
             sent = sent.wrapping_add(1);
@@ -42,50 +52,22 @@ fn send<R: Wait>(
     sent
 }
 
-/// A claim that may be let go, so that it can go to another thread.
-struct Parked {
-    claim: Claim<Desk>,
-    ghost own: { (claim.home.actor ≡ held_actor claim) × (claim.home.given ≡ given_to claim) },
-    ghost begun: { (taken_with claim ≡ []) × (recorded_by claim ≡ []) },
-}
-
-impl Parked {
-    // The claim, which is to be spent.
-    fn taken(self) -> Claim<Desk>
-        ensures same { result ≡ self.claim }
-        ensures own { (result.home.actor ≡ held_actor result) × (result.home.given ≡ given_to result) }
-        ensures begun { (taken_with result ≡ []) × (recorded_by result ≡ []) }
-    {
-        let Parked { claim } = self;
-        claim
-    }
-}
-
-impl Drop for Parked {
-    fn drop(self) {
-        let Parked { claim } = self;
-        claim.abandon();
-    }
-}
-
 // Holds the actor, suspends and resumes it, and drains its list, until all messages came; then its cell goes home.
-fn hold<R: Wait>(rt: &R, gates: &Gates<Desk>, parked: Parked, mut pass: Pass<Desk>) -> Tally
-    requires ours { (claim_id parked.claim ≡ gates_id gates.now) × (pass_id pass ≡ gates_id gates.now) }
-    requires there { held_actor parked.claim < actors_of gates.now }
+fn hold<R: Wait>(rt: &R, gates: &Gates<Desk>, mut shift: Shift, mut pass: Pass<Desk>) -> Tally
+    requires ours { (claim_id shift.claim ≡ gates_id gates.now) × (pass_id pass ≡ gates_id gates.now) }
+    requires there { held_actor shift.claim < actors_of gates.now }
 {
-    let mut claim = parked.taken();
     let mut tally = NOTHING;
     for _ in rt.forever() {
-        if suspend(gates, &mut claim).is_some() {
-            resume(gates, &mut claim);
-        }
-        drain(rt, gates, &mut claim, &mut tally);
+        let _ = shift.suspend(gates);
+        let _ = shift.resume(gates);
+        shift.drain(rt, gates, &mut tally);
         if tally.number >= 2_000 {
             break;
         }
         thread::yield_now();
     }
-    give(gates, claim, &mut pass);
+    shift.end(gates, &mut pass);
     tally
 }
 
@@ -93,7 +75,7 @@ fn hold<R: Wait>(rt: &R, gates: &Gates<Desk>, parked: Parked, mut pass: Pass<Des
 fn one_holds_and_two_send(rt: HostRuntime) -> Result<(), Fail> {
     let alloc = rt.alloc();
     let (gates, mut pass) = gates_of_one(alloc)?;
-    let parked = Parked {
+    let shift = Shift {
         claim: got(&rt, &gates, &mut pass),
     };
     let holder = second(&gates, &mut pass);
@@ -102,11 +84,11 @@ fn one_holds_and_two_send(rt: HostRuntime) -> Result<(), Fail> {
     let (tally, sent) = join(
         &rt,
         || -> Tally
-            requires { (claim_id parked.claim ≡ gates_id gates) × (pass_id holder ≡ gates_id gates)
-                × (held_actor parked.claim < actors_of gates) }
-        { hold(&rt, &gates, parked, holder) },
+            requires { (claim_id shift.claim ≡ gates_id gates) × (pass_id holder ≡ gates_id gates)
+                × (held_actor shift.claim < actors_of gates) }
+        { hold(&rt, &gates, shift, holder) },
         || -> (u32, u32)
-            requires { (pass_id a ≡ gates_id gates) × (pass_id b ≡ gates_id gates) × (0 < actors_of gates) }
+            requires { (pass_id a ≡ gates_id gates) × (pass_id b ≡ gates_id gates) × (actors_of gates ≡ 1) }
         { send_both(&rt, alloc, &gates, a, b) },
     );
     assert_eq!(rt; sent, (SENDS, SENDS));
@@ -128,15 +110,15 @@ fn send_both<R: Wait + Threads + Sync>(
     b: Pass<Desk>,
 ) -> (u32, u32)
     requires ours { (pass_id a ≡ gates_id gates.now) × (pass_id b ≡ gates_id gates.now) }
-    requires there { 0 < actors_of gates.now }
+    requires one { actors_of gates.now ≡ 1 }
 {
     join(
         rt,
         || -> u32
-            requires { (pass_id a ≡ gates_id gates.now) × (0 < actors_of gates.now) }
+            requires { (pass_id a ≡ gates_id gates.now) × (actors_of gates.now ≡ 1) }
         { send(rt, alloc, gates, a, true) },
         || -> u32
-            requires { (pass_id b ≡ gates_id gates.now) × (0 < actors_of gates.now) }
+            requires { (pass_id b ≡ gates_id gates.now) × (actors_of gates.now ≡ 1) }
         { send(rt, alloc, gates, b, false) },
     )
 }

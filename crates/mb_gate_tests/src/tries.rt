@@ -1,11 +1,10 @@
 //! Tries to schedule, what a holder drains, and how it gives its claim back.
-ghost use Rattle.std.specs.Prelude.{◌≡◌, ◌+◌, ◌%◌, ◌^◌, ◌<◌, [], IfSome, length};
+ghost use Rattle.std.specs.Prelude.{◌≡◌, ◌<◌, [], IfSome};
 ghost use Rattle.mb_gate.specs.Names.{gates_id, pass_id, claim_id, actors_of, held_actor, taken_with, given_to, recorded_by};
 
 use crate::desk::{Desk, GUARDIAN};
+use crate::tally::{Tally, add_all};
 use mb_gate::{Claim, Gates, Pass, Tried};
-use mb_msg::{ActorId, SysMsg};
-use mb_syslist::Chain;
 use std::process::Abort;
 use std::sync::Wait;
 
@@ -77,42 +76,6 @@ pub fn missed(gates: &Gates<Desk>, pass: &mut Pass<Desk>) -> Option<Miss>
     }
 }
 
-/// What a holder saw: the number of the next message, and of the next Watch and Unwatch; and whether all came in order.
-#[derive(Clone, Copy)]
-pub struct Tally {
-    pub number: u64,
-    pub first: u32,
-    pub second: u32,
-    pub in_order: bool,
-}
-
-pub const NOTHING: Tally = Tally {
-    number: 0,
-    first: 0,
-    second: 0,
-    in_order: true,
-};
-
-impl Tally {
-    fn add(&mut self, number: u64, message: SysMsg) {
-        let is_next = match message {
-            SysMsg::Watch(ActorId(n)) => {
-                let is_next = n == self.first;
-                self.first = self.first.wrapping_add(1);
-                is_next
-            }
-            SysMsg::Unwatch(ActorId(n)) => {
-                let is_next = n == self.second;
-                self.second = self.second.wrapping_add(1);
-                is_next
-            }
-            _ => false,
-        };
-        self.in_order = self.in_order && is_next && number == self.number;
-        self.number = self.number.wrapping_add(1);
-    }
-}
-
 /// Drains the list, and adds what it gave to the tally. The home counts it.
 pub fn drain<R: Wait>(rt: &R, gates: &Gates<Desk>, claim: &mut Claim<Desk>, tally: &mut Tally)
     requires ours { claim_id claim.old ≡ gates_id gates.now }
@@ -142,21 +105,4 @@ pub fn close<R: Wait>(rt: &R, gates: &Gates<Desk>, claim: &mut Claim<Desk>, tall
     let chain = gates.sys_close(rt, claim);
     let count = add_all(rt, chain, tally);
     claim.home.given = claim.home.given.wrapping_add(count);
-}
-
-// How many were in the chain.
-fn add_all<R: Wait>(rt: &R, mut chain: Chain, tally: &mut Tally) -> u64
-    ensures { result ≡ length chain % 2 ^ 64 }
-{
-    let mut count = 0u64;
-    for _ in rt.forever() {
-        match chain.next() {
-            Some((number, node)) => {
-                tally.add(number, node.msg());
-                count = count.wrapping_add(1);
-            }
-            None => break,
-        }
-    }
-    count
 }

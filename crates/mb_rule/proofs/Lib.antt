@@ -4,3 +4,4 @@ pub mod SeenLemmas
 pub mod LayoutLemmas
 pub mod RuledLemmas
 pub mod SummedLemmas
+pub mod SharesLemmas

@@ -4,3 +4,4 @@ pub mod Seen
 pub mod Layout
 pub mod Ruled
 pub mod Summed
+pub mod Shares

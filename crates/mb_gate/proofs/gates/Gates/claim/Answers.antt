@@ -10,7 +10,7 @@ split_seat-rest-requires g c = (
   search rules,
   search rules,
   claims_allowed (g.H.Resident.is_of (first_of c.args.self.now)) g.H.Resident.journal g.H.Resident.mailbox
-      g.H.Resident.rested g.H.Resident.given g.H.Resident.closed_to _ _ _ c.requires.won.no_list,
+      g.H.Resident.rested g.H.Resident.given g.H.Resident.closed_to _ _ _ c.requires.won.no_list c.requires.won.share,
 )
 
 pub exchange-requires : goal.exchange-requires

@@ -7,7 +7,13 @@ pub load-requires : goal.load-requires
 load-requires g c = (
   search rules,
   search rules,
-  counts_allowed (g.H.Resident.is_of
-      (first_of c.args.self.now)) g.H.Resident.journal g.H.Resident.mailbox g.H.Resident.rested g.H.Resident.given g.H.Resident.closed_to
+  counts_allowed (g.H.Resident.is_of (first_of c.args.self.now)) g.H.Resident.journal g.H.Resident.mailbox g.H.Resident.rested g.H.Resident.given
+      g.H.Resident.closed_to
       _ _ _ _ c.args.id.0 _ (let k = c.args.self.now.keyed in let t = c.requires.there in omega arith) c.word_index.ensures,
 )
+
+pub returns-clause-known : goal.returns-clause-known
+returns-clause-known g c = (c.load.ensures.2 _ c.word_index.ensures).0
+
+pub returns-clause-own : goal.returns-clause-own
+returns-clause-own g c = (c.load.ensures.2 _ c.word_index.ensures).1

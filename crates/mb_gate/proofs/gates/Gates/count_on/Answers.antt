@@ -8,7 +8,6 @@ fetch_add-requires g c = (
   search rules,
   search rules,
   sends_allowed (g.H.Resident.is_of (first_of c.args.self.now)) g.H.Resident.journal g.H.Resident.mailbox
-      g.H.Resident.rested g.H.Resident.given g.H.Resident.closed_to _ _ _ _ c.args.id.0 _
-      (let k = c.args.self.now.keyed in let t = c.requires.there in omega arith) (λ n. (n + 1) % 2 ^ 64)
-      1 (λ w. omega arith) c.word_index.ensures,
+      g.H.Resident.rested g.H.Resident.given g.H.Resident.closed_to _ _ _ _ c.args.id.0 _ (let k = c.args.self.now.keyed in let t = c.requires.there
+      in omega arith) (λ n. (n + 1) % 2 ^ 64) 1 (λ w. omega arith) c.requires.share c.word_index.ensures,
 )

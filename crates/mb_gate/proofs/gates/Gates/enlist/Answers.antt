@@ -1,7 +1,8 @@
-use Rattle.std.proofs.Common.{rules, ◌≡◌, if◌then◌else◌, Result, Ok, Err, ap, sym, ◌∙◌, refl, arith}
+use Rattle.std.proofs.Common.{rules, ◌≡◌, if◌then◌else◌, Result, Ok, Err, ap, sym, ◌∙◌, refl, subst, arith}
 use Rattle.atomic_table.specs.Table.{rest}
 use Rattle.mb_syslist.specs.MessageList.{with_last, pushed}
 use Rattle.mb_gate.specs.View.{Lent, enlisting}
+use Rattle.mb_gate.specs.Named.{NamesBelow}
 use Rattle.mb_gate.specs.Names.{first_of}
 use Rattle.mb_gate.proofs.Allowed.{enlists_allowed}
 use Rattle.mb_gate.proofs.ListCalls.{word_listed, laid_back}
@@ -18,12 +19,12 @@ store-requires g c =
     let list = c.push.ensures.list ∙ ap (λ b. if b then c.args.list else with_last c.args.list c.args.node) c.requires.not_ended in (
       search rules,
       search rules,
-      enlists_allowed (g.H.Resident.is_of
-          (first_of c.args.self.now)) g.H.Resident.journal g.H.Resident.mailbox g.H.Resident.rested
+      enlists_allowed (g.H.Resident.is_of (first_of c.args.self.now)) g.H.Resident.journal g.H.Resident.mailbox g.H.Resident.rested
           g.H.Resident.given g.H.Resident.closed_to _ _ _ _ c.args.id.0 _ (let k =
           c.args.self.now.keyed in let t = c.requires.there in omega arith) l c.args.node _ c.word_index-gate.ensures (ap (λ m. m.0.list) laid ∙
           lent.has) refl (laid_back c.args.id.0 _ _ c.args.seat.now.me _ laid list)
-          (c.with_listed_bit-new.ensures ∙ word_listed c.args.word c.args.list lent.gave c.args.node lent.found),
+          (c.with_listed_bit-new.ensures ∙ word_listed c.args.word c.args.list lent.gave c.args.node lent.found)
+          (subst (λ n. NamesBelow n c.args.node) (sym c.args.self.now.keyed) c.requires.named),
     )
 
 pub returns-clause-listed : goal.returns-clause-listed

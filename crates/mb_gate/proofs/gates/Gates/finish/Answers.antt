@@ -97,12 +97,10 @@ returns g c =
     let many = c.loop-actor.invariant.5 in
     let ends = c.loop-actor-test.false in
     let at_end = c.loop-actor.auto.actor-end in record {
-      left = subst (λ n. AreLeft (g.H.Resident.is_of
-          (first_of c.args.self)) g.H.Resident.journal g.H.Resident.mailbox g.H.Resident.rested g.H.Resident.given g.H.Resident.closed_to n
-          (known_by c.args.pass)
+      left = subst (λ n. AreLeft (g.H.Resident.is_of (first_of c.args.self)) g.H.Resident.journal g.H.Resident.mailbox g.H.Resident.rested
+          g.H.Resident.given g.H.Resident.closed_to n (known_by c.args.pass)
           c.loop-actor.all.items) keyed
-          (are_left (g.H.Resident.is_of
-          (first_of c.args.self)) g.H.Resident.journal g.H.Resident.mailbox g.H.Resident.rested
-          g.H.Resident.given g.H.Resident.closed_to _ _ _ _ _ _
-          c.close_with-closed.ensures.values.2 (omega arith) c.loop-actor.invariant.7);
+          (are_left (g.H.Resident.is_of (first_of c.args.self)) g.H.Resident.journal g.H.Resident.mailbox g.H.Resident.rested g.H.Resident.given
+          g.H.Resident.closed_to _ _ _ _ _ _
+          c.args.pass.holds_nothing.2 c.close_with-closed.ensures.values.2 (omega arith) c.loop-actor.invariant.7);
     }

@@ -11,12 +11,11 @@ store-requires g c =
     let closed : c.args.status.closed ≡ true = sym c.closed.ensures ∙ c.if-closed.true in (
       search rules,
       search rules,
-      idles_closed_allowed (g.H.Resident.is_of
-          (first_of c.args.self.now)) g.H.Resident.journal g.H.Resident.mailbox g.H.Resident.rested
+      idles_closed_allowed (g.H.Resident.is_of (first_of c.args.self.now)) g.H.Resident.journal g.H.Resident.mailbox g.H.Resident.rested
           g.H.Resident.given g.H.Resident.closed_to _ _ _ _ c.args.actor.0 _ (let k =
-          c.args.self.now.keyed in let t = c.requires.there in omega arith)
-          _ r.home c.word_index-flag.ensures r.has r.of r.carried r.own r.longer r.count r.shut
-          (r.word ∙ closed_word c.args.status closed) (sym (r.fold ∙ closed_word (idle c.args.status) closed)) (r.rest (inl closed)),
+          c.args.self.now.keyed in let t = c.requires.there in omega arith) _ r.home c.word_index-flag.ensures r.has r.of r.carried r.own r.longer
+          r.count r.shut
+          (r.word ∙ closed_word c.args.status closed) (sym (r.fold ∙ closed_word (idle c.args.status) closed)) (r.rest (inl closed)) r.share,
     )
 
 pub store-requires-2 : goal.store-requires-2
@@ -26,12 +25,11 @@ store-requires-2 g c =
     let is = sym (c.word.ensures.word ∙ ap word_of c.idle.ensures) in (
       search rules,
       search rules,
-      idles_allowed (g.H.Resident.is_of
-          (first_of c.args.self.now)) g.H.Resident.journal g.H.Resident.mailbox g.H.Resident.rested
-          g.H.Resident.given g.H.Resident.closed_to _ _ _ _ c.args.actor.0 _ (let k =
+      idles_allowed (g.H.Resident.is_of (first_of c.args.self.now)) g.H.Resident.journal g.H.Resident.mailbox g.H.Resident.rested g.H.Resident.given
+          g.H.Resident.closed_to _ _ _ _ c.args.actor.0 _ (let k =
           c.args.self.now.keyed in let t = c.requires.there in omega arith) _ r.home _ c.word_index-index.ensures r.has r.of r.carried r.own
           r.longer r.count r.shut
           (λ one. let no = one_closed c.args.status (sym r.word ∙ one) in absurd (cc)) (subst (λ n. IsTrue (is_valid n)) (sym
           c.word.ensures.word) (valid_word c.idle.result c.word.ensures.possible))
-          (subst (λ n. n % 4 ≡ 0) is (idle_free c.args.status unshut)) (sym is ∙ sym r.fold) (λ no. r.rest (inr no)),
+          (subst (λ n. n % 4 ≡ 0) is (idle_free c.args.status unshut)) (sym is ∙ sym r.fold) (λ no. r.rest (inr no)) r.share,
     )

@@ -8,6 +8,6 @@ load-word-requires g c = (
   search rules,
   search rules,
   looks_allowed (g.H.Resident.is_of (first_of c.args.self.now)) g.H.Resident.journal g.H.Resident.mailbox
-      g.H.Resident.rested g.H.Resident.given g.H.Resident.closed_to _ _ _ _ c.args.id.0 _
-      (let k = c.args.self.now.keyed in let t = c.requires.there in omega arith) c.word_index.ensures,
+      g.H.Resident.rested g.H.Resident.given g.H.Resident.closed_to _ _ _ _ c.args.id.0 _ (let k = c.args.self.now.keyed in let t = c.requires.there
+      in omega arith) c.word_index.ensures,
 )

@@ -9,8 +9,7 @@ some_same : {A : Type 0} (a b : A) → Some a ≡ Some b → a ≡ b
 some_same a b e = cc
 
 pub new-requires : goal.new-requires
-new-requires g c = starts
-    (g.H.Resident.is_of c.first_of.result.value) g.H.Resident.journal g.H.Resident.mailbox g.H.Resident.rested
+new-requires g c = starts (g.H.Resident.is_of c.first_of.result.value) g.H.Resident.journal g.H.Resident.mailbox g.H.Resident.rested
     g.H.Resident.given g.H.Resident.closed_to _ c.args.homes.items _ _ (omega arith)
     (c.deref-2.ensures.value ∙ (c.in-Ok.ensures ∙ ap (rows_of g.H.Resident.mailbox) c.deref.ensures.value)) c.shelve-slots.ensures.slots
     (c.requires.fresh c.first_of.result.value c.first_of.ensures)
@@ -26,7 +25,8 @@ invariant_of-result g c =
     record {
       wide = made.0 ∙ (words ∙ (omega arith));
       deep = made.1 ∙ (slots ∙ (omega arith));
-      keyed = ap (λ k. k.actors) made.5;
+      keyed = ap
+          (λ k. k.actors) made.5;
       known = known;
       some = (omega arith, omega arith);
     }

@@ -3,6 +3,7 @@ use Rattle.mb_rule.specs.Layout.{slot_at}
 use Rattle.mb_gate.specs.declared.slot.Slot.TheVariants.{Home}
 use Rattle.mb_gate.specs.Claims.{IsReady}
 use Rattle.mb_gate.specs.Names.{first_of}
+use Rattle.mb_gate.proofs.Parting.{some_left}
 use Rattle.mb_gate.proofs.gates.Gates.release.Goals as goal
 
 pub idle-requires-clause-ready : goal.idle-requires-clause-ready
@@ -22,4 +23,5 @@ idle-requires-clause-ready g c =
       count = c.requires.count;
       shut = c.requires.shut;
       rest = c.requires.rest;
+      share = some_left _ _ c.args.pass.now.shares;
     }

@@ -11,9 +11,9 @@ compare_exchange-found-requires g c = (
   search rules,
   search rules,
   grips_allowed (g.H.Resident.is_of (first_of c.args.self.now)) g.H.Resident.journal g.H.Resident.mailbox
-      g.H.Resident.rested g.H.Resident.given g.H.Resident.closed_to _ _ _ _ c.args.id.0 _
-      (let k = c.args.self.now.keyed in let t = c.requires.there in omega arith) _ _
-      c.word_index-gate.ensures c.requires.in_slot refl c.requires.no_list,
+      g.H.Resident.rested g.H.Resident.given g.H.Resident.closed_to _ _ _ _ c.args.id.0 _ (let k = c.args.self.now.keyed in let t = c.requires.there
+      in omega arith) _ _
+      c.word_index-gate.ensures c.requires.in_slot refl c.requires.no_list c.requires.may,
 )
 
 pub returns-then-found-word-clause-answer : goal.returns-then-found-word-clause-answer

@@ -11,8 +11,7 @@ store-requires g c =
     let claim = c.args.claim.now in (
       search rules,
       search rules,
-      writes_allowed (g.H.Resident.is_of
-          (first_of c.args.self.now)) g.H.Resident.journal g.H.Resident.mailbox g.H.Resident.rested
+      writes_allowed (g.H.Resident.is_of (first_of c.args.self.now)) g.H.Resident.journal g.H.Resident.mailbox g.H.Resident.rested
           g.H.Resident.given g.H.Resident.closed_to _ _ _ _ claim.actor.0 _ (let k =
           c.args.self.now.keyed in let t = c.requires.there in omega arith) _ _ c.word_index-index.ensures claim.has claim.of
           (subst (λ n. IsTrue (is_valid n)) is (valid_word c.args.status c.word.ensures.possible))

@@ -1,0 +1,84 @@
+-- What a seat with the whole knows of an actor: no other seat has anything of it, but its claim.
+use Rattle.std.proofs.Common.{◌≡◌, ◌≢◌, ◌⊎◌, ⊎_elim, ℕ, zero, suc, ◌+◌, ◌%◌, ◌^◌, if◌then◌else◌, Bool, List, [], ◌∷◌, sym, refl}
+use Rattle.std.proofs.Common.{ap, ◌∙◌, Option, Some, None, eq-eqb, arith}
+use mathlib.Core.Logic.{dite}
+use mathlib.Core.Option.{some, some-injective}
+use native.Mathlib.Decide.{ℕ_discrete}
+use lib.ListN.{get_elem?}
+use Rattle.mb_status.specs.Mailbox.{Mailbox}
+use Rattle.mb_journal.specs.Entry.{Entry}
+use Rattle.mb_rule.specs.Layout.{Spot}
+use Rattle.mb_rule.specs.Locked.{ticket_at, held_by, Locked}
+use Rattle.mb_rule.specs.Shares.{IsWhole}
+use Rattle.mb_rule.proofs.LockedLemmas.{ticket_here}
+use Rattle.mb_rule.proofs.SharesLemmas.{alone, total_alone}
+use Rattle.mb_gate.specs.declared.slot.Slot.{Slot}
+use Rattle.mb_gate.specs.View.{View, Held, Lent}
+use Rattle.mb_gate.specs.Waiting.{on_by, off_by}
+use Rattle.mb_gate.specs.Turns.{got_by, back_by, claims_out, IsOwnBalance}
+use Rattle.mb_gate.specs.Rule.{Word, Waiting, Shelf, Ghost, IsBare, lent_of, claim_for, list_for, Fact}
+
+-- who has a ticket is a seat that is there
+ticket_has : {T : Type 0} (ticket : View → Option T) (vs : List View) (q : ℕ) (t : T) → ticket_at ticket vs q ≡ Some t → (u : View) × (get_elem? vs q
+    ≡ some u) × (ticket u ≡ Some t)
+ticket_has ticket [] q t e = absurd (cc)
+ticket_has ticket (v ∷ vs) zero t e = (v, refl, e)
+ticket_has ticket (v ∷ vs) (suc q) t e = ticket_has ticket vs q t e
+
+one_out : (holder : Option (ℕ × Held)) → holder ≢ None → claims_out holder ≡ 1
+one_out None held = absurd (held refl)
+one_out (Some h) held = refl
+
+none_out : (holder : Option (ℕ × Held)) → claims_out holder ≡ 0 → holder ≡ None
+none_out None none = refl
+none_out (Some h) none = absurd (let one : 1 ≡ 0 = none in omega arith)
+
+no_more : (m k : ℕ) → m ≡ m + k → k ≡ 0
+no_more m k e = omega arith
+
+plus_none : (m : ℕ) → m + 0 ≡ m
+plus_none m = omega arith
+
+module _ {H : Type 0} (is_of : ℕ → H → Type 0) (journal : H → List Entry) (mailbox : H → Mailbox) (rested : H → Type 0) (given_by : H
+    → ℕ) (closed_to : H → List ℕ) (actors actor : ℕ) (x : Spot Word Shelf (Slot H) Ghost) (vs : List View) (id : ℕ) (v : View)
+    (f : Fact is_of journal mailbox rested given_by closed_to actors actor x vs) (at : get_elem? vs id ≡ some v) (whole : IsWhole v.share) where
+  others_bare : (q : ℕ) (u : View) → q ≢ id → get_elem? vs q ≡ some u → IsBare actor u
+  others_bare q u other there = f.bare q u there (alone (λ (z : View). z.share) vs id v at whole f.shares q u other there)
+
+  -- its own account is the account of all
+  own_turns : got_by actor v ≡ back_by actor v + claims_out x.ghost.holder
+  own_turns = sym (total_alone (got_by actor) vs id v at (λ q u other there. (others_bare q u other there).got))
+      ∙ (f.turns ∙ ap (λ k. k + claims_out x.ghost.holder) (total_alone (back_by actor) vs id v at (λ q u other there. (others_bare q u other
+      there).back)))
+
+  unclaimed : x.ghost.holder ≡ None → (q : ℕ) (u : View) → get_elem? vs q ≡ some u → claim_for actor u ≡ None
+  unclaimed free q u there = sym (ticket_here (claim_for actor) vs q u there) ∙ (f.claims q ∙ ap (λ (h : Option (ℕ × Held)). held_by h q) free)
+
+  no_list_out : v.list ≡ None → x.ghost.holder ≡ None → (keeper : Option (ℕ × Lent)) → Locked (list_for actor) keeper vs → keeper ≡ None
+  no_list_out bare free None lists = refl
+  no_list_out bare free (Some k) lists =
+      let has = ticket_has (list_for actor) vs k.0 k.1 (lists k.0 ∙ ap (λ (b : Bool). if b then Some k.1 else None) (eq-eqb k.0 k.0 refl)) in
+      absurd (dite (ℕ_discrete k.0 id)
+      (λ same. none_some k.1 (sym (ap (lent_of actor) bare) ∙ (ap (list_for actor) (some-injective v has.0 (sym at ∙ (ap (get_elem? vs) (sym same)
+      ∙ has.1))) ∙ has.2)))
+      (λ other. none_some k.1 (sym ((others_bare k.0 has.0 other has.1).rest (unclaimed free k.0 has.0 has.1)).0 ∙ has.2)))
+    where
+      none_some : (l : Lent) → None ≡ Some l → ⊥
+      none_some l e = cc
+
+  -- an actor of which there is no home left has a claim out
+  pub is_out : v.list ≡ None → (x.ghost.holder ≢ None) ⊎ (x.ghost.keeper ≢ None) → got_by actor v ≡ back_by actor v + 1
+  is_out bare why = own_turns ∙ ap (λ k. back_by actor v + k) (one_out x.ghost.holder (λ free. ⊎_elim (λ h. h free) (λ k. k (no_list_out bare free
+      x.ghost.keeper f.lists)) why))
+
+  -- and one that nobody holds has none
+  pub is_back : x.ghost.holder ≡ None → got_by actor v ≡ back_by actor v
+  is_back free = own_turns ∙ (ap (λ h. back_by actor v + claims_out h) free ∙ plus_none (back_by actor v))
+
+  -- with no claim out, how many are waiting is what the seat itself counted
+  pub own_balance : IsOwnBalance actor (x.row Waiting) v
+  own_balance all back =
+      let free = none_out x.ghost.holder (no_more (back_by actor v) (claims_out x.ghost.holder) (sym back ∙ own_turns)) in
+      let on = total_alone (on_by actor) vs id v at (λ q u other there. (others_bare q u other there).on) in
+      let off = total_alone (off_by actor) vs id v at (λ q u other there. ((others_bare q u other there).rest (unclaimed free q u there)).1) in
+      ap (λ k. (x.row Waiting + k) % 2 ^ 64) (sym off) ∙ (f.balance ∙ ap (λ k. k % 2 ^ 64) on)
