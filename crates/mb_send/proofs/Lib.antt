@@ -1,0 +1,4 @@
+pub mod Posting
+pub mod Routes
+pub mod Answering
+pub mod Vouching

@@ -1,0 +1,66 @@
+-- The passes of a sender, after one of them pushed, or was refused.
+use Rattle.std.proofs.Common.{◌≡◌, ◌≢◌, ◌⊎◌, inl, inr, ℕ, zero, suc, ◌+◌, ◌-◌, ◌<◌, List, []}
+use Rattle.std.proofs.Common.{◌∷◌, ◌++◌, Option, Some, None, slice_get, slice_set, refl, sym, ap, ◌∙◌, subst, arith}
+use Rattle.std.proofs.lemmas.Option.{none-some, same_Some}
+use Rattle.mb_msg.specs.declared.envelope.Envelope.{Envelope}
+use Rattle.mb_msg.specs.declared.dead_letter.Why.{Why}
+use Rattle.mb_fates.specs.declared.posting.Posting.{Posting}
+use Rattle.mb_fates.specs.Accepted.{queued, to_actor}
+use Rattle.mb_queue.specs.Passes.{Sending}
+use Rattle.mb_send.specs.Posted.{posting}
+use Rattle.mb_send.specs.Sends.{AreRoutes, IsRoute}
+use Rattle.mb_wake.proofs.Bits.{same_or_other}
+use Rattle.mb_send.proofs.Posting.{route-more, route-other, route-dead}
+
+set-at : {A : Type 0} (xs : List A) (k : ℕ) (y s : A) → slice_get (slice_set xs k y) k ≡ Some s → s ≡ y
+set-at [] k y s e = absurd (none-some s e)
+set-at (x ∷ xs) zero y s e = sym (same_Some y s e)
+set-at (x ∷ xs) (suc k) y s e = set-at xs k y s e
+
+set-other : {A : Type 0} (xs : List A) (k i : ℕ) (y : A) → i ≢ k → slice_get (slice_set xs k y) i ≡ slice_get xs i
+set-other [] k i y ne = refl
+set-other (x ∷ xs) zero zero y ne = absurd (ne refl)
+set-other (x ∷ xs) zero (suc i) y ne = refl
+set-other (x ∷ xs) (suc k) zero y ne = refl
+set-other (x ∷ xs) (suc k) (suc i) y ne = set-other xs k i y (λ e. ne (ap suc e))
+
+module _ (by : ℕ) (ps : List Posting) (sends : List Sending) (routes : AreRoutes by ps sends) (k : ℕ) (old : Sending)
+    (there : slice_get sends k ≡ Some old) (e : Envelope) where
+  pub routes-more : (new : Sending) → new ≡ record old { pushed = old.pushed ++ e ∷ [] } → e.to.0 ≡ k + 1
+      → AreRoutes by (ps ++ posting e None ∷ []) (slice_set sends k new)
+  routes-more new is here i s at = by_place (same_or_other i k)
+    where
+      by_place : (i ≡ k) ⊎ (i ≢ k) → IsRoute by (i + 1) (ps ++ posting e None ∷ []) s
+      by_place (inl same) =
+          let route = routes k old there in
+          let found : s ≡ new = set-at sends k new s (subst (λ j. slice_get (slice_set sends k new) j ≡ Some s) same at) in
+          let now : s ≡ record old { pushed = old.pushed ++ e ∷ [] } = found ∙ is in
+          let one : k + 1 ≡ i + 1 = ap (λ n. n + 1) (sym same) in
+          record {
+            sender = ap (λ (t : Sending). t.by) now ∙ route.sender;
+            receiver = ap (λ (t : Sending). t.queue.to) now ∙ route.receiver ∙ one;
+            pushed = ap (λ (t : Sending). t.pushed) now ∙ ap (λ l. l ++ e ∷ []) route.pushed ∙ sym (route-more (k + 1) ps e here)
+                ∙ ap (λ n. to_actor n (queued (ps ++ posting e None ∷ []))) one;
+          }
+      by_place (inr other) =
+          let route = routes i s (sym (set-other sends k i new other) ∙ at) in
+          let apart : e.to.0 ≢ i + 1 = λ same. other (omega (arith, here, same)) in
+          record { sender = route.sender; receiver = route.receiver; pushed = route.pushed ∙ sym (route-other (i + 1) ps e apart) }
+
+  pub routes-dead : (new : Sending) (why : Why) → new ≡ old → AreRoutes by (ps ++ posting e (Some why) ∷ []) (slice_set sends k new)
+  routes-dead new why is i s at = by_place (same_or_other i k)
+    where
+      from : IsRoute by (i + 1) ps s → IsRoute by (i + 1) (ps ++ posting e (Some why) ∷ []) s
+      from route = record { sender = route.sender; receiver = route.receiver; pushed = route.pushed ∙ sym (route-dead (i + 1) ps e why) }
+
+      by_place : (i ≡ k) ⊎ (i ≢ k) → IsRoute by (i + 1) (ps ++ posting e (Some why) ∷ []) s
+      by_place (inl same) =
+          let found : s ≡ new = set-at sends k new s (subst (λ j. slice_get (slice_set sends k new) j ≡ Some s) same at) in
+          from (routes i s (subst (λ j. slice_get sends j ≡ Some s) (sym same) (there ∙ ap (λ t. Some t) (sym (found ∙ is)))))
+      by_place (inr other) = from (routes i s (sym (set-other sends k i new other) ∙ at))
+
+-- the passes stay as they are where nothing was pushed
+pub routes-buried : (by : ℕ) (ps : List Posting) (sends : List Sending) (e : Envelope) (why : Why) → AreRoutes by ps sends →
+    AreRoutes by (ps ++ posting e (Some why) ∷ []) sends
+routes-buried by ps sends e why routes i s at = let route = routes i s at in
+    record { sender = route.sender; receiver = route.receiver; pushed = route.pushed ∙ sym (route-dead (i + 1) ps e why) }

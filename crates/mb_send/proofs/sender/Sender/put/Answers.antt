@@ -1,0 +1,119 @@
+use Rattle.std.proofs.Common.{◌≡◌, ◌∙◌, ◌+◌, ◌-◌, ◌<◌, ◌++◌, [], ◌∷◌, ℕ, List}
+use Rattle.std.proofs.Common.{length, true, Some, None, refl, subst, sym, ap, slice_get, slice_set, arith}
+use Rattle.mb_msg.specs.declared.id.SenderId.{SenderId}
+use Rattle.std.proofs.lemmas.Option.{slice_get_read}
+use Rattle.mb_msg.specs.declared.envelope.Envelope.{Envelope}
+use Rattle.mb_fates.specs.declared.posting.Posting.{Posting}
+use Rattle.mb_send.specs.Answers.{counts, says}
+use Rattle.mb_send.specs.Posted.{envelope_of, posting}
+use Rattle.mb_send.specs.Sends.{AreRoutes}
+use Rattle.mb_gate.specs.Names.{known_by}
+use Rattle.mb_queue.specs.Passes.{Sending}
+use Rattle.mb_send.proofs.Answering.{why-told}
+use Rattle.mb_wake.proofs.Views.{does-then, does-sending, does-unsending}
+use Rattle.mb_send.proofs.Routes.{routes-more, routes-dead}
+use Rattle.mb_send.proofs.Vouching.{vouched-does, vouched-queued, vouched-dead, may-refuse}
+use Rattle.mb_send.specs.Vouched.{has_seen_closed, are_vouched}
+use Rattle.mb_fates.specs.Accepted.{dead_letters}
+use Rattle.mb_send.proofs.sender.Sender.put.Goals as goal
+
+pub returns-in-Ok-clause-sent : goal.returns-in-Ok-clause-sent
+returns-in-Ok-clause-sent g c =
+    let id = c.args.ticket.to.0 in
+    let items = c.args.self.now.sends.items in
+    let old = c.index_mut.result.now in
+    let lt : id - 1 < length items = omega (arith, c.requires.all, c.requires.there.0, c.requires.there.1) in
+    let a = known_by c.args.self.now.waker.pass in let b = known_by c.note_sent.new.pass in let d = known_by c.register.new.self.pass in
+    let body = c.args.body in let to = c.args.ticket.to in
+    let made = c.next-envelope.ensures ∙ (λ i. envelope_of (c.ready.ensures.same.0 i) to (c.ready.ensures.same.1 i) body) in
+    record {
+      pass = old;
+      there = slice_get_read items (length items) (id - 1) old refl lt c.index_mut.ensures.value;
+      refused = None;
+      why = tt;
+      answer = ap (λ n. says n None) c.ready.ensures.same.1;
+      posted_is = c.post_queued.ensures.posted ∙ (λ i. c.ready.ensures.same.3 i ++ posting (made i) None ∷ []);
+      counted = does-then id (counts id None) [] a b d (does-sending id a b c.note_sent.ensures.known) c.register.ensures.looks;
+    }
+
+pub returns-in-Err-clause-sent : goal.returns-in-Err-clause-sent
+returns-in-Err-clause-sent g c =
+    let id = c.args.ticket.to.0 in
+    let items = c.args.self.now.sends.items in
+    let old = c.index_mut.result.now in
+    let why = c.why_of-why.result in
+    let lt : id - 1 < length items = omega (arith, c.requires.all, c.requires.there.0, c.requires.there.1) in
+    let a = known_by c.args.self.now.waker.pass in let b = known_by c.note_sent.new.pass in
+    let d = known_by c.note_unsent.new.pass in let e = known_by c.register-in-Err.new.self.pass in
+    let body = c.args.body in let to = c.args.ticket.to in
+    let made = c.next-envelope.ensures ∙ (λ i. envelope_of (c.ready.ensures.same.0 i) to (c.ready.ensures.same.1 i) body) in
+    record {
+      pass = old;
+      there = slice_get_read items (length items) (id - 1) old refl lt c.index_mut.ensures.value;
+      refused = Some why;
+      why = why-told old c.in-Err.refused why c.in-Err.ensures.refused c.why_of-why.ensures;
+      answer = ap (λ n. says n (Some why)) c.ready.ensures.same.1;
+      posted_is = c.post_dead.ensures.posted ∙ (λ i. c.ready.ensures.same.3 i ++ posting (made i) (Some why) ∷ []);
+      counted = does-then id (counts id (Some why)) [] a d e (does-unsending id a b d c.note_sent.ensures.known c.note_unsent.ensures.known)
+          c.register-in-Err.ensures.looks;
+    }
+
+pub invariant_of-self-in-Ok : goal.invariant_of-self-in-Ok
+invariant_of-self-in-Ok g c =
+    let book = c.args.self.now.book in
+    let items = c.args.self.now.sends.items in
+    let to = c.args.ticket.to.0 in
+    let k = to - 1 in
+    let old = c.index_mut.result.now in
+    let e = c.next-envelope.result in
+    let lt : k < length items = omega (arith, c.requires.all, c.requires.there.0, c.requires.there.1) in
+    let before = c.args.self.now.waker.pass in
+    let counted = c.note_sent.new.pass in
+    let after = c.register.new.self.pass in
+    let there = slice_get_read items (length items) k old refl lt c.index_mut.ensures.value in
+    let here : e.to.0 ≡ k + 1 = ap (λ (x : Envelope). x.to.0) c.next-envelope.ensures ∙ omega (arith, c.requires.there.0) in
+    let p = c.post_queued.ensures.posted ∙ ap (λ (l : List Posting). l ++ posting e None ∷ []) c.ready.ensures.same.3 in
+    let q = ap (λ (s : SenderId). s.0) (c.post_queued.ensures.by ∙ c.ready.ensures.same.0) in
+    let qs = sym q in
+    let ps = sym p in
+    record {
+      routes = subst (λ (y : ℕ × List Posting). AreRoutes y.0 y.1 (slice_set items k c.push.new.self)) (λ i. (qs i, ps i))
+          (routes-more book.by.0 book.posted items c.args.self.now.routes k old there e c.push.new.self c.in-Ok.ensures.pushed here);
+      vouched = subst (λ (l : List Posting). are_vouched (known_by after).log (dead_letters l) ≡ true) ps
+          (vouched-queued (known_by after).log book.posted e
+          (vouched-does to (counts to None) [] (known_by before) (known_by after) (dead_letters book.posted)
+          (does-then to (counts to None) [] (known_by before) (known_by counted) (known_by after)
+          (does-sending to (known_by before) (known_by counted) c.note_sent.ensures.known) c.register.ensures.looks)
+          c.args.self.now.vouched));
+    }
+
+pub invariant_of-self-in-Err : goal.invariant_of-self-in-Err
+invariant_of-self-in-Err g c =
+    let book = c.args.self.now.book in
+    let items = c.args.self.now.sends.items in
+    let to = c.args.ticket.to.0 in
+    let k = to - 1 in
+    let old = c.index_mut.result.now in
+    let e = c.next-envelope.result in
+    let why = c.why_of-why.result in
+    let lt : k < length items = omega (arith, c.requires.all, c.requires.there.0, c.requires.there.1) in
+    let before = c.args.self.now.waker.pass in
+    let counted = c.note_sent.new.pass in
+    let back = c.note_unsent.new.pass in
+    let after = c.register-in-Err.new.self.pass in
+    let there = slice_get_read items (length items) k old refl lt c.index_mut.ensures.value in
+    let p = c.post_dead.ensures.posted ∙ ap (λ (l : List Posting). l ++ posting e (Some why) ∷ []) c.ready.ensures.same.3 in
+    let q = ap (λ (s : SenderId). s.0) (c.post_dead.ensures.by ∙ c.ready.ensures.same.0) in
+    let qs = sym q in
+    let ps = sym p in
+    record {
+      routes = subst (λ (y : ℕ × List Posting). AreRoutes y.0 y.1 (slice_set items k c.push.new.self)) (λ i. (qs i, ps i))
+          (routes-dead book.by.0 book.posted items c.args.self.now.routes k old there e c.push.new.self why c.in-Err.ensures.pushed.1);
+      vouched = subst (λ (l : List Posting). are_vouched (known_by after).log (dead_letters l) ≡ true) ps
+          (vouched-dead (known_by after).log book.posted e why (may-refuse (has_seen_closed (known_by after).log e.to.0) c.in-Err.refused why
+          c.why_of-why.ensures)
+          (vouched-does to (counts to (Some why)) [] (known_by before) (known_by after) (dead_letters book.posted)
+          (does-then to (counts to (Some why)) [] (known_by before) (known_by back) (known_by after)
+          (does-unsending to (known_by before) (known_by counted) (known_by back) c.note_sent.ensures.known c.note_unsent.ensures.known)
+          c.register-in-Err.ensures.looks) c.args.self.now.vouched));
+    }

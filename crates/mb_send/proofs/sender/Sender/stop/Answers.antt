@@ -1,0 +1,35 @@
+use Rattle.std.proofs.Common.{◌≡◌, [], true, sym, subst}
+use Rattle.mb_gate.specs.Named.{NamesBelow}
+use Rattle.mb_gate.specs.Names.{actors_of, known_by}
+use Rattle.mb_gate.specs.View.{View, Pushed}
+use Rattle.mb_fates.specs.Accepted.{dead_letters}
+use Rattle.mb_send.specs.Vouched.{are_vouched}
+use Rattle.mb_send.proofs.Vouching.{vouched-seen, vouched-does}
+use Rattle.mb_send.proofs.sender.Sender.stop.Goals as goal
+
+pub sys_enqueue-requires-clause-named : goal.sys_enqueue-requires-clause-named
+sys_enqueue-requires-clause-named g c = subst (NamesBelow (actors_of c.args.gates.now)) (sym c.in-Ok.ensures) tt
+
+pub invariant_of-self : goal.invariant_of-self
+invariant_of-self g c =
+    let old = c.args.self.now in
+    let dead = dead_letters old.book.posted in
+    let said = subst (λ (v : View). are_vouched v.log dead ≡ true) (sym c.in_default-sys_enqueue.ensures.ended.1) old.vouched in
+    record {
+      routes = old.routes;
+      vouched = vouched-does c.args.id.0 [] [] (known_by c.sys_enqueue.new.pass) (known_by c.register.new.self.pass) dead
+          c.register.ensures.looks said;
+    }
+
+pub invariant_of-self-2 : goal.invariant_of-self-2
+invariant_of-self-2 g c =
+    let old = c.args.self.now in
+    let dead = dead_letters old.book.posted in
+    let pushed = Pushed c.args.id.0 c.in-Ok-sys_enqueue.field-0 c.in-Ok.node in
+    let listed = subst (λ (v : View). are_vouched v.log dead ≡ true) (sym c.in-Ok-sys_enqueue.ensures.listed)
+    (vouched-seen pushed (known_by old.waker.pass).log dead old.vouched) in
+    record {
+      routes = old.routes;
+      vouched = vouched-does c.args.id.0 [] [] (known_by c.sys_enqueue.new.pass) (known_by c.register-2.new.self.pass) dead
+          c.register-2.ensures.looks listed;
+    }

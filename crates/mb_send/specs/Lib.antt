@@ -1,0 +1,4 @@
+pub mod Posted
+pub mod Sends
+pub mod Vouched
+pub mod Answers

@@ -1,0 +1,10 @@
+use mb_msg::Why;
+
+/// What became of an envelope that was sent.
+#[derive(Clone, Copy, Debug, PartialEq, Eq)]
+pub enum Put {
+    /// It waits in the receiver's queue; its number.
+    Queued(u64),
+    /// It is a dead letter; its number, and why.
+    Dead(u64, Why),
+}

@@ -1,0 +1,18 @@
+use mb_msg::ActorId;
+
+/// That a receiver was seen open. It may be used again, also once the receiver has ended: what is sent by it then stays
+/// queued (this project's own profile).
+#[derive(Clone, Copy, Debug, PartialEq, Eq)]
+pub struct Ticket {
+    /// The receiver.
+    pub to: ActorId,
+}
+
+/// How a receiver was seen.
+#[derive(Clone, Copy, Debug, PartialEq, Eq)]
+pub enum Look {
+    /// Its mailbox was open.
+    Open(Ticket),
+    /// It was closed, which is for good.
+    Closed,
+}

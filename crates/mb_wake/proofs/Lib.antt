@@ -1,0 +1,5 @@
+pub mod Views
+pub mod AtHome
+pub mod Debts
+pub mod Bits
+pub mod Pays

@@ -1,0 +1,103 @@
+-- Those that are owed a look are paid one after another.
+use Rattle.std.proofs.Common.{◌≡◌, ◌≢◌, ◌⊎◌, inl, inr, ℕ, ◌+◌, ◌<◌, ◌≤◌, Bool, true, false, List, [], ◌∷◌, ◌++◌}
+use Rattle.std.proofs.Common.{refl, sym, ap, ◌∙◌, subst, arith, append_assoc, append-nil}
+use Rattle.std.proofs.lemmas.Bool.{cases_lt}
+use Rattle.mb_core.specs.Actor.{nothing}
+use Rattle.mb_rule.proofs.SeenLemmas.{each_append, each_weaker}
+use Rattle.mb_gate.specs.View.{View, Sight, owes}
+use Rattle.mb_wake.specs.declared.owed.Owed.{Owed}
+use Rattle.mb_wake.specs.Owed.{is_owed}
+use Rattle.mb_wake.specs.Views.{LooksAfter, LooksAmong, IsLook}
+use Rattle.mb_wake.proofs.Bits.{same_or_other}
+
+true_or_false : (b : Bool) → (b ≡ true) ⊎ (b ≡ false)
+true_or_false true = inl refl
+true_or_false false = inr refl
+
+never-both : {A : Type 0} (b : Bool) → b ≡ true → b ≡ false → A
+never-both b a c = let e : true ≡ false = sym a ∙ c in absurd (cc)
+
+module _ (among : ℕ → Bool) where
+  pub among-none : (v : View) → LooksAmong among v v
+  among-none v = record { looks = []; only = tt; log = refl; said = refl; others = λ other out. refl }
+
+  -- one more actor of the set
+  among-then : (id : ℕ) (u v w : View) → among id ≡ true → LooksAmong among u v → LooksAfter id v w → LooksAmong among u w
+  among-then id u v w in_set a b = record {
+    looks = b.looks ++ a.looks;
+    only = each_append (λ (s : Sight). (i : ℕ) × (among i ≡ true) × IsLook i s) b.looks a.looks
+        (each_weaker (IsLook id) (λ (s : Sight). (i : ℕ) × (among i ≡ true) × IsLook i s) b.looks (λ s is. (id, in_set, is)) b.only) a.only;
+    log = b.log ∙ ap (λ l. (b.looks ++ []) ++ l) a.log ∙ ap (λ l. l ++ (a.looks ++ u.log)) (append-nil b.looks)
+        ∙ sym (append_assoc b.looks a.looks u.log);
+    said = b.said ∙ a.said;
+    others = λ other out. b.others other (λ same. never-both (among other) (ap among same ∙ in_set) out) ∙ a.others other out;
+  }
+
+  -- an actor that is looked at only if it is in the set
+  pub among-on : (id : ℕ) (u v w : View) → LooksAmong among u v → (among id ≡ false → w ≡ v) → LooksAfter id v w → LooksAmong among u w
+  among-on id u v w a out looks = by_case (true_or_false (among id))
+    where
+      by_case : (among id ≡ true) ⊎ (among id ≡ false) → LooksAmong among u w
+      by_case (inl in_set) = among-then id u v w in_set a looks
+      by_case (inr not_in) = subst (LooksAmong among u) (sym (out not_in)) a
+
+-- all below this number are paid, and the others are owed what they were
+pub record IsPaidBelow (n : ℕ) (before now : Owed) (old new : View) : Type 0 where
+  pub looks : LooksAmong (is_owed before) old new
+  pub done : (id : ℕ) → id < n → is_owed now id ≡ false
+  pub paid : (id : ℕ) → id < n → is_owed before id ≡ true → owes id new ≡ nothing
+  pub later : (id : ℕ) → n ≤ id → id < 64 → is_owed now id ≡ is_owed before id
+
+pub paid-none : (owed : Owed) (v : View) → IsPaidBelow 0 owed owed v v
+paid-none owed v = record {
+  looks = among-none (is_owed owed) v;
+  done = λ id below. absurd (omega (arith, below));
+  paid = λ id below. absurd (omega (arith, below));
+  later = λ id from few. refl;
+}
+
+module _ (n : ℕ) (before mid now : Owed) (u v w : View) (few : n < 64) (p : IsPaidBelow n before mid u v)
+    (none : is_owed mid n ≡ false → (now ≡ mid) × (w ≡ v)) (looks : LooksAfter n v w)
+    (others : (other : ℕ) → other < 64 → other ≢ n → is_owed now other ≡ is_owed mid other) where
+  at : is_owed mid n ≡ is_owed before n
+  at = p.later n (omega arith) few
+
+  pub looked-on : LooksAmong (is_owed before) u w
+  looked-on = among-on (is_owed before) n u v w p.looks (λ out. (none (at ∙ out)).1) looks
+
+  pub no-more : (id : ℕ) → id < 64 → is_owed before id ≡ false → is_owed now id ≡ false
+  no-more id small out = by_place (same_or_other id n)
+    where
+      was_out : is_owed mid id ≡ false
+      was_out = by_order (cases_lt id n)
+        where
+          by_order : (id < n) ⊎ (n ≤ id) → is_owed mid id ≡ false
+          by_order (inl below) = p.done id below
+          by_order (inr from) = p.later id from small ∙ out
+
+      by_place : (id ≡ n) ⊎ (id ≢ n) → is_owed now id ≡ false
+      by_place (inl same) =
+          let miss : is_owed mid n ≡ false = ap (is_owed mid) (sym same) ∙ was_out in
+          ap (λ o. is_owed o id) (none miss).0 ∙ was_out
+      by_place (inr other) = others id small other ∙ was_out
+
+  pub paid-next : is_owed now n ≡ false → (is_owed mid n ≡ true → (owes n w ≡ nothing) ⊎ (is_owed now n ≡ true)) →
+      IsPaidBelow (n + 1) before now u w
+  paid-next gone pays = record {
+    looks = looked-on;
+    done = λ id below. done_at id below (same_or_other id n);
+    paid = λ id below owed. paid_at id below owed (same_or_other id n);
+    later = λ id from small. others id small (λ same. omega (arith, same, from)) ∙ p.later id (omega (arith, from)) small;
+  }
+    where
+      done_at : (id : ℕ) → id < n + 1 → (id ≡ n) ⊎ (id ≢ n) → is_owed now id ≡ false
+      done_at id below (inl same) = ap (is_owed now) same ∙ gone
+      done_at id below (inr other) = others id (omega (arith, below, few)) other ∙ p.done id (omega (arith, below, other))
+
+      settled : (owes n w ≡ nothing) ⊎ (is_owed now n ≡ true) → owes n w ≡ nothing
+      settled (inl nothing_more) = nothing_more
+      settled (inr still) = never-both (is_owed now n) still gone
+
+      paid_at : (id : ℕ) → id < n + 1 → is_owed before id ≡ true → (id ≡ n) ⊎ (id ≢ n) → owes id w ≡ nothing
+      paid_at id below owed (inl same) = ap (λ i. owes i w) same ∙ settled (pays (at ∙ ap (is_owed before) (sym same) ∙ owed))
+      paid_at id below owed (inr other) = looks.others id other ∙ p.paid id (omega (arith, below, other)) owed

@@ -1,0 +1,34 @@
+use Rattle.std.proofs.Common.{◌≡◌, subst, sym, ap, ◌∙◌}
+use Rattle.mb_status.specs.Mailbox.{word_of, mailbox_of}
+use Rattle.mb_gate.specs.Names.{known_by}
+use Rattle.mb_gate.specs.View.{owes, seeing, Read}
+use Rattle.mb_core.specs.Run.{after_reading}
+use Rattle.mb_wake.specs.Views.{LooksAfter}
+use Rattle.mb_wake.proofs.Views.{looks-reading, looks-then, owes-same}
+use Rattle.mb_wake.proofs.Debts.{paid}
+use Rattle.mb_wake.proofs.due.is_due.Goals as goal
+
+pub returns-clause-looks : goal.returns-clause-looks
+returns-clause-looks g c =
+    let id = c.args.id.0 in
+    let a = known_by c.args.pass.now in
+    let b = known_by c.status-status.new.pass in
+    let d = known_by c.has_system-system.new.pass in
+    let e = known_by c.has_messages-messages.new.pass in
+    let read = subst (LooksAfter id a) (sym c.status-status.ensures.known) (looks-reading id (word_of c.status-status.result) a) in
+    looks-then id a b e read (looks-then id b d e c.has_system-system.ensures.looks c.has_messages-messages.ensures.looks)
+
+pub returns-clause-paid : goal.returns-clause-paid
+returns-clause-paid g c idle =
+    let id = c.args.id.0 in
+    let a = known_by c.args.pass.now in
+    let b = known_by c.status-status.new.pass in
+    let d = known_by c.has_system-system.new.pass in
+    let e = known_by c.has_messages-messages.new.pass in
+    let status = c.status-status.result in
+    let read : owes id b ≡ after_reading (mailbox_of (word_of status)) (owes id a) =
+    ap (owes id) c.status-status.ensures.known ∙ owes-same id (after_reading (mailbox_of (word_of status)) (owes id a)) (seeing (Read id
+    (word_of status)) a) in
+    paid status c.has_messages-messages.result c.has_system-system.result (owes id a) (owes id b) (owes id d) (owes id e) read
+    c.has_system-system.ensures.some c.has_system-system.ensures.none c.has_messages-messages.ensures.some c.has_messages-messages.ensures.none
+    (sym c.can_schedule.ensures ∙ idle)

@@ -1,0 +1,41 @@
+use Rattle.std.proofs.Common.{◌≡◌, refl, sym, ap, ◌∙◌}
+use Rattle.mb_status.specs.Mailbox.{word_of}
+use Rattle.mb_gate.specs.Claims.{held_in}
+use Rattle.mb_gate.specs.Names.{known_by, known_of, held_actor, status_of, gave_last, taken_with, closed_with, recorded_by}
+use Rattle.mb_gate.specs.View.{View, taking_in}
+use Rattle.mb_wake.proofs.AtHome.{extends-same, shut-same, told-nothing, rest-open}
+use Rattle.mb_wake.proofs.Views.{looks-back}
+use Rattle.mb_wake.proofs.untouched.give_home.Goals as goal
+
+pub release-requires-clause-longer : goal.release-requires-clause-longer
+release-requires-clause-longer g c =
+    let claim = c.args.claim in
+    extends-same (g.H.Resident.journal claim.home) (taken_with claim) (ap (λ (v : View). (held_in v).journal) c.requires.untouched.known)
+
+pub release-requires-clause-count : goal.release-requires-clause-count
+release-requires-clause-count g c = sym (ap (λ (v : View). (held_in v).given) c.requires.untouched.known)
+
+pub release-requires-clause-shut : goal.release-requires-clause-shut
+release-requires-clause-shut g c =
+    let claim = c.args.claim in
+    shut-same (g.H.Resident.closed_to claim.home) (closed_with claim) (taking_in (known_of claim) (known_by c.args.pass.now))
+    (ap (λ (v : View). (held_in v).closed_to) c.requires.untouched.known)
+
+pub release-requires-clause-told : goal.release-requires-clause-told
+release-requires-clause-told g c =
+    let claim = c.args.claim in
+    told-nothing (g.H.Resident.who claim.home) (held_actor claim) (status_of claim).closed (g.H.Resident.journal claim.home) (taken_with claim)
+    (recorded_by claim) (ap (λ (v : View). (held_in v).journal) c.requires.untouched.known) c.requires.untouched.recorded
+
+pub release-requires-clause-rest : goal.release-requires-clause-rest
+release-requires-clause-rest g c =
+    let claim = c.args.claim in
+    rest-open (status_of claim).closed (gave_last claim) (g.H.Resident.rested claim.home) c.requires.untouched.open_yet c.requires.untouched.rest
+
+pub returns-clause-looks : goal.returns-clause-looks
+returns-clause-looks g c =
+    let claim = c.args.claim in
+    let home = claim.home in
+    looks-back (held_actor claim) (g.H.Resident.journal home) (g.H.Resident.journal home) (g.H.Resident.closed_to home) (word_of (status_of claim))
+    (gave_last claim) (g.H.Resident.given home) (held_actor claim) (known_by c.args.pass.now) (known_of claim) (known_by c.release.new.pass) refl
+    c.requires.untouched.known c.release.ensures.known

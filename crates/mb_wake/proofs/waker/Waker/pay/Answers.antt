@@ -1,0 +1,27 @@
+use Rattle.std.proofs.Common.{◌≡◌, ◌<◌, ap, ◌∙◌, arith}
+use Rattle.mb_gate.specs.Names.{known_by}
+use Rattle.mb_wake.specs.declared.waker.Waker.{Waker}
+use Rattle.mb_wake.proofs.Pays.{looked-on, paid-next}
+use Rattle.mb_wake.proofs.waker.Waker.pay.Goals as goal
+
+pub returns-in_err-pay_one-clause-looks : goal.returns-in_err-pay_one-clause-looks
+returns-in_err-pay_one-clause-looks g c =
+    let old = c.args.self.now in let mid = c.loop-number.self in let now = c.pay_one.new.self in
+    let n = c.loop-number.number in
+    let few : n < 64 = omega (arith, c.loop-number-test.true) in
+    let paid = c.pay_one.ensures in
+    looked-on n old.owed mid.owed now.owed (known_by old.pass) (known_by mid.pass) (known_by now.pass) few c.loop-number.invariant.2
+    (λ out. (ap (λ (w : Waker _ _). w.owed) (paid.none out), ap (λ (w : Waker _ _). known_by w.pass) (paid.none out))) paid.looks paid.others
+
+pub loop-number-preserved : goal.loop-number-preserved
+loop-number-preserved g c =
+    let old = c.args.self.now in let mid = c.loop-number.self in let now = c.pay_one.new.self in
+    let n = c.loop-number.number in
+    let few : n < 64 = omega (arith, c.loop-number-test.true) in
+    let paid = c.pay_one.ensures in (
+      paid.ours.0 ∙ c.loop-number.invariant.0,
+      paid.ours.1 ∙ c.loop-number.invariant.1,
+      paid-next n old.owed mid.owed now.owed (known_by old.pass) (known_by mid.pass) (known_by now.pass) few c.loop-number.invariant.2
+          (λ out. (ap (λ (w : Waker _ _). w.owed) (paid.none out), ap (λ (w : Waker _ _). known_by w.pass) (paid.none out))) paid.looks paid.others
+          c.in_ok-pay_one.ensures.done paid.paid,
+    )

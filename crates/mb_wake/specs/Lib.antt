@@ -1,0 +1,3 @@
+pub mod Owed
+pub mod Views
+pub mod Waking

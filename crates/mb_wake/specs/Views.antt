@@ -1,0 +1,39 @@
+-- What a caller's pass knows before and after it did something at one actor.
+use Rattle.std.specs.Prelude.{◌≡◌, ◌≢◌, ℕ, Bool, true, false, List, [], ◌++◌}
+use Rattle.mb_rule.specs.Seen.{Each}
+use Rattle.mb_gate.specs.View.{View, Said, owes}
+use Rattle.mb_gate.specs.View.{Sight, Read, Saw, Counted, Looked, Sent, Unsent, Took, Pushed, Drained, Ended}
+
+-- it was looked at this actor, and nothing was done there
+abbrev pub IsLook : ℕ → Sight → Type 0
+IsLook id (Read a word) = a ≡ id
+IsLook id (Saw a journal) = a ≡ id
+IsLook id (Counted a waiting) = a ≡ id
+IsLook id (Looked a has_work) = a ≡ id
+IsLook id (Sent a n) = ⊥
+IsLook id (Unsent a n) = ⊥
+IsLook id (Took a n) = ⊥
+IsLook id (Pushed a number message) = ⊥
+IsLook id (Drained a given) = ⊥
+IsLook id (Ended a given) = ⊥
+
+-- It did this at the actor, and said this, the newest first; then it looked there, as often as it liked; and it owes every other actor
+-- what it owed before.
+pub record Does (id : ℕ) (did : List Sight) (told : List Said) (old new : View) : Type 0 where
+  pub looks : List Sight
+  pub only : Each (IsLook id) looks
+  pub log : new.log ≡ looks ++ did ++ old.log
+  pub said : new.said ≡ told ++ old.said
+  pub others : (other : ℕ) → other ≢ id → owes other new ≡ owes other old
+
+-- it looked, and did nothing
+abbrev pub LooksAfter : ℕ → View → View → Type 0
+LooksAfter id = Does id [] []
+
+-- It looked at actors of a set, as often as it liked, and did nothing; and it owes every actor outside of the set what it owed before.
+pub record LooksAmong (among : ℕ → Bool) (old new : View) : Type 0 where
+  pub looks : List Sight
+  pub only : Each (λ (s : Sight). (id : ℕ) × (among id ≡ true) × IsLook id s) looks
+  pub log : new.log ≡ looks ++ old.log
+  pub said : new.said ≡ old.said
+  pub others : (other : ℕ) → among other ≡ false → owes other new ≡ owes other old

@@ -1,0 +1,37 @@
+-- What a caller does who wakes an actor (`Dispatcher.registerForExecution`).
+use Rattle.std.specs.Prelude.{◌≡◌, ℕ, ◌==◌, ◌||◌, ◌⊎◌, Bool, MatchBool, List, [], ◌∷◌, ◌++◌}
+use Rattle.mb_gate.specs.declared.claim.Claim.{Claim}
+use Rattle.mb_gate.specs.Names.{held_actor}
+use Rattle.mb_wake.specs.declared.owed.Owed.{Owed}
+use Rattle.mb_wake.specs.Owed.{is_owed}
+
+-- what went into the pool by a caller's way, what the pool refused of it, and whom the caller owes a look since
+pub record Account (H : Type 0) : Type 0 where
+  pub pushed : List (Claim H)
+  pub refused : List (Claim H)
+  pub owed : Owed
+
+module _ {H : Type 0} (id : ℕ) (old new : Account H) where
+  -- the claim of this actor went to the pool
+  pub record Went : Type 0 where
+    pub claim : Claim H
+    pub of : held_actor claim ≡ id
+    pub pushed : new.pushed ≡ old.pushed ++ claim ∷ []
+    pub refused : new.refused ≡ old.refused
+    pub owed : new.owed ≡ old.owed
+
+  -- the pool refused the claim of this actor, which is owed a look from then on
+  pub record WasRefused : Type 0 where
+    pub claim : Claim H
+    pub of : held_actor claim ≡ id
+    pub pushed : new.pushed ≡ old.pushed
+    pub refused : new.refused ≡ old.refused ++ claim ∷ []
+    pub owed : (other : ℕ) → is_owed new.owed other ≡ (other == id || is_owed old.owed other)
+
+  -- no claim was to be had, or none was wanted
+  abbrev pub AsBefore : Type 0
+  AsBefore = new ≡ old
+
+  -- whether the actor's claim went to the pool
+  abbrev pub IsWoken : Bool → Type 0
+  IsWoken result = MatchBool result Went (AsBefore ⊎ WasRefused)
