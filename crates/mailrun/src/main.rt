@@ -1,24 +1,13 @@
 //! `mailrun`: reads a scenario, runs its actors, and prints the report.
 #![tactic(auto)]
 
-mod answer;
 mod arguments;
-mod drive;
-mod failure;
-mod input;
-mod mailbox;
-mod reporting;
-mod run;
-mod scope;
-mod start;
 #[cfg(test)]
 mod tests;
-mod watched;
 
 use arguments::argument_count;
-use drive::run_program;
+use mb_program::{Watched, run_program};
 use std::process::ExitCode;
-use watched::Watched;
 
 fn main(rt: HostRuntime) -> ExitCode {
     ExitCode::from(run_program(

@@ -3,20 +3,16 @@
 ghost use Rattle.std.specs.Prelude.{◌≡◌, [], true};
 ghost use Rattle.std.specs.List.{list_all};
 ghost use Rattle.mb_actor.specs.Behaviour.{AllowsSame};
-ghost use Rattle.mailrun.specs.Calm.{IsQuiet};
-ghost use Rattle.mailrun.specs.Scope.{is_plain_send};
+ghost use Rattle.mb_run.specs.Calm.{IsQuiet};
+ghost use Rattle.mb_run.specs.Plain.{is_plain_send};
 
 use crate::arguments::argument_count;
-use crate::drive::run_program;
-use crate::mailbox::run_mailbox;
-use crate::run::post_of;
-use crate::scope::{adds_alone, are_plain_sends};
-use crate::start::start;
-use crate::watched::Watched;
 use mb_actor::{Actor, Behaviours};
 use mb_journal::{ReadyError, Strategy};
 use mb_msg::{ActorId, Body};
+use mb_program::{Watched, adds_alone, are_plain_sends, run_program};
 use mb_reader::{Sending, What};
+use mb_run::{post_of, run_mailbox, start};
 use mb_script::{Hooks, Operation, Row, Script};
 use std::alloc::Global;
 use std::env::{Env, FillError};

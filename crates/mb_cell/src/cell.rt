@@ -207,6 +207,7 @@ impl<A: Actor, K: Behaviours> Cell<A, K> {
     /// The actor's content as one number; `None` for the guardian, which has no actor.
     pub fn state(&self) -> Option<i64>
         ensures guardian { IfNone result (is_guardian self.now.who ≡ true) }
+        ensures an_actor { IfSome result (λ z. is_guardian self.now.who ≡ false) }
         ensures content { IfSome result (λ z. z ≡ K.after self.now.who.this.0 (messages self.now.who self.now.journal)) }
     {
         match &self.actor {

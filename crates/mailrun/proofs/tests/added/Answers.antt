@@ -1,6 +1,6 @@
 use Rattle.std.proofs.Common.{◌≡◌, true, sym, ◌∙◌, arith}
 use Rattle.std.proofs.lemmas.Grind.{common_steps}
-use Rattle.mailrun.proofs.ScriptLemmas.{quiet_script}
+use Rattle.mb_program.proofs.ScriptLemmas.{quiet_script}
 use Rattle.mailrun.proofs.tests.added.Goals as goal
 
 pub runs_alone-requires-clause-quiet : goal.runs_alone-requires-clause-quiet

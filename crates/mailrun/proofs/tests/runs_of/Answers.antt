@@ -1,7 +1,7 @@
 use Rattle.std.proofs.Common.{◌≡◌, ℕ, ap, sym, subst}
 use Rattle.mb_journal.specs.Identity.{Identity}
-use Rattle.mailrun.specs.Calm.{IsQuiet}
-use Rattle.mailrun.proofs.Starting.{begun_rest}
+use Rattle.mb_run.specs.Calm.{IsQuiet}
+use Rattle.mb_run.proofs.Starting.{begun_rest}
 use Rattle.mailrun.proofs.tests.runs_of.Goals as goal
 
 pub loop-init : goal.loop-init

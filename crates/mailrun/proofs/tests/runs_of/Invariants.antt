@@ -1,5 +1,5 @@
 use Rattle.std.proofs.Common.{◌≡◌}
-use Rattle.mailrun.specs.Rest.{IsAtRest, world}
+use Rattle.mb_run.specs.Rest.{IsAtRest, world}
 use Rattle.mailrun.proofs.tests.runs_of.Given as goal
 
 abbrev pub invariant-loop : goal.invariant-loop

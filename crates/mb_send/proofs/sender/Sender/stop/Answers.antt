@@ -27,7 +27,7 @@ invariant_of-self-2 g c =
     let dead = dead_letters old.book.posted in
     let pushed = Pushed c.args.id.0 c.in-Ok-sys_enqueue.field-0 c.in-Ok.node in
     let listed = subst (λ (v : View). are_vouched v.log dead ≡ true) (sym c.in-Ok-sys_enqueue.ensures.listed)
-            (vouched-seen pushed (known_by old.waker.pass).log dead old.vouched) in
+    (vouched-seen pushed (known_by old.waker.pass).log dead old.vouched) in
     record {
       routes = old.routes;
       vouched = vouched-does c.args.id.0 [] [] (known_by c.sys_enqueue.new.pass) (known_by c.register-2.new.self.pass) dead

@@ -1,0 +1,11 @@
+use Rattle.std.proofs.Common.{arith, ℕ, length-take}
+use Rattle.mb_program.proofs.InputLemmas.{read_in_full, read_to_the_end}
+use Rattle.mb_program.proofs.input.read_input.Goals as goal
+
+pub returns-then-count-eq0-clause-text : goal.returns-then-count-eq0-clause-text
+returns-then-count-eq0-clause-text g c =
+    read_to_the_end _ _ _ _ _ 1048577 _ c.loop-chunk.invariant.read c.in-Ok.ensures.bytes.0 c.if-count-eq0.true
+    (c.in-Ok.ensures.bytes.1 c.if-count-eq0.true (omega (arith, length-take {A = ℕ}))) (omega arith)
+
+pub returns-clause-text : goal.returns-clause-text
+returns-clause-text g c = read_in_full _ _ _ 1048577 c.loop-chunk.invariant.read (omega arith)

@@ -1,0 +1,98 @@
+-- What the program makes of its input (this project's own profile).
+use Rattle.std.specs.Prelude.{◌≡◌, ℕ, ◌<◌, Bool, true, false, IsTrue, ◌⊎◌, List, take, Option, IfSome}
+use Rattle.std.specs.Io.KnownBytes.{Appends, Keeps}
+use Rattle.mb_reader.specs.Plans.{ScenarioData}
+use Rattle.mb_reader.specs.Reading.{IsReadAs, Refuses}
+use Rattle.mb_reader.specs.declared.fault.Fault.TheVariants.{NoMemory, NotToml, BadScenario}
+use Rattle.mb_report.specs.Lines.{report_text_of}
+use Rattle.mb_report.specs.declared.report.Report.{Report}
+use Rattle.mb_program.specs.Failure.{status_of}
+use Rattle.mb_program.specs.Outcome.{report_of}
+use Rattle.mb_program.specs.Scope.{can_run}
+use Rattle.mb_program.specs.Ran.{HasRun}
+use Rattle.mb_program.specs.Written.{AppendsBeginning}
+use Rattle.mb_program.specs.declared.failure.Failure.{Failure}
+use Rattle.mb_program.specs.declared.failure.Failure.TheVariants.{Os, Arguments, NotYet, Input}
+
+-- how many bytes of the input are read at most: one more than a scenario may have
+abbrev pub most_read : ℕ
+most_read = 1048577
+
+-- this text was read: where it is known which bytes the reader has, the first of them, as many as are read at most
+abbrev pub IsRead : Option (List ℕ) → List ℕ → Type 0
+IsRead known text = IfSome known (λ input. text ≡ take most_read input)
+
+-- these bytes are the text of the report of a run of the scenario, which says that all that was sent was handled
+pub record IsOutcome (scenario : ScenarioData) (bytes : List ℕ) : Type 0 where
+  pub report : Report
+  pub ran : HasRun scenario report
+  pub text : bytes ≡ report_text_of scenario.names report
+  pub all_handled : bytes ≡ report_of scenario
+
+-- the text is a scenario that can be run, and this is its report
+abbrev pub IsReport : List ℕ → List ℕ → Type 0
+IsReport text report = (scenario : ScenarioData) × IsReadAs text scenario × (can_run scenario ≡ true) × IsOutcome scenario report
+
+-- the text is a scenario that cannot be run today
+abbrev pub IsNotYet : List ℕ → Type 0
+IsNotYet text = (scenario : ScenarioData) × IsReadAs text scenario × (can_run scenario ≡ false)
+
+-- this is why there is no report of the text. Of want of memory nothing can be said
+abbrev pub IsRefused : List ℕ → Failure → Type 0
+IsRefused text Os = ⊥
+IsRefused text Arguments = ⊥
+IsRefused text NotYet = IsNotYet text
+IsRefused text (Input fault) = Refuses text fault
+
+-- the text is at fault: it is no scenario that can be run, and this is why
+abbrev pub IsAtFault : List ℕ → Failure → Type 0
+IsAtFault text failure = IsRefused text failure × (status_of failure ≡ 2)
+
+-- the report is that of what was read
+abbrev pub IsAnswer : Option (List ℕ) → List ℕ → Type 0
+IsAnswer known report = (text : List ℕ) × IsRead known text × IsReport text report
+
+-- the whole report was written of what was read
+abbrev pub HasReported : Option (List ℕ) → Option (List ℕ) → Option (List ℕ) → Type 0
+HasReported known old new = (report : List ℕ) × IsAnswer known report × Appends old new report
+
+-- what was read is refused so
+abbrev pub IsRefusedOf : Option (List ℕ) → Failure → Type 0
+IsRefusedOf known failure = (text : List ℕ) × IsRead known text × IsRefused text failure
+
+-- the failure is met with so many arguments, this input, and a call of the reader or the writer that failed or none:
+-- `Os` exactly where one failed. Of want of memory nothing can be said
+abbrev pub IsMet : ℕ → Option (List ℕ) → Bool → Failure → Type 0
+IsMet arguments known failed Os = (arguments ≡ 0) × IsTrue failed
+IsMet arguments known failed Arguments = (0 < arguments) × (failed ≡ false)
+IsMet arguments known failed NotYet = (arguments ≡ 0) × (failed ≡ false) × IsRefusedOf known NotYet
+IsMet arguments known failed (Input NoMemory) = (arguments ≡ 0) × (failed ≡ false)
+IsMet arguments known failed (Input NotToml) = (arguments ≡ 0) × (failed ≡ false) × IsRefusedOf known (Input NotToml)
+IsMet arguments known failed (Input (BadScenario place reason)) =
+    (arguments ≡ 0) × (failed ≡ false) × IsRefusedOf known (Input (BadScenario place reason))
+
+-- what a run has written that failed: nothing; or a beginning of the report of what was read, where writing it failed
+pub data IsCutShort (known : Option (List ℕ)) (failed : Bool) (old new : Option (List ℕ)) : Type 0 where
+  nothing : Keeps old new → IsCutShort known failed old new
+  a_beginning : (report : List ℕ) → IsTrue failed → IsAnswer known report → AppendsBeginning old new report →
+      IsCutShort known failed old new
+
+-- the line was said: a beginning of it, and the whole line unless writing it failed
+abbrev pub IsSaid : Option (List ℕ) → Option (List ℕ) → Bool → List ℕ → Type 0
+IsSaid old new failed line = AppendsBeginning old new line × (failed ≡ false → Appends old new line)
+
+-- reading ended in this failure: the reader failed, or memory was refused and it did not
+abbrev pub IsReadFailure : Bool → Bool → Failure → Type 0
+IsReadFailure before after Os = IsTrue after
+IsReadFailure before after Arguments = ⊥
+IsReadFailure before after NotYet = ⊥
+IsReadFailure before after (Input NoMemory) = after ≡ before
+IsReadFailure before after (Input NotToml) = ⊥
+IsReadFailure before after (Input (BadScenario place reason)) = ⊥
+
+-- what is said where a failure is met: it; or of the input's, where no memory was had for the line, that
+abbrev pub IsSaidFor : Failure → Failure → Type 0
+IsSaidFor Os said = said ≡ Os
+IsSaidFor Arguments said = said ≡ Arguments
+IsSaidFor NotYet said = said ≡ NotYet
+IsSaidFor (Input fault) said = (said ≡ Input fault) ⊎ (said ≡ Input NoMemory)

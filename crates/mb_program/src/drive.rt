@@ -1,0 +1,136 @@
+ghost use Rattle.std.specs.Prelude.{◌≡◌, ◌≢◌, ◌<◌, ◌≤◌, ◌||◌, false, IfSome, IfOk, IfErr, take, string_bytes};
+ghost use Rattle.std.specs.Io.KnownBytes.{Keeps};
+ghost use Rattle.mb_program.specs.Answer.{most_read, HasReported, IsAnswer, IsAtFault, IsCutShort, IsMet, IsSaid, IsSaidFor};
+ghost use Rattle.mb_program.specs.Failure.{error_line, status_of};
+ghost use Rattle.mb_program.specs.declared.failure.Failure.{Failure};
+
+use crate::answer::answer;
+use crate::failure::Failure;
+use crate::input::read_input;
+use crate::watched::Watched;
+use mb_reader::Fault;
+use std::alloc::{AllocError, Global};
+use std::io::{Read, Write};
+
+/// The whole program: with so many arguments beside its own path it is refused, before anything is read, if that is
+/// not 0, and else it is [`drive`].
+pub fn run_program<R: Read, W: Write, E: Write>(
+    alloc: Global,
+    arguments: usize,
+    reader: &mut Watched<R>,
+    writer: &mut Watched<W>,
+    errors: &mut Watched<E>,
+) -> u8
+    requires reader { reader.old.failed ≡ false }
+    requires writer { writer.old.failed ≡ false }
+    requires errors { errors.old.failed ≡ false }
+    ensures status { result ≤ 2 }
+
+    // Any argument is refused before anything is read.
+    ensures refused { 0 < arguments → result ≡ 2 }
+    ensures unread { 0 < arguments → reader.new ≡ reader.old }
+    ensures unwritten { 0 < arguments → writer.new ≡ writer.old }
+
+    // With the status 0 the whole report was written of what was read, no call failed, and no error was said.
+    ensures reported { result ≡ 0 →
+        HasReported (R.remaining reader.old.stream) (W.contents writer.old.stream) (W.contents writer.new.stream) }
+    ensures no_failure { result ≡ 0 → (reader.new.failed || writer.new.failed) ≡ false }
+    ensures no_error { result ≡ 0 → Keeps (E.contents errors.old.stream) (E.contents errors.new.stream) }
+
+    // With another a failure was met: nothing was written but a beginning of the report, and its one line was said.
+    ensures failed { result ≢ 0 → (failure : Failure) × (result ≡ status_of failure)
+        × IsMet arguments (R.remaining reader.old.stream) (reader.new.failed || writer.new.failed) failure
+        × IsCutShort (R.remaining reader.old.stream) writer.new.failed (W.contents writer.old.stream) (W.contents writer.new.stream)
+        × IsSaid (E.contents errors.old.stream) (E.contents errors.new.stream) errors.new.failed (error_line failure) }
+{
+    if arguments > 0 {
+        return refuse(alloc, errors, &Failure::Arguments);
+    }
+    drive(alloc, reader, writer, errors)
+}
+
+/// Reads a scenario, runs it, and writes its report. The answer is the exit status: 0 with the report written, 2 where
+/// the input is no scenario that can be run, and 1 where memory was refused, reading failed, or writing did. But for the report nothing
+/// is written on `writer`; on a failure `errors` gets one line that says which, if it can be written.
+pub fn drive<R: Read, W: Write, E: Write>(
+    alloc: Global,
+    reader: &mut Watched<R>,
+    writer: &mut Watched<W>,
+    errors: &mut Watched<E>,
+) -> u8
+    requires reader { reader.old.failed ≡ false }
+    requires writer { writer.old.failed ≡ false }
+    requires errors { errors.old.failed ≡ false }
+    ensures status { result ≤ 2 }
+
+    // With the status 0 the whole report was written of what was read, no call failed, and no error was said.
+    ensures reported { result ≡ 0 →
+        HasReported (R.remaining reader.old.stream) (W.contents writer.old.stream) (W.contents writer.new.stream) }
+    ensures no_failure { result ≡ 0 → (reader.new.failed || writer.new.failed) ≡ false }
+    ensures no_error { result ≡ 0 → Keeps (E.contents errors.old.stream) (E.contents errors.new.stream) }
+
+    // With another a failure was met: nothing was written but a beginning of the report, and its one line was said.
+    ensures failed { result ≢ 0 → (failure : Failure) × (result ≡ status_of failure)
+        × IsMet 0 (R.remaining reader.old.stream) (reader.new.failed || writer.new.failed) failure
+        × IsCutShort (R.remaining reader.old.stream) writer.new.failed (W.contents writer.old.stream) (W.contents writer.new.stream)
+        × IsSaid (E.contents errors.old.stream) (E.contents errors.new.stream) errors.new.failed (error_line failure) }
+
+    // Whatever is no scenario that can be run, nothing is written for it.
+    ensures silent { IfSome (R.remaining reader.old.stream) (λ input. (failure : Failure) → IsAtFault (take most_read input) failure →
+        Keeps (W.contents writer.old.stream) (W.contents writer.new.stream)) }
+{
+    match answer_to(alloc, reader) {
+        Ok(report) => match writer.send(report.as_bytes()) {
+            Ok(()) => 0,
+            Err(_) => refuse(alloc, errors, &Failure::Os),
+        },
+        Err(failure) => refuse(alloc, errors, &failure),
+    }
+}
+
+/// The report of the scenario that the reader gives.
+fn answer_to<R: Read>(alloc: Global, reader: &mut Watched<R>) -> Result<String, Failure>
+    requires reader { reader.old.failed ≡ false }
+    ensures report { IfOk result (λ report. (reader.new.failed ≡ false) × IsAnswer (R.remaining reader.old.stream) (string_bytes report)) }
+    ensures failure { IfErr result (IsMet 0 (R.remaining reader.old.stream) reader.new.failed) }
+{
+    let text = read_input(alloc, reader)?;
+    Ok(answer(alloc, &text)?)
+}
+
+/// Says why there is no report, as far as that can be written, and answers the exit status. Where there is no memory for
+/// the line of a fault of the input, that is the failure.
+fn refuse<E: Write>(alloc: Global, errors: &mut Watched<E>, failure: &Failure) -> u8
+    requires errors { errors.old.failed ≡ false }
+    ensures { (said : Failure) × IsSaidFor failure.now said × (result ≡ status_of said)
+        × IsSaid (E.contents errors.old.stream) (E.contents errors.new.stream) errors.new.failed (error_line said) }
+{
+    match failure {
+        Failure::Os => say(errors, "mailrun: 2 Os\n"),
+        Failure::Arguments => say(errors, "mailrun: 12 BadScenario arguments: too many\n"),
+        Failure::NotYet => say(errors, "mailrun: 12 BadScenario top: not yet\n"),
+        Failure::Input(fault) => match fault_line(alloc, fault) {
+            Ok(line) => say(errors, line.as_str()),
+            Err(_) => {
+                say(errors, "mailrun: 1 NoMemory\n");
+                return 1;
+            }
+        },
+    }
+    failure.status()
+}
+
+/// The line of a fault of the input.
+fn fault_line(alloc: Global, fault: &Fault) -> Result<String, AllocError>
+    ensures { IfOk result (λ line. string_bytes line ≡ error_line (Failure.Input fault.now)) }
+{
+    format!(in alloc; "mailrun: {fault}\n")
+}
+
+/// Says the line, as far as it can be written.
+fn say<E: Write>(errors: &mut Watched<E>, line: &str)
+    requires errors { errors.old.failed ≡ false }
+    ensures { IsSaid (E.contents errors.old.stream) (E.contents errors.new.stream) errors.new.failed line.now }
+{
+    let _ = errors.send(line.as_bytes());
+}
