@@ -5,9 +5,9 @@ use Rattle.mb_reader.specs.View.{actor_data}
 use Rattle.mb_report.specs.Lines.{report_text_of}
 use Rattle.mb_report.specs.declared.report.Report.{Report}
 use Rattle.mb_reader.specs.Plans.{ScenarioData}
-use Rattle.mb_program.specs.Answer.{IsOutcome}
+use Rattle.mb_program.specs.Answer.{TellsOfARun}
 use Rattle.mb_program.specs.Ran.{HasRun}
-use Rattle.mb_program.proofs.Outcomes.{told_text}
+use Rattle.mb_program.proofs.CalmReports.{told_text}
 use Rattle.mb_program.proofs.ScopeLemmas.{Runs}
 
 -- what is taken off the end of a list of one is that one
@@ -28,7 +28,7 @@ mapped list (y ∷ left) x is one =
     two (w ∷ rest) z same = omega (arith, same)
 
 pub outcome : (scenario : ScenarioData) (report : Report) (bytes : List ℕ) → Runs scenario → HasRun scenario report →
-    bytes ≡ report_text_of scenario.names report → IsOutcome scenario bytes
+    bytes ≡ report_text_of scenario.names report → TellsOfARun scenario bytes
 outcome scenario report bytes runs ran text = record {
   report = report;
   ran = ran;

@@ -1,7 +1,7 @@
 pub mod Answering
+pub mod CalmReports
 pub mod Endings
 pub mod InputLemmas
-pub mod Outcomes
 pub mod Refusals
 pub mod ScopeLemmas
 pub mod ScriptLemmas

@@ -7,7 +7,7 @@ use Rattle.mb_reader.specs.declared.fault.Fault.TheVariants.{NoMemory, NotToml, 
 use Rattle.mb_report.specs.Lines.{report_text_of}
 use Rattle.mb_report.specs.declared.report.Report.{Report}
 use Rattle.mb_program.specs.Failure.{status_of}
-use Rattle.mb_program.specs.Outcome.{report_of}
+use Rattle.mb_program.specs.CalmReport.{report_of}
 use Rattle.mb_program.specs.Scope.{can_run}
 use Rattle.mb_program.specs.Ran.{HasRun}
 use Rattle.mb_program.specs.Written.{AppendsBeginning}
@@ -23,7 +23,7 @@ abbrev pub IsRead : Option (List ℕ) → List ℕ → Type 0
 IsRead known text = IfSome known (λ input. text ≡ take most_read input)
 
 -- these bytes are the text of the report of a run of the scenario, which says that all that was sent was handled
-pub record IsOutcome (scenario : ScenarioData) (bytes : List ℕ) : Type 0 where
+pub record TellsOfARun (scenario : ScenarioData) (bytes : List ℕ) : Type 0 where
   pub report : Report
   pub ran : HasRun scenario report
   pub text : bytes ≡ report_text_of scenario.names report
@@ -31,7 +31,7 @@ pub record IsOutcome (scenario : ScenarioData) (bytes : List ℕ) : Type 0 where
 
 -- the text is a scenario that can be run, and this is its report
 abbrev pub IsReport : List ℕ → List ℕ → Type 0
-IsReport text report = (scenario : ScenarioData) × IsReadAs text scenario × (can_run scenario ≡ true) × IsOutcome scenario report
+IsReport text report = (scenario : ScenarioData) × IsReadAs text scenario × (can_run scenario ≡ true) × TellsOfARun scenario report
 
 -- the text is a scenario that cannot be run today
 abbrev pub IsNotYet : List ℕ → Type 0

@@ -1,6 +1,6 @@
 pub mod Answer
+pub mod CalmReport
 pub mod Failure
-pub mod Outcome
 pub mod Ran
 pub mod Scope
 pub mod Watching

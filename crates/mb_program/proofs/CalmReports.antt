@@ -25,7 +25,7 @@ use Rattle.mb_reader.specs.Plans.{ScenarioData}
 use Rattle.mb_script.specs.Script.{Scripted, after_of}
 use Rattle.mb_run.specs.Begun.{the_guardian}
 use Rattle.mb_run.specs.Fates.{envelope_in, envelopes_of}
-use Rattle.mb_program.specs.Outcome.{calm_line, lines_of, report_of, state_after}
+use Rattle.mb_program.specs.CalmReport.{calm_line, lines_of, report_of, state_after}
 use Rattle.mb_run.specs.Reported.{AreSenders}
 use Rattle.mb_run.specs.Plain.{is_plain_send}
 use Rattle.mb_run.specs.Sent.{bodies}
