@@ -64,6 +64,24 @@ ended who effects b = record b {
   acts = b.acts ++ end_acts who b.watchers effects;
 }
 
+-- one request more of a child is given permission
+abbrev pub given_now : Identity → Books → ActorId → Bool
+given_now who b y = permits who.retries (times_in b.retries y + 1)
+
+-- the children whom a decision about one is for
+abbrev pub meant_now : Identity → Books → ActorId → List ActorId
+meant_now who b x = if who.all_for_one then b.children else x ∷ []
+
+-- whose permission is asked for
+abbrev pub asked_now : Identity → Books → ActorId → Cause → List ActorId
+asked_now who b x c = if is_restart_directive (directive_of who c) then through_refusal (given_now who b) (meant_now who b x) else []
+
+-- what is carried out: that one without permission is stopped
+abbrev pub carried_out_now : Identity → Books → ActorId → Cause → Directive
+carried_out_now who b x c =
+    if is_restart_directive (directive_of who c) && not (list_all (given_now who b) (meant_now who b x)) then directive.Stop
+    else directive_of who c
+
 -- ---- system messages
 
 -- a message that does nothing
@@ -102,6 +120,18 @@ recreated who c a effects number b =
     let begun = with_effects who effects (record (taken number b) { count = b.count - 1; failed = Nobody; acts = ResumeSelf ∷ [] }) in
     if is_failed a then failing who Itself cause.Init b.children (record begun { phase = Broken })
     else record begun { phase = Live; acts = begun.acts ++ to_each (system.Recreate c) b.children }
+
+abbrev pub supervised_by : Identity → ActorId → Cause → Directive → Books → Books
+supervised_by who x c directive.Resume b = record b { acts = Sys x (system.Resume true) ∷ [] }
+supervised_by who x c directive.Restart b = record b { acts = flat_map (restart_for x c) (meant_now who b x) }
+supervised_by who x c directive.Stop b = record b { acts = to_each system.Terminate (meant_now who b x) }
+supervised_by who x c directive.Escalate b = failing who (Child x) c (x ∷ []) (record b { acts = [] })
+
+-- a Failed of a child
+abbrev pub supervised : Identity → ActorId → Cause → ℕ → Books → Books
+supervised who x c number b =
+    supervised_by who x c (carried_out_now who b x c)
+    (record (taken number b) { retries = b.retries ++ requests_kept who.retries (asked_now who b x c) })
 
 -- a Terminate, off Ending, of an actor with children
 abbrev pub ending : Identity → ℕ → Books → Books
@@ -142,38 +172,6 @@ told_of_death who x number b = record (taken number b) {
 -- a message that is set aside
 abbrev pub put_aside : ℕ → SysMsg → Books → Books
 put_aside number message b = record b { aside = b.aside ++ (number, message) ∷ []; acts = []; is_ready = false }
-
--- ---- the failure of a child
-
--- one request more of a child is given permission
-abbrev pub given_now : Identity → Books → ActorId → Bool
-given_now who b y = permits who.retries (times_in b.retries y + 1)
-
--- the children whom a decision about one is for
-abbrev pub meant_now : Identity → Books → ActorId → List ActorId
-meant_now who b x = if who.all_for_one then b.children else x ∷ []
-
--- whose permission is asked for
-abbrev pub asked_now : Identity → Books → ActorId → Cause → List ActorId
-asked_now who b x c = if is_restart_directive (directive_of who c) then through_refusal (given_now who b) (meant_now who b x) else []
-
--- what is carried out: that one without permission is stopped
-abbrev pub carried_out_now : Identity → Books → ActorId → Cause → Directive
-carried_out_now who b x c =
-    if is_restart_directive (directive_of who c) && not (list_all (given_now who b) (meant_now who b x)) then directive.Stop
-    else directive_of who c
-
-abbrev pub supervised_by : Identity → ActorId → Cause → Directive → Books → Books
-supervised_by who x c directive.Resume b = record b { acts = Sys x (system.Resume true) ∷ [] }
-supervised_by who x c directive.Restart b = record b { acts = flat_map (restart_for x c) (meant_now who b x) }
-supervised_by who x c directive.Stop b = record b { acts = to_each system.Terminate (meant_now who b x) }
-supervised_by who x c directive.Escalate b = failing who (Child x) c (x ∷ []) (record b { acts = [] })
-
--- a Failed of a child
-abbrev pub supervised : Identity → ActorId → Cause → ℕ → Books → Books
-supervised who x c number b =
-    supervised_by who x c (carried_out_now who b x c)
-    (record (taken number b) { retries = b.retries ++ requests_kept who.retries (asked_now who b x c) })
 
 -- ---- envelopes
 

@@ -14,17 +14,18 @@ use std::alloc::{AllocError, Global};
 
 /// A player with what the head says, or the guardian: `actor 2 of 1` or `guardian`, and then, each behind a `; `, what
 /// there is of `children 2 to 3`, which it may start; `start`, `restart` and `stop` with at most two things that it does then, as
-/// `start spawn 2, tell 4`; `leaves ends`, where it does not handle the end of another; and its strategy: `rules` as `restart
-/// error, stop error 1`, `retries 2`, `all for one`.
+/// `start spawn 2, tell 4`; `ends`, the like of it where it is told the end of another; its strategy: `rules` as `restart error,
+/// stop error 1`, `retries 2`, `all for one`; and `limit 10`, how many entries its journal may have.
 pub(crate) fn cast(alloc: Global, head: &str) -> Result<Stage<Player, Counting>, Trouble> {
     let prepared = children_of(alloc, part(head, "children "))?;
     let strategy = strategy_of(alloc, head)?;
+    let limit = limit_of(head)?;
     let Some((this, parent)) = place_of(head)? else {
-        return Ok(Stage::of_guardian(alloc, prepared, strategy));
+        return Ok(Stage::of_guardian(alloc, prepared, strategy, limit));
     };
     let plan = plan_of(head)?;
     let player = Player { plan, count: 0 };
-    Ok(Stage::of(alloc, this, parent, player, prepared, strategy))
+    Ok(Stage::of(alloc, this, parent, player, prepared, strategy, limit))
 }
 
 /// What stands in the part of a head that begins so; nothing where there is none.
@@ -35,6 +36,15 @@ fn part<'a>(head: &'a str, name: &str) -> &'a str {
         }
     }
     ""
+}
+
+/// How many entries the journal may have: more than a story has cases, where nothing is said of it.
+fn limit_of(head: &str) -> Result<u32, Trouble> {
+    let limit = part(head, "limit ");
+    if limit.is_empty() {
+        return Ok(1000);
+    }
+    number(limit)
 }
 
 /// The numbers of the actor and its parent, none of the guardian.
@@ -82,7 +92,7 @@ pub(crate) fn plan_of(head: &str) -> Result<Plan, Trouble> {
         start: moves_of(part(head, "start "))?,
         restart: moves_of(part(head, "restart "))?,
         stop: moves_of(part(head, "stop "))?,
-        heeds: part(head, "leaves ").is_empty(),
+        ends: moves_of(part(head, "ends "))?,
     })
 }
 

@@ -18,13 +18,13 @@ pub(crate) enum Move {
     Spawn(u32),
 }
 
-/// What it does at its start, its restarts and its stop, in order, and whether it handles the end of another.
+/// What it does at its start, its restarts, its stop and the ends of others that it is told, in order.
 #[derive(Clone, Copy)]
 pub(crate) struct Plan {
     pub(crate) start: [Move; 2],
     pub(crate) restart: [Move; 2],
     pub(crate) stop: [Move; 2],
-    pub(crate) heeds: bool,
+    pub(crate) ends: [Move; 2],
 }
 
 /// It counts the messages that it gets.
@@ -62,19 +62,12 @@ impl Actor for Player {
 
     fn receive(&mut self, message: &Message, out: &mut Outbox) -> Answer {
         self.count = self.count.wrapping_add(1);
-        let asked = match message {
+        match message {
             Message::User { kind, value } | Message::Control { kind, value } => {
-                move_of(*kind, *value)
+                perform(move_of(*kind, *value), out)
             }
-            Message::Terminated(_) => {
-                if self.plan.heeds {
-                    Move::Rest
-                } else {
-                    Move::Leave
-                }
-            }
-        };
-        perform(asked, out)
+            Message::Terminated(_) => perform_both(self.plan.ends, out),
+        }
     }
 
     fn restart(&mut self, _cause: Cause, out: &mut Outbox) -> Answer {
@@ -106,13 +99,13 @@ pub(crate) fn move_of(kind: u32, value: i64) -> Move {
     }
 }
 
-/// Does both, the second unless the first fails.
+/// Does both, the second unless the first is how it answers.
 fn perform_both(moves: [Move; 2], out: &mut Outbox) -> Answer
     ensures actors { out.new.actors ≡ out.old.actors }
     ensures unspawned { out.new.unspawned ≡ out.old.unspawned }
 {
     let first = perform(moves[0], out);
-    if matches!(first, Answer::Failed(_)) {
+    if !matches!(first, Answer::Handled) {
         return first;
     }
     perform(moves[1], out)

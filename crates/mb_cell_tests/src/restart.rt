@@ -31,6 +31,11 @@ create | failed 1: spawn 2 | resume, 2: create, suspend, 2: suspend, 0: failed 1
 resume failure | handled | resume, 2: recreate init | live 0 0
 kill | none | suspend, 2: suspend, 0: failed 1 killed | live 1 0
 
+actor 1 of 0; children 2 to 3; start spawn 2, fail 1; restart spawn 3, fail 4; rules restart error
+create | failed 1: spawn 2 | resume, 2: create, suspend, 2: suspend, 0: failed 1 init | broken 1 0
+resume | failed 4: spawn 3 | resume, 3: create, suspend, 3: suspend, 0: failed 1 init | broken 1 0
+resume failure | failed 4 | resume, suspend, 0: failed 1 init | broken 1 0
+
 actor 1 of 0; children 2 to 3; start spawn 2, fail 1; rules restart error
 create | failed 1: spawn 2 | resume, 2: create, suspend, 2: suspend, 0: failed 1 init | broken 1 0
 recreate error 3 | handled | resume, 2: recreate error 3 | live 0 0
@@ -38,6 +43,6 @@ recreate error 3 | handled | resume, 2: recreate error 3 | live 0 0
 
 #[test]
 fn restarts(rt: HostRuntime) -> Result<(), Fail> {
-    each_case(&rt, rt.alloc(), RESTARTS, 17)?;
+    each_case(&rt, rt.alloc(), RESTARTS, 20)?;
     Ok(())
 }

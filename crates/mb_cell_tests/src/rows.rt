@@ -220,6 +220,39 @@ user fail 1 | failed 1 | suspend, 1: failed 2 error 1 | live 1 1
 recreate error 1 | handled | resume | live 0 0
 ";
 
+/// A child whose restarts fail, of a parent that starts it afresh each time.
+const TO_A_FULL_JOURNAL: &str = "
+guardian; children 1; limit 10
+create | none | resume, 1: create | live 0 -
+
+The parent is told of each failure, the last of which is the last that its journal has room for.
+actor 1 of 0; children 2; start spawn 2; rules restart any; limit 10
+create | handled: spawn 2 | resume, 2: create | live 0 0
+failed 2 error 1 | none | 2: recreate error 1 | live 0 0
+failed 2 init | none | 2: recreate init | live 0 0
+failed 2 init | none | 2: recreate init | live 0 0
+failed 2 init | none | 2: recreate init | live 0 0
+failed 2 init | none | 2: recreate init | live 0 0
+failed 2 init | none | 2: recreate init | live 0 0
+failed 2 init | none | 2: recreate init | live 0 0
+failed 2 init | none | 2: recreate init | live 0 0
+failed 2 init | none | 2: recreate init | live 0 0
+
+The child is to be started afresh once more, and its journal has no room for that.
+actor 2 of 1; restart fail 3; limit 10
+create | handled | resume | live 0 0
+user fail 1 | failed 1 | suspend, 1: failed 2 error 1 | live 1 1
+recreate error 1 | failed 3 | resume, suspend, 1: failed 2 init | broken 1 0
+recreate init | failed 3 | resume, suspend, 1: failed 2 init | broken 1 0
+recreate init | failed 3 | resume, suspend, 1: failed 2 init | broken 1 0
+recreate init | failed 3 | resume, suspend, 1: failed 2 init | broken 1 0
+recreate init | failed 3 | resume, suspend, 1: failed 2 init | broken 1 0
+recreate init | failed 3 | resume, suspend, 1: failed 2 init | broken 1 0
+recreate init | failed 3 | resume, suspend, 1: failed 2 init | broken 1 0
+recreate init | failed 3 | resume, suspend, 1: failed 2 init | broken 1 0
+recreate init | journal full | - | broken 1 0
+";
+
 const ENDS: &str = "
 An add and a poison pill.
 actor 1 of 0
@@ -324,6 +357,12 @@ fn failures(rt: HostRuntime) -> Result<(), Fail> {
 #[test]
 fn retries(rt: HostRuntime) -> Result<(), Fail> {
     each_case(&rt, rt.alloc(), RETRIES, 26)?;
+    Ok(())
+}
+
+#[test]
+fn to_a_full_journal(rt: HostRuntime) -> Result<(), Fail> {
+    each_case(&rt, rt.alloc(), TO_A_FULL_JOURNAL, 22)?;
     Ok(())
 }
 

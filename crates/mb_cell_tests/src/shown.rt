@@ -6,11 +6,12 @@ use mb_journal::Arrival;
 use mb_msg::{Body, Cause, Envelope, SysMsg};
 use std::alloc::{AllocError, Global};
 
-/// What was given to a cell.
+/// What was given to a cell, or that its journal has no room for it.
 #[derive(Clone, Copy)]
 pub(crate) enum Given {
     System(u64, SysMsg),
     Envelope(Envelope),
+    Refused,
 }
 
 /// Adds one more to a list.
@@ -134,14 +135,14 @@ pub(crate) fn outcome_shown(
 fn is_envelope(given: Given, entered: Envelope) -> bool {
     match given {
         Given::Envelope(envelope) => envelope == entered,
-        Given::System(_, _) => false,
+        Given::System(_, _) | Given::Refused => false,
     }
 }
 
 fn is_system(given: Given, number: u64, entered: SysMsg) -> bool {
     match given {
         Given::System(as_number, message) => as_number == number && message == entered,
-        Given::Envelope(_) => false,
+        Given::Envelope(_) | Given::Refused => false,
     }
 }
 

@@ -54,6 +54,7 @@ impl<A: Actor, K: Behaviours> Stage<A, K> {
         actor: A,
         prepared: Vec<ActorId>,
         strategy: Strategy,
+        limit: u32,
     ) -> Self
         requires few { length prepared.items ≤ most_actors }
         requires numbered { All (λ x. x.0 < most_actors) prepared.items }
@@ -69,7 +70,7 @@ impl<A: Actor, K: Behaviours> Stage<A, K> {
             Some(actor),
             prepared,
             strategy,
-            1000,
+            limit,
         );
         Stage {
             cell,
@@ -82,11 +83,16 @@ impl<A: Actor, K: Behaviours> Stage<A, K> {
 
     /// The cell of the guardian.
     #[tactic(auto, unfolding(mb_journal::specs::Aside::next_number))]
-    pub(crate) fn of_guardian(alloc: Global, prepared: Vec<ActorId>, strategy: Strategy) -> Self
+    pub(crate) fn of_guardian(
+        alloc: Global,
+        prepared: Vec<ActorId>,
+        strategy: Strategy,
+        limit: u32,
+    ) -> Self
         requires few { length prepared.items ≤ most_actors }
         requires numbered { All (λ x. x.0 < most_actors) prepared.items }
     {
-        let cell = Cell::new(alloc, ActorId(0), 64, None, None, prepared, strategy, 1000);
+        let cell = Cell::new(alloc, ActorId(0), 64, None, None, prepared, strategy, limit);
         Stage {
             cell,
             next: 0,
@@ -110,6 +116,9 @@ impl<A: Actor, K: Behaviours> Stage<A, K> {
     }
 
     fn give<R: Abort>(&mut self, rt: &R, message: &str) -> Result<Given, Trouble> {
+        if self.cell.journal().is_full() {
+            return Ok(self.refused(rt));
+        }
         if let Some(due) = message.strip_prefix("front ") {
             return self.front(rt, due);
         }
@@ -118,6 +127,15 @@ impl<A: Actor, K: Behaviours> Stage<A, K> {
         }
         let message = system_of(message)?;
         Ok(self.system(rt, message))
+    }
+
+    /// Asks for room in a journal that is full: it is refused, and the journal is as it was.
+    fn refused<R: Abort>(&mut self, rt: &R) -> Given {
+        let entries = self.cell.journal().len();
+        let answer = self.cell.ready();
+        assert!(rt; matches!(answer, Err(ReadyError::JournalFull)));
+        assert_eq!(rt; self.cell.journal().len(), entries);
+        Given::Refused
     }
 
     /// Gives the cell the next system message.
@@ -222,13 +240,16 @@ fn make_ready<R: Abort, A: Actor, K: Behaviours>(rt: &R, cell: &mut Cell<A, K>) 
     false
 }
 
-/// What the newest entry says: what became of what was given, and the effects of it.
+/// What the newest entry says: what became of what was given, and the effects of it; or that there is no room for one.
 fn entry_shown<R: Abort, A: Actor, K: Behaviours>(
     rt: &R,
     alloc: Global,
     cell: &Cell<A, K>,
     given: Given,
 ) -> Result<String, AllocError> {
+    if matches!(given, Given::Refused) {
+        return String::from_str(alloc, "journal full");
+    }
     let journal = cell.journal();
     let entries = journal.len();
     assert!(rt; entries > 0);

@@ -48,6 +48,11 @@ failed 2 killed | none | 2: terminate | live 0 -
 terminate | none | 2: terminate, 3: terminate, suspend | ending 1 -
 died 2 | none | - | ending 1 -
 died 3 | none | close | ended 0 -
+
+Without children it ends at once.
+guardian
+create | none | resume | live 0 -
+terminate | none | close | ended 0 -
 ";
 
 #[test]
@@ -58,6 +63,6 @@ fn starts(rt: HostRuntime) -> Result<(), Fail> {
 
 #[test]
 fn guardian(rt: HostRuntime) -> Result<(), Fail> {
-    each_case(&rt, rt.alloc(), GUARDIAN, 7)?;
+    each_case(&rt, rt.alloc(), GUARDIAN, 9)?;
     Ok(())
 }

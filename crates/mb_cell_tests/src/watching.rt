@@ -44,11 +44,27 @@ user unwatch 4 | handled: unwatch 4 | - | live 0 2
 terminated 4 | dropped | - | live 0 2
 
 An end that it does not handle fails it.
-actor 1 of 0; children 2 to 3; start spawn 2; leaves ends; rules restart error
+actor 1 of 0; children 2 to 3; start spawn 2; ends leave; rules restart error
 create | handled: spawn 2 | resume, 2: create | live 0 0
 user watch 4 | handled: watch 4 | 4: watch 1 | live 0 1
 died 4 | none | 1: terminated 4 | live 0 1
 terminated 4 | unhandled | suspend, 2: suspend, 0: failed 1 death pact | live 1 2
+
+An end at which it fails: its parent is told the error, and of no death pact. The end was handled, and is due no more.
+actor 1 of 0; children 2 to 3; start spawn 2; ends fail 3; rules restart error
+create | handled: spawn 2 | resume, 2: create | live 0 0
+user watch 4 | handled: watch 4 | 4: watch 1 | live 0 1
+died 4 | none | 1: terminated 4 | live 0 1
+terminated 4 | failed 3 | suspend, 2: suspend, 0: failed 1 error 3 | live 1 2
+recreate error 3 | handled | resume, 2: recreate error 3 | live 0 0
+terminated 4 | dropped | - | live 0 0
+
+What it asks for before it fails is carried out before it is suspended.
+actor 1 of 0; children 2 to 3; ends spawn 2, fail 3; rules restart error
+create | handled | resume | live 0 0
+user watch 4 | handled: watch 4 | 4: watch 1 | live 0 1
+died 4 | none | 1: terminated 4 | live 0 1
+terminated 4 | failed 3: spawn 2 | 2: create, suspend, 2: suspend, 0: failed 1 error 3 | live 1 2
 
 A parent that watches its child is told of its end, and has it no more.
 actor 1 of 0; children 2 to 3; start spawn 2, watch 2; rules restart error
@@ -67,6 +83,6 @@ fn watched(rt: HostRuntime) -> Result<(), Fail> {
 
 #[test]
 fn watching(rt: HostRuntime) -> Result<(), Fail> {
-    each_case(&rt, rt.alloc(), WATCHING, 27)?;
+    each_case(&rt, rt.alloc(), WATCHING, 37)?;
     Ok(())
 }

@@ -23,13 +23,13 @@ impl<A: Actor, K: Behaviours> Cell<A, K> {
         }
         match message {
             SysMsg::Create => self.dispatch_create(number),
-            SysMsg::Recreate(cause) => self.dispatch_recreate(number, cause),
             SysMsg::Suspend => self.dispatch_suspend(number),
             SysMsg::Resume { of_failure } => self.dispatch_resume(number, of_failure),
+            SysMsg::Recreate(cause) => self.dispatch_recreate(number, cause),
+            SysMsg::Failed(child, cause) => self.dispatch_failed(number, child, cause),
             SysMsg::Terminate => self.dispatch_terminate(number),
             SysMsg::Watch(watcher) => self.apply_watch(number, watcher),
             SysMsg::Unwatch(watcher) => self.apply_unwatch(number, watcher),
-            SysMsg::Failed(child, cause) => self.dispatch_failed(number, child, cause),
             SysMsg::Died(id) => self.dispatch_died(number, id),
         }
     }
@@ -45,20 +45,6 @@ impl<A: Actor, K: Behaviours> Cell<A, K> {
             self.apply_create(number);
         } else {
             self.apply_nothing(number, SysMsg::Create);
-        }
-    }
-
-    /// `Recreate`: nothing to an actor that was not started, nor to the guardian.
-    fn dispatch_recreate(&mut self, number: u64, cause: Cause)
-        requires may_take { MayTake self.old number (SysMsg.Recreate cause) }
-        requires applied { sets_aside self.old.who self.old.journal (SysMsg.Recreate cause) ≡ false }
-        ensures taken { TakesSystem self.old self.new number (SysMsg.Recreate cause) }
-        ensures lawful { IsLawful self.new.who (K.gives self.new.who.this.0) self.new.journal }
-    {
-        if self.is_fresh() || self.is_guardian() {
-            self.apply_nothing(number, SysMsg::Recreate(cause));
-        } else {
-            self.apply_recreate(number, cause);
         }
     }
 
@@ -92,6 +78,34 @@ impl<A: Actor, K: Behaviours> Cell<A, K> {
         }
     }
 
+    /// `Recreate`: nothing to an actor that was not started, nor to the guardian.
+    fn dispatch_recreate(&mut self, number: u64, cause: Cause)
+        requires may_take { MayTake self.old number (SysMsg.Recreate cause) }
+        requires applied { sets_aside self.old.who self.old.journal (SysMsg.Recreate cause) ≡ false }
+        ensures taken { TakesSystem self.old self.new number (SysMsg.Recreate cause) }
+        ensures lawful { IsLawful self.new.who (K.gives self.new.who.this.0) self.new.journal }
+    {
+        if self.is_fresh() || self.is_guardian() {
+            self.apply_nothing(number, SysMsg::Recreate(cause));
+        } else {
+            self.apply_recreate(number, cause);
+        }
+    }
+
+    /// `Failed`: nothing to an actor that was not started, and nothing of one that is no child.
+    fn dispatch_failed(&mut self, number: u64, child: ActorId, cause: Cause)
+        requires may_take { MayTake self.old number (SysMsg.Failed child cause) }
+        requires applied { sets_aside self.old.who self.old.journal (SysMsg.Failed child cause) ≡ false }
+        ensures taken { TakesSystem self.old self.new number (SysMsg.Failed child cause) }
+        ensures lawful { IsLawful self.new.who (K.gives self.new.who.this.0) self.new.journal }
+    {
+        if self.is_fresh() || !self.has_child(child) {
+            self.apply_nothing(number, SysMsg::Failed(child, cause));
+        } else {
+            self.apply_failed(number, child, cause);
+        }
+    }
+
     /// `Terminate`: nothing to an actor that ends; one with children waits for them, one without ends at once.
     fn dispatch_terminate(&mut self, number: u64)
         requires may_take { MayTake self.old number SysMsg.Terminate }
@@ -107,20 +121,6 @@ impl<A: Actor, K: Behaviours> Cell<A, K> {
             self.apply_stop(number);
         } else {
             self.apply_end(number);
-        }
-    }
-
-    /// `Failed`: nothing to an actor that was not started, and nothing of one that is no child.
-    fn dispatch_failed(&mut self, number: u64, child: ActorId, cause: Cause)
-        requires may_take { MayTake self.old number (SysMsg.Failed child cause) }
-        requires applied { sets_aside self.old.who self.old.journal (SysMsg.Failed child cause) ≡ false }
-        ensures taken { TakesSystem self.old self.new number (SysMsg.Failed child cause) }
-        ensures lawful { IsLawful self.new.who (K.gives self.new.who.this.0) self.new.journal }
-    {
-        if self.is_fresh() || !self.has_child(child) {
-            self.apply_nothing(number, SysMsg::Failed(child, cause));
-        } else {
-            self.apply_failed(number, child, cause);
         }
     }
 
