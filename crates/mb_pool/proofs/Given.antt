@@ -22,7 +22,8 @@ each_among P before (x ∷ xs) all e h = (
   each_among P (before ++ x ∷ []) xs all (e ∙ sym (append_assoc before (x ∷ []) xs)) h,
 )
 
-module _ {H : Type 0} (is_of : H → ℕ → H → Type 0) (journal : H → List Entry) (mailbox : H → Mailbox) (rested : H → Type 0) (given_by : H → ℕ) (closed_to : H → List ℕ)
+module _ {H : Type 0} (is_of : H → ℕ → H → Type 0) (journal : H → List Entry) (mailbox : H → Mailbox) (rested : H → Type 0) (given_by : H → ℕ)
+    (closed_to : H → List ℕ)
     (origin : Origin H) (claim : Claim H) (fit : IsUntouched is_of journal mailbox rested given_by closed_to (Some origin) claim) where
   same_journal : taken_with claim ≡ journal claim.home
   same_journal = ap (λ (v : View). (held_in v).journal) fit.known
@@ -37,9 +38,11 @@ module _ {H : Type 0} (is_of : H → ℕ → H → Type 0) (journal : H → List
   shut v =
       let same : closed_with claim ≡ closed_to claim.home = ap (λ (w : View). (held_in w).closed_to) fit.known in
       subst (λ l. Each (λ other. IsKnownClosed other l v) (closed_to claim.home)) (sym same)
-      (each_among (λ other. IsKnownClosed other (closed_to claim.home) v) [] (closed_to claim.home) (closed_to claim.home) refl (λ x among. inl among))
+      (each_among (λ other. IsKnownClosed other (closed_to claim.home) v) [] (closed_to claim.home) (closed_to claim.home) refl
+          (λ x among. inl among))
 
-  pub told : (who : Identity) → IsSaidSince who (held_actor claim) (status_of claim).closed (journal claim.home) (taken_with claim) (recorded_by claim)
+  pub told : (who : Identity) → IsSaidSince who (held_actor claim) (status_of claim).closed (journal claim.home) (taken_with claim)
+      (recorded_by claim)
   told who = subst (λ (y : List Entry × List Said). IsSaidSince who (held_actor claim) (status_of claim).closed (journal claim.home) y.0 y.1)
       (λ i. (sym same_journal i, sym fit.recorded i)) (nothing_since who (held_actor claim) (status_of claim).closed (journal claim.home))
 

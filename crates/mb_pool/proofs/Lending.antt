@@ -1,5 +1,6 @@
 -- How the ends of a new pool get their ways into the next ones' deques, step by step.
-use Rattle.std.proofs.Common.{◌≡◌, ℕ, zero, suc, ◌+◌, ◌-◌, ◌<◌, ◌≤◌, List, [], ◌∷◌, ◌++◌, length, get_or, set, take, drop, sym, refl, ap, ◌∙◌, subst, map, arith}
+use Rattle.std.proofs.Common.{◌≡◌, ℕ, zero, suc, ◌+◌, ◌-◌, ◌<◌, ◌≤◌, List, [], ◌∷◌, ◌++◌, length, get_or, set, take, drop, sym, refl, ap, ◌∙◌, subst}
+use Rattle.std.proofs.Common.{map, arith}
 use Rattle.std.specs.Prelude.{All}
 use Rattle.std.proofs.lemmas.List.{length-append, take_all}
 use Rattle.std.proofs.lemmas.List.Elements.{All-get_or}
@@ -18,7 +19,8 @@ module _ {H : Type 0} (owns now : List (Look H)) (k : ℕ) (d : Look H) where
     may_lend_at h = subst (λ (l : Look H). 1 < l.ledger.shares) (sym same) (All-get_or (λ (l : Look H). 1 < l.ledger.shares) owns k d lt h)
 
     -- and lends it
-    pub lends_one : (own thief : Look H) (thieves new : List (Look H)) → thieves ≡ map (borrowed {H = H}) (take k owns) → own ≡ lent (get_or now k d) → thief ≡ borrowed (get_or now k d) → new ≡ thieves ++ thief ∷ []
+    pub lends_one : (own thief : Look H) (thieves new : List (Look H)) → thieves ≡ map (borrowed {H = H}) (take k owns) → own ≡ lent (get_or now k d)
+        → thief ≡ borrowed (get_or now k d) → new ≡ thieves ++ thief ∷ []
         → (set now k own ≡ upto (lent {H = H}) (k + 1) owns) × (new ≡ map (borrowed {H = H}) (take (k + 1) owns))
     lends_one own thief thieves new h o t n =
         let one : suc k ≡ k + 1 = omega arith in
@@ -33,7 +35,8 @@ module _ {H : Type 0} (owns now : List (Look H)) (k : ℕ) where
   pub all_lent : now ≡ upto (lent {H = H}) k owns → length owns ≤ k → now ≡ map (lent {H = H}) owns
   all_lent so le = so ∙ upto_all (lent {H = H}) owns k le
 
-  pub all_borrowed : (thieves : List (Look H)) → thieves ≡ map (borrowed {H = H}) (take k owns) → length owns ≤ k → thieves ≡ map (borrowed {H = H}) owns
+  pub all_borrowed : (thieves : List (Look H)) → thieves ≡ map (borrowed {H = H}) (take k owns) → length owns ≤ k
+      → thieves ≡ map (borrowed {H = H}) owns
   all_borrowed thieves h le = h ∙ ap (map (borrowed {H = H})) (take_all k owns le)
 
 one_of : {X : Type 0} (xs : List X) (k : ℕ) → k < length xs → X
@@ -61,7 +64,8 @@ module _ {H : Type 0} (owns now : List (Look H)) (k : ℕ) (so : now ≡ rotated
   borrowed_of_next = ap (λ (l : List (Look H)). map (borrowed {H = H}) (drop 1 l)) first_is ∙ borrowed_so owns k d lt
 
   -- then it is the next one's turn
-  pub turned : (front back end : List (Look H)) → front ≡ take 1 now → back ≡ map (lent {H = H}) (drop 1 now) → end ≡ drop 1 (front ++ back) ++ take 1 (front ++ back) → end ≡ rotated owns (k + 1)
+  pub turned : (front back end : List (Look H)) → front ≡ take 1 now → back ≡ map (lent {H = H}) (drop 1 now)
+      → end ≡ drop 1 (front ++ back) ++ take 1 (front ++ back) → end ≡ rotated owns (k + 1)
   turned front back end f b e =
       let x : Look H = with_shares (length owns - k) (get_or owns k d) in
       let front' : front ≡ x ∷ [] = f ∙ ap (take 1) first_is in

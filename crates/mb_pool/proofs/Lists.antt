@@ -1,7 +1,9 @@
 -- On the views of all ports: one of them beside the others.
-use Rattle.std.proofs.Common.{◌≡◌, ◌≢◌, ℕ, zero, suc, ◌+◌, ◌<◌, List, [], ◌∷◌, ◌++◌, length, set, sym, refl, ap, ◌∙◌, subst, append_assoc, append-nil, arith, map}
+use Rattle.std.proofs.Common.{◌≡◌, ◌≢◌, ℕ, zero, suc, ◌+◌, ◌<◌, List, [], ◌∷◌, ◌++◌, length, set, sym, refl, ap, ◌∙◌, subst, append_assoc}
+use Rattle.std.proofs.Common.{append-nil, arith, map}
 use Rattle.std.specs.Prelude.{IsPermutation, flat_map, sum_by, All}
-use Rattle.std.proofs.lemmas.List.Sorted.{IsPermutation-refl, IsPermutation-sym, IsPermutation-trans, IsPermutation-append, IsPermutation-append_comm, All-permutation}
+use Rattle.std.proofs.lemmas.List.Sorted.{IsPermutation-refl, IsPermutation-sym, IsPermutation-trans, IsPermutation-append}
+use Rattle.std.proofs.lemmas.List.Sorted.{IsPermutation-append_comm, All-permutation}
 use Rattle.std.proofs.lemmas.List.Sums.{sum_by-cons, sum_by-append}
 use Rattle.std.proofs.lemmas.List.Elements.{All-nil, All-cons, All-head, All-tail, All-push}
 use mathlib.Core.Option.{some, some-ne-none, some-injective}
@@ -23,12 +25,14 @@ module _ {X : Type 0} where
   -- what stands first may stand second
   pub past : (a b c : List X) → IsPermutation (a ++ (b ++ c)) (b ++ (a ++ c))
   past a b c = from_left (a ++ (b ++ c)) ((a ++ b) ++ c) (b ++ (a ++ c)) (sym (append_assoc a b c))
-      (IsPermutation-trans ((a ++ b) ++ c) ((b ++ a) ++ c) (b ++ (a ++ c)) (before (a ++ b) (b ++ a) c (IsPermutation-append_comm a b)) (same_elements ((b ++ a) ++ c) (b ++ (a ++ c)) (append_assoc b a c)))
+      (IsPermutation-trans ((a ++ b) ++ c) ((b ++ a) ++ c) (b ++ (a ++ c)) (before (a ++ b) (b ++ a) c (IsPermutation-append_comm a b))
+          (same_elements ((b ++ a) ++ c) (b ++ (a ++ c)) (append_assoc b a c)))
 
   -- one more in the middle may stand last
   pub to_end : (a b : List X) (x : X) → IsPermutation ((a ++ x ∷ []) ++ b) ((a ++ b) ++ x ∷ [])
   to_end a b x = from_left ((a ++ x ∷ []) ++ b) (a ++ (x ∷ [] ++ b)) ((a ++ b) ++ x ∷ []) (append_assoc a (x ∷ []) b)
-      (IsPermutation-trans (a ++ (x ∷ [] ++ b)) (a ++ (b ++ x ∷ [])) ((a ++ b) ++ x ∷ []) (behind a (x ∷ [] ++ b) (b ++ x ∷ []) (IsPermutation-append_comm (x ∷ []) b))
+      (IsPermutation-trans (a ++ (x ∷ [] ++ b)) (a ++ (b ++ x ∷ [])) ((a ++ b) ++ x ∷ [])
+          (behind a (x ∷ [] ++ b) (b ++ x ∷ []) (IsPermutation-append_comm (x ∷ []) b))
       (same_elements (a ++ (b ++ x ∷ [])) ((a ++ b) ++ x ∷ []) (sym (append_assoc a b (x ∷ [])))))
 
   pub nothing_more : (ys : List X) → IsPermutation [] ys → ys ≡ []
@@ -65,7 +69,8 @@ module _ {V : Type 0} where
     pub pulls : (l : List V) (p : ℕ) (v w : V) → get_elem? l p ≡ some v → IsPermutation (flat_map f (set l p w)) (f w ++ flat_map f (others p l))
     pulls [] p v w at = absurd (some-ne-none v (sym at))
     pulls (x ∷ l) zero v w at = IsPermutation-refl (f w ++ flat_map f l)
-    pulls (x ∷ l) (suc p) v w at = IsPermutation-trans (f x ++ flat_map f (set l p w)) (f x ++ (f w ++ flat_map f (others p l))) (f w ++ (f x ++ flat_map f (others p l)))
+    pulls (x ∷ l) (suc p) v w at = IsPermutation-trans (f x ++ flat_map f (set l p w)) (f x ++ (f w ++ flat_map f (others p l)))
+        (f w ++ (f x ++ flat_map f (others p l)))
         (behind (f x) (flat_map f (set l p w)) (f w ++ flat_map f (others p l)) (pulls l p v w at)) (past (f x) (f w) (flat_map f (others p l)))
 
     pub pulls_own : (l : List V) (p : ℕ) (v : V) → get_elem? l p ≡ some v → IsPermutation (flat_map f l) (f v ++ flat_map f (others p l))
@@ -75,7 +80,8 @@ module _ {V : Type 0} where
     pub weighs : (l : List V) (p : ℕ) (v w : V) → get_elem? l p ≡ some v → sum_by g (set l p w) ≡ g w + sum_by g (others p l)
     weighs [] p v w at = absurd (some-ne-none v (sym at))
     weighs (x ∷ l) zero v w at = sum_by-cons g w l
-    weighs (x ∷ l) (suc p) v w at = let a = sum_by-cons g x (set l p w) in let b = sum_by-cons g x (others p l) in let c = weighs l p v w at in omega (arith, a, b, c)
+    weighs (x ∷ l) (suc p) v w at = let a = sum_by-cons g x (set l p w) in let b = sum_by-cons g x (others p l) in let c = weighs l p v w at in
+        omega (arith, a, b, c)
 
     pub weighs_own : (l : List V) (p : ℕ) (v : V) → get_elem? l p ≡ some v → sum_by g l ≡ g v + sum_by g (others p l)
     weighs_own l p v at = subst (λ y. sum_by g y ≡ g v + sum_by g (others p l)) (set_same l p v at) (weighs l p v v at)

@@ -12,8 +12,10 @@ use Rattle.mb_pool.specs.Ways.{AreOpen, next_of, of_feed, own_of, way_of}
 use Rattle.mb_pool.proofs.Begins.{begun, count_members, made, made_members, members_open}
 use Rattle.mb_pool.proofs.Handing.{door_is}
 
-module _ {H : Type 0} (origin : Origin H) (kind : Kind) (workers feeds ports : ℕ) (owns : List (Look H)) (first door : Look H) (some : 0 < workers) (new : AreNewOf kind origin workers owns)
-    (bound : first.spot.capacity ≡ bound_of kind) (is : door ≡ record first { ledger = opened (Some origin) ports ports }) (sum : ports ≡ workers + feeds) where
+module _ {H : Type 0} (origin : Origin H) (kind : Kind) (workers feeds ports : ℕ) (owns : List (Look H)) (first door : Look H) (some : 0 < workers)
+    (new : AreNewOf kind origin workers owns)
+    (bound : first.spot.capacity ≡ bound_of kind) (is : door ≡ record first { ledger = opened (Some origin) ports ports })
+        (sum : ports ≡ workers + feeds) where
   abbrev pub pool : Whole H
   pool = made origin kind workers feeds owns door.spot new some
 
@@ -21,7 +23,8 @@ module _ {H : Type 0} (origin : Origin H) (kind : Kind) (workers feeds ports : �
   pub all_shares : door.ledger ≡ opened door.ledger.gates door.ledger.members ports
   all_shares = subst (λ (l : Look H). l.ledger ≡ opened l.ledger.gates l.ledger.members ports) (sym is) refl
 
-  module _ (ms : List (Option (Member H))) (none : owns ≡ [] → ms ≡ replicate workers None) (own : 0 < length owns → map (own_of {H = H}) ms ≡ map (λ (l : Look H). with_shares 1 l ∷ []) owns)
+  module _ (ms : List (Option (Member H))) (none : owns ≡ [] → ms ≡ replicate workers None)
+      (own : 0 < length owns → map (own_of {H = H}) ms ≡ map (λ (l : Look H). with_shares 1 l ∷ []) owns)
       (next : 0 < length owns → map (next_of {H = H}) ms ≡ map (borrowed_next owns) (numbers 0 (length owns))) where
     pub are_members : AreMembers pool ms
     are_members = made_members origin kind workers feeds owns door.spot new some ms none own next
@@ -36,5 +39,7 @@ module _ {H : Type 0} (origin : Origin H) (kind : Kind) (workers feeds ports : �
         let many : ports ≡ length ms + feeds = omega (arith, count, sum) in
         e ∙ (λ i. replicate (many i) (door_is origin ports (workers + feeds) first door is sum i))
 
-    pub is_begun : (of_workers of_feeds : List (Way H)) → of_workers ≡ map (way_of (new_door pool)) ms → of_feeds ≡ replicate feeds (of_feed (new_door pool)) → IsBegun origin kind workers feeds pool of_workers of_feeds
-    is_begun of_workers of_feeds e f = begun origin kind workers feeds owns door.spot new some ms of_workers of_feeds (ap (λ (l : Look H). l.spot.capacity) is ∙ bound) are_members e f
+    pub is_begun : (of_workers of_feeds : List (Way H)) → of_workers ≡ map (way_of (new_door pool)) ms
+        → of_feeds ≡ replicate feeds (of_feed (new_door pool)) → IsBegun origin kind workers feeds pool of_workers of_feeds
+    is_begun of_workers of_feeds e f = begun origin kind workers feeds owns door.spot new some ms of_workers of_feeds
+        (ap (λ (l : Look H). l.spot.capacity) is ∙ bound) are_members e f

@@ -1,5 +1,6 @@
 -- The next ends' deques are looked in, one after the other.
-use Rattle.std.proofs.Common.{◌≡◌, ℕ, suc, ◌+◌, ◌<◌, ◌≤◌, List, [], ◌∷◌, ◌++◌, length, get_or, set, take, sym, ap, ◌∙◌, subst, arith, MatchOption, None, Some}
+use Rattle.std.proofs.Common.{◌≡◌, ℕ, suc, ◌+◌, ◌<◌, ◌≤◌, List, [], ◌∷◌, ◌++◌, length, get_or, set, take, sym, ap, ◌∙◌, subst, arith, MatchOption}
+use Rattle.std.proofs.Common.{None, Some}
 use Rattle.std.specs.Prelude.{All, Option}
 use Rattle.std.proofs.lemmas.List.{length-map, set-get_or, take_all}
 use Rattle.std.proofs.lemmas.List.Elements.{All-push}
@@ -18,17 +19,20 @@ of_none N P r e h = subst (λ x. MatchOption x N P) e h
 module _ {H : Type 0} (IsFit : Option (Origin H) → Claim H → Type 0) (old now : List (Look H)) (same : now ≡ old) where
   module _ (k : ℕ) (d after : Look H) (lt : k < length old) (empty : All (WasEmpty IsFit) (take k old)) where
     -- this one has a claim
-    pub steals_at : (c : Claim H) → after.spot ≡ (get_or now k d).spot → TakesFirst IsFit (get_or now k d).ledger c after.ledger → TakesOne IsFit old c (set now k after)
+    pub steals_at : (c : Claim H) → after.spot ≡ (get_or now k d).spot → TakesFirst IsFit (get_or now k d).ledger c after.ledger
+        → TakesOne IsFit old c (set now k after)
     steals_at c s t =
         subst (λ (l : List (Look H)). TakesOne IsFit old c (set l k after)) (sym same)
         (takes_at IsFit old k d after c lt empty (subst (λ (l : List (Look H)). after.spot ≡ (get_or l k d).spot) same s)
         (subst (λ (l : List (Look H)). TakesFirst IsFit (get_or l k d).ledger c after.ledger) same t))
 
     -- this one was empty too
-    pub passes_by : after ≡ get_or now k d → Moment IsFit (get_or now k d).ledger [] → (set now k after ≡ old) × All (WasEmpty IsFit) (take (k + 1) old)
+    pub passes_by : after ≡ get_or now k d → Moment IsFit (get_or now k d).ledger [] → (set now k after ≡ old)
+        × All (WasEmpty IsFit) (take (k + 1) old)
     passes_by e m =
         let was : WasEmpty IsFit (get_or old k d) = subst (λ (l : List (Look H)). Moment IsFit (get_or l k d).ledger []) same m in
-        let more : take k old ++ get_or old k d ∷ [] ≡ take (k + 1) old = sym (take_suc old k d lt) ∙ ap (λ (n : ℕ). take n old) (let one : suc k ≡ k + 1 = omega arith in one) in (
+        let more : take k old ++ get_or old k d ∷ [] ≡ take (k + 1) old = sym (take_suc old k d lt)
+            ∙ ap (λ (n : ℕ). take n old) (let one : suc k ≡ k + 1 = omega arith in one) in (
           ap (set now k) e ∙ set-get_or now k d ∙ same,
           subst (All (WasEmpty IsFit)) more (All-push (WasEmpty IsFit) (take k old) (get_or old k d) empty was),
         )

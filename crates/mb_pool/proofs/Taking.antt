@@ -14,8 +14,10 @@ pub drained : {X : Type 0} (done rest all : List X) → length rest ≡ 0 → do
 drained done [] all none e = sym (append-nil done) ∙ e
 drained done (x ∷ rest) all none e = absurd (omega (arith, none))
 
-module _ {H : Type 0} (IsFit : Option (Origin H) → Claim H → Type 0) (base door other new : Look H) (all done rest : List (Way H)) (end : Way H) (list : done ++ end ∷ rest ≡ all)
-    (alike : All (λ (l : Look H). where_is l ≡ where_is base) (doors_of all)) (took : TakesIn base (doors_of done) door) (same : other ≡ end.door) where
+module _ {H : Type 0} (IsFit : Option (Origin H) → Claim H → Type 0) (base door other new : Look H) (all done rest : List (Way H)) (end : Way H)
+    (list : done ++ end ∷ rest ≡ all)
+    (alike : All (λ (l : Look H). where_is l ≡ where_is base) (doors_of all)) (took : TakesIn base (doors_of done) door)
+        (same : other ≡ end.door) where
   end_here : where_is end.door ≡ where_is base
   end_here = alike_next base all done rest end list alike
 
@@ -25,12 +27,14 @@ module _ {H : Type 0} (IsFit : Option (Origin H) → Claim H → Type 0) (base d
 
   -- once it is taken in
   pub takes_next : new ≡ joined door other → TakesIn base (doors_of (done ++ end ∷ [])) new
-  takes_next n = subst (λ (l : Look H). TakesIn base (doors_of (done ++ end ∷ [])) l) (sym n) (one_more_door IsFit base door other done end took same)
+  takes_next n = subst (λ (l : Look H). TakesIn base (doors_of (done ++ end ∷ [])) l) (sym n)
+      (one_more_door IsFit base door other done end took same)
 
   pub share_next : new ≡ joined door other → HasShare door → HasShare other → HasShare new
   share_next n mine theirs = subst (λ (l : Look H). HasShare l) (sym n) (both_share door other mine theirs)
 
   -- and its own deque was emptied
-  pub empties_next : (old mid now : List (Claim H)) → Empties IsFit base.ledger.gates (owns_of done) old mid → Empties IsFit (gates_of end) end.own mid now
+  pub empties_next : (old mid now : List (Claim H)) → Empties IsFit base.ledger.gates (owns_of done) old mid
+      → Empties IsFit (gates_of end) end.own mid now
       → Empties IsFit base.ledger.gates (owns_of (done ++ end ∷ [])) old now
   empties_next old mid now p q = one_more_own IsFit base done end old mid now p end_here q

@@ -52,4 +52,5 @@ borrowed_next {H} owns end = map (borrowed {H = H}) (drop (end + 1) owns ++ take
 -- and one of each of the next ends' deques.
 pub record AreMembers {H : Type 0} (pool : Whole H) (members : List (Option (Member H))) : Type 0 where
   pub own : map (own_of {H = H}) members ≡ map (λ (end : ℕ). map (fresh pool.gates pool.ends 1) (take 1 (drop end pool.deques))) (numbers 0 pool.ends)
-  pub next : map (next_of {H = H}) members ≡ map (λ (end : ℕ). map (fresh pool.gates pool.ends 1) (drop (end + 1) pool.deques ++ take end pool.deques)) (numbers 0 pool.ends)
+  pub next : map (next_of {H = H}) members
+      ≡ map (λ (end : ℕ). map (fresh pool.gates pool.ends 1) (drop (end + 1) pool.deques ++ take end pool.deques)) (numbers 0 pool.ends)

@@ -36,7 +36,8 @@ abbrev pub AreUnused : {H : Type 0} → List (Way H) → Type 0
 AreUnused ways = (pushed_by ways ≡ []) × (taken_by ways ≡ [])
 
 -- a new pool of this kind for the claims of these gates, with so many ends and feeds
-pub record IsBegun {H : Type 0} (origin : Origin H) (kind : Kind) (workers feeds : ℕ) (pool : Whole H) (of_workers of_feeds : List (Way H)) : Type 0 where
+pub record IsBegun {H : Type 0} (origin : Origin H) (kind : Kind) (workers feeds : ℕ) (pool : Whole H)
+    (of_workers of_feeds : List (Way H)) : Type 0 where
   pub gates : pool.gates ≡ origin
   pub ends_are : pool.ends ≡ workers
   pub feeds_are : pool.feeds ≡ feeds

@@ -7,7 +7,8 @@ use Rattle.mb_gate.specs.Claims.{claimed}
 use Rattle.mb_gate.specs.Names.{claim_id, known_of, held_actor, status_of, gave_last, recorded_by}
 use Rattle.mb_pool.specs.Origin.{Origin}
 
-module _ {H : Type 0} (is_of : H → ℕ → H → Type 0) (journal : H → List Entry) (mailbox : H → Mailbox) (rested : H → Type 0) (given_by : H → ℕ) (closed_to : H → List ℕ) where
+module _ {H : Type 0} (is_of : H → ℕ → H → Type 0) (journal : H → List Entry) (mailbox : H → Mailbox) (rested : H → Type 0)
+    (given_by : H → ℕ) (closed_to : H → List ℕ) where
   -- the claim is of one of the actors of these gates, and its home is this actor's own
   pub record IsOurs (origin : Origin H) (claim : Claim H) : Type 0 where
     pub gates : claim_id claim ≡ origin.gates
@@ -23,5 +24,6 @@ module _ {H : Type 0} (is_of : H → ℕ → H → Type 0) (journal : H → List
     pub scheduled : (status_of claim).scheduled ≡ true
     pub word : word_of (mailbox claim.home) ≡ word_of (idle (status_of claim))
     pub rest : gave_last claim ≡ false → rested claim.home
-    pub known : known_of claim ≡ claimed (held_actor claim) (journal claim.home) (closed_to claim.home) (word_of (status_of claim)) (gave_last claim) (given_by claim.home)
+    pub known : known_of claim
+        ≡ claimed (held_actor claim) (journal claim.home) (closed_to claim.home) (word_of (status_of claim)) (gave_last claim) (given_by claim.home)
     pub recorded : recorded_by claim ≡ []

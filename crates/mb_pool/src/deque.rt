@@ -44,9 +44,11 @@ impl<H: Resident> Deque<H> {
     pub fn push(&mut self, claim: Claim<H>) -> Result<(), Claim<H>>
         requires share { 0 < (worker_view self.old.worker).shares }
         requires fit { IsUntouched H.is_of H.journal H.mailbox H.rested H.given H.closed_to (worker_view self.old.worker).gates claim }
-        ensures same { (worker_deque self.new.worker ≡ worker_deque self.old.worker) × (worker_flavor self.new.worker ≡ worker_flavor self.old.worker) }
+        ensures same { (worker_deque self.new.worker ≡ worker_deque self.old.worker)
+            × (worker_flavor self.new.worker ≡ worker_flavor self.old.worker) }
         ensures pushed { MatchResult result
-            (λ _. PutsLast (IsUntouched H.is_of H.journal H.mailbox H.rested H.given H.closed_to) (worker_view self.old.worker) claim (worker_view self.new.worker))
+            (λ _. PutsLast (IsUntouched H.is_of H.journal H.mailbox H.rested H.given H.closed_to) (worker_view self.old.worker) claim
+                (worker_view self.new.worker))
             (λ back. (back ≡ claim) × (worker_view self.new.worker ≡ worker_view self.old.worker)) }
     {
         match self.worker.push_as::<Pushed>(Parked { claim }) {
@@ -60,11 +62,13 @@ impl<H: Resident> Deque<H> {
     pub fn take(&mut self) -> Option<Claim<H>>
         requires flavor { worker_flavor self.old.worker ≡ 0 }
         requires share { 0 < (worker_view self.old.worker).shares }
-        ensures same { (worker_deque self.new.worker ≡ worker_deque self.old.worker) × (worker_flavor self.new.worker ≡ worker_flavor self.old.worker) }
+        ensures same { (worker_deque self.new.worker ≡ worker_deque self.old.worker)
+            × (worker_flavor self.new.worker ≡ worker_flavor self.old.worker) }
         ensures taken { MatchOption result
             ((worker_view self.new.worker ≡ worker_view self.old.worker)
             × Moment (IsUntouched H.is_of H.journal H.mailbox H.rested H.given H.closed_to) (worker_view self.old.worker) [])
-            (λ c. TakesFirst (IsUntouched H.is_of H.journal H.mailbox H.rested H.given H.closed_to) (worker_view self.old.worker) c (worker_view self.new.worker)) }
+            (λ c. TakesFirst (IsUntouched H.is_of H.journal H.mailbox H.rested H.given H.closed_to) (worker_view self.old.worker) c
+                (worker_view self.new.worker)) }
     {
         match self.worker.pop_as::<Taken>() {
             Some(parked) => Some(parked.open()),
@@ -75,7 +79,8 @@ impl<H: Resident> Deque<H> {
     /// Settles of which gates the claims are, and how many shares there are.
     pub fn open<S: Scoped<H>>(&mut self)
         requires unused { worker_view self.old.worker ≡ unused }
-        ensures same { (worker_deque self.new.worker ≡ worker_deque self.old.worker) × (worker_flavor self.new.worker ≡ worker_flavor self.old.worker) }
+        ensures same { (worker_deque self.new.worker ≡ worker_deque self.old.worker)
+            × (worker_flavor self.new.worker ≡ worker_flavor self.old.worker) }
         ensures opened { worker_view self.new.worker ≡ opened S.gates S.members S.members }
     {
         let _ = self.worker.another::<Opens<S>>();
@@ -84,7 +89,8 @@ impl<H: Resident> Deque<H> {
     /// One of its shares goes to a pass of its own.
     pub fn lend(&mut self) -> DequePass<H>
         requires shares { 1 < (worker_view self.old.worker).shares }
-        ensures same { (worker_deque self.new.worker ≡ worker_deque self.old.worker) × (worker_flavor self.new.worker ≡ worker_flavor self.old.worker) }
+        ensures same { (worker_deque self.new.worker ≡ worker_deque self.old.worker)
+            × (worker_flavor self.new.worker ≡ worker_flavor self.old.worker) }
         ensures theirs { IsPassOf (worker_deque self.old.worker) result }
         ensures lent { worker_view self.new.worker ≡ lending 1 (worker_view self.old.worker) }
         ensures borrowed { view result ≡ borrowing 1 (worker_view self.old.worker) }
@@ -96,7 +102,8 @@ impl<H: Resident> Deque<H> {
     pub fn join(&mut self, other: DequePass<H>)
         requires theirs { IsPassOf (worker_deque self.old.worker) other }
         requires shares { (0 < (worker_view self.old.worker).shares) × (0 < (view other).shares) }
-        ensures same { (worker_deque self.new.worker ≡ worker_deque self.old.worker) × (worker_flavor self.new.worker ≡ worker_flavor self.old.worker) }
+        ensures same { (worker_deque self.new.worker ≡ worker_deque self.old.worker)
+            × (worker_flavor self.new.worker ≡ worker_flavor self.old.worker) }
         ensures joined { worker_view self.new.worker ≡ joining (worker_view self.old.worker) (view other) }
     {
         self.worker.absorb::<Joins>(other);

@@ -30,8 +30,11 @@ impl<H: Resident> Door<H> {
         requires share { 0 < (look_of self.old).ledger.shares }
         requires fit { IsUntouched H.is_of H.journal H.mailbox H.rested H.given H.closed_to (look_of self.old).ledger.gates claim }
         ensures spot { (look_of self.new).spot ≡ (look_of self.old).spot }
-        ensures pushed { MatchResult result (λ _. PutsLast (IsUntouched H.is_of H.journal H.mailbox H.rested H.given H.closed_to) (look_of self.old).ledger claim (look_of self.new).ledger)
-            (λ refused. (given_back refused ≡ claim) × (look_of self.new ≡ look_of self.old) × IsRefusal (IsUntouched H.is_of H.journal H.mailbox H.rested H.given H.closed_to) (look_of self.old) refused) }
+        ensures pushed { MatchResult result
+            (λ _. PutsLast (IsUntouched H.is_of H.journal H.mailbox H.rested H.given H.closed_to) (look_of self.old).ledger claim
+            (look_of self.new).ledger)
+            (λ refused. (given_back refused ≡ claim) × (look_of self.new ≡ look_of self.old)
+                × IsRefusal (IsUntouched H.is_of H.journal H.mailbox H.rested H.given H.closed_to) (look_of self.old) refused) }
     {
         match self {
             Door::Bounded(port) => return port.push(rt, claim),
@@ -44,8 +47,11 @@ impl<H: Resident> Door<H> {
     pub fn take<R: Wait>(&mut self, rt: &R) -> Option<Claim<H>>
         requires share { 0 < (look_of self.old).ledger.shares }
         ensures spot { (look_of self.new).spot ≡ (look_of self.old).spot }
-        ensures taken { MatchOption result ((look_of self.new ≡ look_of self.old) × Moment (IsUntouched H.is_of H.journal H.mailbox H.rested H.given H.closed_to) (look_of self.old).ledger [])
-            (λ c. TakesFirst (IsUntouched H.is_of H.journal H.mailbox H.rested H.given H.closed_to) (look_of self.old).ledger c (look_of self.new).ledger) }
+        ensures taken { MatchOption result
+            ((look_of self.new ≡ look_of self.old)
+            × Moment (IsUntouched H.is_of H.journal H.mailbox H.rested H.given H.closed_to) (look_of self.old).ledger [])
+            (λ c. TakesFirst (IsUntouched H.is_of H.journal H.mailbox H.rested H.given H.closed_to) (look_of self.old).ledger c
+                (look_of self.new).ledger) }
     {
         match self {
             Door::Bounded(port) => return port.take(rt),

@@ -42,8 +42,10 @@ impl<H: Resident> WorkerEnd<H> {
     #[inline]
     pub fn push<R: Wait>(&mut self, rt: &R, claim: Claim<H>) -> Result<(), Refused<H>>
         requires fit { IsUntouched H.is_of H.journal H.mailbox H.rested H.given H.closed_to (gates_of self.old) claim }
-        ensures pushed { MatchResult result (λ _. Pushes (IsUntouched H.is_of H.journal H.mailbox H.rested H.given H.closed_to) self.old claim self.new)
-            (λ refused. (given_back refused ≡ claim) × (self.new ≡ self.old) × IsRefusedBy (IsUntouched H.is_of H.journal H.mailbox H.rested H.given H.closed_to) self.old refused) }
+        ensures pushed { MatchResult result
+            (λ _. Pushes (IsUntouched H.is_of H.journal H.mailbox H.rested H.given H.closed_to) self.old claim self.new)
+            (λ refused. (given_back refused ≡ claim) × (self.new ≡ self.old)
+                × IsRefusedBy (IsUntouched H.is_of H.journal H.mailbox H.rested H.given H.closed_to) self.old refused) }
         ensures same { parts_of self.new ≡ parts_of self.old }
     {
         push_first(rt, &mut self.door, &mut self.member, claim)
@@ -54,7 +56,8 @@ impl<H: Resident> WorkerEnd<H> {
     /// the push. `None` only where each of these places was empty at a moment of the call, not all at the same.
     #[inline]
     pub fn take<R: Wait>(&mut self, rt: &R) -> Option<Claim<H>>
-        ensures taken { MatchOption result ((self.new ≡ self.old) × All (WasEmpty (IsUntouched H.is_of H.journal H.mailbox H.rested H.given H.closed_to)) (looks self.old))
+        ensures taken { MatchOption result
+            ((self.new ≡ self.old) × All (WasEmpty (IsUntouched H.is_of H.journal H.mailbox H.rested H.given H.closed_to)) (looks self.old))
             (λ c. Takes (IsUntouched H.is_of H.journal H.mailbox H.rested H.given H.closed_to) self.old c self.new) }
         ensures fit { IfSome result (λ c. IsUntouched H.is_of H.journal H.mailbox H.rested H.given H.closed_to (gates_of self.old) c) }
         ensures same { parts_of self.new ≡ parts_of self.old }
@@ -71,7 +74,9 @@ fn push_first<H: Resident, R: Wait>(
 ) -> Result<(), Refused<H>>
     requires open { AreOpen (way_of (look_of door.old) member.old) }
     requires fit { IsUntouched H.is_of H.journal H.mailbox H.rested H.given H.closed_to (look_of door.old).ledger.gates claim }
-    ensures pushed { MatchResult result (λ _. Pushes (IsUntouched H.is_of H.journal H.mailbox H.rested H.given H.closed_to) (way_of (look_of door.old) member.old) claim (way_of (look_of door.new) member.new))
+    ensures pushed { MatchResult result
+        (λ _. Pushes (IsUntouched H.is_of H.journal H.mailbox H.rested H.given H.closed_to) (way_of (look_of door.old) member.old) claim
+        (way_of (look_of door.new) member.new))
         (λ refused. (given_back refused ≡ claim) × (way_of (look_of door.new) member.new ≡ way_of (look_of door.old) member.old)
         × IsRefusedBy (IsUntouched H.is_of H.journal H.mailbox H.rested H.given H.closed_to) (way_of (look_of door.old) member.old) refused) }
     ensures same { parts_of (way_of (look_of door.new) member.new) ≡ parts_of (way_of (look_of door.old) member.old) }
@@ -93,7 +98,8 @@ fn take_first<H: Resident, R: Wait>(
     requires { AreOpen (way_of (look_of door.old) member.old) }
     ensures taken { MatchOption result ((way_of (look_of door.new) member.new ≡ way_of (look_of door.old) member.old)
         × All (WasEmpty (IsUntouched H.is_of H.journal H.mailbox H.rested H.given H.closed_to)) (looks (way_of (look_of door.old) member.old)))
-        (λ c. Takes (IsUntouched H.is_of H.journal H.mailbox H.rested H.given H.closed_to) (way_of (look_of door.old) member.old) c (way_of (look_of door.new) member.new)) }
+        (λ c. Takes (IsUntouched H.is_of H.journal H.mailbox H.rested H.given H.closed_to) (way_of (look_of door.old) member.old) c
+            (way_of (look_of door.new) member.new)) }
     ensures same { parts_of (way_of (look_of door.new) member.new) ≡ parts_of (way_of (look_of door.old) member.old) }
 {
     match member {

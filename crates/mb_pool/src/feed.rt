@@ -36,8 +36,10 @@ impl<H: Resident> Feed<H> {
     #[inline]
     pub fn push<R: Wait>(&mut self, rt: &R, claim: Claim<H>) -> Result<(), Refused<H>>
         requires fit { IsUntouched H.is_of H.journal H.mailbox H.rested H.given H.closed_to (gates_of self.old) claim }
-        ensures pushed { MatchResult result (λ _. Pushes (IsUntouched H.is_of H.journal H.mailbox H.rested H.given H.closed_to) self.old claim self.new)
-            (λ refused. (given_back refused ≡ claim) × (self.new ≡ self.old) × IsRefusedBy (IsUntouched H.is_of H.journal H.mailbox H.rested H.given H.closed_to) self.old refused) }
+        ensures pushed { MatchResult result
+            (λ _. Pushes (IsUntouched H.is_of H.journal H.mailbox H.rested H.given H.closed_to) self.old claim self.new)
+            (λ refused. (given_back refused ≡ claim) × (self.new ≡ self.old)
+                × IsRefusedBy (IsUntouched H.is_of H.journal H.mailbox H.rested H.given H.closed_to) self.old refused) }
         ensures same { parts_of self.new ≡ parts_of self.old }
     {
         self.door.push(rt, claim)

@@ -49,8 +49,10 @@ impl<H: Resident> InletPort<H> {
         requires share { 0 < self.old.ledger.shares }
         requires fit { IsUntouched H.is_of H.journal H.mailbox H.rested H.given H.closed_to self.old.ledger.gates claim }
         ensures spot { self.new.spot ≡ self.old.spot }
-        ensures pushed { MatchResult result (λ _. PutsLast (IsUntouched H.is_of H.journal H.mailbox H.rested H.given H.closed_to) self.old.ledger claim self.new.ledger)
-            (λ refused. (given_back refused ≡ claim) × (self.new ≡ self.old) × IsRefusal (IsUntouched H.is_of H.journal H.mailbox H.rested H.given H.closed_to) self.old refused) }
+        ensures pushed { MatchResult result
+            (λ _. PutsLast (IsUntouched H.is_of H.journal H.mailbox H.rested H.given H.closed_to) self.old.ledger claim self.new.ledger)
+            (λ refused. (given_back refused ≡ claim) × (self.new ≡ self.old)
+                × IsRefusal (IsUntouched H.is_of H.journal H.mailbox H.rested H.given H.closed_to) self.old refused) }
     {
         match self.inlet.push(rt, &mut self.pass, claim) {
             Ok(()) => return Ok(()),
@@ -63,7 +65,8 @@ impl<H: Resident> InletPort<H> {
     pub fn take<R: Wait>(&mut self, rt: &R) -> Option<Claim<H>>
         requires share { 0 < self.old.ledger.shares }
         ensures spot { self.new.spot ≡ self.old.spot }
-        ensures taken { MatchOption result ((self.new ≡ self.old) × Moment (IsUntouched H.is_of H.journal H.mailbox H.rested H.given H.closed_to) self.old.ledger [])
+        ensures taken { MatchOption result
+            ((self.new ≡ self.old) × Moment (IsUntouched H.is_of H.journal H.mailbox H.rested H.given H.closed_to) self.old.ledger [])
             (λ c. TakesFirst (IsUntouched H.is_of H.journal H.mailbox H.rested H.given H.closed_to) self.old.ledger c self.new.ledger) }
     {
         self.inlet.take(rt, &mut self.pass)
@@ -81,7 +84,8 @@ impl<H: Resident> InletPort<H> {
     pub fn lend(&mut self) -> Result<InletPort<H>, AllocError>
         requires { 1 < self.old.ledger.shares }
         ensures { MatchResult result
-            (λ port. (self.new ≡ record self.old { ledger = lending 1 self.old.ledger }) × (port ≡ record self.old { ledger = borrowing 1 self.old.ledger }))
+            (λ port. (self.new ≡ record self.old { ledger = lending 1 self.old.ledger })
+                × (port ≡ record self.old { ledger = borrowing 1 self.old.ledger }))
             (λ _. self.new ≡ self.old) }
     {
         let inlet = Arc::try_clone(&self.inlet)?;

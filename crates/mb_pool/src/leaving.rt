@@ -63,7 +63,8 @@ fn empty_ends<H: Resident, R: Wait>(
     requires some { 0 < length ends.items }
     requires alike { AreAlike (doors_of ends.items) }
     ensures door { IsAllOf (doors_of ends.items) (look_of result) }
-    ensures emptied { Empties (IsUntouched H.is_of H.journal H.mailbox H.rested H.given H.closed_to) (look_of result).ledger.gates (owns_of ends.items) left.old.items left.new.items }
+    ensures emptied { Empties (IsUntouched H.is_of H.journal H.mailbox H.rested H.given H.closed_to) (look_of result).ledger.gates
+        (owns_of ends.items) left.old.items left.new.items }
 {
     let mut ends = ends.into_iter();
     let Some(first) = ends.next() else {
@@ -95,7 +96,8 @@ fn join_feeds<H: Resident>(door: Door<H>, feeds: Vec<Feed<H>>) -> Door<H>
 fn empty_end<H: Resident, R: Wait>(rt: &R, end: WorkerEnd<H>, left: &mut Vec<Claim<H>>) -> Door<H>
     ensures door { look_of result ≡ end.door }
     ensures share { HasShare end.door }
-    ensures emptied { Empties (IsUntouched H.is_of H.journal H.mailbox H.rested H.given H.closed_to) (gates_of end) end.own left.old.items left.new.items }
+    ensures emptied { Empties (IsUntouched H.is_of H.journal H.mailbox H.rested H.given H.closed_to)
+        (gates_of end) end.own left.old.items left.new.items }
 {
     let WorkerEnd { door, member } = end;
     if let Some(member) = member {
@@ -109,7 +111,8 @@ fn empty_end<H: Resident, R: Wait>(rt: &R, end: WorkerEnd<H>, left: &mut Vec<Cla
 /// Takes all claims out of the deque.
 fn empty_own<H: Resident, R: Wait>(rt: &R, mut own: Own<H>, left: &mut Vec<Claim<H>>)
     requires { HasShare own }
-    ensures { Empties (IsUntouched H.is_of H.journal H.mailbox H.rested H.given H.closed_to) own.ledger.gates (own ∷ []) left.old.items left.new.items }
+    ensures { Empties (IsUntouched H.is_of H.journal H.mailbox H.rested H.given H.closed_to) own.ledger.gates
+        (own ∷ []) left.old.items left.new.items }
 {
     for _ in rt.forever() {
         match own.take() {
@@ -123,7 +126,8 @@ fn empty_own<H: Resident, R: Wait>(rt: &R, mut own: Own<H>, left: &mut Vec<Claim
 /// Takes all claims out of the place that all share.
 fn empty_door<H: Resident, R: Wait>(rt: &R, mut door: Door<H>, left: &mut Vec<Claim<H>>)
     requires { HasShare (look_of door) }
-    ensures { Empties (IsUntouched H.is_of H.journal H.mailbox H.rested H.given H.closed_to) (look_of door).ledger.gates (look_of door ∷ []) left.old.items left.new.items }
+    ensures { Empties (IsUntouched H.is_of H.journal H.mailbox H.rested H.given H.closed_to) (look_of door).ledger.gates
+        (look_of door ∷ []) left.old.items left.new.items }
 {
     for _ in rt.forever() {
         match door.take(rt) {

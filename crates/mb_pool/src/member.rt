@@ -31,7 +31,8 @@ pub fn take_somewhere<H: Resident, R: Wait>(
     ensures taken { MatchOption result
         ((way_of (look_of door.new) (Some member.new) ≡ way_of (look_of door.old) (Some member.old))
         × All (WasEmpty (IsUntouched H.is_of H.journal H.mailbox H.rested H.given H.closed_to)) (looks (way_of (look_of door.old) (Some member.old))))
-        (λ c. TakesOne (IsUntouched H.is_of H.journal H.mailbox H.rested H.given H.closed_to) (looks (way_of (look_of door.old) (Some member.old))) c (looks (way_of (look_of door.new) (Some member.new)))) }
+        (λ c. TakesOne (IsUntouched H.is_of H.journal H.mailbox H.rested H.given H.closed_to) (looks (way_of (look_of door.old) (Some member.old))) c
+            (looks (way_of (look_of door.new) (Some member.new)))) }
     ensures same { parts_of (way_of (look_of door.new) (Some member.new)) ≡ parts_of (way_of (look_of door.old) (Some member.old)) }
 {
     if let Some(claim) = member.own.take() {
@@ -46,7 +47,8 @@ pub fn take_somewhere<H: Resident, R: Wait>(
 /// Steals the first claim of the first deque that has one.
 fn steal_from_next<H: Resident, R: Wait>(rt: &R, thieves: &mut [Thief<H>]) -> Option<Claim<H>>
     requires { All HasShare thieves.old }
-    ensures { MatchOption result ((thieves.new ≡ thieves.old) × All (WasEmpty (IsUntouched H.is_of H.journal H.mailbox H.rested H.given H.closed_to)) thieves.old)
+    ensures { MatchOption result
+        ((thieves.new ≡ thieves.old) × All (WasEmpty (IsUntouched H.is_of H.journal H.mailbox H.rested H.given H.closed_to)) thieves.old)
         (λ c. TakesOne (IsUntouched H.is_of H.journal H.mailbox H.rested H.given H.closed_to) thieves.old c thieves.new) }
 {
     for index in 0..thieves.len() {

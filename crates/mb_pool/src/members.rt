@@ -52,7 +52,8 @@ pub fn members_of<H: Resident>(
     requires { All (λ (l : Look H). l.ledger.shares ≡ length owns.items) owns.items }
     ensures none { IfOk result (λ members. owns.items ≡ [] → members.items ≡ replicate count None) }
     ensures own { IfOk result (λ members. 0 < length owns.items → map own_of members.items ≡ map (λ (o : Look H). with_shares 1 o ∷ []) owns.items) }
-    ensures next { IfOk result (λ members. 0 < length owns.items → map next_of members.items ≡ map (borrowed_next owns.items) (numbers 0 (length owns.items))) }
+    ensures next { IfOk result
+        (λ members. 0 < length owns.items → map next_of members.items ≡ map (borrowed_next owns.items) (numbers 0 (length owns.items))) }
 {
     if owns.is_empty() {
         return no_members(alloc, count);

@@ -49,7 +49,8 @@ impl<H: Resident> Own<H> {
         requires share { 0 < self.old.ledger.shares }
         requires fit { IsUntouched H.is_of H.journal H.mailbox H.rested H.given H.closed_to self.old.ledger.gates claim }
         ensures spot { self.new.spot ≡ self.old.spot }
-        ensures pushed { MatchResult result (λ _. PutsLast (IsUntouched H.is_of H.journal H.mailbox H.rested H.given H.closed_to) self.old.ledger claim self.new.ledger)
+        ensures pushed { MatchResult result
+            (λ _. PutsLast (IsUntouched H.is_of H.journal H.mailbox H.rested H.given H.closed_to) self.old.ledger claim self.new.ledger)
             (λ back. (back ≡ claim) × (self.new ≡ self.old)) }
         ensures unbounded { self.old.spot.capacity ≡ None }
     {
@@ -61,7 +62,8 @@ impl<H: Resident> Own<H> {
     pub fn take(&mut self) -> Option<Claim<H>>
         requires share { 0 < self.old.ledger.shares }
         ensures spot { self.new.spot ≡ self.old.spot }
-        ensures taken { MatchOption result ((self.new ≡ self.old) × Moment (IsUntouched H.is_of H.journal H.mailbox H.rested H.given H.closed_to) self.old.ledger [])
+        ensures taken { MatchOption result
+            ((self.new ≡ self.old) × Moment (IsUntouched H.is_of H.journal H.mailbox H.rested H.given H.closed_to) self.old.ledger [])
             (λ c. TakesFirst (IsUntouched H.is_of H.journal H.mailbox H.rested H.given H.closed_to) self.old.ledger c self.new.ledger) }
     {
         self.deque.take()
@@ -89,7 +91,8 @@ impl<H: Resident> Own<H> {
     pub fn lend(&mut self) -> Result<Thief<H>, AllocError>
         requires { 1 < self.old.ledger.shares }
         ensures { MatchResult result
-            (λ thief. (self.new ≡ record self.old { ledger = lending 1 self.old.ledger }) × (thief ≡ record self.old { ledger = borrowing 1 self.old.ledger }))
+            (λ thief. (self.new ≡ record self.old { ledger = lending 1 self.old.ledger })
+                × (thief ≡ record self.old { ledger = borrowing 1 self.old.ledger }))
             (λ _. self.new ≡ self.old) }
     {
         let stealer = self.deque.worker.stealer()?;

@@ -39,9 +39,21 @@ impl<H: Resident> Model for Pool<H> {
     ghost use Rattle.mb_pool.specs.Origin.{origin_of};
     ghost use Rattle.mb_pool.specs.Parts.{look_of};
 
-    ghost view = { λ p. record { gates = origin_of p.gates.value; door = (look_of p.door.value).spot; deques = spots_of p.deques.value.items; ends = p.ends; feeds = p.feeds } };
+    ghost view = { λ p. record {
+        gates = origin_of p.gates.value;
+        door = (look_of p.door.value).spot;
+        deques = spots_of p.deques.value.items;
+        ends = p.ends;
+        feeds = p.feeds;
+    } };
 
-    ghost invariant = { λ p. IsWhole (record { gates = origin_of p.gates.value; door = (look_of p.door.value).spot; deques = spots_of p.deques.value.items; ends = p.ends; feeds = p.feeds }) };
+    ghost invariant = { λ p. IsWhole (record {
+        gates = origin_of p.gates.value;
+        door = (look_of p.door.value).spot;
+        deques = spots_of p.deques.value.items;
+        ends = p.ends;
+        feeds = p.feeds;
+    }) };
 }
 
 impl<H: Resident> Pool<H> {

@@ -60,7 +60,8 @@ impl<H: Resident> deque::Outcome<Parked<H>, Knowledge<H>> for Pushed {
     ghost use Rattle.mb_pool.specs.Items.{claims_of};
     ghost use Rattle.mb_pool.specs.Untouched.{IsUntouched};
 
-    ghost then = { λ old ps new. (c : Claim H) × (claims_of ps ≡ c ∷ []) × PutsLast (IsUntouched H.is_of H.journal H.mailbox H.rested H.given H.closed_to) old c new };
+    ghost then = { λ old ps new. (c : Claim H) × (claims_of ps ≡ c ∷ [])
+        × PutsLast (IsUntouched H.is_of H.journal H.mailbox H.rested H.given H.closed_to) old c new };
 }
 
 /// A take of the first.
@@ -89,7 +90,8 @@ impl<H: Resident> deque::Outcome<Parked<H>, Knowledge<H>> for Taken {
     ghost use Rattle.mb_pool.specs.Items.{claims_of};
     ghost use Rattle.mb_pool.specs.Untouched.{IsUntouched};
 
-    ghost then = { λ old ps new. (c : Claim H) × (claims_of ps ≡ c ∷ []) × TakesFirst (IsUntouched H.is_of H.journal H.mailbox H.rested H.given H.closed_to) old c new };
+    ghost then = { λ old ps new. (c : Claim H) × (claims_of ps ≡ c ∷ [])
+        × TakesFirst (IsUntouched H.is_of H.journal H.mailbox H.rested H.given H.closed_to) old c new };
 
     ghost empty = { λ old. Moment (IsUntouched H.is_of H.journal H.mailbox H.rested H.given H.closed_to) old [] };
 }

@@ -44,7 +44,8 @@ impl<H: Resident> Slots<H> {
         requires share { 0 < (view pass.old).shares }
         requires fit { IsUntouched H.is_of H.journal H.mailbox H.rested H.given H.closed_to (view pass.old).gates claim }
         ensures queue { (IsPassOf self.now.queue pass.new) × (pass.new.table_id ≡ pass.old.table_id) }
-        ensures pushed { MatchResult result (λ _. PutsLast (IsUntouched H.is_of H.journal H.mailbox H.rested H.given H.closed_to) (view pass.old) claim (view pass.new))
+        ensures pushed { MatchResult result
+            (λ _. PutsLast (IsUntouched H.is_of H.journal H.mailbox H.rested H.given H.closed_to) (view pass.old) claim (view pass.new))
             (λ back. (back ≡ claim) × (view pass.new ≡ view pass.old)
             × WasFull (IsUntouched H.is_of H.journal H.mailbox H.rested H.given H.closed_to) (ruled_capacity self.now.queue) (view pass.old)) }
     {
@@ -59,7 +60,8 @@ impl<H: Resident> Slots<H> {
         requires queue { IsPassOf self.now.queue pass.old }
         requires share { 0 < (view pass.old).shares }
         ensures queue { (IsPassOf self.now.queue pass.new) × (pass.new.table_id ≡ pass.old.table_id) }
-        ensures taken { MatchOption result ((view pass.new ≡ view pass.old) × Moment (IsUntouched H.is_of H.journal H.mailbox H.rested H.given H.closed_to) (view pass.old) [])
+        ensures taken { MatchOption result
+            ((view pass.new ≡ view pass.old) × Moment (IsUntouched H.is_of H.journal H.mailbox H.rested H.given H.closed_to) (view pass.old) [])
             (λ c. TakesFirst (IsUntouched H.is_of H.journal H.mailbox H.rested H.given H.closed_to) (view pass.old) c (view pass.new)) }
     {
         match self.queue.pop_as::<Taken, R>(rt, pass) {

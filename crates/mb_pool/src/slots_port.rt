@@ -50,8 +50,10 @@ impl<H: Resident> SlotsPort<H> {
         requires share { 0 < self.old.ledger.shares }
         requires fit { IsUntouched H.is_of H.journal H.mailbox H.rested H.given H.closed_to self.old.ledger.gates claim }
         ensures spot { self.new.spot ≡ self.old.spot }
-        ensures pushed { MatchResult result (λ _. PutsLast (IsUntouched H.is_of H.journal H.mailbox H.rested H.given H.closed_to) self.old.ledger claim self.new.ledger)
-            (λ refused. (given_back refused ≡ claim) × (self.new ≡ self.old) × IsRefusal (IsUntouched H.is_of H.journal H.mailbox H.rested H.given H.closed_to) self.old refused) }
+        ensures pushed { MatchResult result
+            (λ _. PutsLast (IsUntouched H.is_of H.journal H.mailbox H.rested H.given H.closed_to) self.old.ledger claim self.new.ledger)
+            (λ refused. (given_back refused ≡ claim) × (self.new ≡ self.old)
+                × IsRefusal (IsUntouched H.is_of H.journal H.mailbox H.rested H.given H.closed_to) self.old refused) }
     {
         match self.slots.push(rt, &mut self.pass, claim) {
             Ok(()) => return Ok(()),
@@ -64,7 +66,8 @@ impl<H: Resident> SlotsPort<H> {
     pub fn take<R: Wait>(&mut self, rt: &R) -> Option<Claim<H>>
         requires share { 0 < self.old.ledger.shares }
         ensures spot { self.new.spot ≡ self.old.spot }
-        ensures taken { MatchOption result ((self.new ≡ self.old) × Moment (IsUntouched H.is_of H.journal H.mailbox H.rested H.given H.closed_to) self.old.ledger [])
+        ensures taken { MatchOption result
+            ((self.new ≡ self.old) × Moment (IsUntouched H.is_of H.journal H.mailbox H.rested H.given H.closed_to) self.old.ledger [])
             (λ c. TakesFirst (IsUntouched H.is_of H.journal H.mailbox H.rested H.given H.closed_to) self.old.ledger c self.new.ledger) }
     {
         self.slots.take(rt, &mut self.pass)
@@ -82,7 +85,8 @@ impl<H: Resident> SlotsPort<H> {
     pub fn lend(&mut self) -> Result<SlotsPort<H>, AllocError>
         requires { 1 < self.old.ledger.shares }
         ensures { MatchResult result
-            (λ port. (self.new ≡ record self.old { ledger = lending 1 self.old.ledger }) × (port ≡ record self.old { ledger = borrowing 1 self.old.ledger }))
+            (λ port. (self.new ≡ record self.old { ledger = lending 1 self.old.ledger })
+                × (port ≡ record self.old { ledger = borrowing 1 self.old.ledger }))
             (λ _. self.new ≡ self.old) }
     {
         let slots = Arc::try_clone(&self.slots)?;

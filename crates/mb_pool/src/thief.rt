@@ -49,7 +49,8 @@ impl<H: Resident> Thief<H> {
     pub fn take<R: Wait>(&mut self, rt: &R) -> Option<Claim<H>>
         requires share { 0 < self.old.ledger.shares }
         ensures spot { self.new.spot ≡ self.old.spot }
-        ensures taken { MatchOption result ((self.new ≡ self.old) × Moment (IsUntouched H.is_of H.journal H.mailbox H.rested H.given H.closed_to) self.old.ledger [])
+        ensures taken { MatchOption result
+            ((self.new ≡ self.old) × Moment (IsUntouched H.is_of H.journal H.mailbox H.rested H.given H.closed_to) self.old.ledger [])
             (λ c. TakesFirst (IsUntouched H.is_of H.journal H.mailbox H.rested H.given H.closed_to) self.old.ledger c self.new.ledger) }
     {
         steal_first(rt, &self.stealer, &mut self.pass)
@@ -66,7 +67,8 @@ fn steal_first<H: Resident, R: Wait>(
     requires flavor { stealer_flavor stealer.now ≡ 0 }
     requires share { 0 < (view pass.old).shares }
     ensures deque { IsPassOf (stealer_deque stealer.now) pass.new }
-    ensures taken { MatchOption result ((view pass.new ≡ view pass.old) × Moment (IsUntouched H.is_of H.journal H.mailbox H.rested H.given H.closed_to) (view pass.old) [])
+    ensures taken { MatchOption result
+        ((view pass.new ≡ view pass.old) × Moment (IsUntouched H.is_of H.journal H.mailbox H.rested H.given H.closed_to) (view pass.old) [])
         (λ c. TakesFirst (IsUntouched H.is_of H.journal H.mailbox H.rested H.given H.closed_to) (view pass.old) c (view pass.new)) }
 {
     for _ in rt.forever() {

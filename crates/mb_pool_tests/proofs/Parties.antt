@@ -15,7 +15,8 @@ module _ {H : Type 0} (pool : Whole H) where
   pub end_gates : (ends : List (Way H)) (k : ℕ) (d : Way H) → AreEnds pool ends → k < length ends → gates_of (get_or ends k d) ≡ Some pool.gates
   end_gates ends k d are lt = All-get_or (λ (w : Way H). IsOurs (parts_of w)) ends k d lt (each_end pool ends are IsOurs (λ n. refl))
 
-  pub feed_gates : (feeds : List (Way H)) (k : ℕ) (d : Way H) → AreFeeds pool feeds → k < length feeds → gates_of (get_or feeds k d) ≡ Some pool.gates
+  pub feed_gates : (feeds : List (Way H)) (k : ℕ) (d : Way H) → AreFeeds pool feeds → k < length feeds
+      → gates_of (get_or feeds k d) ≡ Some pool.gates
   feed_gates feeds k d are lt = All-get_or (λ (w : Way H). IsOurs (parts_of w)) feeds k d lt
       (all_unmap IsOurs (parts_of {H = H}) feeds (subst (All IsOurs) (sym are) (All-replicate IsOurs pool.feeds (feed_parts pool) refl)))
 

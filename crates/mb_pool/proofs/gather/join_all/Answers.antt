@@ -17,6 +17,7 @@ loop-thief-preserved g c =
     let steps : into_iter_items at.thief-iterator ≡ t ∷ rest = c.in-Some.ensures.steps.0 in
     let all : at.yielded ++ t ∷ rest ≡ c.args.thieves.items = ap (λ l. at.yielded ++ l) (sym steps) ∙ at.invariant.0 in (
       append_assoc at.yielded (t ∷ []) rest ∙ all,
-      gathers_at c.args.ends.now at.ends at.yielded t c.number-number.result c.index-ends-number.result c.join_own.new.end c.number-number.ensures c.join_own.ensures at.invariant.1
+      gathers_at c.args.ends.now at.ends at.yielded t c.number-number.result c.index-ends-number.result c.join_own.new.end c.number-number.ensures
+          c.join_own.ensures at.invariant.1
           (among_now c.args.ends.now at.ends c.args.thieves.items at.yielded rest t all c.requires at.invariant.1),
     )

@@ -27,11 +27,13 @@ returns-clause-own g c =
     let v = c.args.owns in let new = c.thieves_of.new.owns in let value = c.as_mut_slice.ensures.value in
     let count : length new ≡ v.len = omega (arith, c.thieves_of.auto.owns, c.as_mut_slice.ensures.len) in
     let is = refilled v.len v.items new count in
-    ok_so _ _ c.pair.result (λ ms h some. h ∙ own_one v.items _ (is ∙ c.in_ok-lists.ensures.owns ∙ ap (map (with_shares 1)) value)) c.pair.ensures.own
+    ok_so _ _ c.pair.result (λ ms h some. h ∙ own_one v.items _ (is ∙ c.in_ok-lists.ensures.owns
+        ∙ ap (map (with_shares 1)) value)) c.pair.ensures.own
 
 pub returns-clause-next : goal.returns-clause-next
 returns-clause-next g c =
     let v = c.args.owns in let new = c.thieves_of.new.owns in let value = c.as_mut_slice.ensures.value in
     let count : length new ≡ v.len = omega (arith, c.thieves_of.auto.owns, c.as_mut_slice.ensures.len) in
     let is = refilled v.len v.items new count in
-    ok_so _ _ c.pair.result (λ ms h some. h ∙ c.in_ok-lists.ensures.lists ∙ ap (λ (ls : List (Look _)). map (borrowed_next ls) (numbers 0 (length ls))) value) c.pair.ensures.next
+    ok_so _ _ c.pair.result (λ ms h some. h ∙ c.in_ok-lists.ensures.lists
+        ∙ ap (λ (ls : List (Look _)). map (borrowed_next ls) (numbers 0 (length ls))) value) c.pair.ensures.next

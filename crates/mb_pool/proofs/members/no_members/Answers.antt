@@ -3,7 +3,8 @@ use Rattle.std.proofs.lemmas.List.{replicate_more}
 use Rattle.mb_pool.proofs.members.no_members.Goals as goal
 
 pub loop-member-preserved : goal.loop-member-preserved
-loop-member-preserved g c = let at = c.loop-member in c.in_ok-push.ensures.items ∙ ap (λ l. l ++ None ∷ []) at.invariant ∙ replicate_more at._member None
+loop-member-preserved g c = let at = c.loop-member in c.in_ok-push.ensures.items ∙ ap (λ l. l ++ None ∷ []) at.invariant
+    ∙ replicate_more at._member None
 
 pub returns : goal.returns
 returns g c = let at = c.loop-member in

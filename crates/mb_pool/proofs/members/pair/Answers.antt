@@ -12,9 +12,11 @@ pub loop-own-preserved : goal.loop-own-preserved
 loop-own-preserved g c =
     let at = c.loop-own in let owns = c.in-Some.ensures.steps.0 in let lists = c.in-Some-next.ensures.steps.0 in
     let n = ap (length {A = Look _}) owns in let m = ap (length {A = Vec _ _}) lists in let same = at.invariant.2 in (
-      paired_one (λ (o : Look _). o ∷ []) own_of at.members.items c.push.new.self.items _ c.in-Some.own (into_iter_items at.own-iterator) (into_iter_items c.next.new.self) _
+      paired_one (λ (o : Look _). o ∷ []) own_of at.members.items c.push.new.self.items _ c.in-Some.own (into_iter_items at.own-iterator)
+          (into_iter_items c.next.new.self) _
           c.in_ok-push.ensures.items refl owns at.invariant.0,
-      paired_one (λ (v : Vec _ _). v.items) next_of at.members.items c.push.new.self.items _ c.in-Some-next.thieves (into_iter_items at.lists) (into_iter_items c.next-in-loop-own.new.self) _
+      paired_one (λ (v : Vec _ _). v.items) next_of at.members.items c.push.new.self.items _ c.in-Some-next.thieves (into_iter_items at.lists)
+          (into_iter_items c.next-in-loop-own.new.self) _
           c.in_ok-push.ensures.items refl lists at.invariant.1,
       omega (arith, n, m, same),
     )

@@ -5,4 +5,5 @@ use Rattle.mb_pool.proofs.Begins.{rotated}
 use Rattle.mb_pool.proofs.members.thieves_of.Given as goal
 
 abbrev pub invariant-loop-end : goal.invariant-loop-end
-invariant-loop-end g l = (l.owns ≡ rotated l.initial.owns l.end) × (map (λ v. v.items) l.lists.items ≡ map (borrowed_next l.initial.owns) (numbers 0 l.end))
+invariant-loop-end g l = (l.owns ≡ rotated l.initial.owns l.end) × (map (λ v. v.items) l.lists.items ≡ map (borrowed_next l.initial.owns)
+    (numbers 0 l.end))
