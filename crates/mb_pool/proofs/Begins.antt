@@ -136,13 +136,13 @@ module _ {H : Type 0} where
         (All-map (λ (l : Look H). 1 < l.ledger.shares) (with_shares left) (drop (suc k) owns)
         (all_const (1 < left) (drop (suc k) owns) (λ some. let e = length-drop (suc k) owns in omega (arith, e, some, lt))))
         (All-map (λ (l : Look H). 1 < l.ledger.shares) (with_shares (left + 1)) (take k owns)
-            (all_const (1 < left + 1) (take k owns) (λ some. omega (arith, lt))))
+        (all_const (1 < left + 1) (take k owns) (λ some. omega (arith, lt))))
 
     -- what was borrowed of them
     pub borrowed_so : map (borrowed {H = H}) after ≡ borrowed_next owns k
     borrowed_so = map-append (borrowed {H = H}) (map (with_shares left) (drop (suc k) owns)) (map (with_shares (left + 1)) (take k owns))
         ∙ (λ i. map_map (borrowed {H = H}) (with_shares left) (drop (suc k) owns) i ++ map_map (borrowed {H = H}) (with_shares (left + 1))
-            (take k owns) i)
+        (take k owns) i)
         ∙ sym (map-append (borrowed {H = H}) (drop (suc k) owns) (take k owns))
         ∙ ap (λ n. map (borrowed {H = H}) (drop n owns ++ take k owns)) (let e : suc k ≡ k + 1 = omega arith in e)
 
@@ -161,7 +161,7 @@ module _ {H : Type 0} where
         ∙ ap (λ l. map (with_shares (left - 1)) a ++ l) (sym (map_push (with_shares left) b x) ∙ ap (map (with_shares left)) (sym more))
         ∙ (λ i. map (with_shares (fewer i)) a ++ map (with_shares (same i)) (take (suc k) owns))
         ∙ ap (λ n. map (with_shares (length owns - (k + 1))) (drop n owns) ++ map (with_shares (length owns - (k + 1) + 1)) (take n owns))
-            (let e : suc k ≡ k + 1 = omega arith in e)
+        (let e : suc k ≡ k + 1 = omega arith in e)
 
 module _ {X : Type 0} where
   abbrev head_or : X → List X → X
@@ -199,8 +199,8 @@ singles f pre [] = refl
 singles {A} {B} f pre (x ∷ xs) =
     let head : f x ∷ [] ≡ map f (take 1 (drop (length pre) (pre ++ x ∷ xs))) = ap (λ l. map f (take 1 l)) (sym (drop_length pre (x ∷ xs))) in
     let tail : map (λ y. f y ∷ []) xs ≡ map (λ (k : ℕ). map f (take 1 (drop k (pre ++ x ∷ xs)))) (numbers (length pre + 1) (length xs)) =
-        singles f (pre ++ x ∷ []) xs
-        ∙ (λ i. map (λ (k : ℕ). map f (take 1 (drop k (append_assoc pre (x ∷ []) xs i)))) (numbers (length_push pre x i) (length xs))) in
+    singles f (pre ++ x ∷ []) xs
+    ∙ (λ i. map (λ (k : ℕ). map f (take 1 (drop k (append_assoc pre (x ∷ []) xs i)))) (numbers (length_push pre x i) (length xs))) in
     (λ i. head i ∷ tail i)
 
 module _ {H : Type 0} where
@@ -215,12 +215,12 @@ module _ {H : Type 0} where
         let n : next_of m ≡ fn k = cons_head (next_of m) (fn k) (map (next_of {H = H}) ms) (map fn ks) en in
         All-cons (λ m'. P (own_of m') (next_of m')) m ms (subst (λ (y : List (Look H) × List (Look H)). P y.0 y.1) (λ i. (sym o i, sym n i)) (h k))
         (zip_all P h ms ks (cons_tail (own_of m) (fo k) (map (own_of {H = H}) ms) (map fo ks) eo)
-            (cons_tail (next_of m) (fn k) (map (next_of {H = H}) ms) (map fn ks) en))
+        (cons_tail (next_of m) (fn k) (map (next_of {H = H}) ms) (map fn ks) en))
 
     pub zip_parts : (door : Look H) (ms : List (Option (Member H))) (ks : List ℕ) → map (own_of {H = H}) ms ≡ map fo ks
         → map (next_of {H = H}) ms ≡ map fn ks
         → map (λ m. parts_of (way_of door m)) ms ≡ map (λ (k : ℕ). let p : Parts H = record
-            { own = map (part_of {H = H}) (fo k); door = part_of door; next = map (part_of {H = H}) (fn k) } in p) ks
+        { own = map (part_of {H = H}) (fo k); door = part_of door; next = map (part_of {H = H}) (fn k) } in p) ks
     zip_parts door [] [] eo en = refl
     zip_parts door [] (k ∷ ks) eo en = absurd (cons_nil (fo k) (map fo ks) (sym eo))
     zip_parts door (m ∷ ms) [] eo en = absurd (cons_nil (own_of m) (map (own_of {H = H}) ms) eo)
@@ -228,7 +228,7 @@ module _ {H : Type 0} where
         let o : own_of m ≡ fo k = cons_head (own_of m) (fo k) (map (own_of {H = H}) ms) (map fo ks) eo in
         let n : next_of m ≡ fn k = cons_head (next_of m) (fn k) (map (next_of {H = H}) ms) (map fn ks) en in
         let rest = zip_parts door ms ks (cons_tail (own_of m) (fo k) (map (own_of {H = H}) ms) (map fo ks) eo)
-            (cons_tail (next_of m) (fn k) (map (next_of {H = H}) ms) (map fn ks) en) in
+        (cons_tail (next_of m) (fn k) (map (next_of {H = H}) ms) (map fn ks) en) in
         (λ i. record { own = map (part_of {H = H}) (o i); door = part_of door; next = map (part_of {H = H}) (n i) } ∷ rest i)
 
   -- nothing was pushed or taken yet by way of the port
@@ -272,13 +272,13 @@ module _ {H : Type 0} where
     members_ready = zip_all own_at next_at (λ own next. All IsReady (own ++ new_door pool ∷ next))
         (λ k. All-append IsReady (own_at k) (new_door pool ∷ next_at k) (all_ready (take 1 (drop k pool.deques)))
         (All-cons IsReady (new_door pool) (next_at k) (record { share = omega arith; same = refl }, (refl, refl))
-            (all_ready (drop (k + 1) pool.deques ++ take k pool.deques))))
+        (all_ready (drop (k + 1) pool.deques ++ take k pool.deques))))
         ms (numbers 0 pool.ends) members.own members.next
 
     pub members_open : All (λ m. AreOpen (way_of (new_door pool) m)) ms
     members_open = All-weaker (λ m. All IsReady (looks (way_of (new_door pool) m))) (λ m. AreOpen (way_of (new_door pool) m))
         (λ m h. All-weaker IsReady (λ (l : Look H). IsOpen (Some pool.gates) (part_of l)) (λ l x. x.0)
-            (looks (way_of (new_door pool) m)) h) ms members_ready
+        (looks (way_of (new_door pool) m)) h) ms members_ready
 
     pub are_ends : (ends : List (Way H)) → ends ≡ map (way_of (new_door pool)) ms → AreEnds pool ends
     are_ends ends e = ap (map (parts_of {H = H})) e ∙ map_map (parts_of {H = H}) (way_of (new_door pool)) ms
@@ -298,10 +298,10 @@ module _ {H : Type 0} where
         let P : Way H → Type 0 = λ w. All IsUnused (looks w) in
         none_by (ends ++ feeds) (All-append P ends feeds
         (subst (All P) (sym ee) (All-map P (way_of (new_door pool)) ms
-            (All-weaker (λ m. All IsReady (looks (way_of (new_door pool) m))) (λ m. P (way_of (new_door pool) m))
+        (All-weaker (λ m. All IsReady (looks (way_of (new_door pool) m))) (λ m. P (way_of (new_door pool) m))
         (λ m h. All-weaker IsReady IsUnused (λ l x. x.1) (looks (way_of (new_door pool) m)) h) ms members_ready)))
         (subst (All P) (sym ef) (All-replicate P pool.feeds (of_feed (new_door pool))
-            (All-cons IsUnused (new_door pool) [] (refl, refl) (All-nil IsUnused)))))
+        (All-cons IsUnused (new_door pool) [] (refl, refl) (All-nil IsUnused)))))
 
   module _ (pool : Whole H) (ms : List (Option (Member H))) where
     nothing_taken : (k : ℕ) (spots : List Spot) → spots ≡ [] → map (fresh pool.gates pool.ends 1) (take 1 (drop k spots)) ≡ []
@@ -316,16 +316,16 @@ module _ {H : Type 0} where
     members_none e is = record {
       own = ap (map (own_of {H = H})) is ∙ map_replicate (own_of {H = H}) pool.ends None
           ∙ sym (const_numbers (λ (k : ℕ). map (fresh pool.gates pool.ends 1) (take 1 (drop k pool.deques))) []
-              (λ k. nothing_taken k pool.deques e) 0 pool.ends);
+          (λ k. nothing_taken k pool.deques e) 0 pool.ends);
       next = ap (map (next_of {H = H})) is ∙ map_replicate (next_of {H = H}) pool.ends None
           ∙ sym (const_numbers (λ (k : ℕ). map (fresh pool.gates pool.ends 1) (drop (k + 1) pool.deques ++ take k pool.deques)) []
-              (λ k. nothing_next k pool.deques e) 0 pool.ends);
+          (λ k. nothing_next k pool.deques e) 0 pool.ends);
     }
 
     -- of a stealing one
     pub members_some : (owns : List (Look H)) → owns ≡ map (fresh pool.gates pool.ends pool.ends) pool.deques → length owns ≡ pool.ends
         → map (own_of {H = H}) ms ≡ map (λ (o : Look H). with_shares 1 o ∷ []) owns
-            → map (next_of {H = H}) ms ≡ map (borrowed_next owns) (numbers 0 (length owns)) → AreMembers pool ms
+        → map (next_of {H = H}) ms ≡ map (borrowed_next owns) (numbers 0 (length owns)) → AreMembers pool ms
     members_some owns e many own next =
         let whole : Spot → Look H = fresh pool.gates pool.ends pool.ends in
         let one' : Spot → Look H = fresh pool.gates pool.ends 1 in
@@ -336,7 +336,7 @@ module _ {H : Type 0} where
               ∙ singles one' [] ds ∙ ap (λ n. map (λ (k : ℕ). map one' (take 1 (drop k ds))) (numbers 0 n)) count;
           next = next ∙ (λ i. map (borrowed_next (e i)) (numbers 0 (many i)))
               ∙ (λ i. map (λ (k : ℕ). (ap (map (borrowed {H = H})) ((λ j. drop-map whole (k + 1) ds j ++ take-map whole k ds j)
-                  ∙ sym (map-append whole (drop (k + 1) ds) (take k ds)))
+              ∙ sym (map-append whole (drop (k + 1) ds) (take k ds)))
               ∙ map_map (borrowed {H = H}) whole (drop (k + 1) ds ++ take k ds)) i) (numbers 0 pool.ends));
         }
 
@@ -348,7 +348,7 @@ module _ {H : Type 0} where
   new_shares Stealing o count owns new =
       let P : Look H → Type 0 = λ l. l.ledger.shares ≡ length owns in
       subst (All P) (sym new.unused) (All-map P (fresh o count count) (spots_of owns)
-          (all_const (count ≡ length owns) (spots_of owns) (λ _. sym new.many)))
+      (all_const (count ≡ length owns) (spots_of owns) (λ _. sym new.many)))
 
   -- the pool that is made of a door and deques of this kind
   module _ (o : Origin H) (kind : Kind) (workers feeds : ℕ) (owns : List (Look H)) (door : Spot) (new : AreNewOf kind o workers owns)

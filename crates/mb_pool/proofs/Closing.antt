@@ -20,7 +20,7 @@ module _ {H : Type 0} (pool : Whole H) (ends feeds now : List (Way H)) (whole : 
       let some : 0 < pool.ends = whole.some in
       let count : length ends ≡ pool.ends = count_of pool ends are_ends in
       let same : length now ≡ length ends = sym (length-map now (frame_of {H = H})) ∙ ap length gathered.frames
-          ∙ length-map ends (frame_of {H = H}) in
+      ∙ length-map ends (frame_of {H = H}) in
       omega (arith, some, count, same)
 
   pub alike_left : AreAlike (doors_of now)
@@ -31,8 +31,8 @@ module _ {H : Type 0} (pool : Whole H) (ends feeds now : List (Way H)) (whole : 
     first_share =
         let some : 0 < pool.ends = whole.some in
         let sum : shares_in (doors_of now) ≡ pool.ends = ap shares_in doors_are ∙ sum_parts (doors_of ends)
-            ∙ ap (sum_by (λ (p : Part H). p.shares)) (end_doors pool ends are_ends)
-            ∙ sum_ones pool.ends (door_part pool) refl in
+        ∙ ap (sum_by (λ (p : Part H). p.shares)) (end_doors pool ends are_ends)
+        ∙ sum_ones pool.ends (door_part pool) refl in
         let all : first.ledger.shares ≡ shares_in (doors_of now) = all_of_shares (doors_of now) first is_first in
         omega (arith, some, sum, all)
 
@@ -41,10 +41,10 @@ module _ {H : Type 0} (pool : Whole H) (ends feeds now : List (Way H)) (whole : 
     feeds_alike =
         let Here : Look H → Type 0 = λ l. where_is l ≡ door_where pool in
         let here : All Here (doors_of now) = subst (All Here) (sym doors_are)
-            (all_here pool (doors_of ends) pool.ends (end_doors pool ends are_ends)) in
+        (all_here pool (doors_of ends) pool.ends (end_doors pool ends are_ends)) in
         let mine : where_is first ≡ door_where pool = all_of_where pool (doors_of now) first here is_first in
         alike pool (first ∷ doors_of feeds) (All-cons Here first (doors_of feeds) mine
-            (all_here pool (doors_of feeds) pool.feeds (feed_doors pool feeds are_feeds)))
+        (all_here pool (doors_of feeds) pool.feeds (feed_doors pool feeds are_feeds)))
 
     pub last_share : (last : Look H) → TakesIn first (doors_of feeds) last → HasShare last
     last_share last took = let mine : 0 < first.ledger.shares = first_share in let more = took.shares in omega (arith, mine, more)

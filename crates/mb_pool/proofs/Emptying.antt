@@ -92,7 +92,7 @@ module _ {H : Type 0} (IsFit : Option (Origin H) → Claim H → Type 0) where
   emptying_more base old now after left new c e t n =
       let m = t.1 in let is = t.2 in
       let fits : IsFit base.ledger.gates c = subst (λ g. IsFit g c) e.gates
-          (All-head (IsFit now.ledger.gates) c t.0 (all_right (IsFit now.ledger.gates) m.gone (c ∷ t.0) m.fit)) in record {
+      (All-head (IsFit now.ledger.gates) c t.0 (all_right (IsFit now.ledger.gates) m.gone (c ∷ t.0) m.fit)) in record {
         more = e.more ++ c ∷ [];
         added = n ∙ ap (λ l. l ++ c ∷ []) e.added ∙ append_assoc old e.more (c ∷ []);
         fit = All-push (IsFit base.ledger.gates) e.more c e.fit fits;
@@ -118,22 +118,22 @@ module _ {H : Type 0} (IsFit : Option (Origin H) → Claim H → Type 0) where
             let mine : base.ledger.shares ≡ base.ledger.members = All-head All' base [] all in
             let no = m.alone (omega (arith, mine, shares, members)) in
             let went : IsPermutation now.ledger.taken (turns m.gone) =
-                from_left now.ledger.taken (now.ledger.taken ++ m.taken) (turns m.gone)
-                (sym (ap (λ l. now.ledger.taken ++ l) no.1 ∙ append-nil now.ledger.taken)) m.went in
+            from_left now.ledger.taken (now.ledger.taken ++ m.taken) (turns m.gone)
+            (sym (ap (λ l. now.ledger.taken ++ l) no.1 ∙ append-nil now.ledger.taken)) m.went in
             let came : IsPermutation now.ledger.pushed (turns (m.gone ++ [])) =
-                from_left now.ledger.pushed (now.ledger.pushed ++ m.pushed) (turns (m.gone ++ []))
-                (sym (ap (λ l. now.ledger.pushed ++ l) no.0 ∙ append-nil now.ledger.pushed)) m.came in
+            from_left now.ledger.pushed (now.ledger.pushed ++ m.pushed) (turns (m.gone ++ []))
+            (sym (ap (λ l. now.ledger.pushed ++ l) no.0 ∙ append-nil now.ledger.pushed)) m.came in
             let same : IsPermutation now.ledger.taken now.ledger.pushed = IsPermutation-trans now.ledger.taken (turns m.gone) now.ledger.pushed went
-                (IsPermutation-sym now.ledger.pushed (turns m.gone) (subst (λ l. IsPermutation now.ledger.pushed (turns l))
-                    (append-nil m.gone) came)) in
+            (IsPermutation-sym now.ledger.pushed (turns m.gone) (subst (λ l. IsPermutation now.ledger.pushed (turns l))
+            (append-nil m.gone) came)) in
             let claims : IsPermutation (claims_in now.ledger.taken) (claims_in now.ledger.pushed) =
-                IsPermutation-map (λ (x : Turn (Claim H)). x.claim) now.ledger.taken now.ledger.pushed same in
+            IsPermutation-map (λ (x : Turn (Claim H)). x.claim) now.ledger.taken now.ledger.pushed same in
             let from : taken_at (base ∷ []) ++ e.more ≡ claims_in now.ledger.taken = ap (λ l. l ++ e.more) (append-nil (claims_in base.ledger.taken))
-                ∙ sym e.taken in
+            ∙ sym e.taken in
             let to : claims_in now.ledger.pushed ≡ pushed_at (base ∷ []) = ap (λ (l : List (Turn (Claim H))). claims_in l) e.pushed
-                ∙ sym (append-nil (claims_in base.ledger.pushed)) in
+            ∙ sym (append-nil (claims_in base.ledger.pushed)) in
             from_left (taken_at (base ∷ []) ++ e.more) (claims_in now.ledger.taken) (pushed_at (base ∷ [])) from
-                (subst (IsPermutation (claims_in now.ledger.taken)) to claims);
+            (subst (IsPermutation (claims_in now.ledger.taken)) to claims);
       }
 
   pub empties_none : (g : Option (Origin H)) (old : List (Claim H)) → Empties IsFit g [] old old
@@ -161,9 +161,9 @@ module _ {H : Type 0} (IsFit : Option (Origin H) → Claim H → Type 0) where
         let taken : taken_at (ps ++ qs) ≡ taken_at ps ++ taken_at qs = flat_map-append (λ (l : Look H). claims_in l.ledger.taken) ps qs in
         let pushed : pushed_at (ps ++ qs) ≡ pushed_at ps ++ pushed_at qs = flat_map-append (λ (l : Look H). claims_in l.ledger.pushed) ps qs in
         from_left (taken_at (ps ++ qs) ++ (p.more ++ q.more)) ((taken_at ps ++ taken_at qs) ++ (p.more ++ q.more)) (pushed_at (ps ++ qs))
-            (ap (λ l. l ++ (p.more ++ q.more)) taken)
+        (ap (λ l. l ++ (p.more ++ q.more)) taken)
         (IsPermutation-trans ((taken_at ps ++ taken_at qs) ++ (p.more ++ q.more)) ((taken_at ps ++ p.more) ++ (taken_at qs ++ q.more))
-            (pushed_at (ps ++ qs)) (exchange (taken_at ps) (taken_at qs) p.more q.more)
+        (pushed_at (ps ++ qs)) (exchange (taken_at ps) (taken_at qs) p.more q.more)
         (subst (IsPermutation ((taken_at ps ++ p.more) ++ (taken_at qs ++ q.more))) (sym pushed)
-            (IsPermutation-append (taken_at ps ++ p.more) (pushed_at ps) (taken_at qs ++ q.more) (pushed_at qs) mine theirs)));
+        (IsPermutation-append (taken_at ps ++ p.more) (pushed_at ps) (taken_at qs ++ q.more) (pushed_at qs) mine theirs)));
   }

@@ -18,8 +18,8 @@ module _ {H : Type 0} where
   alone_open own door next none e h =
       let P : Look H → Type 0 = λ l. IsOpen door.ledger.gates (part_of l) in
       let alone : All P (own ∷ door ∷ []) =
-          All-cons P own (door ∷ []) (All-head P own (door ∷ next) h)
-              (All-cons P door [] (All-head P door next (All-tail P own (door ∷ next) h)) (All-nil P)) in
+      All-cons P own (door ∷ []) (All-head P own (door ∷ next) h)
+      (All-cons P door [] (All-head P door next (All-tail P own (door ∷ next) h)) (All-nil P)) in
       subst (λ n. AreOpen (stealing own door n)) (sym e) alone
 
   -- and so is one whose own deque took a port in
@@ -47,11 +47,11 @@ module _ {H : Type 0} where
 
   pub gathers_at : (old now : List (Way H)) (done : List (Look H)) (t : Look H) (n : ℕ) (d new : Way H) → n ≡ owner_of t.spot
       → new ≡ record (get_or now n d) { own = joined_first (get_or now n d).own t } → Gathers old done now → IsAmong now (part_of t)
-          → Gathers old (done ++ t ∷ []) (set now n new)
+      → Gathers old (done ++ t ∷ []) (set now n new)
   gathers_at old now done t n d new e is g among =
       let with' : ℕ → Way H = λ k. record (get_or now k d) { own = joined_first (get_or now k d).own t } in
       let here : Gathers old (done ++ t ∷ []) (set now n (with' n)) =
-          subst (λ (k : ℕ). Gathers old (done ++ t ∷ []) (set now k (with' k))) (sym e) (gathers_one old now done t d g among) in
+      subst (λ (k : ℕ). Gathers old (done ++ t ∷ []) (set now k (with' k))) (sym e) (gathers_one old now done t d g among) in
       subst (λ (w : Way H). Gathers old (done ++ t ∷ []) (set now n w)) (sym is) here
 
   -- the next end in order gave its ways away, which are into deques of these ends
@@ -61,7 +61,7 @@ module _ {H : Type 0} where
     pub given_matched : AreMatched old → All (λ (l : Look H). IsAmong (set now k after) (part_of l)) given
     given_matched h =
         subst (λ (y : List (Look H) × Way H). All (λ (l : Look H). IsAmong (set now k y.1) (part_of l)) y.0) (λ i. (sym ways i, sym rest i))
-            (still_matched old now k d lt g h)
+        (still_matched old now k d lt g h)
 
     pub gathered_more : (new : List (Way H)) → Gathers (set now k after) given new → Gathering old (k + 1) new
     gathered_more new j =
@@ -99,7 +99,7 @@ module _ {H : Type 0} where
     emptied_own own door next end old new is h e =
         let same : own.ledger.gates ≡ door.ledger.gates = (own_open own door next h).same in
         let mine : Empties IsFit door.ledger.gates (own ∷ []) old new =
-            empties_gates IsFit own.ledger.gates door.ledger.gates (own ∷ []) old new same e in
+        empties_gates IsFit own.ledger.gates door.ledger.gates (own ∷ []) old new same e in
         subst (λ (w : Way H). Empties IsFit (gates_of w) w.own old new) is mine
 
     -- an end without one
@@ -121,7 +121,7 @@ module _ {H : Type 0} where
           let gates : base.ledger.gates ≡ last.ledger.gates = sym (ap (λ (w : Where H). w.gates) took.same) in
           let gates' : gates_of first ≡ last.ledger.gates = sym (ap (λ (l : Look H). l.ledger.gates) same) ∙ gates in
           let both : Empties IsFit last.ledger.gates (owns_of (first ∷ rest)) old new =
-              empties_append IsFit last.ledger.gates first.own (owns_of rest) old mid new
-              (empties_gates IsFit (gates_of first) last.ledger.gates first.own old mid gates' p)
-                  (empties_gates IsFit base.ledger.gates last.ledger.gates (owns_of rest) mid new gates q) in
+          empties_append IsFit last.ledger.gates first.own (owns_of rest) old mid new
+          (empties_gates IsFit (gates_of first) last.ledger.gates first.own old mid gates' p)
+          (empties_gates IsFit base.ledger.gates last.ledger.gates (owns_of rest) mid new gates q) in
           subst (λ (ws : List (Way H)). Empties IsFit last.ledger.gates (owns_of ws) old new) (sym is) both

@@ -27,11 +27,11 @@ module _ {V A : Type 0} (f : V → List A) where
       IsPermutation-trans (f w ++ flat_map f l) ((f v ++ x) ++ flat_map f l) ((f v ++ flat_map f l) ++ x) (before (f w) (f v ++ x) (flat_map f l) h)
       (from_left ((f v ++ x) ++ flat_map f l) (f v ++ (x ++ flat_map f l)) ((f v ++ flat_map f l) ++ x) (append_assoc (f v) x (flat_map f l))
       (IsPermutation-trans (f v ++ (x ++ flat_map f l)) (f v ++ (flat_map f l ++ x)) ((f v ++ flat_map f l) ++ x)
-          (behind (f v) (x ++ flat_map f l) (flat_map f l ++ x) (IsPermutation-append_comm x (flat_map f l)))
+      (behind (f v) (x ++ flat_map f l) (flat_map f l ++ x) (IsPermutation-append_comm x (flat_map f l)))
       (same_elements (f v ++ (flat_map f l ++ x)) ((f v ++ flat_map f l) ++ x) (sym (append_assoc (f v) (flat_map f l) x)))))
   gain (v ∷ l) (suc p) d w x lt h =
       IsPermutation-trans (f v ++ flat_map f (set l p w)) (f v ++ (flat_map f l ++ x)) ((f v ++ flat_map f l) ++ x)
-          (behind (f v) (flat_map f (set l p w)) (flat_map f l ++ x) (gain l p d w x (omega (arith, lt)) h))
+      (behind (f v) (flat_map f (set l p w)) (flat_map f l ++ x) (gain l p d w x (omega (arith, lt)) h))
       (same_elements (f v ++ (flat_map f l ++ x)) ((f v ++ flat_map f l) ++ x) (sym (append_assoc (f v) (flat_map f l) x)))
 
 pub gain_sum : {V : Type 0} (g : V → ℕ) (l : List V) (p : ℕ) (d w : V) (n : ℕ) → p < length l → g w ≡ g (get_or l p d) + n
@@ -77,7 +77,7 @@ module _ {H : Type 0} where
         there',
         λ d. may_join (get_or old n d).own (get_or new n d).own t
             (ap (λ (f : Frame H). f.own) (sym (get_or-map (frame_of {H = H}) new n d (frame_of d) there') ∙ ap (λ l. get_or l n (frame_of d)) e
-                ∙ get_or-map (frame_of {H = H}) old n d (frame_of d) there)) (h.1 d),
+            ∙ get_or-map (frame_of {H = H}) old n d (frame_of d) there)) (h.1 d),
       )
 
   -- one port more of this own deque
@@ -90,7 +90,7 @@ module _ {H : Type 0} where
       from_left (f (joined o t) ++ r) ((f o ++ f t) ++ r) ((f o ++ r) ++ f t) (ap (λ l. l ++ r) (step o))
       (from_left ((f o ++ f t) ++ r) (f o ++ (f t ++ r)) ((f o ++ r) ++ f t) (append_assoc (f o) (f t) r)
       (IsPermutation-trans (f o ++ (f t ++ r)) (f o ++ (r ++ f t)) ((f o ++ r) ++ f t)
-          (behind (f o) (f t ++ r) (r ++ f t) (IsPermutation-append_comm (f t) r))
+      (behind (f o) (f t ++ r) (r ++ f t) (IsPermutation-append_comm (f t) r))
       (same_elements (f o ++ (r ++ f t)) ((f o ++ r) ++ f t) (sym (append_assoc (f o) r (f t))))))
 
   own_shares : (own : List (Look H)) (t : Look H) → MayJoin own (part_of t) → shares_in (joined_first own t) ≡ shares_in own + t.ledger.shares
@@ -114,7 +114,7 @@ module _ {H : Type 0} where
 
   pub gathers_one : (old mid : List (Way H)) (more : List (Look H)) (t : Look H) (d : Way H) → Gathers old more mid → IsAmong mid (part_of t)
       → Gathers old (more ++ t ∷ []) (set mid (owner_of t.spot) (record (get_or mid (owner_of t.spot) d)
-          { own = joined_first (get_or mid (owner_of t.spot) d).own t }))
+      { own = joined_first (get_or mid (owner_of t.spot) d).own t }))
   gathers_one old mid more t d g among =
       let n : ℕ = owner_of t.spot in let lt : n < length mid = among.0 in
       let w : Way H = get_or mid n d in let may = among.1 d in
@@ -124,16 +124,16 @@ module _ {H : Type 0} where
       let takes : Look H → List (Claim H) = λ l. claims_in l.ledger.taken in
       let shares : Look H → ℕ = λ l. l.ledger.shares in
       let step : (f : Look H → List (Claim H)) → ((l : Look H) → f (joined l t) ≡ f l ++ f t)
-          → IsPermutation (flat_map (λ (v : Way H). flat_map f (looks v)) (set mid n w')) (flat_map (λ (v : Way H). flat_map f (looks v)) mid ++ f t)
-          = λ f e. gain (λ (v : Way H). flat_map f (looks v)) mid n d w' (f t) lt (own_gain f w.own t (w.door ∷ w.next) may e) in
+      → IsPermutation (flat_map (λ (v : Way H). flat_map f (looks v)) (set mid n w')) (flat_map (λ (v : Way H). flat_map f (looks v)) mid ++ f t)
+      = λ f e. gain (λ (v : Way H). flat_map f (looks v)) mid n d w' (f t) lt (own_gain f w.own t (w.door ∷ w.next) may e) in
       let add : (f : Look H → List (Claim H)) (x y z : List (Claim H)) → IsPermutation z (y ++ f t) → IsPermutation y (x ++ flat_map f more)
-          → IsPermutation z (x ++ flat_map f (more ++ t ∷ []))
-          = λ f x y z h k. IsPermutation-trans z (y ++ f t) (x ++ flat_map f (more ++ t ∷ [])) h
-          (IsPermutation-trans (y ++ f t) ((x ++ flat_map f more) ++ f t) (x ++ flat_map f (more ++ t ∷ []))
-              (before y (x ++ flat_map f more) (f t) k)
-          (same_elements ((x ++ flat_map f more) ++ f t) (x ++ flat_map f (more ++ t ∷ []))
-          (append_assoc x (flat_map f more) (f t) ∙ ap (λ l. x ++ l) (sym
-              (flat_map-append f more (t ∷ []) ∙ ap (λ l. flat_map f more ++ l) (append-nil (f t))))))) in
+      → IsPermutation z (x ++ flat_map f (more ++ t ∷ []))
+      = λ f x y z h k. IsPermutation-trans z (y ++ f t) (x ++ flat_map f (more ++ t ∷ [])) h
+      (IsPermutation-trans (y ++ f t) ((x ++ flat_map f more) ++ f t) (x ++ flat_map f (more ++ t ∷ []))
+      (before y (x ++ flat_map f more) (f t) k)
+      (same_elements ((x ++ flat_map f more) ++ f t) (x ++ flat_map f (more ++ t ∷ []))
+      (append_assoc x (flat_map f more) (f t) ∙ ap (λ l. x ++ l) (sym
+      (flat_map-append f more (t ∷ []) ∙ ap (λ l. flat_map f more ++ l) (append-nil (f t))))))) in
       let claims = λ (a b : List (Turn (Claim H))). map-append (λ (x : Turn (Claim H)). x.claim) a b in
       record {
         frames = same_set (frame_of {H = H}) mid n d w' (ap (λ (o : List (Where H)). let f : Frame H = record { own = o; door = w.door } in f)
@@ -216,10 +216,10 @@ module _ {H : Type 0} where
     still_matched h =
         let count = count_ends old now g.frames in let lt' : k < length old = omega (arith, count, lt) in
         let e : giver.next ≡ (get_or old k d).next = sym (get_or-map next_in now k d d.next lt) ∙ ap (λ l. get_or l k d.next) g.nexts
-            ∙ upto_at nothing (map next_in old) k d.next ∙ get_or-map next_in old k d d.next lt' in
+        ∙ upto_at nothing (map next_in old) k d.next ∙ get_or-map next_in old k d d.next lt' in
         let Among : Look H → Type 0 = λ l. IsAmong old (part_of l) in let Still : Look H → Type 0 = λ l. IsAmong mid (part_of l) in
         All-weaker Among Still (λ l x. still_among old mid (part_of l) (mid_frames ∙ g.frames) x) giver.next
-            (subst (All Among) (sym e) (all_at Among old k d lt' h))
+        (subst (All Among) (sym e) (all_at Among old k d lt' h))
 
     pub gathering_more : (new : List (Way H)) → Gathers mid giver.next new → Gathering old (k + 1) new
     gathering_more new j =
@@ -232,31 +232,31 @@ module _ {H : Type 0} where
         let count' : length mid ≡ length now = length-set now k w0 in
         let lt' : k < length mid = omega (arith, count', lt) in
         let split : (f : Look H → List (Claim H)) → flat_map f (looks w) ≡ flat_map f (looks w0) ++ flat_map f w.next
-            = λ f. ap (flat_map f) (sym (append_assoc w.own (w.door ∷ []) w.next)) ∙ flat_map-append f (w.own ++ w.door ∷ []) w.next in
+        = λ f. ap (flat_map f) (sym (append_assoc w.own (w.door ∷ []) w.next)) ∙ flat_map-append f (w.own ++ w.door ∷ []) w.next in
         let loss : (f : Look H → List (Claim H)) → IsPermutation (flat_map (λ (v : Way H). flat_map f (looks v)) now)
-            (flat_map (λ (v : Way H). flat_map f (looks v)) mid ++ flat_map f w.next)
-            = λ f. subst (λ l. IsPermutation (flat_map (λ (v : Way H). flat_map f (looks v)) l)
-                (flat_map (λ (v : Way H). flat_map f (looks v)) mid ++ flat_map f w.next)) back
-            (gain (λ (v : Way H). flat_map f (looks v)) mid k d w (flat_map f w.next) lt'
-            (same_elements (flat_map f (looks w)) (flat_map f (looks (get_or mid k d)) ++ flat_map f w.next)
-                (split f ∙ ap (λ (v : Way H). flat_map f (looks v) ++ flat_map f w.next) (sym at)))) in
+        (flat_map (λ (v : Way H). flat_map f (looks v)) mid ++ flat_map f w.next)
+        = λ f. subst (λ l. IsPermutation (flat_map (λ (v : Way H). flat_map f (looks v)) l)
+        (flat_map (λ (v : Way H). flat_map f (looks v)) mid ++ flat_map f w.next)) back
+        (gain (λ (v : Way H). flat_map f (looks v)) mid k d w (flat_map f w.next) lt'
+        (same_elements (flat_map f (looks w)) (flat_map f (looks (get_or mid k d)) ++ flat_map f w.next)
+        (split f ∙ ap (λ (v : Way H). flat_map f (looks v) ++ flat_map f w.next) (sym at)))) in
         let kept : (f : Look H → List (Claim H)) → IsPermutation (flat_map (λ (v : Way H). flat_map f (looks v)) new)
-            (flat_map (λ (v : Way H). flat_map f (looks v)) mid ++ flat_map f w.next)
-            → IsPermutation (flat_map (λ (v : Way H). flat_map f (looks v)) now) (flat_map (λ (v : Way H). flat_map f (looks v)) old)
-            → IsPermutation (flat_map (λ (v : Way H). flat_map f (looks v)) new) (flat_map (λ (v : Way H). flat_map f (looks v)) old)
-            = λ f a b. let F = λ (l : List (Way H)). flat_map (λ (v : Way H). flat_map f (looks v)) l in
-            IsPermutation-trans (F new) (F mid ++ flat_map f w.next) (F old) a
-                (IsPermutation-trans (F mid ++ flat_map f w.next) (F now) (F old)
-                (IsPermutation-sym (F now) (F mid ++ flat_map f w.next) (loss f)) b) in
+        (flat_map (λ (v : Way H). flat_map f (looks v)) mid ++ flat_map f w.next)
+        → IsPermutation (flat_map (λ (v : Way H). flat_map f (looks v)) now) (flat_map (λ (v : Way H). flat_map f (looks v)) old)
+        → IsPermutation (flat_map (λ (v : Way H). flat_map f (looks v)) new) (flat_map (λ (v : Way H). flat_map f (looks v)) old)
+        = λ f a b. let F = λ (l : List (Way H)). flat_map (λ (v : Way H). flat_map f (looks v)) l in
+        IsPermutation-trans (F new) (F mid ++ flat_map f w.next) (F old) a
+        (IsPermutation-trans (F mid ++ flat_map f w.next) (F now) (F old)
+        (IsPermutation-sym (F now) (F mid ++ flat_map f w.next) (loss f)) b) in
         let same_own : shares_in (owns_of mid) ≡ shares_in (owns_of now) =
-            let a = sum_flat mid in let b = sum_flat now in let c = gain_sum (λ (v : Way H). shares_in v.own) now k d w0 0 lt
-                (let e : shares_in w0.own ≡ shares_in w.own + 0 = omega arith in e) in omega (arith, a, b, c) in
+        let a = sum_flat mid in let b = sum_flat now in let c = gain_sum (λ (v : Way H). shares_in v.own) now k d w0 0 lt
+        (let e : shares_in w0.own ≡ shares_in w.own + 0 = omega arith in e) in omega (arith, a, b, c) in
         let mine : w.next ≡ get_or (map next_in old) k d.next = sym (get_or-map next_in now k d d.next lt) ∙ ap (λ l. get_or l k d.next) g.nexts
-            ∙ upto_at nothing (map next_in old) k d.next in
+        ∙ upto_at nothing (map next_in old) k d.next in
         let more : given_of (take (suc k) (map next_in old)) ≡ given_of (take k (map next_in old)) ++ w.next =
-            ap given_of (take_suc (map next_in old) k d.next there) ∙ flat_map-append (λ (l : List (Look H)). l) (take k (map next_in old))
-                (get_or (map next_in old) k d.next ∷ [])
-            ∙ ap (λ l. given_of (take k (map next_in old)) ++ l) (append-nil (get_or (map next_in old) k d.next) ∙ sym mine) in
+        ap given_of (take_suc (map next_in old) k d.next there) ∙ flat_map-append (λ (l : List (Look H)). l) (take k (map next_in old))
+        (get_or (map next_in old) k d.next ∷ [])
+        ∙ ap (λ l. given_of (take k (map next_in old)) ++ l) (append-nil (get_or (map next_in old) k d.next) ∙ sym mine) in
         record {
           frames = j.frames ∙ mid_frames ∙ g.frames;
           nexts = j.nexts ∙ map-set next_in now k w0 ∙ ap (λ l. set l k []) g.nexts ∙ upto_set nothing (map next_in old) k d.next there
@@ -267,6 +267,6 @@ module _ {H : Type 0} where
               let a = j.shares in let b = g.shares in
               let c = sum_by-append (λ (l : Look H). l.ledger.shares) (given_of (take k (map next_in old))) w.next in
               let e : shares_in (owns_of new) ≡ shares_in (owns_of old) + shares_in (given_of (take k (map next_in old)) ++ w.next) =
-                  omega (arith, a, b, c, same_own) in
+              omega (arith, a, b, c, same_own) in
               e ∙ ap (λ x. shares_in (owns_of old) + shares_in x) (sym more ∙ ap (λ n. given_of (take n (map next_in old))) suc_is);
         }

@@ -39,7 +39,7 @@ module _ {H : Type 0} (is_of : H → ℕ → H → Type 0) (journal : H → List
       let same : closed_with claim ≡ closed_to claim.home = ap (λ (w : View). (held_in w).closed_to) fit.known in
       subst (λ l. Each (λ other. IsKnownClosed other l v) (closed_to claim.home)) (sym same)
       (each_among (λ other. IsKnownClosed other (closed_to claim.home) v) [] (closed_to claim.home) (closed_to claim.home) refl
-          (λ x among. inl among))
+      (λ x among. inl among))
 
   pub told : (who : Identity) → IsSaidSince who (held_actor claim) (status_of claim).closed (journal claim.home) (taken_with claim)
       (recorded_by claim)

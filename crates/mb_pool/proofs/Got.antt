@@ -15,12 +15,15 @@ module _ {H : Type 0} (is_of : H → ℕ → H → Type 0) (journal : H → List
     (closed_to : H → List ℕ) where
   pub untouched : (origin : Origin H) (actor : ℕ) (before after : View) (seen : Mailbox) (claim : Claim H)
       → IsGot (is_of origin.first) journal mailbox rested given_by closed_to actor before after seen claim → claim_id claim ≡ origin.gates
-          → actor < origin.actors
+      → actor < origin.actors
       → IsUntouched is_of journal mailbox rested given_by closed_to (Some origin) claim
   untouched origin actor before after seen claim got ours there =
       let back : idle (status_of claim) ≡ seen = ap idle got.status ∙ (λ i. record seen { scheduled = sym got.found.free i }) in record {
-        ours = record { gates = ours; there = subst (λ a. a < origin.actors) (sym got.of) there;
-            own = subst (λ a. is_of origin.first a claim.home) (sym got.of) got.own };
+        ours = record {
+          gates = ours;
+          there = subst (λ a. a < origin.actors) (sym got.of) there;
+          own = subst (λ a. is_of origin.first a claim.home) (sym got.of) got.own;
+        };
         open_yet = ap (λ (m : Mailbox). m.closed) got.status ∙ got.found.open_yet;
         scheduled = ap (λ (m : Mailbox). m.scheduled) got.status;
         word = got.word ∙ ap word_of (sym back);

@@ -26,13 +26,13 @@ module _ {X : Type 0} where
   pub past : (a b c : List X) → IsPermutation (a ++ (b ++ c)) (b ++ (a ++ c))
   past a b c = from_left (a ++ (b ++ c)) ((a ++ b) ++ c) (b ++ (a ++ c)) (sym (append_assoc a b c))
       (IsPermutation-trans ((a ++ b) ++ c) ((b ++ a) ++ c) (b ++ (a ++ c)) (before (a ++ b) (b ++ a) c (IsPermutation-append_comm a b))
-          (same_elements ((b ++ a) ++ c) (b ++ (a ++ c)) (append_assoc b a c)))
+      (same_elements ((b ++ a) ++ c) (b ++ (a ++ c)) (append_assoc b a c)))
 
   -- one more in the middle may stand last
   pub to_end : (a b : List X) (x : X) → IsPermutation ((a ++ x ∷ []) ++ b) ((a ++ b) ++ x ∷ [])
   to_end a b x = from_left ((a ++ x ∷ []) ++ b) (a ++ (x ∷ [] ++ b)) ((a ++ b) ++ x ∷ []) (append_assoc a (x ∷ []) b)
       (IsPermutation-trans (a ++ (x ∷ [] ++ b)) (a ++ (b ++ x ∷ [])) ((a ++ b) ++ x ∷ [])
-          (behind a (x ∷ [] ++ b) (b ++ x ∷ []) (IsPermutation-append_comm (x ∷ []) b))
+      (behind a (x ∷ [] ++ b) (b ++ x ∷ []) (IsPermutation-append_comm (x ∷ []) b))
       (same_elements (a ++ (b ++ x ∷ [])) ((a ++ b) ++ x ∷ []) (sym (append_assoc a b (x ∷ [])))))
 
   pub nothing_more : (ys : List X) → IsPermutation [] ys → ys ≡ []

@@ -36,7 +36,7 @@ module _ {A B : Type 0} (f : A → B) (d : B) where
       × (f x ≡ d)
   popped old new x n m e is h =
       snoc_same (map f new) (replicate m d) (f x) d (sym (map_push f new x) ∙ ap (map f) (sym e) ∙ h ∙ ap (λ k. replicate k d) is
-          ∙ sym (replicate_more m d))
+      ∙ sym (replicate_more m d))
 
   pub not_none : (old : List A) (n : ℕ) → length old ≡ 0 → 0 < n → map f old ≡ replicate n d → ⊥
   not_none old n none some h = let a = length-map old f in let b = length-replicate n d in
@@ -79,7 +79,7 @@ module _ {H : Type 0} where
         let next : k - 1 + 1 ≡ count = omega (arith, end, low) in
         let door : f last ≡ borrowed first = here ∙ ap (λ n. with_shares n first) one ∙ last_one first count whole in
         ap (map f) more ∙ map_push f doors last ∙ (λ i. before i ++ door i ∷ []) ∙ replicate_more (k - 1) (borrowed first)
-            ∙ ap (λ n. replicate n (borrowed first)) next
+        ∙ ap (λ n. replicate n (borrowed first)) next
 
   -- each of the next ends' deques lends a share
   pub lend_one : (owns : List (Look H)) (k : ℕ) (d : Look H) → k < length owns

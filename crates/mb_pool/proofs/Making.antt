@@ -15,7 +15,7 @@ use Rattle.mb_pool.proofs.Handing.{door_is}
 module _ {H : Type 0} (origin : Origin H) (kind : Kind) (workers feeds ports : ℕ) (owns : List (Look H)) (first door : Look H) (some : 0 < workers)
     (new : AreNewOf kind origin workers owns)
     (bound : first.spot.capacity ≡ bound_of kind) (is : door ≡ record first { ledger = opened (Some origin) ports ports })
-        (sum : ports ≡ workers + feeds) where
+    (sum : ports ≡ workers + feeds) where
   abbrev pub pool : Whole H
   pool = made origin kind workers feeds owns door.spot new some
 

@@ -29,7 +29,6 @@ module _ {C : Type 0} where
       IsSome [] = ⊥
       IsSome (x ∷ xs) = Unit {0}
 
-
 module _ {G C : Type 0} where
   abbrev of_pushed : Ledger G C → List (Turn C)
   of_pushed l = l.pushed
@@ -105,9 +104,9 @@ module _ {G C : Type 0} (IsFit : Option G → C → Type 0) (items : List C) (vi
           came = subst (λ l. IsPermutation (all_pushed (set views port w)) (turns l)) (sym more)
               (subst (IsPermutation (all_pushed (set views port w))) (sym (turns_end (k.gone ++ items) c))
               (IsPermutation-trans (all_pushed (set views port w)) ((v.pushed ++ t ∷ []) ++ all_pushed rest) (turns (k.gone ++ items) ++ t ∷ [])
-                  (pulls of_pushed views port v w at)
+              (pulls of_pushed views port v w at)
               (IsPermutation-trans ((v.pushed ++ t ∷ []) ++ all_pushed rest) ((v.pushed ++ all_pushed rest) ++ t ∷ [])
-                  (turns (k.gone ++ items) ++ t ∷ []) (to_end v.pushed (all_pushed rest) t)
+              (turns (k.gone ++ items) ++ t ∷ []) (to_end v.pushed (all_pushed rest) t)
               (before (v.pushed ++ all_pushed rest) (turns (k.gone ++ items)) (t ∷ []) came_by))));
           went = IsPermutation-trans (all_taken (set views port w)) (v.taken ++ all_taken rest) (turns k.gone)
               (pulls of_taken views port v w at) went_by;
@@ -146,7 +145,7 @@ module _ {G C : Type 0} (IsFit : Option G → C → Type 0) (items : List C) (vi
       → IsPermutation (flat_map f (set views port w ++ n ∷ [])) (f w ++ flat_map f rest)
   came_more f w n e = from_left (flat_map f (set views port w ++ n ∷ [])) (flat_map f (set views port w)) (f w ++ flat_map f rest)
       (flat_map-append f (set views port w) (n ∷ []) ∙ ap (λ l. flat_map f (set views port w) ++ (l ++ [])) e
-          ∙ append-nil (flat_map f (set views port w)))
+      ∙ append-nil (flat_map f (set views port w)))
       (pulls f views port v w at)
 
   shares_more : (w n : Ledger G C) → all_shares (set views port w ++ n ∷ []) ≡ w.shares + all_shares rest + n.shares
@@ -205,12 +204,12 @@ module _ {G C : Type 0} (IsFit : Option G → C → Type 0) (c : C) (items : Lis
           fit = subst (All (IsFit k.gates)) more k.fit;
           came = subst (λ l. IsPermutation (all_pushed (set views port w)) (turns l)) more
               (IsPermutation-trans (all_pushed (set views port w)) (v.pushed ++ all_pushed left) (turns (k.gone ++ (c ∷ items)))
-                  (pulls of_pushed views port v w at) (came_by IsFit (c ∷ items) views port v k at));
+              (pulls of_pushed views port v w at) (came_by IsFit (c ∷ items) views port v k at));
           went = subst (IsPermutation (all_taken (set views port w))) (sym (turns_end k.gone c))
               (IsPermutation-trans (all_taken (set views port w)) ((v.taken ++ t ∷ []) ++ all_taken left) (turns k.gone ++ t ∷ [])
-                  (pulls of_taken views port v w at)
+              (pulls of_taken views port v w at)
               (IsPermutation-trans ((v.taken ++ t ∷ []) ++ all_taken left) ((v.taken ++ all_taken left) ++ t ∷ []) (turns k.gone ++ t ∷ [])
-                  (to_end v.taken (all_taken left) t)
+              (to_end v.taken (all_taken left) t)
               (before (v.taken ++ all_taken left) (turns k.gone) (t ∷ []) (went_by IsFit (c ∷ items) views port v k at))));
           whole = weighs of_shares views port v w at ∙ shares_are IsFit (c ∷ items) views port v k at;
           agree = holds_set (Agrees k.gates k.members) views port w (record { same = λ _. same; idle = λ none. absurd (omega (arith, none, share)) })
@@ -248,9 +247,9 @@ module _ {G C : Type 0} (IsFit : Option G → C → Type 0) (items : List C) (vi
       let w = flat_map f without in
       IsPermutation-trans (flat_map f (set without port both)) (f both ++ flat_map f left) (flat_map f views) (pulls f without port v both still)
       (from_left (f both ++ flat_map f left) (f v ++ (f u ++ flat_map f left)) (flat_map f views)
-          (ap (λ l. l ++ flat_map f left) sum ∙ append_assoc (f v) (f u) (flat_map f left))
+      (ap (λ l. l ++ flat_map f left) sum ∙ append_assoc (f v) (f u) (flat_map f left))
       (IsPermutation-trans (f v ++ (f u ++ flat_map f left)) (f u ++ (f v ++ flat_map f left)) (flat_map f views)
-          (past (f v) (f u) (flat_map f left))
+      (past (f v) (f u) (flat_map f left))
       (IsPermutation-trans (f u ++ (f v ++ flat_map f left)) (f u ++ w) (flat_map f views)
       (behind (f u) (f v ++ flat_map f left) w (IsPermutation-sym w (f v ++ flat_map f left) (pulls_own f without port v still)))
       (IsPermutation-trans (f u ++ w) (f u ++ away) (flat_map f views)
@@ -274,7 +273,7 @@ module _ {G C : Type 0} (IsFit : Option G → C → Type 0) (items : List C) (vi
             let d = weighs_own of_shares views other u was in let e = k.whole in omega (arith, a, b, c, d, e);
         agree = holds_set Agree without port both (record { same = λ _. mine'; idle = λ none. absurd (omega (arith, none, mine_some)) })
             (holds_others Agree without port (holds_set Agree views other spent
-                (record { same = λ some. absurd (omega (arith, some)); idle = λ _. (refl, refl) }) (holds_others Agree views other k.agree)));
+            (record { same = λ some. absurd (omega (arith, some)); idle = λ _. (refl, refl) }) (holds_others Agree views other k.agree)));
       })
 
 pub begins : {G C : Type 0} (IsFit : Option G → C → Type 0) → Kept IsFit [] (unused ∷ [])

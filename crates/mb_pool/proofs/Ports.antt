@@ -52,10 +52,10 @@ module _ {H : Type 0} where
       let of_parts : Parts H → List (Part H) = λ p. p.own ++ p.door ∷ p.next in
       let gates : gates_of w' ≡ gates_of w = ap (λ (p : Parts H). p.door.gates) e in
       let ports : map (part_of {H = H}) (looks w') ≡ map (part_of {H = H}) (looks w) = looks_parts w'.own w'.next w'.door ∙ ap of_parts e
-          ∙ sym (looks_parts w.own w.next w.door) in
+      ∙ sym (looks_parts w.own w.next w.door) in
       all_unmap (IsOpen (gates_of w')) (part_of {H = H}) (looks w')
       (subst (λ (y : Option (Origin H) × List (Part H)). All (IsOpen y.0) y.1) (λ i. (sym gates i, sym ports i))
-          (All-map (IsOpen (gates_of w)) (part_of {H = H}) (looks w) h))
+      (All-map (IsOpen (gates_of w)) (part_of {H = H}) (looks w) h))
 
   pub feed_parts : (door door' : Look H) → part_of door' ≡ part_of door → parts_of (of_feed door') ≡ parts_of (of_feed door)
   feed_parts door door' e = ap (λ (p : Part H). let ps : Parts H = record { own = []; door = p; next = [] } in ps) e
@@ -97,8 +97,14 @@ module _ {H : Type 0} where
 
     pub puts_first : (l l' : Look H) (rest : List (Look H)) (c : Claim H) → l'.spot ≡ l.spot → PutsLast IsFit l.ledger c l'.ledger
         → PutsFirst IsFit (l ∷ rest) c (l' ∷ rest)
-    puts_first l l' rest c s p = record { look = l; rest = rest; after = l'.ledger; found = refl; last = p;
-        then' = ap (λ x. x ∷ rest) (moved l l' s) }
+    puts_first l l' rest c s p = record {
+      look = l;
+      rest = rest;
+      after = l'.ledger;
+      found = refl;
+      last = p;
+      then' = ap (λ x. x ∷ rest) (moved l l' s);
+    }
 
     pub takes_here : (before : List (Look H)) (l l' : Look H) (rest : List (Look H)) (c : Claim H) → All (WasEmpty IsFit) before → l'.spot ≡ l.spot
         → TakesFirst IsFit l.ledger c l'.ledger
@@ -146,10 +152,10 @@ module _ {H : Type 0} where
     takes_fit g old new c opened t =
         let Open : Look H → Type 0 = λ l. IsOpen g (part_of l) in
         let mine : IsOpen g (part_of t.look) = All-head Open t.look t.rest
-            (all_right Open t.before (t.look ∷ t.rest) (subst (All Open) t.found opened)) in
+        (all_right Open t.before (t.look ∷ t.rest) (subst (All Open) t.found opened)) in
         let m = t.first.1 in
         subst (λ x. IsFit x c) mine.same (All-head (IsFit t.look.ledger.gates) c t.first.0
-            (all_right (IsFit t.look.ledger.gates) m.gone (c ∷ t.first.0) m.fit))
+        (all_right (IsFit t.look.ledger.gates) m.gone (c ∷ t.first.0) m.fit))
 
     pub take_fits : (w new : Way H) (r : Option (Claim H)) (N : Type 0) → AreOpen w → MatchOption r N (λ c. Takes IsFit w c new)
         → IfSome r (λ c. IsFit (gates_of w) c)
@@ -182,7 +188,7 @@ module _ {H : Type 0} where
         module _ (still' : door' ≡ door) (empty' : WasEmpty IsFit door) where
           pub took_next : (r : Option (Claim H)) → MatchOption r ((next' ≡ next) × All (WasEmpty IsFit) next) (λ c. TakesOne IsFit next c next')
               → MatchOption r ((stealing own' door' next' ≡ stealing own door next) × All (WasEmpty IsFit) (looks (stealing own door next)))
-                  (λ c. Takes IsFit (stealing own door next) c (stealing own' door' next'))
+              (λ c. Takes IsFit (stealing own door next) c (stealing own' door' next'))
           took_next None h = (
             (λ i. record { own = still i ∷ []; door = still' i; next = h.0 i }),
             All-cons (WasEmpty IsFit) own (door ∷ next) empty (All-cons (WasEmpty IsFit) door next empty' h.1),
@@ -201,20 +207,20 @@ module _ {H : Type 0} where
       pub push_by_door : (c : Claim H) (r : Result (Unit {0}) (Refused H))
           → MatchResult r (λ _. PutsLast IsFit door.ledger c door'.ledger) (λ f. (given_back f ≡ c) × (door' ≡ door) × IsRefusal IsFit door f)
           → MatchResult r (λ _. Pushes IsFit (of_feed door) c (of_feed door'))
-              (λ f. (given_back f ≡ c) × (of_feed door' ≡ of_feed door) × IsRefusedBy IsFit (of_feed door) f)
+          (λ f. (given_back f ≡ c) × (of_feed door' ≡ of_feed door) × IsRefusedBy IsFit (of_feed door) f)
       push_by_door c (Ok u) p = puts_first door door' [] c same p
       push_by_door c (Err f) h = (h.0, ap (of_feed {H = H}) h.1, (door, [], refl, h.2))
 
       pub push_same : (c : Claim H) (r : Result (Unit {0}) (Refused H))
           → MatchResult r (λ _. PutsLast IsFit door.ledger c door'.ledger) (λ f. (given_back f ≡ c) × (door' ≡ door) × IsRefusal IsFit door f)
-              → part_of door' ≡ part_of door
+          → part_of door' ≡ part_of door
       push_same c (Ok u) p = put_part door door' c same p
       push_same c (Err f) h = ap (part_of {H = H}) h.1
 
       pub take_by_door : (r : Option (Claim H)) → MatchOption r ((door' ≡ door) × Moment IsFit door.ledger [])
           (λ c. TakesFirst IsFit door.ledger c door'.ledger)
           → MatchOption r ((of_feed door' ≡ of_feed door) × All (WasEmpty IsFit) (looks (of_feed door)))
-              (λ c. Takes IsFit (of_feed door) c (of_feed door'))
+          (λ c. Takes IsFit (of_feed door) c (of_feed door'))
       take_by_door None h = (ap (of_feed {H = H}) h.0, All-cons (WasEmpty IsFit) door [] h.1 (All-nil (WasEmpty IsFit)))
       take_by_door (Some c) t = takes_here [] door door' [] c (All-nil (WasEmpty IsFit)) same t
 

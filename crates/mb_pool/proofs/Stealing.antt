@@ -32,7 +32,7 @@ module _ {H : Type 0} (IsFit : Option (Origin H) → Claim H → Type 0) (old no
     passes_by e m =
         let was : WasEmpty IsFit (get_or old k d) = subst (λ (l : List (Look H)). Moment IsFit (get_or l k d).ledger []) same m in
         let more : take k old ++ get_or old k d ∷ [] ≡ take (k + 1) old = sym (take_suc old k d lt)
-            ∙ ap (λ (n : ℕ). take n old) (let one : suc k ≡ k + 1 = omega arith in one) in (
+        ∙ ap (λ (n : ℕ). take n old) (let one : suc k ≡ k + 1 = omega arith in one) in (
           ap (set now k) e ∙ set-get_or now k d ∙ same,
           subst (All (WasEmpty IsFit)) more (All-push (WasEmpty IsFit) (take k old) (get_or old k d) empty was),
         )

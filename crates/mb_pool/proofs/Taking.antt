@@ -17,7 +17,7 @@ drained done (x ∷ rest) all none e = absurd (omega (arith, none))
 module _ {H : Type 0} (IsFit : Option (Origin H) → Claim H → Type 0) (base door other new : Look H) (all done rest : List (Way H)) (end : Way H)
     (list : done ++ end ∷ rest ≡ all)
     (alike : All (λ (l : Look H). where_is l ≡ where_is base) (doors_of all)) (took : TakesIn base (doors_of done) door)
-        (same : other ≡ end.door) where
+    (same : other ≡ end.door) where
   end_here : where_is end.door ≡ where_is base
   end_here = alike_next base all done rest end list alike
 

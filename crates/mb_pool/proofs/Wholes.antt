@@ -83,8 +83,8 @@ module _ {H : Type 0} where
       let there : k < length (numbers 0 pool.ends) = omega (arith, count, n, lt) in
       let small : k < pool.ends = omega (arith, count, lt) in
       sym (get_or-map (parts_of {H = H}) ends k d (parts_of d) lt) ∙ ap (λ l. get_or l k (parts_of d)) e
-          ∙ get_or-map (end_parts pool) (numbers 0 pool.ends) k 0 (parts_of d) there
-          ∙ ap (end_parts pool) (numbers_at 0 pool.ends k 0 small ∙ (let z : 0 + k ≡ k = omega arith in z))
+      ∙ get_or-map (end_parts pool) (numbers 0 pool.ends) k 0 (parts_of d) there
+      ∙ ap (end_parts pool) (numbers_at 0 pool.ends k 0 small ∙ (let z : 0 + k ≡ k = omega arith in z))
 
   abbrev pub deque_part : Whole H → Spot → Part H
   deque_part pool s = record { spot = s; gates = Some pool.gates; members = pool.ends; shares = 1 }
@@ -104,11 +104,11 @@ module _ {H : Type 0} where
       let whole : length pool.deques ≡ length pre + suc (length post) = ap length is ∙ length_append pre (s ∷ post) in
       let lt : n < length ends = omega (arith, whole, few) in
       let own : (d : Way H) → map (part_of {H = H}) (get_or ends n d).own ≡ deque_part pool s ∷ []
-          = λ d. ap (λ (p : Parts H). p.own) (end_at pool ends e n d lt) ∙ ap (λ l. deque_parts pool (take 1 (drop n l))) is
-              ∙ ap (λ l. deque_parts pool (take 1 l)) (drop_length pre (s ∷ post)) in
+      = λ d. ap (λ (p : Parts H). p.own) (end_at pool ends e n d lt) ∙ ap (λ l. deque_parts pool (take 1 (drop n l))) is
+      ∙ ap (λ l. deque_parts pool (take 1 l)) (drop_length pre (s ∷ post)) in
       let here : IsAmong ends (deque_part pool s) = subst (λ k. (k < length ends)
-          × ((d : Way H) → MayJoin (get_or ends k d).own (deque_part pool s))) (sym number)
-          (lt, λ d. may_join_one (get_or ends n d).own (deque_part pool s) (own d) (omega arith)) in
+      × ((d : Way H) → MayJoin (get_or ends k d).own (deque_part pool s))) (sym number)
+      (lt, λ d. may_join_one (get_or ends n d).own (deque_part pool s) (own d) (omega arith)) in
       let more : length (pre ++ s ∷ []) ≡ n + 1 = length_append pre (s ∷ []) in
       All-cons (λ t. IsAmong ends (deque_part pool t)) s post here
       (own_deques pool ends e (pre ++ s ∷ []) post (is ∙ sym (append_assoc pre (s ∷ []) post)) few (subst (λ k. AreDeques k post) (sym more) h.1))
@@ -124,8 +124,8 @@ module _ {H : Type 0} where
       let count = count_of pool ends e in
       let all : All Fits ds = own_deques pool ends e [] ds refl (few w.many count) w.deques in
       flat ends (each_end pool ends e (λ (p : Parts H). All (IsAmong ends) p.next)
-          (λ k. All-map (IsAmong ends) (deque_part pool) (drop (k + 1) ds ++ take k ds)
-              (All-append Fits (drop (k + 1) ds) (take k ds) (All-drop Fits (k + 1) ds all) (All-take Fits k ds all))))
+      (λ k. All-map (IsAmong ends) (deque_part pool) (drop (k + 1) ds ++ take k ds)
+      (All-append Fits (drop (k + 1) ds) (take k ds) (All-drop Fits (k + 1) ds all) (All-take Fits k ds all))))
     where
       few : (pool.deques ≡ []) ⊎ (length pool.deques ≡ pool.ends) → length ends ≡ pool.ends → length pool.deques ≤ length ends
       few (inl none) count = let z : length pool.deques ≡ 0 = ap length none in omega (arith, z)
@@ -136,14 +136,14 @@ module _ {H : Type 0} where
       flat [] h = All-nil (λ (l : Look H). IsAmong ends (part_of l))
       flat (v ∷ ws) h = All-append (λ (l : Look H). IsAmong ends (part_of l)) v.next (nexts_of ws)
           (all_unmap (IsAmong ends) (part_of {H = H}) v.next (All-head (λ (u : Way H). All (IsAmong ends) (parts_of u).next) v ws h))
-              (flat ws (All-tail (λ (u : Way H). All (IsAmong ends) (parts_of u).next) v ws h))
+          (flat ws (All-tail (λ (u : Way H). All (IsAmong ends) (parts_of u).next) v ws h))
 
   -- how many shares these ports have, when each has one
   pub sum_parts : (ls : List (Look H)) → shares_in ls ≡ sum_by (λ (p : Part H). p.shares) (map (part_of {H = H}) ls)
   sum_parts [] = refl
   sum_parts (l ∷ ls) =
       let a = sum_by-cons (λ (x : Look H). x.ledger.shares) l ls in let b =
-          sum_by-cons (λ (p : Part H). p.shares) (part_of l) (map (part_of {H = H}) ls) in let r = sum_parts ls in omega (arith, a, b, r)
+      sum_by-cons (λ (p : Part H). p.shares) (part_of l) (map (part_of {H = H}) ls) in let r = sum_parts ls in omega (arith, a, b, r)
 
   sum_deques : (pool : Whole H) (ss : List Spot) → sum_by (λ (p : Part H). p.shares) (deque_parts pool ss) ≡ length ss
   sum_deques pool [] = refl
@@ -171,9 +171,9 @@ module _ {H : Type 0} where
       let sum : List (Part H) → ℕ = sum_by (λ (p : Part H). p.shares) in
       let Q : Parts H → Type 0 = λ p. sum p.own + sum p.next ≡ length ds in
       let each = each_end pool ends e Q (λ k. (λ i. sum_deques pool (take 1 (drop k ds)) i + sum_deques pool (drop (k + 1) ds ++ take k ds) i)
-          ∙ cut ds k) in
+      ∙ cut ds k) in
       let all = All-weaker (λ (w : Way H). Q (parts_of w)) (λ (w : Way H). shares_in w.own + shares_in w.next ≡ length ds)
-          (λ w h. (λ i. sum_parts w.own i + sum_parts w.next i) ∙ h) ends each in
+      (λ w h. (λ i. sum_parts w.own i + sum_parts w.next i) ∙ h) ends each in
       totals ends (length ds) all ∙ ap (λ n. n * length ds) (count_of pool ends e)
 
   owns_flat : (ws : List (Way H)) → map (part_of {H = H}) (owns_of ws) ≡ flat_map (λ (p : Parts H). p.own) (map (parts_of {H = H}) ws)
@@ -187,11 +187,11 @@ module _ {H : Type 0} where
       let ds : List Spot = pool.deques in
       let at : ℕ → List (Part H) = λ k. deque_parts pool (take 1 (drop k ds)) in
       owns_flat ends ∙ ap (flat_map (λ (p : Parts H). p.own)) e ∙ flat_of (λ (p : Parts H). p.own) (map (end_parts pool) (numbers 0 pool.ends))
-          ∙ ap (flat_map (λ (l : List (Part H)). l)) (map_map (λ (p : Parts H). p.own) (end_parts pool) (numbers 0 pool.ends)) ∙ by_kind w.many
+      ∙ ap (flat_map (λ (l : List (Part H)). l)) (map_map (λ (p : Parts H). p.own) (end_parts pool) (numbers 0 pool.ends)) ∙ by_kind w.many
     where
       by_kind : (pool.deques ≡ []) ⊎ (length pool.deques ≡ pool.ends)
           → flat_map (λ (l : List (Part H)). l) (map (λ (k : ℕ). deque_parts pool (take 1 (drop k pool.deques)))
-              (numbers 0 pool.ends)) ≡ deque_parts pool pool.deques
+          (numbers 0 pool.ends)) ≡ deque_parts pool pool.deques
       by_kind (inl none) =
           ap (flat_map (λ (l : List (Part H)). l)) (const_numbers (λ (k : ℕ). deque_parts pool (take 1 (drop k pool.deques))) []
           (λ k. ap (λ l. deque_parts pool (take 1 l)) (ap (drop k) none ∙ drop_all k [] (omega arith))) 0 pool.ends)
@@ -224,7 +224,7 @@ module _ {H : Type 0} where
   end_doors pool ends e = map_map (part_of {H = H}) (λ (w : Way H). w.door) ends ∙ sym (map_map (λ (p : Parts H). p.door) (parts_of {H = H}) ends)
       ∙ ap (map (λ (p : Parts H). p.door)) e
       ∙ map_map (λ (p : Parts H). p.door) (end_parts pool) (numbers 0 pool.ends)
-          ∙ const_numbers (λ (k : ℕ). door_part pool) (door_part pool) (λ k. refl) 0 pool.ends
+      ∙ const_numbers (λ (k : ℕ). door_part pool) (door_part pool) (λ k. refl) 0 pool.ends
 
   pub feed_doors : (pool : Whole H) (feeds : List (Way H)) → AreFeeds pool feeds
       → map (part_of {H = H}) (doors_of feeds) ≡ replicate pool.feeds (door_part pool)
@@ -236,7 +236,7 @@ module _ {H : Type 0} where
       → All (λ (l : Look H). where_is l ≡ door_where pool) ls
   all_here pool ls n e = all_unmap (λ (p : Part H). where_of p ≡ door_where pool) (part_of {H = H}) ls
       (subst (All (λ (p : Part H). where_of p ≡ door_where pool)) (sym e)
-          (All-replicate (λ (p : Part H). where_of p ≡ door_where pool) n (door_part pool) refl))
+      (All-replicate (λ (p : Part H). where_of p ≡ door_where pool) n (door_part pool) refl))
 
   pub alike : (pool : Whole H) (ls : List (Look H)) → All (λ (l : Look H). where_is l ≡ door_where pool) ls → AreAlike ls
   alike pool [] h = tt
@@ -275,12 +275,12 @@ module _ {H : Type 0} where
       let os : List (Claim H) = flat_map f (owns_of ws) in let ds : List (Claim H) = flat_map f (doors_of ws) in
       let all : List (Claim H) = flat_map (λ (v : Way H). flat_map f (looks v)) ws in
       let here : flat_map f (looks w) ≡ o ++ d = ap (λ n. flat_map f (w.own ++ w.door ∷ n)) mine ∙ flat_map-append f w.own (w.door ∷ [])
-          ∙ ap (λ l. o ++ l) (append-nil d) in
+      ∙ ap (λ l. o ++ l) (append-nil d) in
       let to : (o ++ os) ++ (d ++ ds) ≡ flat_map f (w.own ++ owns_of ws) ++ (d ++ ds) =
-          ap (λ l. l ++ (d ++ ds)) (sym (flat_map-append f w.own (owns_of ws))) in
+      ap (λ l. l ++ (d ++ ds)) (sym (flat_map-append f w.own (owns_of ws))) in
       from_left (flat_map f (looks w) ++ all) ((o ++ d) ++ all) (flat_map f (w.own ++ owns_of ws) ++ (d ++ ds)) (ap (λ l. l ++ all) here)
       (IsPermutation-trans ((o ++ d) ++ all) ((o ++ d) ++ (os ++ ds)) (flat_map f (w.own ++ owns_of ws) ++ (d ++ ds))
-          (behind (o ++ d) all (os ++ ds) (spread f ws rest))
+      (behind (o ++ d) all (os ++ ds) (spread f ws rest))
       (IsPermutation-trans ((o ++ d) ++ (os ++ ds)) ((o ++ os) ++ (d ++ ds)) (flat_map f (w.own ++ owns_of ws) ++ (d ++ ds)) (exchange o d os ds)
       (same_elements ((o ++ os) ++ (d ++ ds)) (flat_map f (w.own ++ owns_of ws) ++ (d ++ ds)) to)))
     where
@@ -300,9 +300,9 @@ module _ {H : Type 0} where
   feeds_flat f pool zero (w ∷ feeds) e = absurd (cons_nil (parts_of w) (map (parts_of {H = H}) feeds) e)
   feeds_flat f pool (suc n) (w ∷ feeds) e =
       let mine : parts_of w ≡ feed_parts pool = cons_head (parts_of w) (feed_parts pool) (map (parts_of {H = H}) feeds)
-          (replicate n (feed_parts pool)) e in
+      (replicate n (feed_parts pool)) e in
       let rest = feeds_flat f pool n feeds (cons_tail (parts_of w) (feed_parts pool) (map (parts_of {H = H}) feeds)
-          (replicate n (feed_parts pool)) e) in
+      (replicate n (feed_parts pool)) e) in
       let own : w.own ≡ [] = no_parts w.own (ap (λ (p : Parts H). p.own) mine) in
       let next : w.next ≡ [] = no_parts w.next (ap (λ (p : Parts H). p.next) mine) in
       (λ i. flat_map f (own i ++ w.door ∷ next i) ++ rest i) ∙ ap (λ l. l ++ flat_map f (doors_of feeds)) (append-nil (f w.door))
@@ -332,9 +332,9 @@ module _ {H : Type 0} (IsFit : Option (Origin H) → Claim H → Type 0) (pool :
   last_whole =
       let a = is_last.shares in let b = all_of_shares (doors_of now) first is_first in
       let c : shares_in (doors_of now) ≡ pool.ends = ap shares_in (doors_same ends now gathered.frames) ∙ sum_parts (doors_of ends)
-          ∙ ap (sum_by (λ (p : Part H). p.shares)) (end_doors pool ends are_ends) ∙ sum_ones pool.ends (door_part pool) refl in
+      ∙ ap (sum_by (λ (p : Part H). p.shares)) (end_doors pool ends are_ends) ∙ sum_ones pool.ends (door_part pool) refl in
       let d : shares_in (doors_of feeds) ≡ pool.feeds = sum_parts (doors_of feeds)
-          ∙ ap (sum_by (λ (p : Part H). p.shares)) (feed_doors pool feeds are_feeds) ∙ sum_ones pool.feeds (door_part pool) refl in
+      ∙ ap (sum_by (λ (p : Part H). p.shares)) (feed_doors pool feeds are_feeds) ∙ sum_ones pool.feeds (door_part pool) refl in
       let e : last.ledger.members ≡ pool.ends + pool.feeds = ap (λ (w : Where H). w.members) last_where in
       omega (arith, a, b, c, d, e)
 
@@ -360,12 +360,12 @@ module _ {H : Type 0} (IsFit : Option (Origin H) → Claim H → Type 0) (pool :
       let Each : Look H → Type 0 = λ l. l.ledger.shares ≡ pool.ends in
       let most : All Most (owns_of now) = both (HasFew {H = H}) Is Most (λ l f m. omega (arith, f, m)) (owns_of now) few all_members in
       let count : length (owns_of now) ≡ length pool.deques = sym (length-map (owns_of now) (where_is {H = H})) ∙ ap length owns_at
-          ∙ length-map pool.deques (λ (s : Spot). where_of (deque_part pool s)) in
+      ∙ length-map pool.deques (λ (s : Spot). where_of (deque_part pool s)) in
       let sum : shares_in (owns_of now) ≡ pool.ends * length pool.deques = gathered.shares ∙ all_shares pool ends are_ends in
       let same : length (owns_of now) * pool.ends ≡ pool.ends * length pool.deques = ap (λ n. n * pool.ends) count
-          ∙ mul_comm (length pool.deques) pool.ends in
+      ∙ mul_comm (length pool.deques) pool.ends in
       both Each Is (HasAll {H = H}) (λ l s m. s ∙ sym m) (owns_of now)
-          (all_most (λ (l : Look H). l.ledger.shares) pool.ends (owns_of now) most (omega (arith, same, sum))) all_members
+      (all_most (λ (l : Look H). l.ledger.shares) pool.ends (owns_of now) most (omega (arith, same, sum))) all_members
     where
       both : (P Q R : Look H → Type 0) → ((l : Look H) → P l → Q l → R l) → (ls : List (Look H)) → All P ls → All Q ls → All R ls
       both P Q R f [] p q = All-nil R
@@ -375,20 +375,20 @@ module _ {H : Type 0} (IsFit : Option (Origin H) → Claim H → Type 0) (pool :
   ports_know : (f : Look H → List (Claim H)) → IsPermutation (flat_map (λ (v : Way H). flat_map f (looks v)) now)
       (flat_map (λ (v : Way H). flat_map f (looks v)) ends) → f first ≡ flat_map f (doors_of now)
       → f last ≡ flat_map f (first ∷ doors_of feeds) → IsPermutation (flat_map f ports)
-          (flat_map (λ (v : Way H). flat_map f (looks v)) (ends ++ feeds))
+      (flat_map (λ (v : Way H). flat_map f (looks v)) (ends ++ feeds))
   ports_know f same is_f is_l =
       let F : List (Way H) → List (Claim H) = flat_map (λ (v : Way H). flat_map f (looks v)) in
       let o : List (Claim H) = flat_map f (owns_of now) in let d : List (Claim H) = flat_map f (doors_of now) in
       let e : List (Claim H) = flat_map f (doors_of feeds) in
       let from : flat_map f ports ≡ (o ++ d) ++ e = flat_map-append f (owns_of now) (last ∷ [])
-          ∙ ap (λ l. o ++ l) (append-nil (f last) ∙ is_l ∙ ap (λ l. l ++ e) is_f) ∙ sym (append_assoc o d e) in
+      ∙ ap (λ l. o ++ l) (append-nil (f last) ∙ is_l ∙ ap (λ l. l ++ e) is_f) ∙ sym (append_assoc o d e) in
       let to : F (ends ++ feeds) ≡ F ends ++ e = flat_map-append (λ (v : Way H). flat_map f (looks v)) ends feeds
-          ∙ ap (λ l. F ends ++ l) (feeds_flat f pool pool.feeds feeds are_feeds) in
+      ∙ ap (λ l. F ends ++ l) (feeds_flat f pool pool.feeds feeds are_feeds) in
       from_left (flat_map f ports) ((o ++ d) ++ e) (F (ends ++ feeds)) from
       (IsPermutation-trans ((o ++ d) ++ e) (F now ++ e) (F (ends ++ feeds))
-          (before (o ++ d) (F now) e (IsPermutation-sym (F now) (o ++ d) (spread f now gathered.nexts)))
+      (before (o ++ d) (F now) e (IsPermutation-sym (F now) (o ++ d) (spread f now gathered.nexts)))
       (IsPermutation-trans (F now ++ e) (F ends ++ e) (F (ends ++ feeds)) (before (F now) (F ends) e same)
-          (same_elements (F ends ++ e) (F (ends ++ feeds)) (sym to))))
+      (same_elements (F ends ++ e) (F (ends ++ feeds)) (sym to))))
 
   -- what is left
   pub left_is : (mid left : List (Claim H)) → Empties IsFit first.ledger.gates (owns_of now) [] mid
@@ -397,18 +397,18 @@ module _ {H : Type 0} (IsFit : Option (Origin H) → Claim H → Type 0) (pool :
       let gates : last.ledger.gates ≡ Some pool.gates = ap (λ (w : Where H). w.gates) last_where in
       let gates' : first.ledger.gates ≡ Some pool.gates = ap (λ (w : Where H). w.gates) first_where in
       let all = empties_append IsFit (Some pool.gates) (owns_of now) (last ∷ []) [] mid left
-          (subst (λ g. Empties IsFit g (owns_of now) [] mid) gates' p) (subst (λ g. Empties IsFit g (last ∷ []) mid left) gates q) in
+      (subst (λ g. Empties IsFit g (owns_of now) [] mid) gates' p) (subst (λ g. Empties IsFit g (last ∷ []) mid left) gates q) in
       let is : all.more ≡ left = sym all.added in
       let shares : All (HasAll {H = H}) ports = All-append (HasAll {H = H}) (owns_of now) (last ∷ []) (owns_whole p.few)
-          (All-cons (HasAll {H = H}) last [] last_whole (All-nil (HasAll {H = H}))) in
+      (All-cons (HasAll {H = H}) last [] last_whole (All-nil (HasAll {H = H}))) in
       let taken : IsPermutation (taken_at ports) (taken_by (ends ++ feeds)) =
-          ports_know (λ (l : Look H). claims_in l.ledger.taken) gathered.taken (all_of_taken (doors_of now) first is_first) is_last.taken in
+      ports_know (λ (l : Look H). claims_in l.ledger.taken) gathered.taken (all_of_taken (doors_of now) first is_first) is_last.taken in
       let pushed : IsPermutation (pushed_at ports) (pushed_by (ends ++ feeds)) =
-          ports_know (λ (l : Look H). claims_in l.ledger.pushed) gathered.pushed (all_of_pushed (doors_of now) first is_first) is_last.pushed in (
+      ports_know (λ (l : Look H). claims_in l.ledger.pushed) gathered.pushed (all_of_pushed (doors_of now) first is_first) is_last.pushed in (
         IsPermutation-trans (taken_by (ends ++ feeds) ++ left) (taken_at ports ++ left) (pushed_by (ends ++ feeds))
             (before (taken_by (ends ++ feeds)) (taken_at ports) left (IsPermutation-sym (taken_at ports) (taken_by (ends ++ feeds)) taken))
             (IsPermutation-trans (taken_at ports ++ left) (pushed_at ports) (pushed_by (ends ++ feeds))
-                (subst (λ l. IsPermutation (taken_at ports ++ l) (pushed_at ports)) is (all.whole shares)) pushed),
+            (subst (λ l. IsPermutation (taken_at ports ++ l) (pushed_at ports)) is (all.whole shares)) pushed),
         subst (All (IsFit (Some pool.gates))) is all.fit,
       )
 
@@ -418,14 +418,14 @@ module _ {H : Type 0} (IsFit : Option (Origin H) → Claim H → Type 0) where
       → TakesIn base (doors_of (done ++ end ∷ [])) (joined door other)
   one_more_door base door other done end t e =
       subst (λ (y : List (Look H) × Look H). TakesIn base y.0 (joined door y.1)) (λ i. (sym (map_push (λ (w : Way H). w.door) done end) i, sym e i))
-          (takes_in_more base (doors_of done) door end.door t)
+      (takes_in_more base (doors_of done) door end.door t)
 
   pub one_more_own : (base : Look H) (done : List (Way H)) (end : Way H) (a b c : List (Claim H))
       → Empties IsFit base.ledger.gates (owns_of done) a b → where_is end.door ≡ where_is base
       → Empties IsFit end.door.ledger.gates end.own b c → Empties IsFit base.ledger.gates (owns_of (done ++ end ∷ [])) a c
   one_more_own base done end a b c p alike' q =
       let owns : owns_of (done ++ end ∷ []) ≡ owns_of done ++ end.own = flat_map-append (λ (w : Way H). w.own) done (end ∷ [])
-          ∙ ap (λ l. owns_of done ++ l) (append-nil end.own) in
+      ∙ ap (λ l. owns_of done ++ l) (append-nil end.own) in
       subst (λ l. Empties IsFit base.ledger.gates l a c) (sym owns)
       (empties_append IsFit base.ledger.gates (owns_of done) end.own a b c p
-          (subst (λ g. Empties IsFit g end.own b c) (ap (λ (w : Where H). w.gates) alike') q))
+      (subst (λ g. Empties IsFit g end.own b c) (ap (λ (w : Where H). w.gates) alike') q))

@@ -48,7 +48,7 @@ impl<H: Resident> Deque<H> {
             × (worker_flavor self.new.worker ≡ worker_flavor self.old.worker) }
         ensures pushed { MatchResult result
             (λ _. PutsLast (IsUntouched H.is_of H.journal H.mailbox H.rested H.given H.closed_to) (worker_view self.old.worker) claim
-                (worker_view self.new.worker))
+            (worker_view self.new.worker))
             (λ back. (back ≡ claim) × (worker_view self.new.worker ≡ worker_view self.old.worker)) }
     {
         match self.worker.push_as::<Pushed>(Parked { claim }) {
@@ -68,7 +68,7 @@ impl<H: Resident> Deque<H> {
             ((worker_view self.new.worker ≡ worker_view self.old.worker)
             × Moment (IsUntouched H.is_of H.journal H.mailbox H.rested H.given H.closed_to) (worker_view self.old.worker) [])
             (λ c. TakesFirst (IsUntouched H.is_of H.journal H.mailbox H.rested H.given H.closed_to) (worker_view self.old.worker) c
-                (worker_view self.new.worker)) }
+            (worker_view self.new.worker)) }
     {
         match self.worker.pop_as::<Taken>() {
             Some(parked) => Some(parked.open()),

@@ -34,7 +34,7 @@ impl<H: Resident> Door<H> {
             (λ _. PutsLast (IsUntouched H.is_of H.journal H.mailbox H.rested H.given H.closed_to) (look_of self.old).ledger claim
             (look_of self.new).ledger)
             (λ refused. (given_back refused ≡ claim) × (look_of self.new ≡ look_of self.old)
-                × IsRefusal (IsUntouched H.is_of H.journal H.mailbox H.rested H.given H.closed_to) (look_of self.old) refused) }
+            × IsRefusal (IsUntouched H.is_of H.journal H.mailbox H.rested H.given H.closed_to) (look_of self.old) refused) }
     {
         match self {
             Door::Bounded(port) => return port.push(rt, claim),
@@ -51,7 +51,7 @@ impl<H: Resident> Door<H> {
             ((look_of self.new ≡ look_of self.old)
             × Moment (IsUntouched H.is_of H.journal H.mailbox H.rested H.given H.closed_to) (look_of self.old).ledger [])
             (λ c. TakesFirst (IsUntouched H.is_of H.journal H.mailbox H.rested H.given H.closed_to) (look_of self.old).ledger c
-                (look_of self.new).ledger) }
+            (look_of self.new).ledger) }
     {
         match self {
             Door::Bounded(port) => return port.take(rt),

@@ -45,7 +45,7 @@ impl<H: Resident> WorkerEnd<H> {
         ensures pushed { MatchResult result
             (λ _. Pushes (IsUntouched H.is_of H.journal H.mailbox H.rested H.given H.closed_to) self.old claim self.new)
             (λ refused. (given_back refused ≡ claim) × (self.new ≡ self.old)
-                × IsRefusedBy (IsUntouched H.is_of H.journal H.mailbox H.rested H.given H.closed_to) self.old refused) }
+            × IsRefusedBy (IsUntouched H.is_of H.journal H.mailbox H.rested H.given H.closed_to) self.old refused) }
         ensures same { parts_of self.new ≡ parts_of self.old }
     {
         push_first(rt, &mut self.door, &mut self.member, claim)
@@ -99,7 +99,7 @@ fn take_first<H: Resident, R: Wait>(
     ensures taken { MatchOption result ((way_of (look_of door.new) member.new ≡ way_of (look_of door.old) member.old)
         × All (WasEmpty (IsUntouched H.is_of H.journal H.mailbox H.rested H.given H.closed_to)) (looks (way_of (look_of door.old) member.old)))
         (λ c. Takes (IsUntouched H.is_of H.journal H.mailbox H.rested H.given H.closed_to) (way_of (look_of door.old) member.old) c
-            (way_of (look_of door.new) member.new)) }
+        (way_of (look_of door.new) member.new)) }
     ensures same { parts_of (way_of (look_of door.new) member.new) ≡ parts_of (way_of (look_of door.old) member.old) }
 {
     match member {

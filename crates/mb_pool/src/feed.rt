@@ -39,7 +39,7 @@ impl<H: Resident> Feed<H> {
         ensures pushed { MatchResult result
             (λ _. Pushes (IsUntouched H.is_of H.journal H.mailbox H.rested H.given H.closed_to) self.old claim self.new)
             (λ refused. (given_back refused ≡ claim) × (self.new ≡ self.old)
-                × IsRefusedBy (IsUntouched H.is_of H.journal H.mailbox H.rested H.given H.closed_to) self.old refused) }
+            × IsRefusedBy (IsUntouched H.is_of H.journal H.mailbox H.rested H.given H.closed_to) self.old refused) }
         ensures same { parts_of self.new ≡ parts_of self.old }
     {
         self.door.push(rt, claim)

@@ -43,7 +43,7 @@ impl<H: Resident> Inlet<H> {
         ensures queue { IsInjectorPassOf self.now.queue pass.new }
         ensures pushed { MatchResult result
             (λ _. PutsLast (IsUntouched H.is_of H.journal H.mailbox H.rested H.given H.closed_to) (injector_view pass.old) claim
-                (injector_view pass.new))
+            (injector_view pass.new))
             (λ back. (back ≡ claim) × (injector_view pass.new ≡ injector_view pass.old)) }
     {
         match self.queue.push_as::<Pushed, R>(rt, pass, Parked { claim }) {
@@ -59,9 +59,9 @@ impl<H: Resident> Inlet<H> {
         ensures queue { IsInjectorPassOf self.now.queue pass.new }
         ensures taken { MatchOption result
             ((injector_view pass.new ≡ injector_view pass.old)
-                × Moment (IsUntouched H.is_of H.journal H.mailbox H.rested H.given H.closed_to) (injector_view pass.old) [])
+            × Moment (IsUntouched H.is_of H.journal H.mailbox H.rested H.given H.closed_to) (injector_view pass.old) [])
             (λ c. TakesFirst (IsUntouched H.is_of H.journal H.mailbox H.rested H.given H.closed_to) (injector_view pass.old) c
-                (injector_view pass.new)) }
+            (injector_view pass.new)) }
     {
         for _ in rt.forever() {
             match self.queue.steal_as::<Taken, R>(rt, pass) {

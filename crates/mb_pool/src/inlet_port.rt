@@ -52,7 +52,7 @@ impl<H: Resident> InletPort<H> {
         ensures pushed { MatchResult result
             (λ _. PutsLast (IsUntouched H.is_of H.journal H.mailbox H.rested H.given H.closed_to) self.old.ledger claim self.new.ledger)
             (λ refused. (given_back refused ≡ claim) × (self.new ≡ self.old)
-                × IsRefusal (IsUntouched H.is_of H.journal H.mailbox H.rested H.given H.closed_to) self.old refused) }
+            × IsRefusal (IsUntouched H.is_of H.journal H.mailbox H.rested H.given H.closed_to) self.old refused) }
     {
         match self.inlet.push(rt, &mut self.pass, claim) {
             Ok(()) => return Ok(()),
@@ -85,7 +85,7 @@ impl<H: Resident> InletPort<H> {
         requires { 1 < self.old.ledger.shares }
         ensures { MatchResult result
             (λ port. (self.new ≡ record self.old { ledger = lending 1 self.old.ledger })
-                × (port ≡ record self.old { ledger = borrowing 1 self.old.ledger }))
+            × (port ≡ record self.old { ledger = borrowing 1 self.old.ledger }))
             (λ _. self.new ≡ self.old) }
     {
         let inlet = Arc::try_clone(&self.inlet)?;

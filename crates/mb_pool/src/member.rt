@@ -32,7 +32,7 @@ pub fn take_somewhere<H: Resident, R: Wait>(
         ((way_of (look_of door.new) (Some member.new) ≡ way_of (look_of door.old) (Some member.old))
         × All (WasEmpty (IsUntouched H.is_of H.journal H.mailbox H.rested H.given H.closed_to)) (looks (way_of (look_of door.old) (Some member.old))))
         (λ c. TakesOne (IsUntouched H.is_of H.journal H.mailbox H.rested H.given H.closed_to) (looks (way_of (look_of door.old) (Some member.old))) c
-            (looks (way_of (look_of door.new) (Some member.new)))) }
+        (looks (way_of (look_of door.new) (Some member.new)))) }
     ensures same { parts_of (way_of (look_of door.new) (Some member.new)) ≡ parts_of (way_of (look_of door.old) (Some member.old)) }
 {
     if let Some(claim) = member.own.take() {

@@ -92,7 +92,7 @@ impl<H: Resident> Own<H> {
         requires { 1 < self.old.ledger.shares }
         ensures { MatchResult result
             (λ thief. (self.new ≡ record self.old { ledger = lending 1 self.old.ledger })
-                × (thief ≡ record self.old { ledger = borrowing 1 self.old.ledger }))
+            × (thief ≡ record self.old { ledger = borrowing 1 self.old.ledger }))
             (λ _. self.new ≡ self.old) }
     {
         let stealer = self.deque.worker.stealer()?;

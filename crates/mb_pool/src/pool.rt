@@ -40,19 +40,19 @@ impl<H: Resident> Model for Pool<H> {
     ghost use Rattle.mb_pool.specs.Parts.{look_of};
 
     ghost view = { λ p. record {
-        gates = origin_of p.gates.value;
-        door = (look_of p.door.value).spot;
-        deques = spots_of p.deques.value.items;
-        ends = p.ends;
-        feeds = p.feeds;
+      gates = origin_of p.gates.value;
+      door = (look_of p.door.value).spot;
+      deques = spots_of p.deques.value.items;
+      ends = p.ends;
+      feeds = p.feeds;
     } };
 
     ghost invariant = { λ p. IsWhole (record {
-        gates = origin_of p.gates.value;
-        door = (look_of p.door.value).spot;
-        deques = spots_of p.deques.value.items;
-        ends = p.ends;
-        feeds = p.feeds;
+      gates = origin_of p.gates.value;
+      door = (look_of p.door.value).spot;
+      deques = spots_of p.deques.value.items;
+      ends = p.ends;
+      feeds = p.feeds;
     }) };
 }
 

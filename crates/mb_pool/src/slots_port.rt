@@ -5,9 +5,9 @@ ghost use Rattle.mb_pool.specs.Moves.{given_back, IsRefusal};
 ghost use Rattle.mb_pool.specs.Rule.{Moment, PutsLast, TakesFirst};
 ghost use Rattle.mb_pool.specs.Untouched.{IsUntouched};
 
-use crate::slots::{Slots, SlotsPass};
 use crate::refused::Refused;
 use crate::rule::Scoped;
+use crate::slots::{Slots, SlotsPass};
 use mb_gate::{Claim, Resident};
 use std::alloc::{AllocError, Global};
 use std::marker::Model;
@@ -53,7 +53,7 @@ impl<H: Resident> SlotsPort<H> {
         ensures pushed { MatchResult result
             (λ _. PutsLast (IsUntouched H.is_of H.journal H.mailbox H.rested H.given H.closed_to) self.old.ledger claim self.new.ledger)
             (λ refused. (given_back refused ≡ claim) × (self.new ≡ self.old)
-                × IsRefusal (IsUntouched H.is_of H.journal H.mailbox H.rested H.given H.closed_to) self.old refused) }
+            × IsRefusal (IsUntouched H.is_of H.journal H.mailbox H.rested H.given H.closed_to) self.old refused) }
     {
         match self.slots.push(rt, &mut self.pass, claim) {
             Ok(()) => return Ok(()),
@@ -86,7 +86,7 @@ impl<H: Resident> SlotsPort<H> {
         requires { 1 < self.old.ledger.shares }
         ensures { MatchResult result
             (λ port. (self.new ≡ record self.old { ledger = lending 1 self.old.ledger })
-                × (port ≡ record self.old { ledger = borrowing 1 self.old.ledger }))
+            × (port ≡ record self.old { ledger = borrowing 1 self.old.ledger }))
             (λ _. self.new ≡ self.old) }
     {
         let slots = Arc::try_clone(&self.slots)?;

@@ -90,7 +90,10 @@ fn what_was_not_taken_is_left(rt: HostRuntime) -> Result<(), Fail> {
     let (gates, mut pass) = gates_of(alloc, 4)?;
     let mut party = Party::new(alloc, &gates, Kind::Stealing, 2, 0)?;
     for actor in 1..4 {
-        assert_eq!(rt; push(&rt, &gates, &mut pass, &mut party, 0, actor), Answer::Done);
+        assert_eq!(rt;
+            push(&rt, &gates, &mut pass, &mut party, 0, actor),
+            Answer::Done
+        );
     }
     assert_eq!(rt; take(&rt, &gates, &mut pass, &mut party, 1), Some(1));
     assert_eq!(rt; take(&rt, &gates, &mut pass, &mut party, 0), Some(2));
@@ -104,9 +107,18 @@ fn the_own_deque_comes_first(rt: HostRuntime) -> Result<(), Fail> {
     let alloc = rt.alloc();
     let (gates, mut pass) = gates_of(alloc, 6)?;
     let mut party = Party::new(alloc, &gates, Kind::Stealing, 3, 1)?;
-    assert_eq!(rt; push(&rt, &gates, &mut pass, &mut party, 0, 0), Answer::Done);
-    assert_eq!(rt; push(&rt, &gates, &mut pass, &mut party, 2, 2), Answer::Done);
-    assert_eq!(rt; push(&rt, &gates, &mut pass, &mut party, 1, 1), Answer::Done);
+    assert_eq!(rt;
+        push(&rt, &gates, &mut pass, &mut party, 0, 0),
+        Answer::Done
+    );
+    assert_eq!(rt;
+        push(&rt, &gates, &mut pass, &mut party, 2, 2),
+        Answer::Done
+    );
+    assert_eq!(rt;
+        push(&rt, &gates, &mut pass, &mut party, 1, 1),
+        Answer::Done
+    );
     assert_eq!(rt; feed(&rt, &gates, &mut pass, &mut party, 3), Answer::Done);
     assert_eq!(rt; take(&rt, &gates, &mut pass, &mut party, 1), Some(1));
     assert_eq!(rt; take(&rt, &gates, &mut pass, &mut party, 1), Some(3));
@@ -122,9 +134,15 @@ fn a_shared_pool_holds_64(rt: HostRuntime) -> Result<(), Fail> {
     let (gates, mut pass) = gates_of(alloc, 65)?;
     let mut party = Party::new(alloc, &gates, Kind::Shared, 2, 1)?;
     for actor in 0..64 {
-        assert_eq!(rt; push(&rt, &gates, &mut pass, &mut party, 0, actor), Answer::Done);
+        assert_eq!(rt;
+            push(&rt, &gates, &mut pass, &mut party, 0, actor),
+            Answer::Done
+        );
     }
-    assert_eq!(rt; push(&rt, &gates, &mut pass, &mut party, 1, 64), Answer::Full(64));
+    assert_eq!(rt;
+        push(&rt, &gates, &mut pass, &mut party, 1, 64),
+        Answer::Full(64)
+    );
     let left = party.leave(&rt, alloc, &gates, &mut pass)?;
     assert_eq!(rt; left.len(), 64);
     for (place, actor) in left.iter().enumerate() {
@@ -139,7 +157,10 @@ fn a_stealing_pool_holds_more(rt: HostRuntime) -> Result<(), Fail> {
     let (gates, mut pass) = gates_of(alloc, 65)?;
     let mut party = Party::new(alloc, &gates, Kind::Stealing, 2, 1)?;
     for actor in 0..64 {
-        assert_eq!(rt; push(&rt, &gates, &mut pass, &mut party, 0, actor), Answer::Done);
+        assert_eq!(rt;
+            push(&rt, &gates, &mut pass, &mut party, 0, actor),
+            Answer::Done
+        );
     }
     assert_eq!(rt; feed(&rt, &gates, &mut pass, &mut party, 64), Answer::Done);
     let left = party.leave(&rt, alloc, &gates, &mut pass)?;
@@ -155,7 +176,10 @@ fn a_pool_that_is_dropped_lets_its_claims_go(rt: HostRuntime) -> Result<(), Fail
     let alloc = rt.alloc();
     let (gates, mut pass) = gates_of(alloc, 2)?;
     let mut party = Party::new(alloc, &gates, Kind::Shared, 1, 1)?;
-    assert_eq!(rt; push(&rt, &gates, &mut pass, &mut party, 0, 1), Answer::Done);
+    assert_eq!(rt;
+        push(&rt, &gates, &mut pass, &mut party, 0, 1),
+        Answer::Done
+    );
     assert_eq!(rt; feed(&rt, &gates, &mut pass, &mut party, 0), Answer::Done);
     drop(party);
     Ok(())

@@ -22,8 +22,14 @@ fn fill<R: Abort + Wait>(rt: &R, alloc: Global, kind: Kind, each: u32) -> Result
         Err(_) => Party::new(alloc, &gates, kind, 2, 1)?,
     };
     for actor in 0..each {
-        assert_eq!(rt; push(rt, &gates, &mut pass, &mut party, 1, actor), Answer::Done);
-        assert_eq!(rt; feed(rt, &gates, &mut pass, &mut party, 200 + actor), Answer::Done);
+        assert_eq!(rt;
+            push(rt, &gates, &mut pass, &mut party, 1, actor),
+            Answer::Done
+        );
+        assert_eq!(rt;
+            feed(rt, &gates, &mut pass, &mut party, 200 + actor),
+            Answer::Done
+        );
     }
     let left = party.leave(rt, alloc, &gates, &mut pass)?;
     Ok(left.len())

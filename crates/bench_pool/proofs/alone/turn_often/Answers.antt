@@ -6,8 +6,10 @@ use Rattle.bench_pool.proofs.alone.turn_often.Goals as goal
 
 pub push-requires : goal.push-requires
 push-requires g c =
-    record { fit = subst (λ o. IsUntouched g.H.Resident.is_of g.H.Resident.journal g.H.Resident.mailbox g.H.Resident.rested g.H.Resident.given
-        g.H.Resident.closed_to o c.loop.claim) (sym c.loop.invariant.1) c.loop.invariant.2 }
+    record {
+      fit = subst (λ o. IsUntouched g.H.Resident.is_of g.H.Resident.journal g.H.Resident.mailbox g.H.Resident.rested g.H.Resident.given
+          g.H.Resident.closed_to o c.loop.claim) (sym c.loop.invariant.1) c.loop.invariant.2;
+    }
 
 pub loop-preserved : goal.loop-preserved
 loop-preserved g c =

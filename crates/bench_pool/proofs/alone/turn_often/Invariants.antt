@@ -9,4 +9,4 @@ abbrev pub invariant-loop : goal.invariant-loop
 invariant-loop g l = (pass_id l.pass ≡ gates_id l.gates)
     × (gates_of l.end ≡ Some (origin_of l.gates))
     × IsUntouched g.H.Resident.is_of g.H.Resident.journal g.H.Resident.mailbox g.H.Resident.rested g.H.Resident.given g.H.Resident.closed_to
-        (Some (origin_of l.gates)) l.claim
+    (Some (origin_of l.gates)) l.claim

@@ -15,21 +15,21 @@ pub returns-in-None-clause-taken : goal.returns-in-None-clause-taken
 returns-in-None-clause-taken g c =
     let old = look_of c.args.door.now in let new = look_of c.take.new.self in
     subst (λ m. MatchOption c.take.result ((way_of new m ≡ way_of old m)
-        × All (WasEmpty (IsUntouched g.H.Resident.is_of g.H.Resident.journal g.H.Resident.mailbox g.H.Resident.rested g.H.Resident.given
-            g.H.Resident.closed_to)) (looks (way_of old m))) (λ x. Takes
-            (IsUntouched g.H.Resident.is_of g.H.Resident.journal g.H.Resident.mailbox g.H.Resident.rested g.H.Resident.given g.H.Resident.closed_to)
-            (way_of old m) x (way_of new m)))
+    × All (WasEmpty (IsUntouched g.H.Resident.is_of g.H.Resident.journal g.H.Resident.mailbox g.H.Resident.rested g.H.Resident.given
+    g.H.Resident.closed_to)) (looks (way_of old m))) (λ x. Takes
+    (IsUntouched g.H.Resident.is_of g.H.Resident.journal g.H.Resident.mailbox g.H.Resident.rested g.H.Resident.given g.H.Resident.closed_to)
+    (way_of old m) x (way_of new m)))
     (sym c.in-None.is) (take_by_door
-        (IsUntouched g.H.Resident.is_of g.H.Resident.journal g.H.Resident.mailbox g.H.Resident.rested g.H.Resident.given
-            g.H.Resident.closed_to) old new c.take.ensures.spot c.take.result c.take.ensures.taken)
+    (IsUntouched g.H.Resident.is_of g.H.Resident.journal g.H.Resident.mailbox g.H.Resident.rested g.H.Resident.given
+    g.H.Resident.closed_to) old new c.take.ensures.spot c.take.result c.take.ensures.taken)
 
 pub returns-in-None-clause-same : goal.returns-in-None-clause-same
 returns-in-None-clause-same g c =
     let old = look_of c.args.door.now in let new = look_of c.take.new.self in
     subst (λ m. parts_of (way_of new m) ≡ parts_of (way_of old m)) (sym c.in-None.is)
-        (feed_parts old new (take_same
-        (IsUntouched g.H.Resident.is_of g.H.Resident.journal g.H.Resident.mailbox g.H.Resident.rested g.H.Resident.given
-            g.H.Resident.closed_to) old new c.take.ensures.spot c.take.result c.take.ensures.taken))
+    (feed_parts old new (take_same
+    (IsUntouched g.H.Resident.is_of g.H.Resident.journal g.H.Resident.mailbox g.H.Resident.rested g.H.Resident.given
+    g.H.Resident.closed_to) old new c.take.ensures.spot c.take.result c.take.ensures.taken))
 
 pub take_somewhere-requires : goal.take_somewhere-requires
 take_somewhere-requires g c = subst (λ o. AreOpen (way_of (look_of c.args.door.now) o)) c.in-Some.is c.requires
@@ -38,10 +38,10 @@ pub returns-in-Some-clause-taken : goal.returns-in-Some-clause-taken
 returns-in-Some-clause-taken g c =
     let old = look_of c.args.door.now in let new = look_of c.take_somewhere.new.door in let m = Some c.take_somewhere.new.member in
     subst (λ o. MatchOption c.take_somewhere.result ((way_of new m ≡ way_of old o)
-        × All (WasEmpty (IsUntouched g.H.Resident.is_of g.H.Resident.journal g.H.Resident.mailbox g.H.Resident.rested g.H.Resident.given
-            g.H.Resident.closed_to)) (looks (way_of old o)))
-        (λ x. Takes (IsUntouched g.H.Resident.is_of g.H.Resident.journal g.H.Resident.mailbox g.H.Resident.rested g.H.Resident.given
-            g.H.Resident.closed_to) (way_of old o) x (way_of new m)))
+    × All (WasEmpty (IsUntouched g.H.Resident.is_of g.H.Resident.journal g.H.Resident.mailbox g.H.Resident.rested g.H.Resident.given
+    g.H.Resident.closed_to)) (looks (way_of old o)))
+    (λ x. Takes (IsUntouched g.H.Resident.is_of g.H.Resident.journal g.H.Resident.mailbox g.H.Resident.rested g.H.Resident.given
+    g.H.Resident.closed_to) (way_of old o) x (way_of new m)))
     (sym c.in-Some.is) c.take_somewhere.ensures.taken
 
 pub returns-in-Some-clause-same : goal.returns-in-Some-clause-same

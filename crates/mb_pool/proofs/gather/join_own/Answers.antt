@@ -8,4 +8,4 @@ pub invariant_of-end : goal.invariant_of-end
 invariant_of-end g c =
     let m = c.in-Some.member in let door = look_of c.end.inside.door in
     joined_open m.own c.join.new.self c.args.thief door m.thieves.items c.join.ensures
-        (subst (λ o. AreOpen (way_of door o)) c.in-Some.is c.end.invariant)
+    (subst (λ o. AreOpen (way_of door o)) c.in-Some.is c.end.invariant)

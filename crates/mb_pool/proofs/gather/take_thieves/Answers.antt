@@ -9,5 +9,5 @@ pub invariant_of-end-in-Some : goal.invariant_of-end-in-Some
 invariant_of-end-in-Some g c =
     let m = c.in-Some.member in let door = look_of c.end.inside.door in
     alone_open m.own door m.thieves.items c.replace.new.dest.items (ap (λ (v : Vec _ _). v.items) c.replace.ensures.after
-        ∙ c.new-in-Some.ensures.items)
+    ∙ c.new-in-Some.ensures.items)
     (subst (λ o. AreOpen (way_of door o)) c.in-Some.is c.end.invariant)

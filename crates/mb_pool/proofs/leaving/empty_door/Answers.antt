@@ -13,7 +13,7 @@ loop-preserved g c = emptying_more
     (IsUntouched g.H.Resident.is_of g.H.Resident.journal g.H.Resident.mailbox g.H.Resident.rested g.H.Resident.given g.H.Resident.closed_to)
     (look_of c.args.door) c.args.left.now.items (look_of c.loop.door)
     (look_of c.take.new.self) c.loop.left.items c.keep.new.left.items c.in-Some-take.claim c.loop.invariant c.in-Some-take.ensures.taken
-        c.keep.ensures
+    c.keep.ensures
 
 pub returns-in-None-take : goal.returns-in-None-take
 returns-in-None-take g c = emptying_all

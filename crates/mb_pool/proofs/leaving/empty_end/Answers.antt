@@ -22,7 +22,7 @@ pub returns-in-Some-clause-emptied : goal.returns-in-Some-clause-emptied
 returns-in-Some-clause-emptied g c =
     let m = c.in-Some.member in let door = look_of c.end.inside.door in
     emptied_own (IsUntouched g.H.Resident.is_of g.H.Resident.journal g.H.Resident.mailbox g.H.Resident.rested g.H.Resident.given
-        g.H.Resident.closed_to)
+    g.H.Resident.closed_to)
     m.own door m.thieves.items c.args.end c.args.left.now.items c.empty_own.new.left.items (ap (way_of door) (sym c.in-Some.is) ∙ c.end.view_is)
     (subst (λ o. AreOpen (way_of door o)) c.in-Some.is c.end.invariant) c.empty_own.ensures
 
@@ -36,5 +36,5 @@ pub returns-clause-emptied : goal.returns-clause-emptied
 returns-clause-emptied g c =
     let door = look_of c.end.inside.door in
     emptied_nothing (IsUntouched g.H.Resident.is_of g.H.Resident.journal g.H.Resident.mailbox g.H.Resident.rested g.H.Resident.given
-        g.H.Resident.closed_to)
+    g.H.Resident.closed_to)
     door c.args.end c.args.left.now.items (ap (way_of door) (sym c.in_default.is) ∙ c.end.view_is)

@@ -24,7 +24,7 @@ join-requires-clause-place g c =
     let at = c.loop-end in let base = look_of c.empty_end-door.result in let first = c.in-Some.first in
     let all = into_iter_items c.into_iter-end-iterator.result in
     let is : c.args.ends.items ≡ first ∷ all = sym c.into_iter-ends.ensures.into_iter_gives.0 ∙ c.in-Some.ensures.steps.0
-        ∙ ap (λ it. first ∷ into_iter_items it) (sym c.into_iter-end-iterator.ensures.into_iter_gives) in
+    ∙ ap (λ it. first ∷ into_iter_items it) (sym c.into_iter-end-iterator.ensures.into_iter_gives) in
     let alike = alike_rest c.args.ends.items all first base is c.empty_end-door.ensures.door c.requires.alike in
     let end = c.in-Some-end.end in let rest = into_iter_items c.next-in-loop-end.new.self in
     let steps : into_iter_items at.end-iterator ≡ end ∷ rest = c.in-Some-end.ensures.steps.0 in
@@ -34,15 +34,18 @@ join-requires-clause-place g c =
     base (look_of at.door) other base all at.yielded rest end list alike at.invariant.0 c.empty_end-other.ensures.door
 
 pub join-requires-clause-shares : goal.join-requires-clause-shares
-join-requires-clause-shares g c = (c.loop-end.invariant.2, subst (λ l. HasShare l)
-    (sym c.empty_end-other.ensures.door) c.empty_end-other.ensures.share)
+join-requires-clause-shares g c = (
+  c.loop-end.invariant.2,
+  subst (λ l. HasShare l)
+      (sym c.empty_end-other.ensures.door) c.empty_end-other.ensures.share,
+)
 
 pub loop-end-preserved : goal.loop-end-preserved
 loop-end-preserved g c =
     let at = c.loop-end in let base = look_of c.empty_end-door.result in let first = c.in-Some.first in
     let all = into_iter_items c.into_iter-end-iterator.result in
     let is : c.args.ends.items ≡ first ∷ all = sym c.into_iter-ends.ensures.into_iter_gives.0 ∙ c.in-Some.ensures.steps.0
-        ∙ ap (λ it. first ∷ into_iter_items it) (sym c.into_iter-end-iterator.ensures.into_iter_gives) in
+    ∙ ap (λ it. first ∷ into_iter_items it) (sym c.into_iter-end-iterator.ensures.into_iter_gives) in
     let alike = alike_rest c.args.ends.items all first base is c.empty_end-door.ensures.door c.requires.alike in
     let end = c.in-Some-end.end in let rest = into_iter_items c.next-in-loop-end.new.self in
     let steps : into_iter_items at.end-iterator ≡ end ∷ rest = c.in-Some-end.ensures.steps.0 in
@@ -59,7 +62,7 @@ loop-end-preserved g c =
       share_next (IsUntouched g.H.Resident.is_of g.H.Resident.journal g.H.Resident.mailbox g.H.Resident.rested g.H.Resident.given
           g.H.Resident.closed_to)
           base (look_of at.door) other new all at.yielded rest end list alike at.invariant.0 c.empty_end-other.ensures.door
-              c.join.ensures at.invariant.2 (subst (λ l. HasShare l) (sym c.empty_end-other.ensures.door) c.empty_end-other.ensures.share),
+          c.join.ensures at.invariant.2 (subst (λ l. HasShare l) (sym c.empty_end-other.ensures.door) c.empty_end-other.ensures.share),
       append_assoc at.yielded (end ∷ []) rest ∙ list,
     )
 
@@ -68,12 +71,12 @@ returns-clause-door g c =
     let at = c.loop-end in let base = look_of c.empty_end-door.result in let first = c.in-Some.first in
     let all = into_iter_items c.into_iter-end-iterator.result in
     let is : c.args.ends.items ≡ first ∷ all = sym c.into_iter-ends.ensures.into_iter_gives.0 ∙ c.in-Some.ensures.steps.0
-        ∙ ap (λ it. first ∷ into_iter_items it) (sym c.into_iter-end-iterator.ensures.into_iter_gives) in
+    ∙ ap (λ it. first ∷ into_iter_items it) (sym c.into_iter-end-iterator.ensures.into_iter_gives) in
     let none : length (into_iter_items at.end-iterator) ≡ 0 = sym at.end-iterator.rest.ok.0 ∙ c.in-None.ensures.steps.0 in
     let whole : at.yielded ≡ all = drained at.yielded (into_iter_items at.end-iterator) all none at.invariant.3 in
     let took = subst (λ ws. TakesIn base (doors_of ws) (look_of at.door)) whole at.invariant.0 in
     all_doors (IsUntouched g.H.Resident.is_of g.H.Resident.journal g.H.Resident.mailbox g.H.Resident.rested g.H.Resident.given
-        g.H.Resident.closed_to)
+    g.H.Resident.closed_to)
     c.args.ends.items all first base (look_of at.door) is c.empty_end-door.ensures.door took
 
 pub returns-clause-emptied : goal.returns-clause-emptied
@@ -81,13 +84,13 @@ returns-clause-emptied g c =
     let at = c.loop-end in let base = look_of c.empty_end-door.result in let first = c.in-Some.first in
     let all = into_iter_items c.into_iter-end-iterator.result in
     let is : c.args.ends.items ≡ first ∷ all = sym c.into_iter-ends.ensures.into_iter_gives.0 ∙ c.in-Some.ensures.steps.0
-        ∙ ap (λ it. first ∷ into_iter_items it) (sym c.into_iter-end-iterator.ensures.into_iter_gives) in
+    ∙ ap (λ it. first ∷ into_iter_items it) (sym c.into_iter-end-iterator.ensures.into_iter_gives) in
     let none : length (into_iter_items at.end-iterator) ≡ 0 = sym at.end-iterator.rest.ok.0 ∙ c.in-None.ensures.steps.0 in
     let whole : at.yielded ≡ all = drained at.yielded (into_iter_items at.end-iterator) all none at.invariant.3 in
     let took = subst (λ ws. TakesIn base (doors_of ws) (look_of at.door)) whole at.invariant.0 in
     all_emptied (IsUntouched g.H.Resident.is_of g.H.Resident.journal g.H.Resident.mailbox g.H.Resident.rested g.H.Resident.given
-        g.H.Resident.closed_to)
+    g.H.Resident.closed_to)
     c.args.ends.items all first base (look_of at.door) is c.empty_end-door.ensures.door took
     c.args.left.now.items c.empty_end-door.new.left.items at.left.items c.empty_end-door.ensures.emptied
     (subst (λ ws. Empties (IsUntouched g.H.Resident.is_of g.H.Resident.journal g.H.Resident.mailbox g.H.Resident.rested g.H.Resident.given
-        g.H.Resident.closed_to) base.ledger.gates (owns_of ws) c.empty_end-door.new.left.items at.left.items) whole at.invariant.1)
+    g.H.Resident.closed_to) base.ledger.gates (owns_of ws) c.empty_end-door.new.left.items at.left.items) whole at.invariant.1)

@@ -40,7 +40,7 @@ loop-feed-preserved g c =
       share_next (IsUntouched g.H.Resident.is_of g.H.Resident.journal g.H.Resident.mailbox g.H.Resident.rested g.H.Resident.given
           g.H.Resident.closed_to)
           base (look_of at.door) other new all at.yielded rest feed list c.requires.alike at.invariant.0 same c.join.ensures at.invariant.1
-              c.feed.invariant,
+          c.feed.invariant,
       append_assoc at.yielded (feed ∷ []) rest ∙ list,
     )
 
@@ -49,4 +49,4 @@ returns g c =
     let at = c.loop-feed in let all = c.args.feeds.items in
     let none : length (into_iter_items at.feed-iterator) ≡ 0 = sym at.feed-iterator.rest.ok.0 ∙ c.in-None.ensures.steps.0 in
     subst (λ ws. TakesIn (look_of c.args.door) (doors_of ws) (look_of at.door))
-        (drained at.yielded (into_iter_items at.feed-iterator) all none at.invariant.2) at.invariant.0
+    (drained at.yielded (into_iter_items at.feed-iterator) all none at.invariant.2) at.invariant.0

@@ -11,7 +11,7 @@ pub loop-index-preserved : goal.loop-index-preserved
 loop-index-preserved g c =
     let at = c.loop-index in let lt : at.index < length c.args.owns.now = omega (arith, c.loop-index-test.true) in
     lends_one c.args.owns.now at.owns at.index c.index-owns-index.result at.invariant.0 lt c.lend.new.self c.in_ok-thief.thief at.thieves.items
-        c.push.new.self.items
+    c.push.new.self.items
     at.invariant.1 c.in_ok-thief.ensures.0 c.in_ok-thief.ensures.1 c.in_ok-push.ensures.items
 
 pub returns-clause-owns : goal.returns-clause-owns

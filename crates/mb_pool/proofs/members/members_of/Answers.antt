@@ -19,7 +19,7 @@ pair-requires g c =
     let is = refilled v.len v.items new count in
     let given = c.as_mut_slice.result.now in let lists = c.in_ok-lists.lists.items in
     let many : length lists ≡ length given = sym (length-map lists (λ (w : Vec _ _). w.items)) ∙ ap length c.in_ok-lists.ensures.lists
-        ∙ length-map (numbers 0 (length given)) (borrowed_next given) ∙ length_numbers 0 (length given) in
+    ∙ length-map (numbers 0 (length given)) (borrowed_next given) ∙ length_numbers 0 (length given) in
     let back = ap length is in omega (arith, back, many, c.thieves_of.auto.owns)
 
 pub returns-clause-own : goal.returns-clause-own
@@ -28,7 +28,7 @@ returns-clause-own g c =
     let count : length new ≡ v.len = omega (arith, c.thieves_of.auto.owns, c.as_mut_slice.ensures.len) in
     let is = refilled v.len v.items new count in
     ok_so _ _ c.pair.result (λ ms h some. h ∙ own_one v.items _ (is ∙ c.in_ok-lists.ensures.owns
-        ∙ ap (map (with_shares 1)) value)) c.pair.ensures.own
+    ∙ ap (map (with_shares 1)) value)) c.pair.ensures.own
 
 pub returns-clause-next : goal.returns-clause-next
 returns-clause-next g c =
@@ -36,4 +36,4 @@ returns-clause-next g c =
     let count : length new ≡ v.len = omega (arith, c.thieves_of.auto.owns, c.as_mut_slice.ensures.len) in
     let is = refilled v.len v.items new count in
     ok_so _ _ c.pair.result (λ ms h some. h ∙ c.in_ok-lists.ensures.lists
-        ∙ ap (λ (ls : List (Look _)). map (borrowed_next ls) (numbers 0 (length ls))) value) c.pair.ensures.next
+    ∙ ap (λ (ls : List (Look _)). map (borrowed_next ls) (numbers 0 (length ls))) value) c.pair.ensures.next

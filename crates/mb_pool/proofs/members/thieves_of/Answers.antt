@@ -20,7 +20,7 @@ pub lend_each-requires : goal.lend_each-requires
 lend_each-requires g c =
     let at = c.loop-end in let lt : at.end < length c.args.owns.now = omega (arith, c.loop-end-test.true) in
     subst (λ ls. All (λ (l : Look _). 1 < l.ledger.shares) ls) (sym c.split_at_mut.ensures.back)
-        (next_may_lend c.args.owns.now at.owns at.end at.invariant.0 lt)
+    (next_may_lend c.args.owns.now at.owns at.end at.invariant.0 lt)
 
 pub rotate_left-requires : goal.rotate_left-requires
 rotate_left-requires g c = one_there c.split_at_mut.result.0.now c.lend_each.new.owns c.split_at_mut.ensures.front_len
@@ -34,7 +34,7 @@ loop-end-preserved g c =
           (c.in_ok-thieves.ensures.owns ∙ ap (map lent) next) c.rotate_left.ensures.after,
       lists_more (λ (w : Vec _ _). w.items) old at.lists.items c.push.new.self.items v at.end at.invariant.1
           (c.in_ok-thieves.ensures.thieves ∙ ap (map borrowed) next
-              ∙ borrowed_of_next old at.owns at.end at.invariant.0 lt) c.in_ok-push.ensures.items,
+          ∙ borrowed_of_next old at.owns at.end at.invariant.0 lt) c.in_ok-push.ensures.items,
     )
 
 pub returns-clause-owns : goal.returns-clause-owns

@@ -14,8 +14,7 @@ loop-member-preserved g c =
     let xs = into_iter_items at.member-iterator in let rest = into_iter_items c.next.new.self in
     let next : xs ≡ member ∷ rest = c.in-Some.ensures.steps.0 in
     let one = port_one look_of door at.doors.items xs rest member c.args.pool.now.feeds at.invariant.0 next c.pop.new.self.items c.in-Some-pop.door
-        c.in-Some-pop.ensures.items in
-    (
+    c.in-Some-pop.ensures.items in (
       one.0,
       made_one (way_of door) at.ends.items c.push.new.self.items (way_of
           (look_of c.in-Some-pop.door) member) member xs rest _ c.in_ok-push.ensures.items (ap (λ l. way_of l member) one.1) next at.invariant.1,
@@ -27,11 +26,11 @@ returns-clause-doors g c =
     let at = c.loop-member in let pool = c.args.pool.now in
     let none : length (into_iter_items at.member-iterator) ≡ 0 = sym at.member-iterator.rest.ok.0 ∙ c.in-None.ensures.steps.0 in
     at.invariant.0 ∙ ap (λ n. replicate n (new_door pool)) (let e : length (into_iter_items at.member-iterator) + pool.feeds ≡ pool.feeds = omega
-        (arith, none) in e)
+    (arith, none) in e)
 
 pub returns-clause-ends : goal.returns-clause-ends
 returns-clause-ends g c =
     let at = c.loop-member in let rest = into_iter_items at.member-iterator in
     let none : length rest ≡ 0 = sym at.member-iterator.rest.ok.0 ∙ c.in-None.ensures.steps.0 in
     drained at.ends.items (map (way_of (new_door c.args.pool.now)) rest) _
-        (length-map rest (way_of (new_door c.args.pool.now)) ∙ none) at.invariant.1
+    (length-map rest (way_of (new_door c.args.pool.now)) ∙ none) at.invariant.1

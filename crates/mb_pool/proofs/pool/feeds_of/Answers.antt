@@ -9,8 +9,7 @@ pub loop-feed-preserved : goal.loop-feed-preserved
 loop-feed-preserved g c =
     let at = c.loop-feed in let door = new_door c.args.pool.now in
     let one = port_next look_of door at.doors.items at._feed c.args.count at.invariant.0 c.loop-feed-test.true c.pop.new.self.items c.in-Some.door
-        c.in-Some.ensures.items in
-    (
+    c.in-Some.ensures.items in (
       one.0,
       fed_one look_of door at.doors.items at._feed c.args.count at.invariant.0 c.loop-feed-test.true at.feeds.items c.push.new.self.items
           (of_feed door) (of_feed (look_of c.in-Some.door))

@@ -10,7 +10,7 @@ use Rattle.mb_pool.proofs.end.WorkerEnd.push.Goals as goal
 pub push_first-requires-clause-fit : goal.push_first-requires-clause-fit
 push_first-requires-clause-fit g c =
     subst (λ w. IsUntouched g.H.Resident.is_of g.H.Resident.journal g.H.Resident.mailbox g.H.Resident.rested g.H.Resident.given
-        g.H.Resident.closed_to (gates_of w) c.args.claim) (sym c.self.view_is) c.requires.fit
+    g.H.Resident.closed_to (gates_of w) c.args.claim) (sym c.self.view_is) c.requires.fit
 
 pub invariant_of-self : goal.invariant_of-self
 invariant_of-self g c = still_open (way_of (look_of c.self.inside.door) c.self.inside.member)
@@ -20,10 +20,10 @@ pub returns-clause-pushed : goal.returns-clause-pushed
 returns-clause-pushed g c =
     let new = way_of (look_of c.push_first.new.door) c.push_first.new.member in
     subst (λ w. MatchResult c.push_first.result
-        (λ _. Pushes (IsUntouched g.H.Resident.is_of g.H.Resident.journal g.H.Resident.mailbox g.H.Resident.rested g.H.Resident.given
-            g.H.Resident.closed_to) w c.args.claim new) (λ f. (given_back f ≡ c.args.claim) × (new ≡ w)
-            × IsRefusedBy (IsUntouched g.H.Resident.is_of g.H.Resident.journal g.H.Resident.mailbox g.H.Resident.rested g.H.Resident.given
-            g.H.Resident.closed_to) w f))
+    (λ _. Pushes (IsUntouched g.H.Resident.is_of g.H.Resident.journal g.H.Resident.mailbox g.H.Resident.rested g.H.Resident.given
+    g.H.Resident.closed_to) w c.args.claim new) (λ f. (given_back f ≡ c.args.claim) × (new ≡ w)
+    × IsRefusedBy (IsUntouched g.H.Resident.is_of g.H.Resident.journal g.H.Resident.mailbox g.H.Resident.rested g.H.Resident.given
+    g.H.Resident.closed_to) w f))
     c.self.view_is c.push_first.ensures.pushed
 
 pub returns-clause-same : goal.returns-clause-same

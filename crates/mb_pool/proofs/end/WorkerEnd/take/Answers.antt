@@ -16,19 +16,19 @@ pub returns-clause-taken : goal.returns-clause-taken
 returns-clause-taken g c =
     let new = way_of (look_of c.take_first.new.door) c.take_first.new.member in
     subst (λ w. MatchOption c.take_first.result ((new ≡ w) × All (WasEmpty
-        (IsUntouched g.H.Resident.is_of g.H.Resident.journal g.H.Resident.mailbox g.H.Resident.rested g.H.Resident.given g.H.Resident.closed_to))
-        (looks w)) (λ x. Takes (IsUntouched g.H.Resident.is_of g.H.Resident.journal g.H.Resident.mailbox g.H.Resident.rested g.H.Resident.given
-            g.H.Resident.closed_to) w x new)) c.self.view_is c.take_first.ensures.taken
+    (IsUntouched g.H.Resident.is_of g.H.Resident.journal g.H.Resident.mailbox g.H.Resident.rested g.H.Resident.given g.H.Resident.closed_to))
+    (looks w)) (λ x. Takes (IsUntouched g.H.Resident.is_of g.H.Resident.journal g.H.Resident.mailbox g.H.Resident.rested g.H.Resident.given
+    g.H.Resident.closed_to) w x new)) c.self.view_is c.take_first.ensures.taken
 
 pub returns-clause-fit : goal.returns-clause-fit
 returns-clause-fit g c =
     let old = way_of (look_of c.self.inside.door) c.self.inside.member in
     subst (λ w. IfSome c.take_first.result
-        (λ x. IsUntouched g.H.Resident.is_of g.H.Resident.journal g.H.Resident.mailbox g.H.Resident.rested g.H.Resident.given g.H.Resident.closed_to
-        (gates_of w) x)) c.self.view_is
+    (λ x. IsUntouched g.H.Resident.is_of g.H.Resident.journal g.H.Resident.mailbox g.H.Resident.rested g.H.Resident.given g.H.Resident.closed_to
+    (gates_of w) x)) c.self.view_is
     (take_fits (IsUntouched g.H.Resident.is_of g.H.Resident.journal g.H.Resident.mailbox g.H.Resident.rested g.H.Resident.given
-        g.H.Resident.closed_to) old (way_of (look_of c.take_first.new.door) c.take_first.new.member) c.take_first.result _ c.self.invariant
-        c.take_first.ensures.taken)
+    g.H.Resident.closed_to) old (way_of (look_of c.take_first.new.door) c.take_first.new.member) c.take_first.result _ c.self.invariant
+    c.take_first.ensures.taken)
 
 pub returns-clause-same : goal.returns-clause-same
 returns-clause-same g c = subst

@@ -8,4 +8,4 @@ push_as-requires-clause-rule g c = deque_push _ _ _ _ c.requires.share c.require
 pub returns-in-Ok-clause-pushed : goal.returns-in-Ok-clause-pushed
 returns-in-Ok-clause-pushed g c =
     put (IsUntouched g.H.Resident.is_of g.H.Resident.journal g.H.Resident.mailbox g.H.Resident.rested g.H.Resident.given
-        g.H.Resident.closed_to) _ _ _ c.in-Ok.ensures.rule
+    g.H.Resident.closed_to) _ _ _ c.in-Ok.ensures.rule

@@ -12,6 +12,6 @@ steal_as-requires-clause-rule g c = let share = subst (λ l. 0 < l.shares) (sym 
 pub returns-in-Success-clause-taken : goal.returns-in-Success-clause-taken
 returns-in-Success-clause-taken g c =
     subst (λ l. TakesFirst (IsUntouched g.H.Resident.is_of g.H.Resident.journal g.H.Resident.mailbox g.H.Resident.rested g.H.Resident.given
-        g.H.Resident.closed_to) l c.open.result (injector_view c.steal_as.new.pass)) c.loop.invariant.1
+    g.H.Resident.closed_to) l c.open.result (injector_view c.steal_as.new.pass)) c.loop.invariant.1
     (took (IsUntouched g.H.Resident.is_of g.H.Resident.journal g.H.Resident.mailbox g.H.Resident.rested g.H.Resident.given
-        g.H.Resident.closed_to) _ _ _ c.open.result c.open.ensures c.in-Success.ensures.rule)
+    g.H.Resident.closed_to) _ _ _ c.open.result c.open.ensures c.in-Success.ensures.rule)

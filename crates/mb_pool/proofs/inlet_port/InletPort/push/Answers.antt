@@ -14,13 +14,13 @@ push-requires-clause-queue g c = subst (λ (q : Inlet _). IsInjectorPassOf q.que
 pub push-requires-clause-fit : goal.push-requires-clause-fit
 push-requires-clause-fit g c =
     subst (λ (l : Look _). IsUntouched g.H.Resident.is_of g.H.Resident.journal g.H.Resident.mailbox g.H.Resident.rested g.H.Resident.given
-        g.H.Resident.closed_to l.ledger.gates c.args.claim) (sym c.self.view_is) c.requires.fit
+    g.H.Resident.closed_to l.ledger.gates c.args.claim) (sym c.self.view_is) c.requires.fit
 
 pub returns-in-Ok-clause-pushed : goal.returns-in-Ok-clause-pushed
 returns-in-Ok-clause-pushed g c =
     subst (λ (l : Look _). PutsLast
     (IsUntouched g.H.Resident.is_of g.H.Resident.journal g.H.Resident.mailbox g.H.Resident.rested g.H.Resident.given g.H.Resident.closed_to) l.ledger
-        c.args.claim (injector_view c.push.new.pass)) c.self.view_is c.in-Ok.ensures.pushed
+    c.args.claim (injector_view c.push.new.pass)) c.self.view_is c.in-Ok.ensures.pushed
 
 pub returns-in-Err-clause-pushed : goal.returns-in-Err-clause-pushed
 returns-in-Err-clause-pushed g c =

@@ -19,8 +19,8 @@ returns-clause-taken g c =
     let q = c.deref.result.now in let old = c.self.inside.pass in let new = c.take.new.pass in
     let here = subst (λ (r : Inlet _). IsInjectorPassOf r.queue old) (sym c.deref.ensures) c.self.invariant in
     subst (λ look. MatchOption c.take.result ((inlet_look new ≡ look)
-        × Moment (IsUntouched g.H.Resident.is_of g.H.Resident.journal g.H.Resident.mailbox g.H.Resident.rested g.H.Resident.given
-            g.H.Resident.closed_to) look.ledger []) (λ x. TakesFirst (IsUntouched g.H.Resident.is_of g.H.Resident.journal g.H.Resident.mailbox
-            g.H.Resident.rested g.H.Resident.given g.H.Resident.closed_to) look.ledger x (injector_view new)))
+    × Moment (IsUntouched g.H.Resident.is_of g.H.Resident.journal g.H.Resident.mailbox g.H.Resident.rested g.H.Resident.given
+    g.H.Resident.closed_to) look.ledger []) (λ x. TakesFirst (IsUntouched g.H.Resident.is_of g.H.Resident.journal g.H.Resident.mailbox
+    g.H.Resident.rested g.H.Resident.given g.H.Resident.closed_to) look.ledger x (injector_view new)))
     c.self.view_is
     (of_option _ _ _ _ c.take.result (λ h. (same_inlet old new (c.take.ensures.queue.0.0 ∙ sym here.0.0) h.0, h.1)) (λ _ h. h) c.take.ensures.taken)

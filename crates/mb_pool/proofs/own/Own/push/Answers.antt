@@ -10,9 +10,9 @@ pub returns-clause-pushed : goal.returns-clause-pushed
 returns-clause-pushed g c =
     let new = c.push.new.self.worker in
     subst (λ look. MatchResult c.push.result
-        (λ _. PutsLast (IsUntouched g.H.Resident.is_of g.H.Resident.journal g.H.Resident.mailbox g.H.Resident.rested g.H.Resident.given
-            g.H.Resident.closed_to) look.ledger c.args.claim (worker_view new))
-            (λ back. (back ≡ c.args.claim) × (own_look c.self.inside.number new ≡ look)))
+    (λ _. PutsLast (IsUntouched g.H.Resident.is_of g.H.Resident.journal g.H.Resident.mailbox g.H.Resident.rested g.H.Resident.given
+    g.H.Resident.closed_to) look.ledger c.args.claim (worker_view new))
+    (λ back. (back ≡ c.args.claim) × (own_look c.self.inside.number new ≡ look)))
     c.self.view_is
     (of_result _ _ _ _ c.push.result (λ _ h. h)
-        (λ b h. (h.0, same_own c.self.inside.number c.self.inside.deque.worker new c.push.ensures.same.0 h.1)) c.push.ensures.pushed)
+    (λ b h. (h.0, same_own c.self.inside.number c.self.inside.deque.worker new c.push.ensures.same.0 h.1)) c.push.ensures.pushed)

@@ -10,9 +10,9 @@ pub returns-clause-taken : goal.returns-clause-taken
 returns-clause-taken g c =
     let new = c.take.new.self.worker in
     subst (λ look. MatchOption c.take.result ((own_look c.self.inside.number new ≡ look)
-        × Moment (IsUntouched g.H.Resident.is_of g.H.Resident.journal g.H.Resident.mailbox g.H.Resident.rested g.H.Resident.given
-            g.H.Resident.closed_to) look.ledger []) (λ x. TakesFirst (IsUntouched g.H.Resident.is_of g.H.Resident.journal g.H.Resident.mailbox
-            g.H.Resident.rested g.H.Resident.given g.H.Resident.closed_to) look.ledger x (worker_view new)))
+    × Moment (IsUntouched g.H.Resident.is_of g.H.Resident.journal g.H.Resident.mailbox g.H.Resident.rested g.H.Resident.given
+    g.H.Resident.closed_to) look.ledger []) (λ x. TakesFirst (IsUntouched g.H.Resident.is_of g.H.Resident.journal g.H.Resident.mailbox
+    g.H.Resident.rested g.H.Resident.given g.H.Resident.closed_to) look.ledger x (worker_view new)))
     c.self.view_is
     (of_option _ _ _ _ c.take.result (λ h. (same_own c.self.inside.number c.self.inside.deque.worker new c.take.ensures.same.0 h.0, h.1))
-        (λ _ h. h) c.take.ensures.taken)
+    (λ _ h. h) c.take.ensures.taken)

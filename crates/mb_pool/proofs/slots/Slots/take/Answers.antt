@@ -11,5 +11,5 @@ pop_as-requires-clause-rule g c = (queue_take _ _ _ c.requires.share, learns _ _
 pub returns-in-Some-clause-taken : goal.returns-in-Some-clause-taken
 returns-in-Some-clause-taken g c =
     subst (λ x. TakesFirst (IsUntouched g.H.Resident.is_of g.H.Resident.journal g.H.Resident.mailbox g.H.Resident.rested g.H.Resident.given
-        g.H.Resident.closed_to) (view c.args.pass.now) x (view c.pop_as.new.pass))
+    g.H.Resident.closed_to) (view c.args.pass.now) x (view c.pop_as.new.pass))
     (sym c.open.ensures) c.in-Some.ensures.rule
