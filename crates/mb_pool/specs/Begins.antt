@@ -9,6 +9,10 @@ use Rattle.mb_pool.specs.Origin.{Origin}
 use Rattle.mb_pool.specs.Places.{Look, Spot, Whole, numbers}
 use Rattle.mb_pool.specs.Ways.{next_of, own_of}
 
+-- the pool for the claims of these gates with these places, so many ends and so many feeds
+abbrev pub whole_of : {H : Type 0} → Origin H → Look H → List (Look H) → ℕ → ℕ → Whole H
+whole_of origin door owns ends feeds = record { gates = origin; door = door.spot; deques = spots_of owns; ends = ends; feeds = feeds }
+
 -- how many claims the place of all holds at most
 abbrev pub bound_of : Kind → Option ℕ
 bound_of Shared = Some 64

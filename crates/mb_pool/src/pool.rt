@@ -1,7 +1,7 @@
 //! How a pool begins.
 ghost use Rattle.std.specs.Prelude.{◌≡◌, ◌+◌, ◌<◌, All, IfOk, length, map, replicate};
-ghost use Rattle.mb_pool.specs.Begins.{new_door};
-ghost use Rattle.mb_pool.specs.Made.{IsBegun};
+ghost use Rattle.mb_pool.specs.Begins.{new_door, whole_of};
+ghost use Rattle.mb_pool.specs.Made.{IsBegun, IsWhole};
 ghost use Rattle.mb_pool.specs.Origin.{origin_of};
 ghost use Rattle.mb_pool.specs.Parts.{look_of};
 ghost use Rattle.mb_pool.specs.Ways.{AreOpen, of_feed, way_of};
@@ -75,19 +75,33 @@ impl<H: Resident> Pool<H> {
         let mut door = first_door(alloc, kind)?;
         door.open(gates, ports);
         let deques = deques_of(alloc, gates, kind, workers)?;
-        let pool = Pool {
-            actors: gates.actors(),
-            ends: workers,
-            feeds,
-            gates: Snapshot::of(gates),
-            door: Snapshot::of(&door),
-            deques: Snapshot::of(&deques),
-        };
+        let pool = pool_of(gates, &door, &deques, workers, feeds);
         let members = members_of(alloc, deques, workers)?;
         let mut doors = doors_of(alloc, door, ports)?;
         let ends = ends_of(alloc, &pool, &mut doors, members)?;
         let feeds = feeds_of(alloc, &pool, &mut doors, feeds)?;
         Ok((pool, ends, feeds))
+    }
+}
+
+/// The pool with these places, so many ends and so many feeds.
+fn pool_of<H: Resident>(
+    gates: &Gates<H>,
+    door: &Door<H>,
+    deques: &Vec<Own<H>>,
+    ends: usize,
+    feeds: usize,
+) -> Pool<H>
+    requires { IsWhole (whole_of (origin_of gates.now) (look_of door.now) deques.now.items ends feeds) }
+    ensures { result ≡ whole_of (origin_of gates.now) (look_of door.now) deques.now.items ends feeds }
+{
+    Pool {
+        actors: gates.actors(),
+        ends,
+        feeds,
+        gates: Snapshot::of(gates),
+        door: Snapshot::of(door),
+        deques: Snapshot::of(deques),
     }
 }
 

@@ -4,8 +4,7 @@ ghost use Rattle.mb_gate.specs.Names.{gates_id, pass_id, actors_of};
 
 use mb_gate::{Gates, Pass, Resident};
 use mb_status::Status;
-use std::alloc::Global;
-use std::test::Fail;
+use std::alloc::{AllocError, Global};
 
 /// Nothing: its journal stays empty, and it is never started.
 #[derive(Drop)]
@@ -44,7 +43,7 @@ impl Resident for Desk {
 }
 
 /// The gates of so many actors that are not started, with a pass.
-pub fn gates_of(alloc: Global, count: usize) -> Result<(Gates<Desk>, Pass<Desk>), Fail>
+pub fn gates_of(alloc: Global, count: usize) -> Result<(Gates<Desk>, Pass<Desk>), AllocError>
     requires { (0 < count) × (count ≤ 4294967296) }
     ensures { IfOk result (λ made. (actors_of made.0 ≡ count) × (pass_id made.1 ≡ gates_id made.0)) }
 {
@@ -54,6 +53,6 @@ pub fn gates_of(alloc: Global, count: usize) -> Result<(Gates<Desk>, Pass<Desk>)
     }
     match Gates::new(alloc, desks) {
         Ok(made) => Ok(made),
-        Err(_) => Err(Fail::from("no memory")),
+        Err(_) => Err(AllocError),
     }
 }

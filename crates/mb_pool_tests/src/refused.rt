@@ -7,7 +7,7 @@ use crate::desk::{Desk, gates_of};
 use crate::party::{Answer, Party};
 use mb_gate::{Gates, Pass};
 use mb_pool::Kind;
-use std::alloc::Global;
+use std::alloc::{AllocError, Global};
 use std::process::Abort;
 use std::sync::Wait;
 use std::test::Fail;
@@ -36,7 +36,7 @@ fn fill<R: Abort + Wait>(rt: &R, alloc: Global, kind: Kind, each: u32) -> Result
 }
 
 /// The gates, at the second try where the first is refused.
-fn gates_at_last(alloc: Global, count: usize) -> Result<(Gates<Desk>, Pass<Desk>), Fail>
+fn gates_at_last(alloc: Global, count: usize) -> Result<(Gates<Desk>, Pass<Desk>), AllocError>
     requires { (0 < count) × (count ≤ 4294967296) }
     ensures { IfOk result (λ made. (actors_of made.0 ≡ count) × (pass_id made.1 ≡ gates_id made.0)) }
 {
