@@ -10,7 +10,7 @@ use Rattle.mb_pool.proofs.members.pair.Goals as goal
 
 pub loop-own-preserved : goal.loop-own-preserved
 loop-own-preserved g c =
-    let at = c.loop-own in let owns = c.in-Some.ensures.steps.0 in let lists = c.in-Some-next.ensures.steps.0 in
+    let at = c.loop-own in let owns = c.in-Some.ensures.steps.0 in let lists = c.in-Some-next.ensures.items in
     let n = ap (length {A = Look _}) owns in let m = ap (length {A = Vec _ _}) lists in let same = at.invariant.2 in (
       paired_one (λ (o : Look _). o ∷ []) own_of at.members.items c.push.new.self.items _ c.in-Some.own (into_iter_items at.own-iterator)
           (into_iter_items c.next.new.self) _

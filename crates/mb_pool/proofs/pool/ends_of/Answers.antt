@@ -21,6 +21,15 @@ loop-member-preserved g c =
       (open_with door (look_of c.in-Some-pop.door) one.1 xs rest member next at.invariant.2).1,
     )
 
+pub invariant_of-push : goal.invariant_of-push
+invariant_of-push g c =
+    let at = c.loop-member in let door = new_door c.args.pool.now in let member = c.in-Some.member in
+    let xs = into_iter_items at.member-iterator in let rest = into_iter_items c.next.new.self in
+    let next : xs ≡ member ∷ rest = c.in-Some.ensures.steps.0 in
+    let one = port_one look_of door at.doors.items xs rest member c.args.pool.now.feeds at.invariant.0 next c.pop.new.self.items c.in-Some-pop.door
+    c.in-Some-pop.ensures.items in
+    (open_with door (look_of c.in-Some-pop.door) one.1 xs rest member next at.invariant.2).0
+
 pub returns-clause-doors : goal.returns-clause-doors
 returns-clause-doors g c =
     let at = c.loop-member in let pool = c.args.pool.now in

@@ -16,6 +16,13 @@ loop-feed-preserved g c =
           at.invariant.1 (ap of_feed one.1) c.in_ok-push.ensures.items,
     )
 
+pub invariant_of-push : goal.invariant_of-push
+invariant_of-push g c =
+    let at = c.loop-feed in let door = new_door c.args.pool.now in
+    let one = port_next look_of door at.doors.items at._feed c.args.count at.invariant.0 c.loop-feed-test.true c.pop.new.self.items c.in-Some.door
+    c.in-Some.ensures.items in
+    share_with door (look_of c.in-Some.door) one.1 (omega arith)
+
 pub returns : goal.returns
 returns g c =
     let at = c.loop-feed in

@@ -10,8 +10,8 @@ use Rattle.mb_pool.proofs.Begins.{made_whole, new_shares}
 use Rattle.mb_pool.proofs.Making.{all_shares, are_open, is_begun, ports_there}
 use Rattle.mb_pool.proofs.pool.Pool.new.Goals as goal
 
-pub pool_of-requires : goal.pool_of-requires
-pool_of-requires g c =
+pub pool_of-pool-requires : goal.pool_of-pool-requires
+pool_of-pool-requires g c =
     made_whole (origin_of c.args.gates.now) c.args.kind c.args.workers c.args.feeds c.in_ok-deques.deques.items (look_of c.open.new.self).spot
     c.in_ok-deques.ensures c.requires
 
@@ -31,7 +31,7 @@ doors_of-requires-clause-shares g c =
 pub ends_of-requires-clause-doors : goal.ends_of-requires-clause-doors
 ends_of-requires-clause-doors g c =
     let ms = c.in_ok-members.members.items in let ds = map look_of c.in_ok-doors.doors.items in
-    subst (λ (p : Whole _). ds ≡ replicate (length ms + p.feeds) (new_door p)) (sym c.pool_of.ensures)
+    subst (λ (p : Whole _). ds ≡ replicate (length ms + p.feeds) (new_door p)) (sym c.pool_of-pool.ensures)
     (ports_there (origin_of c.args.gates.now) c.args.kind c.args.workers c.args.feeds c.in-Some.ports c.in_ok-deques.deques.items
         (look_of c.in_ok-door.door) (look_of c.open.new.self) c.requires c.in_ok-deques.ensures c.in_ok-door.ensures.0 c.open.ensures
         c.in-Some.ensures.1 ms c.in_ok-members.ensures.none c.in_ok-members.ensures.own c.in_ok-members.ensures.next ds c.in_ok-doors.ensures)
@@ -39,19 +39,19 @@ ends_of-requires-clause-doors g c =
 pub ends_of-requires-clause-open : goal.ends_of-requires-clause-open
 ends_of-requires-clause-open g c =
     let ms = c.in_ok-members.members.items in
-    subst (λ (p : Whole _). All (λ m. AreOpen (way_of (new_door p) m)) ms) (sym c.pool_of.ensures)
+    subst (λ (p : Whole _). All (λ m. AreOpen (way_of (new_door p) m)) ms) (sym c.pool_of-pool.ensures)
     (are_open (origin_of c.args.gates.now) c.args.kind c.args.workers c.args.feeds c.in-Some.ports c.in_ok-deques.deques.items
         (look_of c.in_ok-door.door) (look_of c.open.new.self) c.requires c.in_ok-deques.ensures c.in_ok-door.ensures.0 c.open.ensures
         c.in-Some.ensures.1 ms c.in_ok-members.ensures.none c.in_ok-members.ensures.own c.in_ok-members.ensures.next)
 
 pub feeds_of-requires : goal.feeds_of-requires
 feeds_of-requires g c =
-    c.in_ok-ends.ensures.doors ∙ ap (λ (p : Whole _). replicate p.feeds (new_door c.pool_of.result)) c.pool_of.ensures
+    c.in_ok-ends.ensures.doors ∙ ap (λ (p : Whole _). replicate p.feeds (new_door c.pool_of-pool.result)) c.pool_of-pool.ensures
 
 pub returns : goal.returns
 returns g c =
     let ms = c.in_ok-members.members.items in let ends = c.in_ok-ends.ends.items in let feeds = c.in_ok-feeds.feeds.items in
-    let is = c.pool_of.ensures in
+    let is = c.pool_of-pool.ensures in
     subst (λ (p : Whole _). IsBegun (origin_of c.args.gates.now) c.args.kind c.args.workers c.args.feeds p ends feeds) (sym is)
     (is_begun (origin_of c.args.gates.now) c.args.kind c.args.workers c.args.feeds c.in-Some.ports c.in_ok-deques.deques.items
         (look_of c.in_ok-door.door) (look_of c.open.new.self) c.requires c.in_ok-deques.ensures c.in_ok-door.ensures.0 c.open.ensures
