@@ -1,0 +1,12 @@
+pub mod ToldLemmas
+pub mod ShutLemmas
+pub mod LeadLemmas
+pub mod CallerLemmas
+pub mod HoldLemmas
+pub mod RestLemmas
+pub mod SettledLemmas
+pub mod RunningSteps
+pub mod BesideLemmas
+pub mod RunningMoves
+pub mod AnswerLemmas
+pub mod ProperLemmas
