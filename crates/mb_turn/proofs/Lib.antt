@@ -9,4 +9,4 @@ pub mod RunningSteps
 pub mod BesideLemmas
 pub mod RunningMoves
 pub mod AnswerLemmas
-pub mod ProperLemmas
+pub mod NamedLemmas

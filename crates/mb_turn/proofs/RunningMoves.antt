@@ -18,13 +18,14 @@ use Rattle.mb_cell.specs.Seen.{Seen, with_entry}
 use Rattle.mb_home.specs.AtHome.{closed_receivers, given_of, mailbox_at}
 use Rattle.mb_home.specs.Carried.{Leads, LeadsOn}
 use Rattle.mb_home.specs.Contents.{Contents}
+use Rattle.mb_home.specs.Named.{NamesActors, SendsBelow}
 use Rattle.mb_home.specs.Settled.{IsSettled}
-use Rattle.mb_home.specs.Steps.{AppliesNext, Begins, HasNext, IsDue, IsRested}
+use Rattle.mb_home.specs.Steps.{AppliesNext, Begins, HasNext, IsRested}
 use Rattle.mb_home.proofs.CarryLemmas.{leads-nowhere}
 use Rattle.mb_home.proofs.GivenLemmas.{given-applied, given-begun}
+use Rattle.mb_home.proofs.NamedLaw.{named-applied, named-begun}
 use Rattle.mb_gate.specs.Untouched.{Origin}
 use Rattle.mb_turn.specs.Hold.{Hold}
-use Rattle.mb_turn.specs.Proper.{SendProper, ArrivedProper, IsPeer}
 use Rattle.mb_turn.specs.Running.{IsRunning, IsBeside, IsShutTo}
 use Rattle.mb_turn.specs.Told.{IsSaidBut}
 use Rattle.mb_turn.proofs.RestLemmas.{begun-rested}
@@ -39,19 +40,13 @@ pub journal-open : (h : Hold) → Leads h.status [] (mailbox_at h.home.cell.who 
     closed h.home.cell.who h.home.cell.journal ≡ false
 journal-open h leads not_closed = sym (ap (λ (m : Mailbox). m.closed) (status-at h leads)) ∙ not_closed
 
--- what is left of those that were drained is proper still
-arrived-due : (actors : ℕ) (front : Option (ℕ × SysMsg)) (rest left : List (ℕ × SysMsg)) (number : ℕ) (m : SysMsg) → IsDue front rest number m left →
-    ArrivedProper actors rest → ArrivedProper actors left
-arrived-due actors None rest left number m due arrived = (subst (ArrivedProper actors) due arrived).1
-arrived-due actors (Some x) rest left number m due arrived = subst (ArrivedProper actors) (sym due.1) arrived
-
 module _ (gives : ℕ → Moment → Reply → Type 0) (origin : Origin (Box Contents)) (seen : List Sight) (h : Hold) (new : Contents)
     (r : IsRunning gives origin [] seen h) where
   -- an entry was added, whose acts are to be carried out
   running-entry : (e : Entry) → new.cell ≡ with_entry h.home.cell e → LeadsOn h.home new → IsSettled (gives h.actor) new.cell.acts new →
-      new.roll ≡ h.home.roll → new.dead ≡ h.home.dead → SendProper origin.actors new.cell.acts → ArrivedProper origin.actors new.rest →
+      new.roll ≡ h.home.roll → new.dead ≡ h.home.dead → NamesActors new × SendsBelow new.cell.who.actors new.cell.acts →
       IsRunning gives origin new.cell.acts seen (record h { home = new })
-  running-entry e adds leads settled roll dead sends arrived = record {
+  running-entry e adds leads settled roll dead named = record {
     ours = r.ours;
     there = r.there;
     roll = roll ∙ r.roll;
@@ -62,28 +57,24 @@ module _ (gives : ℕ → Moment → Reply → Type 0) (origin : Origin (Box Con
         subst (λ (c : Seen). IsSaidBut c.who h.actor h.status.closed c.journal h.before c.acts h.recorded) (sym adds)
         (told-entry h.home.cell.who h.actor h.before h.status.closed h.home.cell.journal h.recorded e r.told);
     shut = subst (λ d. Each (IsShutTo seen h) (closed_receivers d)) (sym dead) r.shut;
-    peer = record {
-      many = ap (λ l. length l) roll ∙ r.peer.many;
-      parent = subst (λ (c : Seen). IfSome c.who.parent (λ p. p.0 < origin.actors)) (sym adds) r.peer.parent;
-    };
-    sends = sends;
-    arrived = arrived;
+    many = ap (λ (c : Seen). c.who.actors) adds ∙ r.many;
+    named = named.0;
+    sends = subst (λ n. SendsBelow n new.cell.acts) (ap (λ (c : Seen). c.who.actors) adds ∙ r.many) named.1;
     dry = r.dry;
     owes_nothing = r.owes_nothing;
   }
 
   pub running-applied : AppliesNext h.home new → LeadsOn h.home new → IsSettled (gives h.actor) new.cell.acts new →
-      SendProper origin.actors new.cell.acts → IsRunning gives origin new.cell.acts seen (record h { home = new })
-  running-applied a leads settled sends =
+      IsRunning gives origin new.cell.acts seen (record h { home = new })
+  running-applied a leads settled =
       running-entry (System a.number a.message a.taken.outcome) a.taken.adds leads settled (ap (λ (x : Contents). x.roll) a.same)
-      (ap (λ (x : Contents). x.dead) a.same) sends
-      (arrived-due origin.actors (next_front h.home.cell.who h.home.cell.journal) h.home.rest new.rest a.number a.message a.due r.arrived)
+      (ap (λ (x : Contents). x.dead) a.same) (named-applied (gives h.actor) h.home new r.named settled a)
 
   pub running-begun : (reading : ℕ) → Begins h.home new reading → LeadsOn h.home new → IsSettled (gives h.actor) new.cell.acts new →
-      SendProper origin.actors new.cell.acts → IsRunning gives origin new.cell.acts seen (record h { home = new })
-  running-begun reading b leads settled sends =
-      running-entry b.taken.entry b.taken.adds leads settled (ap (λ (x : Contents). x.roll) b.same) (ap (λ (x : Contents). x.dead) b.same) sends
-      (subst (ArrivedProper origin.actors) (sym (ap (λ (x : Contents). x.rest) b.same)) r.arrived)
+      IsRunning gives origin new.cell.acts seen (record h { home = new })
+  running-begun reading b leads settled =
+      running-entry b.taken.entry b.taken.adds leads settled (ap (λ (x : Contents). x.roll) b.same) (ap (λ (x : Contents). x.dead) b.same)
+      (named-begun (gives h.actor) h.home new r.named settled reading b)
 
   module _ (s : IsBeside h) (not_closed : h.status.closed ≡ false) where
     open_rest : h.gave ≡ false → IsRested h.home

@@ -16,18 +16,19 @@ use Rattle.mb_rule.specs.Seen.{Each}
 use Rattle.mb_gate.specs.Named.{EachNamesBelow}
 use Rattle.mb_gate.specs.Record.{answered_to, messages_of, notice}
 use Rattle.mb_gate.specs.View.{Sight, Said, Took, Drained, Ended}
+use Rattle.mb_cell.specs.Seen.{Seen}
 use Rattle.mb_home.specs.AtHome.{closed_receivers, mailbox_at}
 use Rattle.mb_home.specs.Carried.{Leads}
 use Rattle.mb_home.specs.Contents.{Contents}
+use Rattle.mb_home.specs.Named.{NamesActors, SendsBelow}
 use Rattle.mb_home.specs.Settled.{IsSettled}
 use Rattle.mb_home.proofs.CarryLemmas.{leads-tell, leads-sys, leads-suspend, leads-resume, leads-close}
 use Rattle.mb_gate.specs.Untouched.{Origin}
 use Rattle.mb_turn.specs.Dry.{DrainedLast, WasEnded, TakesDry}
 use Rattle.mb_turn.specs.Hold.{Hold}
-use Rattle.mb_turn.specs.Proper.{SendProper, ArrivedProper, IsPeer}
 use Rattle.mb_turn.specs.Running.{IsRunning, IsShutTo}
 use Rattle.mb_turn.specs.Told.{IsSaidBut}
-use Rattle.mb_turn.proofs.ProperLemmas.{arrived-named}
+use Rattle.mb_turn.proofs.NamedLemmas.{named-as, named-others}
 use Rattle.mb_turn.proofs.SettledLemmas.{settled-silent}
 use Rattle.mb_turn.proofs.ShutLemmas.{shut-more, shut-own}
 use Rattle.mb_turn.proofs.ToldLemmas.{told-tell, told-suspend, told-resume, told-close, told-listed, told-dropped, told-answered, told-parting}
@@ -45,9 +46,9 @@ module _ (gives : ℕ → Moment → Reply → Type 0) (origin : Origin (Box Con
     leads = r.leads;
     told = r.told;
     shut = shut-more newer seen h (closed_receivers h.home.dead) r.shut;
-    peer = r.peer;
+    many = r.many;
+    named = r.named;
     sends = r.sends;
-    arrived = r.arrived;
     dry = r.dry;
     owes_nothing = r.owes_nothing;
   }
@@ -58,9 +59,9 @@ module _ (gives : ℕ → Moment → Reply → Type 0) (origin : Origin (Box Con
         new.cell.journal ≡ h.home.cell.journal → new.roll ≡ h.home.roll → IsSettled (gives h.actor) left new →
         Leads h.status left (mailbox_at h.home.cell.who h.home.cell.journal) →
         IsSaidBut h.home.cell.who h.actor h.status.closed h.home.cell.journal h.before left h.recorded →
-        Each (IsShutTo seen h) (closed_receivers new.dead) → SendProper origin.actors left → ArrivedProper origin.actors new.rest →
+        Each (IsShutTo seen h) (closed_receivers new.dead) → SendsBelow origin.actors left → NamesActors new →
         IsRunning gives origin left seen (record h { home = new })
-    running-home pending left new r who journal roll settled leads told shut sends arrived = record {
+    running-home pending left new r who journal roll settled leads told shut sends named = record {
       ours = r.ours;
       there = r.there;
       roll = roll ∙ r.roll;
@@ -71,12 +72,9 @@ module _ (gives : ℕ → Moment → Reply → Type 0) (origin : Origin (Box Con
           subst (λ (x : Identity × List Entry). IsSaidBut x.0 h.actor h.status.closed x.1 h.before left h.recorded)
           (λ i. (sym who i, sym journal i)) told;
       shut = shut;
-      peer = record {
-        many = ap (λ l. length l) roll ∙ r.peer.many;
-        parent = subst (λ (w : Identity). IfSome w.parent (λ p. p.0 < origin.actors)) (sym who) r.peer.parent;
-      };
+      many = ap (λ (w : Identity). w.actors) who ∙ r.many;
+      named = named;
       sends = sends;
-      arrived = arrived;
       dry = r.dry;
       owes_nothing = r.owes_nothing;
     }
@@ -88,7 +86,7 @@ module _ (gives : ℕ → Moment → Reply → Type 0) (origin : Origin (Box Con
     running-same pending new r who journal roll dead rest settled =
         running-home pending pending new r who journal roll settled r.leads r.told
         (subst (λ d. Each (IsShutTo seen h) (closed_receivers d)) (sym dead) r.shut) r.sends
-        (subst (ArrivedProper origin.actors) (sym rest) r.arrived)
+        (named-as h.home new who journal (subst (EachNamesBelow h.home.cell.who.actors) (sym rest) r.named.rest) r.named)
 
     -- what was drained lies beside the cell
     pub running-kept : (pending : List Act) (new : Contents) (drained : List (ℕ × SysMsg)) → IsRunning gives origin pending seen h →
@@ -98,7 +96,19 @@ module _ (gives : ℕ → Moment → Reply → Type 0) (origin : Origin (Box Con
         running-home pending pending new r (ap (λ (x : Contents). x.cell.who) is) (ap (λ (x : Contents). x.cell.journal) is)
         (ap (λ (x : Contents). x.roll) is) settled r.leads r.told
         (subst (λ (x : Contents). Each (IsShutTo seen h) (closed_receivers x.dead)) (sym is) r.shut) r.sends
-        (subst (λ (x : Contents). ArrivedProper origin.actors x.rest) (sym is) (arrived-named origin.actors drained named))
+        (named-as h.home new (ap (λ (x : Contents). x.cell.who) is) (ap (λ (x : Contents). x.cell.journal) is)
+        (subst (λ (x : Contents). EachNamesBelow h.home.cell.who.actors x.rest) (sym is)
+        (subst (λ n. EachNamesBelow n drained) (sym r.many) named)) r.named)
+
+    -- the first of what was drained is dropped
+    pub running-dropped_first : (pending : List Act) (new : Contents) (number : ℕ) (m : SysMsg) → IsRunning gives origin pending seen h →
+        new.cell ≡ h.home.cell → new.roll ≡ h.home.roll → new.dead ≡ h.home.dead → h.home.rest ≡ (number, m) ∷ new.rest →
+        IsSettled (gives h.actor) pending new → IsRunning gives origin pending seen (record h { home = new })
+    running-dropped_first pending new number m r cell roll dead is settled =
+        running-home pending pending new r (ap (λ (c : Seen). c.who) cell) (ap (λ (c : Seen). c.journal) cell) roll settled r.leads r.told
+        (subst (λ d. Each (IsShutTo seen h) (closed_receivers d)) (sym dead) r.shut) r.sends
+        (named-as h.home new (ap (λ (c : Seen). c.who) cell) (ap (λ (c : Seen). c.journal) cell)
+        (named-others h.home.cell.who.actors number m new.rest (subst (EachNamesBelow h.home.cell.who.actors) is r.named.rest)) r.named)
 
     -- what was told was pushed or is a dead letter
     pub running-told : (rest : List Act) (to : ActorId) (body : Body) (new : Contents) → IsRunning gives origin (Tell to body ∷ rest) seen h →
@@ -109,12 +119,12 @@ module _ (gives : ℕ → Moment → Reply → Type 0) (origin : Origin (Box Con
         running-home (Tell to body ∷ rest) rest new r who journal roll settled
         (leads-tell h.status (mailbox_at h.home.cell.who h.home.cell.journal) rest to body r.leads)
         (told-tell h.home.cell.who h.actor h.before h.home.cell.journal rest h.recorded h.status.closed to body r.told) shut r.sends
-        (subst (ArrivedProper origin.actors) (sym left) r.arrived)
+        (named-as h.home new who journal (subst (EachNamesBelow h.home.cell.who.actors) (sym left) r.named.rest) r.named)
 
     -- the status was written
     running-status : (pending left : List Act) (status : Mailbox) → IsRunning gives origin pending seen h → IsSettled (gives h.actor) left h.home →
         Leads status left (mailbox_at h.home.cell.who h.home.cell.journal) →
-        IsSaidBut h.home.cell.who h.actor status.closed h.home.cell.journal h.before left h.recorded → SendProper origin.actors left →
+        IsSaidBut h.home.cell.who h.actor status.closed h.home.cell.journal h.before left h.recorded → SendsBelow origin.actors left →
         IsRunning gives origin left seen (record h { status = status })
     running-status pending left status r settled leads told sends = record {
       ours = r.ours;
@@ -125,9 +135,9 @@ module _ (gives : ℕ → Moment → Reply → Type 0) (origin : Origin (Box Con
       leads = leads;
       told = told;
       shut = r.shut;
-      peer = r.peer;
+      many = r.many;
+      named = r.named;
       sends = sends;
-      arrived = r.arrived;
       dry = r.dry;
       owes_nothing = r.owes_nothing;
     }
@@ -170,7 +180,7 @@ module _ (gives : ℕ → Moment → Reply → Type 0) (origin : Origin (Box Con
     -- something was said
     running-recorded : (pending left : List Act) (recorded : List Said) → IsRunning gives origin pending seen h → IsSettled (gives h.actor) left h.home →
         Leads h.status left (mailbox_at h.home.cell.who h.home.cell.journal) →
-        IsSaidBut h.home.cell.who h.actor h.status.closed h.home.cell.journal h.before left recorded → SendProper origin.actors left →
+        IsSaidBut h.home.cell.who h.actor h.status.closed h.home.cell.journal h.before left recorded → SendsBelow origin.actors left →
         IsRunning gives origin left seen (record h { recorded = recorded })
     running-recorded pending left recorded r settled leads told sends = record {
       ours = r.ours;
@@ -181,9 +191,9 @@ module _ (gives : ℕ → Moment → Reply → Type 0) (origin : Origin (Box Con
       leads = leads;
       told = told;
       shut = r.shut;
-      peer = r.peer;
+      many = r.many;
+      named = r.named;
       sends = sends;
-      arrived = r.arrived;
       dry = r.dry;
       owes_nothing = r.owes_nothing;
     }
@@ -243,9 +253,9 @@ module _ (gives : ℕ → Moment → Reply → Type 0) (origin : Origin (Box Con
       leads = r.leads;
       told = r.told;
       shut = shut-own (s ∷ []) seen h (record h { gave = gave; given = given; log = s ∷ h.log }) (closed_receivers h.home.dead) refl refl r.shut;
-      peer = r.peer;
+      many = r.many;
+      named = r.named;
       sends = r.sends;
-      arrived = r.arrived;
       dry = dry;
       owes_nothing = r.owes_nothing;
     }

@@ -1,6 +1,5 @@
 pub mod Hold
 pub mod Told
-pub mod Proper
 pub mod Dry
 pub mod Running
 pub mod Caller

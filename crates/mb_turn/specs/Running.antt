@@ -9,12 +9,12 @@ use Rattle.mb_gate.specs.View.{Sight, Read}
 use Rattle.mb_home.specs.AtHome.{closed_receivers, given_of, mailbox_at}
 use Rattle.mb_home.specs.Carried.{Leads}
 use Rattle.mb_home.specs.Contents.{Contents}
+use Rattle.mb_home.specs.Named.{NamesActors, SendsBelow}
 use Rattle.mb_home.specs.Settled.{IsSettled}
 use Rattle.mb_home.specs.Steps.{IsRested}
 use Rattle.mb_gate.specs.Untouched.{Origin}
 use Rattle.mb_turn.specs.Dry.{TakesDry}
 use Rattle.mb_turn.specs.Hold.{Hold}
-use Rattle.mb_turn.specs.Proper.{SendProper, ArrivedProper, IsPeer}
 use Rattle.mb_turn.specs.Told.{IsSaidBut}
 
 -- the actor is known to be closed: by what the home said as the claim was taken, or by a reading of the pass or the claim
@@ -23,8 +23,8 @@ IsShutTo seen hold other = IsAmong other hold.closed_to ⊎ IsAmong (Read other 
 
 -- The claim is of one of the actors of these gates, and what lies at its home is that actor's own, and says who the actors are as the gates'
 -- first home does. The home agrees with its journal, and the status and what was said in the run are what the journal says, but for these
--- acts, which are still to be carried out; they send, and what was drained is, among these actors. Each actor that the home says is closed is
--- known to be. Each envelope was taken when no system message was left to be drained. The claim's seat owes nothing.
+-- acts, which are still to be carried out. The home and these acts name actors of these gates alone. Each actor that the home says is closed
+-- is known to be. Each envelope was taken when no system message was left to be drained. The claim's seat owes nothing.
 pub record IsRunning (gives : ℕ → Moment → Reply → Type 0) (origin : Origin (Box Contents)) (pending : List Act) (seen : List Sight) (hold : Hold)
     : Type 0 where
   pub ours : hold.gates ≡ origin.gates
@@ -35,9 +35,9 @@ pub record IsRunning (gives : ℕ → Moment → Reply → Type 0) (origin : Ori
   pub leads : Leads hold.status pending (mailbox_at hold.home.cell.who hold.home.cell.journal)
   pub told : IsSaidBut hold.home.cell.who hold.actor hold.status.closed hold.home.cell.journal hold.before pending hold.recorded
   pub shut : Each (IsShutTo seen hold) (closed_receivers hold.home.dead)
-  pub peer : IsPeer origin.actors hold.home
-  pub sends : SendProper origin.actors pending
-  pub arrived : ArrivedProper origin.actors hold.home.rest
+  pub many : hold.home.cell.who.actors ≡ origin.actors
+  pub named : NamesActors hold.home
+  pub sends : SendsBelow origin.actors pending
   pub dry : TakesDry hold.actor hold.log
   pub owes_nothing : hold.debts ≡ []
 

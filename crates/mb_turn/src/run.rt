@@ -3,12 +3,11 @@ ghost use Rattle.std.specs.Prelude.{◌≡◌, ◌≤◌, [], length, List, Matc
 ghost use Rattle.mb_journal.specs.Entry.{Entry};
 ghost use Rattle.mb_journal.specs.Run.{Stopped, IsReason, most_envelopes};
 ghost use Rattle.mb_journal.specs.Run.Stopped.{NoRoom};
-ghost use Rattle.mb_gate.specs.Names.{actors_of, known_by, known_of, held_actor};
+ghost use Rattle.mb_gate.specs.Names.{actors_of, first_of, known_by, known_of, held_actor};
 ghost use Rattle.mb_gate.specs.Untouched.{origin_of};
 ghost use Rattle.mb_turn.specs.Caller.{IsWakerOf, caller_of, GoesFurther, IsPaid};
 ghost use Rattle.mb_turn.specs.Fresh.{IsFreshClaim};
 ghost use Rattle.mb_turn.specs.Hold.{hold_of};
-ghost use Rattle.mb_turn.specs.Proper.{IsPeer, ArrivedProper};
 ghost use Rattle.mb_turn.specs.Ran.{IsTurning, EndsDrained, HadRoom, LeavesRun};
 ghost use Rattle.mb_turn.specs.Running.{IsRunning, IsBeside, SameRun};
 ghost use Rattle.mb_turn.specs.declared.turn.Turn.{Turn};
@@ -38,7 +37,7 @@ pub fn run_mailbox<A: Actor, K: Behaviours, W: Way<Place<A, K>>, R: Wait>(
 ) -> Result<Turn, ReadyError>
     requires ours { IsWakerOf W.origin gates.now waker.old }
     requires untouched { IsFreshClaim K.gives (Some (origin_of gates.now)) claim }
-    requires peer { IsPeer (actors_of gates.now) claim.home.value × ArrivedProper (actors_of gates.now) claim.home.value.rest }
+    requires many { length (first_of gates.now).value.roll ≡ actors_of gates.now }
     ensures ours { IsWakerOf W.origin gates.now waker.new }
     ensures goes { GoesFurther (caller_of W.pushed W.refused waker.old) (caller_of W.pushed W.refused waker.new) }
     ensures paid { IsPaid (held_actor claim) (caller_of W.pushed W.refused waker.new) }
