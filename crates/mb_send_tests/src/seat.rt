@@ -54,7 +54,7 @@ impl Seat {
 }
 
 impl Way<Desk> for Seat {
-    ghost use Rattle.std.specs.Prelude.{Some, option_to_list, map};
+    ghost use Rattle.std.specs.Prelude.{[], ◌∷◌, ◌++◌, Some, option_to_list, map, MatchResult};
     ghost use Rattle.mb_gate.specs.Untouched.{origin_of};
 
     ghost origin = { λ seat. Some (origin_of seat.gates.value) };
@@ -63,7 +63,14 @@ impl Way<Desk> for Seat {
 
     ghost refused = { λ seat. map (λ s. s.value) seat.refused };
 
-    fn push<R: Wait>(&mut self, rt: &R, claim: Claim<Desk>) -> Result<(), Refused<Desk>> {
+    fn push<R: Wait>(&mut self, rt: &R, claim: Claim<Desk>) -> Result<(), Refused<Desk>>
+        ensures same { self.new.gates ≡ self.old.gates }
+        ensures pushed { MatchResult result
+            (λ _. (option_to_list self.new.place ≡ option_to_list self.old.place ++ claim ∷ [])
+            × (map (λ s. s.value) self.new.refused ≡ map (λ s. s.value) self.old.refused))
+            (λ back. (back.claim ≡ claim) × (option_to_list self.new.place ≡ option_to_list self.old.place)
+            × (map (λ s. s.value) self.new.refused ≡ map (λ s. s.value) self.old.refused ++ claim ∷ [])) }
+    {
         if self.place.is_some() {
             self.refused.add(Snapshot::of(&claim));
             return Err(Refused { claim });

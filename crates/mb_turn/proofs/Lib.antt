@@ -10,3 +10,8 @@ pub mod BesideLemmas
 pub mod RunningMoves
 pub mod AnswerLemmas
 pub mod NamedLemmas
+pub mod MoveLemmas
+pub mod SayLemmas
+pub mod TellingLemmas
+pub mod StatusLemmas
+pub mod CleanLemmas

@@ -33,6 +33,13 @@ use Rattle.mb_turn.proofs.SettledLemmas.{settled-silent}
 use Rattle.mb_turn.proofs.ShutLemmas.{shut-more, shut-own}
 use Rattle.mb_turn.proofs.ToldLemmas.{told-tell, told-suspend, told-resume, told-close, told-listed, told-dropped, told-answered, told-parting}
 
+pub suspend-closed : (m : Mailbox) → (suspend m).closed ≡ m.closed
+suspend-closed m = either m.closed refl
+  where
+    either : (b : Bool) → m.closed ≡ b → (suspend m).closed ≡ m.closed
+    either true is = ap (λ c. (if c then m else record m { count = m.count + 1 }).closed) is
+    either false is = ap (λ c. (if c then m else record m { count = m.count + 1 }).closed) is
+
 module _ (gives : ℕ → Moment → Reply → Type 0) (origin : Origin (Box Contents)) where
   -- the pass saw more
   pub running-seen : (pending : List Act) (newer seen : List Sight) (h : Hold) → IsRunning gives origin pending seen h →
@@ -141,13 +148,6 @@ module _ (gives : ℕ → Moment → Reply → Type 0) (origin : Origin (Box Con
       dry = r.dry;
       owes_nothing = r.owes_nothing;
     }
-
-    suspend-closed : (m : Mailbox) → (suspend m).closed ≡ m.closed
-    suspend-closed m = either m.closed refl
-      where
-        either : (b : Bool) → m.closed ≡ b → (suspend m).closed ≡ m.closed
-        either true is = ap (λ c. (if c then m else record m { count = m.count + 1 }).closed) is
-        either false is = ap (λ c. (if c then m else record m { count = m.count + 1 }).closed) is
 
     pub running-suspend : (rest : List Act) → IsRunning gives origin (SuspendSelf ∷ rest) seen h →
         (h.status.count < most_suspensions) × IsRunning gives origin rest seen (record h { status = suspend h.status })

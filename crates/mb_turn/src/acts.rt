@@ -70,17 +70,24 @@ fn carry<A: Actor, K: Behaviours, W: Way<Place<A, K>>, R: Wait>(
     ensures goes { GoesFurther (caller_of W.pushed W.refused waker.old) (caller_of W.pushed W.refused waker.new) }
 {
     match act {
-        Act::Tell(to, body) => tell(rt, gates, waker, claim, to, body),
-        Act::Sys(to, node) => say(rt, gates, waker, claim, to, node),
+        Act::Tell(to, body) => {
+            tell(rt, gates, waker, claim, to, body);
+            Ok(())
+        }
+        Act::Sys(to, node) => {
+            say(rt, gates, waker, claim, to, node);
+            Ok(())
+        }
         Act::SuspendSelf => {
             gates.suspend(claim);
+            Ok(())
         }
         Act::ResumeSelf => {
             gates.resume(claim);
+            Ok(())
         }
-        Act::CloseSelf => return close(rt, gates, waker, claim),
+        Act::CloseSelf => close(rt, gates, waker, claim),
     }
-    Ok(())
 }
 
 // Closes the mailbox for good, and cleans up.

@@ -67,9 +67,10 @@ fn drop_systems<A: Actor, K: Behaviours, W: Way<Place<A, K>>, R: Wait>(
     let actor = claim.actor();
     let parent = claim.home.parent();
     while let Some((_, node)) = claim.home.drop_next() {
-        if let Some(whom) = asker_of(parent, node.msg()) {
-            notify(rt, gates, waker, claim, whom, actor, node);
-        }
+        let Some(whom) = asker_of(parent, node.msg()) else {
+            continue;
+        };
+        notify(rt, gates, waker, claim, whom, actor, node);
     }
 }
 

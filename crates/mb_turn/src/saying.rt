@@ -64,9 +64,10 @@ fn answer<A: Actor, K: Behaviours, W: Way<Place<A, K>>, R: Wait>(
     ensures answered { IsAnswered (answered_to (held_actor claim.old) node) ended.0 claim.old claim.new }
     ensures goes { GoesFurther (caller_of W.pushed W.refused waker.old) (caller_of W.pushed W.refused waker.new) }
 {
-    if let Some(whom) = asker_of(Some(claim.actor()), node.msg()) {
-        notify(rt, gates, waker, claim, whom, ended, node);
-    }
+    let Some(whom) = asker_of(Some(claim.actor()), node.msg()) else {
+        return;
+    };
+    notify(rt, gates, waker, claim, whom, ended, node);
 }
 
 /// Who waits for an answer to a message that came too late to an actor of this parent: of a Watch the watcher, of a Create the

@@ -49,7 +49,9 @@ pub(crate) fn apply_systems<A: Actor, K: Behaviours, W: Way<Place<A, K>>, R: Wai
         }
         if claim.home.has_next() {
             apply_one(rt, gates, waker, claim, turn)?;
-        } else if !drain(rt, gates, claim) {
+            continue;
+        }
+        if !drain(rt, gates, claim) {
             return Ok(());
         }
     }
