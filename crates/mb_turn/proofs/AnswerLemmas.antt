@@ -42,13 +42,13 @@ module _ (gives : ℕ → Moment → Reply → Type 0) (origin : Origin (Box Con
   refused = hold-recorded c mid (record { to = to.0; message = message; was_ended = true }) said
 
   -- a message that found its list ended was answered for, where somebody waits
-  pub running-answer : (asked : Option ℕ) → answered_to (hold_of c).actor message ≡ asked → IsAnswered asked to.0 mid new →
+  pub running-answer : (asked : Option ActorId) → answered_to (hold_of c).actor message ≡ number_of asked → IsAnswered asked to.0 mid new →
       IsRunning gives origin rest seen (hold_of new)
   running-answer None nobody same =
       subst (IsRunning gives origin rest seen) (sym (ap (λ (x : Claim (Box Contents)). hold_of x) same ∙ refused))
       (running-dropped gives origin seen (hold_of c) rest to message r nobody)
   running-answer (Some whom) right n =
-      let note : Said = record { to = whom; message = notice to.0; was_ended = n.was_ended } in
+      let note : Said = record { to = whom.0; message = notice to.0; was_ended = n.was_ended } in
       subst (IsRunning gives origin rest seen)
       (sym (hold-recorded mid new note n.recorded ∙ ap (λ (h : Hold). record h { recorded = h.recorded ++ note ∷ [] }) refused))
-      (running-answered gives origin seen (hold_of c) rest to message r whom n.was_ended right)
+      (running-answered gives origin seen (hold_of c) rest to message r whom.0 n.was_ended right)

@@ -47,28 +47,17 @@ module _ (c new : Claim (Box Contents)) (said : Said) (r : IsRecorded c new said
 
 -- who waits was told, or nobody waits
 module _ (ended : ℕ) (c new : Claim (Box Contents)) where
-  pub keeps-answered : (asked : Option ℕ) → IsAnswered asked ended c new → KeepsJournal (hold_of c) (hold_of new)
+  pub keeps-answered : (asked : Option ActorId) → IsAnswered asked ended c new → KeepsJournal (hold_of c) (hold_of new)
   keeps-answered None same = subst (λ x. KeepsJournal (hold_of c) (hold_of x)) (sym same) (keeps-same (hold_of c))
   keeps-answered (Some whom) n = keeps-recorded c new _ n.recorded
 
-  pub beside-answered : (asked : Option ℕ) → IsAnswered asked ended c new → IsBeside (hold_of c) → IsBeside (hold_of new)
+  pub beside-answered : (asked : Option ActorId) → IsAnswered asked ended c new → IsBeside (hold_of c) → IsBeside (hold_of new)
   beside-answered None same s = subst (λ x. IsBeside (hold_of x)) (sym same) s
   beside-answered (Some whom) n s = beside-said c new _ n.recorded s
 
-  pub home-answered : (asked : Option ℕ) → IsAnswered asked ended c new → new.home ≡ c.home
+  pub home-answered : (asked : Option ActorId) → IsAnswered asked ended c new → new.home ≡ c.home
   home-answered None same = ap (λ (x : Claim (Box Contents)). x.home) same
   home-answered (Some whom) n = n.recorded.home
-
--- as `answer` has it, from whom it asked
-pub answered-none : (actor : ActorId) (message : SysMsg) (ended : ℕ) (c : Claim (Box Contents)) → asker (Some actor) message ≡ None →
-    IsAnswered (answered_to actor.0 message) ended c c
-answered-none actor message ended c none =
-    subst (λ (o : Option ℕ). IsAnswered o ended c c) (sym (asker-told actor message ∙ ap number_of none)) refl
-
-pub answered-some : (actor : ActorId) (message : SysMsg) (whom : ActorId) (ended : ℕ) (c new : Claim (Box Contents)) →
-    asker (Some actor) message ≡ Some whom → IsNotified whom.0 ended c new → IsAnswered (answered_to actor.0 message) ended c new
-answered-some actor message whom ended c new some told =
-    subst (λ (o : Option ℕ). IsAnswered o ended c new) (sym (asker-told actor message ∙ ap number_of some)) told
 
 -- ---- in a run
 
@@ -81,13 +70,15 @@ module _ (gives : ℕ → Moment → Reply → Type 0) (origin : Origin (Box Con
       subst (λ (x : Hold). IsRunning gives origin x.home.cell.acts seen x) (sym (hold-recorded c new _ said))
       (running-listed gives origin seen (hold_of c) c.home.value.cell.acts to message r)
 
-  -- it found its list ended, and who waits for an answer was told
-  pub running-refused : (mid new : Claim (Box Contents)) (left : SysMsg) → left ≡ message →
-      IsRecorded c mid (record { to = to.0; message = message; was_ended = true }) →
-      IsAnswered (answered_to (held_actor mid) left) to.0 mid new → IsRunning gives origin new.home.value.cell.acts seen (hold_of new)
-  running-refused mid new left same said answered =
-      let asked = answered_to (held_actor mid) left in
+  -- it found its list ended, and who waits for an answer was told: of a Create this actor, which is the parent
+  pub running-refused : (mid new : Claim (Box Contents)) (left : SysMsg) (own : ActorId) → left ≡ message → own.0 ≡ held_actor mid →
+      IsRecorded c mid (record { to = to.0; message = message; was_ended = true }) → IsAnswered (asker (Some own) left) to.0 mid new →
+      IsRunning gives origin new.home.value.cell.acts seen (hold_of new)
+  running-refused mid new left own same here said answered =
+      let asked = asker (Some own) message in
+      let answered' : IsAnswered asked to.0 mid new = subst (λ x. IsAnswered (asker (Some own) x) to.0 mid new) same answered in
+      let actor : held_actor c ≡ own.0 = sym said.actor ∙ sym here in
       subst (λ (b : Box Contents). IsRunning gives origin b.value.cell.acts seen (hold_of new))
-      (sym (home-answered to.0 mid new asked answered ∙ said.home))
+      (sym (home-answered to.0 mid new asked answered' ∙ said.home))
       (running-answer gives origin seen c.home.value.cell.acts to message c mid new r said asked
-      (λ i. answered_to (sym said.actor i) (sym same i)) answered)
+      (ap (λ n. answered_to n message) actor ∙ asker-told own message) answered')

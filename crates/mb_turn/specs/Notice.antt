@@ -22,6 +22,6 @@ pub record IsNotified (whom ended : ℕ) (old new : Claim (Box Contents)) : Type
   pub recorded : IsRecorded old new (record { to = whom; message = notice ended; was_ended = was_ended })
 
 -- he who waits was told, or nobody waits
-abbrev pub IsAnswered : Option ℕ → ℕ → Claim (Box Contents) → Claim (Box Contents) → Type 0
+abbrev pub IsAnswered : Option ActorId → ℕ → Claim (Box Contents) → Claim (Box Contents) → Type 0
 IsAnswered None ended old new = new ≡ old
-IsAnswered (Some whom) ended old new = IsNotified whom ended old new
+IsAnswered (Some whom) ended old new = IsNotified whom.0 ended old new

@@ -10,7 +10,7 @@ ghost use Rattle.mb_turn.specs.Hold.{hold_of};
 ghost use Rattle.mb_turn.specs.Running.{IsRunning, IsBeside, KeepsJournal};
 
 use crate::place::Place;
-use crate::saying::{asker_of, notify};
+use crate::saying::answer;
 use mb_actor::{Actor, Behaviours};
 use mb_gate::{Claim, Gates};
 use mb_wake::{Waker, Way};
@@ -67,10 +67,7 @@ fn drop_systems<A: Actor, K: Behaviours, W: Way<Place<A, K>>, R: Wait>(
     let actor = claim.actor();
     let parent = claim.home.parent();
     while let Some((_, node)) = claim.home.drop_next() {
-        let Some(whom) = asker_of(parent, node.msg()) else {
-            continue;
-        };
-        notify(rt, gates, waker, claim, whom, actor, node);
+        answer(rt, gates, waker, claim, parent, actor, node);
     }
 }
 

@@ -1,9 +1,8 @@
 //! System messages that an actor sends.
-ghost use Rattle.std.specs.Prelude.{◌≡◌, ◌<◌, ◌∷◌};
+ghost use Rattle.std.specs.Prelude.{◌≡◌, ◌<◌, ◌∷◌, IfSome};
 ghost use Rattle.mb_journal.specs.Acts.Act.{Sys};
-ghost use Rattle.mb_gate.specs.Names.{actors_of, known_by, held_actor};
+ghost use Rattle.mb_gate.specs.Names.{actors_of, known_by};
 ghost use Rattle.mb_gate.specs.Named.{NamesBelow};
-ghost use Rattle.mb_gate.specs.Record.{answered_to};
 ghost use Rattle.mb_gate.specs.Untouched.{origin_of};
 ghost use Rattle.mb_turn.specs.Caller.{IsWakerOf, caller_of, GoesFurther};
 ghost use Rattle.mb_turn.specs.Hold.{hold_of};
@@ -44,35 +43,40 @@ pub(crate) fn say<A: Actor, K: Behaviours, W: Way<Place<A, K>>, R: Wait>(
         Ok(_) => {
             waker.register(rt, gates, to, false, true);
         }
-        Err(ListClosed(node)) => answer(rt, gates, waker, claim, to, node),
+        Err(ListClosed(node)) => {
+            let parent = claim.actor();
+            answer(rt, gates, waker, claim, Some(parent), to, node);
+        }
     }
 }
 
-// Tells who waits for an answer to this message that its receiver has ended.
-fn answer<A: Actor, K: Behaviours, W: Way<Place<A, K>>, R: Wait>(
+/// Tells who waits for an answer to this message, which came too late to an actor of this parent, that its receiver has ended.
+pub(crate) fn answer<A: Actor, K: Behaviours, W: Way<Place<A, K>>, R: Wait>(
     rt: &R,
     gates: &Gates<Place<A, K>>,
     waker: &mut Waker<Place<A, K>, W>,
     claim: &mut Claim<Place<A, K>>,
+    parent: Option<ActorId>,
     ended: ActorId,
     node: Node,
 )
     requires ours { IsWakerOf W.origin gates.now waker.old }
-    requires there { (held_actor claim.old < actors_of gates.now) × (ended.0 < actors_of gates.now) }
+    requires parent { IfSome parent (λ p. p.0 < actors_of gates.now) }
+    requires there { ended.0 < actors_of gates.now }
     requires named { NamesBelow (actors_of gates.now) node }
     ensures ours { IsWakerOf W.origin gates.now waker.new }
-    ensures answered { IsAnswered (answered_to (held_actor claim.old) node) ended.0 claim.old claim.new }
+    ensures answered { IsAnswered (asker parent node) ended.0 claim.old claim.new }
     ensures goes { GoesFurther (caller_of W.pushed W.refused waker.old) (caller_of W.pushed W.refused waker.new) }
 {
-    let Some(whom) = asker_of(Some(claim.actor()), node.msg()) else {
+    let Some(whom) = asker_of(parent, node.msg()) else {
         return;
     };
     notify(rt, gates, waker, claim, whom, ended, node);
 }
 
-/// Who waits for an answer to a message that came too late to an actor of this parent: of a Watch the watcher, of a Create the
-/// parent.
-pub(crate) fn asker_of(parent: Option<ActorId>, message: SysMsg) -> Option<ActorId>
+// Who waits for an answer to a message that came too late to an actor of this parent: of a Watch the watcher, of a Create the
+// parent.
+fn asker_of(parent: Option<ActorId>, message: SysMsg) -> Option<ActorId>
     ensures { result ≡ asker parent message }
 {
     match message {
@@ -88,8 +92,8 @@ pub(crate) fn asker_of(parent: Option<ActorId>, message: SysMsg) -> Option<Actor
     }
 }
 
-/// Tells one that another has ended, in this node. Whether it came to a list is said in the claim's record.
-pub(crate) fn notify<A: Actor, K: Behaviours, W: Way<Place<A, K>>, R: Wait>(
+// Tells one that another has ended, in this node. Whether it came to a list is said in the claim's record.
+fn notify<A: Actor, K: Behaviours, W: Way<Place<A, K>>, R: Wait>(
     rt: &R,
     gates: &Gates<Place<A, K>>,
     waker: &mut Waker<Place<A, K>, W>,
