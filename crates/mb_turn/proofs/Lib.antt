@@ -15,3 +15,6 @@ pub mod SayLemmas
 pub mod TellingLemmas
 pub mod StatusLemmas
 pub mod CleanLemmas
+pub mod ReadingLemmas
+pub mod TurningLemmas
+pub mod DrainingLemmas

@@ -28,7 +28,7 @@ use Rattle.mb_wake.proofs.Views.{owes-same}
 use Rattle.mb_turn.specs.Hold.{Hold}
 use Rattle.mb_turn.specs.Running.{IsRunning, IsBeside, KeepsJournal, IsShutTo}
 use Rattle.mb_turn.proofs.BesideLemmas.{beside-home}
-use Rattle.mb_turn.proofs.RunningSteps.{running-seen, running-told}
+use Rattle.mb_turn.proofs.RunningSteps.{running-seen, running-same, running-told}
 use Rattle.mb_turn.proofs.ShutLemmas.{shut-buried, shut-read}
 
 -- ---- the home of a run is its actor's
@@ -70,6 +70,28 @@ module _ (h : Hold) (new : Contents) (cell : new.cell ≡ h.home.cell) where
   pub beside-cell : new.rest ≡ h.home.rest → new.dropped ≡ h.home.dropped → IsBeside h → IsBeside (record h { home = new })
   beside-cell rest dropped s =
       beside-home h s new (ap (λ (c : Seen). c.who) cell) (ap (λ (c : Seen). c.journal) cell) rest dropped
+
+-- the next act was taken out to be carried out
+module _ (h : Hold) (new : Contents) (same : new ≡ record h.home { cell = record h.home.cell { acts = new.cell.acts } }) where
+  pub keeps-next : KeepsJournal h (record h { home = new })
+  keeps-next = record {
+    same = record { actor = refl; who = ap (λ (x : Contents). x.cell.who) same; before = refl };
+    journal = ap (λ (x : Contents). x.cell.journal) same;
+  }
+
+  pub beside-next : IsBeside h → IsBeside (record h { home = new })
+  beside-next s =
+      beside-home h s new (ap (λ (x : Contents). x.cell.who) same) (ap (λ (x : Contents). x.cell.journal) same)
+      (ap (λ (x : Contents). x.rest) same) (ap (λ (x : Contents). x.dropped) same)
+
+  pub running-next : (gives : ℕ → Moment → Reply → Type 0) (origin : Origin (Box Contents)) (seen : List Sight) (pending : List Act) →
+      h.home.cell.acts ≡ pending → IsSettled (gives new.cell.who.this.0) pending new → IsRunning gives origin h.home.cell.acts seen h →
+      IsRunning gives origin pending seen (record h { home = new })
+  running-next gives origin seen pending is settled r =
+      let here : new.cell.who.this.0 ≡ h.actor = ap (λ (x : Contents). x.cell.who.this.0) same ∙ r.number in
+      running-same gives origin seen h pending new (subst (λ p. IsRunning gives origin p seen h) is r) (ap (λ (x : Contents). x.cell.who) same)
+      (ap (λ (x : Contents). x.cell.journal) same) (ap (λ (x : Contents). x.roll) same) (ap (λ (x : Contents). x.dead) same)
+      (ap (λ (x : Contents). x.rest) same) (subst (λ n. IsSettled (gives n) pending new) here settled)
 
 -- ---- a tell
 

@@ -43,6 +43,13 @@ pub(crate) fn carry_out<A: Actor, K: Behaviours, W: Way<Place<A, K>>, R: Wait>(
     while let Some(act) = claim.home.next_act() {
         is_clean = carry(rt, gates, waker, claim, act).is_ok() && is_clean;
     }
+    answer_of(is_clean)
+}
+
+// What is answered.
+fn answer_of(is_clean: bool) -> Result<(), ReadyError>
+    ensures { OnErr result (IsErrOf result ReadyError.NoMemory) }
+{
     if is_clean {
         Ok(())
     } else {

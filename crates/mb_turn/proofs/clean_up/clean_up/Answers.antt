@@ -5,6 +5,7 @@ use Rattle.mb_gate.specs.Lists.{IsNumberedFrom}
 use Rattle.mb_gate.specs.Names.{held_actor, known_by, known_of, given_to}
 use Rattle.mb_gate.specs.Untouched.{origin_of}
 use Rattle.mb_gate.specs.View.{Sight, given_after}
+use Rattle.mb_cell.specs.Seen.{Seen}
 use Rattle.mb_home.specs.AtHome.{given_of}
 use Rattle.mb_home.specs.Contents.{Contents}
 use Rattle.mb_home.proofs.GivenLemmas.{given-kept}
@@ -51,8 +52,8 @@ drop_systems-2-requires-clause-running g c =
     let new : Contents = c.keep.new.self in
     let kept = c.keep.ensures.kept in
     let cell = ap (λ (x : Contents). x.cell) kept in
-    subst (λ (x : Contents). IsRunning g.K.Behaviours.gives (origin_of c.args.gates.now) x.cell.acts (known_by c.drop_systems.new.waker.pass).log
-    (record (hold_of mid) { home = new })) (sym kept)
+    subst (λ (x : Seen). IsRunning g.K.Behaviours.gives (origin_of c.args.gates.now) x.acts (known_by c.drop_systems.new.waker.pass).log
+    (record (hold_of mid) { home = new })) (sym cell)
     (running-kept g.K.Behaviours.gives (origin_of c.args.gates.now) (known_by c.drop_systems.new.waker.pass).log (hold_of mid)
     mid.home.value.cell.acts new c.sys_close-listed.result r kept
     (settled-here g.K.Behaviours.gives (held_actor mid) mid.home.value new r.number cell c.keep.ensures.settled) c.sys_close-listed.ensures.named)
