@@ -102,7 +102,7 @@ module _ (ended : ℕ) (c new : Claim (Box Contents)) where
 
 module _ (c new : Claim (Box Contents)) (ours : (claim_id new ≡ claim_id c) × (held_actor new ≡ held_actor c)) (home : new.home ≡ c.home)
     (status : status_of new ≡ status_of c) (known : known_of new ≡ counting_off (held_actor c) 1 (known_of c)) (taken : SameTaken c new) where
-  hold-one : hold_of new ≡ record (hold_of c) { log = Took (held_actor c) 1 ∷ (known_of c).log }
+  pub hold-one : hold_of new ≡ record (hold_of c) { log = Took (held_actor c) 1 ∷ (known_of c).log }
   hold-one = hold-taken c new ours home (held_actor c) 1 status known taken
 
   pub keeps-taken : KeepsJournal (hold_of c) (hold_of new)

@@ -18,3 +18,5 @@ pub mod CleanLemmas
 pub mod ReadingLemmas
 pub mod TurningLemmas
 pub mod DrainingLemmas
+pub mod AppliedLemmas
+pub mod EnvelopeLemmas
