@@ -17,7 +17,7 @@ use Rattle.mb_turn.specs.Ran.{IsTurning, systems_in}
 use Rattle.mb_turn.specs.Running.{IsRunning, IsBeside, KeepsJournal, SameRun}
 use Rattle.mb_turn.proofs.BesideLemmas.{beside-home}
 use Rattle.mb_turn.proofs.RunningSteps.{running-same}
-use Rattle.mb_turn.proofs.TurningLemmas.{systems-few}
+use Rattle.mb_turn.proofs.TurningLemmas.{systems-few, turns-few}
 
 -- a run that keeps the journal is the same run
 pub same-keeps : (a b c : Hold) → SameRun a b → KeepsJournal b c → SameRun a c
@@ -60,3 +60,9 @@ pub systems-fit : (gives : ℕ → Moment → Reply → Type 0) (origin : Origin
     (turn : Turn) → IsRunning gives origin pending seen h → IsTurning h turn → turn.system < 2 ^ 32
 systems-fit gives origin seen h pending turn r t =
     omega (arith, t.system, systems-few h.home.cell.journal, r.settled.lawful.within_limit, r.settled.own.few)
+
+-- and so does a count of envelopes
+pub envelopes-fit : (gives : ℕ → Moment → Reply → Type 0) (origin : Origin (Box Contents)) (seen : List Sight) (h : Hold) (pending : List Act)
+    (turn : Turn) → IsRunning gives origin pending seen h → IsTurning h turn → turn.envelopes < 2 ^ 32
+envelopes-fit gives origin seen h pending turn r t =
+    omega (arith, turns-few h.home.cell.who h.before h.home.cell.journal turn.envelopes t.turns, r.settled.lawful.within_limit, r.settled.own.few)

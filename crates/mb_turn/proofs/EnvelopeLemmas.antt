@@ -1,12 +1,13 @@
 -- Why a run takes no envelope more, and what one that was taken makes of it.
-use Rattle.std.proofs.Common.{◌≡◌, ◌⊎◌, inl, inr, ℕ, ◌*◌, ◌+◌, Bool, true, false, List, [], ◌∷◌, refl, sym, ap, ◌∙◌, subst}
+use Rattle.std.proofs.Common.{◌≡◌, ◌⊎◌, inl, inr, ℕ, ◌*◌, ◌+◌, ◌<◌, Bool, true, false, List, [], ◌∷◌, refl, sym, ap, ◌∙◌, subst}
 use Rattle.std.specs.Prelude.{None, not, nat_lt, ◌&&◌}
 use Rattle.std.specs.Global.{Box}
 use Rattle.mb_status.specs.Mailbox.{Mailbox, word_of, should_process}
 use Rattle.mb_actor.specs.Behaviour.{Moment, Reply}
 use Rattle.mb_journal.specs.Acts.{Act}
-use Rattle.mb_journal.specs.Run.{Stopped}
-use Rattle.mb_journal.specs.Run.Stopped.{NotOpen, NoEnvelope, AtClosing}
+use Rattle.mb_journal.specs.Aside.{next_front}
+use Rattle.mb_journal.specs.Run.{Stopped, IsReason, most_envelopes}
+use Rattle.mb_journal.specs.Run.Stopped.{UsedUp, NotOpen, NoEnvelope, AtClosing, NoRoom}
 use Rattle.mb_journal.specs.Suspension.{count}
 use Rattle.mb_cell.specs.Seen.{Seen}
 use Rattle.mb_gate.specs.declared.claim.Claim.{Claim}
@@ -17,7 +18,7 @@ use Rattle.mb_home.specs.Contents.{Contents}
 use Rattle.mb_home.specs.Settled.{IsSettled}
 use Rattle.mb_home.specs.Steps.{FindsNone}
 use Rattle.mb_turn.specs.Hold.{Hold, hold_of}
-use Rattle.mb_turn.specs.Ran.{IsDrained, IsEnough, EndsDrained}
+use Rattle.mb_turn.specs.Ran.{IsDrained, IsEnough, EndsDrained, HadRoom}
 use Rattle.mb_turn.specs.Running.{IsRunning, IsBeside}
 use Rattle.mb_turn.proofs.BesideLemmas.{beside-log}
 use Rattle.mb_turn.proofs.CleanLemmas.{hold-one, running-within, ended-closed}
@@ -79,6 +80,33 @@ module _ (gives : ℕ → Moment → Reply → Type 0) (origin : Origin (Box Con
   -- where the cell stays, so does the reason
   pub why-same : (new : Contents) → new.cell ≡ h.home.cell → IsWhy h → IsWhy (record h { home = new })
   why-same new cell w = (w.0, subst (λ (c : Seen). IsEnough c.who c.journal w.0) (sym cell) w.1, w.2)
+
+-- a drain that gave nothing is the last still
+pub drained-home : (h : Hold) (new : Contents) → new.cell.who ≡ h.home.cell.who → new.cell.journal ≡ h.home.cell.journal → IsDrained h →
+    IsDrained (record h { home = new })
+drained-home h new who journal d = record { last = d.last; none = (λ i. next_front (who i) (journal i)) ∙ d.none }
+
+-- ---- why a run stopped
+
+-- by now, with fewer envelopes than the throughput allows
+pub reason-why : (h : Hold) (throughput n : ℕ) → n < most_envelopes throughput → IsWhy h →
+    (stopped : Stopped) × HadRoom stopped × EndsDrained h.actor h.log stopped × IsReason h.home.cell.who throughput n h.home.cell.journal stopped
+reason-why h throughput n less w = by_reason w.0 w.1 w.2
+  where
+    by_reason : (stopped : Stopped) → IsEnough h.home.cell.who h.home.cell.journal stopped → EndsDrained h.actor h.log stopped →
+        (s : Stopped) × HadRoom s × EndsDrained h.actor h.log s × IsReason h.home.cell.who throughput n h.home.cell.journal s
+    by_reason UsedUp enough ends = absurd enough
+    by_reason (NotOpen word) enough ends = (NotOpen word, tt, ends, less, enough.0, enough.1)
+    by_reason (NoEnvelope word) enough ends = (NoEnvelope word, tt, ends, less, enough.0, enough.1)
+    by_reason AtClosing enough ends = (AtClosing, tt, ends, enough)
+    by_reason NoRoom enough ends = absurd enough
+
+-- with as many
+pub reason-used : (gives : ℕ → Moment → Reply → Type 0) (origin : Origin (Box Contents)) (seen : List Sight) (h : Hold) (throughput n : ℕ) →
+    IsRunning gives origin [] seen h → n ≡ most_envelopes throughput → (h.status.closed ≡ true) ⊎ IsDrained h →
+    (stopped : Stopped) × HadRoom stopped × EndsDrained h.actor h.log stopped × IsReason h.home.cell.who throughput n h.home.cell.journal stopped
+reason-used gives origin seen h throughput n r all (inl shut) = (AtClosing, tt, tt, ended-closed gives origin seen h [] shut r)
+reason-used gives origin seen h throughput n r all (inr drained) = (UsedUp, tt, drained.last, all, drained.none)
 
 -- an envelope was counted as taken
 pub beside-counted : (c new : Claim (Box Contents)) (ours : (claim_id new ≡ claim_id c) × (held_actor new ≡ held_actor c)) (home : new.home ≡ c.home)

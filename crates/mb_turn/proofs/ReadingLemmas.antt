@@ -33,6 +33,9 @@ module _ (m : Mailbox) (who : Identity) (journal : List Entry) (same : idle m �
   pub closing-same : m.closed ≡ closed who journal
   closing-same = ap (λ (x : Mailbox). x.closed) same
 
+  pub count-none : should_process m ≡ true → count who journal ≡ 0
+  count-none t = sym count-same ∙ (open-parts m.closed m.count t).1
+
   -- it was open
   pub open-reading : should_process m ≡ true → IsOpen who journal (word_of m)
   open-reading t =

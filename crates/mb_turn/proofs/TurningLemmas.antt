@@ -6,7 +6,9 @@ use Rattle.mb_journal.specs.Aside.{next_front}
 use Rattle.mb_journal.specs.Entry.{Entry}
 use Rattle.mb_journal.specs.Entry.Entry.{Handled, System, Dropped}
 use Rattle.mb_journal.specs.Identity.{Identity}
-use Rattle.mb_journal.specs.Run.{IsTurns}
+use Rattle.mb_journal.specs.Run.{IsBlock, IsTurns}
+use Rattle.mb_journal.specs.Run.IsBlock.{no_more, one_more}
+use Rattle.mb_journal.specs.Run.IsTurns.{a_block, a_turn}
 use Rattle.mb_cell.specs.Seen.{Seen, IsOf}
 use Rattle.mb_home.specs.Contents.{Contents}
 use Rattle.mb_home.specs.Steps.{AppliesNext, Begins}
@@ -22,6 +24,16 @@ systems-few [] = omega arith
 systems-few (Handled envelope reading outcome ∷ before) = omega (arith, systems-few before)
 systems-few (System number m outcome ∷ before) = omega (arith, systems-few before)
 systems-few (Dropped envelope ∷ before) = omega (arith, systems-few before)
+
+-- a run takes no more envelopes than there are entries
+block-few : (who : Identity) (from to : List Entry) → IsBlock who from to → length from ≤ length to
+block-few who from to no_more = omega arith
+block-few who from to (one_more there number m outcome block front) = omega (arith, block-few who from there block)
+
+pub turns-few : (who : Identity) (from to : List Entry) (n : ℕ) → IsTurns who from n to → n ≤ length to
+turns-few who from to n (a_block there block) = omega arith
+turns-few who from to n (a_turn before middle there e turns none of_envelope block) =
+    omega (arith, turns-few who from middle before turns, block-few who (e ∷ middle) there block)
 
 -- what keeps the journal keeps the count
 pub turning-keeps : (h new : Hold) (turn : Turn) → KeepsJournal h new → IsTurning h turn → IsTurning new turn
