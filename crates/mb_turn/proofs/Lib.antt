@@ -20,3 +20,5 @@ pub mod TurningLemmas
 pub mod DrainingLemmas
 pub mod AppliedLemmas
 pub mod EnvelopeLemmas
+pub mod FreshLemmas
+pub mod FinishLemmas

@@ -4,7 +4,7 @@ use Rattle.mb_core.specs.Actor.{nothing}
 use Rattle.mb_gate.specs.declared.claim.Claim.{Claim}
 use Rattle.mb_gate.specs.declared.gates.Gates.{Gates}
 use Rattle.mb_gate.specs.Names.{held_actor, gates_id, pass_id, actors_of, known_by}
-use Rattle.mb_gate.specs.Rule.{IsAmong}
+use Rattle.mb_gate.specs.Rule.{IsAmong, IsPart}
 use Rattle.mb_gate.specs.View.{View, Sight, owes}
 use Rattle.mb_wake.specs.declared.waker.Waker.{Waker}
 use Rattle.mb_gate.specs.Untouched.{Origin, origin_of}
@@ -44,5 +44,11 @@ module _ {H : Type 0} where
   pub record GoesFurther (old new : Caller H) : Type 0 where
     pub more : List Sight
     pub log : new.view.log ≡ more ++ old.view.log
+    pub account : OwesForRefusals old.account new.account
+    pub debts : (id : ℕ) → IsPaid id new ⊎ (owes id new.view ≡ owes id old.view)
+
+  -- It knows still all that it knew; and it owes each actor nothing, or a look, or what it did before.
+  pub record LeavesCaller (old new : Caller H) : Type 0 where
+    pub log : IsPart old.view.log new.view.log
     pub account : OwesForRefusals old.account new.account
     pub debts : (id : ℕ) → IsPaid id new ⊎ (owes id new.view ≡ owes id old.view)

@@ -47,7 +47,8 @@ pub(crate) fn apply_envelopes<A: Actor, K: Behaviours, W: Way<Place<A, K>>, R: W
     ensures full { IsErrOf result ReadyError.JournalFull → claim.new.home.value.cell.who.limit ≤ length claim.new.home.value.cell.journal }
 {
     for _handled in 0..throughput.max(1) {
-        if !apply_envelope(rt, gates, waker, claim, turn)? {
+        let took = apply_envelope(rt, gates, waker, claim, turn)?;
+        if !took {
             return Ok(());
         }
         apply_systems(rt, gates, waker, claim, turn)?;

@@ -5,7 +5,7 @@ ghost use Rattle.mb_journal.specs.Run.{Stopped, IsReason, most_envelopes};
 ghost use Rattle.mb_journal.specs.Run.Stopped.{NoRoom};
 ghost use Rattle.mb_gate.specs.Names.{actors_of, first_of, known_by, known_of, held_actor};
 ghost use Rattle.mb_gate.specs.Untouched.{origin_of};
-ghost use Rattle.mb_turn.specs.Caller.{IsWakerOf, caller_of, GoesFurther, IsPaid};
+ghost use Rattle.mb_turn.specs.Caller.{IsWakerOf, caller_of, GoesFurther, IsPaid, LeavesCaller};
 ghost use Rattle.mb_turn.specs.Fresh.{IsFreshClaim};
 ghost use Rattle.mb_turn.specs.Hold.{hold_of};
 ghost use Rattle.mb_turn.specs.Ran.{IsTurning, EndsDrained, HadRoom, LeavesRun};
@@ -39,7 +39,7 @@ pub fn run_mailbox<A: Actor, K: Behaviours, W: Way<Place<A, K>>, R: Wait>(
     requires untouched { IsFreshClaim K.gives (Some (origin_of gates.now)) claim }
     requires many { length (first_of gates.now).value.roll ≡ actors_of gates.now }
     ensures ours { IsWakerOf W.origin gates.now waker.new }
-    ensures goes { GoesFurther (caller_of W.pushed W.refused waker.old) (caller_of W.pushed W.refused waker.new) }
+    ensures goes { LeavesCaller (caller_of W.pushed W.refused waker.old) (caller_of W.pushed W.refused waker.new) }
     ensures paid { IsPaid (held_actor claim) (caller_of W.pushed W.refused waker.new) }
     ensures ran { (journal : List Entry) × MatchResult result
         (λ turn. (stopped : Stopped) × HadRoom stopped × LeavesRun throughput claim (known_by waker.new.pass) journal turn stopped)
@@ -56,8 +56,10 @@ pub fn run_mailbox<A: Actor, K: Behaviours, W: Way<Place<A, K>>, R: Wait>(
     let outcome = run_claim(rt, gates, waker, throughput, &mut claim, &mut turn);
     gates.release(claim, &mut waker.pass);
     waker.register(rt, gates, actor, false, false);
-    outcome?;
-    Ok(turn)
+    match outcome {
+        Ok(()) => Ok(turn),
+        Err(fault) => Err(fault),
+    }
 }
 
 // All steps of the run but the last.
