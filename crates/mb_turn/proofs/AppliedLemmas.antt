@@ -28,6 +28,10 @@ pub not-full : {T : Type 0} (r : Result T ReadyError) → OnErr r (IsErrOf r NoM
 not-full (Ok x) none full = absurd (cc full)
 not-full (Err e) none full = absurd (cc (none, full))
 
+-- the fault that a result of either kind has
+pub same-fault : {T : Type 0} (fault : ReadyError) → IsErrOf {T = T} (Err fault) JournalFull → fault ≡ JournalFull
+same-fault fault is = cc is
+
 -- room was made
 module _ (h : Hold) (new : Contents) (ready : Bool) (room : ℕ)
     (same : new ≡ record h.home { cell = record h.home.cell { is_ready = ready }; room = room }) where
