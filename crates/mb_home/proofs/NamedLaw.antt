@@ -335,10 +335,11 @@ module _ (who : Identity) (this_there : who.this.0 < who.actors) (parent_there :
           (sends-to_each who.actors (system.Died who.this) watched_by this_there all)
       by_parent (Some p) there =
           sends-append who.actors (stop_acts effects)
-          (CloseSelf ∷ Sys p (system.Died who.this) ∷ to_each (system.Died who.this) (without watched_by p)) (sends-stop who.actors effects)
-          ((there, this_there),
-          sends-to_each who.actors (system.Died who.this) (without watched_by p) this_there
-          (below-filter who.actors (λ b. not (is_same p b)) watched_by all))
+          (CloseSelf ∷ Sys p (system.Died who.this) ∷ to_each (system.Died who.this) (without watched_by p)) (sends-stop who.actors effects) (
+            (there, this_there),
+            sends-to_each who.actors (system.Died who.this) (without watched_by p) this_there
+                (below-filter who.actors (λ b. not (is_same p b)) watched_by all),
+          )
 
   module _ (gives : Moment → Reply → Type 0) (before : List Entry) (lawful : AreLawful who gives before)
       (named : JournalNamesBelow who.actors before) (prepared : AreBelow who.actors who.prepared) where

@@ -11,6 +11,7 @@ mod named;
 
 pub use home::{Home, Parts};
 pub use laws::{
-    system_messages_stand_once, tellings_are_numbered, what_is_sent_names_actors, what_waits_at_the_end_is_dead,
+    system_messages_stand_once, tellings_are_numbered, what_is_sent_names_actors,
+    what_waits_at_the_end_is_dead,
 };
 pub use named::Named;

@@ -43,8 +43,11 @@ module _ (gives : ℕ → Moment → Reply → Type 0) (origin : Origin (Box Con
       by_test true shut = at-closing shut
       by_test false open_yet = (
         NotOpen (4 * count h.home.cell.who h.home.cell.journal),
-        (shut-reading h.status h.home.cell.who h.home.cell.journal (status-at h r.leads) (gives h.actor) r.settled.lawful r.settled.own.few open_yet
-            not_open, drained.none),
+        (
+          shut-reading h.status h.home.cell.who h.home.cell.journal (status-at h r.leads) (gives h.actor) r.settled.lawful r.settled.own.few open_yet
+              not_open,
+          drained.none,
+        ),
         drained.last,
       )
 

@@ -117,9 +117,11 @@ returns-clause-none g c = sym c.in-None.ensures.dropped ∙ c.in-None.ensures.no
 pub returns-clause-given : goal.returns-clause-given
 returns-clause-given g c =
     let l = c.loop-node.claim in
-    let mid : Contents = c.drop_next.new.self in
-    (ap given_of c.drop_next.ensures.same ∙ ap (λ (r : List (ℕ × SysMsg)). given_of (record l.home.value { rest = r })) (sym c.in-None.ensures.dropped)
-    ∙ c.loop-node.invariant.3, c.loop-node.invariant.4)
+    let mid : Contents = c.drop_next.new.self in (
+      ap given_of c.drop_next.ensures.same ∙ ap (λ (r : List (ℕ × SysMsg)). given_of (record l.home.value { rest = r })) (sym c.in-None.ensures.dropped)
+          ∙ c.loop-node.invariant.3,
+      c.loop-node.invariant.4,
+    )
 
 pub returns-clause-left : goal.returns-clause-left
 returns-clause-left g c = ap (λ (x : Contents). x.cell) c.drop_next.ensures.same ∙ c.loop-node.invariant.5

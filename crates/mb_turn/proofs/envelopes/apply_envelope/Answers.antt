@@ -30,10 +30,12 @@ pub returns-then-not-should_process-clause-goes : goal.returns-then-not-should_p
 returns-then-not-should_process-clause-goes g c = further-none _
 
 pub returns-then-not-should_process-clause-took : goal.returns-then-not-should_process-clause-took
-returns-then-not-should_process-clause-took g c =
-    (refl, why-not-open g.K.Behaviours.gives (origin_of c.args.gates.now) (known_by c.args.waker.now.pass).log (hold_of c.args.claim.now)
-    c.requires.running c.requires.whole
-    (sym (c.should_process.ensures ∙ ap should_process c.status-status.ensures) ∙ c.if-not-should_process.true))
+returns-then-not-should_process-clause-took g c = (
+  refl,
+  why-not-open g.K.Behaviours.gives (origin_of c.args.gates.now) (known_by c.args.waker.now.pass).log (hold_of c.args.claim.now)
+      c.requires.running c.requires.whole
+      (sym (c.should_process.ensures ∙ ap should_process c.status-status.ensures) ∙ c.if-not-should_process.true),
+)
 
 -- ---- there was no room
 
@@ -219,9 +221,10 @@ returns-clause-turning g c =
     let at = turning-keeps old h c.args.turn.now before c.requires.turning in
     let after = keeps-then _ _ _ (keeps-taken _ c.note_taken.new.claim (did.ours, did.actor) did.same.1 did.same.0 did.known did.taken)
     c.carry_out.ensures.same in
-    let word = word_of c.status-status.result in
-    (turning-keeps _ _ _ after (turning-begun h new c.args.turn.now at word begun drained.none),
-    same-keeps _ _ _ (same-run-then _ _ _ before.same (same-begun h new c.args.turn.now at word begun)) after)
+    let word = word_of c.status-status.result in (
+      turning-keeps _ _ _ after (turning-begun h new c.args.turn.now at word begun drained.none),
+      same-keeps _ _ _ (same-run-then _ _ _ before.same (same-begun h new c.args.turn.now at word begun)) after,
+    )
 
 pub returns-in_err-carry_out-clause-turning : goal.returns-in_err-carry_out-clause-turning
 returns-in_err-carry_out-clause-turning g c =
@@ -242,9 +245,10 @@ returns-in_err-carry_out-clause-turning g c =
     let at = turning-keeps old h c.args.turn.now before c.requires.turning in
     let after = keeps-then _ _ _ (keeps-taken _ c.note_taken.new.claim (did.ours, did.actor) did.same.1 did.same.0 did.known did.taken)
     c.carry_out.ensures.same in
-    let word = word_of c.status-status.result in
-    (turning-keeps _ _ _ after (turning-begun h new c.args.turn.now at word begun drained.none),
-    same-keeps _ _ _ (same-run-then _ _ _ before.same (same-begun h new c.args.turn.now at word begun)) after)
+    let word = word_of c.status-status.result in (
+      turning-keeps _ _ _ after (turning-begun h new c.args.turn.now at word begun drained.none),
+      same-keeps _ _ _ (same-run-then _ _ _ before.same (same-begun h new c.args.turn.now at word begun)) after,
+    )
 
 pub returns-in_err-carry_out-clause-full : goal.returns-in_err-carry_out-clause-full
 returns-in_err-carry_out-clause-full g c = λ full. absurd (cc (full, c.in_err-carry_out.ensures.refused))

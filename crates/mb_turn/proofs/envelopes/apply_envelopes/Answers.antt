@@ -50,9 +50,10 @@ returns-then-not-took-clause-ended g c =
     reason-why h c.args.throughput new.envelopes less found.1
 
 pub returns-in_err-apply_systems-clause-turning : goal.returns-in_err-apply_systems-clause-turning
-returns-in_err-apply_systems-clause-turning g c =
-    (c.apply_systems.ensures.turning.0,
-    same-run-then _ _ _ c.loop-handled.invariant.5 (same-run-then _ _ _ c.apply_envelope.ensures.turning.1 c.apply_systems.ensures.turning.1))
+returns-in_err-apply_systems-clause-turning g c = (
+  c.apply_systems.ensures.turning.0,
+  same-run-then _ _ _ c.loop-handled.invariant.5 (same-run-then _ _ _ c.apply_envelope.ensures.turning.1 c.apply_systems.ensures.turning.1),
+)
 
 pub returns-in_err-apply_systems-clause-goes : goal.returns-in_err-apply_systems-clause-goes
 returns-in_err-apply_systems-clause-goes g c =

@@ -133,8 +133,7 @@ returns-in-Err-clause-ran g c =
     run.ensures.running.owes_nothing c.release.ensures.known (known_by c.register.new.self.pass) looks in
     let part = steps-taken (held_actor last) journal (known_of last) (known_by run.new.waker.pass) (known_by c.release.new.pass)
     run.ensures.running.owes_nothing c.release.ensures.known (known_by c.register.new.self.pass) looks in
-    let taken = taken-fresh g.K.Behaviours.gives (origin_of c.args.gates.now) c.args.claim c.requires.untouched in
-    (
+    let taken = taken-fresh g.K.Behaviours.gives (origin_of c.args.gates.now) c.args.claim c.requires.untouched in (
       journal,
       turn,
       leaves-run c.args.throughput c.args.claim last (known_by c.register.new.self.pass) turn NoRoom taken run.ensures.turning.1 run.ensures.turning.0

@@ -10,9 +10,11 @@ use Rattle.mb_turn.proofs.saying.answer.Goals as goal
 pub notify-requires-clause-there : goal.notify-requires-clause-there
 notify-requires-clause-there g c =
     let n = actors_of c.args.gates.now in
-    let all = asker-there n c.args.parent c.args.node c.requires.parent c.requires.named in
-    (subst (λ (o : Option ActorId). IfSome o (λ whom. whom.0 < n))
-    (ap (λ m. asker c.args.parent m) (sym c.msg.ensures) ∙ sym c.asker_of.ensures ∙ c.in-Some.is) all, c.requires.there)
+    let all = asker-there n c.args.parent c.args.node c.requires.parent c.requires.named in (
+      subst (λ (o : Option ActorId). IfSome o (λ whom. whom.0 < n))
+          (ap (λ m. asker c.args.parent m) (sym c.msg.ensures) ∙ sym c.asker_of.ensures ∙ c.in-Some.is) all,
+      c.requires.there,
+    )
 
 pub returns-clause-answered : goal.returns-clause-answered
 returns-clause-answered g c =

@@ -91,10 +91,11 @@ returns-clause-turning g c =
     let keeps = keeps-ready old c.ready.new.self _ _ c.ready.ensures.same in
     let new : Contents = c.apply_next.new.self in
     let a = c.apply_next.ensures.applied in
-    let t = turning-applied h new c.args.turn.now (turning-keeps old h c.args.turn.now keeps c.requires.turning) a in
-    (turning-keeps _ _ _ c.carry_out.ensures.same t,
-    same-keeps old (record h { home = new }) _ (same-run-then old h (record h { home = new }) keeps.same (same-applied h new c.args.turn.now
-    (turning-keeps old h c.args.turn.now keeps c.requires.turning) a)) c.carry_out.ensures.same)
+    let t = turning-applied h new c.args.turn.now (turning-keeps old h c.args.turn.now keeps c.requires.turning) a in (
+      turning-keeps _ _ _ c.carry_out.ensures.same t,
+      same-keeps old (record h { home = new }) _ (same-run-then old h (record h { home = new }) keeps.same (same-applied h new c.args.turn.now
+          (turning-keeps old h c.args.turn.now keeps c.requires.turning) a)) c.carry_out.ensures.same,
+    )
 
 pub returns-clause-full : goal.returns-clause-full
 returns-clause-full g c = λ full. absurd (not-full _ c.carry_out.ensures.refused full)
