@@ -68,10 +68,10 @@ pub(crate) fn answer<A: Actor, K: Behaviours, W: Way<Place<A, K>>, R: Wait>(
     ensures answered { IsAnswered (asker parent node) ended.0 claim.old claim.new }
     ensures goes { GoesFurther (caller_of W.pushed W.refused waker.old) (caller_of W.pushed W.refused waker.new) }
 {
-    let Some(whom) = asker_of(parent, node.msg()) else {
-        return;
-    };
-    notify(rt, gates, waker, claim, whom, ended, node);
+    match asker_of(parent, node.msg()) {
+        Some(whom) => notify(rt, gates, waker, claim, whom, ended, node),
+        None => {}
+    }
 }
 
 // Who waits for an answer to a message that came too late to an actor of this parent: of a Watch the watcher, of a Create the

@@ -45,17 +45,17 @@ loop-act-smaller g c =
 pub returns-clause-running : goal.returns-clause-running
 returns-clause-running g c =
     let new : Contents = c.next_act.new.self in
-    let none : new.cell.acts ≡ [] = sym c.in-None.ensures.taken ∙ c.in-None.ensures.none in
+    let none : new.cell.acts ≡ [] = sym c.in_default.ensures.taken ∙ c.in_default.ensures.none in
     subst (λ l. IsRunning g.K.Behaviours.gives (origin_of c.args.gates.now) l (known_by c.loop-act.waker.pass).log
     (record (hold_of c.loop-act.claim) { home = new })) none
     (running-next (hold_of c.loop-act.claim) new c.next_act.ensures.same g.K.Behaviours.gives (origin_of c.args.gates.now)
-    (known_by c.loop-act.waker.pass).log new.cell.acts c.in-None.ensures.taken c.in-None.ensures.settled c.loop-act.invariant.1)
+    (known_by c.loop-act.waker.pass).log new.cell.acts c.in_default.ensures.taken c.in_default.ensures.settled c.loop-act.invariant.1)
 
 pub returns-clause-beside : goal.returns-clause-beside
 returns-clause-beside g c = beside-next (hold_of c.loop-act.claim) c.next_act.new.self c.next_act.ensures.same c.loop-act.invariant.2
 
 pub returns-clause-carried_out : goal.returns-clause-carried_out
-returns-clause-carried_out g c = sym c.in-None.ensures.taken ∙ c.in-None.ensures.none
+returns-clause-carried_out g c = sym c.in_default.ensures.taken ∙ c.in_default.ensures.none
 
 pub returns-clause-same : goal.returns-clause-same
 returns-clause-same g c =

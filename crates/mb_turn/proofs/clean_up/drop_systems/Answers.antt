@@ -109,16 +109,16 @@ returns-clause-running g c =
     let same = c.drop_next.ensures.same in
     running-within g.K.Behaviours.gives (origin_of c.args.gates.now) (known_by c.loop-node.waker.pass).log (hold_of l) c.loop-node.invariant.2 mid
     (ap (λ (x : Contents). x.cell) same) (ap (λ (x : Contents). x.roll) same) (ap (λ (x : Contents). x.dead) same) c.drop_next.ensures.settled
-    (sym c.in-None.ensures.dropped)
+    (sym c.in_default.ensures.dropped)
 
 pub returns-clause-none : goal.returns-clause-none
-returns-clause-none g c = sym c.in-None.ensures.dropped ∙ c.in-None.ensures.none
+returns-clause-none g c = sym c.in_default.ensures.dropped ∙ c.in_default.ensures.none
 
 pub returns-clause-given : goal.returns-clause-given
 returns-clause-given g c =
     let l = c.loop-node.claim in
     let mid : Contents = c.drop_next.new.self in (
-      ap given_of c.drop_next.ensures.same ∙ ap (λ (r : List (ℕ × SysMsg)). given_of (record l.home.value { rest = r })) (sym c.in-None.ensures.dropped)
+      ap given_of c.drop_next.ensures.same ∙ ap (λ (r : List (ℕ × SysMsg)). given_of (record l.home.value { rest = r })) (sym c.in_default.ensures.dropped)
           ∙ c.loop-node.invariant.3,
       c.loop-node.invariant.4,
     )

@@ -16,15 +16,15 @@ notify-requires-clause-there g c =
       c.requires.there,
     )
 
-pub returns-clause-answered : goal.returns-clause-answered
-returns-clause-answered g c =
+pub returns-in-Some-clause-answered : goal.returns-in-Some-clause-answered
+returns-in-Some-clause-answered g c =
     subst (λ (o : Option ActorId). IsAnswered o c.args.ended.0 c.args.claim.now c.notify.new.claim)
     (sym (ap (λ m. asker c.args.parent m) (sym c.msg.ensures) ∙ sym c.asker_of.ensures ∙ c.in-Some.is)) c.notify.ensures.told
 
-pub returns-in_default-clause-answered : goal.returns-in_default-clause-answered
-returns-in_default-clause-answered g c =
+pub returns-in-None-clause-answered : goal.returns-in-None-clause-answered
+returns-in-None-clause-answered g c =
     subst (λ (o : Option ActorId). IsAnswered o c.args.ended.0 c.args.claim.now c.args.claim.now)
-    (sym (ap (λ m. asker c.args.parent m) (sym c.msg.ensures) ∙ sym c.asker_of.ensures ∙ c.in_default.is)) refl
+    (sym (ap (λ m. asker c.args.parent m) (sym c.msg.ensures) ∙ sym c.asker_of.ensures ∙ c.in-None.is)) refl
 
-pub returns-in_default-clause-goes : goal.returns-in_default-clause-goes
-returns-in_default-clause-goes g c = further-none _
+pub returns-in-None-clause-goes : goal.returns-in-None-clause-goes
+returns-in-None-clause-goes g c = further-none _
