@@ -20,7 +20,8 @@ use Rattle.mb_turn.proofs.run.run_mailbox.Goals as goal
 
 pub run_claim-requires-clause-running : goal.run_claim-requires-clause-running
 run_claim-requires-clause-running g c =
-    running-fresh g.K.Behaviours.gives (origin_of c.args.gates.now) c.args.claim c.requires.untouched (known_by c.args.waker.now.pass).log c.requires.many
+    running-fresh g.K.Behaviours.gives (origin_of c.args.gates.now) c.args.claim c.requires.untouched
+    (known_by c.args.waker.now.pass).log c.requires.many
 
 pub run_claim-requires-clause-beside : goal.run_claim-requires-clause-beside
 run_claim-requires-clause-beside g c =
@@ -76,8 +77,9 @@ returns-in-Ok-clause-goes g c =
     let run = c.run_claim-outcome in
     let last = run.new.claim in
     let here : c.actor-actor.result.0 ≡ held_actor last = c.actor-actor.ensures ∙ sym run.ensures.turning.1.actor in
-    leaves-caller (held_actor last) last.home.value.cell.journal (known_of last) (known_by c.release.new.pass) _ _ _ run.ensures.running.owes_nothing
-    c.release.ensures.known (subst (λ n. LooksAfter n (known_by c.release.new.pass) (known_by c.register.new.self.pass)) here c.register.ensures.looks)
+    leaves-caller (held_actor last) last.home.value.cell.journal (known_of last) (known_by c.release.new.pass) _ _ _
+    run.ensures.running.owes_nothing c.release.ensures.known
+    (subst (λ n. LooksAfter n (known_by c.release.new.pass) (known_by c.register.new.self.pass)) here c.register.ensures.looks)
     run.ensures.goes (account-woken c.actor-actor.result.0 _ _ c.register.result c.register.ensures.woken)
     (subst (λ n. IsPaid n (caller_of g.W.Way.pushed g.W.Way.refused c.register.new.self)) here c.register.ensures.paid)
 
@@ -86,8 +88,9 @@ returns-in-Err-clause-goes g c =
     let run = c.run_claim-outcome in
     let last = run.new.claim in
     let here : c.actor-actor.result.0 ≡ held_actor last = c.actor-actor.ensures ∙ sym run.ensures.turning.1.actor in
-    leaves-caller (held_actor last) last.home.value.cell.journal (known_of last) (known_by c.release.new.pass) _ _ _ run.ensures.running.owes_nothing
-    c.release.ensures.known (subst (λ n. LooksAfter n (known_by c.release.new.pass) (known_by c.register.new.self.pass)) here c.register.ensures.looks)
+    leaves-caller (held_actor last) last.home.value.cell.journal (known_of last) (known_by c.release.new.pass) _ _ _
+    run.ensures.running.owes_nothing c.release.ensures.known
+    (subst (λ n. LooksAfter n (known_by c.release.new.pass) (known_by c.register.new.self.pass)) here c.register.ensures.looks)
     run.ensures.goes (account-woken c.actor-actor.result.0 _ _ c.register.result c.register.ensures.woken)
     (subst (λ n. IsPaid n (caller_of g.W.Way.pushed g.W.Way.refused c.register.new.self)) here c.register.ensures.paid)
 
@@ -106,7 +109,8 @@ returns-in-Ok-clause-ran g c =
     let turn = run.new.turn in
     let journal = last.home.value.cell.journal in
     let here : c.actor-actor.result.0 ≡ held_actor last = c.actor-actor.ensures ∙ sym run.ensures.turning.1.actor in
-    let looks = subst (λ n. LooksAfter n (known_by c.release.new.pass) (known_by c.register.new.self.pass)) here c.register.ensures.looks in
+    let looks =
+    subst (λ n. LooksAfter n (known_by c.release.new.pass) (known_by c.register.new.self.pass)) here c.register.ensures.looks in
     let saw = saw-journal (held_actor last) journal (known_of last) (known_by run.new.waker.pass) (known_by c.release.new.pass)
     run.ensures.running.owes_nothing c.release.ensures.known (known_by c.register.new.self.pass) looks in
     let part = steps-taken (held_actor last) journal (known_of last) (known_by run.new.waker.pass) (known_by c.release.new.pass)
@@ -128,7 +132,8 @@ returns-in-Err-clause-ran g c =
     let turn = run.new.turn in
     let journal = last.home.value.cell.journal in
     let here : c.actor-actor.result.0 ≡ held_actor last = c.actor-actor.ensures ∙ sym run.ensures.turning.1.actor in
-    let looks = subst (λ n. LooksAfter n (known_by c.release.new.pass) (known_by c.register.new.self.pass)) here c.register.ensures.looks in
+    let looks =
+    subst (λ n. LooksAfter n (known_by c.release.new.pass) (known_by c.register.new.self.pass)) here c.register.ensures.looks in
     let saw = saw-journal (held_actor last) journal (known_of last) (known_by run.new.waker.pass) (known_by c.release.new.pass)
     run.ensures.running.owes_nothing c.release.ensures.known (known_by c.register.new.self.pass) looks in
     let part = steps-taken (held_actor last) journal (known_of last) (known_by run.new.waker.pass) (known_by c.release.new.pass)

@@ -21,8 +21,8 @@ keep-requires-clause-none_left g c = ap (λ (b : Box Contents). b.value.rest) c.
 pub keep-requires-clause-goes_on : goal.keep-requires-clause-goes_on
 keep-requires-clause-goes_on g c =
     let did = c.sys_drain-drained.ensures in
-    drained-from c.args.claim.now c.sys_drain-drained.new.claim did.ours did.same did.taken did.recorded c.sys_drain-drained.result did.given did.known
-    did.gave (record c.sys_drain-drained.new.claim.home.value { rest = c.sys_drain-drained.result }) refl c.requires.beside.count did.numbers
+    drained-from c.args.claim.now c.sys_drain-drained.new.claim did.ours did.same did.taken did.recorded c.sys_drain-drained.result did.given
+    did.known did.gave (record c.sys_drain-drained.new.claim.home.value { rest = c.sys_drain-drained.result }) refl c.requires.beside.count did.numbers
 
 pub keep-requires-clause-settled : goal.keep-requires-clause-settled
 keep-requires-clause-settled g c =
@@ -36,15 +36,15 @@ keep-requires-clause-settled g c =
 pub returns-clause-running : goal.returns-clause-running
 returns-clause-running g c =
     let did = c.sys_drain-drained.ensures in
-    λ seen r. running-drain c.args.claim.now c.sys_drain-drained.new.claim did.ours did.same did.taken did.recorded c.sys_drain-drained.result did.given
-    did.known did.gave c.keep.new.self c.keep.ensures.kept g.K.Behaviours.gives (origin_of c.args.gates.now) seen c.requires.carried_out
+    λ seen r. running-drain c.args.claim.now c.sys_drain-drained.new.claim did.ours did.same did.taken did.recorded c.sys_drain-drained.result
+    did.given did.known did.gave c.keep.new.self c.keep.ensures.kept g.K.Behaviours.gives (origin_of c.args.gates.now) seen c.requires.carried_out
     c.keep.ensures.settled did.named r
 
 pub returns-clause-beside : goal.returns-clause-beside
 returns-clause-beside g c =
     let did = c.sys_drain-drained.ensures in
-    beside-drained c.args.claim.now c.sys_drain-drained.new.claim did.ours did.same did.taken did.recorded c.sys_drain-drained.result did.given did.known
-    did.gave c.keep.new.self c.keep.ensures.kept c.requires.rested c.requires.not_closed c.requires.beside.count
+    beside-drained c.args.claim.now c.sys_drain-drained.new.claim did.ours did.same did.taken did.recorded c.sys_drain-drained.result did.given
+    did.known did.gave c.keep.new.self c.keep.ensures.kept c.requires.rested c.requires.not_closed c.requires.beside.count
 
 pub returns-clause-left : goal.returns-clause-left
 returns-clause-left g c =
@@ -53,11 +53,11 @@ returns-clause-left g c =
 pub returns-clause-same : goal.returns-clause-same
 returns-clause-same g c =
     let did = c.sys_drain-drained.ensures in
-    keeps-drained c.args.claim.now c.sys_drain-drained.new.claim did.ours did.same did.taken did.recorded c.sys_drain-drained.result did.given did.known
-    did.gave c.keep.new.self c.keep.ensures.kept
+    keeps-drained c.args.claim.now c.sys_drain-drained.new.claim did.ours did.same did.taken did.recorded c.sys_drain-drained.result did.given
+    did.known did.gave c.keep.new.self c.keep.ensures.kept
 
 pub returns-clause-drained : goal.returns-clause-drained
 returns-clause-drained g c =
     let did = c.sys_drain-drained.ensures in
-    λ nothing. is-drained c.args.claim.now c.sys_drain-drained.new.claim did.ours did.same did.taken did.recorded c.sys_drain-drained.result did.given
-    did.known did.gave c.keep.new.self c.keep.ensures.kept c.requires.rested (c.is_empty.ensures.0 (not-false _ nothing))
+    λ nothing. is-drained c.args.claim.now c.sys_drain-drained.new.claim did.ours did.same did.taken did.recorded c.sys_drain-drained.result
+    did.given did.known did.gave c.keep.new.self c.keep.ensures.kept c.requires.rested (c.is_empty.ensures.0 (not-false _ nothing))
