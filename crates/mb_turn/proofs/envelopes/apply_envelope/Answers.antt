@@ -151,8 +151,8 @@ returns-then-not-apply_envelope-clause-took g c =
 
 -- ---- one was
 
-pub overflow_add-envelopes : goal.overflow_add-envelopes
-overflow_add-envelopes g c =
+pub overflow_add-turn : goal.overflow_add-turn
+overflow_add-turn g c =
     let few = envelopes-fit _ _ _ (hold_of c.args.claim.now) [] c.args.turn.now c.requires.running c.requires.turning in omega (arith, few)
 
 pub note_taken-requires-clause-ours : goal.note_taken-requires-clause-ours

@@ -54,8 +54,8 @@ apply_next-requires-clause-settled g c =
     let own = subst (λ n. IsSettled (g.K.Behaviours.gives n) [] h.home) (sym c.requires.running.number) c.requires.running.settled in
     c.ready.ensures.settled [] own
 
-pub overflow_add-system : goal.overflow_add-system
-overflow_add-system g c =
+pub overflow_add-turn : goal.overflow_add-turn
+overflow_add-turn g c =
     let few = systems-fit _ _ _ (hold_of c.args.claim.now) [] c.args.turn.now c.requires.running c.requires.turning in omega (arith, few)
 
 pub carry_out-requires-clause-running : goal.carry_out-requires-clause-running
