@@ -1,5 +1,5 @@
 -- A claim that was just taken is a run's to begin with.
-use Rattle.std.proofs.Common.{◌≡◌, inl, ℕ, ◌+◌, true, false, List, [], ◌∷◌, length, Some, refl, sym, ap, ◌∙◌, subst}
+use Rattle.std.proofs.Common.{◌≡◌, inl, ℕ, ◌+◌, true, false, List, [], ◌∷◌, length, Some, refl, sym, ap, ◌∙◌, subst, arith}
 use Rattle.std.specs.Prelude.{MatchBool}
 use Rattle.std.specs.Global.{Box}
 use Rattle.mb_actor.specs.Behaviour.{Moment, Reply}
@@ -106,6 +106,6 @@ module _ (gives : ℕ → Moment → Reply → Type 0) (origin : Origin (Box Con
           turns =
               subst (λ n. IsTurns c.home.value.cell.who c.home.value.cell.journal n c.home.value.cell.journal) (sym envelopes)
               (a_block c.home.value.cell.journal no_more);
-          system = ap (λ n. n + systems_in c.home.value.cell.journal) system;
+          system = omega (arith, system);
           actor = actor;
         })
