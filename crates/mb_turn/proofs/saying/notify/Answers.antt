@@ -13,7 +13,7 @@ sys_enqueue_in_run-requires-clause-named g c = subst (NamesBelow (actors_of c.ar
 
 pub returns-clause-told : goal.returns-clause-told
 returns-clause-told g c =
-    notified c.args.whom.0 c.args.ended.0 c.set.new.node (is_err c.sys_enqueue_in_run.result) c.args.claim.now c.sys_enqueue_in_run.new.claim
+    notified c.args.whom.0 c.args.ended.0 c.set.new.self (is_err c.sys_enqueue_in_run.result) c.args.claim.now c.sys_enqueue_in_run.new.claim
     c.set.ensures c.sys_enqueue_in_run.ensures.recorded
 
 pub returns-clause-goes : goal.returns-clause-goes
@@ -22,12 +22,12 @@ returns-clause-goes g c =
     let a = known_by c.args.waker.now.pass in let b = known_by c.sys_enqueue_in_run.new.pass in let d = known_by c.register.new.self.pass in
     further-moves id _ _
     (moves-does id _ _ a d
-    (does-then id _ _ a b d (does-enlisting id c.in-Ok.field-0 c.set.new.node a b c.in-Ok.ensures.listed) c.register.ensures.looks))
+    (does-then id _ _ a b d (does-enlisting id c.in-Ok.field-0 c.set.new.self a b c.in-Ok.ensures.listed) c.register.ensures.looks))
     (account-woken id _ _ c.register.result c.register.ensures.woken) c.register.ensures.paid
 
 pub returns-in_default-clause-told : goal.returns-in_default-clause-told
 returns-in_default-clause-told g c =
-    notified c.args.whom.0 c.args.ended.0 c.set.new.node (is_err c.sys_enqueue_in_run.result) c.args.claim.now c.sys_enqueue_in_run.new.claim
+    notified c.args.whom.0 c.args.ended.0 c.set.new.self (is_err c.sys_enqueue_in_run.result) c.args.claim.now c.sys_enqueue_in_run.new.claim
     c.set.ensures c.sys_enqueue_in_run.ensures.recorded
 
 pub returns-in_default-clause-goes : goal.returns-in_default-clause-goes
