@@ -19,3 +19,4 @@ pub mod Leaving
 pub mod RecordLemmas
 pub mod KnownLemmas
 pub mod NamedLemmas
+pub mod Crossing
