@@ -85,7 +85,7 @@ module _ {H : Type 0} (is_of : ℕ → H → Type 0) (journal : H → List Entry
       → is_of actor home × (x.row Status ≡ word_of (mailbox home))
   its_own actor x None kept home there =
       let same : kept.home ≡ home = same_home kept.home home (some-injective (Home kept.home) (Home home)
-          (some-injective (some (Home kept.home)) (some (Home home)) (sym kept.there ∙ there))) in
+      (some-injective (some (Home kept.home)) (some (Home home)) (sym kept.there ∙ there))) in
       (subst (is_of actor) same kept.own, kept.word ∙ ap (λ (h : H). word_of (mailbox h)) same)
   its_own actor x (Some h) kept home there = absurd (not_home x home kept.out there)
 

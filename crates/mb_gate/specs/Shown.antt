@@ -60,9 +60,9 @@ ShowsClaims {H} is_of journal mailbox rested given_by closed_to =
     → actor < n →
     (let x = spot_of word_offset slot_offset s r.ghosts actor in
     ((p : ℕ) (v : View) (claim : Held) → get_elem? s.views p ≡ some v → claim_for actor v ≡ Some claim
-        → (holder_of x.ghost.holder ≡ Some p) × (x.row Status ≡ claim.word))
+    → (holder_of x.ghost.holder ≡ Some p) × (x.row Status ≡ claim.word))
     × ((p : ℕ) → holder_of x.ghost.holder ≡ Some p
-        → (v : View) × (claim : Held) × (get_elem? s.views p ≡ some v) × (claim_for actor v ≡ Some claim))
+    → (v : View) × (claim : Held) × (get_elem? s.views p ≡ some v) × (claim_for actor v ≡ Some claim))
     × (IsNone (holder_of x.ghost.holder) ↔ IsAtHome x)
     × ((home : H) → x.slot CellShelf ≡ some (some (Home home)) → is_of actor home × (x.row Status ≡ word_of (mailbox home))))
 
