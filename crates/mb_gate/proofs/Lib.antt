@@ -15,6 +15,7 @@ pub mod Rows
 pub mod Starting
 pub mod ListCalls
 pub mod Shows
+pub mod Claimed
 pub mod Leaving
 pub mod RecordLemmas
 pub mod KnownLemmas

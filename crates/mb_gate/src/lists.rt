@@ -25,9 +25,8 @@ use crate::view::Knowledge;
 use atomic_table::Seat;
 use mb_msg::{ActorId, SysMsg};
 use mb_syslist::{Chain, ListClosed, Node, SysList};
-use std::mem;
 use std::sync::Wait;
-use std::thread;
+use std::{mem, thread};
 
 // Something is listed.
 fn with_listed_bit(word: u64) -> u64
