@@ -1,7 +1,8 @@
 -- How the books of a cell are kept, with room for what one message may add.
-use Rattle.std.specs.Prelude.{◌≡◌, ℕ, ◌+◌, ◌*◌, ◌≤◌, true, false, vec_len, vec_capacity}
+use Rattle.std.specs.Prelude.{◌≡◌, ℕ, ◌+◌, ◌*◌, ◌≤◌, true, vec_len, vec_capacity}
 use Rattle.mb_books.specs.BooksRecord.{Books}
 use Rattle.mb_books.specs.declared.books.Books.TheInside.{Inside}
+use Rattle.mb_books.specs.declared.left.Left.TheVariants.{Nothing, Lists, All}
 
 -- what the fields show
 abbrev pub books_of_fields : Inside → Books
@@ -26,18 +27,24 @@ books_of_fields b = record {
 abbrev pub most_acts : (children watchers watching fanout : ℕ) → ℕ
 most_acts children watchers watching fanout = 2 * children + watchers + watching + fanout + 40
 
--- room for what one message may add
-pub record HasRoom (b : Inside) : Type 0 where
+-- room for what one message may add to the lists
+pub record HasListRoom (b : Inside) : Type 0 where
   pub children : vec_len b.children + (16 + b.fanout) ≤ vec_capacity b.children
   pub watchers : vec_len b.watchers + 1 ≤ vec_capacity b.watchers
   pub watching : vec_len b.watching + 16 ≤ vec_capacity b.watching
   pub due : vec_len b.due + 1 ≤ vec_capacity b.due
   pub aside : vec_len b.aside + 1 ≤ vec_capacity b.aside
   pub retries : vec_len b.retries + (vec_len b.children + 1) ≤ vec_capacity b.retries
+
+-- and to the acts
+pub record HasRoom (b : Inside) : Type 0 where
+  pub lists : HasListRoom b
   pub acts : most_acts (vec_len b.children) (vec_len b.watchers) (vec_len b.watching) b.fanout ≤ b.acts.room
 
--- books that are ready have room, and so have those whose last message used none of it
+-- books that are ready have room, and so have those whose last message used none of it; where it used the room for acts
+-- alone, the lists have room; what is left is taken up once they are ready
 pub record IsBooks (b : Inside) : Type 0 where
   pub room : b.ready ≡ true → HasRoom b
-  pub left : b.unused ≡ true → HasRoom b
-  pub taken_up : b.ready ≡ true → b.unused ≡ false
+  pub all : b.left ≡ All → HasRoom b
+  pub lists : b.left ≡ Lists → HasListRoom b
+  pub taken_up : b.ready ≡ true → b.left ≡ Nothing

@@ -5,3 +5,4 @@ pub mod Place
 pub mod Queue
 pub mod Requests
 pub mod Rows
+pub mod Tells

@@ -60,6 +60,7 @@ impl ActQueue {
     /// Makes room for so many acts, if it is not there.
     ///
     /// It answers `AllocError` if memory was refused. Nothing has changed then.
+    #[inline]
     pub(crate) fn make_room(&mut self, most: usize) -> Result<(), AllocError>
         requires small { most < 2 ^ 48 }
         ensures room { OnOk result (most ≤ self.new.room) }
@@ -70,6 +71,23 @@ impl ActQueue {
         if most <= self.room {
             return Ok(());
         }
+        let waiting = self.tasks.len() - self.next;
+        if most <= self.tasks.capacity() - self.tasks.len() && most <= self.nodes.len() - waiting {
+            self.room = most;
+            return Ok(());
+        }
+        self.grow(most)
+    }
+
+    /// Makes places and nodes for so many acts.
+    #[inline(never)]
+    fn grow(&mut self, most: usize) -> Result<(), AllocError>
+        requires small { most < 2 ^ 48 }
+        requires more { self.old.room < most }
+        ensures room { OnOk result (self.new.room ≡ most) }
+        ensures same { self.new.acts ≡ self.old.acts }
+        ensures err { OnErr result (self.new ≡ self.old) }
+    {
         self.tasks.reserve(most)?;
         let waiting = self.tasks.len() - self.next;
         make_nodes(self.alloc, &mut self.nodes, waiting + most)?;

@@ -2,6 +2,7 @@ ghost use Rattle.std.specs.Prelude.{◌≡◌, ◌+◌, ◌<◌, ◌≤◌, ◌^
 ghost use Rattle.mb_actor.specs.ActorList.{has as holds};
 ghost use Rattle.mb_journal.specs.Life.{is_empty, is_alone};
 ghost use Rattle.mb_books.specs.ActQueue.{act_of};
+ghost use Rattle.mb_books.specs.Books.{most_acts as acts_of};
 
 pub(crate) mod aside;
 mod create;
@@ -18,6 +19,7 @@ mod watch;
 use crate::act::Act;
 use crate::act_queue::ActQueue;
 use crate::actor_list::has;
+use crate::left::Left;
 use mb_actor::Phase;
 use mb_journal::FailedBy;
 use mb_msg::limits::EFFECTS;
@@ -42,8 +44,7 @@ pub struct Books {
     acts: ActQueue,
     fanout: usize,
     ready: bool,
-    /// Whether the room that was made is there still, since the message that came used none of it.
-    unused: bool,
+    left: Left,
 }
 
 impl Model for Books {
@@ -92,7 +93,7 @@ impl Books {
             acts: ActQueue::new(alloc),
             fanout,
             ready: false,
-            unused: false,
+            left: Left::Nothing,
         }
     }
 
@@ -113,12 +114,19 @@ impl Books {
         if self.ready {
             return Ok(());
         }
-        if self.unused {
-            self.unused = false;
-            self.ready = true;
-            return Ok(());
+        match self.left {
+            Left::Nothing => return self.reserve(),
+            Left::Lists => self.acts.make_room(most_acts(
+                self.children.len(),
+                self.watchers.len(),
+                self.watching.len(),
+                self.fanout,
+            ))?,
+            Left::All => {}
         }
-        self.reserve()
+        self.left = Left::Nothing;
+        self.ready = true;
+        Ok(())
     }
 
     /// Makes room in each list and for the acts.
@@ -132,16 +140,19 @@ impl Books {
         ensures ok { OnOk result (self.new ≡ record self.old { is_ready = true }) }
         ensures err { OnErr result (self.new ≡ self.old) }
     {
-        self.unused = false;
+        self.left = Left::Nothing;
         self.children.reserve(EFFECTS + self.fanout)?;
         self.watchers.reserve(1)?;
         self.watching.reserve(EFFECTS)?;
         self.due.reserve(1)?;
         self.aside.reserve(1)?;
         self.retries.reserve(self.children.len() + 1)?;
-        self.acts.make_room(
-            2 * self.children.len() + self.watchers.len() + self.watching.len() + self.fanout + 40,
-        )?;
+        self.acts.make_room(most_acts(
+            self.children.len(),
+            self.watchers.len(),
+            self.watching.len(),
+            self.fanout,
+        ))?;
         self.ready = true;
         Ok(())
     }
@@ -220,4 +231,16 @@ impl Books {
     {
         has(&self.due, id)
     }
+}
+
+/// How many acts one message can have, with so many children, watchers and watched actors, and where a start starts so many
+/// children.
+fn most_acts(children: usize, watchers: usize, watching: usize, fanout: usize) -> usize
+    requires few_children { children < 2 ^ 44 }
+    requires few_watchers { watchers < 2 ^ 44 }
+    requires few_watched { watching < 2 ^ 44 }
+    requires small_fanout { fanout < 2 ^ 44 }
+    ensures { result ≡ acts_of children watchers watching fanout }
+{
+    2 * children + watchers + watching + fanout + 40
 }

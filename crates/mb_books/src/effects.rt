@@ -1,9 +1,11 @@
 //! The effects that an actor asked for in a call are carried out, one after another.
 
 ghost use Rattle.std.specs.Prelude.{◌≡◌, ◌+◌, ◌≤◌, ◌<◌, [], ◌∷◌, ◌++◌, length, vec_len, vec_capacity};
+ghost use Rattle.std.specs.List.{list_all};
 ghost use Rattle.mb_actor.specs.Tray.{spawns_of};
 ghost use Rattle.mb_journal.specs.Acts.{effect_acts, stop_acts};
 ghost use Rattle.mb_journal.specs.Watching.{watching_after, due_after};
+ghost use Rattle.mb_books.specs.Tells.{is_tell};
 
 use crate::act_queue::{ActQueue, Task};
 use crate::actor_list::{has, join, leave};
@@ -34,9 +36,16 @@ pub(crate) fn carry_out(
     }
 }
 
-/// Carries out the effects of a call of `stop`: its tells, control messages too, and nothing else.
+/// Whether nothing is asked for but tells, of control messages too.
+pub(crate) fn are_tells(effects: &[Effect]) -> bool
+    ensures { result ≡ list_all is_tell effects.now }
+{
+    effects.iter().all(|effect| matches!(effect, Effect::Tell { .. } | Effect::Control { .. }))
+}
+
+/// Carries out the tells, of control messages too, and nothing else: so it is with the effects of a call of `stop`.
 #[tactic(auto, unfolding(mb_journal::specs::Acts::stop_acts))]
-pub(crate) fn carry_out_last(effects: &[Effect], acts: &mut ActQueue)
+pub(crate) fn carry_out_tells(effects: &[Effect], acts: &mut ActQueue)
     requires room { length effects.now ≤ acts.old.room }
     ensures acts { acts.new.acts ≡ acts.old.acts ++ stop_acts effects.now }
     ensures few_acts { acts.old.room ≤ acts.new.room + length effects.now }

@@ -6,7 +6,7 @@ ghost use Rattle.mb_journal.specs.ActorList.{without};
 ghost use Rattle.mb_books.specs.Place.{identity_of};
 
 use crate::act_queue::{ActQueue, Task};
-use crate::effects::carry_out_last;
+use crate::effects::carry_out_tells;
 use crate::place::Place;
 use mb_actor::Effect;
 use mb_msg::{ActorId, SysMsg};
@@ -17,7 +17,7 @@ pub(crate) fn end(place: &Place, watchers: &[ActorId], effects: &[Effect], acts:
     requires room { length effects.now + length watchers.now + 2 ≤ acts.old.room }
     ensures acts { acts.new.acts ≡ acts.old.acts ++ end_acts (identity_of place.now 0) watchers.now effects.now }
 {
-    carry_out_last(effects, acts);
+    carry_out_tells(effects, acts);
     acts.push(Task::CloseSelf);
     let died = SysMsg::Died(place.this);
     match place.parent {

@@ -11,6 +11,7 @@ mod books;
 mod effects;
 mod end;
 mod fail;
+mod left;
 mod place;
 mod retries;
 

@@ -8,8 +8,9 @@ ghost use Rattle.mb_books.specs.Rows.{due_told, handled, poisoned, let_go};
 use crate::act_queue::Task;
 use crate::actor_list::leave;
 use crate::books::Books;
-use crate::effects::carry_out;
+use crate::effects::{are_tells, carry_out, carry_out_tells};
 use crate::fail::fail;
+use crate::left::Left;
 use crate::place::Place;
 use mb_actor::{Answer, Effect};
 use mb_journal::FailedBy;
@@ -25,12 +26,17 @@ impl Books {
         requires few { length effects.now ≤ most_effects }
         ensures { self.new ≡ handled (identity_of place.now 0) body answer effects.now self.old }
     {
-        if uses_nothing(body, answer, effects) {
-            self.ready = false;
-            self.unused = true;
-        } else {
+        if !is_calm(body, answer) || !are_tells(effects) {
             self.handle_all(place, body, answer, effects);
+            return;
         }
+        self.ready = false;
+        if effects.is_empty() {
+            self.left = Left::All;
+            return;
+        }
+        self.left = Left::Lists;
+        carry_out_tells(effects, &mut self.acts);
     }
 
     /// The same, whatever it uses of the room that was made.
@@ -88,18 +94,18 @@ impl Books {
     }
 }
 
-/// Whether a message with this body, answered so and with these effects, changes nothing that is kept beside the journal,
-/// and asks for nothing: most messages do.
-fn uses_nothing(body: Body, answer: Option<Answer>, effects: &[Effect]) -> bool
+/// Whether a message with this body, answered so, is no failure and tells of no end: most messages are such.
+fn is_calm(body: Body, answer: Option<Answer>) -> bool
     ensures calm { IsTrue result → cause_of body answer ≡ None }
     ensures same_due { IsTrue result → (list : List ActorId) → due_told body list ≡ list }
-    ensures no_effects { IsTrue result → effects.now ≡ [] }
 {
-    match (body, answer, effects) {
-        (Body::User { .. } | Body::Control { .. }, Some(Answer::Handled | Answer::Unhandled), []) =>
-            true,
-        _ => false,
-    }
+    matches!(
+        (body, answer),
+        (
+            Body::User { .. } | Body::Control { .. },
+            Some(Answer::Handled | Answer::Unhandled)
+        )
+    )
 }
 
 /// Why an actor fails that was given this and answered so, if it does.

@@ -3,6 +3,7 @@ ghost use Rattle.mb_books.specs.Rows.{passed_by};
 
 use crate::books::Books;
 use crate::books::aside::forget;
+use crate::left::Left;
 
 impl Books {
     /// A message that does nothing.
@@ -11,6 +12,6 @@ impl Books {
     {
         forget(&mut self.aside, number);
         self.ready = false;
-        self.unused = false;
+        self.left = Left::Nothing;
     }
 }

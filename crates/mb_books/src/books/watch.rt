@@ -4,6 +4,7 @@ ghost use Rattle.mb_books.specs.Rows.{watched_by, no_longer_watched_by};
 use crate::actor_list::{join, leave};
 use crate::books::Books;
 use crate::books::aside::forget;
+use crate::left::Left;
 use mb_msg::ActorId;
 
 impl Books {
@@ -25,7 +26,7 @@ impl Books {
     {
         forget(&mut self.aside, number);
         self.ready = false;
-        self.unused = false;
+        self.left = Left::Nothing;
         leave(&mut self.watchers, watcher);
     }
 }

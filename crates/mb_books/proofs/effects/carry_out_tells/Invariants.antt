@@ -1,6 +1,6 @@
 use Rattle.std.proofs.Common.{◌≡◌, ◌+◌, ◌≤◌, ◌++◌, drop}
 use Rattle.mb_journal.specs.Acts.{stop_acts}
-use Rattle.mb_books.proofs.effects.carry_out_last.Given as goal
+use Rattle.mb_books.proofs.effects.carry_out_tells.Given as goal
 
 abbrev pub invariant-loop-effect : goal.invariant-loop-effect
 invariant-loop-effect l = record {
