@@ -6,7 +6,7 @@ use mb_actor::{Actor, Answer, Message, Outbox};
 use mb_msg::Cause;
 
 /// Adds up the values that it gets, held at the ends of 64 bits.
-#[derive(Drop)]
+#[derive(Clone, Copy)]
 pub struct Adder {
     sum: i64,
 }

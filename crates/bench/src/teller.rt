@@ -7,7 +7,7 @@ use mb_actor::{Actor, Answer, Message, Outbox};
 use mb_msg::Cause;
 
 /// Adds up the values that it gets, held at the ends of 64 bits, and tells itself each of them.
-#[derive(Drop)]
+#[derive(Clone, Copy)]
 pub struct Teller {
     sum: i64,
 }
