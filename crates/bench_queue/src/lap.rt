@@ -1,27 +1,39 @@
 //! How queues are timed.
+ghost use denote.Param.Send.{IsSync};
+
 use std::alloc::{AllocError, Global};
 use std::io;
 use std::sync::Wait;
 use std::thread::Threads;
 use std::time::{Clock, Instant};
 
-/// How many laps are timed, and how many pushes and takes a lap has.
+/// How many laps are timed, how many pushes and takes a lap has, and whether the pushes have a thread of their own.
 #[derive(Clone, Copy)]
 pub struct Course {
     laps: u64,
-    rounds: u64,
+    pub rounds: u64,
+    pub is_paired: bool,
 }
 
 /// On one thread a lap is so short that little falls into it.
 pub const ALONE: Course = Course {
     laps: 400,
     rounds: 1_000,
+    is_paired: false,
+};
+
+/// A lap of two threads starts one, and is so long that this counts for little.
+pub const PAIRED: Course = Course {
+    laps: 20,
+    rounds: 50_000,
+    is_paired: true,
 };
 
 /// A queue that laps can be timed on.
 pub trait Lapped: Drop {
     /// So many pushes and takes. It gives itself back and how many were taken.
-    fn lap<R: Threads + Wait + Sync>(self, rt: &R, rounds: u64) -> (Self, u64);
+    fn lap<R: Threads + Wait + Sync>(self, rt: &R, course: Course) -> (Self, u64)
+        requires shared { IsSync R.row };
 }
 
 /// How many were taken in all, and the nanoseconds of each lap.
@@ -58,11 +70,11 @@ impl Laps {
 fn timed<R: Clock + Threads + Wait + Sync, Q: Lapped>(
     rt: &R,
     queue: Q,
-    rounds: u64,
+    course: Course,
     laps: &mut Laps,
 ) -> Result<Q, AllocError> {
     let begin = Instant::now(rt).ok();
-    let (queue, taken) = queue.lap(rt, rounds);
+    let (queue, taken) = queue.lap(rt, course);
     laps.add(taken, elapsed(rt, begin))?;
     Ok(queue)
 }
@@ -93,8 +105,8 @@ where
     let mut our_laps = Laps::new(alloc);
     let mut plain_laps = Laps::new(alloc);
     for _ in 0..course.laps {
-        ours = timed(rt, ours, course.rounds, &mut our_laps)?;
-        plain = timed(rt, plain, course.rounds, &mut plain_laps)?;
+        ours = timed(rt, ours, course, &mut our_laps)?;
+        plain = timed(rt, plain, course, &mut plain_laps)?;
     }
     println!(rt;
         "{what}: {} taken, plain {} taken",
@@ -118,7 +130,7 @@ where
 {
     let mut laps = Laps::new(alloc);
     for _ in 0..course.laps {
-        ours = timed(rt, ours, course.rounds, &mut laps)?;
+        ours = timed(rt, ours, course, &mut laps)?;
     }
     println!(rt; "{what}: {} taken", laps.taken)?;
     let _ = eprintln!(rt;

@@ -2,40 +2,19 @@
 ghost use Rattle.std.specs.Prelude.{◌≡◌, ◌<◌};
 ghost use Rattle.mb_queue.specs.Made.{IsMakeable};
 
-use crate::lap::Lapped;
-use mb_msg::{ActorId, Body, Envelope, SenderId};
-use mb_queue::{Kind, MailQueue, SendPass, TakePass};
+use crate::lap::{Course, Lapped};
+use crate::sender::{RECEIVER, SENDER, Sender};
+use mb_queue::{Kind, MailQueue, TakePass};
 use std::alloc::{AllocError, Global};
 use std::sync::Wait;
+use std::thread;
 use std::thread::Threads;
-
-/// The one sender.
-const SENDER: SenderId = SenderId(1);
-
-/// The one receiver.
-const RECEIVER: ActorId = ActorId(2);
 
 /// A queue's two passes.
 #[derive(Drop)]
 pub struct Mail {
     take: TakePass,
-    send: SendPass,
-    ghost addressed: { (send.by ≡ 1) × (send.queue.to ≡ 2) },
-}
-
-/// The `number`th envelope, of four kinds in turn.
-fn nth(number: u64) -> Envelope
-    ensures { (result.by.0 ≡ 1) × (result.to.0 ≡ 2) }
-{
-    Envelope {
-        by: SENDER,
-        to: RECEIVER,
-        number,
-        body: Body::User {
-            kind: (number % 4) as u32,
-            value: 1,
-        },
-    }
+    send: Sender,
 }
 
 impl Mail {
@@ -52,31 +31,60 @@ impl Mail {
         let Some(send) = sends.pop() else {
             unreachable!();
         };
-        let mut mail = Mail { take, send };
+        let mut mail = Mail {
+            take,
+            send: Sender::new(send),
+        };
         for number in 0..held {
-            let _ = mail.push(rt, number);
+            let _ = mail.send.push(rt, number);
         }
         Ok(mail)
     }
 
-    fn push<R: Wait>(&mut self, rt: &R, number: u64) -> bool {
-        self.send.push(rt, nth(number)).is_ok()
+    /// Each push with its take, on this thread.
+    fn alone<R: Wait>(self, rt: &R, rounds: u64) -> (Mail, u64) {
+        let mut mail = self;
+        let mut taken = 0u64;
+        for number in 0..rounds {
+            let _ = mail.send.push(rt, number);
+            taken = taken.wrapping_add(u64::from(mail.take.take(rt).is_some()));
+        }
+        (mail, taken)
     }
 
-    /// Pushes and takes in turn.
-    fn turn<R: Wait>(&mut self, rt: &R, number: u64) -> u64 {
-        let _ = self.push(rt, number);
-        u64::from(self.take.take(rt).is_some())
+    /// The pushes on a thread of their own, and the takes on this one.
+    fn paired<R: Threads + Wait + Sync>(self, rt: &R, rounds: u64) -> (Mail, u64) {
+        let Mail { take, send } = self;
+        let (send, (take, taken)) = thread::join(
+            rt,
+            move || send.push_all(rt, rounds),
+            move || take_all(rt, take, rounds),
+        );
+        (Mail { take, send }, taken)
     }
 }
 
 impl Lapped for Mail {
-    fn lap<R: Threads + Wait + Sync>(self, rt: &R, rounds: u64) -> (Mail, u64) {
-        let mut mail = self;
-        let mut taken = 0u64;
-        for number in 0..rounds {
-            taken = taken.wrapping_add(mail.turn(rt, number));
+    fn lap<R: Threads + Wait + Sync>(self, rt: &R, course: Course) -> (Mail, u64) {
+        if course.is_paired {
+            self.paired(rt, course.rounds)
+        } else {
+            self.alone(rt, course.rounds)
         }
-        (mail, taken)
     }
+}
+
+/// Takes until it has so many.
+fn take_all<R: Wait>(rt: &R, mut take: TakePass, rounds: u64) -> (TakePass, u64) {
+    let mut taken = 0u64;
+    for _ in rt.forever() {
+        if taken >= rounds {
+            break;
+        }
+        match take.take(rt) {
+            Some(_) => taken = taken.wrapping_add(1),
+            None => thread::yield_now(),
+        }
+    }
+    (take, taken)
 }

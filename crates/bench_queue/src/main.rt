@@ -1,4 +1,5 @@
-//! `bench_queue`: what a push with its take costs in the queues of mailboxes, beside the kit's plain ones.
+//! `bench_queue`: what a push with its take costs in the queues of mailboxes, beside the kit's plain ones, on one thread
+//! and on two.
 //!
 //! The two of a comparison are timed in turn, lap by lap, so that what else the machine does falls on both alike. What was
 //! taken goes to standard output, the medians to standard error.
@@ -7,11 +8,12 @@
 mod lap;
 mod mail;
 mod plain;
+mod sender;
 
-use lap::{ALONE, compare, measure};
+use crossbeam_queue::{ArrayQueue, SegQueue};
+use lap::{ALONE, Course, PAIRED, compare, measure};
 use mail::Mail;
 use mb_queue::{Kind, RankRow, Ranks};
-use plain::{Bounded, Unbounded};
 use std::alloc::{AllocError, Global};
 use std::io;
 use std::sync::Wait;
@@ -20,28 +22,34 @@ use std::time::Clock;
 
 fn main(rt: HostRuntime) -> io::Result<()> {
     let alloc = rt.alloc();
-    unbounded(&rt, alloc)?;
-    bounded(&rt, alloc)?;
+    unbounded(&rt, alloc, ALONE, "unbounded")?;
+    bounded(&rt, alloc, ALONE, "bounded")?;
     control(&rt, alloc)?;
-    priority(&rt, alloc)
+    priority(&rt, alloc)?;
+    unbounded(&rt, alloc, PAIRED, "unbounded, two threads")?;
+    bounded(&rt, alloc, PAIRED, "bounded, two threads")
 }
 
 fn unbounded<R: Clock + Threads + Wait + Sync + Print + Eprint>(
     rt: &R,
     alloc: Global,
+    course: Course,
+    what: &str,
 ) -> io::Result<()> {
     let mail = Mail::new(rt, alloc, Kind::Unbounded, 0)?;
-    let plain = Unbounded::new(alloc)?;
-    compare(rt, alloc, ALONE, "unbounded", mail, plain)
+    let plain = SegQueue::new(alloc)?;
+    compare(rt, alloc, course, what, mail, plain)
 }
 
 fn bounded<R: Clock + Threads + Wait + Sync + Print + Eprint>(
     rt: &R,
     alloc: Global,
+    course: Course,
+    what: &str,
 ) -> io::Result<()> {
     let mail = Mail::new(rt, alloc, Kind::Bounded(1_024), 0)?;
-    let plain = Bounded::new(alloc)?;
-    compare(rt, alloc, ALONE, "bounded", mail, plain)
+    let plain = ArrayQueue::new(alloc, 1_024)?;
+    compare(rt, alloc, course, what, mail, plain)
 }
 
 fn control<R: Clock + Threads + Wait + Sync + Print + Eprint>(

@@ -1,5 +1,6 @@
 -- What ties a cell's fields, which are changed in place, to its journal.
 use Rattle.std.specs.Prelude.{◌≡◌, ℕ, ◌^◌, ◌<◌, ◌≤◌, ℤ, Bool, false, List, [], length}
+use Rattle.mb_msg.specs.Limits.{most_actors}
 use Rattle.mb_msg.specs.declared.id.ActorId.{ActorId}
 use Rattle.mb_actor.specs.Behaviour.{Moment, Reply, AllowsSame}
 use Rattle.mb_actor.specs.Tray.{Tray}
@@ -55,7 +56,7 @@ pub record Agrees (who : Identity) (journal : List Entry) (gives : Moment → Re
   pub outbox : tray ≡ record { effects = []; actors = who.actors; unspawned = unspawned who journal }
   pub fresh : phase who journal ≡ Fresh → IsUntouched who journal
   pub small_limit : who.limit < 2 ^ 32
-  pub few_prepared : length who.prepared ≤ 64
+  pub few_prepared : length who.prepared ≤ most_actors
   pub fanout : books.fanout ≡ length who.prepared
   pub counted : books.retries ≡ requests_kept who.retries (requests who journal)
 

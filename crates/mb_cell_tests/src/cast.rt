@@ -49,7 +49,7 @@ pub(crate) fn place_of(head: &str) -> Result<Option<(u32, u32)>, Trouble> {
 
 /// The children that the actor may start, as `2` or `2 to 3`.
 pub(crate) fn children_of(alloc: Global, text: &str) -> Result<Vec<ActorId>, Trouble>
-    ensures few { IfOk result (λ v. length v.items ≤ 64) }
+    ensures few { IfOk result (λ v. length v.items ≤ most_actors) }
     ensures numbered { IfOk result (λ v. All (λ x. x.0 < most_actors) v.items) }
 {
     if text.is_empty() {
@@ -63,7 +63,7 @@ pub(crate) fn children_of(alloc: Global, text: &str) -> Result<Vec<ActorId>, Tro
 
 /// The actors from one number to another.
 fn children_between(alloc: Global, from: u32, to: u32) -> Result<Vec<ActorId>, AllocError>
-    ensures few { IfOk result (λ v. length v.items ≤ 64) }
+    ensures few { IfOk result (λ v. length v.items ≤ most_actors) }
     ensures numbered { IfOk result (λ v. All (λ x. x.0 < most_actors) v.items) }
 {
     let mut children = Vec::new(alloc);

@@ -55,7 +55,7 @@ impl<A: Actor, K: Behaviours> Stage<A, K> {
         prepared: Vec<ActorId>,
         strategy: Strategy,
     ) -> Self
-        requires few { length prepared.items ≤ 64 }
+        requires few { length prepared.items ≤ most_actors }
         requires numbered { All (λ x. x.0 < most_actors) prepared.items }
         requires unused { A.content actor ≡ A.after actor [] }
         requires behaves { A.after actor ≡ K.after this }
@@ -83,7 +83,7 @@ impl<A: Actor, K: Behaviours> Stage<A, K> {
     /// The cell of the guardian.
     #[tactic(auto, unfolding(mb_journal::specs::Aside::next_number))]
     pub(crate) fn of_guardian(alloc: Global, prepared: Vec<ActorId>, strategy: Strategy) -> Self
-        requires few { length prepared.items ≤ 64 }
+        requires few { length prepared.items ≤ most_actors }
         requires numbered { All (λ x. x.0 < most_actors) prepared.items }
     {
         let cell = Cell::new(alloc, ActorId(0), 64, None, None, prepared, strategy, 1000);
