@@ -10,6 +10,8 @@ mod contend;
 #[cfg(test)]
 mod desk;
 #[cfg(test)]
+mod errand;
+#[cfg(test)]
 mod holding;
 #[cfg(test)]
 mod shift;
