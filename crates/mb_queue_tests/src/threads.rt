@@ -5,9 +5,9 @@ ghost use Rattle.mb_queue.specs.Made.{IsMakeable};
 ghost use Rattle.mb_queue.specs.Passes.{first_in_first_out};
 ghost use Rattle.mb_queue.specs.Takes.{EachOnce};
 
-use super::{FAR, NEAR, control, pushed, queue, ranked, taken, user};
-use crate::{Kind, SendPass, TakePass};
+use crate::mail::{FAR, NEAR, control, pushed, queue, ranked, taken, user};
 use mb_msg::{Envelope, SenderId};
+use mb_queue::{Kind, SendPass, TakePass};
 use std::alloc::{AllocError, Global};
 use std::process::Abort;
 use std::sync::Wait;

@@ -1,5 +1,5 @@
 use Rattle.std.proofs.Common.{sym, ◌∙◌}
-use Rattle.mb_queue.proofs.tests.threads.run_three.Goals as goal
+use Rattle.mb_queue_tests.proofs.threads.run_three.Goals as goal
 
 -- the last take gave nothing, and changed no turns
 pub returns-clause-in_order : goal.returns-clause-in_order

@@ -2,9 +2,9 @@
 ghost use Rattle.std.specs.Prelude.{◌≡◌, IfOk};
 ghost use Rattle.mb_queue.specs.Made.{IsMakeable};
 
-use super::{NEAR, pushed, queue, ranked, taken, user};
-use crate::{Kind, PushError, SendPass, TakePass};
+use crate::mail::{NEAR, pushed, queue, ranked, taken, user};
 use mb_msg::Envelope;
+use mb_queue::{Kind, PushError, SendPass, TakePass};
 use std::alloc::{AllocError, Global};
 use std::process::Abort;
 use std::sync::Wait;
