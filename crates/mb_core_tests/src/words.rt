@@ -1,0 +1,170 @@
+//! Steps and what they leave, in words, as the tables write them.
+
+use mb_core::{ActorState, Debt, Event, Messages, Step};
+use mb_msg::{ActorId, Body, Envelope, SenderId, SysMsg};
+use std::alloc::{AllocError, Global};
+use std::test::Fail;
+
+/// The actor of the tables.
+pub const ACTOR: ActorId = ActorId(0);
+
+/// The steps of a text, apart by commas.
+pub fn events_of(alloc: Global, text: &str) -> Result<Vec<Event>, Fail> {
+    let mut events = Vec::new(alloc);
+    if text.is_empty() {
+        return Ok(events);
+    }
+    for step in text.split(',') {
+        events.push(event_of(alloc, ACTOR, step.trim())?)?;
+    }
+    Ok(events)
+}
+
+/// A step with its party: `1 add terminate`.
+pub fn event_of(alloc: Global, actor: ActorId, text: &str) -> Result<Event, Fail> {
+    let (party, step) = text.split_once(' ').ok_or("no step")?;
+    Ok(Event {
+        party: number(party)? as usize,
+        actor,
+        step: step_of(alloc, actor, step)?,
+    })
+}
+
+fn number(text: &str) -> Result<u32, Fail> {
+    Ok(text.parse::<u32>().ok().ok_or("no number")?)
+}
+
+/// A step: its name, and what it takes.
+pub fn step_of(alloc: Global, actor: ActorId, text: &str) -> Result<Step, Fail> {
+    if let Some(step) = plain_step(text) {
+        return Ok(step);
+    }
+    let (name, rest) = text.split_once(' ').unwrap_or((text, ""));
+    Ok(match name {
+        "idle" => Step::Idle(Messages::new(messages_of(alloc, rest)?)),
+        "push" => Step::Push(Envelope {
+            by: SenderId(64),
+            number: u64::from(number(rest)?),
+            to: actor,
+            body: Body::PoisonPill,
+        }),
+        "take" => Step::Take(number(rest)? as usize),
+        "add" => Step::SysAdd(message_of(rest).ok_or("no message")?),
+        _ => return Err(Fail::from("no such step")),
+    })
+}
+
+/// A step that takes nothing.
+fn plain_step(name: &str) -> Option<Step> {
+    Some(match name {
+        "read" => Step::Read,
+        "schedule" => Step::Schedule,
+        "suspend" => Step::Suspend,
+        "resume" => Step::Resume,
+        "close" => Step::Close,
+        "sent" => Step::Sent,
+        "unsent" => Step::Unsent,
+        "taken" => Step::Taken,
+        "count" => Step::Count,
+        "look" => Step::SysRead,
+        "drain" => Step::SysDrain,
+        "end" => Step::SysEnd,
+        _ => return None,
+    })
+}
+
+fn message_of(text: &str) -> Option<SysMsg> {
+    match text {
+        "terminate" => Some(SysMsg::Terminate),
+        "suspend" => Some(SysMsg::Suspend),
+        _ => None,
+    }
+}
+
+/// System messages by their names.
+pub fn messages_of(alloc: Global, text: &str) -> Result<Vec<SysMsg>, Fail> {
+    let mut messages = Vec::new(alloc);
+    for word in text.split_whitespace() {
+        messages.push(message_of(word).ok_or("no message")?)?;
+    }
+    Ok(messages)
+}
+
+/// What is seen of the actor.
+pub fn add_shown(alloc: Global, text: &mut String, actor: &ActorState) -> Result<(), AllocError> {
+    let word = actor.status().word();
+    let waiting = actor.waiting();
+    add(text, &format!(in alloc; "{word} {waiting} ")?)?;
+    add_envelopes(alloc, text, actor.envelopes())?;
+    text.push(' ')?;
+    add_system(text, actor.system())?;
+    text.push_str(match actor.holder() {
+        None => " -",
+        Some(0) => " 0",
+        Some(_) => " 1",
+    })?;
+    for debt in actor.owed() {
+        text.push_str(owed(debt))?;
+    }
+    text.push_str(if actor.is_runnable() { " !" } else { "" })
+}
+
+fn add(text: &mut String, item: &String) -> Result<(), AllocError> {
+    text.push_str(item.as_str())
+}
+
+fn add_envelopes(
+    alloc: Global,
+    text: &mut String,
+    envelopes: &[Envelope],
+) -> Result<(), AllocError> {
+    if envelopes.is_empty() {
+        return text.push('-');
+    }
+    let mut joint = "";
+    for envelope in envelopes {
+        let number = envelope.number;
+        add(text, &format!(in alloc; "{joint}{number}")?)?;
+        joint = "+";
+    }
+    Ok(())
+}
+
+/// A list of system messages, or that it is gone for good.
+pub fn add_system(text: &mut String, system: Option<&[SysMsg]>) -> Result<(), AllocError> {
+    let Some(listed) = system else {
+        return text.push_str("gone");
+    };
+    if listed.is_empty() {
+        return text.push('-');
+    }
+    let mut joint = "";
+    for message in listed {
+        text.push_str(joint)?;
+        text.push_str(name_of(message))?;
+        joint = "+";
+    }
+    Ok(())
+}
+
+fn name_of(message: &SysMsg) -> &'static str {
+    match message {
+        SysMsg::Terminate => "terminate",
+        SysMsg::Suspend => "suspend",
+        _ => "another",
+    }
+}
+
+/// What one party owes.
+fn owed(debt: &Debt) -> &'static str {
+    match (debt.system, debt.message, debt.sending) {
+        (false, false, false) => " -",
+        (true, false, false) => " s",
+        (false, true, false) => " m",
+        (false, false, true) => " g",
+        (true, true, false) => " sm",
+        (true, false, true) => " sg",
+        (false, true, true) => " mg",
+        (true, true, true) => " smg",
+    }
+}
