@@ -46,7 +46,7 @@ claim_send H home = declared_send (claim.the_type H) (
   (
     search (sendable, actor.the_field_send, actor.the_send) depth 20,
     (
-      search (sendable, status.the_field_send, status.the_send) depth 20,
+      search (sendable, status.the_send) depth 20,
       (
         search (sendable, seat.the_send, slot_send) depth 20,
         (search (sendable, std_crosses) depth 20, tt),
