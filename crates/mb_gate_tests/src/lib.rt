@@ -15,6 +15,8 @@ mod errand;
 #[cfg(test)]
 mod holding;
 #[cfg(test)]
+mod refused;
+#[cfg(test)]
 mod shift;
 #[cfg(test)]
 mod single;
