@@ -1,25 +1,5 @@
 -- Who has a claim of an actor, and where its cell is.
-use Rattle.std.proofs.Common.{
-  ◌≡◌,
-  ℕ,
-  zero,
-  suc,
-  ◌==◌,
-  if◌then◌else◌,
-  IsNone,
-  List,
-  [],
-  ◌∷◌,
-  Option,
-  Some,
-  None,
-  sym,
-  refl,
-  ap,
-  ◌∙◌,
-  subst,
-  eq-eqb,
-}
+use Rattle.std.proofs.Common.{◌≡◌, ℕ, zero, suc, if◌then◌else◌, IsNone, List, [], ◌∷◌, Option, Some, None, sym, refl, ap, ◌∙◌, subst, eq-eqb}
 use mathlib.Core.Option.{some, none, some-ne-none, some-injective}
 use lib.ListN.{get_elem?}
 use Rattle.mb_status.specs.Mailbox.{Mailbox, word_of}
