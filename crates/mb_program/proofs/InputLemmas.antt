@@ -1,8 +1,8 @@
 -- What was read of a reader, where its bytes are known.
-use Rattle.std.proofs.Common.{◌≡◌, ◌+◌, ◌≤◌, ℕ, List, [], ◌++◌, length, take, Option, Some, None, IfSome, arith, refl, sym, ◌∙◌, ap, append-nil}
+use Rattle.std.proofs.Common.{◌≡◌, ◌+◌, ◌≤◌, ℕ, List, [], ◌++◌, length, take, Option, Some, None, IfSome, arith, sym, ◌∙◌, ap, append-nil}
 use Rattle.std.proofs.Common.{append_assoc, length-append, subst}
 use Rattle.std.proofs.lemmas.List.{take_all}
-use Rattle.std.specs.Io.KnownBytes.{Consumes, IsAtEnd, Keeps}
+use Rattle.std.specs.Io.KnownBytes.{Consumes, IsAtEnd}
 use Rattle.std.proofs.lemmas.Grind.{common_steps}
 use Rattle.mb_program.specs.Answer.{TakesAtMost}
 
@@ -24,20 +24,6 @@ read_to_the_end (Some input) (Some rest) (Some left) text buf n count read last 
     let rest_is : rest ≡ [] = last ∙ ap (λ front. front ++ left) nothing ∙ at_end in
     let input_is : input ≡ text = read ∙ ap (λ more. text ++ more) rest_is ∙ append-nil text in
     subst (λ (xs : List ℕ). text ≡ take n xs) (sym input_is) (sym (take_all n text within))
-
--- where nothing was read
-pub takes_none : (most : ℕ) (known : Option (List ℕ)) → TakesAtMost most known known
-takes_none most None = ([], tt, omega arith)
-takes_none most (Some input) = ([], refl, omega arith)
-
--- where these were read, and then the reader kept what it had
-pub takes_these : (most : ℕ) (old middle new : Option (List ℕ)) (text : List ℕ) → Consumes old middle text → Keeps middle new →
-    length text ≤ most → TakesAtMost most old new
-takes_these most None middle new text read kept within = ([], tt, omega arith)
-takes_these most (Some input) None new text read kept within = absurd read
-takes_these most (Some input) (Some rest) None text read kept within = absurd kept
-takes_these most (Some input) (Some rest) (Some left) text read kept within =
-    (text, read ∙ ap (λ l. text ++ l) (sym kept), within)
 
 -- where some were read, and then some more
 pub takes_more : (most : ℕ) (old middle new : Option (List ℕ)) (text more : List ℕ) → Consumes old middle text → Consumes middle new more →
