@@ -31,15 +31,15 @@ pub fn is_run<R: Wait>(
 {
     let (mut take, mut near, far) = queue(alloc, kind)?;
     let mut number = 0u64;
+    let mut is_so = true;
     for step in course {
-        if !goes(rt, &mut take, &mut near, number, *step) {
-            return Ok(false);
-        }
+        is_so &= goes(rt, &mut take, &mut near, number, *step);
         number = number.wrapping_add(1);
     }
     take.join(near);
     take.join(far);
-    Ok(value_taken(rt, &mut take).is_none())
+    let rest = value_taken(rt, &mut take);
+    Ok(is_so && rest.is_none())
 }
 
 fn goes<R: Wait>(rt: &R, take: &mut TakePass, near: &mut SendPass, number: u64, step: Step) -> bool

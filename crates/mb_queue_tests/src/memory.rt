@@ -23,7 +23,9 @@ fn a_refused_push_can_be_made_again(rt: HostRuntime) -> Result<(), Fail> {
 /// Whether each push on a queue of the `which`th kind is done, at once or again, and all that was pushed is taken.
 fn all_come<R: Wait>(rt: &R, alloc: Global, which: u32) -> Result<bool, AllocError> {
     let (mut take, mut near) = made_at_last(alloc, which)?;
-    Ok(push_all(rt, &mut near) && count_taken(rt, &mut take) == COUNT)
+    let is_pushed = push_all(rt, &mut near);
+    let count = count_taken(rt, &mut take);
+    Ok(is_pushed && count == COUNT)
 }
 
 /// A queue, made again where memory was refused.
