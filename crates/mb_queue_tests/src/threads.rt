@@ -70,8 +70,8 @@ fn run_three<R: Threads + Wait + Sync>(
 ) -> Result<Vec<Envelope>, AllocError>
     requires { IsMakeable kind }
 {
-    let (take, near, far) = queue(alloc, kind)?;
     let into = Vec::with_capacity(alloc, 2 * EACH as usize)?;
+    let (take, near, far) = queue(alloc, kind)?;
     let (near, (far, (mut take, all))) = thread::join(
         rt,
         move ||
