@@ -1,81 +1,75 @@
 //! Four ends on four threads.
-ghost use Rattle.std.specs.Prelude.{◌≡◌, ◌<◌, Some};
-ghost use Rattle.mb_gate.specs.Names.{gates_id, pass_id, actors_of};
-ghost use Rattle.mb_gate.specs.Untouched.{origin_of};
-ghost use Rattle.mb_pool.specs.Places.{gates_of};
+ghost use Rattle.bench_pool.specs.Ready.{AreReady, IsReady};
 
-use crate::alone::turn_often;
-use crate::desk::{Desk, gates_of};
 use crate::shown::{Figure, Made, ROUNDS, elapsed};
-use mb_gate::{Gates, Pass};
-use mb_msg::ActorId;
-use mb_pool::{Kind, Pool, WorkerEnd};
+use crate::worker::{Worker, work, workers};
+use mb_desk::{Desk, gates_of};
+use mb_gate::Gates;
+use mb_pool::Kind;
 use std::alloc::Global;
 use std::sync::Wait;
-use std::thread;
-use std::thread::Threads;
+use std::thread::{Threads, join};
 use std::time::{Clock, Instant};
 
-/// A worker: its end, its pass, and the actor whose claim it pushes and takes.
-#[derive(Drop)]
-struct Worker {
-    end: WorkerEnd<Desk>,
-    pass: Pass<Desk>,
-    actor: ActorId,
-}
+type Pair = (Worker, Worker);
 
 /// Each of four ends pushes a claim and takes one.
 pub fn turns<R: Clock + Threads + Wait + Sync>(rt: &R, alloc: Global, kind: Kind) -> Made {
-    let (gates, mut pass) = gates_of(alloc, 4)?;
-    let (_pool, mut ends, _feeds) = Pool::new(alloc, &gates, kind, 4, 0).ok()?;
-    let mut first = worker(&gates, &mut pass, ends.pop()?, 0);
-    let mut second = worker(&gates, &mut pass, ends.pop()?, 1);
-    let mut third = worker(&gates, &mut pass, ends.pop()?, 2);
-    let mut fourth = worker(&gates, &mut pass, ends.pop()?, 3);
+    let (gates, mut pass) = gates_of(alloc, 4).ok()?;
+    let mut all = workers(alloc, &gates, &mut pass, kind, 4)?;
+    let mut first = (all.pop()?, all.pop()?);
+    let mut second = (all.pop()?, all.pop()?);
     let mut times = Vec::with_capacity(alloc, 9).ok()?;
     let mut done = 0u64;
     for _ in 0..ROUNDS {
         let begin = Instant::now(rt).ok();
-        let (a, b) = thread::join(
-            rt,
-            || both(rt, &gates, &mut first, &mut second),
-            || both(rt, &gates, &mut third, &mut fourth),
-        );
+        let (a, b) = four(rt, &gates, first, second);
         times.push(elapsed(rt, begin)).ok()?;
-        done = a.wrapping_add(b);
+        first = a.0;
+        second = b.0;
+        done = a.1.wrapping_add(b.1);
     }
     Some(Figure { done, times })
 }
 
-fn worker(gates: &Gates<Desk>, pass: &mut Pass<Desk>, end: WorkerEnd<Desk>, actor: u32) -> Worker
-    requires ours { pass_id pass.old ≡ gates_id gates.now }
-    ensures ours { pass_id pass.new ≡ pass_id pass.old }
-    ensures same { (result.end ≡ end) × (result.actor.0 ≡ actor) × (pass_id result.pass ≡ gates_id gates.now) }
-{
-    Worker {
-        end,
-        pass: gates.another(pass),
-        actor: ActorId(actor),
-    }
-}
-
-fn both<R: Threads + Wait + Sync>(
+/// The pairs of workers, and how often each did its work.
+fn four<R: Threads + Wait + Sync>(
     rt: &R,
     gates: &Gates<Desk>,
-    first: &mut Worker,
-    second: &mut Worker,
-) -> u64
-    requires ours { (pass_id first.old.pass ≡ gates_id gates.now) × (pass_id second.old.pass ≡ gates_id gates.now) }
-    requires there { (first.old.actor.0 < actors_of gates.now) × (second.old.actor.0 < actors_of gates.now) }
-    requires these { (gates_of first.old.end ≡ Some (origin_of gates.now)) × (gates_of second.old.end ≡ Some (origin_of gates.now)) }
-    ensures ours { (pass_id first.new.pass ≡ gates_id gates.now) × (pass_id second.new.pass ≡ gates_id gates.now) }
-    ensures there { (first.new.actor ≡ first.old.actor) × (second.new.actor ≡ second.old.actor) }
-    ensures these { (gates_of first.new.end ≡ Some (origin_of gates.now)) × (gates_of second.new.end ≡ Some (origin_of gates.now)) }
+    first: Pair,
+    second: Pair,
+) -> ((Pair, u64), (Pair, u64))
+    requires { AreReady gates.now first × AreReady gates.now second }
+    ensures { AreReady gates.now result.0.0 × AreReady gates.now result.1.0 }
 {
-    let (a, b) = thread::join(
+    join(
         rt,
-        || turn_often(rt, gates, &mut first.pass, &mut first.end, first.actor),
-        || turn_often(rt, gates, &mut second.pass, &mut second.end, second.actor),
+        || -> (Pair, u64)
+            requires { AreReady gates.now first }
+            ensures { AreReady gates.entry.now result.0 }
+        { two(rt, gates, first) },
+        || -> (Pair, u64)
+            requires { AreReady gates.now second }
+            ensures { AreReady gates.entry.now result.0 }
+        { two(rt, gates, second) },
+    )
+}
+
+fn two<R: Threads + Wait + Sync>(rt: &R, gates: &Gates<Desk>, pair: Pair) -> (Pair, u64)
+    requires { AreReady gates.now pair }
+    ensures { AreReady gates.now result.0 }
+{
+    let (a, b) = pair;
+    let ((a, first), (b, second)) = join(
+        rt,
+        || -> (Worker, u64)
+            requires { IsReady gates.now a }
+            ensures { IsReady gates.entry.now result.0 }
+        { work(rt, gates, a) },
+        || -> (Worker, u64)
+            requires { IsReady gates.now b }
+            ensures { IsReady gates.entry.now result.0 }
+        { work(rt, gates, b) },
     );
-    a.wrapping_add(b)
+    ((a, b), first.wrapping_add(second))
 }

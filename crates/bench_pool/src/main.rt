@@ -4,10 +4,9 @@
 #![tactic(auto)]
 
 mod alone;
-mod claims;
-mod desk;
 mod four;
 mod shown;
+mod worker;
 
 use mb_pool::Kind;
 use shown::show;

@@ -4,7 +4,7 @@ ghost use Rattle.mb_gate.specs.Names.{gates_id, pass_id};
 ghost use Rattle.mb_gate.specs.Untouched.{origin_of, IsUntouched};
 ghost use Rattle.mb_pool.specs.Places.{AreEnds, AreFeeds};
 
-use crate::claims::give;
+use mb_desk::give;
 use mb_gate::{Claim, Gates, Pass, Resident};
 use mb_pool::{Feed, NotLeft, Pool, WorkerEnd, remaining};
 use std::alloc::Global;

@@ -5,10 +5,6 @@
 #[cfg(test)]
 mod alone;
 #[cfg(test)]
-mod claims;
-#[cfg(test)]
-mod desk;
-#[cfg(test)]
 mod left;
 #[cfg(test)]
 mod pushed;

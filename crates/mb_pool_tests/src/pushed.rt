@@ -1,6 +1,7 @@
 //! Pushes that are made again where memory is refused.
 ghost use Rattle.std.specs.Prelude.{◌≡◌};
 ghost use Rattle.mb_gate.specs.Untouched.{IsUntouched};
+ghost use Rattle.mb_pool.specs.Moves.{given_back};
 ghost use Rattle.mb_pool.specs.Places.{gates_of, parts_of};
 
 use mb_gate::{Claim, Resident};
@@ -36,6 +37,15 @@ pub fn feed_at_last<H: Resident, R: Wait>(rt: &R, feed: &mut Feed<H>, claim: Cla
     match feed.push(rt, claim) {
         Err(Refused::NoMemory(claim)) => told(feed.push(rt, claim)),
         pushed => told(pushed),
+    }
+}
+
+/// The claim that comes back.
+pub fn back<H>(refused: Refused<H>) -> Claim<H>
+    ensures { result ≡ given_back refused }
+{
+    match refused {
+        Refused::Full(claim) | Refused::NoMemory(claim) => claim,
     }
 }
 

@@ -5,10 +5,9 @@ ghost use Rattle.mb_gate.specs.Names.{gates_id, pass_id, actors_of};
 ghost use Rattle.mb_gate.specs.Untouched.{origin_of};
 ghost use Rattle.mb_pool.specs.Places.{AreEnds, AreFeeds};
 
-use crate::claims::{attempt, give};
-use crate::desk::{Desk, gates_of};
 use crate::left::{actors_of_left, left};
 use crate::pushed::{Answer, feed_at_last, push_at_last};
+use mb_desk::{Desk, attempt, gates_of, give};
 use mb_gate::{Gates, Pass, Resident};
 use mb_msg::ActorId;
 use mb_pool::{Feed, Kind, Pool, WorkerEnd};

@@ -4,11 +4,10 @@ ghost use Rattle.mb_gate.specs.Names.{gates_id, pass_id, actors_of};
 ghost use Rattle.mb_gate.specs.Untouched.{origin_of};
 ghost use Rattle.mb_pool.specs.Places.{gates_of, parts_of};
 
-use crate::claims::{attempt, give};
-use crate::desk::Desk;
 use crate::left::{actors_of_left, left};
 use crate::scene::Scene;
 use crate::work::{ACTORS, MOVES, supply, work};
+use mb_desk::{Desk, attempt, give};
 use mb_gate::{Gates, Pass};
 use mb_msg::ActorId;
 use mb_pool::{Feed, Kind, WorkerEnd};
@@ -45,8 +44,17 @@ fn move_claims<R: Threads + Wait + Sync>(rt: &R, alloc: Global, kind: Kind) -> R
     let supplier = gates.another(&mut pass);
     let ((first, second), (third, feed)) = join(
         rt,
-        || two_work(rt, &gates, first, second, &moved),
-        || work_and_supply(rt, &gates, third, feed, supplier, &moved),
+        || -> (WorkerEnd<Desk>, WorkerEnd<Desk>)
+            requires ours { (pass_id first.1 ≡ gates_id gates) × (pass_id second.1 ≡ gates_id gates) }
+            requires these { (gates_of first.0 ≡ Some (origin_of gates)) × (gates_of second.0 ≡ Some (origin_of gates)) }
+            ensures same { (parts_of result.0 ≡ parts_of first.0) × (parts_of result.1 ≡ parts_of second.0) }
+        { two_work(rt, &gates, first, second, &moved) },
+        || -> (WorkerEnd<Desk>, Feed<Desk>)
+            requires ours { (pass_id third.1 ≡ gates_id gates) × (pass_id supplier ≡ gates_id gates) }
+            requires there { actors_of gates ≡ 80 }
+            requires these { (gates_of third.0 ≡ Some (origin_of gates)) × (gates_of feed ≡ Some (origin_of gates)) }
+            ensures same { (parts_of result.0 ≡ parts_of third.0) × (parts_of result.1 ≡ parts_of feed) }
+        { work_and_supply(rt, &gates, third, feed, supplier, &moved) },
     );
     ends.push(first)?;
     ends.push(second)?;
@@ -73,8 +81,16 @@ fn two_work<R: Threads + Wait + Sync>(
     let (other, of_other) = second;
     join(
         rt,
-        || work(rt, gates, pass, end, moved),
-        || work(rt, gates, of_other, other, moved),
+        || -> WorkerEnd<Desk>
+            requires ours { pass_id pass ≡ gates_id gates.now }
+            requires these { gates_of end ≡ Some (origin_of gates.now) }
+            ensures same { parts_of result ≡ parts_of end }
+        { work(rt, gates, pass, end, moved) },
+        || -> WorkerEnd<Desk>
+            requires ours { pass_id of_other ≡ gates_id gates.now }
+            requires these { gates_of other ≡ Some (origin_of gates.now) }
+            ensures same { parts_of result ≡ parts_of other }
+        { work(rt, gates, of_other, other, moved) },
     )
 }
 
@@ -94,8 +110,17 @@ fn work_and_supply<R: Threads + Wait + Sync>(
     let (end, pass) = worker;
     join(
         rt,
-        || work(rt, gates, pass, end, moved),
-        || supply(rt, gates, supplier, feed, moved),
+        || -> WorkerEnd<Desk>
+            requires ours { pass_id pass ≡ gates_id gates.now }
+            requires these { gates_of end ≡ Some (origin_of gates.now) }
+            ensures same { parts_of result ≡ parts_of end }
+        { work(rt, gates, pass, end, moved) },
+        || -> Feed<Desk>
+            requires ours { pass_id supplier ≡ gates_id gates.now }
+            requires there { actors_of gates.now ≡ 80 }
+            requires these { gates_of feed ≡ Some (origin_of gates.now) }
+            ensures same { parts_of result ≡ parts_of feed }
+        { supply(rt, gates, supplier, feed, moved) },
     )
 }
 

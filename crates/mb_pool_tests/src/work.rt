@@ -4,7 +4,8 @@ ghost use Rattle.mb_gate.specs.Names.{gates_id, pass_id, actors_of};
 ghost use Rattle.mb_gate.specs.Untouched.{origin_of};
 ghost use Rattle.mb_pool.specs.Places.{gates_of, parts_of};
 
-use crate::claims::{attempt, back, give};
+use crate::pushed::back;
+use mb_desk::{attempt, give};
 use mb_gate::{Gates, Pass, Resident};
 use mb_msg::ActorId;
 use mb_pool::{Feed, WorkerEnd};
