@@ -4,7 +4,7 @@ ghost use Rattle.mb_gate.specs.Names.{gates_id, pass_id, actors_of};
 
 use crate::alone::turn_often;
 use crate::desk::{Desk, two};
-use crate::shown::{Figure, Made, ROUNDS, elapsed};
+use crate::shown::{Figure, ROUNDS, elapsed};
 use mb_gate::{Gates, Pass};
 use mb_msg::ActorId;
 use std::alloc::Global;
@@ -19,13 +19,24 @@ struct Turned {
     done: u64,
 }
 
-/// Each of two threads schedules its actor and gives its cell home.
-pub fn turns<R: Clock + Threads + Sync>(rt: &R, alloc: Global) -> Made {
+/// How long two threads took, and what they gained: how many hundredths of one thread's turns they did in the same time.
+pub struct Paired {
+    pub figure: Figure,
+    pub gains: Vec<u64>,
+}
+
+/// Each of two threads schedules its actor and gives its cell home. Before each round one thread does its turns alone, so that
+/// the two are compared while the machine is as fast.
+pub fn turns<R: Clock + Threads + Sync>(rt: &R, alloc: Global) -> Option<Paired> {
     let (gates, mut first) = two(alloc)?;
     let mut second = gates.another(&mut first);
     let mut times = Vec::with_capacity(alloc, 9).ok()?;
+    let mut gains = Vec::with_capacity(alloc, 9).ok()?;
     let mut done = 0u64;
     for _ in 0..ROUNDS {
+        let begin = Instant::now(rt).ok();
+        let _ = turn_often(&gates, &mut first, ActorId(0));
+        let alone = elapsed(rt, begin);
         let begin = Instant::now(rt).ok();
         let (one, other) = both(rt, &gates, first, second);
         let time = elapsed(rt, begin);
@@ -33,8 +44,16 @@ pub fn turns<R: Clock + Threads + Sync>(rt: &R, alloc: Global) -> Made {
         first = one.pass;
         second = other.pass;
         times.push(time).ok()?;
+        gains.push(gain(alone, time)).ok()?;
     }
-    Some(Figure { done, times })
+    Some(Paired {
+        figure: Figure { done, times },
+        gains,
+    })
+}
+
+fn gain(alone: u64, both: u64) -> u64 {
+    alone.saturating_mul(200).checked_div(both).unwrap_or(0)
 }
 
 fn both<R: Threads + Sync>(
