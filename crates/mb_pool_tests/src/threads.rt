@@ -23,6 +23,7 @@ type Worker = (WorkerEnd<Desk>, Pass<Desk>);
 
 /// A pool of this kind whose three ends and whose feed move claims on threads of their own. No claim is lost: what is left goes
 /// home, and then each actor can be scheduled.
+#[tactic(auto, using(crate::proofs::Crossing::end_crosses, crate::proofs::Crossing::feed_crosses, crate::proofs::Crossing::pass_crosses))]
 fn move_claims<R: Threads + Wait + Sync>(rt: &R, alloc: Global, kind: Kind) -> Result<bool, Fail> {
     let Scene {
         gates,
@@ -66,6 +67,7 @@ fn move_claims<R: Threads + Wait + Sync>(rt: &R, alloc: Global, kind: Kind) -> R
     Ok(all_home && moved.load(SeqCst) >= MOVES)
 }
 
+#[tactic(auto, using(crate::proofs::Crossing::end_crosses, crate::proofs::Crossing::feed_crosses, crate::proofs::Crossing::pass_crosses))]
 fn two_work<R: Threads + Wait + Sync>(
     rt: &R,
     gates: &Gates<Desk>,
@@ -94,6 +96,7 @@ fn two_work<R: Threads + Wait + Sync>(
     )
 }
 
+#[tactic(auto, using(crate::proofs::Crossing::end_crosses, crate::proofs::Crossing::feed_crosses, crate::proofs::Crossing::pass_crosses))]
 fn work_and_supply<R: Threads + Wait + Sync>(
     rt: &R,
     gates: &Gates<Desk>,
