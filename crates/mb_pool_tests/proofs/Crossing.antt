@@ -3,14 +3,9 @@ use denote.Param.Send.{IsSend}
 use Rattle.mb_desk.proofs.desk.Desk.TheSendSync as desk
 use Rattle.mb_desk.specs.contracts.desk.Desk as desk_row
 use Rattle.mb_desk.specs.contracts.desk.DeskResident.TheImpl as resident
-use Rattle.mb_gate.proofs.Crossing as gate
-use Rattle.mb_gate.specs.contracts.pass.Pass as pass
 use Rattle.mb_pool.proofs.Crossing as pool
 use Rattle.mb_pool.specs.contracts.end.WorkerEnd as end
 use Rattle.mb_pool.specs.contracts.feed.Feed as feed
-
-pub pass_crosses : IsSend (pass.the_row desk_row.the_row)
-pass_crosses = gate.pass_send desk_row.the_row desk.the_send
 
 pub end_crosses : IsSend (end.the_row desk_row.the_row resident.ghosts)
 end_crosses = pool.end_send desk_row.the_row resident.ghosts desk.the_send

@@ -68,7 +68,7 @@ impl<H: Resident> Scene<H> {
 
     /// The actor's claim is pushed to the first feed.
     pub fn feed<R: Wait>(&mut self, rt: &R, actor: u32) -> Answer {
-        if self.feeds.is_empty() || actor as usize >= self.gates.actors() {
+        if 0 >= self.feeds.len() || actor as usize >= self.gates.actors() {
             return Answer::Nowhere;
         }
         match attempt(&self.gates, &mut self.pass, ActorId(actor)) {

@@ -23,7 +23,6 @@ type Worker = (WorkerEnd<Desk>, Pass<Desk>);
 
 /// A pool of this kind whose three ends and whose feed move claims on threads of their own. No claim is lost: what is left goes
 /// home, and then each actor can be scheduled.
-#[tactic(auto, using(crate::proofs::Crossing::end_crosses, crate::proofs::Crossing::feed_crosses, crate::proofs::Crossing::pass_crosses))]
 fn move_claims<R: Threads + Wait + Sync>(rt: &R, alloc: Global, kind: Kind) -> Result<bool, Fail> {
     let Scene {
         gates,
@@ -32,30 +31,21 @@ fn move_claims<R: Threads + Wait + Sync>(rt: &R, alloc: Global, kind: Kind) -> R
         mut ends,
         mut feeds,
     } = Scene::new(alloc, 80, kind, 3, 1)?;
-    let (Some(third), Some(second), Some(first)) = (ends.pop(), ends.pop(), ends.pop()) else {
-        return Err(Fail::from("too few ends"));
+    let Some(third) = ends.pop() else {
+        return Err(Fail::from("no third end"));
+    };
+    let Some(second) = ends.pop() else {
+        return Err(Fail::from("no second end"));
+    };
+    let Some(first) = ends.pop() else {
+        return Err(Fail::from("no first end"));
     };
     let Some(feed) = feeds.pop() else {
         return Err(Fail::from("no feed"));
     };
     let moved = AtomicU64::new(0);
-    let first = (first, gates.another(&mut pass));
-    let second = (second, gates.another(&mut pass));
-    let third = (third, gates.another(&mut pass));
-    let supplier = gates.another(&mut pass);
-    let ((first, second), (third, feed)) = join(
-        rt,
-        || -> (WorkerEnd<Desk>, WorkerEnd<Desk>)
-            requires ours { (pass_id first.1 ≡ gates_id gates) × (pass_id second.1 ≡ gates_id gates) }
-            requires these { (gates_of first.0 ≡ Some (origin_of gates)) × (gates_of second.0 ≡ Some (origin_of gates)) }
-            ensures same { (parts_of result.0 ≡ parts_of first.0) × (parts_of result.1 ≡ parts_of second.0) }
-        { two_work(rt, &gates, first, second, &moved) },
-        || -> (WorkerEnd<Desk>, Feed<Desk>)
-            requires ours { (pass_id third.1 ≡ gates_id gates) × (pass_id supplier ≡ gates_id gates) }
-            requires there { actors_of gates ≡ 80 }
-            requires these { (gates_of third.0 ≡ Some (origin_of gates)) × (gates_of feed ≡ Some (origin_of gates)) }
-            ensures same { (parts_of result.0 ≡ parts_of third.0) × (parts_of result.1 ≡ parts_of feed) }
-        { work_and_supply(rt, &gates, third, feed, supplier, &moved) },
+    let ((first, second), (third, feed)) = all_work(
+        rt, &gates, &mut pass, first, second, third, feed, &moved,
     );
     ends.push(first)?;
     ends.push(second)?;
@@ -67,7 +57,52 @@ fn move_claims<R: Threads + Wait + Sync>(rt: &R, alloc: Global, kind: Kind) -> R
     Ok(all_home && moved.load(SeqCst) >= MOVES)
 }
 
-#[tactic(auto, using(crate::proofs::Crossing::end_crosses, crate::proofs::Crossing::feed_crosses, crate::proofs::Crossing::pass_crosses))]
+/// Three ends and a feed at work on threads of their own: they come back.
+fn all_work<R: Threads + Wait + Sync>(
+    rt: &R,
+    gates: &Gates<Desk>,
+    pass: &mut Pass<Desk>,
+    first: WorkerEnd<Desk>,
+    second: WorkerEnd<Desk>,
+    third: WorkerEnd<Desk>,
+    feed: Feed<Desk>,
+    moved: &AtomicU64,
+) -> (
+    (WorkerEnd<Desk>, WorkerEnd<Desk>),
+    (WorkerEnd<Desk>, Feed<Desk>),
+)
+    requires ours { pass_id pass.old ≡ gates_id gates.now }
+    requires there { actors_of gates.now ≡ 80 }
+    requires first { gates_of first ≡ Some (origin_of gates.now) }
+    requires second { gates_of second ≡ Some (origin_of gates.now) }
+    requires third { gates_of third ≡ Some (origin_of gates.now) }
+    requires feed { gates_of feed ≡ Some (origin_of gates.now) }
+    ensures ours { pass_id pass.new ≡ gates_id gates.now }
+    ensures first { parts_of result.0.0 ≡ parts_of first }
+    ensures second { parts_of result.0.1 ≡ parts_of second }
+    ensures third { parts_of result.1.0 ≡ parts_of third }
+    ensures feed { parts_of result.1.1 ≡ parts_of feed }
+{
+    let a = gates.another(pass);
+    let b = gates.another(pass);
+    let c = gates.another(pass);
+    let d = gates.another(pass);
+    join(
+        rt,
+        || -> (WorkerEnd<Desk>, WorkerEnd<Desk>)
+            requires ours { (pass_id a ≡ gates_id gates.now) × (pass_id b ≡ gates_id gates.now) }
+            requires these { (gates_of first ≡ Some (origin_of gates.now)) × (gates_of second ≡ Some (origin_of gates.now)) }
+            ensures same { (parts_of result.0 ≡ parts_of first) × (parts_of result.1 ≡ parts_of second) }
+        { two_work(rt, gates, (first, a), (second, b), moved) },
+        || -> (WorkerEnd<Desk>, Feed<Desk>)
+            requires ours { (pass_id c ≡ gates_id gates.now) × (pass_id d ≡ gates_id gates.now) }
+            requires there { actors_of gates.now ≡ 80 }
+            requires these { (gates_of third ≡ Some (origin_of gates.now)) × (gates_of feed ≡ Some (origin_of gates.now)) }
+            ensures same { (parts_of result.0 ≡ parts_of third) × (parts_of result.1 ≡ parts_of feed) }
+        { work_and_supply(rt, gates, (third, c), feed, d, moved) },
+    )
+}
+
 fn two_work<R: Threads + Wait + Sync>(
     rt: &R,
     gates: &Gates<Desk>,
@@ -96,7 +131,6 @@ fn two_work<R: Threads + Wait + Sync>(
     )
 }
 
-#[tactic(auto, using(crate::proofs::Crossing::end_crosses, crate::proofs::Crossing::feed_crosses, crate::proofs::Crossing::pass_crosses))]
 fn work_and_supply<R: Threads + Wait + Sync>(
     rt: &R,
     gates: &Gates<Desk>,
