@@ -1,0 +1,14 @@
+pub mod Account
+pub mod Begins
+pub mod Deques
+pub mod Ends
+pub mod Items
+pub mod Ledger
+pub mod Made
+pub mod Moves
+pub mod Parts
+pub mod Places
+pub mod Rule
+pub mod Shared
+pub mod Ways
+pub mod Went
