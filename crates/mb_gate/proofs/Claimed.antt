@@ -69,7 +69,8 @@ module _ {H : Type 0} (is_of : ℕ → H → Type 0) (journal : H → List Entry
       (some-injective (some (Home kept.home)) (some (Home home)) (sym kept.there ∙ there)))
 
   -- the journal that the rule keeps of the actor is the one of its home, and the one with which its claim was taken
-  at_home_journal : (actor : ℕ) (x : Place) (holder : Option (ℕ × Held)) → Kept actor x holder → (home : H) → x.slot CellShelf ≡ some (some (Home home))
+  at_home_journal : (actor : ℕ) (x : Place) (holder : Option (ℕ × Held)) → Kept actor x holder → (home : H)
+      → x.slot CellShelf ≡ some (some (Home home))
       → x.ghost.journal ≡ journal home
   at_home_journal actor x None kept home there = sym kept.fold ∙ ap journal (home_there actor x kept home there)
   at_home_journal actor x (Some h) kept home there = absurd (not_home x home kept.out there)

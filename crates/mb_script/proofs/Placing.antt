@@ -1,6 +1,8 @@
 -- What an index has once a place is put into it.
-use Rattle.std.proofs.Common.{◌≡◌, ℕ, suc, ◌+◌, ◌-◌, ◌<◌, ◌≤◌, ◌%◌, ◌==◌, List, ◌∷◌, length, get_or, set, drop, map, All, Bool, true, false, cond}
-use Rattle.std.proofs.Common.{Option, Some, None, option_map, option_and_then, slice_get, refl, sym, ap, ◌∙◌, subst, ⊎_elim, arith, nat_lt, if◌then◌else◌, Less, Equal, Greater}
+use Rattle.std.proofs.Common.{◌≡◌, ℕ, suc, ◌+◌, ◌-◌, ◌<◌, ◌≤◌, ◌%◌, ◌==◌, List, ◌∷◌, length, get_or, set, drop, map}
+use Rattle.std.proofs.Common.{All, Bool, true, false, cond}
+use Rattle.std.proofs.Common.{Option, Some, None, option_map, option_and_then, slice_get, refl, sym, ap, ◌∙◌, subst, ⊎_elim, arith, nat_lt}
+use Rattle.std.proofs.Common.{if◌then◌else◌, Less, Equal, Greater}
 use Rattle.std.proofs.Math.Nat.{mod-lt}
 use Rattle.std.proofs.Math.Seq.{drop-cons, drop-length}
 use Rattle.std.proofs.lemmas.Bool.{cases_eq, cases_cond, ne_eqb}

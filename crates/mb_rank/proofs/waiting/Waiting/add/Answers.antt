@@ -19,5 +19,5 @@ pub returns : goal.returns
 returns c = let arrival = c.args.arrival in
     let came = IsPermutation-map arrival_of _ _ c.in-Ok.ensures.permutation in
     let seen = subst (λ (l : List Arrival). IsPermutation (arriving arrival.rank arrival.number c.of.result.value ∷ l) (arrivals c.push.new.self))
-        c.self.view_is came in
+    c.self.view_is came in
     subst (λ (e : Envelope). IsPermutation (arriving arrival.rank arrival.number e ∷ c.args.self.now) (arrivals c.push.new.self)) c.of.ensures seen
