@@ -1,13 +1,43 @@
+//! Generated runs against the laws.
 ghost use Rattle.std.specs.Prelude.{◌<◌};
 
-use crate::{ActorState, Event, Messages, Step, replay};
-use mb_msg::{ActorId, Body, Envelope, SenderId, SysMsg};
-use std::alloc::{AllocError, Global};
+use crate::words::step_of;
+use mb_core::{ActorState, Event, replay};
+use mb_msg::ActorId;
+use std::alloc::Global;
 use std::test::Fail;
 
 const ACTORS: [u64; 3] = [0, 4, 1];
 
 const PARTIES: usize = 3;
+
+/// The steps that are drawn, some more often than others.
+const STEPS: [&str; 24] = [
+    "read",
+    "schedule",
+    "schedule",
+    "schedule",
+    "schedule",
+    "idle",
+    "idle suspend",
+    "suspend",
+    "resume",
+    "close",
+    "sent",
+    "sent",
+    "unsent",
+    "taken",
+    "count",
+    "push 7",
+    "take 0",
+    "take 1",
+    "add terminate",
+    "add suspend",
+    "look",
+    "look",
+    "drain",
+    "end",
+];
 
 /// A small fixed generator of numbers.
 #[derive(Drop)]
@@ -28,47 +58,11 @@ impl Numbers {
         (self.state >> 33) % limit
     }
 
-    fn message(&mut self) -> SysMsg {
-        if self.below(2) == 0 {
-            SysMsg::Suspend
-        } else {
-            SysMsg::Terminate
-        }
-    }
-
-    fn event(&mut self, alloc: Global) -> Result<Event, AllocError> {
+    fn event(&mut self, alloc: Global) -> Result<Event, Fail> {
         let party = self.below(3) as usize;
         let actor = ActorId(self.below(3) as u32);
-        let step = match self.below(24) {
-            0 => Step::Read,
-            1..=4 => Step::Schedule,
-            5 => {
-                let rest = if self.below(2) == 0 {
-                    Vec::new(alloc)
-                } else {
-                    vec![in alloc; self.message()]?
-                };
-                Step::Idle(Messages::new(rest))
-            }
-            6 => Step::Suspend,
-            7..=8 => Step::Resume,
-            9 => Step::Close,
-            10..=11 => Step::Sent,
-            12 => Step::Unsent,
-            13 => Step::Taken,
-            14..=15 => Step::Count,
-            16 => Step::Push(Envelope {
-                by: SenderId(64),
-                number: self.below(100),
-                to: actor,
-                body: Body::PoisonPill,
-            }),
-            17 => Step::Take(self.below(2) as usize),
-            18..=19 => Step::SysAdd(self.message()),
-            20..=21 => Step::SysRead,
-            22 => Step::SysDrain,
-            _ => Step::SysEnd,
-        };
+        let words = STEPS[self.below(24) as usize];
+        let step = step_of(alloc, actor, words)?;
         Ok(Event { party, actor, step })
     }
 }

@@ -1,9 +1,6 @@
-//! Worked runs, the table of the steps, and generated runs against the laws.
+//! Worked runs.
 
-mod cases;
-mod generated;
-
-use crate::{Debt, Event, Messages, Step, replay};
+use mb_core::{Debt, Event, Messages, Step, replay};
 use mb_msg::{ActorId, Body, Envelope, SenderId, SysMsg};
 use std::alloc::Global;
 use std::test::Fail;
