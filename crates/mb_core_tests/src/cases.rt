@@ -2,8 +2,9 @@
 //!
 //! A line with bars is a case of one actor and two parties: its status word as the run begins; the steps before the one in
 //! question, each with its party; that step; and what is seen of the actor after it, or `no` where it is not allowed. Seen
-//! are its status word, the number counted as waiting, the numbers of its envelopes, its system work, who holds it, and
-//! what the parties 0 and 1 owe it: `s` a look at the system work, `m` one at the envelopes, `g` that it is sending.
+//! are its status word, the number counted as waiting, the numbers of its envelopes, its system work, who holds it, what
+//! the parties 0 and 1 owe it (`s` a look at the system work, `m` one at the envelopes, `g` that it is sending), and `!`
+//! where a worker should take it.
 use crate::words::{event_of, shown};
 use mb_core::{Event, replay};
 use mb_msg::ActorId;
@@ -14,16 +15,17 @@ use std::test::Fail;
 const STATUS: &str = "
 Read of an open mailbox: what was being sent, is sent; all else stays owed.
 0           |                                                       | 1 read                   | 0 0 - - - - -
-0           | 1 add terminate, 1 sent                               | 1 read                   | 0 1 - terminate - - sm
+0           | 1 add terminate, 1 sent                               | 1 read                   | 0 1 - terminate - - sm !
 0           | 1 sent, 1 unsent                                      | 1 read                   | 0 0 - - - - m
-0           | 1 add terminate, 1 sent, 1 unsent, 1 sent             | 1 read                   | 0 1 - terminate - - sm
+0           | 1 add terminate, 1 sent, 1 unsent, 1 sent             | 1 read                   | 0 1 - terminate - - sm !
 Of a suspended one: system work alone is owed.
-4           | 1 add terminate, 1 sent, 1 unsent, 1 sent             | 1 read                   | 4 1 - terminate - - s
+4           | 1 add terminate, 1 sent, 1 unsent, 1 sent             | 1 read                   | 4 1 - terminate - - s !
 Of a scheduled one, suspended or not, and of a closed one, held or not: nothing is owed.
 0           | 0 schedule, 1 add terminate, 1 sent, 1 unsent, 1 sent | 1 read                   | 2 1 - terminate 0 - -
 4           | 0 schedule, 1 add terminate, 1 sent                   | 1 read                   | 6 1 - terminate 0 - -
 1           | 1 add terminate, 1 sent, 1 unsent, 1 sent             | 1 read                   | 1 1 - terminate - - -
 0           | 0 schedule, 0 close, 1 add terminate, 1 sent          | 1 read                   | 1 1 - terminate 0 - -
+0           | 0 schedule, 0 close, 0 end, 1 sent                    | 1 read                   | 1 1 - gone 0 - -
 0           | 0 schedule, 0 sent                                    | 0 read                   | 2 1 - - 0 - -
 What another owes stays.
 1           | 0 sent                                                | 1 read                   | 1 1 - - - g -
@@ -40,10 +42,10 @@ Schedule: neither closed nor scheduled, and then nothing is owed by the one that
 Idle: by the holder, who then owes both looks; what it did not apply goes in front, unless the list is gone.
 0           | 0 schedule                                            | 0 idle                   | 0 0 - - - sm -
 4           | 0 schedule                                            | 0 idle                   | 4 0 - - - sm -
-0           | 0 schedule, 0 sent                                    | 0 idle                   | 0 1 - - - smg -
-0           | 1 sent, 1 push 7, 0 schedule                          | 0 idle                   | 0 1 7 - - sm g
-0           | 0 schedule, 1 add suspend                             | 0 idle terminate         | 0 0 - terminate+suspend - sm s
-0           | 0 schedule                                            | 0 idle terminate suspend | 0 0 - terminate+suspend - sm -
+0           | 0 schedule, 0 sent                                    | 0 idle                   | 0 1 - - - smg - !
+0           | 1 sent, 1 push 7, 0 schedule                          | 0 idle                   | 0 1 7 - - sm g !
+0           | 0 schedule, 1 add suspend                             | 0 idle terminate         | 0 0 - terminate+suspend - sm s !
+0           | 0 schedule                                            | 0 idle terminate suspend | 0 0 - terminate+suspend - sm - !
 0           | 0 schedule, 0 close                                   | 0 idle terminate         | 1 0 - terminate - sm -
 0           | 0 schedule, 0 close, 0 end                            | 0 idle terminate         | 1 0 - gone - sm -
 0           |                                                       | 0 idle                   | no
@@ -55,6 +57,7 @@ Suspend: by the holder, up to 2^32 times; a closed mailbox stays as it is. What 
 0           | 0 schedule                                            | 0 suspend                | 6 0 - - 0 - -
 4           | 0 schedule, 1 add terminate, 1 sent                   | 0 suspend                | 10 1 - terminate 0 - sg
 0           | 0 schedule, 0 close                                   | 0 suspend                | 1 0 - - 0 - -
+0           | 0 schedule, 0 close, 0 end                            | 0 suspend                | 1 0 - gone 0 - -
 17179869180 | 0 schedule                                            | 0 suspend                | 17179869186 0 - - 0 - -
 17179869184 | 0 schedule                                            | 0 suspend                | no
 0           |                                                       | 0 suspend                | no
@@ -64,27 +67,32 @@ Resume: by the holder; a count of 0 and a closed mailbox stay as they are.
 4           | 0 schedule, 1 add terminate, 1 sent                   | 0 resume                 | 2 1 - terminate 0 - sg
 8           | 0 schedule                                            | 0 resume                 | 6 0 - - 0 - -
 0           | 0 schedule, 0 close                                   | 0 resume                 | 1 0 - - 0 - -
+0           | 0 schedule, 0 close, 0 end                            | 0 resume                 | 1 0 - gone 0 - -
 4           |                                                       | 0 resume                 | no
 4           | 0 schedule                                            | 1 resume                 | no
 Close: by the holder, who goes on holding; nothing but the word changes.
 0           | 0 schedule                                            | 0 close                  | 1 0 - - 0 - -
 8           | 1 sent, 1 push 7, 1 add terminate, 0 schedule         | 0 close                  | 1 1 7 terminate 0 - sg
 0           | 0 schedule, 0 close                                   | 0 close                  | 1 0 - - 0 - -
+0           | 0 schedule, 0 close, 0 end                            | 0 close                  | 1 0 - gone 0 - -
 0           |                                                       | 0 close                  | no
 0           | 0 schedule                                            | 1 close                  | no
 ";
 
 const ENVELOPES: &str = "
 Sent: always, over the end of the numbers too.
-0 |                                               | 1 sent   | 0 1 - - - - g
+0 |                                               | 1 sent   | 0 1 - - - - g !
 4 | 1 sent                                        | 1 sent   | 4 2 - - - - g
 1 | 0 sent                                        | 1 sent   | 1 2 - - - g g
-0 | 1 add terminate, 1 sent, 1 unsent             | 1 sent   | 0 1 - terminate - - smg
+0 | 1 add terminate, 1 sent, 1 unsent             | 1 sent   | 0 1 - terminate - - smg !
 0 | 0 schedule, 0 taken                           | 1 sent   | 2 0 - - 0 - g
+0 | 0 schedule, 0 close, 0 end                    | 1 sent   | 1 1 - gone 0 - g
 Unsent: by one that is sending, who owes a look instead.
 0 | 1 sent                                        | 1 unsent | 0 0 - - - - m
-0 | 1 sent, 1 sent                                | 1 unsent | 0 1 - - - - m
+0 | 1 sent, 1 sent                                | 1 unsent | 0 1 - - - - m !
 1 | 1 add terminate, 1 sent                       | 1 unsent | 1 0 - terminate - - sm
+4 | 1 sent                                        | 1 unsent | 4 0 - - - - m
+0 | 1 sent, 0 schedule, 0 close, 0 end            | 1 unsent | 1 0 - gone 0 - m
 0 | 1 sent, 0 schedule, 0 taken                   | 1 unsent | 2 18446744073709551615 - - 0 - m
 0 |                                               | 1 unsent | no
 0 | 0 sent                                        | 1 unsent | no
@@ -95,22 +103,29 @@ Taken: by the holder, below 0 too.
 0 | 1 sent, 0 schedule                            | 0 taken  | 2 0 - - 0 - g
 0 | 0 schedule                                    | 0 taken  | 2 18446744073709551615 - - 0 - -
 4 | 1 sent, 0 schedule, 0 close                   | 0 taken  | 1 0 - - 0 - g
+4 | 1 sent, 0 schedule                            | 0 taken  | 6 0 - - 0 - g
+0 | 1 sent, 0 schedule, 0 close, 0 end            | 0 taken  | 1 0 - gone 0 - g
 0 | 1 sent                                        | 1 taken  | no
 0 | 1 sent, 0 schedule                            | 1 taken  | no
 Count: where nothing waits no look at the envelopes is owed, but what is being sent still is.
-0 | 1 add terminate, 1 sent, 1 unsent             | 1 count  | 0 0 - terminate - - s
+0 | 1 add terminate, 1 sent, 1 unsent             | 1 count  | 0 0 - terminate - - s !
 0 | 1 sent, 1 unsent, 1 sent, 0 schedule, 0 taken | 1 count  | 2 0 - - 0 - g
-0 | 1 sent, 1 read                                | 1 count  | 0 1 - - - - m
+0 | 1 sent, 1 read                                | 1 count  | 0 1 - - - - m !
 0 | 1 sent, 1 unsent, 0 schedule, 0 taken         | 1 count  | 2 18446744073709551615 - - 0 - m
 4 | 0 sent, 0 unsent                              | 1 count  | 4 0 - - - m -
+1 | 1 sent, 1 unsent                              | 1 count  | 1 0 - - - - -
+0 | 1 sent, 1 unsent, 0 schedule, 0 close, 0 end  | 1 count  | 1 0 - gone 0 - -
 Push: always, at the end; the waiting number and what is owed stay.
 0 |                                               | 1 push 7 | 0 0 7 - - - -
 4 | 1 push 7                                      | 0 push 8 | 4 0 7+8 - - - -
 1 |                                               | 1 push 7 | 1 0 7 - - - -
+0 | 0 schedule                                    | 1 push 7 | 2 0 7 - 0 - -
+0 | 0 schedule, 0 close, 0 end                    | 1 push 7 | 1 0 7 gone 0 - -
 Take: by the holder, the envelope at any place that is there.
 0 | 1 push 7, 1 push 8, 1 push 9, 0 schedule      | 0 take 0 | 2 0 8+9 - 0 - -
 4 | 1 push 7, 1 push 8, 1 push 9, 0 schedule      | 0 take 1 | 6 0 7+9 - 0 - -
 0 | 1 push 7, 1 push 8, 0 schedule, 0 close       | 0 take 1 | 1 0 7 - 0 - -
+0 | 1 push 7, 0 schedule, 0 close, 0 end          | 0 take 0 | 1 0 - gone 0 - -
 0 | 1 push 7, 0 schedule                          | 0 take 1 | no
 0 | 0 schedule                                    | 0 take 0 | no
 0 | 1 push 7                                      | 1 take 0 | no
@@ -119,17 +134,20 @@ Take: by the holder, the envelope at any place that is there.
 
 const SYSTEM: &str = "
 SysAdd: unless the list is gone, at the end.
-0 |                                                                | 1 add terminate | 0 0 - terminate - - s
-4 | 0 add terminate, 1 sent                                        | 1 add suspend   | 4 1 - terminate+suspend - s sg
+0 |                                                                | 1 add terminate | 0 0 - terminate - - s !
+4 | 0 add terminate, 1 sent                                        | 1 add suspend   | 4 1 - terminate+suspend - s sg !
 1 |                                                                | 1 add terminate | 1 0 - terminate - - s
 0 | 0 schedule                                                     | 0 add terminate | 2 0 - terminate 0 s -
 0 | 0 schedule, 0 close, 0 end                                     | 1 add terminate | no
 0 | 0 schedule, 0 close, 0 end, 0 idle                             | 1 add terminate | no
 SysRead: where nothing is listed, or the list is gone, no look at it is owed.
-0 | 1 add terminate                                                | 1 look          | 0 0 - terminate - - s
+0 | 1 add terminate                                                | 1 look          | 0 0 - terminate - - s !
 0 | 1 add terminate, 1 sent, 1 unsent, 1 sent, 0 schedule, 0 drain | 1 look          | 2 1 - - 0 - mg
 0 | 1 add terminate, 0 schedule, 0 close, 0 end                    | 1 look          | 1 0 - gone 0 - -
 0 | 1 add terminate, 0 schedule, 0 drain                           | 0 look          | 2 0 - - 0 - s
+0 | 1 add terminate, 0 schedule, 0 drain, 0 idle                   | 1 look          | 0 0 - - - sm -
+4 | 1 add terminate, 0 schedule, 0 drain                           | 1 look          | 6 0 - - 0 - -
+1 | 1 add terminate                                                | 1 look          | 1 0 - terminate - - s
 SysDrain: by the holder; a list that is gone stays gone.
 0 | 1 add terminate, 1 add suspend, 0 schedule                     | 0 drain         | 2 0 - - 0 - s
 4 | 1 add terminate, 0 schedule                                    | 0 drain         | 6 0 - - 0 - s
@@ -144,6 +162,21 @@ SysEnd: by the holder of a closed actor.
 4 | 0 schedule                                                     | 0 end           | no
 1 |                                                                | 0 end           | no
 0 | 0 schedule, 0 close                                            | 1 end           | no
+";
+
+const RUNS: &str = "
+One holds at a time.
+0 |                                                                                | 0 schedule | 2 0 - - 0 - -
+0 | 0 schedule, 0 idle                                                             | 1 schedule | 2 0 - - 1 sm -
+An envelope is sent, handled, and its holder looks again.
+0 | 0 sent, 0 push 7, 0 read, 0 schedule, 0 taken, 0 take 0                        | 0 idle     | 0 0 - - - sm -
+0 | 0 sent, 0 push 7, 0 read, 0 schedule, 0 taken, 0 take 0, 0 idle                | 0 count    | 0 0 - - - s -
+0 | 0 sent, 0 push 7, 0 read, 0 schedule, 0 taken, 0 take 0, 0 idle, 0 count       | 0 look     | 0 0 - - - - -
+A refused push owes a look.
+0 | 0 sent, 0 sent                                                                 | 0 unsent   | 0 1 - - - m - !
+The sender leaves an envelope to the worker that holds the actor, which had found the queue empty before: it is woken.
+0 | 0 schedule, 1 sent, 1 push 7, 1 read, 0 idle, 0 look                           | 0 count    | 0 1 7 - - m - !
+0 | 0 schedule, 1 sent, 1 push 7, 1 read, 0 idle, 0 look, 0 count                  | 0 schedule | 2 1 7 - 0 - -
 ";
 
 /// What the case's step leaves, as a table writes it, or `None` where the steps before it are no run.
@@ -193,8 +226,9 @@ fn right_cases<R: Abort>(rt: &R, alloc: Global, table: &str) -> Result<u64, Fail
 #[test]
 fn each_step_by_its_table(rt: HostRuntime) -> Result<(), Fail> {
     let alloc = rt.alloc();
-    assert_eq!(rt; right_cases(&rt, alloc, STATUS)?, 51);
-    assert_eq!(rt; right_cases(&rt, alloc, ENVELOPES)?, 34);
-    assert_eq!(rt; right_cases(&rt, alloc, SYSTEM)?, 22);
+    assert_eq!(rt; right_cases(&rt, alloc, STATUS)?, 55);
+    assert_eq!(rt; right_cases(&rt, alloc, ENVELOPES)?, 44);
+    assert_eq!(rt; right_cases(&rt, alloc, SYSTEM)?, 25);
+    assert_eq!(rt; right_cases(&rt, alloc, RUNS)?, 8);
     Ok(())
 }

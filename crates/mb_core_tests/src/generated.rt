@@ -2,7 +2,7 @@
 ghost use Rattle.std.specs.Prelude.{◌<◌};
 
 use crate::words::step_of;
-use mb_core::{ActorState, Event, replay};
+use mb_core::{ActorState, Debt, Event, replay};
 use mb_msg::ActorId;
 use std::alloc::Global;
 use std::test::Fail;
@@ -78,9 +78,19 @@ fn is_lawful(actor: &ActorState) -> bool {
     }
     let system = actor.system().is_some_and(|listed| !listed.is_empty());
     let waits = status.count() == 0 && actor.waiting() > 0;
-    actor.holder().is_none()
-        && (!system || actor.owed().iter().any(|debt| debt.system))
-        && (!waits || actor.owed().iter().any(|debt| debt.message || debt.sending))
+    let (owed_system, owed_message) = what_is_owed(actor.owed());
+    actor.holder().is_none() && (!system || owed_system) && (!waits || owed_message)
+}
+
+/// Whether somebody owes a look at the system work, and whether somebody owes one at the envelopes.
+fn what_is_owed(owed: &[Debt]) -> (bool, bool) {
+    let mut system = false;
+    let mut message = false;
+    for debt in owed {
+        system |= debt.system;
+        message |= debt.message || debt.sending;
+    }
+    (system, message)
 }
 
 #[test]

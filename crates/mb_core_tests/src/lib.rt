@@ -1,4 +1,5 @@
-//! The tests of the machine: worked runs, the table of its steps, and generated runs against the laws.
+//! The tests of the machine: the table of its steps, with worked runs, where runs begin, a long one, and generated runs
+//! against the laws.
 #![tactic(auto)]
 
 #[cfg(test)]

@@ -66,7 +66,8 @@ fn message_of(text: &str) -> Option<SysMsg> {
     }
 }
 
-fn messages_of(alloc: Global, text: &str) -> Result<Vec<SysMsg>, Fail> {
+/// System messages by their names.
+pub fn messages_of(alloc: Global, text: &str) -> Result<Vec<SysMsg>, Fail> {
     let mut messages = Vec::new(alloc);
     for word in text.split_whitespace() {
         messages.push(message_of(word).ok_or("no message")?)?;
@@ -86,7 +87,8 @@ pub fn shown(alloc: Global, actor: &ActorState) -> Result<String, AllocError> {
         Some(_) => "1",
     };
     let owed = owed_shown(alloc, actor.owed())?;
-    format!(in alloc; "{word} {waiting} {envelopes} {system} {holder}{owed}")
+    let runnable = if actor.is_runnable() { " !" } else { "" };
+    format!(in alloc; "{word} {waiting} {envelopes} {system} {holder}{owed}{runnable}")
 }
 
 fn envelopes_shown(alloc: Global, actor: &ActorState) -> Result<String, AllocError> {
@@ -99,7 +101,8 @@ fn envelopes_shown(alloc: Global, actor: &ActorState) -> Result<String, AllocErr
     or_none(text)
 }
 
-fn system_shown(alloc: Global, system: Option<&[SysMsg]>) -> Result<String, AllocError> {
+/// A list of them, or that it is gone for good.
+pub fn system_shown(alloc: Global, system: Option<&[SysMsg]>) -> Result<String, AllocError> {
     let Some(listed) = system else {
         return String::from_str(alloc, "gone");
     };
@@ -115,7 +118,8 @@ fn system_shown(alloc: Global, system: Option<&[SysMsg]>) -> Result<String, Allo
     or_none(text)
 }
 
-fn owed_shown(alloc: Global, owed: &[Debt]) -> Result<String, AllocError> {
+/// What is owed, party by party.
+pub fn owed_shown(alloc: Global, owed: &[Debt]) -> Result<String, AllocError> {
     let mut text = String::new(alloc);
     for debt in owed {
         let letters = match (debt.system, debt.message, debt.sending) {
