@@ -5,9 +5,8 @@
 //! are its status word, the number counted as waiting, the numbers of its envelopes, its system work, who holds it, what
 //! the parties 0 and 1 owe it (`s` a look at the system work, `m` one at the envelopes, `g` that it is sending), and `!`
 //! where a worker should take it.
-use crate::words::{event_of, shown};
+use crate::words::{ACTOR, add_shown, event_of, events_of};
 use mb_core::{Event, replay};
-use mb_msg::ActorId;
 use std::alloc::Global;
 use std::process::Abort;
 use std::test::Fail;
@@ -179,56 +178,71 @@ The sender leaves an envelope to the worker that holds the actor, which had foun
 0 | 0 schedule, 1 sent, 1 push 7, 1 read, 0 idle, 0 look, 0 count                  | 0 schedule | 2 1 7 - 0 - -
 ";
 
-/// What the case's step leaves, as a table writes it, or `None` where the steps before it are no run.
-fn found(alloc: Global, word: u64, before: &str, step: &str) -> Result<Option<String>, Fail> {
-    let actor = ActorId(0);
-    let mut events: Vec<Event> = Vec::new(alloc);
-    for earlier in before.split(',') {
-        if !earlier.trim().is_empty() {
-            events.push(event_of(alloc, actor, earlier.trim())?)?;
+/// A case: where the run begins, the steps before the one in question, that step, and what is seen then.
+#[derive(Clone, Copy)]
+struct Case<'a> {
+    word: u64,
+    before: &'a str,
+    step: &'a str,
+    after: &'a str,
+}
+
+/// The case of a line; a line without bars is a heading, and none.
+fn case_of(line: &str) -> Option<Case<'_>> {
+    let (word, rest) = line.split_once('|')?;
+    let (before, rest) = rest.split_once('|')?;
+    let (step, after) = rest.split_once('|')?;
+    Some(Case {
+        word: word.trim().parse::<u64>().ok()?,
+        before: before.trim(),
+        step: step.trim(),
+        after: after.trim(),
+    })
+}
+
+/// What is seen of the actor after these steps, as a table writes it.
+fn seen(alloc: Global, word: u64, events: &[Event]) -> Result<String, Fail> {
+    let mut text = String::new(alloc);
+    match replay(alloc, &[word], 2, events)? {
+        None => text.push_str("no")?,
+        Some(model) => {
+            for actor in model.actors() {
+                add_shown(alloc, &mut text, actor)?;
+            }
         }
     }
-    if replay(alloc, &[word], 2, &events)?.is_none() {
-        return Ok(None);
-    }
-    events.push(event_of(alloc, actor, step.trim())?)?;
-    let model = replay(alloc, &[word], 2, &events)?;
-    match model.as_ref().and_then(|model| model.actors().first()) {
-        Some(actor) => Ok(Some(shown(alloc, actor)?)),
-        None => Ok(Some(String::from_str(alloc, "no")?)),
-    }
+    Ok(text)
 }
 
-/// Whether the case is right; a line without bars is a heading, and none.
-fn is_right(alloc: Global, line: &str) -> Result<Option<bool>, Fail> {
-    let Some((word, rest)) = line.split_once('|') else {
-        return Ok(None);
-    };
-    let (before, rest) = rest.split_once('|').ok_or("no step")?;
-    let (step, after) = rest.split_once('|').ok_or("nothing after it")?;
-    let word = word.trim().parse::<u64>().ok().ok_or("no word")?;
-    let found = found(alloc, word, before, step)?;
-    Ok(Some(found.is_some_and(|found| found.as_str() == after.trim())))
+/// Whether the steps before are a run, and the case's step leaves what it says.
+fn is_right(alloc: Global, case: Case<'_>) -> Result<bool, Fail> {
+    let mut events = events_of(alloc, case.before)?;
+    if replay(alloc, &[case.word], 2, &events)?.is_none() {
+        return Ok(false);
+    }
+    events.push(event_of(alloc, ACTOR, case.step)?)?;
+    let seen = seen(alloc, case.word, &events)?;
+    Ok(seen.as_str() == case.after)
 }
 
-/// How many cases a table has, all of which are right.
-fn right_cases<R: Abort>(rt: &R, alloc: Global, table: &str) -> Result<u64, Fail> {
+/// A table has so many cases, all of which are right.
+fn try_each<R: Abort>(rt: &R, alloc: Global, table: &str, cases: u64) -> Result<(), Fail> {
     let mut count = 0u64;
     for line in table.lines() {
-        if let Some(is_right) = is_right(alloc, line)? {
-            assert!(rt; is_right, "{line}");
+        if let Some(case) = case_of(line) {
+            assert!(rt; is_right(alloc, case)?, "{line}");
             count = count.wrapping_add(1);
         }
     }
-    Ok(count)
+    assert!(rt; count == cases, "{count} cases");
+    Ok(())
 }
 
 #[test]
 fn each_step_by_its_table(rt: HostRuntime) -> Result<(), Fail> {
     let alloc = rt.alloc();
-    assert_eq!(rt; right_cases(&rt, alloc, STATUS)?, 55);
-    assert_eq!(rt; right_cases(&rt, alloc, ENVELOPES)?, 44);
-    assert_eq!(rt; right_cases(&rt, alloc, SYSTEM)?, 25);
-    assert_eq!(rt; right_cases(&rt, alloc, RUNS)?, 8);
-    Ok(())
+    try_each(&rt, alloc, STATUS, 55)?;
+    try_each(&rt, alloc, ENVELOPES, 44)?;
+    try_each(&rt, alloc, SYSTEM, 25)?;
+    try_each(&rt, alloc, RUNS, 8)
 }

@@ -5,6 +5,7 @@ use crate::words::step_of;
 use mb_core::{ActorState, Debt, Event, replay};
 use mb_msg::ActorId;
 use std::alloc::Global;
+use std::process::Abort;
 use std::test::Fail;
 
 const ACTORS: [u64; 3] = [0, 4, 1];
@@ -93,31 +94,55 @@ fn what_is_owed(owed: &[Debt]) -> (bool, bool) {
     (system, message)
 }
 
+/// How many runs there were, and in how many of their states an actor was held, or one that a worker should take.
+#[derive(Drop)]
+struct Tally {
+    runs: u64,
+    held: u64,
+    runnable: u64,
+}
+
+impl Tally {
+    /// One step more, if it is allowed, and then the laws.
+    fn go_on<R: Abort>(
+        &mut self,
+        rt: &R,
+        alloc: Global,
+        events: &mut Vec<Event>,
+        event: Event,
+    ) -> Result<(), Fail> {
+        events.push(event)?;
+        let Some(model) = replay(alloc, &ACTORS, PARTIES, events)? else {
+            let _ = events.pop();
+            return Ok(());
+        };
+        self.runs = self.runs.wrapping_add(1);
+        for actor in model.actors() {
+            let runs = self.runs;
+            assert!(rt; is_lawful(actor), "run {runs}");
+            self.held = self.held.wrapping_add(u64::from(actor.holder().is_some()));
+            self.runnable = self.runnable.wrapping_add(u64::from(actor.is_runnable()));
+        }
+        Ok(())
+    }
+}
+
 #[test]
 fn every_generated_run_is_lawful(rt: HostRuntime) -> Result<(), Fail> {
     let alloc = rt.alloc();
     let mut numbers = Numbers { state: 1 };
-    let mut runs: u64 = 0;
-    let mut held: u64 = 0;
-    let mut runnable: u64 = 0;
+    let mut tally = Tally {
+        runs: 0,
+        held: 0,
+        runnable: 0,
+    };
     for _ in 0..100u64 {
         let mut events = Vec::new(alloc);
         for _ in 0..60u64 {
-            events.push(numbers.event(alloc)?)?;
-            let Some(model) = replay(alloc, &ACTORS, PARTIES, &events)? else {
-                let _ = events.pop();
-                continue;
-            };
-            runs = runs.wrapping_add(1);
-            for actor in model.actors() {
-                assert!(rt; is_lawful(actor), "in {actor:?} after {events:?}");
-                held = held.wrapping_add(u64::from(actor.holder().is_some()));
-                runnable = runnable.wrapping_add(u64::from(actor.is_runnable()));
-            }
+            let event = numbers.event(alloc)?;
+            tally.go_on(&rt, alloc, &mut events, event)?;
         }
     }
-    assert!(rt; runs > 2000, "{runs} runs");
-    assert!(rt; held > 500, "{held} held");
-    assert!(rt; runnable > 500, "{runnable} runnable");
+    assert!(rt; tally.runs > 2000 && tally.held > 500 && tally.runnable > 500);
     Ok(())
 }

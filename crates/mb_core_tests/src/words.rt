@@ -5,6 +5,21 @@ use mb_msg::{ActorId, Body, Envelope, SenderId, SysMsg};
 use std::alloc::{AllocError, Global};
 use std::test::Fail;
 
+/// The actor of the tables.
+pub const ACTOR: ActorId = ActorId(0);
+
+/// The steps of a text, apart by commas.
+pub fn events_of(alloc: Global, text: &str) -> Result<Vec<Event>, Fail> {
+    let mut events = Vec::new(alloc);
+    if text.is_empty() {
+        return Ok(events);
+    }
+    for step in text.split(',') {
+        events.push(event_of(alloc, ACTOR, step.trim())?)?;
+    }
+    Ok(events)
+}
+
 /// A step with its party: `1 add terminate`.
 pub fn event_of(alloc: Global, actor: ActorId, text: &str) -> Result<Event, Fail> {
     let (party, step) = text.split_once(' ').ok_or("no step")?;
@@ -76,79 +91,80 @@ pub fn messages_of(alloc: Global, text: &str) -> Result<Vec<SysMsg>, Fail> {
 }
 
 /// What is seen of the actor.
-pub fn shown(alloc: Global, actor: &ActorState) -> Result<String, AllocError> {
+pub fn add_shown(alloc: Global, text: &mut String, actor: &ActorState) -> Result<(), AllocError> {
     let word = actor.status().word();
     let waiting = actor.waiting();
-    let envelopes = envelopes_shown(alloc, actor)?;
-    let system = system_shown(alloc, actor.system())?;
-    let holder = match actor.holder() {
-        None => "-",
-        Some(0) => "0",
-        Some(_) => "1",
-    };
-    let owed = owed_shown(alloc, actor.owed())?;
-    let runnable = if actor.is_runnable() { " !" } else { "" };
-    format!(in alloc; "{word} {waiting} {envelopes} {system} {holder}{owed}{runnable}")
+    add(text, &format!(in alloc; "{word} {waiting} ")?)?;
+    add_envelopes(alloc, text, actor.envelopes())?;
+    text.push(' ')?;
+    add_system(text, actor.system())?;
+    text.push_str(match actor.holder() {
+        None => " -",
+        Some(0) => " 0",
+        Some(_) => " 1",
+    })?;
+    for debt in actor.owed() {
+        text.push_str(owed(debt))?;
+    }
+    text.push_str(if actor.is_runnable() { " !" } else { "" })
 }
 
-fn envelopes_shown(alloc: Global, actor: &ActorState) -> Result<String, AllocError> {
-    let mut text = String::new(alloc);
-    for envelope in actor.envelopes() {
+fn add(text: &mut String, item: &String) -> Result<(), AllocError> {
+    text.push_str(item.as_str())
+}
+
+fn add_envelopes(
+    alloc: Global,
+    text: &mut String,
+    envelopes: &[Envelope],
+) -> Result<(), AllocError> {
+    if envelopes.is_empty() {
+        return text.push('-');
+    }
+    let mut joint = "";
+    for envelope in envelopes {
         let number = envelope.number;
-        let number = format!(in alloc; "{number}")?;
-        add(&mut text, number.as_str())?;
+        add(text, &format!(in alloc; "{joint}{number}")?)?;
+        joint = "+";
     }
-    or_none(text)
+    Ok(())
 }
 
-/// A list of them, or that it is gone for good.
-pub fn system_shown(alloc: Global, system: Option<&[SysMsg]>) -> Result<String, AllocError> {
+/// A list of system messages, or that it is gone for good.
+pub fn add_system(text: &mut String, system: Option<&[SysMsg]>) -> Result<(), AllocError> {
     let Some(listed) = system else {
-        return String::from_str(alloc, "gone");
+        return text.push_str("gone");
     };
-    let mut text = String::new(alloc);
+    if listed.is_empty() {
+        return text.push('-');
+    }
+    let mut joint = "";
     for message in listed {
-        let name = match message {
-            SysMsg::Terminate => "terminate",
-            SysMsg::Suspend => "suspend",
-            _ => "another",
-        };
-        add(&mut text, name)?;
+        text.push_str(joint)?;
+        text.push_str(name_of(message))?;
+        joint = "+";
     }
-    or_none(text)
+    Ok(())
 }
 
-/// What is owed, party by party.
-pub fn owed_shown(alloc: Global, owed: &[Debt]) -> Result<String, AllocError> {
-    let mut text = String::new(alloc);
-    for debt in owed {
-        let letters = match (debt.system, debt.message, debt.sending) {
-            (false, false, false) => " -",
-            (true, false, false) => " s",
-            (false, true, false) => " m",
-            (false, false, true) => " g",
-            (true, true, false) => " sm",
-            (true, false, true) => " sg",
-            (false, true, true) => " mg",
-            (true, true, true) => " smg",
-        };
-        text.push_str(letters)?;
+fn name_of(message: &SysMsg) -> &'static str {
+    match message {
+        SysMsg::Terminate => "terminate",
+        SysMsg::Suspend => "suspend",
+        _ => "another",
     }
-    Ok(text)
 }
 
-/// One more of a list.
-fn add(text: &mut String, item: &str) -> Result<(), AllocError> {
-    if !text.is_empty() {
-        text.push('+')?;
+/// What one party owes.
+fn owed(debt: &Debt) -> &'static str {
+    match (debt.system, debt.message, debt.sending) {
+        (false, false, false) => " -",
+        (true, false, false) => " s",
+        (false, true, false) => " m",
+        (false, false, true) => " g",
+        (true, true, false) => " sm",
+        (true, false, true) => " sg",
+        (false, true, true) => " mg",
+        (true, true, true) => " smg",
     }
-    text.push_str(item)
-}
-
-/// A list of nothing is a dash.
-fn or_none(mut text: String) -> Result<String, AllocError> {
-    if text.is_empty() {
-        text.push('-')?;
-    }
-    Ok(text)
 }
