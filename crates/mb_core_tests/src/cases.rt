@@ -5,7 +5,7 @@
 //! are its status word, the number counted as waiting, the numbers of its envelopes, its system work, who holds it, what
 //! the parties 0 and 1 owe it (`s` a look at the system work, `m` one at the envelopes, `g` that it is sending), and `!`
 //! where a worker should take it.
-use crate::words::{ACTOR, add_shown, event_of, events_of};
+use crate::words::{ACTOR, event_of, events_of, shows};
 use mb_core::{Event, replay};
 use std::alloc::Global;
 use std::process::Abort;
@@ -200,29 +200,27 @@ fn case_of(line: &str) -> Option<Case<'_>> {
     })
 }
 
-/// What is seen of the actor after these steps, as a table writes it.
-fn seen(alloc: Global, word: u64, events: &[Event]) -> Result<String, Fail> {
-    let mut text = String::new(alloc);
+/// Whether these steps leave what is seen then, or `no` where they are no run.
+fn leave(alloc: Global, word: u64, events: &[Event], after: &str) -> Result<bool, Fail> {
     match replay(alloc, &[word], 2, events)? {
-        None => text.push_str("no")?,
-        Some(model) => {
-            for actor in model.actors() {
-                add_shown(alloc, &mut text, actor)?;
-            }
-        }
+        None => Ok(after == "no"),
+        Some(model) => Ok(
+            model
+                .actors()
+                .first()
+                .is_some_and(|actor| shows(actor, after)),
+        ),
     }
-    Ok(text)
 }
 
 /// Whether the steps before are a run, and the case's step leaves what it says.
 fn is_right(alloc: Global, case: Case<'_>) -> Result<bool, Fail> {
     let mut events = events_of(alloc, case.before)?;
-    if replay(alloc, &[case.word], 2, &events)?.is_none() {
+    if leave(alloc, case.word, &events, "no")? {
         return Ok(false);
     }
     events.push(event_of(alloc, ACTOR, case.step)?)?;
-    let seen = seen(alloc, case.word, &events)?;
-    Ok(seen.as_str() == case.after)
+    leave(alloc, case.word, &events, case.after)
 }
 
 /// A table has so many cases, all of which are right.

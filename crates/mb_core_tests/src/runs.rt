@@ -1,6 +1,6 @@
 //! Where runs begin, who has to be there, and a long one.
 
-use crate::words::{ACTOR, add_system, events_of, messages_of};
+use crate::words::{ACTOR, are_messages, events_of, messages_of};
 use mb_core::{Debt, Event, Messages, Step, replay};
 use mb_msg::ActorId;
 use std::alloc::Global;
@@ -25,11 +25,10 @@ fn beginnings(alloc: Global, words: &str) -> Result<u64, Fail> {
 fn messages_are_a_list(rt: HostRuntime) -> Result<(), Fail> {
     let alloc = rt.alloc();
     let messages = Messages::new(messages_of(alloc, "terminate suspend")?);
-    let mut text = String::new(alloc);
-    add_system(&mut text, Some(messages.as_slice()))?;
+    let names = "terminate+suspend";
+    assert!(rt; are_messages(names, Some(messages.as_slice())));
     let listed = messages.into_vec();
-    add_system(&mut text, Some(listed.as_slice()))?;
-    assert!(rt; text.as_str() == "terminate+suspendterminate+suspend");
+    assert!(rt; are_messages(names, Some(listed.as_slice())));
     Ok(())
 }
 

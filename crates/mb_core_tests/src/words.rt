@@ -2,7 +2,7 @@
 
 use mb_core::{ActorState, Debt, Event, Messages, Step};
 use mb_msg::{ActorId, Body, Envelope, SenderId, SysMsg};
-use std::alloc::{AllocError, Global};
+use std::alloc::Global;
 use std::test::Fail;
 
 /// The actor of the tables.
@@ -90,61 +90,54 @@ pub fn messages_of(alloc: Global, text: &str) -> Result<Vec<SysMsg>, Fail> {
     Ok(messages)
 }
 
-/// What is seen of the actor.
-pub fn add_shown(alloc: Global, text: &mut String, actor: &ActorState) -> Result<(), AllocError> {
-    let word = actor.status().word();
-    let waiting = actor.waiting();
-    add(text, &format!(in alloc; "{word} {waiting} ")?)?;
-    add_envelopes(alloc, text, actor.envelopes())?;
-    text.push(' ')?;
-    add_system(text, actor.system())?;
-    text.push_str(match actor.holder() {
-        None => " -",
-        Some(0) => " 0",
-        Some(_) => " 1",
-    })?;
-    for debt in actor.owed() {
-        text.push_str(owed(debt))?;
+/// Whether this is what is seen of the actor.
+pub fn shows(actor: &ActorState, text: &str) -> bool {
+    let mut words = text.split_whitespace();
+    is_number(words.next(), actor.status().word())
+        && is_number(words.next(), actor.waiting())
+        && are_numbers(words.next().unwrap_or(""), actor.envelopes())
+        && are_messages(words.next().unwrap_or(""), actor.system())
+        && words.next() == Some(holder(actor))
+        && words.next() == actor.owed().first().map(owed)
+        && words.next() == actor.owed().get(1).map(owed)
+        && words.next().is_some() == actor.is_runnable()
+}
+
+fn is_number(word: Option<&str>, number: u64) -> bool {
+    match word {
+        Some(word) => word.parse::<u64>().ok() == Some(number),
+        None => false,
     }
-    text.push_str(if actor.is_runnable() { " !" } else { "" })
 }
 
-fn add(text: &mut String, item: &String) -> Result<(), AllocError> {
-    text.push_str(item.as_str())
-}
-
-fn add_envelopes(
-    alloc: Global,
-    text: &mut String,
-    envelopes: &[Envelope],
-) -> Result<(), AllocError> {
+fn are_numbers(text: &str, envelopes: &[Envelope]) -> bool {
     if envelopes.is_empty() {
-        return text.push('-');
+        return text == "-";
     }
-    let mut joint = "";
+    let mut numbers = text.split('+');
     for envelope in envelopes {
-        let number = envelope.number;
-        add(text, &format!(in alloc; "{joint}{number}")?)?;
-        joint = "+";
+        if !is_number(numbers.next(), envelope.number) {
+            return false;
+        }
     }
-    Ok(())
+    numbers.next().is_none()
 }
 
-/// A list of system messages, or that it is gone for good.
-pub fn add_system(text: &mut String, system: Option<&[SysMsg]>) -> Result<(), AllocError> {
+/// Whether these are the names of the system messages, or they are gone for good.
+pub fn are_messages(text: &str, system: Option<&[SysMsg]>) -> bool {
     let Some(listed) = system else {
-        return text.push_str("gone");
+        return text == "gone";
     };
     if listed.is_empty() {
-        return text.push('-');
+        return text == "-";
     }
-    let mut joint = "";
+    let mut names = text.split('+');
     for message in listed {
-        text.push_str(joint)?;
-        text.push_str(name_of(message))?;
-        joint = "+";
+        if names.next() != Some(name_of(message)) {
+            return false;
+        }
     }
-    Ok(())
+    names.next().is_none()
 }
 
 fn name_of(message: &SysMsg) -> &'static str {
@@ -155,16 +148,24 @@ fn name_of(message: &SysMsg) -> &'static str {
     }
 }
 
+fn holder(actor: &ActorState) -> &'static str {
+    match actor.holder() {
+        None => "-",
+        Some(0) => "0",
+        Some(_) => "1",
+    }
+}
+
 /// What one party owes.
 fn owed(debt: &Debt) -> &'static str {
     match (debt.system, debt.message, debt.sending) {
-        (false, false, false) => " -",
-        (true, false, false) => " s",
-        (false, true, false) => " m",
-        (false, false, true) => " g",
-        (true, true, false) => " sm",
-        (true, false, true) => " sg",
-        (false, true, true) => " mg",
-        (true, true, true) => " smg",
+        (false, false, false) => "-",
+        (true, false, false) => "s",
+        (false, true, false) => "m",
+        (false, false, true) => "g",
+        (true, true, false) => "sm",
+        (true, false, true) => "sg",
+        (false, true, true) => "mg",
+        (true, true, true) => "smg",
     }
 }
