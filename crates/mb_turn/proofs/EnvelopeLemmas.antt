@@ -99,8 +99,8 @@ reason-why h throughput n less w = by_reason w.0 w.1 w.2
     by_reason : (stopped : Stopped) → IsEnough h.home.cell.who h.home.cell.journal stopped → EndsDrained h.actor h.log stopped →
         (s : Stopped) × HadRoom s × EndsDrained h.actor h.log s × IsReason h.home.cell.who throughput n h.home.cell.journal s
     by_reason UsedUp enough ends = absurd enough
-    by_reason (NotOpen word) enough ends = (NotOpen word, tt, ends, less, enough.0, enough.1)
-    by_reason (NoEnvelope word) enough ends = (NoEnvelope word, tt, ends, less, enough.0, enough.1)
+    by_reason (NotOpen word) enough ends = (NotOpen word, tt, ends, (less, enough.0, enough.1))
+    by_reason (NoEnvelope word) enough ends = (NoEnvelope word, tt, ends, (less, enough.0, enough.1))
     by_reason AtClosing enough ends = (AtClosing, tt, ends, enough)
     by_reason NoRoom enough ends = absurd enough
 
@@ -109,7 +109,7 @@ pub reason-used : (gives : ℕ → Moment → Reply → Type 0) (origin : Origin
     IsRunning gives origin [] seen h → n ≡ most_envelopes throughput → (h.status.closed ≡ true) ⊎ IsDrained h →
     (stopped : Stopped) × HadRoom stopped × EndsDrained h.actor h.log stopped × IsReason h.home.cell.who throughput n h.home.cell.journal stopped
 reason-used gives origin seen h throughput n r all (inl shut) = (AtClosing, tt, tt, ended-closed gives origin seen h [] shut r)
-reason-used gives origin seen h throughput n r all (inr drained) = (UsedUp, tt, drained.last, all, drained.none)
+reason-used gives origin seen h throughput n r all (inr drained) = (UsedUp, tt, drained.last, (all, drained.none))
 
 -- an envelope was counted as taken
 pub beside-counted : (c new : Claim (Box Contents)) (ours : (claim_id new ≡ claim_id c) × (held_actor new ≡ held_actor c)) (home : new.home ≡ c.home)

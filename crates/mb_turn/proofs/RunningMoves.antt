@@ -81,7 +81,7 @@ module _ (gives : ℕ → Moment → Reply → Type 0) (origin : Origin (Box Con
     open_rest = subst (λ b. MatchBool b (h.home.rest ≡ []) (h.gave ≡ false → IsRested h.home)) not_closed s.rest
 
     none-next : IsRested h.home → HasNext h.home → IsRested new
-    none-next rested (inl some) = absurd (subst (λ (x : Option (ℕ × SysMsg)). IsSome x) rested.no_front some)
+    none-next rested (inl some) = absurd (cc (subst (λ (x : Option (ℕ × SysMsg)). IsSome x) rested.no_front some))
     none-next rested (inr left) = absurd (left rested.no_rest)
 
     beside-open : given_of new ≡ h.given → (h.gave ≡ false → IsRested new) → IsBeside (record h { home = new })

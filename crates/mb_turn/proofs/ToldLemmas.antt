@@ -64,7 +64,7 @@ module _ (who : Identity) (actor : ℕ) (before : List Entry) where
         parts = t.told.parts;
         said_is = t.told.said_is;
         due_is = t.told.due_is;
-        right = each_weaker (IsRight actor shut) (IsRight actor true) (right-closed shut) t.told.parts t.told.right;
+        right = each_weaker (IsRight actor shut) (IsRight actor true) t.told.parts (right-closed shut) t.told.right;
       };
     }
 
