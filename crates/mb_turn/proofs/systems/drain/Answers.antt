@@ -74,4 +74,4 @@ returns-clause-drained g c =
     let kept = subst (λ (x : Contents). c.keep.new.self ≡ record x { rest = c.sys_drain-drained.result }) c.deref_mut.ensures.value
     c.keep.ensures.kept in
     λ nothing. is-drained c.args.claim.now c.sys_drain-drained.new.claim did.ours did.same did.taken did.recorded c.sys_drain-drained.result
-    did.given did.known did.gave c.keep.new.self kept c.requires.rested (c.is_empty.ensures.0 (not-false _ nothing))
+    did.given did.known did.gave c.keep.new.self kept c.requires.rested (c.is_empty-some.ensures.0 (not-false _ nothing))
