@@ -51,8 +51,8 @@ module _ (h : Hold) (new : Contents) (ready : Bool) (room : ℕ)
   beside-ready s = beside-home h s new who journal (ap (λ (x : Contents). x.rest) same) (ap (λ (x : Contents). x.dropped) same)
 
   module _ (gives : ℕ → Moment → Reply → Type 0) (origin : Origin (Box Contents)) (seen : List Sight) (r : IsRunning gives origin [] seen h) where
-    pub running-ready : ((pending : List Act) → IsSettled (gives h.home.cell.who.this.0) pending h.home → IsSettled (gives new.cell.who.this.0) pending
-        new) → IsRunning gives origin [] seen (record h { home = new })
+    pub running-ready : ((pending : List Act) → IsSettled (gives h.home.cell.who.this.0) pending h.home →
+        IsSettled (gives new.cell.who.this.0) pending new) → IsRunning gives origin [] seen (record h { home = new })
     running-ready settled =
         let at_home : IsSettled (gives h.home.cell.who.this.0) [] h.home = subst (λ n. IsSettled (gives n) [] h.home) (sym r.number) r.settled in
         let here : new.cell.who.this.0 ≡ h.actor = ap (λ (x : Contents). x.cell.who.this.0) same ∙ r.number in

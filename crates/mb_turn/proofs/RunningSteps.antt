@@ -178,7 +178,8 @@ module _ (gives : ℕ → Moment → Reply → Type 0) (origin : Origin (Box Con
         (told-close h.home.cell.who h.actor h.before h.home.cell.journal rest h.recorded h.status.closed r.told) r.sends
 
     -- something was said
-    running-recorded : (pending left : List Act) (recorded : List Said) → IsRunning gives origin pending seen h → IsSettled (gives h.actor) left h.home →
+    running-recorded : (pending left : List Act) (recorded : List Said) → IsRunning gives origin pending seen h →
+        IsSettled (gives h.actor) left h.home →
         Leads h.status left (mailbox_at h.home.cell.who h.home.cell.journal) →
         IsSaidBut h.home.cell.who h.actor h.status.closed h.home.cell.journal h.before left recorded → SendsBelow origin.actors left →
         IsRunning gives origin left seen (record h { recorded = recorded })

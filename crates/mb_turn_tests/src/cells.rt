@@ -10,18 +10,23 @@ use mb_msg::ActorId;
 use std::alloc::Global;
 
 /// The guardian's.
-pub fn guardians_cell(
-    alloc: Global,
-    prepared: Vec<ActorId>,
-    limit: u32,
-) -> Cell<Player, Counting>
+pub fn guardians_cell(alloc: Global, prepared: Vec<ActorId>, limit: u32) -> Cell<Player, Counting>
     requires few { length prepared.items ≤ most_actors }
     requires numbered { All (λ x. x.0 < most_actors) prepared.items }
     ensures who { (result.who.this.0 ≡ 0) × (result.who.parent ≡ None) × (result.who.actors ≡ 3) × (result.who.limit ≡ limit) }
     ensures prepared { result.who.prepared ≡ prepared.items }
     ensures untouched { (result.journal ≡ []) × (result.acts ≡ []) }
 {
-    Cell::new(alloc, ActorId(0), 3, None, None, prepared, ask_default(alloc), limit)
+    Cell::new(
+        alloc,
+        ActorId(0),
+        3,
+        None,
+        None,
+        prepared,
+        ask_default(alloc),
+        limit,
+    )
 }
 
 /// That of an actor with this parent.

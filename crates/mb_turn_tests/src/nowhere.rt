@@ -13,6 +13,7 @@ use std::sync::Wait;
 #[derive(Drop)]
 pub struct Nowhere {
     pub(crate) gates: Snapshot<Gates<Place<Player, Counting>>>,
+    pub(crate) pushed: Log<Snapshot<Claim<Place<Player, Counting>>>>,
     pub(crate) refused: Log<Snapshot<Claim<Place<Player, Counting>>>>,
 }
 
@@ -23,6 +24,7 @@ impl Nowhere {
     {
         Nowhere {
             gates: Snapshot::of(gates),
+            pushed: Log::new(),
             refused: Log::new(),
         }
     }
@@ -34,7 +36,7 @@ impl Way<Place<Player, Counting>> for Nowhere {
 
     ghost origin = { λ way. Some (origin_of way.gates.value) };
 
-    ghost pushed = { λ way. [] };
+    ghost pushed = { λ way. map (λ s. s.value) way.pushed };
 
     ghost refused = { λ way. map (λ s. s.value) way.refused };
 
@@ -44,8 +46,11 @@ impl Way<Place<Player, Counting>> for Nowhere {
         claim: Claim<Place<Player, Counting>>,
     ) -> Result<(), Refused<Place<Player, Counting>>>
         ensures same { self.new.gates ≡ self.old.gates }
-        ensures pushed { MatchResult result (λ _. ⊥)
-            (λ back. (back.claim ≡ claim) × (map (λ s. s.value) self.new.refused ≡ map (λ s. s.value) self.old.refused ++ claim ∷ [])) }
+        ensures pushed { MatchResult result
+            (λ _. (map (λ s. s.value) self.new.pushed ≡ map (λ s. s.value) self.old.pushed ++ claim ∷ [])
+            × (map (λ s. s.value) self.new.refused ≡ map (λ s. s.value) self.old.refused))
+            (λ back. (back.claim ≡ claim) × (map (λ s. s.value) self.new.pushed ≡ map (λ s. s.value) self.old.pushed)
+            × (map (λ s. s.value) self.new.refused ≡ map (λ s. s.value) self.old.refused ++ claim ∷ [])) }
     {
         self.refused.add(Snapshot::of(&claim));
         Err(Refused { claim })

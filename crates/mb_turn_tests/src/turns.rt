@@ -87,7 +87,15 @@ fn a_throughput_of_0_counts_as_1(rt: HostRuntime) -> Result<(), Fail> {
 #[test]
 fn nothing_is_begun_once_a_failure_suspends(rt: HostRuntime) -> Result<(), Fail> {
     let sends = [(FIRST, user(FAIL)), (FIRST, user(FAIL))];
-    let turns = [(0, 1, 0), (1, 1, 1), (2, 1, 0), (0, 1, 0), (1, 1, 1), (0, 1, 0), (1, 1, 0)];
+    let turns = [
+        (0, 1, 0),
+        (1, 1, 1),
+        (2, 1, 0),
+        (0, 1, 0),
+        (1, 1, 1),
+        (0, 1, 0),
+        (1, 1, 0),
+    ];
     let stage = play(&rt, rt.alloc(), SIBLINGS, &sends, 5, &turns)?;
     assert_eq!(rt; stage.states(rt.alloc())?, [None, Some(0), Some(0)]);
     Ok(())
@@ -95,7 +103,11 @@ fn nothing_is_begun_once_a_failure_suspends(rt: HostRuntime) -> Result<(), Fail>
 
 #[test]
 fn what_is_queued_at_the_end_is_cleaned_up(rt: HostRuntime) -> Result<(), Fail> {
-    let sends = [(FIRST, user(ADD)), (FIRST, Body::PoisonPill), (FIRST, user(ADD))];
+    let sends = [
+        (FIRST, user(ADD)),
+        (FIRST, Body::PoisonPill),
+        (FIRST, user(ADD)),
+    ];
     let turns = [(0, 1, 0), (1, 2, 2), (2, 1, 0), (0, 1, 0)];
     let mut stage = play(&rt, rt.alloc(), SIBLINGS, &sends, 5, &turns)?;
     assert!(rt; stage.is_closed(FIRST));
@@ -107,7 +119,15 @@ fn what_is_queued_at_the_end_is_cleaned_up(rt: HostRuntime) -> Result<(), Fail> 
 #[test]
 fn a_watcher_is_told_of_the_end(rt: HostRuntime) -> Result<(), Fail> {
     let sends = [(SECOND, Body::Kill)];
-    let turns = [(0, 1, 0), (1, 1, 0), (2, 2, 1), (0, 1, 0), (2, 1, 0), (0, 1, 0), (1, 1, 1)];
+    let turns = [
+        (0, 1, 0),
+        (1, 1, 0),
+        (2, 2, 1),
+        (0, 1, 0),
+        (2, 1, 0),
+        (0, 1, 0),
+        (1, 1, 1),
+    ];
     let stage = play(&rt, rt.alloc(), WATCHER, &sends, 5, &turns)?;
     assert_eq!(rt; stage.states(rt.alloc())?, [None, Some(1), Some(0)]);
     Ok(())
@@ -124,8 +144,19 @@ fn who_watches_too_late_is_answered(rt: HostRuntime) -> Result<(), Fail> {
 
 #[test]
 fn who_left_is_not_told(rt: HostRuntime) -> Result<(), Fail> {
-    let sends = [(FIRST, user(WATCH)), (FIRST, user(LEAVE)), (SECOND, Body::PoisonPill)];
-    let turns = [(0, 1, 0), (1, 1, 1), (2, 3, 1), (1, 1, 1), (0, 1, 0), (1, 0, 1)];
+    let sends = [
+        (FIRST, user(WATCH)),
+        (FIRST, user(LEAVE)),
+        (SECOND, Body::PoisonPill),
+    ];
+    let turns = [
+        (0, 1, 0),
+        (1, 1, 1),
+        (2, 3, 1),
+        (1, 1, 1),
+        (0, 1, 0),
+        (1, 0, 1),
+    ];
     let stage = play(&rt, rt.alloc(), SIBLINGS, &sends, 1, &turns)?;
     assert_eq!(rt; stage.states(rt.alloc())?, [None, Some(2), Some(0)]);
     Ok(())
@@ -133,7 +164,11 @@ fn who_left_is_not_told(rt: HostRuntime) -> Result<(), Fail> {
 
 #[test]
 fn a_child_that_fails_is_started_afresh(rt: HostRuntime) -> Result<(), Fail> {
-    let sends = [(SECOND, user(ADD)), (SECOND, user(FAIL)), (SECOND, user(ADD))];
+    let sends = [
+        (SECOND, user(ADD)),
+        (SECOND, user(FAIL)),
+        (SECOND, user(ADD)),
+    ];
     let turns = [(0, 1, 0), (1, 1, 0), (2, 1, 2), (1, 1, 0), (2, 1, 1)];
     let stage = play(&rt, rt.alloc(), FATHER, &sends, 5, &turns)?;
     assert_eq!(rt; stage.states(rt.alloc())?, [None, Some(0), Some(1)]);

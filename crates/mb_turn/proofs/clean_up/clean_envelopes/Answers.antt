@@ -55,18 +55,22 @@ returns-in_err-clean_next-clause-running g c =
     (record (hold_of c.loop.claim) { home = x })) (sym (c.in_err-clean_next.ensures.refused ∙ c.deref_mut.ensures.value)) (c.loop.invariant.4 seen r)
 
 pub returns-in_err-clean_next-clause-none : goal.returns-in_err-clean_next-clause-none
-returns-in_err-clean_next-clause-none g c = ap (λ (x : Contents). x.rest) (c.in_err-clean_next.ensures.refused ∙ c.deref_mut.ensures.value) ∙ c.loop.invariant.5
+returns-in_err-clean_next-clause-none g c =
+    ap (λ (x : Contents). x.rest) (c.in_err-clean_next.ensures.refused ∙ c.deref_mut.ensures.value) ∙ c.loop.invariant.5
 
 pub returns-in_err-clean_next-clause-given : goal.returns-in_err-clean_next-clause-given
-returns-in_err-clean_next-clause-given g c = (ap given_of (c.in_err-clean_next.ensures.refused ∙ c.deref_mut.ensures.value) ∙ c.loop.invariant.6, c.loop.invariant.7)
+returns-in_err-clean_next-clause-given g c =
+    (ap given_of (c.in_err-clean_next.ensures.refused ∙ c.deref_mut.ensures.value) ∙ c.loop.invariant.6, c.loop.invariant.7)
 
 pub returns-in_err-clean_next-clause-left : goal.returns-in_err-clean_next-clause-left
-returns-in_err-clean_next-clause-left g c = ap (λ (x : Contents). x.cell) (c.in_err-clean_next.ensures.refused ∙ c.deref_mut.ensures.value) ∙ c.loop.invariant.8
+returns-in_err-clean_next-clause-left g c =
+    ap (λ (x : Contents). x.cell) (c.in_err-clean_next.ensures.refused ∙ c.deref_mut.ensures.value) ∙ c.loop.invariant.8
 
 pub returns-in_err-clean_next-clause-same : goal.returns-in_err-clean_next-clause-same
 returns-in_err-clean_next-clause-same g c =
     keeps-then _ _ _ c.loop.invariant.9
-    (keeps-home (hold_of c.loop.claim) c.clean_next.new.self (ap (λ (x : Contents). x.cell) (c.in_err-clean_next.ensures.refused ∙ c.deref_mut.ensures.value)))
+    (keeps-home (hold_of c.loop.claim) c.clean_next.new.self
+    (ap (λ (x : Contents). x.cell) (c.in_err-clean_next.ensures.refused ∙ c.deref_mut.ensures.value)))
 
 -- ---- none was there
 

@@ -54,7 +54,8 @@ drop_systems-requires-2-clause-running g c =
     let mid = c.drop_systems.new.claim in
     let r = c.drop_systems.ensures.running in
     let new : Contents = c.keep.new.self in
-    let kept = subst (λ (x : Contents). c.keep.new.self ≡ record x { rest = c.sys_close-listed.result }) c.deref_mut.ensures.value c.keep.ensures.kept in
+    let kept = subst (λ (x : Contents). c.keep.new.self ≡ record x { rest = c.sys_close-listed.result }) c.deref_mut.ensures.value
+    c.keep.ensures.kept in
     let cell = ap (λ (x : Contents). x.cell) kept in
     subst (λ (x : Seen). IsRunning g.K.Behaviours.gives (origin_of c.args.gates.now) x.acts (known_by c.drop_systems.new.waker.pass).log
     (record (hold_of mid) { home = new })) (sym cell)
@@ -83,7 +84,8 @@ returns-clause-beside g c =
     let mid = c.drop_systems.new.claim in
     let before : given_of mid.home.value ≡ given_to c.args.claim.now =
     c.drop_systems.ensures.given.0 ∙ ap (λ (b : Box Contents). given_of b.value) did.same.1 ∙ c.requires.count in
-    let beside = subst (λ (x : Contents). c.keep.new.self ≡ record x { rest = c.sys_close-listed.result }) c.deref_mut.ensures.value c.keep.ensures.kept in
+    let beside = subst (λ (x : Contents). c.keep.new.self ≡ record x { rest = c.sys_close-listed.result }) c.deref_mut.ensures.value
+    c.keep.ensures.kept in
     let kept : given_of c.keep.new.self ≡ given_after (given_to c.args.claim.now) c.sys_close-listed.result =
     ap given_of beside ∙ given-kept mid.home.value c.sys_close-listed.result c.drop_systems.ensures.none
     ∙ ap (λ n. given_after n c.sys_close-listed.result) before in

@@ -1,6 +1,6 @@
 use Rattle.std.proofs.Common.{◌≡◌, List, [], inl, true, false, refl, sym, ap, ◌∙◌, subst, arith}
-use Rattle.std.specs.Prelude.{MatchBool, IsTrue, IsErrOf}
-use Rattle.mb_journal.specs.declared.error.ReadyError.TheVariants.{JournalFull}
+use Rattle.std.specs.Prelude.{MatchBool, IsTrue, Err}
+use Rattle.mb_journal.specs.declared.error.ReadyError.{ReadyError}
 use Rattle.mb_status.specs.Mailbox.{Mailbox, word_of, should_process}
 use Rattle.mb_journal.specs.Acts.{Act}
 use Rattle.mb_journal.specs.Reading.{IsOpen}
@@ -13,7 +13,7 @@ use Rattle.mb_home.specs.Settled.{IsSettled}
 use Rattle.mb_home.specs.Steps.{Begins, FindsNone}
 use Rattle.mb_turn.specs.Hold.{Hold, hold_of}
 use Rattle.mb_turn.specs.Running.{IsRunning}
-use Rattle.mb_turn.proofs.AppliedLemmas.{same-keeps, not-full, acts-ready, keeps-ready, beside-ready, running-ready, envelopes-fit}
+use Rattle.mb_turn.proofs.AppliedLemmas.{same-keeps, same-fault, not-full, acts-ready, keeps-ready, beside-ready, running-ready, envelopes-fit}
 use Rattle.mb_turn.proofs.BesideLemmas.{keeps-same, keeps-then, same-run-then}
 use Rattle.mb_turn.proofs.CallerLemmas.{further-none}
 use Rattle.mb_turn.proofs.CleanLemmas.{running-counted, keeps-taken}
@@ -278,8 +278,8 @@ carry_out-requires-clause-beside g c =
     (beside-begun gives origin seen h new r s (is-open gives origin seen old c.requires.running t) (word_of c.status-status.result)
     (count-none h.status h.home.cell.who h.home.cell.journal (status-at h r.leads) t) begun)
 
-pub returns-clause-turning : goal.returns-clause-turning
-returns-clause-turning g c =
+pub returns-in-Ok-clause-turning : goal.returns-in-Ok-clause-turning
+returns-in-Ok-clause-turning g c =
     let same = subst (λ (x : Contents). c.ready.new.self
     ≡ record x { cell = record x.cell { is_ready = c.ready.new.self.cell.is_ready }; room = c.ready.new.self.room }) c.deref_mut.ensures.value
     c.ready.ensures.same in
@@ -307,8 +307,8 @@ returns-clause-turning g c =
       same-keeps _ _ _ (same-run-then _ _ _ before.same (same-begun h new c.args.turn.now at word begun)) after,
     )
 
-pub returns-in_err-carry_out-clause-turning : goal.returns-in_err-carry_out-clause-turning
-returns-in_err-carry_out-clause-turning g c =
+pub returns-in-Err-clause-turning : goal.returns-in-Err-clause-turning
+returns-in-Err-clause-turning g c =
     let same = subst (λ (x : Contents). c.ready.new.self
     ≡ record x { cell = record x.cell { is_ready = c.ready.new.self.cell.is_ready }; room = c.ready.new.self.room }) c.deref_mut.ensures.value
     c.ready.ensures.same in
@@ -336,5 +336,7 @@ returns-in_err-carry_out-clause-turning g c =
       same-keeps _ _ _ (same-run-then _ _ _ before.same (same-begun h new c.args.turn.now at word begun)) after,
     )
 
-pub returns-in_err-carry_out-clause-full : goal.returns-in_err-carry_out-clause-full
-returns-in_err-carry_out-clause-full g c = λ full. absurd (not-full c.carry_out.result c.carry_out.ensures.refused (subst (λ r. IsErrOf r JournalFull) (sym c.in_err-carry_out.was) full))
+pub returns-in-Err-clause-full : goal.returns-in-Err-clause-full
+returns-in-Err-clause-full g c =
+    λ full. absurd (not-full c.carry_out.result c.carry_out.ensures.refused
+    (c.in-Err.is ∙ ap (λ (f : ReadyError). Err f) (same-fault c.in-Err.fault full)))

@@ -117,7 +117,8 @@ returns-in-Ok-clause-ran g c =
     run.ensures.running.owes_nothing c.release.ensures.known (known_by c.register.new.self.pass) looks in
     let taken = taken-fresh g.K.Behaviours.gives (origin_of c.args.gates.now) c.args.claim c.requires.untouched in
     let ended = subst (λ (o : Result (Unit {0}) ReadyError). IfOk o (λ _. (stopped : Stopped) × HadRoom stopped × EndsDrained (held_actor last)
-    (known_of last).log stopped × IsReason last.home.value.cell.who c.args.throughput turn.envelopes journal stopped)) c.in-Ok.is run.ensures.ended in (
+    (known_of last).log stopped × IsReason last.home.value.cell.who c.args.throughput turn.envelopes journal stopped)) c.in-Ok.is
+    run.ensures.ended in (
       journal,
       (
         ended.0,

@@ -71,7 +71,8 @@ returns-in-Err-clause-running g c =
     let gives = g.K.Behaviours.gives in
     let origin = origin_of c.args.gates.now in
     let seen = (known_by c.args.waker.now.pass).log in
-    let r = running-refused gives origin seen c.args.to c.args.node c.args.claim.now c.requires.running mid new c.in-Err.field-0.0 c.actor-parent.result
+    let r = running-refused gives origin seen c.args.to c.args.node c.args.claim.now c.requires.running mid new c.in-Err.field-0.0
+    c.actor-parent.result
     c.in-Err.ensures.ended.0 c.actor-parent.ensures c.in-Err.ensures.recorded c.answer.ensures.answered in
     running-goes gives origin new.home.value.cell.acts _ _ (hold_of new) (returns-in-Err-clause-goes g c) r
 

@@ -27,7 +27,8 @@ keep-requires-clause-goes_on g c =
     let did = c.sys_drain-drained.ensures in
     subst (λ (x : Contents). IsNumberedFrom (given_of x) c.sys_drain-drained.result) (sym c.deref_mut.ensures.value)
     (drained-from c.args.claim.now c.sys_drain-drained.new.claim did.ours did.same did.taken did.recorded c.sys_drain-drained.result did.given
-    did.known did.gave (record c.sys_drain-drained.new.claim.home.value { rest = c.sys_drain-drained.result }) refl c.requires.beside.count did.numbers)
+    did.known did.gave (record c.sys_drain-drained.new.claim.home.value { rest = c.sys_drain-drained.result }) refl c.requires.beside.count
+    did.numbers)
 
 pub keep-requires-clause-settled : goal.keep-requires-clause-settled
 keep-requires-clause-settled g c =
