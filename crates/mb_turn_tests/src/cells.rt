@@ -1,9 +1,12 @@
-//! Cells of actors that are not started yet.
-ghost use Rattle.std.specs.Prelude.{◌≡◌, ◌<◌, ◌≤◌, [], false, length, neg, None, Some};
+//! Cells of three actors that are not started yet.
+ghost use Rattle.std.specs.Prelude.{◌≡◌, ◌<◌, ◌≤◌, length, None, Some};
 ghost use Rattle.std.specs.List.{All};
 ghost use Rattle.mb_msg.specs.Limits.{most_actors};
+ghost use Rattle.mb_msg.specs.declared.id.ActorId.{ActorId};
+ghost use Rattle.mb_rule.specs.Seen.{Each};
+ghost use Rattle.mb_turn_tests.specs.Family.{IsNewCell};
 
-use crate::player::{AtStart, Counting, Player};
+use crate::player::{Counting, Player};
 use mb_cell::Cell;
 use mb_journal::Strategy;
 use mb_msg::ActorId;
@@ -13,20 +16,12 @@ use std::alloc::Global;
 pub fn guardians_cell(alloc: Global, prepared: Vec<ActorId>, limit: u32) -> Cell<Player, Counting>
     requires few { length prepared.items ≤ most_actors }
     requires numbered { All (λ x. x.0 < most_actors) prepared.items }
-    ensures who { (result.who.this.0 ≡ 0) × (result.who.parent ≡ None) × (result.who.actors ≡ 3) × (result.who.limit ≡ limit) }
-    ensures prepared { result.who.prepared ≡ prepared.items }
-    ensures untouched { (result.journal ≡ []) × (result.acts ≡ []) }
+    requires there { Each (λ (x : ActorId). x.0 < 3) prepared.items }
+    ensures new { IsNewCell 0 result }
+    ensures parent { result.who.parent ≡ None }
 {
-    Cell::new(
-        alloc,
-        ActorId(0),
-        3,
-        None,
-        None,
-        prepared,
-        ask_default(alloc),
-        limit,
-    )
+    let strategy = no_rules(alloc);
+    Cell::new(alloc, ActorId(0), 3, None, None, prepared, strategy, limit)
 }
 
 /// That of an actor with this parent.
@@ -39,12 +34,14 @@ pub fn players_cell(
     limit: u32,
 ) -> Cell<Player, Counting>
     requires unused { player.count ≡ 0 }
+    requires parent { parent.0 < 3 }
     requires few { length prepared.items ≤ most_actors }
     requires numbered { All (λ x. x.0 < most_actors) prepared.items }
-    ensures who { (result.who.this ≡ this) × (result.who.parent ≡ Some parent) × (result.who.actors ≡ 3) × (result.who.limit ≡ limit) }
-    ensures prepared { result.who.prepared ≡ prepared.items }
-    ensures untouched { (result.journal ≡ []) × (result.acts ≡ []) }
+    requires there { Each (λ (x : ActorId). x.0 < 3) prepared.items }
+    ensures new { IsNewCell this.0 result }
+    ensures parent { result.who.parent ≡ Some parent }
 {
+    let strategy = no_rules(alloc);
     Cell::new(
         alloc,
         this,
@@ -52,13 +49,13 @@ pub fn players_cell(
         Some(parent),
         Some(player),
         prepared,
-        ask_default(alloc),
+        strategy,
         limit,
     )
 }
 
 /// A strategy without rows: children that fail are started afresh.
-fn ask_default(alloc: Global) -> Strategy {
+fn no_rules(alloc: Global) -> Strategy {
     Strategy {
         rows: Vec::new(alloc),
         retries: -1,

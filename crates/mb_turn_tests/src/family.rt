@@ -1,17 +1,20 @@
 //! Three actors at home: the guardian, and two that count their messages.
-ghost use Rattle.std.specs.Prelude.{◌≡◌, ◌∷◌, [], length, IfOk};
+ghost use Rattle.std.specs.Prelude.{◌≡◌, ◌<◌, ◌≤◌, length, IfOk};
+ghost use Rattle.std.specs.List.{All};
 ghost use Rattle.mb_gate.specs.Names.{gates_id, pass_id, actors_of, first_of};
+ghost use Rattle.mb_msg.specs.Limits.{most_actors};
+ghost use Rattle.mb_msg.specs.declared.id.ActorId.{ActorId};
+ghost use Rattle.mb_rule.specs.Seen.{Each};
 
 use crate::cells::{guardians_cell, players_cell};
+use crate::homes::{Part, home_of, roll_of};
 use crate::player::{AtStart, Counting, Player};
 use crate::ways::{guardians_queue, ways_to};
 use mb_gate::{Gates, Pass};
-use mb_home::{Home, Named};
 use mb_msg::ActorId;
 use mb_queue::SendPass;
 use mb_turn::Place;
 use std::alloc::Global;
-use std::snapshot::Snapshot;
 use std::test::Fail;
 
 /// The actors.
@@ -38,14 +41,45 @@ pub struct Family {
     pub to_second: SendPass,
 }
 
-/// The ways of one actor to the two.
-fn two_ways(alloc: Global, first: SendPass, second: SendPass) -> Result<Vec<SendPass>, Fail>
-    ensures { IfOk result (λ sends. sends.items ≡ first ∷ second ∷ []) }
+/// The children that are prepared for an actor.
+fn children(alloc: Global, first: bool, second: bool) -> Result<Vec<ActorId>, Fail>
+    ensures few { IfOk result (λ v. length v.items ≤ most_actors) }
+    ensures numbered { IfOk result (λ v. All (λ x. x.0 < most_actors) v.items) }
+    ensures there { IfOk result (λ v. Each (λ (x : ActorId). x.0 < 3) v.items) }
 {
-    let mut sends = Vec::with_capacity(alloc, 2)?;
-    sends.push_reserved(first);
-    sends.push_reserved(second);
-    Ok(sends)
+    let mut children = Vec::with_capacity(alloc, 2)?;
+    if first && second {
+        children.push_reserved(FIRST);
+        children.push_reserved(SECOND);
+        return Ok(children);
+    }
+    if first {
+        children.push_reserved(FIRST);
+        return Ok(children);
+    }
+    if second {
+        children.push_reserved(SECOND);
+        return Ok(children);
+    }
+    Ok(children)
+}
+
+/// A player that did nothing yet.
+fn player(at_start: AtStart, other: ActorId) -> Player
+    ensures { result.count ≡ 0 }
+{
+    Player {
+        at_start,
+        other,
+        count: 0,
+    }
+}
+
+/// The number of the second actor's parent.
+fn parent_of(is_grandchild: bool) -> ActorId
+    ensures { result.0 < 3 }
+{
+    if is_grandchild { FIRST } else { GUARDIAN }
 }
 
 impl Family {
@@ -55,55 +89,64 @@ impl Family {
         ensures ours { IfOk result (λ f. pass_id f.pass ≡ gates_id f.gates) }
         ensures ways { IfOk result (λ f. (f.to_first.by ≡ 64) × (f.to_first.queue.to ≡ 1) × (f.to_second.by ≡ 64) × (f.to_second.queue.to ≡ 2)) }
     {
-        let mut wards = Vec::with_capacity(alloc, 1)?;
-        wards.push_reserved(FIRST);
-        let mut children = Vec::with_capacity(alloc, 1)?;
-        let mut parent = GUARDIAN;
-        if cast.is_grandchild {
-            children.push_reserved(SECOND);
-            parent = FIRST;
-        } else {
-            wards.push(SECOND)?;
-        }
-        let player = Player {
-            at_start: cast.first,
-            other: SECOND,
-            count: 0,
-        };
-        let other = Player {
-            at_start: cast.second,
-            other: FIRST,
-            count: 0,
-        };
-        let guardian = guardians_cell(alloc, wards, 100);
-        let first = players_cell(alloc, FIRST, GUARDIAN, player, children, cast.limit);
-        let second = players_cell(alloc, SECOND, parent, other, Vec::new(alloc), cast.limit);
-        let take = guardians_queue(alloc)?;
+        let wards = children(alloc, true, !cast.is_grandchild)?;
+        let own = children(alloc, false, cast.is_grandchild)?;
+        let none = children(alloc, false, false)?;
+        let parent = parent_of(cast.is_grandchild);
         let to_first = ways_to(alloc, FIRST)?;
         let to_second = ways_to(alloc, SECOND)?;
-        let mut roll = Vec::with_capacity(alloc, 3)?;
-        roll.push_reserved(Named {
-            cell: Snapshot::of(&guardian),
-            take: Snapshot::of(&take),
-        });
-        roll.push_reserved(Named {
-            cell: Snapshot::of(&first),
-            take: Snapshot::of(&to_first.take),
-        });
-        roll.push_reserved(Named {
-            cell: Snapshot::of(&second),
-            take: Snapshot::of(&to_second.take),
-        });
-        let sends = two_ways(alloc, to_first.by_guardian, to_second.by_guardian)?;
-        let guardian = Home::new(alloc, GUARDIAN, guardian, take, sends, &roll);
-        let sends = two_ways(alloc, to_first.by_first, to_second.by_first)?;
-        let first = Home::new(alloc, FIRST, first, to_first.take, sends, &roll);
-        let sends = two_ways(alloc, to_first.by_second, to_second.by_second)?;
-        let second = Home::new(alloc, SECOND, second, to_second.take, sends, &roll);
+        let guardian = Part {
+            cell: guardians_cell(alloc, wards, 100),
+            take: guardians_queue(alloc)?,
+        };
+        let first = Part {
+            cell: players_cell(
+                alloc,
+                FIRST,
+                GUARDIAN,
+                player(cast.first, SECOND),
+                own,
+                cast.limit,
+            ),
+            take: to_first.take,
+        };
+        let second = Part {
+            cell: players_cell(
+                alloc,
+                SECOND,
+                parent,
+                player(cast.second, FIRST),
+                none,
+                cast.limit,
+            ),
+            take: to_second.take,
+        };
+        let roll = roll_of(alloc, &guardian, &first, &second)?;
         let mut homes = Vec::with_capacity(alloc, 3)?;
-        homes.push_reserved(Box::new(alloc, guardian)?);
-        homes.push_reserved(Box::new(alloc, first)?);
-        homes.push_reserved(Box::new(alloc, second)?);
+        homes.push_reserved(home_of(
+            alloc,
+            GUARDIAN,
+            guardian,
+            to_first.by_guardian,
+            to_second.by_guardian,
+            &roll,
+        )?);
+        homes.push_reserved(home_of(
+            alloc,
+            FIRST,
+            first,
+            to_first.by_first,
+            to_second.by_first,
+            &roll,
+        )?);
+        homes.push_reserved(home_of(
+            alloc,
+            SECOND,
+            second,
+            to_first.by_second,
+            to_second.by_second,
+            &roll,
+        )?);
         let Ok((gates, pass)) = Gates::new(alloc, homes) else {
             return Err(Fail::from("no memory"));
         };

@@ -7,6 +7,8 @@ mod cells;
 #[cfg(test)]
 mod family;
 #[cfg(test)]
+mod homes;
+#[cfg(test)]
 mod nowhere;
 #[cfg(test)]
 mod player;
