@@ -14,7 +14,7 @@ use Rattle.mb_gate.specs.View.{Sight, Said}
 use Rattle.mb_home.specs.Contents.{Contents}
 use Rattle.mb_gate.specs.Untouched.{Origin}
 use Rattle.mb_turn.specs.Hold.{Hold, hold_of}
-use Rattle.mb_turn.specs.Notice.{IsAnswered, IsNotified, asker}
+use Rattle.mb_turn.specs.Notice.{IsAnswered, asker}
 use Rattle.mb_turn.specs.Running.{IsRunning}
 use Rattle.mb_turn.proofs.HoldLemmas.{hold-recorded}
 use Rattle.mb_turn.proofs.RunningSteps.{running-answered, running-dropped}

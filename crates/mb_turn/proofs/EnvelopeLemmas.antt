@@ -1,10 +1,9 @@
 -- Why a run takes no envelope more, and what one that was taken makes of it.
-use Rattle.std.proofs.Common.{◌≡◌, ◌⊎◌, inl, inr, ℕ, ◌*◌, ◌+◌, ◌<◌, Bool, true, false, List, [], ◌∷◌, refl, sym, ap, ◌∙◌, subst}
-use Rattle.std.specs.Prelude.{None, not, nat_lt, ◌&&◌}
+use Rattle.std.proofs.Common.{◌≡◌, ◌⊎◌, inl, inr, ℕ, ◌*◌, ◌<◌, Bool, true, false, List, [], ◌∷◌, refl, sym, ap, ◌∙◌, subst}
+use Rattle.std.specs.Prelude.{not, nat_lt, ◌&&◌}
 use Rattle.std.specs.Global.{Box}
-use Rattle.mb_status.specs.Mailbox.{Mailbox, word_of, should_process}
+use Rattle.mb_status.specs.Mailbox.{word_of, should_process}
 use Rattle.mb_actor.specs.Behaviour.{Moment, Reply}
-use Rattle.mb_journal.specs.Acts.{Act}
 use Rattle.mb_journal.specs.Aside.{next_front}
 use Rattle.mb_journal.specs.Run.{Stopped, IsReason, most_envelopes}
 use Rattle.mb_journal.specs.Run.Stopped.{UsedUp, NotOpen, NoEnvelope, AtClosing, NoRoom}

@@ -1,4 +1,4 @@
-use Rattle.std.proofs.Common.{◌≡◌, ◌∷◌, [], List, length, refl, sym, ap, ◌∙◌, subst, arith}
+use Rattle.std.proofs.Common.{◌≡◌, ◌∷◌, [], List, length, sym, ap, ◌∙◌, subst, arith}
 use Rattle.mb_books.specs.ActQueue.{act_of}
 use Rattle.mb_journal.specs.Acts.{Act}
 use Rattle.mb_gate.specs.Names.{known_by}

@@ -3,7 +3,7 @@ use Rattle.std.specs.Global.{Box}
 use Rattle.std.specs.Prelude.{MatchBool}
 use Rattle.mb_journal.specs.Life.{closed}
 use Rattle.mb_status.specs.Mailbox.{Mailbox}
-use Rattle.mb_gate.specs.Names.{claim_id, held_actor, known_of}
+use Rattle.mb_gate.specs.Names.{claim_id, held_actor}
 use Rattle.mb_gate.specs.Untouched.{origin_of}
 use Rattle.mb_home.specs.AtHome.{given_of}
 use Rattle.mb_home.specs.Contents.{Contents}

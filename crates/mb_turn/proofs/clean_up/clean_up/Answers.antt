@@ -1,8 +1,8 @@
-use Rattle.std.proofs.Common.{◌≡◌, ℕ, List, true, refl, sym, ap, ◌∙◌, subst}
+use Rattle.std.proofs.Common.{◌≡◌, ℕ, List, sym, ap, ◌∙◌, subst}
 use Rattle.std.specs.Global.{Box}
 use Rattle.mb_status.specs.Mailbox.{Mailbox}
 use Rattle.mb_gate.specs.Lists.{IsNumberedFrom}
-use Rattle.mb_gate.specs.Names.{held_actor, known_by, known_of, given_to}
+use Rattle.mb_gate.specs.Names.{held_actor, known_by, given_to}
 use Rattle.mb_gate.specs.Untouched.{origin_of}
 use Rattle.mb_gate.specs.View.{Sight, given_after}
 use Rattle.mb_cell.specs.Seen.{Seen}

@@ -1,12 +1,10 @@
-use Rattle.std.proofs.Common.{◌≡◌, ◌<◌, ◌+◌, ◌%◌, ◌^◌, ◌∷◌, ℕ, List, true, length, refl, sym, ap, ◌∙◌, subst, arith}
+use Rattle.std.proofs.Common.{◌≡◌, ◌<◌, ◌+◌, ◌%◌, ◌^◌, ℕ, List, true, length, refl, sym, ap, ◌∙◌, subst, arith}
 use Rattle.std.specs.Global.{Box}
-use Rattle.std.specs.Prelude.{IfSome, Option, Some}
+use Rattle.std.specs.Prelude.{IfSome, Option}
 use Rattle.mb_msg.specs.declared.id.ActorId.{ActorId}
 use Rattle.mb_msg.specs.declared.system.SysMsg.{SysMsg}
-use Rattle.mb_journal.specs.Identity.{Identity}
 use Rattle.mb_journal.specs.Life.{closed}
 use Rattle.mb_status.specs.Mailbox.{Mailbox}
-use Rattle.mb_cell.specs.Seen.{Seen}
 use Rattle.mb_gate.specs.Claims.{held_in}
 use Rattle.mb_gate.specs.Named.{NamesBelow, EachNamesBelow}
 use Rattle.mb_gate.specs.Names.{actors_of, known_by}
@@ -17,7 +15,6 @@ use Rattle.mb_home.specs.Contents.{Contents}
 use Rattle.mb_home.specs.Settled.{IsSettled}
 use Rattle.mb_turn.specs.Hold.{hold_of}
 use Rattle.mb_turn.specs.Notice.{asker}
-use Rattle.mb_turn.specs.Running.{IsRunning}
 use Rattle.mb_turn.proofs.BesideLemmas.{keeps-same, keeps-then}
 use Rattle.mb_turn.proofs.CallerLemmas.{further-none, further-then}
 use Rattle.mb_turn.proofs.CleanLemmas.{given-dropped, running-less, running-within, ended-closed, running-departed}

@@ -1,4 +1,4 @@
-use Rattle.std.proofs.Common.{◌≡◌, List, [], inl, true, false, refl, sym, ap, ◌∙◌, subst, arith}
+use Rattle.std.proofs.Common.{◌≡◌, List, [], inl, refl, sym, ap, ◌∙◌, subst, arith}
 use Rattle.std.specs.Prelude.{MatchBool, IsTrue, Err}
 use Rattle.mb_journal.specs.declared.error.ReadyError.{ReadyError}
 use Rattle.mb_status.specs.Mailbox.{Mailbox, word_of, should_process}

@@ -1,7 +1,6 @@
 use Rattle.std.proofs.Common.{◌≡◌, ◌<◌, ◌≤◌, length, refl, sym, ap, ◌∙◌, subst, arith}
-use Rattle.std.specs.Prelude.{IfOk, IsErrOf, Some, Result, Ok, Err}
+use Rattle.std.specs.Prelude.{IfOk, Result, Err}
 use Rattle.mb_journal.specs.declared.error.ReadyError.{ReadyError}
-use Rattle.mb_journal.specs.declared.error.ReadyError.TheVariants.{JournalFull}
 use Rattle.mb_journal.specs.Identity.{Identity}
 use Rattle.mb_journal.specs.Run.{IsReason, Stopped}
 use Rattle.mb_journal.specs.Run.Stopped.{NoRoom}

@@ -1,4 +1,4 @@
-use Rattle.std.proofs.Common.{◌≡◌, List, [], false, refl, sym, ap, ◌∙◌, subst, arith}
+use Rattle.std.proofs.Common.{◌≡◌, List, [], false, sym, ap, ◌∙◌, subst, arith}
 use Rattle.mb_journal.specs.Acts.{Act}
 use Rattle.mb_journal.specs.Life.{closed}
 use Rattle.mb_cell.specs.Seen.{Seen}

@@ -1,11 +1,10 @@
-use Rattle.std.proofs.Common.{◌≡◌, inl, inr, true, false, refl, sym, ap, ◌∙◌, subst}
+use Rattle.std.proofs.Common.{inl, inr, refl, sym, ap, ◌∙◌, subst}
 use Rattle.std.specs.Prelude.{MatchBool}
 use Rattle.mb_status.specs.Mailbox.{Mailbox}
 use Rattle.mb_cell.specs.Seen.{Seen}
 use Rattle.mb_gate.specs.Names.{known_by}
 use Rattle.mb_home.specs.Contents.{Contents}
 use Rattle.mb_home.specs.Steps.{HasNext, IsRested}
-use Rattle.mb_turn.specs.Hold.{hold_of}
 use Rattle.mb_turn.proofs.AppliedLemmas.{same-keeps}
 use Rattle.mb_turn.proofs.BesideLemmas.{keeps-same, same-run-then}
 use Rattle.mb_turn.proofs.CallerLemmas.{further-none, further-then}

@@ -1,5 +1,4 @@
-use Rattle.std.proofs.Common.{◌≡◌, inl, [], ◌∷◌, List, refl, sym, ap, ◌∙◌, subst, arith}
-use Rattle.std.specs.Global.{Box}
+use Rattle.std.proofs.Common.{inl, [], ◌∷◌, List, sym, ap, ◌∙◌, subst, arith}
 use Rattle.mb_status.specs.Mailbox.{word_of}
 use Rattle.mb_msg.specs.declared.dead_letter.Why.TheVariants.{Closed}
 use Rattle.mb_journal.specs.Acts.Act.{Tell}
