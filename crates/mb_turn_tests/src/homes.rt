@@ -18,6 +18,7 @@ use std::snapshot::Snapshot;
 use std::test::Fail;
 
 /// An actor with its queue.
+#[derive(Drop)]
 pub struct Part {
     pub cell: Cell<Player, Counting>,
     pub take: TakePass,
