@@ -47,6 +47,7 @@ module _ (gives : ℕ → Moment → Reply → Type 0) (origin : Origin (Box Con
       recorded = [];
       log = [];
       debts = [];
+      share = [];
     }
 
     hold-fresh : hold_of c ≡ fresh_hold
@@ -62,6 +63,7 @@ module _ (gives : ℕ → Moment → Reply → Type 0) (origin : Origin (Box Con
       recorded = u.recorded i;
       log = (u.known i).log;
       debts = (u.known i).debts;
+      share = (u.known i).share;
     }
 
     pub taken-fresh : taken_with c ≡ c.home.value.cell.journal
@@ -88,6 +90,7 @@ module _ (gives : ℕ → Moment → Reply → Type 0) (origin : Origin (Box Con
           sends = tt;
           dry = tt;
           owes_nothing = refl;
+          bare = refl;
         })
 
     pub beside-fresh : IsBeside (hold_of c)
