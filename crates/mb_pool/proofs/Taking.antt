@@ -1,0 +1,40 @@
+-- The ends' and the feeds' ports of one place are taken in, one after the other.
+use Rattle.std.proofs.Common.{◌≡◌, ℕ, List, [], ◌∷◌, ◌++◌, length, sym, ap, ◌∙◌, subst, arith, append-nil}
+use Rattle.std.specs.Prelude.{All, Option}
+use Rattle.mb_gate.specs.declared.claim.Claim.{Claim}
+use Rattle.mb_pool.specs.Ends.{Empties, TakesIn, doors_of, joined, owns_of, where_is}
+use Rattle.mb_pool.specs.Origin.{Origin}
+use Rattle.mb_pool.specs.Places.{Look, Way, gates_of}
+use Rattle.mb_pool.specs.Ways.{HasShare}
+use Rattle.mb_pool.proofs.Ending.{alike_next, both_share, same_place}
+use Rattle.mb_pool.proofs.Wholes.{one_more_door, one_more_own}
+
+-- nothing is to come any longer
+pub drained : {X : Type 0} (done rest all : List X) → length rest ≡ 0 → done ++ rest ≡ all → done ≡ all
+drained done [] all none e = sym (append-nil done) ∙ e
+drained done (x ∷ rest) all none e = absurd (omega (arith, none))
+
+module _ {H : Type 0} (IsFit : Option (Origin H) → Claim H → Type 0) (base door other new : Look H) (all done rest : List (Way H)) (end : Way H)
+    (list : done ++ end ∷ rest ≡ all)
+    (alike : All (λ (l : Look H). where_is l ≡ where_is base) (doors_of all)) (took : TakesIn base (doors_of done) door)
+    (same : other ≡ end.door) where
+  end_here : where_is end.door ≡ where_is base
+  end_here = alike_next base all done rest end list alike
+
+  -- the next one's port is of the same place
+  pub here : other.spot ≡ door.spot
+  here = same_place base door other took.same (ap (where_is {H = H}) same ∙ end_here)
+
+  -- once it is taken in
+  pub takes_next : new ≡ joined door other → TakesIn base (doors_of (done ++ end ∷ [])) new
+  takes_next n = subst (λ (l : Look H). TakesIn base (doors_of (done ++ end ∷ [])) l) (sym n)
+      (one_more_door IsFit base door other done end took same)
+
+  pub share_next : new ≡ joined door other → HasShare door → HasShare other → HasShare new
+  share_next n mine theirs = subst (λ (l : Look H). HasShare l) (sym n) (both_share door other mine theirs)
+
+  -- and its own deque was emptied
+  pub empties_next : (old mid now : List (Claim H)) → Empties IsFit base.ledger.gates (owns_of done) old mid
+      → Empties IsFit (gates_of end) end.own mid now
+      → Empties IsFit base.ledger.gates (owns_of (done ++ end ∷ [])) old now
+  empties_next old mid now p q = one_more_own IsFit base done end old mid now p end_here q

@@ -1,0 +1,22 @@
+use Rattle.std.proofs.Common.{◌≡◌, [], MatchOption, ap, subst, sym}
+use Rattle.mb_pool.specs.Parts.{look_of}
+use Rattle.mb_pool.specs.Places.{Look}
+use Rattle.mb_pool.specs.Rule.{Moment, TakesFirst}
+use Rattle.mb_pool.specs.Untouched.{IsUntouched}
+use Rattle.mb_pool.proofs.door.Door.take.Goals as goal
+
+pub returns-in-Bounded-clause-taken : goal.returns-in-Bounded-clause-taken
+returns-in-Bounded-clause-taken g c =
+    subst (λ (l : Look _). MatchOption c.take.result ((c.take.new.self ≡ l)
+    × Moment (IsUntouched g.H.Resident.is_of g.H.Resident.journal g.H.Resident.mailbox g.H.Resident.rested g.H.Resident.given
+    g.H.Resident.closed_to) l.ledger []) (λ x. TakesFirst (IsUntouched g.H.Resident.is_of g.H.Resident.journal g.H.Resident.mailbox
+    g.H.Resident.rested g.H.Resident.given g.H.Resident.closed_to) l.ledger x c.take.new.self.ledger))
+    (sym (ap look_of c.in-Bounded.is)) c.take.ensures.taken
+
+pub returns-in-Unbounded-clause-taken : goal.returns-in-Unbounded-clause-taken
+returns-in-Unbounded-clause-taken g c =
+    subst (λ (l : Look _). MatchOption c.take-in-Unbounded.result ((c.take-in-Unbounded.new.self ≡ l)
+    × Moment (IsUntouched g.H.Resident.is_of g.H.Resident.journal g.H.Resident.mailbox g.H.Resident.rested g.H.Resident.given
+    g.H.Resident.closed_to) l.ledger []) (λ x. TakesFirst (IsUntouched g.H.Resident.is_of g.H.Resident.journal g.H.Resident.mailbox
+    g.H.Resident.rested g.H.Resident.given g.H.Resident.closed_to) l.ledger x c.take-in-Unbounded.new.self.ledger))
+    (sym (ap look_of c.in-Unbounded.is)) c.take-in-Unbounded.ensures.taken

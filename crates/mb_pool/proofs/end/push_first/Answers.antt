@@ -1,0 +1,55 @@
+use Rattle.std.proofs.Common.{◌≡◌, ◌∷◌, MatchResult, subst, sym}
+use Rattle.mb_pool.specs.Moves.{given_back, IsRefusedBy, Pushes, PutsFirst}
+use Rattle.mb_pool.specs.Parts.{look_of}
+use Rattle.mb_pool.specs.Places.{looks, parts_of}
+use Rattle.mb_pool.specs.Untouched.{IsUntouched}
+use Rattle.mb_pool.specs.Ways.{AreOpen, way_of}
+use Rattle.mb_pool.proofs.Ports.{door_open, feed_parts, own_open, push_by_door, push_by_own, push_same}
+use Rattle.mb_pool.proofs.end.push_first.Goals as goal
+
+pub push-requires-clause-share : goal.push-requires-clause-share
+push-requires-clause-share g c = (door_open (way_of (look_of c.args.door.now) c.args.member.now) c.requires.open).share
+
+pub returns-in-None-clause-pushed : goal.returns-in-None-clause-pushed
+returns-in-None-clause-pushed g c =
+    let old = look_of c.args.door.now in let new = look_of c.push.new.self in
+    subst (λ m. MatchResult c.push.result
+    (λ _. Pushes (IsUntouched g.H.Resident.is_of g.H.Resident.journal g.H.Resident.mailbox g.H.Resident.rested g.H.Resident.given
+    g.H.Resident.closed_to) (way_of old m) c.args.claim (way_of new m))
+    (λ f. (given_back f ≡ c.args.claim) × (way_of new m ≡ way_of old m)
+    × IsRefusedBy (IsUntouched g.H.Resident.is_of g.H.Resident.journal g.H.Resident.mailbox g.H.Resident.rested g.H.Resident.given
+    g.H.Resident.closed_to) (way_of old m) f))
+    (sym c.in-None.is) (push_by_door
+    (IsUntouched g.H.Resident.is_of g.H.Resident.journal g.H.Resident.mailbox g.H.Resident.rested g.H.Resident.given
+    g.H.Resident.closed_to) old new c.push.ensures.spot c.args.claim c.push.result c.push.ensures.pushed)
+
+pub returns-in-None-clause-same : goal.returns-in-None-clause-same
+returns-in-None-clause-same g c =
+    let old = look_of c.args.door.now in let new = look_of c.push.new.self in
+    subst (λ m. parts_of (way_of new m) ≡ parts_of (way_of old m)) (sym c.in-None.is)
+    (feed_parts old new (push_same
+    (IsUntouched g.H.Resident.is_of g.H.Resident.journal g.H.Resident.mailbox g.H.Resident.rested g.H.Resident.given
+    g.H.Resident.closed_to) old new c.push.ensures.spot c.args.claim c.push.result c.push.ensures.pushed))
+
+pub push-requires-in-Some-clause-share : goal.push-requires-in-Some-clause-share
+push-requires-in-Some-clause-share g c =
+    let m = c.in-Some.member in let door = look_of c.args.door.now in
+    (own_open m.own door m.thieves.items (subst (λ o. AreOpen (way_of door o)) c.in-Some.is c.requires.open)).share
+
+pub push-requires-in-Some-clause-fit : goal.push-requires-in-Some-clause-fit
+push-requires-in-Some-clause-fit g c =
+    let m = c.in-Some.member in let door = look_of c.args.door.now in
+    subst (λ x. IsUntouched g.H.Resident.is_of g.H.Resident.journal g.H.Resident.mailbox g.H.Resident.rested g.H.Resident.given
+    g.H.Resident.closed_to x c.args.claim)
+    (sym (own_open m.own door m.thieves.items (subst (λ o. AreOpen (way_of door o)) c.in-Some.is c.requires.open)).same) c.requires.fit
+
+pub returns-in-Ok-clause-pushed : goal.returns-in-Ok-clause-pushed
+returns-in-Ok-clause-pushed g c =
+    let m = c.in-Some.member in let new = c.push-in-Some.new.self in let door = look_of c.args.door.now in
+    subst (λ o. PutsFirst (IsUntouched g.H.Resident.is_of g.H.Resident.journal g.H.Resident.mailbox g.H.Resident.rested g.H.Resident.given
+    g.H.Resident.closed_to)
+    (looks (way_of door o)) c.args.claim (new ∷ door ∷ m.thieves.items))
+    (sym c.in-Some.is)
+    (push_by_own (IsUntouched g.H.Resident.is_of g.H.Resident.journal g.H.Resident.mailbox g.H.Resident.rested g.H.Resident.given
+    g.H.Resident.closed_to)
+    m.own new door door m.thieves.items m.thieves.items c.args.claim c.push-in-Some.ensures.spot c.in-Ok.ensures.pushed)

@@ -1,0 +1,23 @@
+use Rattle.std.proofs.Common.{◌≡◌, ◌∷◌, ◌++◌, [], ap, append_assoc, subst, sym, ◌∙◌}
+use Rattle.std.specs.Vec.Iter.{into_iter_items}
+use Rattle.mb_pool.proofs.Ending.{among_now, gathers_at, may_own}
+use Rattle.mb_pool.proofs.gather.join_all.Goals as goal
+
+pub join_own-requires : goal.join_own-requires
+join_own-requires g c =
+    let at = c.loop-thief in let t = c.in-Some.thief in let rest = into_iter_items c.next.new.self in
+    let steps : into_iter_items at.thief-iterator ≡ t ∷ rest = c.in-Some.ensures.steps.0 in
+    let all : at.yielded ++ t ∷ rest ≡ c.args.thieves.items = ap (λ l. at.yielded ++ l) (sym steps) ∙ at.invariant.0 in
+    may_own at.ends t c.number-number.result c.index-ends-number.result c.number-number.ensures
+    (among_now c.args.ends.now at.ends c.args.thieves.items at.yielded rest t all c.requires at.invariant.1)
+
+pub loop-thief-preserved : goal.loop-thief-preserved
+loop-thief-preserved g c =
+    let at = c.loop-thief in let t = c.in-Some.thief in let rest = into_iter_items c.next.new.self in
+    let steps : into_iter_items at.thief-iterator ≡ t ∷ rest = c.in-Some.ensures.steps.0 in
+    let all : at.yielded ++ t ∷ rest ≡ c.args.thieves.items = ap (λ l. at.yielded ++ l) (sym steps) ∙ at.invariant.0 in (
+      append_assoc at.yielded (t ∷ []) rest ∙ all,
+      gathers_at c.args.ends.now at.ends at.yielded t c.number-number.result c.index-ends-number.result c.join_own.new.end c.number-number.ensures
+          c.join_own.ensures at.invariant.1
+          (among_now c.args.ends.now at.ends c.args.thieves.items at.yielded rest t all c.requires at.invariant.1),
+    )

@@ -1,0 +1,17 @@
+use Rattle.std.proofs.Common.{sym, subst, ap, ◌<◌}
+use Rattle.crossbeam_deque.specs.Injected.{injector_view}
+use Rattle.mb_pool.specs.Untouched.{IsUntouched}
+use Rattle.mb_pool.specs.Rule.{TakesFirst}
+use Rattle.mb_pool.proofs.Steps.{deque_take, deque_empty, took}
+use Rattle.mb_pool.proofs.inlet.Inlet.take.Goals as goal
+
+pub steal_as-requires-clause-rule : goal.steal_as-requires-clause-rule
+steal_as-requires-clause-rule g c = let share = subst (λ l. 0 < l.shares) (sym c.loop.invariant.1) c.requires.share in
+    (deque_take _ _ _ share, deque_empty _ _ _ share)
+
+pub returns-in-Success-clause-taken : goal.returns-in-Success-clause-taken
+returns-in-Success-clause-taken g c =
+    subst (λ l. TakesFirst (IsUntouched g.H.Resident.is_of g.H.Resident.journal g.H.Resident.mailbox g.H.Resident.rested g.H.Resident.given
+    g.H.Resident.closed_to) l c.open.result (injector_view c.steal_as.new.pass)) c.loop.invariant.1
+    (took (IsUntouched g.H.Resident.is_of g.H.Resident.journal g.H.Resident.mailbox g.H.Resident.rested g.H.Resident.given
+    g.H.Resident.closed_to) _ _ _ c.open.result c.open.ensures c.in-Success.ensures.rule)

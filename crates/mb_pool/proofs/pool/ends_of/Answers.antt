@@ -1,0 +1,45 @@
+use Rattle.std.proofs.Common.{◌≡◌, ◌+◌, [], ◌∷◌, ap, arith, length, map, replicate, sym, ◌∙◌}
+use Rattle.std.specs.Vec.Iter.{into_iter_items}
+use Rattle.std.proofs.lemmas.List.{length-map}
+use Rattle.mb_pool.specs.Begins.{new_door}
+use Rattle.mb_pool.specs.Parts.{look_of}
+use Rattle.mb_pool.specs.Ways.{way_of}
+use Rattle.mb_pool.proofs.Handing.{made_one, open_with, port_one, port_there}
+use Rattle.mb_pool.proofs.Taking.{drained}
+use Rattle.mb_pool.proofs.pool.ends_of.Goals as goal
+
+pub loop-member-preserved : goal.loop-member-preserved
+loop-member-preserved g c =
+    let at = c.loop-member in let door = new_door c.args.pool.now in let member = c.in-Some.member in
+    let xs = into_iter_items at.member-iterator in let rest = into_iter_items c.next.new.self in
+    let next : xs ≡ member ∷ rest = c.in-Some.ensures.steps.0 in
+    let one = port_one look_of door at.doors.items xs rest member c.args.pool.now.feeds at.invariant.0 next c.pop.new.self.items c.in-Some-pop.door
+    c.in-Some-pop.ensures.items in (
+      one.0,
+      made_one (way_of door) at.ends.items c.push.new.self.items (way_of
+          (look_of c.in-Some-pop.door) member) member xs rest _ c.in_ok-push.ensures.items (ap (λ l. way_of l member) one.1) next at.invariant.1,
+      (open_with door (look_of c.in-Some-pop.door) one.1 xs rest member next at.invariant.2).1,
+    )
+
+pub invariant_of-push : goal.invariant_of-push
+invariant_of-push g c =
+    let at = c.loop-member in let door = new_door c.args.pool.now in let member = c.in-Some.member in
+    let xs = into_iter_items at.member-iterator in let rest = into_iter_items c.next.new.self in
+    let next : xs ≡ member ∷ rest = c.in-Some.ensures.steps.0 in
+    let one = port_one look_of door at.doors.items xs rest member c.args.pool.now.feeds at.invariant.0 next c.pop.new.self.items c.in-Some-pop.door
+    c.in-Some-pop.ensures.items in
+    (open_with door (look_of c.in-Some-pop.door) one.1 xs rest member next at.invariant.2).0
+
+pub returns-clause-doors : goal.returns-clause-doors
+returns-clause-doors g c =
+    let at = c.loop-member in let pool = c.args.pool.now in
+    let none : length (into_iter_items at.member-iterator) ≡ 0 = sym at.member-iterator.rest.ok.0 ∙ c.in-None.ensures.steps.0 in
+    at.invariant.0 ∙ ap (λ n. replicate n (new_door pool)) (let e : length (into_iter_items at.member-iterator) + pool.feeds ≡ pool.feeds = omega
+    (arith, none) in e)
+
+pub returns-clause-ends : goal.returns-clause-ends
+returns-clause-ends g c =
+    let at = c.loop-member in let rest = into_iter_items at.member-iterator in
+    let none : length rest ≡ 0 = sym at.member-iterator.rest.ok.0 ∙ c.in-None.ensures.steps.0 in
+    drained at.ends.items (map (way_of (new_door c.args.pool.now)) rest) _
+    (length-map rest (way_of (new_door c.args.pool.now)) ∙ none) at.invariant.1

@@ -1,0 +1,15 @@
+use Rattle.std.proofs.Common.{sym, subst}
+use Rattle.crossbeam_queue.specs.Passes.{view}
+use Rattle.mb_pool.specs.Rule.{TakesFirst}
+use Rattle.mb_pool.specs.Untouched.{IsUntouched}
+use Rattle.mb_pool.proofs.Steps.{queue_take, learns}
+use Rattle.mb_pool.proofs.slots.Slots.take.Goals as goal
+
+pub pop_as-requires-clause-rule : goal.pop_as-requires-clause-rule
+pop_as-requires-clause-rule g c = (queue_take _ _ _ c.requires.share, learns _ _ _ c.requires.share)
+
+pub returns-in-Some-clause-taken : goal.returns-in-Some-clause-taken
+returns-in-Some-clause-taken g c =
+    subst (λ x. TakesFirst (IsUntouched g.H.Resident.is_of g.H.Resident.journal g.H.Resident.mailbox g.H.Resident.rested g.H.Resident.given
+    g.H.Resident.closed_to) (view c.args.pass.now) x (view c.pop_as.new.pass))
+    (sym c.open.ensures) c.in-Some.ensures.rule

@@ -1,0 +1,22 @@
+use Rattle.std.proofs.Common.{◌≡◌, MatchOption, subst, sym, ◌∙◌, []}
+use Rattle.crossbeam_deque.specs.Handles.{view}
+use Rattle.mb_pool.specs.Rule.{Moment, TakesFirst}
+use Rattle.mb_pool.specs.Untouched.{IsUntouched}
+use Rattle.mb_pool.specs.Deques.{thief_look}
+use Rattle.mb_pool.proofs.Looks.{of_option, same_thief}
+use Rattle.mb_pool.proofs.thief.Thief.take.Goals as goal
+
+pub returns-clause-taken : goal.returns-clause-taken
+returns-clause-taken g c =
+    let old = c.self.inside.pass in
+    let new = c.steal_first.new.pass in
+    subst (λ look. MatchOption c.steal_first.result ((thief_look c.self.inside.number new ≡ look)
+    × Moment (IsUntouched g.H.Resident.is_of g.H.Resident.journal g.H.Resident.mailbox g.H.Resident.rested g.H.Resident.given
+    g.H.Resident.closed_to) look.ledger []) (λ x. TakesFirst (IsUntouched g.H.Resident.is_of g.H.Resident.journal g.H.Resident.mailbox
+    g.H.Resident.rested g.H.Resident.given g.H.Resident.closed_to) look.ledger x (view new)))
+    c.self.view_is
+    (of_option _ _ _ _ c.steal_first.result (λ h. (
+      same_thief c.self.inside.number old new
+          (c.steal_first.ensures.deque.0 ∙ sym c.self.invariant.0.0) h.0,
+      h.1,
+    )) (λ _ h. h) c.steal_first.ensures.taken)

@@ -1,0 +1,12 @@
+-- What is kept of a port of a deque, as contracts see it.
+use Rattle.std.specs.Prelude.{ℕ, None}
+use Rattle.crossbeam_deque.specs.Handles.{Pass, view, worker_deque, worker_view}
+use Rattle.crossbeam_deque.specs.declared.handles.Worker.{Worker}
+use Rattle.mb_pool.specs.Origin.{Account}
+use Rattle.mb_pool.specs.Places.{Look, deque_at}
+
+abbrev pub own_look : {T A H P : Type 0} → ℕ → Worker T A (Account H) P → Look H
+own_look n w = record { spot = record { place = deque_at n (worker_deque w).0; capacity = None }; ledger = worker_view w }
+
+abbrev pub thief_look : {T A H : Type 0} → ℕ → Pass T (Account H) A → Look H
+thief_look n p = record { spot = record { place = deque_at n p.rows; capacity = None }; ledger = view p }

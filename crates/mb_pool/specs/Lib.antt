@@ -1,0 +1,14 @@
+pub mod Begins
+pub mod Deques
+pub mod Ends
+pub mod Items
+pub mod Ledger
+pub mod Made
+pub mod Moves
+pub mod Origin
+pub mod Parts
+pub mod Places
+pub mod Rule
+pub mod Shared
+pub mod Untouched
+pub mod Ways

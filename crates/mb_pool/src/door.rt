@@ -1,0 +1,124 @@
+//! A port of the place that every end and every feed has a share of.
+ghost use Rattle.std.specs.Prelude.{◌≡◌, ◌<◌, [], Some, MatchOption, MatchResult};
+ghost use Rattle.mb_pool.specs.Ledger.{borrowing, joining, lending, opened, unused};
+ghost use Rattle.mb_pool.specs.Moves.{given_back, IsRefusal};
+ghost use Rattle.mb_pool.specs.Origin.{origin_of};
+ghost use Rattle.mb_pool.specs.Parts.{look_of};
+ghost use Rattle.mb_pool.specs.Rule.{Moment, PutsLast, TakesFirst};
+ghost use Rattle.mb_pool.specs.Untouched.{IsUntouched};
+
+use crate::inlet_port::InletPort;
+use crate::refused::Refused;
+use crate::rule::Scoped;
+use crate::slots_port::SlotsPort;
+use mb_gate::{Claim, Gates, Resident};
+use std::alloc::AllocError;
+use std::marker::Brand;
+use std::sync::Wait;
+
+/// A port of the one place of a shared pool, or of the feeds' place of a stealing one.
+#[derive(Drop)]
+pub enum Door<H: Resident> {
+    Bounded(SlotsPort<H>),
+    Unbounded(InletPort<H>),
+}
+
+impl<H: Resident> Door<H> {
+    /// Puts the claim last, or gives it back.
+    #[inline]
+    pub fn push<R: Wait>(&mut self, rt: &R, claim: Claim<H>) -> Result<(), Refused<H>>
+        requires share { 0 < (look_of self.old).ledger.shares }
+        requires fit { IsUntouched H.is_of H.journal H.mailbox H.rested H.given H.closed_to (look_of self.old).ledger.gates claim }
+        ensures spot { (look_of self.new).spot ≡ (look_of self.old).spot }
+        ensures pushed { MatchResult result
+            (λ _. PutsLast (IsUntouched H.is_of H.journal H.mailbox H.rested H.given H.closed_to) (look_of self.old).ledger claim
+            (look_of self.new).ledger)
+            (λ refused. (given_back refused ≡ claim) × (look_of self.new ≡ look_of self.old)
+            × IsRefusal (IsUntouched H.is_of H.journal H.mailbox H.rested H.given H.closed_to) (look_of self.old) refused) }
+    {
+        match self {
+            Door::Bounded(port) => return port.push(rt, claim),
+            Door::Unbounded(port) => return port.push(rt, claim),
+        }
+    }
+
+    /// Takes the first claim. `None` only if the place was empty at a moment of the call.
+    #[inline]
+    pub fn take<R: Wait>(&mut self, rt: &R) -> Option<Claim<H>>
+        requires share { 0 < (look_of self.old).ledger.shares }
+        ensures spot { (look_of self.new).spot ≡ (look_of self.old).spot }
+        ensures taken { MatchOption result
+            ((look_of self.new ≡ look_of self.old)
+            × Moment (IsUntouched H.is_of H.journal H.mailbox H.rested H.given H.closed_to) (look_of self.old).ledger [])
+            (λ c. TakesFirst (IsUntouched H.is_of H.journal H.mailbox H.rested H.given H.closed_to) (look_of self.old).ledger c
+            (look_of self.new).ledger) }
+    {
+        match self {
+            Door::Bounded(port) => return port.take(rt),
+            Door::Unbounded(port) => return port.take(rt),
+        }
+    }
+
+    /// Settles that the claims are of these gates, and how many shares there are.
+    pub fn open(&mut self, gates: &Gates<H>, members: usize)
+        requires { (look_of self.old).ledger ≡ unused }
+        ensures { look_of self.new ≡ record (look_of self.old) { ledger = opened (Some (origin_of gates.now)) members members } }
+    {
+        self.open_as::<Brand>(gates, members);
+    }
+
+    fn open_as<S: Scoped<H>>(&mut self, gates: &Gates<H>, members: usize)
+        requires unused { (look_of self.old).ledger ≡ unused }
+        requires these { (S.gates ≡ Some (origin_of gates.now)) × (S.members ≡ members) }
+        ensures { look_of self.new ≡ record (look_of self.old) { ledger = opened (Some (origin_of gates.now)) members members } }
+    {
+        let _ = gates;
+        let _ = members;
+        match self {
+            Door::Bounded(port) => port.open::<S>(),
+            Door::Unbounded(port) => port.open::<S>(),
+        }
+    }
+
+    /// A port of the same place with one of its shares. Where it is refused, nothing has changed.
+    pub fn lend(&mut self) -> Result<Door<H>, AllocError>
+        requires { 1 < (look_of self.old).ledger.shares }
+        ensures { MatchResult result
+            (λ door. (look_of self.new ≡ record (look_of self.old) { ledger = lending 1 (look_of self.old).ledger })
+            × (look_of door ≡ record (look_of self.old) { ledger = borrowing 1 (look_of self.old).ledger }))
+            (λ _. look_of self.new ≡ look_of self.old) }
+    {
+        match self {
+            Door::Bounded(port) => match port.lend() {
+                Ok(lent) => Ok(Door::Bounded(lent)),
+                Err(error) => Err(error),
+            },
+            Door::Unbounded(port) => match port.lend() {
+                Ok(lent) => Ok(Door::Unbounded(lent)),
+                Err(error) => Err(error),
+            },
+        }
+    }
+
+    /// Takes another port of the same place in, with its shares and its account.
+    pub fn join(&mut self, other: Door<H>)
+        requires place { (look_of other).spot ≡ (look_of self.old).spot }
+        requires shares { (0 < (look_of self.old).ledger.shares) × (0 < (look_of other).ledger.shares) }
+        ensures { look_of self.new ≡ record (look_of self.old) { ledger = joining (look_of self.old).ledger (look_of other).ledger } }
+    {
+        match (self, other) {
+            (Door::Bounded(port), Door::Bounded(other)) => port.join(other),
+            (Door::Unbounded(port), Door::Unbounded(other)) => port.join(other),
+            (Door::Bounded(port), Door::Unbounded(other)) => {
+                port.has_bound();
+                other.has_none();
+                unreachable!()
+            }
+            (Door::Unbounded(port), Door::Bounded(other)) => {
+                port.has_none();
+                other.has_bound();
+                unreachable!()
+            }
+        }
+    }
+}

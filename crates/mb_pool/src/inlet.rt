@@ -1,0 +1,106 @@
+//! The feeds' place of a stealing pool, over the kit's injector.
+ghost use Rattle.std.specs.Prelude.{◌≡◌, ◌<◌, [], IfOk, MatchOption, MatchResult};
+ghost use Rattle.crossbeam_deque.specs.Injected.{injector_view, IsInjectorPassOf};
+ghost use Rattle.mb_pool.specs.Ledger.{borrowing, joining, lending, opened, unused};
+ghost use Rattle.mb_pool.specs.Rule.{Moment, PutsLast, TakesFirst};
+ghost use Rattle.mb_pool.specs.Untouched.{IsUntouched};
+
+use crate::knowledge::Knowledge;
+use crate::parked::Parked;
+use crate::rule::{Accounted, Joins, Lends, Opens, Pushed, Scoped, Taken};
+use crossbeam_deque::{Injector, InjectorPass, Steal};
+use mb_gate::{Claim, Resident};
+use std::alloc::{AllocError, Global};
+use std::sync::Wait;
+
+/// The kit's injector under the rule of a place.
+#[derive(Drop)]
+pub struct Inlet<H: Resident> {
+    pub queue: Injector<Parked<H>, Global, Knowledge<H>, Accounted>,
+}
+
+/// What one port knows of it.
+pub type InletPass<H> = InjectorPass<Parked<H>, Knowledge<H>, Global>;
+
+impl<H: Resident> Inlet<H> {
+    pub fn new(alloc: Global) -> Result<(Inlet<H>, InletPass<H>), AllocError>
+        ensures { IfOk result (λ r. IsInjectorPassOf r.0.queue r.1 × (injector_view r.1 ≡ unused)) }
+    {
+        let (queue, pass) = Injector::new_as(alloc)?;
+        Ok((Inlet { queue }, pass))
+    }
+
+    #[inline]
+    pub fn push<R: Wait>(
+        &self,
+        rt: &R,
+        pass: &mut InletPass<H>,
+        claim: Claim<H>,
+    ) -> Result<(), Claim<H>>
+        requires queue { IsInjectorPassOf self.now.queue pass.old }
+        requires share { 0 < (injector_view pass.old).shares }
+        requires fit { IsUntouched H.is_of H.journal H.mailbox H.rested H.given H.closed_to (injector_view pass.old).gates claim }
+        ensures queue { IsInjectorPassOf self.now.queue pass.new }
+        ensures pushed { MatchResult result
+            (λ _. PutsLast (IsUntouched H.is_of H.journal H.mailbox H.rested H.given H.closed_to) (injector_view pass.old) claim
+            (injector_view pass.new))
+            (λ back. (back ≡ claim) × (injector_view pass.new ≡ injector_view pass.old)) }
+    {
+        match self.queue.push_as::<Pushed, R>(rt, pass, Parked { claim }) {
+            Ok(()) => Ok(()),
+            Err(parked) => Err(parked.open()),
+        }
+    }
+
+    #[inline]
+    pub fn take<R: Wait>(&self, rt: &R, pass: &mut InletPass<H>) -> Option<Claim<H>>
+        requires queue { IsInjectorPassOf self.now.queue pass.old }
+        requires share { 0 < (injector_view pass.old).shares }
+        ensures queue { IsInjectorPassOf self.now.queue pass.new }
+        ensures taken { MatchOption result
+            ((injector_view pass.new ≡ injector_view pass.old)
+            × Moment (IsUntouched H.is_of H.journal H.mailbox H.rested H.given H.closed_to) (injector_view pass.old) [])
+            (λ c. TakesFirst (IsUntouched H.is_of H.journal H.mailbox H.rested H.given H.closed_to) (injector_view pass.old) c
+            (injector_view pass.new)) }
+    {
+        for _ in rt.forever() {
+            match self.queue.steal_as::<Taken, R>(rt, pass) {
+                Steal::Success(parked) => return Some(parked.open()),
+                Steal::Empty => return None,
+                Steal::Retry => {}
+            }
+        }
+        unreachable!()
+    }
+
+    /// Settles of which gates the claims are, and how many shares there are.
+    pub fn open<S: Scoped<H>>(&self, pass: &mut InletPass<H>)
+        requires queue { IsInjectorPassOf self.now.queue pass.old }
+        requires unused { injector_view pass.old ≡ unused }
+        ensures queue { IsInjectorPassOf self.now.queue pass.new }
+        ensures opened { injector_view pass.new ≡ opened S.gates S.members S.members }
+    {
+        let _ = self.queue.another::<Opens<S>>(pass);
+    }
+
+    /// One of its shares goes to a pass of its own.
+    pub fn lend(&self, pass: &mut InletPass<H>) -> InletPass<H>
+        requires queue { IsInjectorPassOf self.now.queue pass.old }
+        requires shares { 1 < (injector_view pass.old).shares }
+        ensures queue { IsInjectorPassOf self.now.queue pass.new × IsInjectorPassOf self.now.queue result }
+        ensures lent { injector_view pass.new ≡ lending 1 (injector_view pass.old) }
+        ensures borrowed { injector_view result ≡ borrowing 1 (injector_view pass.old) }
+    {
+        self.queue.another::<Lends>(pass)
+    }
+
+    /// Takes another pass in, with its shares and its account.
+    pub fn join(&self, pass: &mut InletPass<H>, other: InletPass<H>)
+        requires queue { IsInjectorPassOf self.now.queue pass.old × IsInjectorPassOf self.now.queue other }
+        requires shares { (0 < (injector_view pass.old).shares) × (0 < (injector_view other).shares) }
+        ensures queue { IsInjectorPassOf self.now.queue pass.new }
+        ensures joined { injector_view pass.new ≡ joining (injector_view pass.old) (injector_view other) }
+    {
+        self.queue.absorb::<Joins>(pass, other);
+    }
+}

@@ -1,0 +1,133 @@
+//! The ends' own deques of a new pool, and the ways into those of the next ends.
+ghost use Rattle.std.specs.Prelude.{◌≡◌, ◌<◌, ◌∷◌, [], All, length, IfOk, map, replicate};
+ghost use Rattle.mb_pool.specs.Begins.{AreNew, AreNewOf, borrowed, borrowed_next, lent, with_shares};
+ghost use Rattle.mb_pool.specs.Origin.{origin_of};
+ghost use Rattle.mb_pool.specs.Places.{Look, numbers};
+ghost use Rattle.mb_pool.specs.Ways.{next_of, own_of};
+
+use crate::kind::Kind;
+use crate::member::Member;
+use crate::own::Own;
+use crate::thief::Thief;
+use mb_gate::{Gates, Resident};
+use std::alloc::{AllocError, Global};
+
+/// The ends' own deques, each with all of its shares: none in a shared pool.
+pub fn deques_of<H: Resident>(
+    alloc: Global,
+    gates: &Gates<H>,
+    kind: Kind,
+    count: usize,
+) -> Result<Vec<Own<H>>, AllocError>
+    ensures { IfOk result (λ owns. AreNewOf kind (origin_of gates.now) count owns.items) }
+{
+    match kind {
+        Kind::Shared => return Ok(Vec::new(alloc)),
+        Kind::Stealing => return new_deques(alloc, gates, count),
+    }
+}
+
+fn new_deques<H: Resident>(
+    alloc: Global,
+    gates: &Gates<H>,
+    count: usize,
+) -> Result<Vec<Own<H>>, AllocError>
+    ensures { IfOk result (λ owns. AreNew (origin_of gates.now) count count owns.items) }
+{
+    let mut owns = Vec::with_capacity(alloc, count)?;
+    for number in 0..count {
+        let mut own = Own::new(alloc, number)?;
+        own.open(gates, count);
+        owns.push(own)?;
+    }
+    Ok(owns)
+}
+
+/// What so many ends have beside the feeds' place.
+pub fn members_of<H: Resident>(
+    alloc: Global,
+    owns: Vec<Own<H>>,
+    count: usize,
+) -> Result<Vec<Option<Member<H>>>, AllocError>
+    requires { All (λ (l : Look H). l.ledger.shares ≡ length owns.items) owns.items }
+    ensures none { IfOk result (λ members. owns.items ≡ [] → members.items ≡ replicate count None) }
+    ensures own { IfOk result (λ members. 0 < length owns.items → map own_of members.items ≡ map (λ (o : Look H). with_shares 1 o ∷ []) owns.items) }
+    ensures next { IfOk result
+        (λ members. 0 < length owns.items → map next_of members.items ≡ map (borrowed_next owns.items) (numbers 0 (length owns.items))) }
+{
+    if owns.is_empty() {
+        return no_members(alloc, count);
+    }
+    let mut owns = owns;
+    let lists = thieves_of(alloc, owns.as_mut_slice())?;
+    pair(alloc, owns, lists)
+}
+
+fn no_members<H: Resident>(
+    alloc: Global,
+    count: usize,
+) -> Result<Vec<Option<Member<H>>>, AllocError>
+    ensures { IfOk result (λ members. members.items ≡ replicate count None) }
+{
+    let mut members = Vec::with_capacity(alloc, count)?;
+    for _member in 0..count {
+        members.push(None)?;
+    }
+    Ok(members)
+}
+
+/// For each end, in order, a way into each of the next ends' deques in order.
+fn thieves_of<H: Resident>(
+    alloc: Global,
+    owns: &mut [Own<H>],
+) -> Result<Vec<Vec<Thief<H>>>, AllocError>
+    requires { All (λ (l : Look H). l.ledger.shares ≡ length owns.old) owns.old }
+    ensures owns { IfOk result (λ _. owns.new ≡ map (with_shares 1) owns.old) }
+    ensures lists { IfOk result (λ lists. map (λ v. v.items) lists.items ≡ map (borrowed_next owns.old) (numbers 0 (length owns.old))) }
+{
+    let count = owns.len();
+    let mut lists = Vec::with_capacity(alloc, count)?;
+    for end in 0..count {
+        let (_, next) = owns.split_at_mut(1);
+        let thieves = lend_each(alloc, next)?;
+        lists.push(thieves)?;
+        owns.rotate_left(1);
+    }
+    Ok(lists)
+}
+
+/// A way into each of these deques.
+fn lend_each<H: Resident>(alloc: Global, owns: &mut [Own<H>]) -> Result<Vec<Thief<H>>, AllocError>
+    requires { All (λ (l : Look H). 1 < l.ledger.shares) owns.old }
+    ensures owns { IfOk result (λ _. owns.new ≡ map lent owns.old) }
+    ensures thieves { IfOk result (λ thieves. thieves.items ≡ map borrowed owns.old) }
+{
+    let mut thieves = Vec::with_capacity(alloc, owns.len())?;
+    for index in 0..owns.len() {
+        let own = &mut owns[index];
+        let thief = own.lend()?;
+        thieves.push(thief)?;
+    }
+    Ok(thieves)
+}
+
+/// Each deque with the ways into the next ones that its end has.
+fn pair<H: Resident>(
+    alloc: Global,
+    owns: Vec<Own<H>>,
+    lists: Vec<Vec<Thief<H>>>,
+) -> Result<Vec<Option<Member<H>>>, AllocError>
+    requires { length owns.items ≡ length lists.items }
+    ensures own { IfOk result (λ members. map own_of members.items ≡ map (λ (o : Look H). o ∷ []) owns.items) }
+    ensures next { IfOk result (λ members. map next_of members.items ≡ map (λ v. v.items) lists.items) }
+{
+    let mut members = Vec::with_capacity(alloc, owns.len())?;
+    let mut lists = lists.into_iter();
+    for own in owns {
+        let Some(thieves) = lists.next() else {
+            unreachable!()
+        };
+        members.push(Some(Member { own, thieves }))?;
+    }
+    Ok(members)
+}

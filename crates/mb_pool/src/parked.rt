@@ -1,0 +1,27 @@
+//! A claim that lies in the pool.
+ghost use Rattle.std.specs.Prelude.{◌≡◌};
+
+use mb_gate::Claim;
+
+/// A claim in a queue. A claim has to be spent; one in a pool that is dropped is given up.
+pub struct Parked<H> {
+    pub claim: Claim<H>,
+}
+
+impl<H> Parked<H> {
+    /// The claim, out of the pool.
+    #[inline]
+    pub fn open(self) -> Claim<H>
+        ensures { result ≡ self.claim }
+    {
+        let Self { claim } = self;
+        claim
+    }
+}
+
+impl<H: Drop> Drop for Parked<H> {
+    fn drop(self) {
+        let Self { claim } = self;
+        claim.abandon();
+    }
+}

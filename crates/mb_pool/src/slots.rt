@@ -1,0 +1,104 @@
+//! The place of a shared pool, over the kit's ring of slots.
+ghost use Rattle.std.specs.Prelude.{◌≡◌, ◌<◌, [], IfOk, MatchOption, MatchResult};
+ghost use Rattle.crossbeam_queue.specs.Passes.{view, IsPassOf, ruled_capacity};
+ghost use Rattle.mb_pool.specs.Ledger.{borrowing, joining, lending, opened, unused};
+ghost use Rattle.mb_pool.specs.Moves.{WasFull};
+ghost use Rattle.mb_pool.specs.Rule.{Moment, PutsLast, TakesFirst};
+ghost use Rattle.mb_pool.specs.Untouched.{IsUntouched};
+
+use crate::knowledge::Knowledge;
+use crate::parked::Parked;
+use crate::rule::{Accounted, Joins, Lends, Opens, Pushed, Scoped, Taken};
+use crossbeam_queue::{Pass, RuledArrayQueue};
+use mb_gate::{Claim, Resident};
+use std::alloc::{AllocError, Global};
+use std::sync::Wait;
+
+/// The kit's bounded queue under the rule of a place.
+#[derive(Drop)]
+pub struct Slots<H: Resident> {
+    pub queue: RuledArrayQueue<Parked<H>, Knowledge<H>, Accounted>,
+}
+
+/// What one port knows of it.
+pub type SlotsPass<H> = Pass<Parked<H>, Knowledge<H>>;
+
+impl<H: Resident> Slots<H> {
+    pub fn new(alloc: Global, capacity: usize) -> Result<(Slots<H>, SlotsPass<H>), AllocError>
+        requires { 0 < capacity }
+        ensures queue { IfOk result (λ r. IsPassOf r.0.queue r.1 × (view r.1 ≡ unused)) }
+        ensures capacity { IfOk result (λ r. ruled_capacity r.0.queue ≡ capacity) }
+    {
+        let (queue, pass) = RuledArrayQueue::ruled(alloc, capacity)?;
+        Ok((Slots { queue }, pass))
+    }
+
+    #[inline]
+    pub fn push<R: Wait>(
+        &self,
+        rt: &R,
+        pass: &mut SlotsPass<H>,
+        claim: Claim<H>,
+    ) -> Result<(), Claim<H>>
+        requires queue { IsPassOf self.now.queue pass.old }
+        requires share { 0 < (view pass.old).shares }
+        requires fit { IsUntouched H.is_of H.journal H.mailbox H.rested H.given H.closed_to (view pass.old).gates claim }
+        ensures queue { (IsPassOf self.now.queue pass.new) × (pass.new.table_id ≡ pass.old.table_id) }
+        ensures pushed { MatchResult result
+            (λ _. PutsLast (IsUntouched H.is_of H.journal H.mailbox H.rested H.given H.closed_to) (view pass.old) claim (view pass.new))
+            (λ back. (back ≡ claim) × (view pass.new ≡ view pass.old)
+            × WasFull (IsUntouched H.is_of H.journal H.mailbox H.rested H.given H.closed_to) (ruled_capacity self.now.queue) (view pass.old)) }
+    {
+        match self.queue.push_as::<Pushed, R>(rt, pass, Parked { claim }) {
+            Ok(()) => Ok(()),
+            Err(parked) => Err(parked.open()),
+        }
+    }
+
+    #[inline]
+    pub fn take<R: Wait>(&self, rt: &R, pass: &mut SlotsPass<H>) -> Option<Claim<H>>
+        requires queue { IsPassOf self.now.queue pass.old }
+        requires share { 0 < (view pass.old).shares }
+        ensures queue { (IsPassOf self.now.queue pass.new) × (pass.new.table_id ≡ pass.old.table_id) }
+        ensures taken { MatchOption result
+            ((view pass.new ≡ view pass.old) × Moment (IsUntouched H.is_of H.journal H.mailbox H.rested H.given H.closed_to) (view pass.old) [])
+            (λ c. TakesFirst (IsUntouched H.is_of H.journal H.mailbox H.rested H.given H.closed_to) (view pass.old) c (view pass.new)) }
+    {
+        match self.queue.pop_as::<Taken, R>(rt, pass) {
+            Some(parked) => Some(parked.open()),
+            None => None,
+        }
+    }
+
+    /// Settles of which gates the claims are, and how many shares there are.
+    pub fn open<S: Scoped<H>>(&self, pass: &mut SlotsPass<H>)
+        requires queue { IsPassOf self.now.queue pass.old }
+        requires unused { view pass.old ≡ unused }
+        ensures queue { (IsPassOf self.now.queue pass.new) × (pass.new.table_id ≡ pass.old.table_id) }
+        ensures opened { view pass.new ≡ opened S.gates S.members S.members }
+    {
+        let _ = self.queue.another::<Opens<S>>(pass);
+    }
+
+    /// One of its shares goes to a pass of its own.
+    pub fn lend(&self, pass: &mut SlotsPass<H>) -> SlotsPass<H>
+        requires queue { IsPassOf self.now.queue pass.old }
+        requires shares { 1 < (view pass.old).shares }
+        ensures queue { (IsPassOf self.now.queue pass.new) × (pass.new.table_id ≡ pass.old.table_id) }
+        ensures theirs { (IsPassOf self.now.queue result) × (result.table_id ≡ pass.old.table_id) }
+        ensures lent { view pass.new ≡ lending 1 (view pass.old) }
+        ensures borrowed { view result ≡ borrowing 1 (view pass.old) }
+    {
+        self.queue.another::<Lends>(pass)
+    }
+
+    /// Takes another pass in, with its shares and its account.
+    pub fn join(&self, pass: &mut SlotsPass<H>, other: SlotsPass<H>)
+        requires queue { IsPassOf self.now.queue pass.old × IsPassOf self.now.queue other }
+        requires shares { (0 < (view pass.old).shares) × (0 < (view other).shares) }
+        ensures queue { (IsPassOf self.now.queue pass.new) × (pass.new.table_id ≡ pass.old.table_id) }
+        ensures joined { view pass.new ≡ joining (view pass.old) (view other) }
+    {
+        self.queue.absorb::<Joins>(pass, other);
+    }
+}

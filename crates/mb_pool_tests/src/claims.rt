@@ -1,0 +1,42 @@
+//! How a claim is got, and how its cell goes home.
+ghost use Rattle.std.specs.Prelude.{◌≡◌, ◌<◌, Some, IfSome};
+ghost use Rattle.mb_gate.specs.Names.{gates_id, pass_id, actors_of};
+ghost use Rattle.mb_pool.specs.Moves.{given_back};
+ghost use Rattle.mb_pool.specs.Origin.{origin_of};
+ghost use Rattle.mb_pool.specs.Untouched.{IsUntouched};
+
+use mb_gate::{Claim, Gates, Pass, Resident, Tried};
+use mb_msg::ActorId;
+use mb_pool::Refused;
+
+/// A claim, if the try wins: as a pool asks for it.
+pub fn attempt<H: Resident>(gates: &Gates<H>, pass: &mut Pass<H>, id: ActorId) -> Option<Claim<H>>
+    requires ours { pass_id pass.old ≡ gates_id gates.now }
+    requires there { id.0 < actors_of gates.now }
+    ensures ours { pass_id pass.new ≡ pass_id pass.old }
+    ensures fit { IfSome result
+        (IsUntouched H.is_of H.journal H.mailbox H.rested H.given H.closed_to (Some (origin_of gates.now))) }
+{
+    match gates.try_schedule(pass, id) {
+        Tried::Got(claim) => Some(claim),
+        Tried::Already | Tried::Closed | Tried::Lost(_) => None,
+    }
+}
+
+/// The cell goes home as it was taken.
+pub fn give<H: Resident>(gates: &Gates<H>, claim: Claim<H>, pass: &mut Pass<H>)
+    requires ours { pass_id pass.old ≡ gates_id gates.now }
+    requires fit { IsUntouched H.is_of H.journal H.mailbox H.rested H.given H.closed_to (Some (origin_of gates.now)) claim }
+    ensures ours { pass_id pass.new ≡ pass_id pass.old }
+{
+    gates.release(claim, pass);
+}
+
+/// The claim that comes back.
+pub fn back<H>(refused: Refused<H>) -> Claim<H>
+    ensures { result ≡ given_back refused }
+{
+    match refused {
+        Refused::Full(claim) | Refused::NoMemory(claim) => claim,
+    }
+}

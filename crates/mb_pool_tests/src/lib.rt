@@ -1,0 +1,16 @@
+//! The tests of the pool: what was pushed is taken once or is left, in each kind; a full pool; threads that move claims;
+//! memory that is refused.
+#![tactic(auto)]
+
+#[cfg(test)]
+mod alone;
+#[cfg(test)]
+mod claims;
+#[cfg(test)]
+mod desk;
+#[cfg(test)]
+mod party;
+#[cfg(test)]
+mod refused;
+#[cfg(test)]
+mod threads;
