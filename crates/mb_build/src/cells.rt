@@ -1,0 +1,81 @@
+//! The actors' cells.
+use mb_actor::{Actor, Behaviours};
+use mb_cell::Cell;
+use mb_journal::Strategy;
+use mb_msg::ActorId;
+use std::alloc::{AllocError, Global};
+
+/// The guardian's number.
+const GUARDIAN: ActorId = ActorId(0);
+
+/// The cells of the guardian and of these actors, in order, none of which is started yet: each with its parent, with the
+/// children that it may start, and with its strategy.
+pub(crate) fn cells<A: Actor, K: Behaviours>(
+    alloc: Global,
+    actors: Vec<A>,
+    parents: &[ActorId],
+    strategies: Vec<Strategy>,
+    journal_limit: u32,
+) -> Result<Vec<Cell<A, K>>, AllocError> {
+    let count = parents.len() as u32 + 1;
+    let mut cells = Vec::with_capacity(alloc, parents.len() + 1)?;
+    cells.push(guardian(alloc, count, parents, journal_limit)?)?;
+    let mut strategies = strategies.into_iter();
+    for actor in actors {
+        let Some(strategy) = strategies.next() else {
+            unreachable!();
+        };
+        let number = cells.len();
+        let this = ActorId(number as u32);
+        let prepared = children(alloc, this, parents)?;
+        cells.push(Cell::new(
+            alloc,
+            this,
+            count,
+            Some(parents[number - 1]),
+            Some(actor),
+            prepared,
+            strategy,
+            journal_limit,
+        ))?;
+    }
+    Ok(cells)
+}
+
+/// The guardian's cell: its strategy has no rows, so that the default decider decides.
+fn guardian<A: Actor, K: Behaviours>(
+    alloc: Global,
+    count: u32,
+    parents: &[ActorId],
+    journal_limit: u32,
+) -> Result<Cell<A, K>, AllocError> {
+    let prepared = children(alloc, GUARDIAN, parents)?;
+    let strategy = Strategy {
+        rows: Vec::new(alloc),
+        retries: -1,
+        all_for_one: false,
+    };
+    Ok(Cell::new(
+        alloc,
+        GUARDIAN,
+        count,
+        None,
+        None,
+        prepared,
+        strategy,
+        journal_limit,
+    ))
+}
+
+/// The actors whose parent this is, in order.
+fn children(alloc: Global, this: ActorId, parents: &[ActorId]) -> Result<Vec<ActorId>, AllocError> {
+    let mut children = Vec::new(alloc);
+    let mut number = 0;
+    for parent in parents {
+        number += 1;
+        if parent.0 == this.0 {
+            children.push(ActorId(number))?;
+        }
+    }
+    Ok(children)
+}
