@@ -1,13 +1,41 @@
-// A library with one function.
+//! The dispatcher: systems of actors, those who send to them from outside, and the workers that run their mailboxes
+//! (`akka.actor.ActorSystem`, `akka.dispatch.Dispatcher`).
+//!
+//! A system is built from a plan and the actors themselves, and comes with its workers' ends and its senders. These may go to
+//! threads of their own. At the end all come together, and the report tells what became of each actor and each envelope.
 #![tactic(auto)]
 
-ghost use Rattle.std.specs.Prelude.{◌≡◌};
-ghost use Rattle.mb_dispatch.specs.Echo.{echo_of};
+mod build;
+mod built;
+mod end;
+mod failure;
+mod finish;
+mod job;
+mod leaving;
+mod missing;
+mod open;
+mod quiet;
+mod reckoning;
+mod room;
+mod run;
+mod sender;
+mod settled;
+mod system;
+mod ways;
+mod work;
 
-// The `ensures` clause is the contract: what `echo` returns is `echo_of` of its argument, a definition
-// in `specs/Echo.antt`, which a caller's clause can cite too.
-pub fn echo(x: usize) -> usize
-    ensures { result ≡ echo_of x }
-{
-    x
+pub use build::BuildError;
+pub use built::Built;
+pub use end::WorkerEnd;
+pub use failure::RunError;
+pub use finish::{FinishError, Mismatch};
+pub use job::{Job, Order, What};
+pub use sender::Sender;
+pub use system::System;
+pub use ways::{EndWay, FeedWay};
+
+#[cfg(test)]
+mod tests {
+    #[test]
+    fn nothing() {}
 }

@@ -1,0 +1,40 @@
+//! Running on one thread alone.
+use crate::end::WorkerEnd;
+use crate::failure::{RunError, of_turn};
+use crate::system::System;
+use mb_actor::{Actor, Behaviours};
+use mb_turn::Turn;
+use std::sync::Wait;
+
+impl<A: Actor, K: Behaviours> WorkerEnd<A, K> {
+    /// Runs claims on this thread alone, until none is there: the turns, in order. All actors are registered first.
+    ///
+    /// It answers `JournalFull` or `NoMemory` as a turn does, and `NoMemory` also if there was no room for one more turn, or the
+    /// pool refused a claim again. What was done stays done, and the same call goes on.
+    pub fn run_quietly<R: Wait>(
+        &mut self,
+        rt: &R,
+        system: &System<A, K>,
+    ) -> Result<Vec<Turn>, RunError> {
+        self.register_all(rt, system);
+        let mut turns = Vec::new(system.alloc);
+        for _ in rt.forever() {
+            if turns.reserve(1).is_err() {
+                return Err(RunError::NoMemory);
+            }
+            match self.take(rt) {
+                Some(claim) => match self.run_mailbox(rt, system, claim) {
+                    Ok(turn) => turns.push_reserved(turn),
+                    Err(error) => return Err(of_turn(error)),
+                },
+                None => {
+                    if self.waker.owed.is_empty() {
+                        return Ok(turns);
+                    }
+                    self.pay(rt, system)?;
+                }
+            }
+        }
+        unreachable!()
+    }
+}

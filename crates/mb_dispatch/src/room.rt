@@ -1,0 +1,61 @@
+//! The room that the end of a system takes: after it no memory is asked for.
+use mb_actor::{Actor, Behaviours};
+use mb_cell::Cell;
+use mb_gate::{Gates, Left, Pass};
+use mb_msg::{ActorId, Envelope};
+use mb_queue::{SendPass, TakePass};
+use mb_report::{ActorReport, SenderReport};
+use mb_send::Book;
+use mb_turn::Place;
+use std::alloc::{AllocError, Global};
+
+/// What a home leaves but for its passes.
+#[derive(Drop)]
+pub(crate) struct Ended<A: Actor, K: Behaviours> {
+    pub(crate) cell: Cell<A, K>,
+    pub(crate) cleaned: Vec<Envelope>,
+    pub(crate) dead_system: u64,
+}
+
+/// Room for what is left of each actor and of each sender, and how many envelopes wait for each actor.
+#[derive(Drop)]
+pub(crate) struct Room<A: Actor, K: Behaviours> {
+    pub(crate) waiting: Vec<u64>,
+    pub(crate) homes: Vec<Option<Left<Place<A, K>>>>,
+    pub(crate) ended: Vec<Ended<A, K>>,
+    pub(crate) takes: Vec<TakePass>,
+    pub(crate) rows: Vec<Vec<SendPass>>,
+    pub(crate) lefts: Vec<Vec<Envelope>>,
+    pub(crate) outside: Vec<(Vec<SendPass>, Book)>,
+    pub(crate) actors: Vec<ActorReport>,
+    pub(crate) senders: Vec<SenderReport>,
+}
+
+/// Makes room for so many senders, and for all that waits.
+pub(crate) fn make_room<A: Actor, K: Behaviours>(
+    alloc: Global,
+    gates: &Gates<Place<A, K>>,
+    pass: &mut Pass<Place<A, K>>,
+    outside: usize,
+) -> Result<Room<A, K>, AllocError> {
+    let actors = gates.actors();
+    let senders = actors.checked_add(outside).ok_or(AllocError)?;
+    let mut room = Room {
+        waiting: Vec::with_capacity(alloc, actors)?,
+        homes: Vec::with_capacity(alloc, actors)?,
+        ended: Vec::with_capacity(alloc, actors)?,
+        takes: Vec::with_capacity(alloc, actors)?,
+        rows: Vec::with_capacity(alloc, senders)?,
+        lefts: Vec::with_capacity(alloc, actors)?,
+        outside: Vec::with_capacity(alloc, outside)?,
+        actors: Vec::with_capacity(alloc, actors)?,
+        senders: Vec::with_capacity(alloc, senders)?,
+    };
+    for number in 0..actors {
+        let waiting = gates.waiting(pass, ActorId(number as u32));
+        room.waiting.push(waiting)?;
+        room.lefts
+            .push(Vec::with_capacity(alloc, waiting as usize)?)?;
+    }
+    Ok(room)
+}

@@ -1,0 +1,84 @@
+//! A run of all workers and some senders, each on a thread of its own.
+use crate::end::WorkerEnd;
+use crate::failure::RunError;
+use crate::job::Job;
+use crate::system::System;
+use mb_actor::{Actor, Behaviours};
+use std::sync::Wait;
+use std::thread::{Threads, join_mut};
+
+impl<A: Actor + Send + Sync, K: Behaviours + Send + Sync> System<A, K> {
+    /// Runs claims by all these ends, while the jobs send, each on a thread of its own, until no claim exists and no job is
+    /// open. All actors are registered first. Where a thread is refused, another does its work in turn, jobs before ends.
+    ///
+    /// It answers the first fault in the order of the ends, then of the jobs.
+    pub fn run<R: Threads + Wait + Sync>(
+        &self,
+        rt: &R,
+        ends: &mut [WorkerEnd<A, K>],
+        jobs: &mut [Job<A, K>],
+    ) -> Result<(), RunError> {
+        if let Some(first) = ends.first_mut() {
+            first.register_all(rt, self);
+        }
+        self.open.open_jobs(jobs.len());
+        let outcome = send_and_work(rt, self, ends, jobs);
+        outcome.ends?;
+        outcome.jobs
+    }
+}
+
+// The first fault of the ends, and the first of the jobs.
+#[derive(Drop)]
+struct Outcome {
+    ends: Result<(), RunError>,
+    jobs: Result<(), RunError>,
+}
+
+// The first job on this thread, beside the others and the ends on another. Where that is refused, they come after the job: no
+// end waits for a job that is not begun.
+fn send_and_work<A: Actor + Send + Sync, K: Behaviours + Send + Sync, R: Threads + Wait + Sync>(
+    rt: &R,
+    system: &System<A, K>,
+    ends: &mut [WorkerEnd<A, K>],
+    jobs: &mut [Job<A, K>],
+) -> Outcome {
+    let Some((job, others)) = jobs.split_first_mut() else {
+        return Outcome {
+            ends: work_all(rt, system, ends),
+            jobs: Ok(()),
+        };
+    };
+    let (rest, first) = join_mut(
+        rt,
+        &mut || send_and_work(rt, system, ends, others),
+        &mut || job.send_all(rt, system),
+    );
+    Outcome {
+        ends: rest.ends,
+        jobs: first_of(first, rest.jobs),
+    }
+}
+
+// The first end on this thread, beside the others.
+fn work_all<A: Actor + Send + Sync, K: Behaviours + Send + Sync, R: Threads + Wait + Sync>(
+    rt: &R,
+    system: &System<A, K>,
+    ends: &mut [WorkerEnd<A, K>],
+) -> Result<(), RunError> {
+    let Some((end, others)) = ends.split_first_mut() else {
+        return Ok(());
+    };
+    let (rest, first) = join_mut(
+        rt,
+        &mut || work_all(rt, system, others),
+        &mut || end.work(rt, system),
+    );
+    first_of(first, rest)
+}
+
+// The first fault of two.
+fn first_of(first: Result<(), RunError>, rest: Result<(), RunError>) -> Result<(), RunError> {
+    first?;
+    rest
+}

@@ -1,0 +1,66 @@
+//! A worker among others.
+use crate::end::WorkerEnd;
+use crate::failure::{RunError, of_turn};
+use crate::system::System;
+use crossbeam_utils::Backoff;
+use mb_actor::{Actor, Behaviours};
+use std::sync::Wait;
+
+impl<A: Actor, K: Behaviours> WorkerEnd<A, K> {
+    /// Runs claims until no claim exists and no job of a run is open.
+    ///
+    /// It stops at the first fault: `JournalFull` or `NoMemory` as a turn answers it, and `NoMemory` if the pool refused a claim
+    /// again.
+    pub fn work<R: Wait>(&mut self, rt: &R, system: &System<A, K>) -> Result<(), RunError> {
+        system.open.enter();
+        let outcome = self.work_on(rt, system);
+        system.open.leave();
+        outcome
+    }
+
+    // The worker counts as busy at the beginning and at the end.
+    fn work_on<R: Wait>(&mut self, rt: &R, system: &System<A, K>) -> Result<(), RunError> {
+        for _ in rt.forever() {
+            self.run_all(rt, system)?;
+            if self.is_over(rt, system)? {
+                return Ok(());
+            }
+        }
+        unreachable!()
+    }
+
+    // Runs claims until the pool gives none.
+    fn run_all<R: Wait>(&mut self, rt: &R, system: &System<A, K>) -> Result<(), RunError> {
+        for _ in rt.forever() {
+            let Some(claim) = self.take(rt) else {
+                return self.pay(rt, system);
+            };
+            if let Err(error) = self.run_mailbox(rt, system, claim) {
+                return Err(of_turn(error));
+            }
+        }
+        unreachable!()
+    }
+
+    // Waits for a claim, and runs it; or finds that none will come.
+    fn is_over<R: Wait>(&mut self, rt: &R, system: &System<A, K>) -> Result<bool, RunError> {
+        system.open.leave();
+        let backoff = Backoff::new();
+        for _ in rt.forever() {
+            let is_over = system.open.is_over();
+            if let Some(claim) = self.take(rt) {
+                system.open.enter();
+                return match self.run_mailbox(rt, system, claim) {
+                    Ok(_) => Ok(false),
+                    Err(error) => Err(of_turn(error)),
+                };
+            }
+            if is_over {
+                system.open.enter();
+                return Ok(true);
+            }
+            backoff.snooze();
+        }
+        unreachable!()
+    }
+}
