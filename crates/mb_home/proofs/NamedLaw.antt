@@ -68,11 +68,11 @@ module _ (actors : ℕ) where
 
   below-filter : (test : ActorId → Bool) (list : List ActorId) → AreBelow list → AreBelow (filter test list)
   below-filter test [] all = tt
-  below-filter test (x ∷ list) all = by_test (test x)
+  below-filter test (x ∷ list) all = by_test (test x) (below-filter test list all.1)
     where
-      by_test : (b : Bool) → AreBelow (if b then x ∷ filter test list else filter test list)
-      by_test true = (all.0, below-filter test list all.1)
-      by_test false = below-filter test list all.1
+      by_test : (b : Bool) → AreBelow (filter test list) → AreBelow (if b then x ∷ filter test list else filter test list)
+      by_test true others = (all.0, others)
+      by_test false others = others
 
   below-joined : (list : List ActorId) (x : ActorId) → AreBelow list → IsBelow x → AreBelow (joined list x)
   below-joined list x all less = by_test (has list x)
@@ -112,7 +112,7 @@ module _ (actors : ℕ) where
     where
       one : (b : Bool) → SendsBelow actors (if b then Sys y (system.Recreate c) ∷ [] else Sys y system.Suspend ∷ Sys y (system.Recreate c) ∷ [])
       one true = ((all.0, tt), tt)
-      one false = ((all.0, tt), (all.0, tt), tt)
+      one false = ((all.0, tt), ((all.0, tt), tt))
 
   sends-stop : (effects : List Effect) → SendsBelow actors (stop_acts effects)
   sends-stop [] = tt
@@ -281,11 +281,13 @@ module _ (who : Identity) (gives : Moment → Reply → Type 0) where
   watching-below [] lawful = tt
   watching-below (e ∷ before) lawful =
       watched-below who.actors who.this (if is_ending e before then [] else after_death e (watching who before)) (lasting_effects e)
-      (by_test (is_ending e before)) (there-lasting before e lawful.0)
+      (by_test (is_ending e before) (death-below who.actors e (watching who before) (watching-below before lawful.1)))
+      (there-lasting before e lawful.0)
     where
-      by_test : (b : Bool) → AreBelow who.actors (if b then [] else after_death e (watching who before))
-      by_test true = tt
-      by_test false = death-below who.actors e (watching who before) (watching-below before lawful.1)
+      by_test : (b : Bool) → AreBelow who.actors (after_death e (watching who before)) →
+          AreBelow who.actors (if b then [] else after_death e (watching who before))
+      by_test true all = tt
+      by_test false all = all
 
   module _ (prepared : AreBelow who.actors who.prepared) where
     spawned-below : (before : List Entry) (e : Entry) → IsLawfulEntry who gives before e → AreBelow who.actors (spawned who e before)
