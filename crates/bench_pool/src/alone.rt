@@ -1,7 +1,7 @@
 //! One end on one thread.
 ghost use Rattle.std.specs.Prelude.{◌≡◌, ◌<◌, Some};
 ghost use Rattle.mb_gate.specs.Names.{gates_id, pass_id, actors_of};
-ghost use Rattle.mb_pool.specs.Origin.{origin_of};
+ghost use Rattle.mb_gate.specs.Untouched.{origin_of};
 ghost use Rattle.mb_pool.specs.Places.{gates_of};
 
 use crate::claims::{attempt, back, give};

@@ -2,8 +2,7 @@
 ghost use Rattle.std.specs.Prelude.{◌≡◌, ◌<◌, Some, IfSome};
 ghost use Rattle.mb_gate.specs.Names.{gates_id, pass_id, actors_of};
 ghost use Rattle.mb_pool.specs.Moves.{given_back};
-ghost use Rattle.mb_pool.specs.Origin.{origin_of};
-ghost use Rattle.mb_pool.specs.Untouched.{IsUntouched};
+ghost use Rattle.mb_gate.specs.Untouched.{origin_of, IsUntouched};
 
 use mb_gate::{Claim, Gates, Pass, Resident, Tried};
 use mb_msg::ActorId;

@@ -1,18 +1,17 @@
 -- How the ports of a new pool are made, step by step.
-use Rattle.std.proofs.Common.{◌≡◌, ◌≢◌, ℕ, zero, suc, ◌+◌, ◌-◌, ◌<◌, ◌≤◌, List, [], ◌∷◌, ◌++◌, length, get_or, set, take, drop, sym, refl, ap, ◌∙◌}
+use Rattle.std.proofs.Common.{◌≡◌, ℕ, zero, suc, ◌+◌, ◌-◌, ◌<◌, ◌≤◌, List, [], ◌∷◌, ◌++◌, length, get_or, set, take, drop, sym, refl, ap, ◌∙◌}
 use Rattle.std.proofs.Common.{subst, map, arith, append_assoc, append-nil, replicate, inl, inr}
-use Rattle.std.specs.Prelude.{All, Option, Some, None, flat_map}
+use Rattle.std.specs.Prelude.{All, Option, Some, None}
 use Rattle.std.proofs.lemmas.List.{map-append, map_push, take-map, drop-map, length-drop, length-map, length_push, drop_all, take_all}
 use Rattle.std.proofs.lemmas.List.Elements.{All-nil, All-cons, All-head, All-tail, All-map, All-append, All-replicate, All-weaker}
-use Rattle.mb_gate.specs.declared.claim.Claim.{Claim}
 use Rattle.mb_pool.specs.declared.kind.Kind.{Kind}
 use Rattle.mb_pool.specs.declared.kind.Kind.TheVariants.{Shared, Stealing}
 use Rattle.mb_pool.specs.declared.member.Member.{Member}
 use Rattle.mb_pool.specs.Begins.{AreMembers, AreNew, AreNewOf, borrowed, borrowed_next, bound_of, fresh, lent, new_door, with_shares}
 use Rattle.mb_pool.specs.Made.{AreDeques, AreUnused, IsBegun, IsDeque, IsOfKind, IsWhole, spots_of}
-use Rattle.mb_pool.specs.Origin.{Origin}
-use Rattle.mb_pool.specs.Places.{AreEnds, AreFeeds, Look, Part, Parts, Spot, Way, Whole, deque_parts, door_part, end_parts, feed_parts, looks}
-use Rattle.mb_pool.specs.Places.{numbers, part_of, parts_of, pushed_at, pushed_by, taken_at, taken_by}
+use Rattle.mb_gate.specs.Untouched.{Origin}
+use Rattle.mb_pool.specs.Places.{AreEnds, AreFeeds, Look, Parts, Spot, Way, Whole, door_part, looks}
+use Rattle.mb_pool.specs.Places.{numbers, part_of, parts_of, pushed_at, taken_at}
 use Rattle.mb_pool.specs.Ledger.{claims_in, opened}
 use Rattle.mb_pool.specs.Ways.{AreOpen, IsOpen, next_of, of_feed, own_of, way_of}
 

@@ -1,19 +1,20 @@
 -- A place is emptied; what ports know comes together.
-use Rattle.std.proofs.Common.{◌≡◌, ℕ, ◌+◌, ◌<◌, ◌≤◌, List, [], ◌∷◌, ◌++◌, length, sym, refl, ap, ◌∙◌, subst, map, arith, append_assoc, append-nil}
+use Rattle.std.proofs.Common.{◌≡◌, ℕ, ◌≤◌, List, [], ◌∷◌, ◌++◌, length, sym, refl, ap, ◌∙◌, subst, arith, append_assoc, append-nil}
 use Rattle.std.specs.Prelude.{All, IsPermutation, Option, flat_map}
 use Rattle.std.proofs.lemmas.List.{map-append, map_push}
 use Rattle.std.proofs.lemmas.List.Concat.{flat_map-append}
 use Rattle.std.proofs.lemmas.List.Elements.{All-nil, All-cons, All-head, All-tail, All-append, All-push}
 use Rattle.std.proofs.lemmas.List.Sorted.{IsPermutation-refl, IsPermutation-sym, IsPermutation-trans, IsPermutation-append}
-use Rattle.std.proofs.lemmas.List.Sorted.{IsPermutation-append_comm, IsPermutation-map}
+use Rattle.std.proofs.lemmas.List.Sorted.{IsPermutation-map}
 use Rattle.std.proofs.lemmas.List.Sums.{sum_by-cons, sum_by-append}
 use Rattle.mb_gate.specs.declared.claim.Claim.{Claim}
-use Rattle.mb_pool.specs.Ends.{Empties, TakesIn, Where, joined, shares_in, where_is}
-use Rattle.mb_pool.specs.Ledger.{Turn, claims_in, taking, turn, turns}
-use Rattle.mb_pool.specs.Origin.{Account, Origin}
+use Rattle.mb_pool.specs.Ends.{Empties, TakesIn, joined}
+use Rattle.mb_pool.specs.Ledger.{Turn, claims_in, turn, turns}
+use Rattle.mb_gate.specs.Untouched.{Origin}
+use Rattle.mb_pool.specs.Account.{Account}
 use Rattle.mb_pool.specs.Places.{Look, pushed_at, taken_at}
 use Rattle.mb_pool.specs.Rule.{Moment, TakesFirst}
-use Rattle.mb_pool.proofs.Lists.{same_elements, from_left, behind, before, past}
+use Rattle.mb_pool.proofs.Lists.{same_elements, from_left, behind, past}
 use Rattle.mb_pool.proofs.Ports.{all_right}
 
 -- the middle two of four may be exchanged

@@ -1,11 +1,11 @@
 -- The steps of the loops that end a pool.
-use Rattle.std.proofs.Common.{◌≡◌, ℕ, ◌+◌, ◌<◌, List, [], ◌∷◌, ◌++◌, length, get_or, set, sym, refl, ap, ◌∙◌, subst, arith}
+use Rattle.std.proofs.Common.{◌≡◌, ℕ, ◌+◌, ◌<◌, List, [], ◌∷◌, ◌++◌, length, get_or, set, sym, ap, ◌∙◌, subst, arith}
 use Rattle.std.specs.Prelude.{All, Option}
 use Rattle.std.proofs.lemmas.List.Elements.{All-nil, All-cons, All-head, All-tail}
 use Rattle.mb_gate.specs.declared.claim.Claim.{Claim}
 use Rattle.mb_pool.specs.Ends.{AreAlike, AreMatched, Empties, Gathers, IsAllOf, IsAmong, MayJoin, TakesIn, Where, doors_of, joined, joined_first}
 use Rattle.mb_pool.specs.Ends.{owns_of, where_is}
-use Rattle.mb_pool.specs.Origin.{Origin}
+use Rattle.mb_gate.specs.Untouched.{Origin}
 use Rattle.mb_pool.specs.Places.{Look, Way, gates_of, owner_of, part_of}
 use Rattle.mb_pool.specs.Ways.{AreOpen, HasShare, IsOpen, of_feed}
 use Rattle.mb_pool.proofs.Emptying.{empties_append, empties_gates, empties_none}

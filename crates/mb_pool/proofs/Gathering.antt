@@ -1,19 +1,19 @@
 -- Each way into a deque is taken in by the end that it belongs to, step by step.
-use Rattle.std.proofs.Common.{◌≡◌, ℕ, zero, suc, ◌+◌, ◌<◌, ◌≤◌, List, [], ◌∷◌, ◌++◌, length, get_or, set, take, drop, sym, refl, ap, ◌∙◌, subst, map}
+use Rattle.std.proofs.Common.{◌≡◌, ℕ, zero, suc, ◌+◌, ◌<◌, ◌≤◌, List, [], ◌∷◌, ◌++◌, length, get_or, set, take, sym, refl, ap, ◌∙◌, subst, map}
 use Rattle.std.proofs.Common.{arith, append_assoc, append-nil}
-use Rattle.std.specs.Prelude.{All, IsPermutation, Option, flat_map, sum_by}
+use Rattle.std.specs.Prelude.{All, IsPermutation, flat_map, sum_by}
 use Rattle.std.proofs.lemmas.List.{map-append, map-set, set-get_or, set-set, get_or-map, get_or-set_same, length-map, length-set, take_all}
 use Rattle.std.proofs.lemmas.List.Concat.{flat_map-append}
-use Rattle.std.proofs.lemmas.List.Elements.{All-nil, All-cons, All-head, All-tail, All-append, All-weaker, All-drop}
-use Rattle.std.proofs.lemmas.List.Sorted.{IsPermutation-refl, IsPermutation-sym, IsPermutation-trans, IsPermutation-append}
+use Rattle.std.proofs.lemmas.List.Elements.{All-weaker}
+use Rattle.std.proofs.lemmas.List.Sorted.{IsPermutation-refl, IsPermutation-sym, IsPermutation-trans}
 use Rattle.std.proofs.lemmas.List.Sorted.{IsPermutation-append_comm}
 use Rattle.std.proofs.lemmas.List.Sums.{sum_by-cons, sum_by-append}
 use Rattle.mb_gate.specs.declared.claim.Claim.{Claim}
 use Rattle.mb_pool.specs.Ends.{AreGathered, Frame, Gathers, IsAmong, MayJoin, Where, frame_of, joined, joined_first, nexts_of, owns_of, shares_in}
 use Rattle.mb_pool.specs.Ends.{where_is}
 use Rattle.mb_pool.specs.Ledger.{Turn, claims_in}
-use Rattle.mb_pool.specs.Places.{Look, Part, Spot, Way, looks, owner_of, part_of, pushed_at, pushed_by, taken_at, taken_by}
-use Rattle.mb_pool.proofs.Lists.{same_elements, from_left, behind, before, past}
+use Rattle.mb_pool.specs.Places.{Look, Part, Spot, Way, looks, owner_of, part_of, pushed_by, taken_by}
+use Rattle.mb_pool.proofs.Lists.{same_elements, from_left, behind, before}
 use Rattle.mb_pool.proofs.Begins.{take_suc, upto, upto_all, upto_at, upto_set}
 use Rattle.mb_pool.proofs.Emptying.{all_left}
 use Rattle.mb_pool.proofs.Ports.{all_right}

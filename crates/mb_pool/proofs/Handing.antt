@@ -6,7 +6,7 @@ use Rattle.std.proofs.lemmas.List.Elements.{All-head, All-tail}
 use Rattle.mb_pool.specs.declared.member.Member.{Member}
 use Rattle.mb_pool.specs.Begins.{borrowed, fresh, with_shares}
 use Rattle.mb_pool.specs.Ledger.{opened}
-use Rattle.mb_pool.specs.Origin.{Origin}
+use Rattle.mb_gate.specs.Untouched.{Origin}
 use Rattle.mb_pool.specs.Places.{Look}
 use Rattle.mb_pool.specs.Ways.{AreOpen, HasShare, way_of}
 use Rattle.mb_pool.proofs.Begins.{map_map}

@@ -1,10 +1,9 @@
+pub mod Alike
 pub mod Begins
 pub mod Closing
 pub mod Emptying
 pub mod Ending
 pub mod Gathering
-pub mod Given
-pub mod Got
 pub mod Handing
 pub mod Lending
 pub mod Lent

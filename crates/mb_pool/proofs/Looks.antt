@@ -1,13 +1,13 @@
 -- From what a call tells of the deque to what it tells of the port.
-use Rattle.std.proofs.Common.{◌≡◌, ℕ, ap, MatchResult, MatchOption, Some, None}
+use Rattle.std.proofs.Common.{◌≡◌, ℕ, MatchResult, MatchOption, Some, None}
 use Rattle.std.specs.Prelude.{Option, Result, Ok, Err}
 use Rattle.crossbeam_deque.specs.Handles as deque
 use Rattle.crossbeam_deque.specs.declared.handles.Worker.{Worker}
 use Rattle.crossbeam_deque.specs.Injected.{InjectorPass, injector_view}
 use Rattle.crossbeam_queue.specs.Passes as queue
 use Rattle.mb_pool.specs.declared.slots.Slots.{Slots}
-use Rattle.mb_pool.specs.Origin.{Account}
-use Rattle.mb_pool.specs.Places.{Look, deque_at, slots_at, inlet_at}
+use Rattle.mb_pool.specs.Account.{Account}
+use Rattle.mb_pool.specs.Places.{deque_at, slots_at, inlet_at}
 use Rattle.mb_pool.specs.Deques.{own_look, thief_look}
 use Rattle.mb_pool.specs.Shared.{slots_look, inlet_look}
 

@@ -1,14 +1,13 @@
 -- The steps of the loops that make the ports of a new pool.
-use Rattle.std.proofs.Common.{◌≡◌, ℕ, zero, suc, ◌+◌, ◌-◌, ◌<◌, ◌≤◌, List, [], ◌∷◌, ◌++◌, length, get_or, set, take, drop, replicate, sym, refl, ap}
-use Rattle.std.proofs.Common.{◌∙◌, subst, map, arith, append_assoc, append-nil}
-use Rattle.std.specs.Prelude.{All}
+use Rattle.std.proofs.Common.{◌≡◌, ℕ, suc, ◌+◌, ◌-◌, ◌<◌, ◌≤◌, List, [], ◌∷◌, ◌++◌, length, get_or, set, take, replicate, sym, refl, ap}
+use Rattle.std.proofs.Common.{◌∙◌, map, arith, append_assoc}
 use Rattle.std.proofs.lemmas.List.{map_push, length-map, length-replicate, replicate_more}
 use Rattle.mb_pool.specs.Begins.{borrowed, borrowed_next, lent, with_shares}
 use Rattle.mb_pool.specs.Ledger.{opened}
-use Rattle.mb_pool.specs.Origin.{Account}
+use Rattle.mb_pool.specs.Account.{Account}
 use Rattle.mb_pool.specs.Places.{Look, numbers}
-use Rattle.mb_pool.proofs.Begins.{after, borrowed_so, cons_head, cons_tail, may_lend, numbers_push, rotated, rotated_first, rotated_next, take_suc}
-use Rattle.mb_pool.proofs.Begins.{upto, upto_at, upto_set}
+use Rattle.mb_pool.proofs.Begins.{cons_head, cons_tail, numbers_push, take_suc}
+use Rattle.mb_pool.proofs.Begins.{upto, upto_set}
 
 module _ {A B : Type 0} (f : A → B) where
   -- one more is done, one less is to come

@@ -5,9 +5,9 @@ use Rattle.mb_pool.specs.declared.kind.Kind.{Kind}
 use Rattle.mb_pool.specs.declared.member.Member.{Member}
 use Rattle.mb_pool.specs.Begins.{AreMembers, AreNewOf, borrowed, borrowed_next, bound_of, new_door, with_shares}
 use Rattle.mb_pool.specs.Ledger.{opened}
-use Rattle.mb_pool.specs.Made.{IsBegun, spots_of}
-use Rattle.mb_pool.specs.Origin.{Origin}
-use Rattle.mb_pool.specs.Places.{Look, Spot, Way, Whole, numbers}
+use Rattle.mb_pool.specs.Made.{IsBegun}
+use Rattle.mb_gate.specs.Untouched.{Origin}
+use Rattle.mb_pool.specs.Places.{Look, Way, Whole, numbers}
 use Rattle.mb_pool.specs.Ways.{AreOpen, next_of, of_feed, own_of, way_of}
 use Rattle.mb_pool.proofs.Begins.{begun, count_members, made, made_members, members_open}
 use Rattle.mb_pool.proofs.Handing.{door_is}

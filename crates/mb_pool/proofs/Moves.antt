@@ -1,7 +1,7 @@
 -- Each step of a port keeps the rule of a place.
-use Rattle.std.proofs.Common.{◌≡◌, ◌≢◌, ℕ, zero, suc, ◌+◌, ◌-◌, ◌<◌, ◌≤◌, List, [], ◌∷◌, ◌++◌, length, set, sym, refl, ap, ◌∙◌, subst, append_assoc}
+use Rattle.std.proofs.Common.{◌≡◌, ℕ, ◌+◌, ◌<◌, List, [], ◌∷◌, ◌++◌, length, set, sym, refl, ap, ◌∙◌, subst, append_assoc}
 use Rattle.std.proofs.Common.{append-nil, arith, Option, None}
-use Rattle.std.specs.Prelude.{IsPermutation, flat_map, sum_by, All}
+use Rattle.std.specs.Prelude.{IsPermutation, flat_map, All}
 use Rattle.std.proofs.lemmas.List.Sorted.{IsPermutation-refl, IsPermutation-sym, IsPermutation-trans}
 use Rattle.std.proofs.lemmas.List.Sums.{sum_by-cons, sum_by-append}
 use Rattle.std.proofs.lemmas.List.Concat.{flat_map-append}
@@ -10,7 +10,7 @@ use mathlib.Core.Option.{some}
 use lib.ListN.{get_elem?}
 use Rattle.mb_pool.specs.Ledger.{Turn, turn, turns, turns_from, Ledger, opened, unused, pushing, taking, lending, borrowing, joining, spent}
 use Rattle.mb_pool.specs.Rule.{all_pushed, all_taken, all_shares, Agrees, Kept, Moment, PutsLast, TakesFirst}
-use Rattle.mb_pool.proofs.Lists.{same_elements, from_left, behind, before, past, to_end, nothing_more, others, set_same, set_swap, get_other, pulls}
+use Rattle.mb_pool.proofs.Lists.{same_elements, from_left, behind, before, past, to_end, nothing_more, others, set_swap, get_other, pulls}
 use Rattle.mb_pool.proofs.Lists.{pulls_own, weighs, weighs_own, holds_at, holds_others, holds_set}
 
 module _ {C : Type 0} where

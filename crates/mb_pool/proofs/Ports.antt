@@ -5,13 +5,13 @@ use Rattle.std.specs.Prelude.{All, IfSome, Option, Some, None, Result, Ok, Err}
 use Rattle.std.proofs.lemmas.List.Elements.{All-nil, All-cons, All-head, All-tail, All-map, All-weaker}
 use Rattle.mb_gate.specs.declared.claim.Claim.{Claim}
 use Rattle.mb_pool.specs.declared.refused.Refused.{Refused}
-use Rattle.mb_pool.specs.declared.refused.Refused.TheVariants.{Full, NoMemory}
+use Rattle.mb_pool.specs.declared.refused.Refused.TheVariants.{NoMemory}
 use Rattle.mb_pool.specs.Moves.{given_back, IsRefusal, IsRefusedBy, Pushes, PutsFirst, Takes, TakesOne, WasEmpty}
-use Rattle.mb_pool.specs.Origin.{Account, Origin}
+use Rattle.mb_gate.specs.Untouched.{Origin}
+use Rattle.mb_pool.specs.Account.{Account}
 use Rattle.mb_pool.specs.Places.{Look, Part, Parts, Way, gates_of, looks, part_of, parts_of}
 use Rattle.mb_pool.specs.Rule.{Moment, PutsLast, TakesFirst}
 use Rattle.mb_pool.specs.Ways.{AreOpen, HasShare, IsOpen, of_feed}
-use Rattle.mb_pool.proofs.Looks.{of_option, of_result}
 
 pub all_right : {X : Type 0} (P : X → Type 0) (xs ys : List X) → All P (xs ++ ys) → All P ys
 all_right P [] ys h = h

@@ -6,7 +6,7 @@ use Rattle.std.proofs.lemmas.List.{length-map, set-get_or, take_all}
 use Rattle.std.proofs.lemmas.List.Elements.{All-push}
 use Rattle.mb_gate.specs.declared.claim.Claim.{Claim}
 use Rattle.mb_pool.specs.Moves.{TakesOne, WasEmpty}
-use Rattle.mb_pool.specs.Origin.{Origin}
+use Rattle.mb_gate.specs.Untouched.{Origin}
 use Rattle.mb_pool.specs.Places.{Look, part_of}
 use Rattle.mb_pool.specs.Rule.{Moment, TakesFirst}
 use Rattle.mb_pool.proofs.Begins.{take_suc}

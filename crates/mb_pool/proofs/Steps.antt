@@ -1,5 +1,5 @@
 -- The steps as the kit's queues and deques ask for them.
-use Rattle.std.proofs.Common.{◌≡◌, ◌≢◌, ℕ, zero, suc, ◌+◌, ◌<◌, ◌≤◌, List, [], ◌∷◌, ◌++◌, length, set, sym, refl, ap, ◌∙◌, subst, arith, min, Option}
+use Rattle.std.proofs.Common.{◌≡◌, ℕ, suc, ◌<◌, ◌≤◌, List, [], ◌∷◌, ◌++◌, length, set, sym, refl, ap, ◌∙◌, subst, arith, min, Option}
 use mathlib.Core.Option.{some}
 use lib.ListN.{get_elem?}
 use Rattle.crossbeam_queue.specs.Fifo as fifo

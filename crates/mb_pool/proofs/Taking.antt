@@ -1,9 +1,9 @@
 -- The ends' and the feeds' ports of one place are taken in, one after the other.
-use Rattle.std.proofs.Common.{◌≡◌, ℕ, List, [], ◌∷◌, ◌++◌, length, sym, ap, ◌∙◌, subst, arith, append-nil}
+use Rattle.std.proofs.Common.{◌≡◌, List, [], ◌∷◌, ◌++◌, length, sym, ap, ◌∙◌, subst, arith, append-nil}
 use Rattle.std.specs.Prelude.{All, Option}
 use Rattle.mb_gate.specs.declared.claim.Claim.{Claim}
 use Rattle.mb_pool.specs.Ends.{Empties, TakesIn, doors_of, joined, owns_of, where_is}
-use Rattle.mb_pool.specs.Origin.{Origin}
+use Rattle.mb_gate.specs.Untouched.{Origin}
 use Rattle.mb_pool.specs.Places.{Look, Way, gates_of}
 use Rattle.mb_pool.specs.Ways.{HasShare}
 use Rattle.mb_pool.proofs.Ending.{alike_next, both_share, same_place}

@@ -1,27 +1,26 @@
 -- All ends and feeds of a pool are there: then its places are whole, and what is left is what was pushed and not taken.
-use Rattle.std.proofs.Common.{◌≡◌, ◌⊎◌, inl, inr, ℕ, zero, suc, ◌+◌, ◌-◌, ◌*◌, ◌<◌, ◌≤◌, List, [], ◌∷◌, ◌++◌, length, get_or, take, drop, replicate}
+use Rattle.std.proofs.Common.{◌≡◌, ◌⊎◌, inl, inr, ℕ, zero, suc, ◌+◌, ◌*◌, ◌<◌, ◌≤◌, List, [], ◌∷◌, ◌++◌, length, get_or, take, drop, replicate}
 use Rattle.std.proofs.Common.{sym, refl, ap, ◌∙◌, subst, map, arith, append_assoc, append-nil}
 use Rattle.std.specs.Prelude.{All, IsPermutation, Option, Some, flat_map, sum_by}
-use Rattle.std.proofs.lemmas.List.{map-append, map_push, get_or-map, length-append, length-map, length-take, length-drop, drop_all, take_all}
+use Rattle.std.proofs.lemmas.List.{map-append, map_push, get_or-map, length-append, length-map, length-take, length-drop, drop_all}
 use Rattle.std.proofs.Math.Nat.{mul_comm, suc-mul}
 use Rattle.std.proofs.lemmas.List.Concat.{flat_map-append}
 use Rattle.std.proofs.lemmas.List.Elements.{All-nil, All-cons, All-head, All-tail, All-append, All-weaker, All-drop, All-take, All-map}
 use Rattle.std.proofs.lemmas.List.Elements.{All-replicate}
-use Rattle.std.proofs.lemmas.List.Sorted.{IsPermutation-refl, IsPermutation-sym, IsPermutation-trans, IsPermutation-append}
-use Rattle.std.proofs.lemmas.List.Sorted.{IsPermutation-append_comm}
+use Rattle.std.proofs.lemmas.List.Sorted.{IsPermutation-refl, IsPermutation-sym, IsPermutation-trans}
 use Rattle.std.proofs.lemmas.List.Sums.{sum_by-cons, sum_by-append}
 use Rattle.mb_gate.specs.declared.claim.Claim.{Claim}
 use Rattle.mb_pool.specs.Ends.{AreAlike, AreGathered, AreMatched, Empties, Frame, IsAllOf, IsAmong, MayJoin, TakesIn, Where, doors_of, frame_of}
 use Rattle.mb_pool.specs.Ends.{joined, nexts_of, owns_of, shares_in, where_is}
 use Rattle.mb_pool.specs.Ledger.{claims_in}
-use Rattle.mb_pool.specs.Made.{AreDeques, IsDeque, IsLeft, IsWhole}
-use Rattle.mb_pool.specs.Origin.{Origin}
+use Rattle.mb_pool.specs.Made.{AreDeques, IsLeft, IsWhole}
+use Rattle.mb_gate.specs.Untouched.{Origin}
 use Rattle.mb_pool.specs.Places.{AreEnds, AreFeeds, Look, Part, Parts, Spot, Way, Whole, deque_parts, door_part, end_parts, feed_parts, looks}
 use Rattle.mb_pool.specs.Places.{numbers, owner_of, part_of, parts_of, pushed_at, pushed_by, taken_at, taken_by}
 use Rattle.mb_pool.proofs.Begins.{cons_head, cons_tail, cons_nil, const_numbers, drop_length, length_numbers, map_map, map_replicate, singles}
-use Rattle.mb_pool.proofs.Lists.{same_elements, from_left, behind, before, past}
-use Rattle.mb_pool.proofs.Emptying.{HasAll, HasFew, all_left, empties_append, exchange, takes_in_more}
-use Rattle.mb_pool.proofs.Ports.{all_right, all_unmap}
+use Rattle.mb_pool.proofs.Lists.{same_elements, from_left, behind, before}
+use Rattle.mb_pool.proofs.Emptying.{HasAll, HasFew, empties_append, exchange, takes_in_more}
+use Rattle.mb_pool.proofs.Ports.{all_unmap}
 
 numbers_at : (first count k e : ℕ) → k < count → get_or (numbers first count) k e ≡ first + k
 numbers_at first zero k e lt = absurd (omega (arith, lt))

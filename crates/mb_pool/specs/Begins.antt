@@ -1,11 +1,11 @@
 -- How the ports of a new pool are made.
-use Rattle.std.specs.Prelude.{◌≡◌, ℕ, ◌+◌, List, [], ◌∷◌, ◌++◌, length, map, take, drop, replicate, Option, Some, None}
+use Rattle.std.specs.Prelude.{◌≡◌, ℕ, ◌+◌, List, [], ◌++◌, length, map, take, drop, Option, Some, None}
 use Rattle.mb_pool.specs.declared.kind.Kind.{Kind}
 use Rattle.mb_pool.specs.declared.kind.Kind.TheVariants.{Shared, Stealing}
 use Rattle.mb_pool.specs.declared.member.Member.{Member}
 use Rattle.mb_pool.specs.Ledger.{borrowing, lending, opened}
 use Rattle.mb_pool.specs.Made.{AreDeques, spots_of}
-use Rattle.mb_pool.specs.Origin.{Origin}
+use Rattle.mb_gate.specs.Untouched.{Origin}
 use Rattle.mb_pool.specs.Places.{Look, Spot, Whole, numbers}
 use Rattle.mb_pool.specs.Ways.{next_of, own_of}
 

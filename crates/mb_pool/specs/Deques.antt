@@ -2,7 +2,7 @@
 use Rattle.std.specs.Prelude.{ℕ, None}
 use Rattle.crossbeam_deque.specs.Handles.{Pass, view, worker_deque, worker_view}
 use Rattle.crossbeam_deque.specs.declared.handles.Worker.{Worker}
-use Rattle.mb_pool.specs.Origin.{Account}
+use Rattle.mb_pool.specs.Account.{Account}
 use Rattle.mb_pool.specs.Places.{Look, deque_at}
 
 abbrev pub own_look : {T A H P : Type 0} → ℕ → Worker T A (Account H) P → Look H

@@ -1,8 +1,8 @@
 -- How the ports of a pool are taken in, and its places are emptied.
-use Rattle.std.specs.Prelude.{◌≡◌, ℕ, ◌+◌, ◌<◌, ◌≤◌, List, [], ◌∷◌, ◌++◌, length, get_or, map, flat_map, sum_by, All, IsPermutation, Option, Some}
+use Rattle.std.specs.Prelude.{◌≡◌, ℕ, ◌+◌, ◌<◌, ◌≤◌, List, [], ◌∷◌, ◌++◌, length, get_or, map, flat_map, sum_by, All, IsPermutation, Option}
 use Rattle.mb_gate.specs.declared.claim.Claim.{Claim}
 use Rattle.mb_pool.specs.Ledger.{claims_in, joining}
-use Rattle.mb_pool.specs.Origin.{Origin}
+use Rattle.mb_gate.specs.Untouched.{Origin}
 use Rattle.mb_pool.specs.Places.{Look, Part, Spot, Way, owner_of, part_of, pushed_at, pushed_by, taken_at, taken_by}
 
 -- a port after another one of its place was taken in

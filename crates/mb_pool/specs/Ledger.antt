@@ -1,6 +1,6 @@
 -- What a port of a place knows, and how its own steps change that. (This project's own profile, as is all of the accounts:
 -- Akka's executors keep none.)
-use Rattle.std.specs.Prelude.{◌≡◌, ℕ, ◌+◌, ◌-◌, List, [], ◌∷◌, ◌++◌, map, Option, None}
+use Rattle.std.specs.Prelude.{ℕ, ◌+◌, ◌-◌, List, [], ◌∷◌, ◌++◌, map, Option, None}
 
 -- a claim, and how many were pushed to its place before it
 pub record Turn (C : Type 0) : Type 0 where

@@ -1,3 +1,4 @@
+pub mod Account
 pub mod Begins
 pub mod Deques
 pub mod Ends
@@ -5,10 +6,9 @@ pub mod Items
 pub mod Ledger
 pub mod Made
 pub mod Moves
-pub mod Origin
 pub mod Parts
 pub mod Places
 pub mod Rule
 pub mod Shared
-pub mod Untouched
 pub mod Ways
+pub mod Went

@@ -2,7 +2,7 @@
 use Rattle.std.specs.Prelude.{◌≡◌, ◌⊎◌, ◌<◌, ℕ, ◌+◌, List, [], ◌∷◌, ◌++◌, length, map, IsPermutation, Some, None}
 use Rattle.atomic_blocks.specs.Lent.{RowsId}
 use Rattle.mb_gate.specs.declared.claim.Claim.{Claim}
-use Rattle.mb_pool.specs.Origin.{Origin}
+use Rattle.mb_gate.specs.Untouched.{Origin}
 use Rattle.mb_pool.specs.Places.{AreEnds, AreFeeds, Look, Spot, Way, Whole, deque_at, pushed_by, taken_by}
 use Rattle.mb_pool.specs.declared.kind.Kind.{Kind}
 use Rattle.mb_pool.specs.declared.kind.Kind.TheVariants.{Shared, Stealing}

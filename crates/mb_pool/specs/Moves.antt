@@ -1,7 +1,8 @@
 -- What the calls on an end or a feed tell.
 use Rattle.std.specs.Prelude.{◌≡◌, ℕ, List, [], ◌∷◌, ◌++◌, length, All, Option, Some, None}
 use Rattle.mb_gate.specs.declared.claim.Claim.{Claim}
-use Rattle.mb_pool.specs.Origin.{Account, Origin}
+use Rattle.mb_gate.specs.Untouched.{Origin}
+use Rattle.mb_pool.specs.Account.{Account}
 use Rattle.mb_pool.specs.Rule.{Moment, PutsLast, TakesFirst}
 use Rattle.mb_pool.specs.Places.{Look, Way, looks}
 use Rattle.mb_pool.specs.declared.refused.Refused.{Refused}

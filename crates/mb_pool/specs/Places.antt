@@ -1,11 +1,12 @@
 -- What contracts see of a pool, its ends and its feeds.
-use Rattle.std.specs.Prelude.{◌≡◌, ℕ, zero, suc, ◌+◌, List, [], ◌∷◌, ◌++◌, map, flat_map, take, drop, replicate, Option, Some, None}
+use Rattle.std.specs.Prelude.{◌≡◌, ℕ, zero, suc, ◌+◌, List, [], ◌∷◌, ◌++◌, map, flat_map, take, drop, replicate, Option, Some}
 use Rattle.atomic_blocks.specs.Laid.{WebId}
 use Rattle.atomic_blocks.specs.Lent.{RowsId}
 use Rattle.atomic_table.specs.Seated.{TableId}
 use Rattle.mb_gate.specs.declared.claim.Claim.{Claim}
 use Rattle.mb_pool.specs.Ledger.{claims_in}
-use Rattle.mb_pool.specs.Origin.{Account, Origin}
+use Rattle.mb_gate.specs.Untouched.{Origin}
+use Rattle.mb_pool.specs.Account.{Account}
 
 -- where a place lies in memory, which tells places apart; of a deque also the number of the end that it belongs to
 pub data Place : Type 0 where

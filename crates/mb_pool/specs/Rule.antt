@@ -1,5 +1,5 @@
 -- The rule of a place: what holds between any two steps of any threads.
-use Rattle.std.specs.Prelude.{◌≡◌, ℕ, ◌+◌, ◌<◌, ◌≤◌, List, [], ◌∷◌, ◌++◌, length, All, IsPermutation, flat_map, sum_by, Option}
+use Rattle.std.specs.Prelude.{◌≡◌, ℕ, ◌<◌, ◌≤◌, List, [], ◌∷◌, ◌++◌, length, All, IsPermutation, flat_map, sum_by, Option}
 use Rattle.mb_pool.specs.Ledger.{Turn, turn, turns, Ledger, pushing, taking}
 
 module _ {G C : Type 0} where

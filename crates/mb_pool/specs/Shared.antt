@@ -3,7 +3,7 @@ use Rattle.std.specs.Prelude.{Some, None}
 use Rattle.crossbeam_queue.specs.Passes.{Pass, view, ruled_capacity}
 use Rattle.crossbeam_deque.specs.Injected.{InjectorPass, injector_view}
 use Rattle.mb_pool.specs.declared.slots.Slots.{Slots}
-use Rattle.mb_pool.specs.Origin.{Account}
+use Rattle.mb_pool.specs.Account.{Account}
 use Rattle.mb_pool.specs.Places.{Look, slots_at, inlet_at}
 
 abbrev pub slots_look : {T H : Type 0} → Slots H → Pass T (Account H) → Look H

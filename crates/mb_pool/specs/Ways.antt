@@ -1,7 +1,7 @@
 -- What is kept of an end and of a feed, as contracts see it.
 use Rattle.std.specs.Prelude.{◌≡◌, ◌<◌, List, [], ◌∷◌, All, Option, Some, None}
 use Rattle.mb_pool.specs.declared.member.Member.{Member}
-use Rattle.mb_pool.specs.Origin.{Origin}
+use Rattle.mb_gate.specs.Untouched.{Origin}
 use Rattle.mb_pool.specs.Places.{Look, Part, Way, gates_of, looks, part_of}
 
 abbrev pub HasShare : {H : Type 0} → Look H → Type 0

@@ -3,7 +3,7 @@ ghost use Rattle.std.specs.Prelude.{◌≡◌, ◌<◌, [], IfOk, MatchOption, M
 ghost use Rattle.crossbeam_deque.specs.Handles.{view, IsPassOf, worker_deque, worker_flavor, worker_view};
 ghost use Rattle.mb_pool.specs.Ledger.{borrowing, joining, lending, opened, unused};
 ghost use Rattle.mb_pool.specs.Rule.{Moment, PutsLast, TakesFirst};
-ghost use Rattle.mb_pool.specs.Untouched.{IsUntouched};
+ghost use Rattle.mb_gate.specs.Untouched.{IsUntouched};
 
 use crate::knowledge::Knowledge;
 use crate::parked::Parked;

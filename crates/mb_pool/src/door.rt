@@ -2,10 +2,9 @@
 ghost use Rattle.std.specs.Prelude.{◌≡◌, ◌<◌, [], Some, MatchOption, MatchResult};
 ghost use Rattle.mb_pool.specs.Ledger.{borrowing, joining, lending, opened, unused};
 ghost use Rattle.mb_pool.specs.Moves.{given_back, IsRefusal};
-ghost use Rattle.mb_pool.specs.Origin.{origin_of};
+ghost use Rattle.mb_gate.specs.Untouched.{origin_of, IsUntouched};
 ghost use Rattle.mb_pool.specs.Parts.{look_of};
 ghost use Rattle.mb_pool.specs.Rule.{Moment, PutsLast, TakesFirst};
-ghost use Rattle.mb_pool.specs.Untouched.{IsUntouched};
 
 use crate::inlet_port::InletPort;
 use crate::refused::Refused;

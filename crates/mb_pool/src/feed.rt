@@ -2,7 +2,7 @@
 ghost use Rattle.std.specs.Prelude.{◌≡◌, MatchResult};
 ghost use Rattle.mb_pool.specs.Moves.{given_back, IsRefusedBy, Pushes};
 ghost use Rattle.mb_pool.specs.Places.{gates_of, parts_of};
-ghost use Rattle.mb_pool.specs.Untouched.{IsUntouched};
+ghost use Rattle.mb_gate.specs.Untouched.{IsUntouched};
 
 use crate::door::Door;
 use crate::refused::Refused;

@@ -3,7 +3,7 @@ ghost use Rattle.std.specs.Prelude.{◌≡◌, ◌<◌, [], Some, None, IfOk, Ma
 ghost use Rattle.mb_pool.specs.Ledger.{borrowing, joining, lending, opened, unused};
 ghost use Rattle.mb_pool.specs.Moves.{given_back, IsRefusal};
 ghost use Rattle.mb_pool.specs.Rule.{Moment, PutsLast, TakesFirst};
-ghost use Rattle.mb_pool.specs.Untouched.{IsUntouched};
+ghost use Rattle.mb_gate.specs.Untouched.{IsUntouched};
 
 use crate::inlet::{Inlet, InletPass};
 use crate::refused::Refused;

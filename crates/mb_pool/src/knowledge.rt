@@ -8,7 +8,7 @@ pub struct Knowledge<H> {
 
 impl<H> Model for Knowledge<H> {
     ghost use Rattle.mb_pool.specs.Ledger.{unused};
-    ghost use Rattle.mb_pool.specs.Origin.{Account};
+    ghost use Rattle.mb_pool.specs.Account.{Account};
 
     ghost Value = { Account H };
 

@@ -4,7 +4,7 @@ ghost use Rattle.mb_pool.specs.Ends.{AreAlike, doors_of, Empties, IsAllOf, owns_
 ghost use Rattle.mb_pool.specs.Made.{IsLeft};
 ghost use Rattle.mb_pool.specs.Parts.{look_of};
 ghost use Rattle.mb_pool.specs.Places.{AreEnds, AreFeeds, gates_of};
-ghost use Rattle.mb_pool.specs.Untouched.{IsUntouched};
+ghost use Rattle.mb_gate.specs.Untouched.{IsUntouched};
 ghost use Rattle.mb_pool.specs.Ways.{HasShare};
 
 use crate::door::Door;

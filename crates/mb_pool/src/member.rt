@@ -3,7 +3,7 @@ ghost use Rattle.std.specs.Prelude.{◌≡◌, All, MatchOption, Some};
 ghost use Rattle.mb_pool.specs.Moves.{TakesOne, WasEmpty};
 ghost use Rattle.mb_pool.specs.Parts.{look_of};
 ghost use Rattle.mb_pool.specs.Places.{looks, parts_of};
-ghost use Rattle.mb_pool.specs.Untouched.{IsUntouched};
+ghost use Rattle.mb_gate.specs.Untouched.{IsUntouched};
 ghost use Rattle.mb_pool.specs.Ways.{AreOpen, HasShare, way_of};
 
 use crate::door::Door;

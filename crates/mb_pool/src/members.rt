@@ -1,7 +1,7 @@
 //! The ends' own deques of a new pool, and the ways into those of the next ends.
 ghost use Rattle.std.specs.Prelude.{◌≡◌, ◌<◌, ◌∷◌, [], All, length, IfOk, map, replicate};
 ghost use Rattle.mb_pool.specs.Begins.{AreNew, AreNewOf, borrowed, borrowed_next, lent, with_shares};
-ghost use Rattle.mb_pool.specs.Origin.{origin_of};
+ghost use Rattle.mb_gate.specs.Untouched.{origin_of};
 ghost use Rattle.mb_pool.specs.Places.{Look, numbers};
 ghost use Rattle.mb_pool.specs.Ways.{next_of, own_of};
 

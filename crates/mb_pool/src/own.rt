@@ -1,10 +1,9 @@
 //! An end's own deque.
 ghost use Rattle.std.specs.Prelude.{◌≡◌, ◌<◌, [], None, Some, IfOk, MatchOption, MatchResult};
 ghost use Rattle.mb_pool.specs.Ledger.{borrowing, joining, lending, opened, unused};
-ghost use Rattle.mb_pool.specs.Origin.{origin_of};
+ghost use Rattle.mb_gate.specs.Untouched.{origin_of, IsUntouched};
 ghost use Rattle.mb_pool.specs.Made.{IsDeque};
 ghost use Rattle.mb_pool.specs.Rule.{Moment, PutsLast, TakesFirst};
-ghost use Rattle.mb_pool.specs.Untouched.{IsUntouched};
 
 use crate::deque::Deque;
 use crate::rule::Scoped;

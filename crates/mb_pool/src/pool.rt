@@ -2,7 +2,7 @@
 ghost use Rattle.std.specs.Prelude.{◌≡◌, ◌+◌, ◌<◌, All, IfOk, length, map, replicate};
 ghost use Rattle.mb_pool.specs.Begins.{new_door, whole_of};
 ghost use Rattle.mb_pool.specs.Made.{IsBegun, IsWhole};
-ghost use Rattle.mb_pool.specs.Origin.{origin_of};
+ghost use Rattle.mb_gate.specs.Untouched.{origin_of};
 ghost use Rattle.mb_pool.specs.Parts.{look_of};
 ghost use Rattle.mb_pool.specs.Ways.{AreOpen, of_feed, way_of};
 
@@ -36,7 +36,7 @@ impl<H: Resident> Model for Pool<H> {
     ghost Value = { Whole H };
 
     ghost use Rattle.mb_pool.specs.Made.{IsWhole, spots_of};
-    ghost use Rattle.mb_pool.specs.Origin.{origin_of};
+    ghost use Rattle.mb_gate.specs.Untouched.{origin_of};
     ghost use Rattle.mb_pool.specs.Parts.{look_of};
 
     ghost view = { λ p. record {

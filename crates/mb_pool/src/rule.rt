@@ -14,7 +14,7 @@ impl<H: Resident> queue::Protocol<Parked<H>, Knowledge<H>> for Accounted {
     ghost use Rattle.mb_pool.specs.Ledger.{unused};
     ghost use Rattle.mb_pool.specs.Rule.{Kept};
     ghost use Rattle.mb_pool.specs.Items.{claims_of};
-    ghost use Rattle.mb_pool.specs.Untouched.{IsUntouched};
+    ghost use Rattle.mb_gate.specs.Untouched.{IsUntouched};
 
     ghost holds = { λ items ledgers. Kept (IsUntouched H.is_of H.journal H.mailbox H.rested H.given H.closed_to) (claims_of items) ledgers };
 
@@ -25,7 +25,7 @@ impl<H: Resident> deque::Protocol<Parked<H>, Knowledge<H>> for Accounted {
     ghost use Rattle.mb_pool.specs.Ledger.{unused};
     ghost use Rattle.mb_pool.specs.Rule.{Kept};
     ghost use Rattle.mb_pool.specs.Items.{claims_of};
-    ghost use Rattle.mb_pool.specs.Untouched.{IsUntouched};
+    ghost use Rattle.mb_gate.specs.Untouched.{IsUntouched};
 
     ghost holds = { λ items ledgers. Kept (IsUntouched H.is_of H.journal H.mailbox H.rested H.given H.closed_to) (claims_of items) ledgers };
 
@@ -39,7 +39,7 @@ pub struct Pushed;
 
 impl<H: Resident> queue::Outcome<Parked<H>, Knowledge<H>> for Pushed {
     ghost use Rattle.mb_pool.specs.Rule.{PutsLast};
-    ghost use Rattle.mb_pool.specs.Untouched.{IsUntouched};
+    ghost use Rattle.mb_gate.specs.Untouched.{IsUntouched};
 
     ghost then = { λ old p new. PutsLast (IsUntouched H.is_of H.journal H.mailbox H.rested H.given H.closed_to) old p.claim new };
 }
@@ -48,7 +48,7 @@ impl<H: Resident> queue::Outcome<Parked<H>, Knowledge<H>> for Pushed {
 impl<H: Resident> queue::Lesson<Parked<H>, Knowledge<H>> for Pushed {
     ghost use Rattle.mb_pool.specs.Rule.{Moment};
     ghost use Rattle.mb_pool.specs.Items.{claims_of};
-    ghost use Rattle.mb_pool.specs.Untouched.{IsUntouched};
+    ghost use Rattle.mb_gate.specs.Untouched.{IsUntouched};
 
     ghost fact = { λ old items. Moment (IsUntouched H.is_of H.journal H.mailbox H.rested H.given H.closed_to) old (claims_of items) };
 }
@@ -58,7 +58,7 @@ impl<H: Resident> deque::Outcome<Parked<H>, Knowledge<H>> for Pushed {
     ghost use Rattle.mb_gate.specs.declared.claim.Claim.{Claim};
     ghost use Rattle.mb_pool.specs.Rule.{PutsLast};
     ghost use Rattle.mb_pool.specs.Items.{claims_of};
-    ghost use Rattle.mb_pool.specs.Untouched.{IsUntouched};
+    ghost use Rattle.mb_gate.specs.Untouched.{IsUntouched};
 
     ghost then = { λ old ps new. (c : Claim H) × (claims_of ps ≡ c ∷ [])
         × PutsLast (IsUntouched H.is_of H.journal H.mailbox H.rested H.given H.closed_to) old c new };
@@ -69,7 +69,7 @@ pub struct Taken;
 
 impl<H: Resident> queue::Outcome<Parked<H>, Knowledge<H>> for Taken {
     ghost use Rattle.mb_pool.specs.Rule.{TakesFirst};
-    ghost use Rattle.mb_pool.specs.Untouched.{IsUntouched};
+    ghost use Rattle.mb_gate.specs.Untouched.{IsUntouched};
 
     ghost then = { λ old p new. TakesFirst (IsUntouched H.is_of H.journal H.mailbox H.rested H.given H.closed_to) old p.claim new };
 }
@@ -78,7 +78,7 @@ impl<H: Resident> queue::Outcome<Parked<H>, Knowledge<H>> for Taken {
 impl<H: Resident> queue::Lesson<Parked<H>, Knowledge<H>> for Taken {
     ghost use Rattle.mb_pool.specs.Rule.{Moment};
     ghost use Rattle.mb_pool.specs.Items.{claims_of};
-    ghost use Rattle.mb_pool.specs.Untouched.{IsUntouched};
+    ghost use Rattle.mb_gate.specs.Untouched.{IsUntouched};
 
     ghost fact = { λ old items. Moment (IsUntouched H.is_of H.journal H.mailbox H.rested H.given H.closed_to) old (claims_of items) };
 }
@@ -88,7 +88,7 @@ impl<H: Resident> deque::Outcome<Parked<H>, Knowledge<H>> for Taken {
     ghost use Rattle.mb_gate.specs.declared.claim.Claim.{Claim};
     ghost use Rattle.mb_pool.specs.Rule.{Moment, TakesFirst};
     ghost use Rattle.mb_pool.specs.Items.{claims_of};
-    ghost use Rattle.mb_pool.specs.Untouched.{IsUntouched};
+    ghost use Rattle.mb_gate.specs.Untouched.{IsUntouched};
 
     ghost then = { λ old ps new. (c : Claim H) × (claims_of ps ≡ c ∷ [])
         × TakesFirst (IsUntouched H.is_of H.journal H.mailbox H.rested H.given H.closed_to) old c new };
@@ -99,7 +99,7 @@ impl<H: Resident> deque::Outcome<Parked<H>, Knowledge<H>> for Taken {
 /// Of which gates the claims of a place are, and how many shares it has. A call picks it.
 pub trait Scoped<H> {
     ghost use Rattle.std.specs.Prelude.{ℕ, Option};
-    ghost use Rattle.mb_pool.specs.Origin.{Origin};
+    ghost use Rattle.mb_gate.specs.Untouched.{Origin};
 
     ghost gates: { Option (Origin H) };
 

@@ -3,7 +3,7 @@ ghost use Rattle.std.specs.Prelude.{◌≡◌, ◌<◌, [], MatchOption};
 ghost use Rattle.crossbeam_deque.specs.Handles.{view, IsPassOf, stealer_deque, stealer_flavor};
 ghost use Rattle.mb_pool.specs.Places.{owner_of};
 ghost use Rattle.mb_pool.specs.Rule.{Moment, TakesFirst};
-ghost use Rattle.mb_pool.specs.Untouched.{IsUntouched};
+ghost use Rattle.mb_gate.specs.Untouched.{IsUntouched};
 
 use crate::knowledge::Knowledge;
 use crate::parked::Parked;

@@ -9,8 +9,14 @@ mod claims;
 #[cfg(test)]
 mod desk;
 #[cfg(test)]
-mod party;
+mod left;
+#[cfg(test)]
+mod pushed;
 #[cfg(test)]
 mod refused;
 #[cfg(test)]
+mod scene;
+#[cfg(test)]
 mod threads;
+#[cfg(test)]
+mod work;

@@ -1,13 +1,15 @@
 //! Three ends and a feed on threads of their own.
-ghost use Rattle.std.specs.Prelude.{◌≡◌, ◌<◌, ◌≤◌, Some, IfOk};
+ghost use Rattle.std.specs.Prelude.{◌≡◌, ◌<◌, Some};
 ghost use Rattle.mb_gate.specs.Names.{gates_id, pass_id, actors_of};
-ghost use Rattle.mb_pool.specs.Origin.{origin_of};
+ghost use Rattle.mb_gate.specs.Untouched.{origin_of};
 ghost use Rattle.mb_pool.specs.Places.{gates_of, parts_of};
 
-use crate::claims::{attempt, back, give};
-use crate::desk::gates_of;
-use crate::party::Party;
-use mb_gate::{Gates, Pass, Resident};
+use crate::claims::{attempt, give};
+use crate::desk::Desk;
+use crate::left::{actors_of_left, left};
+use crate::scene::Scene;
+use crate::work::{ACTORS, MOVES, supply, work};
+use mb_gate::{Gates, Pass};
 use mb_msg::ActorId;
 use mb_pool::{Feed, Kind, WorkerEnd};
 use std::alloc::Global;
@@ -15,135 +17,101 @@ use std::sync::Wait;
 use std::sync::atomic::AtomicU64;
 use std::sync::atomic::Ordering::SeqCst;
 use std::test::Fail;
-use std::thread;
 use std::thread::{Threads, join};
 
-/// How many claims are taken.
-const MOVES: u64 = 100_000;
-
-/// More than a shared pool has places.
-const ACTORS: u32 = 80;
-
-/// Takes claims. Each cell goes home, its actor is scheduled again, and the claim is pushed, or goes home where the pool is full.
-fn work<H: Resident, R: Wait>(
-    rt: &R,
-    gates: &Gates<H>,
-    pass: &mut Pass<H>,
-    end: &mut WorkerEnd<H>,
-    moved: &AtomicU64,
-)
-    requires ours { pass_id pass.old ≡ gates_id gates.now }
-    requires these { gates_of end.old ≡ Some (origin_of gates.now) }
-    ensures ours { pass_id pass.new ≡ pass_id pass.old }
-    ensures same { parts_of end.new ≡ parts_of end.old }
-{
-    for _ in rt.forever() {
-        if moved.load(SeqCst) >= MOVES {
-            return;
-        }
-        match end.take(rt) {
-            Some(claim) => {
-                moved.fetch_add(1, SeqCst);
-                let actor = claim.actor();
-                give(gates, claim, pass);
-                if let Some(claim) = attempt(gates, pass, actor) {
-                    match end.push(rt, claim) {
-                        Ok(()) => {}
-                        Err(refused) => give(gates, back(refused), pass),
-                    }
-                }
-            }
-            None => thread::yield_now(),
-        }
-    }
-}
-
-/// Schedules each actor that is free, and pushes its claim, until enough were taken.
-fn supply<H: Resident, R: Wait>(
-    rt: &R,
-    gates: &Gates<H>,
-    pass: &mut Pass<H>,
-    feed: &mut Feed<H>,
-    moved: &AtomicU64,
-)
-    requires ours { pass_id pass.old ≡ gates_id gates.now }
-    requires there { actors_of gates.now ≡ 80 }
-    requires these { gates_of feed.old ≡ Some (origin_of gates.now) }
-    ensures ours { pass_id pass.new ≡ pass_id pass.old }
-    ensures same { parts_of feed.new ≡ parts_of feed.old }
-{
-    for _ in rt.forever() {
-        if moved.load(SeqCst) >= MOVES {
-            return;
-        }
-        supply_once(rt, gates, pass, feed);
-        thread::yield_now();
-    }
-}
-
-/// Schedules each actor that is free, and pushes its claim.
-fn supply_once<H: Resident, R: Wait>(
-    rt: &R,
-    gates: &Gates<H>,
-    pass: &mut Pass<H>,
-    feed: &mut Feed<H>,
-)
-    requires ours { pass_id pass.old ≡ gates_id gates.now }
-    requires there { actors_of gates.now ≡ 80 }
-    requires these { gates_of feed.old ≡ Some (origin_of gates.now) }
-    ensures ours { pass_id pass.new ≡ pass_id pass.old }
-    ensures same { parts_of feed.new ≡ parts_of feed.old }
-{
-    for actor in 0..ACTORS {
-        if let Some(claim) = attempt(gates, pass, ActorId(actor)) {
-            match feed.push(rt, claim) {
-                Ok(()) => {}
-                Err(refused) => give(gates, back(refused), pass),
-            }
-        }
-    }
-}
+/// An end, and the pass of its thread.
+type Worker = (WorkerEnd<Desk>, Pass<Desk>);
 
 /// A pool of this kind whose three ends and whose feed move claims on threads of their own. No claim is lost: what is left goes
 /// home, and then each actor can be scheduled.
 fn move_claims<R: Threads + Wait + Sync>(rt: &R, alloc: Global, kind: Kind) -> Result<bool, Fail> {
-    let (gates, mut pass) = gates_of(alloc, 80)?;
-    let mut party = Party::new(alloc, &gates, kind, 3, 1)?;
+    let Scene {
+        gates,
+        mut pass,
+        pool,
+        mut ends,
+        mut feeds,
+    } = Scene::new(alloc, 80, kind, 3, 1)?;
+    let (Some(third), Some(second), Some(first)) = (ends.pop(), ends.pop(), ends.pop()) else {
+        return Err(Fail::from("too few ends"));
+    };
+    let Some(feed) = feeds.pop() else {
+        return Err(Fail::from("no feed"));
+    };
     let moved = AtomicU64::new(0);
-    let mut passes = (
-        gates.another(&mut pass),
-        gates.another(&mut pass),
-        gates.another(&mut pass),
+    let first = (first, gates.another(&mut pass));
+    let second = (second, gates.another(&mut pass));
+    let third = (third, gates.another(&mut pass));
+    let supplier = gates.another(&mut pass);
+    let ((first, second), (third, feed)) = join(
+        rt,
+        || two_work(rt, &gates, first, second, &moved),
+        || work_and_supply(rt, &gates, third, feed, supplier, &moved),
     );
-    let (first, rest) = party.ends.split_at_mut(1);
-    let (second, third) = rest.split_at_mut(1);
+    ends.push(first)?;
+    ends.push(second)?;
+    ends.push(third)?;
+    feeds.push(feed)?;
+    let claims = left(rt, alloc, pool, ends, feeds)?;
+    let _ = actors_of_left(alloc, &gates, &mut pass, claims);
+    let all_home = are_home(&gates, &mut pass);
+    Ok(all_home && moved.load(SeqCst) >= MOVES)
+}
+
+fn two_work<R: Threads + Wait + Sync>(
+    rt: &R,
+    gates: &Gates<Desk>,
+    first: Worker,
+    second: Worker,
+    moved: &AtomicU64,
+) -> (WorkerEnd<Desk>, WorkerEnd<Desk>)
+    requires ours { (pass_id first.1 ≡ gates_id gates.now) × (pass_id second.1 ≡ gates_id gates.now) }
+    requires these { (gates_of first.0 ≡ Some (origin_of gates.now)) × (gates_of second.0 ≡ Some (origin_of gates.now)) }
+    ensures same { (parts_of result.0 ≡ parts_of first.0) × (parts_of result.1 ≡ parts_of second.0) }
+{
+    let (end, pass) = first;
+    let (other, of_other) = second;
     join(
         rt,
-        || work(rt, &gates, &mut passes.0, &mut first[0], &moved),
-        || {
-            join(
-                rt,
-                || work(rt, &gates, &mut passes.1, &mut second[0], &moved),
-                || {
-                    join(
-                        rt,
-                        || work(rt, &gates, &mut passes.2, &mut third[0], &moved),
-                        || supply(rt, &gates, &mut pass, &mut party.feeds[0], &moved),
-                    )
-                },
-            )
-        },
-    );
-    let mut last = gates.another(&mut pass);
-    let _ = party.leave(rt, alloc, &gates, &mut last)?;
-    let mut all_home = moved.load(SeqCst) >= MOVES;
+        || work(rt, gates, pass, end, moved),
+        || work(rt, gates, of_other, other, moved),
+    )
+}
+
+fn work_and_supply<R: Threads + Wait + Sync>(
+    rt: &R,
+    gates: &Gates<Desk>,
+    worker: Worker,
+    feed: Feed<Desk>,
+    supplier: Pass<Desk>,
+    moved: &AtomicU64,
+) -> (WorkerEnd<Desk>, Feed<Desk>)
+    requires ours { (pass_id worker.1 ≡ gates_id gates.now) × (pass_id supplier ≡ gates_id gates.now) }
+    requires there { actors_of gates.now ≡ 80 }
+    requires these { (gates_of worker.0 ≡ Some (origin_of gates.now)) × (gates_of feed ≡ Some (origin_of gates.now)) }
+    ensures same { (parts_of result.0 ≡ parts_of worker.0) × (parts_of result.1 ≡ parts_of feed) }
+{
+    let (end, pass) = worker;
+    join(
+        rt,
+        || work(rt, gates, pass, end, moved),
+        || supply(rt, gates, supplier, feed, moved),
+    )
+}
+
+/// Whether each actor can be scheduled.
+fn are_home(gates: &Gates<Desk>, pass: &mut Pass<Desk>) -> bool
+    requires ours { pass_id pass.old ≡ gates_id gates.now }
+    requires there { actors_of gates.now ≡ 80 }
+{
+    let mut are_home = true;
     for actor in 0..ACTORS {
-        match attempt(&gates, &mut last, ActorId(actor)) {
-            Some(claim) => give(&gates, claim, &mut last),
-            None => all_home = false,
+        match attempt(gates, pass, ActorId(actor)) {
+            Some(claim) => give(gates, claim, pass),
+            None => are_home = false,
         }
     }
-    Ok(all_home)
+    are_home
 }
 
 #[test]

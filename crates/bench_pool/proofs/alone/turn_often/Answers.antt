@@ -1,6 +1,5 @@
 use Rattle.std.proofs.Common.{Some, ◌∙◌, subst, sym}
-use Rattle.mb_pool.specs.Origin.{origin_of}
-use Rattle.mb_pool.specs.Untouched.{IsUntouched}
+use Rattle.mb_gate.specs.Untouched.{origin_of, IsUntouched}
 use Rattle.mb_pool.proofs.SameGates.{same_gates}
 use Rattle.bench_pool.proofs.alone.turn_often.Goals as goal
 

@@ -1,8 +1,7 @@
 use Rattle.std.proofs.Common.{◌≡◌, Some}
 use Rattle.mb_gate.specs.Names.{gates_id, pass_id}
-use Rattle.mb_pool.specs.Origin.{origin_of}
+use Rattle.mb_gate.specs.Untouched.{origin_of, IsUntouched}
 use Rattle.mb_pool.specs.Places.{gates_of}
-use Rattle.mb_pool.specs.Untouched.{IsUntouched}
 use Rattle.bench_pool.proofs.alone.turn_often.Given as goal
 
 abbrev pub invariant-loop : goal.invariant-loop

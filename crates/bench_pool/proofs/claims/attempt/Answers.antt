@@ -1,4 +1,4 @@
-use Rattle.mb_pool.specs.Origin.{origin_of}
+use Rattle.mb_gate.specs.Untouched.{origin_of}
 use Rattle.mb_pool.proofs.Got.{untouched}
 use Rattle.bench_pool.proofs.claims.attempt.Goals as goal
 

@@ -2,7 +2,7 @@ use Rattle.std.proofs.Common.{◌≡◌, ◌∷◌, MatchResult, subst, sym}
 use Rattle.mb_pool.specs.Moves.{given_back, IsRefusedBy, Pushes, PutsFirst}
 use Rattle.mb_pool.specs.Parts.{look_of}
 use Rattle.mb_pool.specs.Places.{looks, parts_of}
-use Rattle.mb_pool.specs.Untouched.{IsUntouched}
+use Rattle.mb_gate.specs.Untouched.{IsUntouched}
 use Rattle.mb_pool.specs.Ways.{AreOpen, way_of}
 use Rattle.mb_pool.proofs.Ports.{door_open, feed_parts, own_open, push_by_door, push_by_own, push_same}
 use Rattle.mb_pool.proofs.end.push_first.Goals as goal

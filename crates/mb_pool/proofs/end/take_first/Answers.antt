@@ -3,7 +3,7 @@ use Rattle.std.specs.Prelude.{All}
 use Rattle.mb_pool.specs.Moves.{Takes, WasEmpty}
 use Rattle.mb_pool.specs.Parts.{look_of}
 use Rattle.mb_pool.specs.Places.{looks, parts_of}
-use Rattle.mb_pool.specs.Untouched.{IsUntouched}
+use Rattle.mb_gate.specs.Untouched.{IsUntouched}
 use Rattle.mb_pool.specs.Ways.{AreOpen, way_of}
 use Rattle.mb_pool.proofs.Ports.{door_open, feed_parts, take_by_door, take_same}
 use Rattle.mb_pool.proofs.end.take_first.Goals as goal

@@ -1,5 +1,5 @@
 use Rattle.mb_pool.specs.Parts.{look_of}
-use Rattle.mb_pool.specs.Untouched.{IsUntouched}
+use Rattle.mb_gate.specs.Untouched.{IsUntouched}
 use Rattle.mb_pool.proofs.Emptying.{Emptying}
 use Rattle.mb_pool.proofs.leaving.empty_door.Given as goal
 

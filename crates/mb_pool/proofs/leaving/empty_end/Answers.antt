@@ -1,7 +1,7 @@
 use Rattle.std.proofs.Common.{◌∙◌, ap, subst, sym}
 use Rattle.mb_pool.specs.Parts.{look_of}
 use Rattle.mb_pool.specs.Places.{Way}
-use Rattle.mb_pool.specs.Untouched.{IsUntouched}
+use Rattle.mb_gate.specs.Untouched.{IsUntouched}
 use Rattle.mb_pool.specs.Ways.{AreOpen, way_of}
 use Rattle.mb_pool.proofs.Ending.{door_share, emptied_nothing, emptied_own}
 use Rattle.mb_pool.proofs.Ports.{own_open}

@@ -2,7 +2,7 @@ use Rattle.std.proofs.Common.{◌≡◌, [], ◌∷◌, ◌++◌, ap, append_ass
 use Rattle.std.specs.Vec.Iter.{into_iter_items}
 use Rattle.mb_pool.specs.Ends.{Empties, TakesIn, doors_of, owns_of}
 use Rattle.mb_pool.specs.Parts.{look_of}
-use Rattle.mb_pool.specs.Untouched.{IsUntouched}
+use Rattle.mb_gate.specs.Untouched.{IsUntouched}
 use Rattle.mb_pool.specs.Ways.{HasShare}
 use Rattle.mb_pool.proofs.Emptying.{empties_none, takes_in_none}
 use Rattle.mb_pool.proofs.Ending.{alike_rest, all_doors, all_emptied}
@@ -23,7 +23,7 @@ pub join-requires-clause-place : goal.join-requires-clause-place
 join-requires-clause-place g c =
     let at = c.loop-end in let base = look_of c.empty_end-door.result in let first = c.in-Some.first in
     let all = into_iter_items c.into_iter-end-iterator.result in
-    let is : c.args.ends.items ≡ first ∷ all = sym c.into_iter-ends.ensures.into_iter_gives.0 ∙ c.in-Some.ensures.steps.0
+    let is : c.args.ends.items ≡ first ∷ all = sym c.into_iter-ends.ensures.rest ∙ c.in-Some.ensures.items
     ∙ ap (λ it. first ∷ into_iter_items it) (sym c.into_iter-end-iterator.ensures.into_iter_gives) in
     let alike = alike_rest c.args.ends.items all first base is c.empty_end-door.ensures.door c.requires.alike in
     let end = c.in-Some-end.end in let rest = into_iter_items c.next-in-loop-end.new.self in
@@ -44,7 +44,7 @@ pub loop-end-preserved : goal.loop-end-preserved
 loop-end-preserved g c =
     let at = c.loop-end in let base = look_of c.empty_end-door.result in let first = c.in-Some.first in
     let all = into_iter_items c.into_iter-end-iterator.result in
-    let is : c.args.ends.items ≡ first ∷ all = sym c.into_iter-ends.ensures.into_iter_gives.0 ∙ c.in-Some.ensures.steps.0
+    let is : c.args.ends.items ≡ first ∷ all = sym c.into_iter-ends.ensures.rest ∙ c.in-Some.ensures.items
     ∙ ap (λ it. first ∷ into_iter_items it) (sym c.into_iter-end-iterator.ensures.into_iter_gives) in
     let alike = alike_rest c.args.ends.items all first base is c.empty_end-door.ensures.door c.requires.alike in
     let end = c.in-Some-end.end in let rest = into_iter_items c.next-in-loop-end.new.self in
@@ -70,7 +70,7 @@ pub returns-clause-door : goal.returns-clause-door
 returns-clause-door g c =
     let at = c.loop-end in let base = look_of c.empty_end-door.result in let first = c.in-Some.first in
     let all = into_iter_items c.into_iter-end-iterator.result in
-    let is : c.args.ends.items ≡ first ∷ all = sym c.into_iter-ends.ensures.into_iter_gives.0 ∙ c.in-Some.ensures.steps.0
+    let is : c.args.ends.items ≡ first ∷ all = sym c.into_iter-ends.ensures.rest ∙ c.in-Some.ensures.items
     ∙ ap (λ it. first ∷ into_iter_items it) (sym c.into_iter-end-iterator.ensures.into_iter_gives) in
     let none : length (into_iter_items at.end-iterator) ≡ 0 = sym at.end-iterator.rest.ok.0 ∙ c.in-None.ensures.steps.0 in
     let whole : at.yielded ≡ all = drained at.yielded (into_iter_items at.end-iterator) all none at.invariant.3 in
@@ -83,7 +83,7 @@ pub returns-clause-emptied : goal.returns-clause-emptied
 returns-clause-emptied g c =
     let at = c.loop-end in let base = look_of c.empty_end-door.result in let first = c.in-Some.first in
     let all = into_iter_items c.into_iter-end-iterator.result in
-    let is : c.args.ends.items ≡ first ∷ all = sym c.into_iter-ends.ensures.into_iter_gives.0 ∙ c.in-Some.ensures.steps.0
+    let is : c.args.ends.items ≡ first ∷ all = sym c.into_iter-ends.ensures.rest ∙ c.in-Some.ensures.items
     ∙ ap (λ it. first ∷ into_iter_items it) (sym c.into_iter-end-iterator.ensures.into_iter_gives) in
     let none : length (into_iter_items at.end-iterator) ≡ 0 = sym at.end-iterator.rest.ok.0 ∙ c.in-None.ensures.steps.0 in
     let whole : at.yielded ≡ all = drained at.yielded (into_iter_items at.end-iterator) all none at.invariant.3 in

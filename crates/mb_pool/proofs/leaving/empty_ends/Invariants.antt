@@ -1,9 +1,8 @@
 use Rattle.std.proofs.Common.{◌≡◌, ◌++◌}
-use Rattle.std.specs.Prelude.{All}
 use Rattle.std.specs.Vec.Iter.{into_iter_items}
-use Rattle.mb_pool.specs.Ends.{doors_of, Empties, owns_of, TakesIn, where_is}
+use Rattle.mb_pool.specs.Ends.{doors_of, Empties, owns_of, TakesIn}
 use Rattle.mb_pool.specs.Parts.{look_of}
-use Rattle.mb_pool.specs.Untouched.{IsUntouched}
+use Rattle.mb_gate.specs.Untouched.{IsUntouched}
 use Rattle.mb_pool.specs.Ways.{HasShare}
 use Rattle.mb_pool.proofs.leaving.empty_ends.Given as goal
 

@@ -1,5 +1,5 @@
 use Rattle.std.proofs.Common.{◌<◌, subst, sym}
-use Rattle.mb_pool.specs.Untouched.{IsUntouched}
+use Rattle.mb_gate.specs.Untouched.{IsUntouched}
 use Rattle.mb_pool.proofs.Emptying.{emptying_all, emptying_more, emptying_none}
 use Rattle.mb_pool.proofs.leaving.empty_own.Goals as goal
 

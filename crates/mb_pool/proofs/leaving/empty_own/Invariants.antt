@@ -1,4 +1,4 @@
-use Rattle.mb_pool.specs.Untouched.{IsUntouched}
+use Rattle.mb_gate.specs.Untouched.{IsUntouched}
 use Rattle.mb_pool.proofs.Emptying.{Emptying}
 use Rattle.mb_pool.proofs.leaving.empty_own.Given as goal
 

@@ -3,7 +3,7 @@ use Rattle.std.specs.Vec.Iter.{into_iter_items}
 use Rattle.mb_pool.specs.Ends.{TakesIn, doors_of}
 use Rattle.mb_pool.specs.Parts.{look_of}
 use Rattle.mb_pool.specs.Places.{Way}
-use Rattle.mb_pool.specs.Untouched.{IsUntouched}
+use Rattle.mb_gate.specs.Untouched.{IsUntouched}
 use Rattle.mb_pool.proofs.Emptying.{takes_in_none}
 use Rattle.mb_pool.proofs.Taking.{drained, here, share_next, takes_next}
 use Rattle.mb_pool.proofs.leaving.join_feeds.Goals as goal

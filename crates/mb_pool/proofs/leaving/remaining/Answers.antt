@@ -3,7 +3,7 @@ use Rattle.mb_pool.specs.Ends.{AreGathered, AreMatched, Empties, owns_of}
 use Rattle.mb_pool.specs.Made.{IsWhole}
 use Rattle.mb_pool.specs.Parts.{look_of}
 use Rattle.mb_pool.specs.Places.{Way}
-use Rattle.mb_pool.specs.Untouched.{IsUntouched}
+use Rattle.mb_gate.specs.Untouched.{IsUntouched}
 use Rattle.mb_pool.proofs.Lent.{refilled}
 use Rattle.mb_pool.proofs.Closing.{alike_left, feeds_alike, first_share, last_share, some_left}
 use Rattle.mb_pool.proofs.Wholes.{left_is, matched}
@@ -14,8 +14,8 @@ gather-requires g c =
     let whole = subst (λ p. IsWhole p) c.pool.view_is c.pool.invariant in
     subst (λ ws. AreMatched ws) (sym c.as_mut_slice.ensures.value) (matched c.args.pool c.args.ends.items whole c.requires.ends)
 
-pub empty_ends-requires-clause-some : goal.empty_ends-requires-clause-some
-empty_ends-requires-clause-some g c =
+pub empty_ends-door-requires-clause-some : goal.empty_ends-door-requires-clause-some
+empty_ends-door-requires-clause-some g c =
     let pool = c.args.pool in let v = c.args.ends in let feeds = c.args.feeds.items in let new = c.gather.new.ends in
     let whole = subst (λ p. IsWhole p) c.pool.view_is c.pool.invariant in
     let count : length new ≡ v.len = omega (arith, c.gather.auto.ends, c.as_mut_slice.ensures.len) in
@@ -24,8 +24,8 @@ empty_ends-requires-clause-some g c =
     (λ i. (c.as_mut_slice.ensures.value i, sym is i)) c.gather.ensures in
     some_left pool v.items feeds now whole c.requires.ends c.requires.feeds gathered
 
-pub empty_ends-requires-clause-alike : goal.empty_ends-requires-clause-alike
-empty_ends-requires-clause-alike g c =
+pub empty_ends-door-requires-clause-alike : goal.empty_ends-door-requires-clause-alike
+empty_ends-door-requires-clause-alike g c =
     let pool = c.args.pool in let v = c.args.ends in let feeds = c.args.feeds.items in let new = c.gather.new.ends in
     let whole = subst (λ p. IsWhole p) c.pool.view_is c.pool.invariant in
     let count : length new ≡ v.len = omega (arith, c.gather.auto.ends, c.as_mut_slice.ensures.len) in
@@ -34,8 +34,8 @@ empty_ends-requires-clause-alike g c =
     (λ i. (c.as_mut_slice.ensures.value i, sym is i)) c.gather.ensures in
     alike_left pool v.items feeds now whole c.requires.ends c.requires.feeds gathered
 
-pub join_feeds-requires-clause-share : goal.join_feeds-requires-clause-share
-join_feeds-requires-clause-share g c =
+pub join_feeds-door-requires-clause-share : goal.join_feeds-door-requires-clause-share
+join_feeds-door-requires-clause-share g c =
     let pool = c.args.pool in let v = c.args.ends in let feeds = c.args.feeds.items in let new = c.gather.new.ends in
     let whole = subst (λ p. IsWhole p) c.pool.view_is c.pool.invariant in
     let count : length new ≡ v.len = omega (arith, c.gather.auto.ends, c.as_mut_slice.ensures.len) in
@@ -45,8 +45,8 @@ join_feeds-requires-clause-share g c =
     let first = look_of c.empty_ends-door.result in let is_first = c.empty_ends-door.ensures.door in
     first_share pool v.items feeds now whole c.requires.ends c.requires.feeds gathered first is_first
 
-pub join_feeds-requires-clause-alike : goal.join_feeds-requires-clause-alike
-join_feeds-requires-clause-alike g c =
+pub join_feeds-door-requires-clause-alike : goal.join_feeds-door-requires-clause-alike
+join_feeds-door-requires-clause-alike g c =
     let pool = c.args.pool in let v = c.args.ends in let feeds = c.args.feeds.items in let new = c.gather.new.ends in
     let whole = subst (λ p. IsWhole p) c.pool.view_is c.pool.invariant in
     let count : length new ≡ v.len = omega (arith, c.gather.auto.ends, c.as_mut_slice.ensures.len) in

@@ -1,5 +1,5 @@
-use Rattle.std.proofs.Common.{◌<◌, arith, length, subst, sym}
-use Rattle.mb_pool.specs.Untouched.{IsUntouched}
+use Rattle.std.proofs.Common.{◌<◌, arith, length}
+use Rattle.mb_gate.specs.Untouched.{IsUntouched}
 use Rattle.mb_pool.proofs.Stealing.{none_there, of_none, passes_by, steals_at}
 use Rattle.mb_pool.proofs.member.steal_from_next.Goals as goal
 

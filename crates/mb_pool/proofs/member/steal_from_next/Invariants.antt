@@ -1,7 +1,7 @@
 use Rattle.std.proofs.Common.{◌≡◌, take}
 use Rattle.std.specs.Prelude.{All}
 use Rattle.mb_pool.specs.Moves.{WasEmpty}
-use Rattle.mb_pool.specs.Untouched.{IsUntouched}
+use Rattle.mb_gate.specs.Untouched.{IsUntouched}
 use Rattle.mb_pool.proofs.member.steal_from_next.Given as goal
 
 abbrev pub invariant-loop-index : goal.invariant-loop-index

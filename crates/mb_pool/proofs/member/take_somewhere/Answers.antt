@@ -1,7 +1,7 @@
 use Rattle.std.proofs.Common.{Some, ◌++◌, ◌∙◌, ap, drop, length, subst, sym, take}
 use Rattle.std.specs.Prelude.{All}
 use Rattle.mb_pool.specs.Parts.{look_of}
-use Rattle.mb_pool.specs.Untouched.{IsUntouched}
+use Rattle.mb_gate.specs.Untouched.{IsUntouched}
 use Rattle.mb_pool.specs.Ways.{HasShare, way_of}
 use Rattle.mb_pool.proofs.Lent.{refilled}
 use Rattle.mb_pool.proofs.Ports.{door_open, next_open, own_open, own_parts, took_door, took_next, took_own, took_part}

@@ -1,6 +1,6 @@
-use Rattle.std.proofs.Common.{◌≡◌, ◌+◌, [], subst, sym, arith}
+use Rattle.std.proofs.Common.{◌≡◌, ◌+◌, subst, sym, arith}
 use Rattle.mb_pool.specs.Begins.{AreNew}
-use Rattle.mb_pool.specs.Origin.{origin_of}
+use Rattle.mb_gate.specs.Untouched.{origin_of}
 use Rattle.mb_pool.proofs.Begins.{new_none, new_opened}
 use Rattle.mb_pool.proofs.members.new_deques.Goals as goal
 

@@ -1,5 +1,5 @@
 use Rattle.mb_pool.specs.Begins.{AreNew}
-use Rattle.mb_pool.specs.Origin.{origin_of}
+use Rattle.mb_gate.specs.Untouched.{origin_of}
 use Rattle.mb_pool.proofs.members.new_deques.Given as goal
 
 abbrev pub invariant-loop-number : goal.invariant-loop-number

@@ -1,6 +1,5 @@
 use Rattle.std.proofs.Common.{◌≡◌, [], ◌∷◌, ◌++◌, length, map}
 use Rattle.std.specs.Vec.Iter.{into_iter_items}
-use Rattle.mb_pool.specs.Places.{Look}
 use Rattle.mb_pool.specs.Ways.{next_of, own_of}
 use Rattle.mb_pool.proofs.members.pair.Given as goal
 

@@ -1,10 +1,10 @@
-use Rattle.std.proofs.Common.{◌≡◌, ◌+◌, [], ◌∷◌, ap, arith, length, map, replicate, sym, ◌∙◌}
+use Rattle.std.proofs.Common.{◌≡◌, ◌+◌, ◌∷◌, ap, arith, length, map, replicate, sym, ◌∙◌}
 use Rattle.std.specs.Vec.Iter.{into_iter_items}
 use Rattle.std.proofs.lemmas.List.{length-map}
 use Rattle.mb_pool.specs.Begins.{new_door}
 use Rattle.mb_pool.specs.Parts.{look_of}
 use Rattle.mb_pool.specs.Ways.{way_of}
-use Rattle.mb_pool.proofs.Handing.{made_one, open_with, port_one, port_there}
+use Rattle.mb_pool.proofs.Handing.{made_one, open_with, port_one}
 use Rattle.mb_pool.proofs.Taking.{drained}
 use Rattle.mb_pool.proofs.pool.ends_of.Goals as goal
 

@@ -1,8 +1,8 @@
-use Rattle.std.proofs.Common.{◌≡◌, ◌-◌, ap, arith, replicate, ◌∙◌}
+use Rattle.std.proofs.Common.{◌≡◌, ap, arith, replicate, ◌∙◌}
 use Rattle.mb_pool.specs.Begins.{new_door}
 use Rattle.mb_pool.specs.Parts.{look_of}
 use Rattle.mb_pool.specs.Ways.{of_feed}
-use Rattle.mb_pool.proofs.Handing.{fed_one, port_left, port_next, share_with}
+use Rattle.mb_pool.proofs.Handing.{fed_one, port_next, share_with}
 use Rattle.mb_pool.proofs.pool.feeds_of.Goals as goal
 
 pub loop-feed-preserved : goal.loop-feed-preserved

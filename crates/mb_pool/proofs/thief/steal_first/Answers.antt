@@ -1,6 +1,6 @@
-use Rattle.std.proofs.Common.{sym, subst, ◌<◌, [], ◌∷◌}
+use Rattle.std.proofs.Common.{sym, subst, ◌<◌}
 use Rattle.crossbeam_deque.specs.Handles.{view}
-use Rattle.mb_pool.specs.Untouched.{IsUntouched}
+use Rattle.mb_gate.specs.Untouched.{IsUntouched}
 use Rattle.mb_pool.specs.Rule.{TakesFirst}
 use Rattle.mb_pool.proofs.Steps.{deque_take, deque_few, took}
 use Rattle.mb_pool.proofs.thief.steal_first.Goals as goal

@@ -1,5 +1,4 @@
-use Rattle.crossbeam_deque.specs.Handles.{worker_port, worker_view}
-use Rattle.mb_pool.specs.Untouched.{IsUntouched}
+use Rattle.mb_gate.specs.Untouched.{IsUntouched}
 use Rattle.mb_pool.proofs.Steps.{deque_push, put}
 use Rattle.mb_pool.proofs.deque.Deque.push.Goals as goal
 

@@ -1,4 +1,4 @@
-use Rattle.mb_pool.specs.Untouched.{IsUntouched}
+use Rattle.mb_gate.specs.Untouched.{IsUntouched}
 use Rattle.mb_pool.proofs.Steps.{deque_take, deque_empty, took}
 use Rattle.mb_pool.proofs.deque.Deque.take.Goals as goal
 

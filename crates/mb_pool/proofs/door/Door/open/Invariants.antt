@@ -1,5 +1,5 @@
 use Rattle.std.proofs.Common.{Some}
-use Rattle.mb_pool.specs.Origin.{origin_of}
+use Rattle.mb_gate.specs.Untouched.{origin_of}
 use Rattle.mb_pool.proofs.door.Door.open.Given as goal
 
 abbrev pub ghosts-open_as : goal.ghosts-open_as

@@ -3,7 +3,7 @@ use Rattle.mb_pool.specs.Moves.{given_back, IsRefusal}
 use Rattle.mb_pool.specs.Parts.{look_of}
 use Rattle.mb_pool.specs.Places.{Look}
 use Rattle.mb_pool.specs.Rule.{PutsLast}
-use Rattle.mb_pool.specs.Untouched.{IsUntouched}
+use Rattle.mb_gate.specs.Untouched.{IsUntouched}
 use Rattle.mb_pool.proofs.door.Door.push.Goals as goal
 
 pub returns-in-Bounded-clause-pushed : goal.returns-in-Bounded-clause-pushed

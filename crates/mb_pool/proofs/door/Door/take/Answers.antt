@@ -2,7 +2,7 @@ use Rattle.std.proofs.Common.{◌≡◌, [], MatchOption, ap, subst, sym}
 use Rattle.mb_pool.specs.Parts.{look_of}
 use Rattle.mb_pool.specs.Places.{Look}
 use Rattle.mb_pool.specs.Rule.{Moment, TakesFirst}
-use Rattle.mb_pool.specs.Untouched.{IsUntouched}
+use Rattle.mb_gate.specs.Untouched.{IsUntouched}
 use Rattle.mb_pool.proofs.door.Door.take.Goals as goal
 
 pub returns-in-Bounded-clause-taken : goal.returns-in-Bounded-clause-taken

@@ -2,7 +2,7 @@ use Rattle.std.proofs.Common.{◌≡◌, MatchResult, subst, sym}
 use Rattle.mb_pool.specs.Moves.{given_back, IsRefusedBy, Pushes}
 use Rattle.mb_pool.specs.Parts.{look_of}
 use Rattle.mb_pool.specs.Places.{gates_of, parts_of}
-use Rattle.mb_pool.specs.Untouched.{IsUntouched}
+use Rattle.mb_gate.specs.Untouched.{IsUntouched}
 use Rattle.mb_pool.specs.Ways.{way_of}
 use Rattle.mb_pool.proofs.Ports.{still_open}
 use Rattle.mb_pool.proofs.end.WorkerEnd.push.Goals as goal

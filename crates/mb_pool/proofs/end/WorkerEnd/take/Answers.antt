@@ -1,9 +1,9 @@
-use Rattle.std.proofs.Common.{◌≡◌, MatchOption, subst, sym}
+use Rattle.std.proofs.Common.{◌≡◌, MatchOption, subst}
 use Rattle.std.specs.Prelude.{All, IfSome}
 use Rattle.mb_pool.specs.Moves.{Takes, WasEmpty}
 use Rattle.mb_pool.specs.Parts.{look_of}
 use Rattle.mb_pool.specs.Places.{gates_of, looks, parts_of}
-use Rattle.mb_pool.specs.Untouched.{IsUntouched}
+use Rattle.mb_gate.specs.Untouched.{IsUntouched}
 use Rattle.mb_pool.specs.Ways.{way_of}
 use Rattle.mb_pool.proofs.Ports.{still_open, take_fits}
 use Rattle.mb_pool.proofs.end.WorkerEnd.take.Goals as goal

@@ -1,8 +1,8 @@
-use Rattle.std.proofs.Common.{◌≡◌, ◌<◌, MatchResult, subst, sym, ap}
+use Rattle.std.proofs.Common.{◌≡◌, ◌<◌, MatchResult, subst, sym}
 use Rattle.mb_pool.specs.Moves.{given_back, IsRefusedBy, Pushes}
 use Rattle.mb_pool.specs.Parts.{look_of}
 use Rattle.mb_pool.specs.Places.{Part, gates_of, parts_of}
-use Rattle.mb_pool.specs.Untouched.{IsUntouched}
+use Rattle.mb_gate.specs.Untouched.{IsUntouched}
 use Rattle.mb_pool.specs.Ways.{of_feed}
 use Rattle.mb_pool.proofs.Ports.{push_by_door, push_same, feed_parts}
 use Rattle.mb_pool.proofs.feed.Feed.push.Goals as goal

@@ -1,4 +1,4 @@
-use Rattle.mb_pool.specs.Untouched.{IsUntouched}
+use Rattle.mb_gate.specs.Untouched.{IsUntouched}
 use Rattle.mb_pool.proofs.Steps.{deque_push, put}
 use Rattle.mb_pool.proofs.inlet.Inlet.push.Goals as goal
 

@@ -1,6 +1,6 @@
-use Rattle.std.proofs.Common.{sym, subst, ap, ◌<◌}
+use Rattle.std.proofs.Common.{sym, subst, ◌<◌}
 use Rattle.crossbeam_deque.specs.Injected.{injector_view}
-use Rattle.mb_pool.specs.Untouched.{IsUntouched}
+use Rattle.mb_gate.specs.Untouched.{IsUntouched}
 use Rattle.mb_pool.specs.Rule.{TakesFirst}
 use Rattle.mb_pool.proofs.Steps.{deque_take, deque_empty, took}
 use Rattle.mb_pool.proofs.inlet.Inlet.take.Goals as goal

@@ -1,10 +1,10 @@
-use Rattle.std.proofs.Common.{◌≡◌, None, ap, ◌∙◌, refl, subst, sym}
+use Rattle.std.proofs.Common.{◌≡◌, None, ◌∙◌, refl, subst, sym}
 use Rattle.crossbeam_deque.specs.Injected.{IsInjectorPassOf, injector_view}
 use Rattle.mb_pool.specs.declared.inlet.Inlet.{Inlet}
 use Rattle.mb_pool.specs.Places.{Look}
 use Rattle.mb_pool.specs.Rule.{PutsLast}
 use Rattle.mb_pool.specs.Shared.{inlet_look}
-use Rattle.mb_pool.specs.Untouched.{IsUntouched}
+use Rattle.mb_gate.specs.Untouched.{IsUntouched}
 use Rattle.mb_pool.proofs.Looks.{same_inlet}
 use Rattle.mb_pool.proofs.inlet_port.InletPort.push.Goals as goal
 

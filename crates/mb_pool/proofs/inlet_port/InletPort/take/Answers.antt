@@ -1,10 +1,9 @@
-use Rattle.std.proofs.Common.{◌≡◌, [], MatchOption, None, ap, ◌∙◌, subst, sym}
+use Rattle.std.proofs.Common.{◌≡◌, [], MatchOption, ◌∙◌, subst, sym}
 use Rattle.crossbeam_deque.specs.Injected.{IsInjectorPassOf, injector_view}
 use Rattle.mb_pool.specs.declared.inlet.Inlet.{Inlet}
-use Rattle.mb_pool.specs.Places.{Look, inlet_at}
 use Rattle.mb_pool.specs.Rule.{Moment, TakesFirst}
 use Rattle.mb_pool.specs.Shared.{inlet_look}
-use Rattle.mb_pool.specs.Untouched.{IsUntouched}
+use Rattle.mb_gate.specs.Untouched.{IsUntouched}
 use Rattle.mb_pool.proofs.Looks.{of_option, same_inlet}
 use Rattle.mb_pool.proofs.inlet_port.InletPort.take.Goals as goal
 

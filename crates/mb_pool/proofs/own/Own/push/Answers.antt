@@ -1,7 +1,7 @@
 use Rattle.std.proofs.Common.{◌≡◌, MatchResult, subst}
 use Rattle.crossbeam_deque.specs.Handles.{worker_view}
 use Rattle.mb_pool.specs.Rule.{PutsLast}
-use Rattle.mb_pool.specs.Untouched.{IsUntouched}
+use Rattle.mb_gate.specs.Untouched.{IsUntouched}
 use Rattle.mb_pool.specs.Deques.{own_look}
 use Rattle.mb_pool.proofs.Looks.{of_result, same_own}
 use Rattle.mb_pool.proofs.own.Own.push.Goals as goal

@@ -1,7 +1,7 @@
 use Rattle.std.proofs.Common.{◌≡◌, MatchOption, subst, []}
 use Rattle.crossbeam_deque.specs.Handles.{worker_view}
 use Rattle.mb_pool.specs.Rule.{Moment, TakesFirst}
-use Rattle.mb_pool.specs.Untouched.{IsUntouched}
+use Rattle.mb_gate.specs.Untouched.{IsUntouched}
 use Rattle.mb_pool.specs.Deques.{own_look}
 use Rattle.mb_pool.proofs.Looks.{of_option, same_own}
 use Rattle.mb_pool.proofs.own.Own.take.Goals as goal

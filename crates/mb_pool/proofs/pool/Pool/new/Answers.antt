@@ -1,8 +1,8 @@
-use Rattle.std.proofs.Common.{◌≡◌, ◌+◌, ◌<◌, ap, arith, length, map, replicate, subst, sym, ◌∙◌}
+use Rattle.std.proofs.Common.{◌≡◌, ◌+◌, ap, arith, length, map, replicate, subst, sym, ◌∙◌}
 use Rattle.std.specs.Prelude.{All}
 use Rattle.mb_pool.specs.Begins.{new_door}
 use Rattle.mb_pool.specs.Made.{IsBegun}
-use Rattle.mb_pool.specs.Origin.{origin_of}
+use Rattle.mb_gate.specs.Untouched.{origin_of}
 use Rattle.mb_pool.specs.Parts.{look_of}
 use Rattle.mb_pool.specs.Places.{Whole}
 use Rattle.mb_pool.specs.Ways.{AreOpen, of_feed, way_of}
@@ -33,16 +33,16 @@ ends_of-requires-clause-doors g c =
     let ms = c.in_ok-members.members.items in let ds = map look_of c.in_ok-doors.doors.items in
     subst (λ (p : Whole _). ds ≡ replicate (length ms + p.feeds) (new_door p)) (sym c.pool_of-pool.ensures)
     (ports_there (origin_of c.args.gates.now) c.args.kind c.args.workers c.args.feeds c.in-Some.ports c.in_ok-deques.deques.items
-        (look_of c.in_ok-door.door) (look_of c.open.new.self) c.requires c.in_ok-deques.ensures c.in_ok-door.ensures.0 c.open.ensures
-        c.in-Some.ensures.1 ms c.in_ok-members.ensures.none c.in_ok-members.ensures.own c.in_ok-members.ensures.next ds c.in_ok-doors.ensures)
+    (look_of c.in_ok-door.door) (look_of c.open.new.self) c.requires c.in_ok-deques.ensures c.in_ok-door.ensures.0 c.open.ensures
+    c.in-Some.ensures.1 ms c.in_ok-members.ensures.none c.in_ok-members.ensures.own c.in_ok-members.ensures.next ds c.in_ok-doors.ensures)
 
 pub ends_of-requires-clause-open : goal.ends_of-requires-clause-open
 ends_of-requires-clause-open g c =
     let ms = c.in_ok-members.members.items in
     subst (λ (p : Whole _). All (λ m. AreOpen (way_of (new_door p) m)) ms) (sym c.pool_of-pool.ensures)
     (are_open (origin_of c.args.gates.now) c.args.kind c.args.workers c.args.feeds c.in-Some.ports c.in_ok-deques.deques.items
-        (look_of c.in_ok-door.door) (look_of c.open.new.self) c.requires c.in_ok-deques.ensures c.in_ok-door.ensures.0 c.open.ensures
-        c.in-Some.ensures.1 ms c.in_ok-members.ensures.none c.in_ok-members.ensures.own c.in_ok-members.ensures.next)
+    (look_of c.in_ok-door.door) (look_of c.open.new.self) c.requires c.in_ok-deques.ensures c.in_ok-door.ensures.0 c.open.ensures
+    c.in-Some.ensures.1 ms c.in_ok-members.ensures.none c.in_ok-members.ensures.own c.in_ok-members.ensures.next)
 
 pub feeds_of-requires : goal.feeds_of-requires
 feeds_of-requires g c =
@@ -54,7 +54,7 @@ returns g c =
     let is = c.pool_of-pool.ensures in
     subst (λ (p : Whole _). IsBegun (origin_of c.args.gates.now) c.args.kind c.args.workers c.args.feeds p ends feeds) (sym is)
     (is_begun (origin_of c.args.gates.now) c.args.kind c.args.workers c.args.feeds c.in-Some.ports c.in_ok-deques.deques.items
-        (look_of c.in_ok-door.door) (look_of c.open.new.self) c.requires c.in_ok-deques.ensures c.in_ok-door.ensures.0 c.open.ensures
-        c.in-Some.ensures.1 ms c.in_ok-members.ensures.none c.in_ok-members.ensures.own c.in_ok-members.ensures.next ends feeds
-        (c.in_ok-ends.ensures.ends ∙ ap (λ (p : Whole _). map (way_of (new_door p)) ms) is)
-        (c.in_ok-feeds.ensures ∙ ap (λ (p : Whole _). replicate c.args.feeds (of_feed (new_door p))) is))
+    (look_of c.in_ok-door.door) (look_of c.open.new.self) c.requires c.in_ok-deques.ensures c.in_ok-door.ensures.0 c.open.ensures
+    c.in-Some.ensures.1 ms c.in_ok-members.ensures.none c.in_ok-members.ensures.own c.in_ok-members.ensures.next ends feeds
+    (c.in_ok-ends.ensures.ends ∙ ap (λ (p : Whole _). map (way_of (new_door p)) ms) is)
+    (c.in_ok-feeds.ensures ∙ ap (λ (p : Whole _). replicate c.args.feeds (of_feed (new_door p))) is))

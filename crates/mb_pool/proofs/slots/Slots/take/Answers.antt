@@ -1,7 +1,7 @@
 use Rattle.std.proofs.Common.{sym, subst}
 use Rattle.crossbeam_queue.specs.Passes.{view}
 use Rattle.mb_pool.specs.Rule.{TakesFirst}
-use Rattle.mb_pool.specs.Untouched.{IsUntouched}
+use Rattle.mb_gate.specs.Untouched.{IsUntouched}
 use Rattle.mb_pool.proofs.Steps.{queue_take, learns}
 use Rattle.mb_pool.proofs.slots.Slots.take.Goals as goal
 

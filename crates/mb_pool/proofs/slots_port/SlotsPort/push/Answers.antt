@@ -1,11 +1,11 @@
-use Rattle.std.proofs.Common.{◌≡◌, ℕ, Some, ap, ◌∙◌, refl, subst, sym}
+use Rattle.std.proofs.Common.{◌≡◌, ℕ, Some, refl, subst, sym}
 use Rattle.crossbeam_queue.specs.Passes.{IsPassOf, ruled_capacity, view}
 use Rattle.mb_pool.specs.declared.slots.Slots.{Slots}
 use Rattle.mb_pool.specs.Moves.{WasFull}
-use Rattle.mb_pool.specs.Places.{Look, slots_at}
+use Rattle.mb_pool.specs.Places.{Look}
 use Rattle.mb_pool.specs.Rule.{PutsLast}
 use Rattle.mb_pool.specs.Shared.{slots_look}
-use Rattle.mb_pool.specs.Untouched.{IsUntouched}
+use Rattle.mb_gate.specs.Untouched.{IsUntouched}
 use Rattle.mb_pool.proofs.Looks.{same_slots}
 use Rattle.mb_pool.proofs.slots_port.SlotsPort.push.Goals as goal
 

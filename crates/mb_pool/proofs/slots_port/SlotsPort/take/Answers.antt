@@ -4,7 +4,7 @@ use Rattle.mb_pool.specs.declared.slots.Slots.{Slots}
 use Rattle.mb_pool.specs.Places.{Look, slots_at}
 use Rattle.mb_pool.specs.Rule.{Moment, TakesFirst}
 use Rattle.mb_pool.specs.Shared.{slots_look}
-use Rattle.mb_pool.specs.Untouched.{IsUntouched}
+use Rattle.mb_gate.specs.Untouched.{IsUntouched}
 use Rattle.mb_pool.proofs.Looks.{of_option, same_slots}
 use Rattle.mb_pool.proofs.slots_port.SlotsPort.take.Goals as goal
 

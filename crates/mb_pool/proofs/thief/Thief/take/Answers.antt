@@ -1,7 +1,7 @@
 use Rattle.std.proofs.Common.{◌≡◌, MatchOption, subst, sym, ◌∙◌, []}
 use Rattle.crossbeam_deque.specs.Handles.{view}
 use Rattle.mb_pool.specs.Rule.{Moment, TakesFirst}
-use Rattle.mb_pool.specs.Untouched.{IsUntouched}
+use Rattle.mb_gate.specs.Untouched.{IsUntouched}
 use Rattle.mb_pool.specs.Deques.{thief_look}
 use Rattle.mb_pool.proofs.Looks.{of_option, same_thief}
 use Rattle.mb_pool.proofs.thief.Thief.take.Goals as goal

@@ -1,0 +1,74 @@
+-- What all ends and feeds of a pool have alike, which no call on them changes. (For the crates above.)
+use Rattle.std.proofs.Common.{◌≡◌, ◌<◌, ℕ, List, [], ◌∷◌, ◌++◌, length, get_or, set, map, take, sym, refl, ap, ◌∙◌, subst}
+use Rattle.std.specs.Prelude.{All, Option, Some}
+use Rattle.std.proofs.lemmas.List.{append-nil, length-map, length-replicate, map-append}
+use Rattle.std.proofs.lemmas.List.Elements.{All-cons, All-get_or, All-head, All-nil, All-replicate, All-tail}
+use Rattle.mb_gate.specs.declared.claim.Claim.{Claim}
+use Rattle.mb_gate.specs.Untouched.{Origin}
+use Rattle.mb_pool.specs.Account.{Account}
+use Rattle.mb_pool.specs.Ledger.{Turn, turn}
+use Rattle.mb_pool.specs.Moves.{Pushes}
+use Rattle.mb_pool.specs.Places.{AreEnds, AreFeeds, Look, Parts, Way, Whole, feed_parts, gates_of, parts_of, pushed_at}
+use Rattle.mb_pool.specs.Went.{went_by}
+use Rattle.mb_pool.proofs.Gathering.{same_set}
+use Rattle.mb_pool.proofs.Ports.{all_right, all_unmap}
+use Rattle.mb_pool.proofs.Wholes.{count_of, each_end}
+
+-- of those in front, and of the last one
+pub all_front : {X : Type 0} (P : X → Type 0) (xs ys : List X) → All P (xs ++ ys) → All P xs
+all_front P [] ys h = All-nil P
+all_front P (x ∷ xs) ys h = All-cons P x xs (All-head P x (xs ++ ys) h) (all_front P xs ys (All-tail P x (xs ++ ys) h))
+
+pub all_last : {X : Type 0} (P : X → Type 0) (xs : List X) (x : X) → All P (xs ++ x ∷ []) → P x
+all_last P xs x h = All-head P x [] (all_right P xs (x ∷ []) h)
+
+pub map_last : {X Y : Type 0} (f : X → Y) (xs ys : List X) (x y : X) → map f xs ≡ map f ys → f x ≡ f y
+    → map f (xs ++ x ∷ []) ≡ map f (ys ++ y ∷ [])
+map_last f xs ys x y front last = map-append f xs (x ∷ []) ∙ (λ i. front i ++ last i ∷ []) ∙ sym (map-append f ys (y ∷ []))
+
+module _ {H : Type 0} (pool : Whole H) where
+  -- the claims are of the pool's gates
+  abbrev pub IsOfPool : Way H → Type 0
+  IsOfPool w = gates_of w ≡ Some pool.gates
+
+  abbrev IsOurs : Parts H → Type 0
+  IsOurs p = p.door.gates ≡ Some pool.gates
+
+  pub ends_gates : (ends : List (Way H)) → AreEnds pool ends → All IsOfPool ends
+  ends_gates ends are = each_end pool ends are IsOurs (λ n. refl)
+
+  pub feeds_gates : (feeds : List (Way H)) → AreFeeds pool feeds → All IsOfPool feeds
+  feeds_gates feeds are = all_unmap IsOurs (parts_of {H = H}) feeds
+      (subst (All IsOurs) (sym are) (All-replicate IsOurs pool.feeds (feed_parts pool) refl))
+
+  pub end_gates : (ends : List (Way H)) (k : ℕ) (d : Way H) → AreEnds pool ends → k < length ends → gates_of (get_or ends k d) ≡ Some pool.gates
+  end_gates ends k d are lt = All-get_or IsOfPool ends k d lt (ends_gates ends are)
+
+  pub feed_gates : (feeds : List (Way H)) (k : ℕ) (d : Way H) → AreFeeds pool feeds → k < length feeds
+      → gates_of (get_or feeds k d) ≡ Some pool.gates
+  feed_gates feeds k d are lt = All-get_or IsOfPool feeds k d lt (feeds_gates feeds are)
+
+  pub count_ends : (ends : List (Way H)) → AreEnds pool ends → length ends ≡ pool.ends
+  count_ends = count_of pool
+
+  pub count_feeds : (feeds : List (Way H)) → AreFeeds pool feeds → length feeds ≡ pool.feeds
+  count_feeds feeds are = sym (length-map feeds (parts_of {H = H})) ∙ ap length are ∙ length-replicate pool.feeds (feed_parts pool)
+
+  pub still_ends : (ends : List (Way H)) (k : ℕ) (d w : Way H) → parts_of w ≡ parts_of (get_or ends k d) → AreEnds pool ends
+      → AreEnds pool (set ends k w)
+  still_ends ends k d w same are = same_set (parts_of {H = H}) ends k d w same ∙ are
+
+  pub still_feeds : (feeds : List (Way H)) (k : ℕ) (d w : Way H) → parts_of w ≡ parts_of (get_or feeds k d) → AreFeeds pool feeds
+      → AreFeeds pool (set feeds k w)
+  still_feeds feeds k d w same are = same_set (parts_of {H = H}) feeds k d w same ∙ are
+
+-- a push adds its claim to those that went into the pool by way of the end or the feed
+pub push_goes_in : {H : Type 0} (IsFit : Option (Origin H) → Claim H → Type 0) (old new : Way H) (c : Claim H) → Pushes IsFit old c new
+    → went_by new ≡ went_by old ++ c ∷ []
+push_goes_in {H} IsFit old new c p =
+    let of : Turn (Claim H) → Claim H = λ t. t.claim in
+    let first : List (Look H) → List (Claim H) = λ ls. pushed_at (take 1 ls) in
+    let before = p.look.ledger.pushed in
+    ap first p.then' ∙ append-nil (map of p.after.pushed) ∙ ap (λ (l : Account H). map of l.pushed) p.last.2
+    ∙ map-append of before (turn (length (p.last.1.gone ++ p.last.0)) c ∷ [])
+    ∙ ap (λ cs. cs ++ c ∷ []) (sym (ap first p.found ∙ append-nil (map of before)))
