@@ -1,3 +1,6 @@
 pub mod Reasons
 pub mod Kinds
 pub mod Numbers
+pub mod Identities
+pub mod Handed
+pub mod Made

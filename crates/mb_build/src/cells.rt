@@ -1,4 +1,7 @@
 //! The actors' cells.
+ghost use Rattle.std.specs.Prelude.{◌≡◌, ◌<◌, IfOk, length};
+ghost use Rattle.mb_build.specs.Identities.{children_from};
+
 use mb_actor::{Actor, Behaviours};
 use mb_cell::Cell;
 use mb_journal::Strategy;
@@ -68,14 +71,17 @@ fn guardian<A: Actor, K: Behaviours>(
 }
 
 /// The actors whose parent this is, in order.
-fn children(alloc: Global, this: ActorId, parents: &[ActorId]) -> Result<Vec<ActorId>, AllocError> {
+fn children(alloc: Global, this: ActorId, parents: &[ActorId]) -> Result<Vec<ActorId>, AllocError>
+    requires { length parents.now < 64 }
+    ensures { IfOk result (λ children. children.items ≡ children_from 1 this.0 parents.now) }
+{
     let mut children = Vec::new(alloc);
-    let mut number = 0;
+    let mut number = 1;
     for parent in parents {
-        number += 1;
         if parent.0 == this.0 {
             children.push(ActorId(number))?;
         }
+        number += 1;
     }
     Ok(children)
 }

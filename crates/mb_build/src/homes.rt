@@ -9,6 +9,7 @@ use mb_msg::ActorId;
 use mb_plan::ActorPlan;
 use mb_queue::{SendPass, TakePass};
 use std::alloc::{AllocError, Global};
+use std::mem;
 use std::snapshot::Snapshot;
 
 /// The homes of all actors, the guardian's first, and for each sender outside its passes into the queues from actor 1 on.
@@ -30,23 +31,33 @@ pub fn house<A: Actor, K: Behaviours>(
         kinds,
         strategies,
     } = take_apart(alloc, plans)?;
-    let Queues { takes, senders } = make_queues(alloc, kinds, senders)?;
+    let Queues {
+        guardian,
+        takes,
+        senders,
+    } = make_queues(alloc, kinds, senders)?;
     let cells = cells(alloc, actors, &parents, strategies, journal_limit)?;
-    let roll = enroll(alloc, &cells, &takes)?;
-    homes(alloc, cells, takes, senders, &roll)
+    let roll = enroll(alloc, &cells, &guardian, &takes)?;
+    homes(alloc, cells, guardian, takes, senders, &roll)
 }
 
 /// Who the actors are.
 fn enroll<A: Actor, K: Behaviours>(
     alloc: Global,
     cells: &[Cell<A, K>],
+    guardian: &TakePass,
     takes: &[TakePass],
 ) -> Result<Vec<Named<A, K>>, AllocError> {
     let mut roll = Vec::with_capacity(alloc, cells.len())?;
     for number in 0..cells.len() {
+        let take = if number == 0 {
+            guardian
+        } else {
+            &takes[number - 1]
+        };
         roll.push(Named {
             cell: Snapshot::of(&cells[number]),
-            take: Snapshot::of(&takes[number]),
+            take: Snapshot::of(take),
         })?;
     }
     Ok(roll)
@@ -56,15 +67,17 @@ fn enroll<A: Actor, K: Behaviours>(
 fn homes<A: Actor, K: Behaviours>(
     alloc: Global,
     cells: Vec<Cell<A, K>>,
+    guardian: TakePass,
     takes: Vec<TakePass>,
     senders: Vec<Vec<SendPass>>,
     roll: &Vec<Named<A, K>>,
 ) -> Result<Housed<A, K>, AllocError> {
     let mut homes = Vec::with_capacity(alloc, cells.len())?;
+    let mut next = Some(guardian);
     let mut takes = takes.into_iter();
     let mut senders = senders.into_iter();
     for cell in cells {
-        let Some(take) = takes.next() else {
+        let Some(take) = mem::replace(&mut next, takes.next()) else {
             unreachable!();
         };
         let Some(sends) = senders.next() else {

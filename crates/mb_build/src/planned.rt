@@ -1,4 +1,7 @@
 //! The plan of the actors, taken apart.
+ghost use Rattle.std.specs.Prelude.{◌≡◌, IfOk, map};
+ghost use Rattle.mb_build.specs.Kinds.{AreQueues};
+
 use mb_journal::Strategy;
 use mb_msg::ActorId;
 use mb_plan::ActorPlan;
@@ -16,7 +19,11 @@ pub(crate) struct Planned {
 }
 
 /// Takes the plans apart.
-pub(crate) fn take_apart(alloc: Global, actors: Vec<ActorPlan>) -> Result<Planned, AllocError> {
+pub(crate) fn take_apart(alloc: Global, actors: Vec<ActorPlan>) -> Result<Planned, AllocError>
+    ensures parents { IfOk result (λ planned. planned.parents.items ≡ map (λ a. a.parent) actors.items) }
+    ensures kinds { IfOk result (λ planned. AreQueues actors.items planned.kinds.items) }
+    ensures strategies { IfOk result (λ planned. planned.strategies.items ≡ map (λ a. a.strategy) actors.items) }
+{
     let count = actors.len();
     let mut parents = Vec::with_capacity(alloc, count)?;
     let mut kinds = Vec::with_capacity(alloc, count)?;

@@ -1,6 +1,8 @@
 //! The queues of all actors, and for each sender its passes into them.
-ghost use Rattle.std.specs.Prelude.{◌≡◌, ◌+◌, ◌≤◌, ◌<◌, [], ◌++◌, IfOk, length};
-ghost use Rattle.mb_queue.specs.Made.{numbers_of};
+ghost use Rattle.std.specs.Prelude.{◌≡◌, ◌+◌, ◌≤◌, ◌<◌, [], ◌++◌, All, IfOk, length, map, replicate};
+ghost use Rattle.mb_queue.specs.Made.{IsMakeable, numbers_of};
+ghost use Rattle.mb_build.specs.Handed.{handed};
+ghost use Rattle.mb_build.specs.Made.{AreMade};
 ghost use Rattle.mb_build.specs.Numbers.{numbers, sender_numbers};
 
 use mb_msg::limits::ACTORS;
@@ -8,9 +10,10 @@ use mb_msg::{ActorId, SenderId};
 use mb_queue::{Kind, MailQueue, SendPass, TakePass};
 use std::alloc::{AllocError, Global};
 
-/// The take pass of each actor's queue, the guardian's first; and for each sender, the actors first and then those outside,
+/// The take pass of each actor's queue, the guardian's apart; and for each sender, the actors first and then those outside,
 /// its passes into the queues from actor 1 on.
 pub(crate) struct Queues {
+    pub(crate) guardian: TakePass,
     pub(crate) takes: Vec<TakePass>,
     pub(crate) senders: Vec<Vec<SendPass>>,
 }
@@ -20,19 +23,25 @@ pub(crate) fn make_queues(
     alloc: Global,
     kinds: Vec<Kind>,
     outside: u32,
-) -> Result<Queues, AllocError> {
+) -> Result<Queues, AllocError>
+    requires few { (length kinds.items < 64) × (outside ≤ 16) }
+    requires kinds { All IsMakeable kinds.items }
+    ensures { IfOk result (λ queues. AreMade kinds.items (sender_numbers (length kinds.items + 1) outside) queues.guardian queues.takes.items
+        (map (λ row. row.items) queues.senders.items)) }
+{
     let actors = kinds.len() as u32 + 1;
     let senders = senders(alloc, actors, outside)?;
     let mut rows = rows(alloc, senders.len())?;
-    let mut takes = Vec::with_capacity(alloc, kinds.len() + 1)?;
-    let (take, _) = MailQueue::new(alloc, Kind::Unbounded, ActorId(0), &[])?;
-    takes.push(take)?;
+    let mut takes = Vec::with_capacity(alloc, kinds.len())?;
+    let (guardian, _) = MailQueue::new(alloc, Kind::Unbounded, ActorId(0), &[])?;
     for kind in kinds {
-        let (take, sends) = MailQueue::new(alloc, kind, ActorId(takes.len() as u32), &senders)?;
+        let to = ActorId(takes.len() as u32 + 1);
+        let (take, sends) = MailQueue::new(alloc, kind, to, &senders)?;
         takes.push(take)?;
         hand_out(&mut rows, sends)?;
     }
     Ok(Queues {
+        guardian,
         takes,
         senders: rows,
     })
@@ -61,7 +70,9 @@ fn push_numbers(senders: &mut Vec<SenderId>, first: u32, count: u32) -> Result<(
 }
 
 /// So many senders, which have no passes yet.
-fn rows(alloc: Global, count: usize) -> Result<Vec<Vec<SendPass>>, AllocError> {
+fn rows(alloc: Global, count: usize) -> Result<Vec<Vec<SendPass>>, AllocError>
+    ensures { IfOk result (λ rows. map (λ row. row.items) rows.items ≡ replicate count []) }
+{
     let mut rows = Vec::with_capacity(alloc, count)?;
     for _row in 0..count {
         rows.push(Vec::new(alloc))?;
@@ -70,7 +81,11 @@ fn rows(alloc: Global, count: usize) -> Result<Vec<Vec<SendPass>>, AllocError> {
 }
 
 /// Gives each sender its pass into one more queue.
-fn hand_out(rows: &mut [Vec<SendPass>], sends: Vec<SendPass>) -> Result<(), AllocError> {
+fn hand_out(rows: &mut [Vec<SendPass>], sends: Vec<SendPass>) -> Result<(), AllocError>
+    requires many { length sends.items ≡ length rows.old }
+    ensures handed { IfOk result (λ _. map (λ row. row.items) rows.new ≡ handed (map (λ row. row.items) rows.old) sends.items) }
+    ensures many { length rows.new ≡ length rows.old }
+{
     let mut sends = sends;
     while let Some(send) = sends.pop() {
         rows[sends.len()].push(send)?;

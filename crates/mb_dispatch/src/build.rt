@@ -4,7 +4,6 @@ use crate::end::WorkerEnd;
 use crate::open::Open;
 use crate::sender::Sender;
 use crate::system::System;
-use crate::ways::{EndWay, FeedWay};
 use mb_actor::{Actor, Behaviours};
 use mb_build::{Housed, PlanError, check_plan, house};
 use mb_gate::{Gates, Pass};
@@ -16,6 +15,7 @@ use mb_queue::SendPass;
 use mb_syslist::Node;
 use mb_turn::Place;
 use mb_wake::{Owed, Waker};
+use mb_ways::{EndWay, FeedWay};
 use std::alloc::{AllocError, Global};
 use std::sync::Wait;
 

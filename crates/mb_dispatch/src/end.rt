@@ -1,13 +1,13 @@
 //! A worker's end of a system.
 use crate::failure::{RunError, of_debts};
 use crate::system::System;
-use crate::ways::EndWay;
 use mb_actor::{Actor, Behaviours};
 use mb_gate::{Claim, Pass};
 use mb_journal::ReadyError;
 use mb_msg::ActorId;
 use mb_turn::{Place, Turn, run_mailbox};
 use mb_wake::Waker;
+use mb_ways::EndWay;
 use std::sync::Wait;
 
 /// A worker's end of a system: with its way into the pool of claims, what it knows of the actors, and whom it owes a look. A

@@ -21,7 +21,6 @@ mod run;
 mod sender;
 mod settled;
 mod system;
-mod ways;
 mod work;
 
 pub use build::BuildError;
@@ -32,7 +31,6 @@ pub use finish::{FinishError, Mismatch};
 pub use job::{Job, Order, What};
 pub use sender::Sender;
 pub use system::System;
-pub use ways::{EndWay, FeedWay};
 
 #[cfg(test)]
 mod tests {

@@ -1,7 +1,6 @@
 //! A sender outside the actors.
 use crate::failure::{RunError, of_debts};
 use crate::system::System;
-use crate::ways::FeedWay;
 use mb_actor::{Actor, Behaviours};
 use mb_gate::Pass;
 use mb_msg::{ActorId, Body};
@@ -9,6 +8,7 @@ use mb_queue::SendPass;
 use mb_send::{Book, Look, Put, Ticket, Unsent};
 use mb_turn::Place;
 use mb_wake::Waker;
+use mb_ways::FeedWay;
 use std::sync::Wait;
 
 /// A sender outside the actors of a system. A thread of its own may have it.

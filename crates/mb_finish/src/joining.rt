@@ -7,7 +7,7 @@ use mb_queue::{SendPass, TakePass};
 
 /// Each receiver takes in the passes that push to it: those of the senders, each with one for each of these receivers, in
 /// their order.
-pub fn join_all(takes: &mut [TakePass], senders: Vec<Vec<SendPass>>)
+pub(crate) fn join_all(takes: &mut [TakePass], senders: Vec<Vec<SendPass>>)
     requires queues { All (λ row. ways_of row.items ≡ queues_of takes.old) senders.items }
     ensures { takes.new ≡ joins_all takes.old (map (λ row. row.items) senders.items) }
 {

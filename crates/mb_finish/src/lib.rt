@@ -6,7 +6,10 @@
 #![tactic(auto)]
 
 mod joining;
+mod laws;
 mod rest;
+mod settling;
 
-pub use joining::join_all;
-pub use rest::{TooMany, take_rests};
+pub use laws::what_came_is_accounted_for;
+pub use rest::TooMany;
+pub use settling::settle;

@@ -14,7 +14,7 @@ pub struct TooMany(pub usize);
 /// pushed which it had taken in.
 ///
 /// It answers `TooMany` if more is left in a queue than there is room for.
-pub fn take_rests<R: Wait>(
+pub(crate) fn take_rests<R: Wait>(
     rt: &R,
     takes: Vec<TakePass>,
     rooms: &mut [Vec<Envelope>],
