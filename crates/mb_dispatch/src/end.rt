@@ -1,4 +1,19 @@
 //! A worker's end of a system.
+ghost use Rattle.std.specs.Prelude.{◌≡◌, ◌<◌, ◌≤◌, ℕ, false, List, IfSome, IsErrOf, MatchResult, OnOk, Some, length};
+ghost use Rattle.mb_journal.specs.Entry.{Entry};
+ghost use Rattle.mb_journal.specs.Run.{Stopped};
+ghost use Rattle.mb_journal.specs.Run.Stopped.{NoRoom};
+ghost use Rattle.mb_gate.specs.Names.{actors_of, held_actor, known_by};
+ghost use Rattle.mb_gate.specs.Untouched.{origin_of};
+ghost use Rattle.mb_pool.specs.Places.{gates_of};
+ghost use Rattle.mb_turn.specs.Caller.{IsPaid, LeavesCaller};
+ghost use Rattle.mb_turn.specs.Fresh.{IsFreshClaim};
+ghost use Rattle.mb_turn.specs.Ran.{HadRoom, LeavesRun};
+ghost use Rattle.mb_turn.specs.declared.turn.Turn.{Turn as TurnType};
+ghost use Rattle.mb_wake.specs.Owed.{is_owed};
+ghost use Rattle.mb_wake.specs.Views.{LooksAfter};
+ghost use Rattle.mb_dispatch.specs.Members.{end_caller, IsEndOf};
+
 use crate::failure::{RunError, of_debts};
 use crate::system::System;
 use mb_actor::{Actor, Behaviours};
@@ -49,19 +64,35 @@ impl<A: Actor, K: Behaviours> WorkerEnd<A, K> {
         id: ActorId,
         messages: bool,
         systems: bool,
-    ) -> bool {
+    ) -> bool
+        requires ours { IsEndOf system.now.gates self.old.waker }
+        requires there { id.0 < actors_of system.now.gates }
+        ensures ours { IsEndOf system.now.gates self.new.waker }
+        ensures looks { LooksAfter id.0 (known_by self.old.waker.pass) (known_by self.new.waker.pass) }
+        ensures paid { IsPaid id.0 (end_caller self.new.waker) }
+        ensures leaves { LeavesCaller (end_caller self.old.waker) (end_caller self.new.waker) }
+        ensures number { self.new.number ≡ self.old.number }
+    {
         self.waker.register(rt, &system.gates, id, messages, systems)
     }
 
     /// Does so for all actors, in the order of their numbers.
-    pub(crate) fn register_all<R: Wait>(&mut self, rt: &R, system: &System<A, K>) {
+    pub(crate) fn register_all<R: Wait>(&mut self, rt: &R, system: &System<A, K>)
+        requires ours { IsEndOf system.now.gates self.old.waker }
+        ensures ours { IsEndOf system.now.gates self.new.waker }
+        ensures number { self.new.number ≡ self.old.number }
+    {
         for number in 0..system.gates.actors() {
             self.register(rt, system, ActorId(number as u32), false, false);
         }
     }
 
     /// Takes a claim out of the pool; `None` only if each place in which it looks was empty at a moment.
-    pub fn take<R: Wait>(&mut self, rt: &R) -> Option<Claim<Place<A, K>>> {
+    pub fn take<R: Wait>(&mut self, rt: &R) -> Option<Claim<Place<A, K>>>
+        ensures fit { IfSome result (IsFreshClaim K.gives (gates_of self.old.waker.way.end)) }
+        ensures same { (self.new.waker.pass ≡ self.old.waker.pass) × (self.new.waker.owed ≡ self.old.waker.owed)
+            × (gates_of self.new.waker.way.end ≡ gates_of self.old.waker.way.end) × (self.new.number ≡ self.old.number) }
+    {
         self.waker.way.take(rt)
     }
 
@@ -71,12 +102,29 @@ impl<A: Actor, K: Behaviours> WorkerEnd<A, K> {
         rt: &R,
         system: &System<A, K>,
         claim: Claim<Place<A, K>>,
-    ) -> Result<Turn, ReadyError> {
+    ) -> Result<Turn, ReadyError>
+        requires ours { IsEndOf system.now.gates self.old.waker }
+        requires untouched { IsFreshClaim K.gives (Some (origin_of system.now.gates)) claim }
+        ensures ours { IsEndOf system.now.gates self.new.waker }
+        ensures leaves { LeavesCaller (end_caller self.old.waker) (end_caller self.new.waker) }
+        ensures paid { IsPaid (held_actor claim) (end_caller self.new.waker) }
+        ensures ran { (journal : List Entry) × MatchResult result
+            (λ turn. (stopped : Stopped) × HadRoom stopped × LeavesRun system.now.throughput claim (known_by self.new.waker.pass) journal turn
+            stopped)
+            (λ _. (turn : TurnType) × LeavesRun system.now.throughput claim (known_by self.new.waker.pass) journal turn NoRoom
+            × (IsErrOf result ReadyError.JournalFull → claim.home.value.cell.who.limit ≤ length journal)) }
+        ensures number { self.new.number ≡ self.old.number }
+    {
         run_mailbox(rt, &system.gates, &mut self.waker, system.throughput, claim)
     }
 
     /// Looks again after each actor that it owes a look.
-    pub(crate) fn pay<R: Wait>(&mut self, rt: &R, system: &System<A, K>) -> Result<(), RunError> {
+    pub(crate) fn pay<R: Wait>(&mut self, rt: &R, system: &System<A, K>) -> Result<(), RunError>
+        requires ours { IsEndOf system.now.gates self.old.waker }
+        ensures ours { IsEndOf system.now.gates self.new.waker }
+        ensures done { OnOk result ((id : ℕ) → id < actors_of system.now.gates → is_owed self.new.waker.owed id ≡ false) }
+        ensures number { self.new.number ≡ self.old.number }
+    {
         match self.waker.pay(rt, &system.gates) {
             Ok(()) => Ok(()),
             Err(error) => Err(of_debts(error)),

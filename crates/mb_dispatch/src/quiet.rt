@@ -1,4 +1,8 @@
 //! Running on one thread alone.
+ghost use Rattle.std.specs.Prelude.{◌≡◌, OnOk};
+ghost use Rattle.mb_wake.specs.Owed.{IsNobody};
+ghost use Rattle.mb_dispatch.specs.Members.{IsEndOf};
+
 use crate::end::WorkerEnd;
 use crate::failure::{RunError, of_turn};
 use crate::system::System;
@@ -15,7 +19,12 @@ impl<A: Actor, K: Behaviours> WorkerEnd<A, K> {
         &mut self,
         rt: &R,
         system: &System<A, K>,
-    ) -> Result<Vec<Turn>, RunError> {
+    ) -> Result<Vec<Turn>, RunError>
+        requires ours { IsEndOf system.now.gates self.old.waker }
+        ensures ours { IsEndOf system.now.gates self.new.waker }
+        ensures paid { OnOk result (IsNobody self.new.waker.owed) }
+        ensures number { self.new.number ≡ self.old.number }
+    {
         self.register_all(rt, system);
         let mut turns = Vec::new(system.alloc);
         for _ in rt.forever() {

@@ -1,4 +1,9 @@
 //! A worker among others.
+ghost use Rattle.std.specs.Prelude.{◌≡◌, ◌<◌, ℕ, false, OnOk};
+ghost use Rattle.mb_gate.specs.Names.{actors_of};
+ghost use Rattle.mb_wake.specs.Owed.{is_owed};
+ghost use Rattle.mb_dispatch.specs.Members.{IsEndOf};
+
 use crate::end::WorkerEnd;
 use crate::failure::{RunError, of_turn};
 use crate::system::System;
@@ -11,7 +16,12 @@ impl<A: Actor, K: Behaviours> WorkerEnd<A, K> {
     ///
     /// It stops at the first fault: `JournalFull` or `NoMemory` as a turn answers it, and `NoMemory` if the pool refused a claim
     /// again.
-    pub fn work<R: Wait>(&mut self, rt: &R, system: &System<A, K>) -> Result<(), RunError> {
+    pub fn work<R: Wait>(&mut self, rt: &R, system: &System<A, K>) -> Result<(), RunError>
+        requires ours { IsEndOf system.now.gates self.old.waker }
+        ensures ours { IsEndOf system.now.gates self.new.waker }
+        ensures paid { OnOk result ((id : ℕ) → id < actors_of system.now.gates → is_owed self.new.waker.owed id ≡ false) }
+        ensures number { self.new.number ≡ self.old.number }
+    {
         system.open.enter();
         let outcome = self.work_on(rt, system);
         system.open.leave();
@@ -19,7 +29,12 @@ impl<A: Actor, K: Behaviours> WorkerEnd<A, K> {
     }
 
     // The worker counts as busy at the beginning and at the end.
-    fn work_on<R: Wait>(&mut self, rt: &R, system: &System<A, K>) -> Result<(), RunError> {
+    fn work_on<R: Wait>(&mut self, rt: &R, system: &System<A, K>) -> Result<(), RunError>
+        requires ours { IsEndOf system.now.gates self.old.waker }
+        ensures ours { IsEndOf system.now.gates self.new.waker }
+        ensures paid { OnOk result ((id : ℕ) → id < actors_of system.now.gates → is_owed self.new.waker.owed id ≡ false) }
+        ensures number { self.new.number ≡ self.old.number }
+    {
         for _ in rt.forever() {
             self.run_all(rt, system)?;
             if self.is_over(rt, system)? {
@@ -30,7 +45,12 @@ impl<A: Actor, K: Behaviours> WorkerEnd<A, K> {
     }
 
     // Runs claims until the pool gives none.
-    fn run_all<R: Wait>(&mut self, rt: &R, system: &System<A, K>) -> Result<(), RunError> {
+    fn run_all<R: Wait>(&mut self, rt: &R, system: &System<A, K>) -> Result<(), RunError>
+        requires ours { IsEndOf system.now.gates self.old.waker }
+        ensures ours { IsEndOf system.now.gates self.new.waker }
+        ensures paid { OnOk result ((id : ℕ) → id < actors_of system.now.gates → is_owed self.new.waker.owed id ≡ false) }
+        ensures number { self.new.number ≡ self.old.number }
+    {
         for _ in rt.forever() {
             let Some(claim) = self.take(rt) else {
                 return self.pay(rt, system);

@@ -30,12 +30,12 @@ module _ {H : Type 0} (IsFit : Option (Origin H) → Claim H → Type 0) where
   takes-first old new c t =
       ap pushed_first t.then' ∙ same-first t.before t.rest t.look _ (ap (λ l. claims_in l.pushed) t.first.2) ∙ sym (ap pushed_first t.found)
 
-  pub taken-same : {A : Type 0} (r : Option (Claim H)) (old new : Way H) → MatchOption r ((new ≡ old) × A) (λ c. Takes IsFit old c new)
+  pub taken-same : (A : Type 0) (r : Option (Claim H)) (old new : Way H) → MatchOption r ((new ≡ old) × A) (λ c. Takes IsFit old c new)
       → pushed_first (looks new) ≡ pushed_first (looks old)
-  taken-same None old new h = ap (λ w. pushed_first (looks w)) h.0
-  taken-same (Some c) old new h = takes-first old new c h
+  taken-same A None old new h = ap (λ w. pushed_first (looks w)) h.0
+  taken-same A (Some c) old new h = takes-first old new c h
 
 -- what an answer of none tells
-pub none-tells : {X A B : Type 0} {P : X → Type 0} (r : Option X) → MatchOption r (A × B) P → IfNone r B
-none-tells None h = h.1
-none-tells (Some x) h = tt
+pub none-tells : {X : Type 0} (A B : Type 0) (P : X → Type 0) (r : Option X) → MatchOption r (A × B) P → IfNone r B
+none-tells A B P None h = h.1
+none-tells A B P (Some x) h = tt

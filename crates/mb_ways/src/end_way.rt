@@ -59,6 +59,7 @@ impl<H: Resident> Way<H> for EndWay<H> {
     ghost refused = { λ way. map (λ claim. claim.value) way.refused };
 
     fn push<R: Wait>(&mut self, rt: &R, claim: Claim<H>) -> Result<(), Refused<H>>
+        requires untouched { IsUntouched H.is_of H.journal H.mailbox H.rested H.given H.closed_to (gates_of self.old.end) claim }
         ensures same { gates_of self.new.end ≡ gates_of self.old.end }
         ensures pushed { MatchResult result
             (λ _. (pushed_first (looks self.new.end) ≡ pushed_first (looks self.old.end) ++ claim ∷ [])
