@@ -43,8 +43,12 @@ pub fn check_plan(plan: &Plan, actors: usize) -> Result<(), PlanError>
     if plan.actors.len() != actors {
         return Err(PlanError::Boxes);
     }
-    check_parents(&plan.actors)?;
-    check_bounds(&plan.actors)?;
+    if let Err(reason) = check_parents(&plan.actors) {
+        return Err(reason);
+    }
+    if let Err(reason) = check_bounds(&plan.actors) {
+        return Err(reason);
+    }
     check_numbers(plan)
 }
 

@@ -6,7 +6,7 @@ use crate::reckoning::{add_outside, report_on, take_apart};
 use crate::room::{Room, make_room};
 use crate::settled::first_unsettled;
 use mb_actor::{Actor, Behaviours};
-use mb_finish::{TooMany, join_all, take_rests};
+use mb_finish::{TooMany, settle};
 use mb_msg::ActorId;
 use mb_report::Report;
 use std::sync::Wait;
@@ -112,8 +112,7 @@ fn reckon<A: Actor, K: Behaviours, R: Wait>(
     let all = gates.finish(pass, homes);
     take_apart(all, &mut ended, &mut takes, &mut rows, &mut senders)?;
     add_outside(outside, &mut rows, &mut senders);
-    join_all(&mut takes, rows);
-    if let Err(TooMany(place)) = take_rests(rt, takes, &mut lefts) {
+    if let Err(TooMany(place)) = settle(rt, takes, rows, &mut lefts[1..]) {
         return Err(Mismatch::Waiting(ActorId(place as u32 + 1)));
     }
     report_on(ended, lefts, &waiting, actors, senders)

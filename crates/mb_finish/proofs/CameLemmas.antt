@@ -1,12 +1,11 @@
 -- What the accounts of a receiver say once all passes were taken in.
-use Rattle.std.proofs.Common.{◌≡◌, ◌≢◌, ℕ, List, [], ◌∷◌, ◌++◌, refl, sym, ap, ◌∙◌, subst, Some}
+use Rattle.std.proofs.Common.{◌≡◌, ◌≢◌, ℕ, List, [], ◌∷◌, refl, ◌∙◌, Some}
 use Rattle.std.specs.List.{All}
 use Rattle.std.proofs.lemmas.List.Elements.{All-nil, All-cons, All-head, All-tail}
-use Rattle.mb_msg.specs.declared.envelope.Envelope.{Envelope}
 use Rattle.mb_lane.specs.Ledger.{account, home}
 use Rattle.mb_lane.proofs.Lists.{account-other, account-same}
 use Rattle.mb_queue.specs.Fates.{InOrder}
-use Rattle.mb_queue.specs.Passes.{Sending, Taking, Turns, first_in_first_out}
+use Rattle.mb_queue.specs.Passes.{Sending, Taking, first_in_first_out}
 use Rattle.mb_queue.specs.Takes.{EachOnce}
 use Rattle.mb_finish.specs.Came.{Came}
 use Rattle.mb_finish.specs.Joined.{AreOfDifferent, joined, joined_by}

@@ -1,6 +1,5 @@
 -- Passes that are taken in, one after another.
-use Rattle.std.proofs.Common.{◌≡◌, ℕ, zero, suc, List, [], ◌∷◌, ◌++◌, length, map, refl, sym, ap, ◌∙◌, subst, Option, Some, None}
-use Rattle.std.proofs.lemmas.List.{append-nil}
+use Rattle.std.proofs.Common.{◌≡◌, ℕ, zero, suc, List, [], ◌∷◌, ◌++◌, length, take, drop, refl, sym, ap, ◌∙◌, subst, Option, Some, None}
 use Rattle.std.proofs.lemmas.Option.{none-some}
 use Rattle.std.specs.List.{All}
 use Rattle.std.proofs.lemmas.List.Elements.{All-tail}
@@ -90,3 +89,21 @@ place-joins_all takes (row ∷ rows) place =
     place-joins_all (joins takes row) rows place
     ∙ ap (option_map (λ t. joined_by t (column place rows))) (place-joins takes row place)
     ∙ twice (option_to_list (slice_get row place)) (column place rows) (slice_get takes place)
+
+-- there are as many receivers
+length-joins : (takes : List Taking) (passes : List Sending) → length (joins takes passes) ≡ length takes
+length-joins [] passes = refl
+length-joins (t ∷ takes) [] = refl
+length-joins (t ∷ takes) (p ∷ passes) = ap suc (length-joins takes passes)
+
+pub length-joins_all : (takes : List Taking) (rows : List (List Sending)) → length (joins_all takes rows) ≡ length takes
+length-joins_all takes [] = refl
+length-joins_all takes (row ∷ rows) = length-joins_all (joins takes row) rows ∙ length-joins takes row
+
+-- what stands in a list that was lent as a slice, when the slice comes back as long as it was
+take_front : {X : Type 0} (ys zs : List X) → take (length ys) (ys ++ zs) ≡ ys
+take_front [] zs = refl
+take_front (y ∷ ys) zs = ap (λ l. y ∷ l) (take_front ys zs)
+
+pub refilled : {X : Type 0} (count : ℕ) (old new : List X) → length new ≡ count → take count (new ++ drop (length new) old) ≡ new
+refilled count old new e = ap (λ (n : ℕ). take n (new ++ drop (length new) old)) (sym e) ∙ take_front new (drop (length new) old)

@@ -7,7 +7,6 @@ use Rattle.mb_queue.specs.Fates.{InOrder}
 use Rattle.mb_queue.specs.Passes.{Sending, Taking, Turns, first_in_first_out}
 use Rattle.mb_queue.specs.Takes.{EachOnce}
 use Rattle.mb_finish.specs.Came.{Came}
-use Rattle.mb_finish.specs.Joined.{AreOfDifferent, joined_by}
 use Rattle.mb_finish.specs.Rest.{AreRests, IsRest}
 use Rattle.mb_finish.proofs.CameLemmas.{IsKnownBy, all-came, all-known, same-taken, same-turns}
 

@@ -1,12 +1,12 @@
 -- All receivers at once.
-use Rattle.std.proofs.Common.{◌≡◌, ℕ, zero, suc, List, [], ◌∷◌, ◌++◌, refl, sym, ap, ◌∙◌, subst, count_by, Option, Some, None}
+use Rattle.std.proofs.Common.{◌≡◌, ℕ, zero, suc, List, [], ◌∷◌, ◌++◌, refl, sym, ap, ◌∙◌, subst, count_by, Some}
 use Rattle.std.specs.List.{All}
 use Rattle.std.specs.Prelude.{option_map, slice_get, Result, Ok, Err, IfOk}
 use Rattle.std.proofs.lemmas.Option.{none-some, same_Some}
 use Rattle.mb_msg.specs.declared.envelope.Envelope.{Envelope}
 use Rattle.mb_queue.specs.Passes.{Sending, Taking, Turns, first_in_first_out}
-use Rattle.mb_fates.specs.Accepted.{IsNumbered, accepted, queued, to_actor, sent_by}
-use Rattle.mb_fates.specs.Pair.{CameAsOften, CameInOrder, IsInOrder, StandsAsOften, StandsOnce}
+use Rattle.mb_fates.specs.Accepted.{IsNumbered, accepted, queued, to_actor}
+use Rattle.mb_fates.specs.Pair.{IsInOrder, StandsAsOften, StandsOnce}
 use Rattle.mb_fates.specs.declared.posting.Posting.{Posting}
 use Rattle.mb_fates.proofs.Counting.{stands-as-often}
 use Rattle.mb_fates.proofs.Naming.{kept-in-order, stands-once}

@@ -1,6 +1,5 @@
-use Rattle.std.proofs.Common.{rules, ◌≡◌, ◌++◌, [], ◌∷◌, length, refl, sym, ap, ◌∙◌, Some}
+use Rattle.std.proofs.Common.{rules, ◌≡◌, ◌++◌, [], ◌∷◌, length, sym, ap, ◌∙◌, Some}
 use Rattle.std.specs.Prelude.{slice_get, slice_set}
-use Rattle.mb_queue.specs.Passes.{Queue, Sending}
 use Rattle.mb_finish.specs.Joined.{joined, joins, queues_of, ways_of}
 use Rattle.mb_finish.proofs.JoinLemmas.{joins-last, joins-none, queue-last, queues-set, ways-last}
 use Rattle.mb_finish.proofs.joining.join_each.Goals as goal

@@ -1,7 +1,6 @@
-use Rattle.std.proofs.Common.{rules, ◌≡◌, ◌<◌, ◌++◌, ◌∷◌, [], ℕ, suc, List, true, length, map, take, drop, set, sym, ap, ◌∙◌, subst, append_assoc, arith}
+use Rattle.std.proofs.Common.{rules, ◌≡◌, ◌<◌, ◌++◌, ◌∷◌, [], ℕ, suc, length, map, take, drop, set, sym, ap, ◌∙◌, subst, append_assoc, arith}
 use Rattle.std.specs.Prelude.{All}
 use Rattle.std.proofs.lemmas.List.{length-append, length-set}
-use Rattle.mb_queue.specs.Passes.{Taking}
 use Rattle.mb_finish.specs.Rest.{AreRests}
 use Rattle.mb_finish.proofs.RestLemmas.{all-fewer, rests-more, take-set}
 use Rattle.mb_finish.proofs.rest.take_rests.Goals as goal

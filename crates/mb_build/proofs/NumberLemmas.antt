@@ -1,0 +1,23 @@
+-- Numbers in order.
+use Rattle.std.proofs.Common.{◌≡◌, ◌≤◌, ◌<◌, ℕ, zero, suc, ◌+◌, ◌-◌, List, [], ◌∷◌, ◌++◌, map, refl, sym, ap, ◌∙◌, append_assoc, arith}
+use Rattle.std.proofs.lemmas.List.{map-append}
+use Rattle.mb_msg.specs.declared.id.SenderId.{SenderId}
+use Rattle.mb_queue.specs.Made.{numbers_of}
+use Rattle.mb_build.specs.Numbers.{numbers}
+
+pub numbers-more : (first count : ℕ) → numbers first (count + 1) ≡ numbers first count ++ (first + count) ∷ []
+numbers-more first zero = ap (λ n. n ∷ []) (omega arith)
+numbers-more first (suc count) =
+    ap (λ l. first ∷ l) (numbers-more (first + 1) count
+    ∙ ap (λ n. numbers (first + 1) count ++ n ∷ []) (omega arith))
+
+-- one number more
+pub one-number-more : (old now new : List SenderId) (first number : ℕ) → first ≤ number
+    → numbers_of now ≡ numbers_of old ++ numbers first (number - first) → new ≡ now ++ record { 0 = number } ∷ []
+    → numbers_of new ≡ numbers_of old ++ numbers first ((number + 1) - first)
+one-number-more old now new first number le before is =
+    ap numbers_of is ∙ map-append (λ (s : SenderId). s.0) now (record { 0 = number } ∷ [])
+    ∙ ap (λ l. l ++ number ∷ []) before
+    ∙ append_assoc (numbers_of old) (numbers first (number - first)) (number ∷ [])
+    ∙ ap (λ l. numbers_of old ++ l) (ap (λ n. numbers first (number - first) ++ n ∷ []) (omega (arith, le))
+    ∙ sym (numbers-more first (number - first)) ∙ ap (numbers first) (omega (arith, le)))
