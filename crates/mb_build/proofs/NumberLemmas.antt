@@ -5,11 +5,13 @@ use Rattle.mb_msg.specs.declared.id.SenderId.{SenderId}
 use Rattle.mb_queue.specs.Made.{numbers_of}
 use Rattle.mb_build.specs.Numbers.{numbers}
 
-pub numbers-more : (first count : ℕ) → numbers first (count + 1) ≡ numbers first count ++ (first + count) ∷ []
+pub numbers-more : (first count : ℕ) → numbers first (suc count) ≡ numbers first count ++ (first + count) ∷ []
 numbers-more first zero = ap (λ n. n ∷ []) (omega arith)
 numbers-more first (suc count) =
-    ap (λ l. first ∷ l) (numbers-more (first + 1) count
-    ∙ ap (λ n. numbers (first + 1) count ++ n ∷ []) (omega arith))
+    ap (λ l. first ∷ l) (numbers-more (first + 1) count ∙ ap (λ n. numbers (first + 1) count ++ n ∷ []) (omega arith))
+
+shifted : (first number : ℕ) → first ≤ number → suc (number - first) ≡ (number + 1) - first
+shifted first number le = omega (arith, le)
 
 -- one number more
 pub one-number-more : (old now new : List SenderId) (first number : ℕ) → first ≤ number
@@ -20,4 +22,4 @@ one-number-more old now new first number le before is =
     ∙ ap (λ l. l ++ number ∷ []) before
     ∙ append_assoc (numbers_of old) (numbers first (number - first)) (number ∷ [])
     ∙ ap (λ l. numbers_of old ++ l) (ap (λ n. numbers first (number - first) ++ n ∷ []) (omega (arith, le))
-    ∙ sym (numbers-more first (number - first)) ∙ ap (numbers first) (omega (arith, le)))
+    ∙ sym (numbers-more first (number - first)) ∙ ap (numbers first) (shifted first number le))

@@ -5,6 +5,7 @@
 //! threads of their own. At the end all come together, and the report tells what became of each actor and each envelope.
 #![tactic(auto)]
 
+mod boxes;
 mod build;
 mod built;
 mod end;
@@ -23,6 +24,7 @@ mod settled;
 mod system;
 mod work;
 
+pub use boxes::{WholeError, run_boxed, run_whole};
 pub use build::BuildError;
 pub use built::Built;
 pub use end::WorkerEnd;

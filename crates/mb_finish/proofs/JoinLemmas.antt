@@ -1,5 +1,6 @@
 -- Passes that are taken in, one after another.
-use Rattle.std.proofs.Common.{◌≡◌, ℕ, zero, suc, List, [], ◌∷◌, ◌++◌, length, take, drop, refl, sym, ap, ◌∙◌, subst, Option, Some, None}
+use Rattle.std.proofs.Common.{◌≡◌, ℕ, zero, suc, List, [], ◌∷◌, ◌++◌, length}
+use Rattle.std.proofs.Common.{take, drop, refl, sym, ap, ◌∙◌, subst, Option, Some, None}
 use Rattle.std.proofs.lemmas.Option.{none-some}
 use Rattle.std.specs.List.{All}
 use Rattle.std.proofs.lemmas.List.Elements.{All-tail}
@@ -45,7 +46,8 @@ queue-last (x ∷ takes) (q ∷ passes) p more t are was =
     queue-last takes passes p more t rest was
 
 -- one pass less
-pub ways-last : (passes : List Sending) (p : Sending) (more : List Queue) → ways_of (passes ++ p ∷ []) ++ more ≡ ways_of passes ++ p.queue ∷ more
+pub ways-last : (passes : List Sending) (p : Sending) (more : List Queue)
+    → ways_of (passes ++ p ∷ []) ++ more ≡ ways_of passes ++ p.queue ∷ more
 ways-last [] p more = refl
 ways-last (q ∷ passes) p more = ap (λ l. q.queue ∷ l) (ways-last passes p more)
 

@@ -19,11 +19,11 @@ returns-then-plan-eq0 c =
     let good : nat_le plan.senders 16 ≡ true = grind (arith, nat_tests) in
     let bad : (nat_le 1 plan.workers && nat_le plan.workers 16) ≡ false = elim c.then-plan-eq0.branch [
       | then-plan-eq0-via-then-plan-eq0 w ↦
-          (let none = w.if-plan-eq0.true in let no : nat_le 1 plan.workers ≡ false = grind (arith, nat_tests) in
-          ap (λ b. b && nat_le plan.workers 16) no)
+          (let none = w.if-plan-eq0.true in let fails : nat_le 1 plan.workers ≡ false = grind (arith, nat_tests) in
+          ap (λ b. b && nat_le plan.workers 16) fails)
       | then-plan-eq0-via-else-plan-eq0+then-plan-gt-WORKERS w ↦
-          (let many = w.if-plan-gt-WORKERS.true in let no : nat_le plan.workers 16 ≡ false = grind (arith, nat_tests) in
-          second_fails (nat_le 1 plan.workers) (nat_le plan.workers 16) no)
+          (let many = w.if-plan-gt-WORKERS.true in let fails : nat_le plan.workers 16 ≡ false = grind (arith, nat_tests) in
+          second_fails (nat_le 1 plan.workers) (nat_le plan.workers 16) fails)
     ] in
     (
       _,
