@@ -8,7 +8,8 @@ mod listed;
 mod paired;
 mod shown;
 
-use shown::show;
+use paired::Paired;
+use shown::{show, show_gain};
 use std::io;
 
 fn main(rt: HostRuntime) -> io::Result<()> {
@@ -22,9 +23,12 @@ fn main(rt: HostRuntime) -> io::Result<()> {
         "a system message put in, with its part of a drain",
         listed::rounds(&rt, alloc),
     )?;
-    show(
-        &rt,
-        "a won turn, two threads on two actors",
-        paired::turns(&rt, alloc),
-    )
+    let Some(Paired { figure, gains }) = paired::turns(&rt, alloc) else {
+        return show(&rt, PAIRED, None);
+    };
+    show(&rt, PAIRED, Some(figure))?;
+    show_gain(&rt, gains);
+    Ok(())
 }
+
+const PAIRED: &str = "a won turn, two threads on two actors";

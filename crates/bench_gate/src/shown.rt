@@ -27,15 +27,31 @@ pub fn elapsed<R: Clock>(rt: &R, begin: Option<Instant>) -> u64 {
 }
 
 pub fn show<R: Print + Eprint>(rt: &R, what: &str, made: Made) -> io::Result<()> {
-    let Some(Figure { done, mut times }) = made else {
+    let Some(Figure { done, times }) = made else {
         return println!(rt; "{what}: no memory");
     };
     println!(rt; "{what}: {done} done")?;
-    times.sort_unstable();
-    if let Some(median) = times.get(times.len() / 2) {
+    if let Some(median) = median(times) {
         let whole = median / TURNS;
         let tenth = median % TURNS * 10 / TURNS;
         let _ = eprintln!(rt; "{what}: {whole}.{tenth} ns each, the median of {ROUNDS} rounds");
     }
     Ok(())
+}
+
+/// Shows how many times as long two threads took one after the other as at once.
+pub fn show_gain<R: Eprint>(rt: &R, gains: Vec<u64>) {
+    if let Some(median) = median(gains) {
+        let whole = median / 100;
+        let tenth = median % 100 / 10;
+        let hundredth = median % 10;
+        let _ = eprintln!(rt;
+            "two threads took {whole}.{tenth}{hundredth} times as long one after the other, the median of {ROUNDS} rounds"
+        );
+    }
+}
+
+fn median(mut numbers: Vec<u64>) -> Option<u64> {
+    numbers.sort_unstable();
+    numbers.get(numbers.len() / 2).copied()
 }

@@ -229,6 +229,7 @@ module _ {H : Type 0} (is_of : ℕ → H → Type 0) (journal : H → List Entry
     word = status ∙ k.word;
     busy = subst (λ n. (n % 4 ≡ 2) ⊎ (n ≡ 1)) (sym status) k.busy;
     flag = flag ∙ k.flag;
+    out = slot ∙ k.out;
   }
 
   pub still_shelved : (x y : Place) → y.row Gate ≡ x.row Gate → y.slot ListShelf ≡ x.slot ListShelf → y.ghost.listed ≡ x.ghost.listed →

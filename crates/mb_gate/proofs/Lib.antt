@@ -15,7 +15,9 @@ pub mod Rows
 pub mod Starting
 pub mod ListCalls
 pub mod Shows
+pub mod Claimed
 pub mod Leaving
 pub mod RecordLemmas
 pub mod KnownLemmas
 pub mod NamedLemmas
+pub mod Crossing

@@ -343,6 +343,7 @@ module _ {H : Type 0} (is_of : ℕ → H → Type 0) (journal : H → List Entry
             word = h.1.word;
             busy = h.1.busy;
             flag = h.1.flag;
+            out = h.1.out;
           };
           lists = puts_back (list_for actor) vs id v w l at refl (subst (λ o. Locked (list_for actor) o vs) k.0 f.lists);
           shelf = record { there = refl; word = word };

@@ -57,7 +57,7 @@ use Rattle.mb_gate.specs.declared.slot.Slot.{Slot}
 use Rattle.mb_gate.specs.View.{View, Read, Pushed, Drained, Ended, Held, owes}
 use Rattle.mb_gate.specs.Rule.{Word, Status, word_offset, Shelf, slot_offset, Ghost, is_some_item, has_work, claim_for, IsSo, all_numbered, Keeping}
 use Rattle.mb_gate.proofs.Numbers.{each_among}
-use Rattle.mb_gate.specs.Shown.{ShowsClosed, ShowsBalance, ShowsNumbers, holder_of, ShowsMachine}
+use Rattle.mb_gate.specs.Shown.{ShowsClosed, ShowsBalance, ShowsNumbers, holder_of, work_of, ShowsMachine}
 use Rattle.mb_gate.proofs.OneNumber.{one_message, among_part}
 
 valid_possible : (w : ℕ) → IsTrue (is_valid w) → IsTrue (is_possible (mailbox_of w))
@@ -84,16 +84,16 @@ pays_among P actor vs p = let at = place_of (owes actor) vs p.seat p.view (owes 
   p.pays,
 )
 
-work_there : (g : Ghost) (rest : List SysMsg) → (g.gave ≡ false → rest ≡ []) → IsTrue (machine.has_work (Some (rest ++ g.listed.messages))) →
-    IsTrue (has_work g)
-work_there g rest quiet h = cases g.listed.messages g.gave rest quiet h
+work_there : (g : Ghost) (rest : List SysMsg) → (g.gave ≡ false → rest ≡ []) → IsTrue (machine.has_work (work_of g rest)) → IsTrue (has_work g)
+work_there g rest quiet h = cases g.listed.closed g.listed.messages g.gave rest quiet h
   where
-    cases : (ms : List SysMsg) (b : Bool) (r : List SysMsg) → (b ≡ false → r ≡ []) → IsTrue (machine.has_work (Some (r ++ ms))) → IsTrue
-        (is_some_item ms || b)
-    cases (m ∷ ms) b r q k = refl
-    cases [] true r q k = refl
-    cases [] false [] q k = k
-    cases [] false (x ∷ xs) q k = absurd (let no = q refl in cc)
+    cases : (ended : Bool) (ms : List SysMsg) (b : Bool) (r : List SysMsg) → (b ≡ false → r ≡ [])
+        → IsTrue (machine.has_work (if ended then None else Some (r ++ ms))) → IsTrue (is_some_item ms || b)
+    cases true ms b r q k = absurd (cc)
+    cases false (m ∷ ms) b r q k = refl
+    cases false [] true r q k = refl
+    cases false [] false [] q k = k
+    cases false [] false (x ∷ xs) q k = absurd (let no = q refl in cc)
 
 unclosed : (w : ℕ) → (w == 1) ≡ false → w ≢ 1
 unclosed w e one = let t : (w == 1) ≡ true = eq-eqb w 1 one in absurd (cc)

@@ -213,6 +213,7 @@ module _ {H : Type 0} (is_of : ℕ → H → Type 0) (journal : H → List Entry
             busy = inl (omega arith);
             flag = h.1.flag ∙ ap (λ b. if b then 1
                 else 0) (ne_eqb (x.row Status) 1 (λ e. omega arith));
+            out = refl;
           };
           lists = stays_locked (list_for actor) x.ghost.keeper vs id v w at refl f.lists;
           shelf = still_shelved is_of journal mailbox rested given_by closed_to actors actor x y refl refl refl refl x.ghost.keeper f.shelf;
@@ -267,6 +268,7 @@ module _ {H : Type 0} (is_of : ℕ → H → Type 0) (journal : H → List Entry
             busy = busy;
             flag =
                 h.1.flag;
+            out = h.1.out;
           };
           lists = stays_locked (list_for actor) x.ghost.keeper vs id v w at refl f.lists;
           shelf = still_shelved is_of journal mailbox rested given_by closed_to actors actor x y refl refl refl refl x.ghost.keeper f.shelf;

@@ -24,7 +24,7 @@ use Rattle.std.specs.Prelude.{
   None,
   All,
 }
-use mathlib.Core.Option.{some}
+use mathlib.Core.Option.{some, none}
 use Rattle.mb_status.specs.Mailbox.{Mailbox, word_of, is_valid}
 use Rattle.mb_msg.specs.declared.system.SysMsg.{SysMsg}
 use Rattle.mb_syslist.specs.MessageList.{MessageList, numbered}
@@ -205,7 +205,7 @@ module _ {H : Type 0} (is_of : ℕ → H → Type 0) (journal : H → List Entry
     pub flag : x.row Flag ≡ (if x.row Status == 1 then 1 else 0)
     pub rest : (x.row Status ≡ 1) ⊎ (x.ghost.gave ≡ false) → rested home
 
-  -- a claim has it: it knows the word, which says that it is scheduled or closed
+  -- a claim has it: it is not in its slot, and the claim knows the word, which says that it is scheduled or closed
   pub record IsHeld (actor : ℕ) (x : Spot Word Shelf (Slot H) Ghost) (claim : Held) : Type 0 where
     pub own : claim.actor ≡ actor
     pub taken : claim.journal ≡ x.ghost.journal
@@ -215,6 +215,7 @@ module _ {H : Type 0} (is_of : ℕ → H → Type 0) (journal : H → List Entry
     pub word : x.row Status ≡ claim.word
     pub busy : (x.row Status % 4 ≡ 2) ⊎ (x.row Status ≡ 1)
     pub flag : x.row Flag ≡ 0
+    pub out : x.slot CellShelf ≡ some none
 
   abbrev pub Keeping : ℕ → Spot Word Shelf (Slot H) Ghost → Option (ℕ × Held) → Type 0
   Keeping actor x None = IsHome actor x

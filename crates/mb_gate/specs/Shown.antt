@@ -1,10 +1,10 @@
 -- The state of the machine that the table shows of an actor: its words, and all views by what they owe it. The envelopes are no part
 -- of the table.
-use Rattle.std.specs.Prelude.{◌≡◌, ◌↔◌, ◌⊎◌, ℕ, ◌^◌, ◌<◌, ◌≤◌, false, List, [], ◌++◌, length, map, Option, Some, None}
+use Rattle.std.specs.Prelude.{◌≡◌, ◌↔◌, ◌⊎◌, ℕ, ◌^◌, ◌<◌, ◌≤◌, false, if◌then◌else◌, List, [], ◌++◌, length, map, Option, Some, None, IsNone}
 use mathlib.Core.Option.{some}
 use lib.ListN.{get_elem?}
 use Rattle.atomic_table.specs.Table.{State}
-use Rattle.mb_status.specs.Mailbox.{Mailbox, mailbox_of}
+use Rattle.mb_status.specs.Mailbox.{Mailbox, mailbox_of, word_of}
 use Rattle.mb_msg.specs.declared.system.SysMsg.{SysMsg}
 use Rattle.mb_journal.specs.Entry.{Entry}
 use Rattle.mb_core.specs.Actor.{Actor}
@@ -12,23 +12,30 @@ use Rattle.mb_core.specs.Held.{IsHeldRightly, HasPossibleMailbox}
 use Rattle.mb_core.specs.Settled.{IsSettled}
 use Rattle.mb_rule.specs.Layout.{Spot, spot_of}
 use Rattle.mb_rule.specs.Ruled.{Ruled}
+use Rattle.mb_rule.specs.Seen.{Each}
 use Rattle.mb_rule.specs.Shares.{IsWhole}
 use Rattle.mb_gate.specs.declared.slot.Slot.{Slot}
+use Rattle.mb_gate.specs.declared.slot.Slot.TheVariants.{Home}
 use Rattle.mb_gate.specs.View.{View, Sight, Pushed, Drained, Ended, Held, owes, alone, copied, halving, idling, taking_in, taking_over}
 use Rattle.mb_gate.specs.Waiting.{on_by, off_by, IsBalance}
-use Rattle.mb_gate.specs.Rule.{Word, Status, Waiting, word_offset, Shelf, slot_offset, Ghost, IsAmong, Fact}
+use Rattle.mb_gate.specs.Leaves.{IsKept}
+use Rattle.mb_gate.specs.Rule.{Word, Status, Waiting, word_offset, Shelf, CellShelf, slot_offset, Ghost, IsAmong, claim_for, Fact}
 
 abbrev pub holder_of : Option (ℕ × Held) → Option ℕ
 holder_of None = None
 holder_of (Some h) = Some h.0
 
--- the actor of the machine, with this rest of what was drained and is not applied in front of what is listed
+-- the system work: gone where the list is ended, else this rest of what was drained and is not applied, in front of what is listed
+abbrev pub work_of : Ghost → List SysMsg → Option (List SysMsg)
+work_of g rest = if g.listed.closed then None else Some (rest ++ g.listed.messages)
+
+-- the actor of the machine, with this rest of what was drained and is not applied
 abbrev pub shown : {H : Type 0} → ℕ → Spot Word Shelf (Slot H) Ghost → List View → List SysMsg → Actor
 shown actor x vs rest = record {
   mailbox = mailbox_of (x.row Status);
   envelopes = [];
   waiting = x.row Waiting;
-  system = Some (rest ++ x.ghost.listed.messages);
+  system = work_of x.ghost rest;
   holder = holder_of x.ghost.holder;
   owed = map (owes actor) vs;
 }
@@ -42,6 +49,35 @@ ShowsMachine {H} is_of journal mailbox rested given_by closed_to =
     (let x = spot_of word_offset slot_offset s r.ghosts actor in
     (rest : List SysMsg) → (x.ghost.gave ≡ false → rest ≡ []) →
     HasPossibleMailbox (shown actor x s.views rest) × IsHeldRightly (shown actor x s.views rest) × IsSettled (shown actor x s.views rest))
+
+-- the actor's cell is in its slot
+abbrev pub IsAtHome : {H : Type 0} → Spot Word Shelf (Slot H) Ghost → Type 0
+IsAtHome {H} x = (home : H) × (x.slot CellShelf ≡ some (some (Home home)))
+
+-- Who has a claim of an actor holds it, and knows its status word; who holds it has a claim of it; its cell is in its slot exactly where
+-- nobody holds it; and what is in that slot is its own home, whose journal says the word.
+abbrev pub ShowsClaims : {H : Type 0} → (ℕ → H → Type 0) → (H → List Entry) → (H → Mailbox) → (H → Type 0) → (H → ℕ) → (H → List ℕ) → Type 0
+ShowsClaims {H} is_of journal mailbox rested given_by closed_to =
+    (n : ℕ) (s : State (Slot H) View) (r : Ruled word_offset slot_offset n (Fact is_of journal mailbox rested given_by closed_to n) s) (actor : ℕ)
+    → actor < n →
+    (let x = spot_of word_offset slot_offset s r.ghosts actor in
+    ((p : ℕ) (v : View) (claim : Held) → get_elem? s.views p ≡ some v → claim_for actor v ≡ Some claim
+    → (holder_of x.ghost.holder ≡ Some p) × (x.row Status ≡ claim.word))
+    × ((p : ℕ) → holder_of x.ghost.holder ≡ Some p
+    → (v : View) × (claim : Held) × (get_elem? s.views p ≡ some v) × (claim_for actor v ≡ Some claim))
+    × (IsNone (holder_of x.ghost.holder) ↔ IsAtHome x)
+    × ((home : H) → x.slot CellShelf ≡ some (some (Home home)) → is_of actor home × (x.row Status ≡ word_of (mailbox home))))
+
+-- What each seat has seen of an actor is so: the actor is closed if it was seen closed, or its list was ended, and the journal that its cell
+-- has at home, or had as it was taken, goes on from each that was seen.
+abbrev pub ShowsSeen : {H : Type 0} → (ℕ → H → Type 0) → (H → List Entry) → (H → Mailbox) → (H → Type 0) → (H → ℕ) → (H → List ℕ) → Type 0
+ShowsSeen {H} is_of journal mailbox rested given_by closed_to =
+    (n : ℕ) (s : State (Slot H) View) (r : Ruled word_offset slot_offset n (Fact is_of journal mailbox rested given_by closed_to n) s) (actor : ℕ)
+    → actor < n → (p : ℕ) (v : View) → get_elem? s.views p ≡ some v →
+    (let x = spot_of word_offset slot_offset s r.ghosts actor in
+    ((home : H) → x.slot CellShelf ≡ some (some (Home home)) → Each (IsKept actor (journal home) (x.row Status)) v.log)
+    × ((q : ℕ) (w : View) (claim : Held) → get_elem? s.views q ≡ some w → claim_for actor w ≡ Some claim
+    → Each (IsKept actor claim.journal (x.row Status)) v.log))
 
 -- Each actor of which another's home says that it is closed is closed, as that home is in its place or was taken: its word says so.
 abbrev pub ShowsClosed : {H : Type 0} → (ℕ → H → Type 0) → (H → List Entry) → (H → Mailbox) → (H → Type 0) → (H → ℕ) → (H → List ℕ) → Type 0

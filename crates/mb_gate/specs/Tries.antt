@@ -11,7 +11,7 @@ use Rattle.mb_journal.specs.Entry.{Entry}
 use Rattle.mb_gate.specs.View.{View, winning, reading}
 use Rattle.mb_gate.specs.Rule.{is_some_item}
 use Rattle.mb_gate.specs.Claims.{claimed}
-use Rattle.mb_gate.specs.Plays.{GoesOn}
+use Rattle.mb_gate.specs.Plays.{GoesOn, StaysClosed}
 use Rattle.mb_gate.specs.Names.{claim_id, known_of, held_actor, status_of, gave_last, recorded_by}
 use Rattle.mb_gate.specs.declared.claim.Claim.{Claim}
 use Rattle.mb_gate.specs.declared.schedule.Tried.{Tried}
@@ -64,19 +64,23 @@ module _ {H : Type 0} (is_of : ℕ → H → Type 0) (journal : H → List Entry
     pub recorded : recorded_by claim ≡ []
     pub pass : after ≡ winning actor before
 
-  -- What the exchange answers, the pass having known this before it: Got by that exchange; Lost with the word that it found.
+  -- What the exchange answers, the pass having known this before it: Got by that exchange; Lost with the word that it found, which is
+  -- closed if the actor was seen closed.
   abbrev pub IsExchanged : Tried H → Type 0
   IsExchanged (Got claim) = IsGot claim
   IsExchanged (Lost found) = IsFree seen × (word_of found ≢ word_of seen) × (after ≡ reading actor (word_of found) before)
+      × StaysClosed actor (word_of found) before
   IsExchanged _ = ⊥
 
 module _ {H : Type 0} (is_of : ℕ → H → Type 0) (journal : H → List Entry) (mailbox : H → Mailbox) (rested : H → Type 0) (given_by : H
     → ℕ) (closed_to : H → List ℕ) (actor : ℕ) (before after
     : View) (seen : Mailbox) where
   -- What the call answers, having read this status: Got by its own exchange; Already and Closed as it read; Lost with another word that
-  -- its exchange found.
+  -- its exchange found. An actor that was seen closed is closed: it answers neither Already nor Lost with another word than that.
   abbrev pub IsTried : Tried H → Type 0
   IsTried (Got claim) = IsGot is_of journal mailbox rested given_by closed_to actor (reading actor (word_of seen) before) after seen claim
   IsTried Already = (seen.closed ≡ false) × (seen.scheduled ≡ true) × (after ≡ reading actor (word_of seen) before)
+      × StaysClosed actor (word_of seen) before
   IsTried Closed = (seen.closed ≡ true) × (after ≡ reading actor (word_of seen) before)
   IsTried (Lost found) = IsFree seen × (word_of found ≢ word_of seen) × (after ≡ reading actor (word_of found) (reading actor (word_of seen) before))
+      × StaysClosed actor (word_of found) (reading actor (word_of seen) before)

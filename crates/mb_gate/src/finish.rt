@@ -26,9 +26,11 @@ impl<H: Resident> Gates<H> {
             (actors_of self) (known_by pass) result.items }
     {
         let Gates {
+            before: _,
             table,
             actors,
             first: _,
+            after: _,
         } = self;
         let Pass { seat } = pass;
         let mut closed = table.close_with(seat);

@@ -10,11 +10,17 @@ use atomic_table::Table;
 use std::alloc::Global;
 
 /// The status words, cells at home, waiting counts and list gates of some actors. Threads share it.
+///
+/// It has room before and behind: wherever it lies, nothing else lies in one line of a processor's memory with what each
+/// step reads of it, so that no writes beside it slow the steps of other processors.
 #[derive(Drop)]
+#[repr(C)]
 pub struct Gates<H: Resident> {
+    pub(crate) before: [u64; 8],
     pub(crate) table: Table<Slot<H>, Knowledge, Key<H>, Law<H>, Global>,
     pub(crate) actors: usize,
     pub(crate) first: Slot<H>,
+    pub(crate) after: [u64; 8],
     ghost wide: { table.shared.table_id.words ≡ 16 * actors },
     ghost deep: { table.shared.table_id.slots ≡ 2 * actors },
     ghost keyed: { table.shared.key.actors ≡ actors },

@@ -145,7 +145,8 @@ impl<H: Resident> Gates<H> {
         self.table.shared.join_seat::<TakeIn>(seat, pass);
     }
 
-    // Puts the cell into its slot, which no other seat can see before the next step.
+    // Puts the cell into its slot, which no other seat can see before the next step. The slot is empty, so that nothing is
+    // dropped; nor is it read, since a read would wait for the write that emptied it.
     fn lay(&self, seat: &mut Seat<Slot<H>, Knowledge>, actor: ActorId, home: H)
         requires ours { seat.old.table_id ≡ gates_id self.now }
         requires there { actor.0 < actors_of self.now }
@@ -154,10 +155,7 @@ impl<H: Resident> Gates<H> {
         ensures carries { seat.new.me ≡ (seat.old.me.0, (slot_at actor.0 0, Home home) ∷ []) }
     {
         let slot = slot_index(actor, CELL);
-        match self.table.shared.exchange(seat, slot, Slot::Home(home)) {
-            Slot::Empty => {}
-            _ => unreachable!(),
-        }
+        mem::forget(self.table.shared.exchange(seat, slot, Slot::Home(home)));
     }
 
     // The step that shows that the cell is at home: on the status word, or of a closed actor on the flag beside it.

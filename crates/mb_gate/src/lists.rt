@@ -26,7 +26,7 @@ use atomic_table::Seat;
 use mb_msg::{ActorId, SysMsg};
 use mb_syslist::{Chain, ListClosed, Node, SysList};
 use std::sync::Wait;
-use std::thread;
+use std::{mem, thread};
 
 // Something is listed.
 fn with_listed_bit(word: u64) -> u64
@@ -162,7 +162,8 @@ impl<H: Resident> Gates<H> {
         unreachable!()
     }
 
-    // Puts the list that is out into its slot, which no other seat can see before the next step.
+    // Puts the list that is out into its slot, which no other seat can see before the next step. The slot is empty, so that
+    // nothing is dropped; nor is it read, since a read would wait for the write that emptied it.
     fn lay_list(&self, seat: &mut Seat<Slot<H>, Knowledge>, id: ActorId, list: SysList)
         requires ours { seat.old.table_id ≡ gates_id self.now }
         requires there { id.0 < actors_of self.now }
@@ -171,10 +172,7 @@ impl<H: Resident> Gates<H> {
         ensures carries { seat.new.me ≡ (seat.old.me.0, (slot_at id.0 1, List list) ∷ rest seat.old.me.1) }
     {
         let slot = slot_index(id, LIST);
-        match self.table.shared.exchange(seat, slot, Slot::List(list)) {
-            Slot::Empty => {}
-            _ => unreachable!(),
-        }
+        mem::forget(self.table.shared.exchange(seat, slot, Slot::List(list)));
     }
 
     /// Puts a node last into the actor's list, and says so (`systemEnqueue`). It answers the message's number: how many were
@@ -324,6 +322,7 @@ impl<H: Resident> Gates<H> {
     /// numbers, which go on from how many were given before (`systemDrain`). Each names actors of these gates alone. It
     /// takes no memory, and may wait for the list's gate; a drain of an empty list, where the last drain gave nothing, is
     /// one load.
+    #[inline]
     pub fn sys_drain<R: Wait>(&self, rt: &R, claim: &mut Claim<H>) -> Chain
         requires ours { claim_id claim.old ≡ gates_id self.now }
         requires there { held_actor claim.old < actors_of self.now }
@@ -341,8 +340,28 @@ impl<H: Resident> Gates<H> {
         if self.is_drained(&mut claim.seat, claim.actor) {
             return Chain::new();
         }
-        let (word, list) = self.grip(rt, &mut claim.seat, claim.actor);
-        self.drain_list(&mut claim.seat, claim.actor, word, list)
+        self.drain_listed(rt, &mut claim.seat, claim.actor)
+    }
+
+    // Takes the list out, and all out of it. It stands apart, so that a drain of an empty list is short where it is called.
+    #[inline(never)]
+    fn drain_listed<R: Wait>(
+        &self,
+        rt: &R,
+        seat: &mut Seat<Slot<H>, Knowledge>,
+        id: ActorId,
+    ) -> Chain
+        requires ours { seat.old.table_id ≡ gates_id self.now }
+        requires there { id.0 < actors_of self.now }
+        requires no_list { seat.old.me.0.list ≡ None }
+        requires holder { HasClaim id.0 seat.old.me }
+        ensures ours { seat.new.table_id ≡ seat.old.table_id }
+        ensures drained { seat.new.me ≡ (draining id.0 result (is_some_item result) seat.old.me.0, seat.old.me.1) }
+        ensures numbers { IsNumberedFrom (held_in seat.old.me.0).given result }
+        ensures named { EachNamesBelow (actors_of self.now) result }
+    {
+        let (word, list) = self.grip(rt, seat, id);
+        self.drain_list(seat, id, word, list)
     }
 
     /// Takes out all that is listed, as `sys_drain`, and ends the list for good (`systemDrain` that leaves no list): the

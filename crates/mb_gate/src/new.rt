@@ -51,9 +51,11 @@ impl<H: Resident> Gates<H> {
         match Table::new(alloc, &words, slots, &key) {
             Ok((table, seat)) => Ok((
                 Gates {
+                    before: [0; 8],
                     table,
                     actors,
                     first,
+                    after: [0; 8],
                 },
                 Pass { seat },
             )),

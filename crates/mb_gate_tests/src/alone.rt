@@ -1,11 +1,9 @@
 //! One thread.
-use crate::desk::{Desk, GUARDIAN};
+use crate::desk::GUARDIAN;
 use crate::single::Single;
 use crate::tally::NOTHING;
 use crate::tries::Miss;
-use mb_gate::{Gates, NoGates};
 use mb_msg::{Cause, SysMsg};
-use mb_status::Status;
 use std::test::Fail;
 
 #[test]
@@ -104,23 +102,4 @@ fn suspensions_are_counted(rt: HostRuntime) -> Result<(), Fail> {
     let mut single = holding.give();
     assert_eq!(rt; single.word(), 8);
     Ok(())
-}
-
-#[test]
-fn a_refused_allocation_gives_the_homes_back(rt: HostRuntime) -> Result<(), Fail> {
-    let alloc = rt.alloc();
-    let status = Status::of(4).ok_or("a valid word")?;
-    let mut desks = Vec::with_capacity(alloc, 1)?;
-    desks.push_reserved(Desk {
-        actor: 0,
-        status,
-        given: 0,
-    });
-    match Gates::new(alloc, desks) {
-        Ok(_) => Ok(()),
-        Err(NoGates { homes }) => {
-            assert_eq!(rt; homes.len(), 1);
-            Err(Fail::from("no memory"))
-        }
-    }
 }

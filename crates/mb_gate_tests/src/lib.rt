@@ -1,4 +1,5 @@
-//! The tests of the gates: one thread, two that contend for an actor, and one that holds it while two send.
+//! The tests of the gates: one thread, two that contend for an actor, one that holds it while two send, and claims that go by a
+//! queue to other threads.
 #![tactic(auto)]
 
 #[cfg(test)]
@@ -10,7 +11,11 @@ mod contend;
 #[cfg(test)]
 mod desk;
 #[cfg(test)]
+mod errand;
+#[cfg(test)]
 mod holding;
+#[cfg(test)]
+mod refused;
 #[cfg(test)]
 mod shift;
 #[cfg(test)]

@@ -1,6 +1,7 @@
 pub mod Alike
 pub mod Begins
 pub mod Closing
+pub mod Crossing
 pub mod Emptying
 pub mod Ending
 pub mod Gathering

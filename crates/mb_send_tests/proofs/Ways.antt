@@ -1,5 +1,5 @@
 -- Two unused ways of a sender into queues.
-use Rattle.std.proofs.Common.{◌≡◌, ℕ, zero, suc, List, [], ◌∷◌, Some, slice_get, refl, sym, ap, ◌∙◌, subst}
+use Rattle.std.proofs.Common.{◌≡◌, ℕ, zero, suc, [], ◌∷◌, subst}
 use Rattle.std.proofs.lemmas.Option.{none-some, same_Some}
 use Rattle.mb_queue.specs.Passes.{Sending}
 use Rattle.mb_send.specs.Sends.{AreRoutes, IsRoute}

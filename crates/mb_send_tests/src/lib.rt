@@ -1,5 +1,6 @@
 //! The tests of waking and sending from outside, with ample memory: what `register`, `pay`, `look`, `put`, `tell` and `stop`
-//! answer, and what stands then in the pool, among those that are owed a look, and in the sender's book.
+//! answer, and what stands then in the pool, among those that are owed a look, and in the sender's book. A story is text, a
+//! step and its answer in each line.
 #![tactic(auto)]
 
 #[cfg(test)]
@@ -16,3 +17,5 @@ mod seat;
 mod sending;
 #[cfg(test)]
 mod waking;
+#[cfg(test)]
+mod words;

@@ -14,7 +14,7 @@ use Rattle.mb_gate.specs.View.{Sight, Said}
 use Rattle.mb_home.specs.Contents.{Contents}
 use Rattle.mb_gate.specs.Untouched.{Origin}
 use Rattle.mb_turn.specs.Hold.{Hold, hold_of}
-use Rattle.mb_turn.specs.Notice.{IsAnswered, IsNotified, asker}
+use Rattle.mb_turn.specs.Notice.{IsAnswered, asker}
 use Rattle.mb_turn.specs.Running.{IsRunning}
 use Rattle.mb_turn.proofs.HoldLemmas.{hold-recorded}
 use Rattle.mb_turn.proofs.RunningSteps.{running-answered, running-dropped}
@@ -35,7 +35,8 @@ asker-told actor (system.Unwatch w) = refl
 asker-told actor (system.Failed x c) = refl
 asker-told actor (system.Died x) = refl
 
-module _ (gives : ℕ → Moment → Reply → Type 0) (origin : Origin (Box Contents)) (seen : List Sight) (rest : List Act) (to : ActorId) (message : SysMsg)
+module _ (gives : ℕ → Moment → Reply → Type 0) (origin : Origin (Box Contents)) (seen : List Sight) (rest : List Act) (to : ActorId)
+    (message : SysMsg)
     (c mid new : Claim (Box Contents)) (r : IsRunning gives origin (Sys to message ∷ rest) seen (hold_of c))
     (said : IsRecorded c mid (record { to = to.0; message = message; was_ended = true })) where
   refused : hold_of mid ≡ record (hold_of c) { recorded = (hold_of c).recorded ++ record { to = to.0; message = message; was_ended = true } ∷ [] }

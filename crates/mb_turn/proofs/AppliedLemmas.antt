@@ -1,19 +1,18 @@
 -- What a system message that was applied makes of a run, with the acts that it asks for carried out.
-use Rattle.std.proofs.Common.{◌≡◌, ◌⊎◌, inl, inr, ℕ, ◌+◌, ◌<◌, ◌≤◌, ◌^◌, Bool, false, List, [], length, refl, sym, ap, ◌∙◌, subst, arith}
+use Rattle.std.proofs.Common.{◌≡◌, ℕ, ◌<◌, ◌^◌, Bool, List, [], refl, sym, ap, ◌∙◌, subst, arith}
 use Rattle.std.specs.Prelude.{Result, Ok, Err, OnErr, IsErrOf}
 use Rattle.std.specs.Global.{Box}
 use Rattle.mb_actor.specs.Behaviour.{Moment, Reply}
 use Rattle.mb_journal.specs.Acts.{Act}
 use Rattle.mb_journal.specs.declared.error.ReadyError.{ReadyError}
 use Rattle.mb_journal.specs.declared.error.ReadyError.TheVariants.{JournalFull, NoMemory}
-use Rattle.mb_cell.specs.Seen.{Seen}
 use Rattle.mb_gate.specs.Untouched.{Origin}
 use Rattle.mb_gate.specs.View.{Sight}
 use Rattle.mb_home.specs.Contents.{Contents}
 use Rattle.mb_home.specs.Settled.{IsSettled}
 use Rattle.mb_turn.specs.declared.turn.Turn.{Turn}
 use Rattle.mb_turn.specs.Hold.{Hold}
-use Rattle.mb_turn.specs.Ran.{IsTurning, systems_in}
+use Rattle.mb_turn.specs.Ran.{IsTurning}
 use Rattle.mb_turn.specs.Running.{IsRunning, IsBeside, KeepsJournal, SameRun}
 use Rattle.mb_turn.proofs.BesideLemmas.{beside-home}
 use Rattle.mb_turn.proofs.RunningSteps.{running-same}
@@ -51,8 +50,8 @@ module _ (h : Hold) (new : Contents) (ready : Bool) (room : ℕ)
   beside-ready s = beside-home h s new who journal (ap (λ (x : Contents). x.rest) same) (ap (λ (x : Contents). x.dropped) same)
 
   module _ (gives : ℕ → Moment → Reply → Type 0) (origin : Origin (Box Contents)) (seen : List Sight) (r : IsRunning gives origin [] seen h) where
-    pub running-ready : ((pending : List Act) → IsSettled (gives h.home.cell.who.this.0) pending h.home → IsSettled (gives new.cell.who.this.0) pending
-        new) → IsRunning gives origin [] seen (record h { home = new })
+    pub running-ready : ((pending : List Act) → IsSettled (gives h.home.cell.who.this.0) pending h.home →
+        IsSettled (gives new.cell.who.this.0) pending new) → IsRunning gives origin [] seen (record h { home = new })
     running-ready settled =
         let at_home : IsSettled (gives h.home.cell.who.this.0) [] h.home = subst (λ n. IsSettled (gives n) [] h.home) (sym r.number) r.settled in
         let here : new.cell.who.this.0 ≡ h.actor = ap (λ (x : Contents). x.cell.who.this.0) same ∙ r.number in

@@ -1,10 +1,8 @@
 -- What lies beside a cell stays right where neither it nor the journal changes.
-use Rattle.std.proofs.Common.{◌≡◌, ℕ, ◌+◌, ◌%◌, ◌^◌, Bool, true, false, List, [], length, refl, sym, ap, ◌∙◌, subst}
-use Rattle.std.specs.Prelude.{MatchBool, if◌then◌else◌}
+use Rattle.std.proofs.Common.{◌≡◌, ◌+◌, ◌%◌, ◌^◌, Bool, true, false, List, [], length, refl, sym, ◌∙◌, subst}
+use Rattle.std.specs.Prelude.{MatchBool}
 use Rattle.mb_status.specs.Mailbox.{Mailbox}
 use Rattle.mb_journal.specs.Aside.{next_front, next_number}
-use Rattle.mb_journal.specs.Entry.{Entry}
-use Rattle.mb_journal.specs.Identity.{Identity}
 use Rattle.mb_gate.specs.View.{Said, Sight}
 use Rattle.mb_home.specs.AtHome.{given_of}
 use Rattle.mb_home.specs.Contents.{Contents}

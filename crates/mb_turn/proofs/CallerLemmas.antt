@@ -1,9 +1,7 @@
 -- What a run leaves with its caller, step after step.
 use Rattle.std.proofs.Common.{◌≡◌, ◌≢◌, ◌==◌, ◌||◌, ◌⊎◌, inl, inr, ℕ, Bool, true, false, List, [], ◌∷◌, ◌++◌}
 use Rattle.std.proofs.Common.{refl, sym, ap, ◌∙◌, subst, arith, append_assoc, append-nil}
-use Rattle.std.specs.Prelude.{MatchBool}
 use Rattle.std.proofs.lemmas.Bool.Decides.{nat_tests}
-use Rattle.mb_core.specs.Actor.{nothing}
 use Rattle.mb_gate.specs.declared.claim.Claim.{Claim}
 use Rattle.mb_gate.specs.Names.{held_actor}
 use Rattle.mb_gate.specs.Rule.{IsAmong}
@@ -11,7 +9,7 @@ use Rattle.mb_gate.specs.View.{View, Sight, Said, owes}
 use Rattle.mb_gate.proofs.Numbers.{among_first, among_left, among_right}
 use Rattle.mb_wake.specs.Owed.{is_owed}
 use Rattle.mb_wake.specs.Views.{Does}
-use Rattle.mb_wake.specs.Waking.{Account, Went, WasRefused, IsWoken}
+use Rattle.mb_wake.specs.Waking.{Account, WasRefused, IsWoken}
 use Rattle.mb_wake.proofs.Bits.{same_or_other}
 use Rattle.mb_turn.specs.Caller.{Caller, OwesForRefusals, IsPaid, GoesFurther}
 

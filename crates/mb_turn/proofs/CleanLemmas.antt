@@ -1,5 +1,5 @@
 -- What a clean-up makes of a run, step by step.
-use Rattle.std.proofs.Common.{◌≡◌, ◌⊎◌, inl, inr, ℕ, suc, ◌+◌, ◌%◌, ◌^◌, true, List, [], ◌∷◌, ◌++◌, length, Option, Some, None}
+use Rattle.std.proofs.Common.{◌≡◌, ◌⊎◌, ℕ, suc, ◌+◌, ◌%◌, ◌^◌, true, List, ◌∷◌, length, Option, Some, None}
 use Rattle.std.proofs.Common.{refl, sym, ap, ◌∙◌, subst, arith}
 use Rattle.std.proofs.Math.Nat.{mod-add-mod}
 use Rattle.std.specs.Global.{Box}
@@ -10,20 +10,19 @@ use Rattle.mb_journal.specs.Acts.{Act}
 use Rattle.mb_journal.specs.Aside.{next_number}
 use Rattle.mb_journal.specs.Life.{closed}
 use Rattle.mb_cell.specs.Seen.{Seen}
-use Rattle.mb_gate.specs.Claims.{held_in}
 use Rattle.mb_gate.specs.declared.claim.Claim.{Claim}
 use Rattle.mb_gate.specs.Names.{claim_id, known_of, held_actor, status_of, taken_with, closed_with, gave_last, given_to, recorded_by}
 use Rattle.mb_gate.specs.Names.{IsRecorded, SameTaken}
 use Rattle.mb_gate.specs.Record.{notice}
 use Rattle.mb_gate.specs.Untouched.{Origin}
-use Rattle.mb_gate.specs.View.{View, Sight, Said, Took, Ended, counting_off, ending, given_after}
+use Rattle.mb_gate.specs.View.{Sight, Said, Took, Ended, counting_off, ending, given_after}
 use Rattle.mb_gate.proofs.Numbers.{among_first, among_more}
 use Rattle.mb_home.specs.AtHome.{given_of, mailbox_at}
 use Rattle.mb_home.specs.Contents.{Contents}
 use Rattle.mb_home.specs.Settled.{IsSettled}
 use Rattle.mb_turn.specs.Dry.{DrainedLast, WasEnded}
 use Rattle.mb_turn.specs.Hold.{Hold, hold_of}
-use Rattle.mb_turn.specs.Notice.{IsAnswered, IsNotified}
+use Rattle.mb_turn.specs.Notice.{IsAnswered}
 use Rattle.mb_turn.specs.Running.{IsRunning, KeepsJournal}
 use Rattle.mb_turn.proofs.HoldLemmas.{hold-taken, hold-ended, hold-recorded}
 use Rattle.mb_turn.proofs.LeadLemmas.{leads-closed}

@@ -1,6 +1,6 @@
 -- What a drain makes of a run.
 use Rattle.std.proofs.Common.{◌≡◌, ℕ, Bool, true, false, List, [], ◌∷◌, refl, sym, ap, ◌∙◌, subst}
-use Rattle.std.specs.Prelude.{not, IsTrue, MatchBool, None}
+use Rattle.std.specs.Prelude.{not, IsTrue, MatchBool}
 use Rattle.std.specs.Global.{Box}
 use Rattle.mb_msg.specs.declared.system.SysMsg.{SysMsg}
 use Rattle.mb_actor.specs.Behaviour.{Moment, Reply}

@@ -1,10 +1,9 @@
 -- Why a run takes no envelope more, and what one that was taken makes of it.
-use Rattle.std.proofs.Common.{◌≡◌, ◌⊎◌, inl, inr, ℕ, ◌*◌, ◌+◌, ◌<◌, Bool, true, false, List, [], ◌∷◌, refl, sym, ap, ◌∙◌, subst}
-use Rattle.std.specs.Prelude.{None, not, nat_lt, ◌&&◌}
+use Rattle.std.proofs.Common.{◌≡◌, ◌⊎◌, inl, inr, ℕ, ◌*◌, ◌<◌, Bool, true, false, List, [], ◌∷◌, refl, sym, ap, ◌∙◌, subst}
+use Rattle.std.specs.Prelude.{not, nat_lt, ◌&&◌}
 use Rattle.std.specs.Global.{Box}
-use Rattle.mb_status.specs.Mailbox.{Mailbox, word_of, should_process}
+use Rattle.mb_status.specs.Mailbox.{word_of, should_process}
 use Rattle.mb_actor.specs.Behaviour.{Moment, Reply}
-use Rattle.mb_journal.specs.Acts.{Act}
 use Rattle.mb_journal.specs.Aside.{next_front}
 use Rattle.mb_journal.specs.Run.{Stopped, IsReason, most_envelopes}
 use Rattle.mb_journal.specs.Run.Stopped.{UsedUp, NotOpen, NoEnvelope, AtClosing, NoRoom}
@@ -99,8 +98,8 @@ reason-why h throughput n less w = by_reason w.0 w.1 w.2
     by_reason : (stopped : Stopped) → IsEnough h.home.cell.who h.home.cell.journal stopped → EndsDrained h.actor h.log stopped →
         (s : Stopped) × HadRoom s × EndsDrained h.actor h.log s × IsReason h.home.cell.who throughput n h.home.cell.journal s
     by_reason UsedUp enough ends = absurd enough
-    by_reason (NotOpen word) enough ends = (NotOpen word, tt, ends, less, enough.0, enough.1)
-    by_reason (NoEnvelope word) enough ends = (NoEnvelope word, tt, ends, less, enough.0, enough.1)
+    by_reason (NotOpen word) enough ends = (NotOpen word, tt, ends, (less, enough.0, enough.1))
+    by_reason (NoEnvelope word) enough ends = (NoEnvelope word, tt, ends, (less, enough.0, enough.1))
     by_reason AtClosing enough ends = (AtClosing, tt, ends, enough)
     by_reason NoRoom enough ends = absurd enough
 
@@ -109,7 +108,7 @@ pub reason-used : (gives : ℕ → Moment → Reply → Type 0) (origin : Origin
     IsRunning gives origin [] seen h → n ≡ most_envelopes throughput → (h.status.closed ≡ true) ⊎ IsDrained h →
     (stopped : Stopped) × HadRoom stopped × EndsDrained h.actor h.log stopped × IsReason h.home.cell.who throughput n h.home.cell.journal stopped
 reason-used gives origin seen h throughput n r all (inl shut) = (AtClosing, tt, tt, ended-closed gives origin seen h [] shut r)
-reason-used gives origin seen h throughput n r all (inr drained) = (UsedUp, tt, drained.last, all, drained.none)
+reason-used gives origin seen h throughput n r all (inr drained) = (UsedUp, tt, drained.last, (all, drained.none))
 
 -- an envelope was counted as taken
 pub beside-counted : (c new : Claim (Box Contents)) (ours : (claim_id new ≡ claim_id c) × (held_actor new ≡ held_actor c)) (home : new.home ≡ c.home)

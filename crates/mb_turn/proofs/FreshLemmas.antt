@@ -1,9 +1,8 @@
 -- A claim that was just taken is a run's to begin with.
-use Rattle.std.proofs.Common.{◌≡◌, inl, ℕ, ◌+◌, true, false, List, [], ◌∷◌, length, Some, refl, sym, ap, ◌∙◌, subst, arith}
+use Rattle.std.proofs.Common.{◌≡◌, inl, ℕ, false, List, [], ◌∷◌, length, Some, refl, sym, ap, ◌∙◌, subst, arith}
 use Rattle.std.specs.Prelude.{MatchBool}
 use Rattle.std.specs.Global.{Box}
 use Rattle.mb_actor.specs.Behaviour.{Moment, Reply}
-use Rattle.mb_journal.specs.Entry.{Entry}
 use Rattle.mb_journal.specs.Run.{IsTurns}
 use Rattle.mb_journal.specs.Run.IsBlock.{no_more}
 use Rattle.mb_journal.specs.Run.IsTurns.{a_block}
@@ -23,7 +22,7 @@ use Rattle.mb_home.proofs.CarryLemmas.{same-word}
 use Rattle.mb_turn.specs.declared.turn.Turn.{Turn}
 use Rattle.mb_turn.specs.Fresh.{IsFreshClaim}
 use Rattle.mb_turn.specs.Hold.{Hold, hold_of}
-use Rattle.mb_turn.specs.Ran.{IsTurning, systems_in}
+use Rattle.mb_turn.specs.Ran.{IsTurning}
 use Rattle.mb_turn.specs.Running.{IsRunning, IsBeside, IsShutTo}
 use Rattle.mb_turn.proofs.ToldLemmas.{told-first}
 

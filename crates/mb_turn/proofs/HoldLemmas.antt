@@ -1,5 +1,5 @@
 -- What the gates' calls change of a claim, as the run sees it.
-use Rattle.std.proofs.Common.{◌≡◌, ℕ, Bool, List, [], ◌∷◌, ◌++◌, refl}
+use Rattle.std.proofs.Common.{◌≡◌, ℕ, Bool, List, [], ◌∷◌, ◌++◌}
 use Rattle.std.specs.Global.{Box}
 use Rattle.mb_msg.specs.declared.system.SysMsg.{SysMsg}
 use Rattle.mb_gate.specs.Claims.{held_in}
@@ -8,7 +8,7 @@ use Rattle.mb_gate.specs.Names.{claim_id, known_of, held_actor, status_of, taken
 use Rattle.mb_gate.specs.Names.{IsRecorded, SameTaken}
 use Rattle.mb_gate.specs.View.{Said, Took, Drained, Ended, writing, counting_off, draining, ending, given_after}
 use Rattle.mb_home.specs.Contents.{Contents}
-use Rattle.mb_turn.specs.Hold.{Hold, hold_of}
+use Rattle.mb_turn.specs.Hold.{hold_of}
 
 module _ (c new : Claim (Box Contents)) (ours : (claim_id new ≡ claim_id c) × (held_actor new ≡ held_actor c)) (home : new.home ≡ c.home) where
   -- the status was written

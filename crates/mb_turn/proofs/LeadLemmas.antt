@@ -1,7 +1,7 @@
 -- Acts that are carried out on a closed mailbox leave it closed.
 use Rattle.std.proofs.Common.{◌≡◌, ◌+◌, true, List, [], ◌∷◌, refl, sym, ap, ◌∙◌}
 use Rattle.std.specs.Prelude.{if◌then◌else◌}
-use Rattle.mb_status.specs.Mailbox.{Mailbox, idle, suspend, resume, the_closed}
+use Rattle.mb_status.specs.Mailbox.{Mailbox, suspend, resume, the_closed}
 use Rattle.mb_journal.specs.Acts.{Act}
 use Rattle.mb_journal.specs.Acts.Act.{Tell, Sys, SuspendSelf, ResumeSelf, CloseSelf}
 use Rattle.mb_home.specs.Carried.{Leads, mailbox_after}

@@ -1,9 +1,9 @@
 -- What a status says of its journal between two messages.
-use Rattle.std.proofs.Common.{◌≡◌, ◌⊎◌, inl, inr, ℕ, suc, zero, ◌*◌, ◌+◌, ◌<◌, ◌≤◌, ◌^◌, ◌==◌, Bool, true, false, List, refl, sym, ap, ◌∙◌, subst}
+use Rattle.std.proofs.Common.{◌≡◌, ℕ, ◌*◌, ◌<◌, ◌^◌, Bool, true, false, List, refl, sym, ap, ◌∙◌, subst}
 use Rattle.std.proofs.Common.{arith}
-use Rattle.std.specs.Prelude.{IsTrue, IsFalse, not, nat_lt, ◌&&◌, if◌then◌else◌}
+use Rattle.std.specs.Prelude.{IsTrue, not, nat_lt, ◌&&◌}
 use Rattle.std.proofs.lemmas.Bool.Decides.{nat_tests}
-use Rattle.mb_status.specs.Mailbox.{Mailbox, word_of, mailbox_of, idle, should_process, is_valid, most_suspensions}
+use Rattle.mb_status.specs.Mailbox.{Mailbox, word_of, mailbox_of, idle, should_process, is_valid}
 use Rattle.mb_actor.specs.Behaviour.{Moment, Reply}
 use Rattle.mb_journal.specs.Entry.{Entry}
 use Rattle.mb_journal.specs.Identity.{Identity}

@@ -1,19 +1,17 @@
 -- What holds of a claim in its run holds after a message was taken.
-use Rattle.std.proofs.Common.{◌≡◌, ◌⊎◌, inl, inr, ℕ, ◌<◌, true, false, List, [], ◌∷◌, length, Option, Some, None}
-use Rattle.std.proofs.Common.{refl, sym, ap, ◌∙◌, subst}
-use Rattle.std.specs.Prelude.{MatchBool, IfSome, IsSome}
+use Rattle.std.proofs.Common.{◌≡◌, inl, inr, ℕ, false, List, [], Option}
+use Rattle.std.proofs.Common.{sym, ap, ◌∙◌, subst}
+use Rattle.std.specs.Prelude.{MatchBool, IsSome}
 use Rattle.std.specs.Global.{Box}
 use Rattle.mb_status.specs.Mailbox.{Mailbox, idle}
 use Rattle.mb_msg.specs.declared.system.SysMsg.{SysMsg}
 use Rattle.mb_actor.specs.Behaviour.{Moment, Reply}
-use Rattle.mb_journal.specs.Acts.{Act}
-use Rattle.mb_journal.specs.Aside.{next_front}
 use Rattle.mb_journal.specs.Entry.{Entry}
 use Rattle.mb_journal.specs.Entry.Entry.{System}
 use Rattle.mb_journal.specs.Life.{closed}
 use Rattle.mb_journal.specs.Suspension.{count}
 use Rattle.mb_rule.specs.Seen.{Each}
-use Rattle.mb_gate.specs.View.{Sight, Said}
+use Rattle.mb_gate.specs.View.{Sight}
 use Rattle.mb_cell.specs.Seen.{Seen, with_entry}
 use Rattle.mb_home.specs.AtHome.{closed_receivers, given_of, mailbox_at}
 use Rattle.mb_home.specs.Carried.{Leads, LeadsOn}
@@ -81,7 +79,7 @@ module _ (gives : ℕ → Moment → Reply → Type 0) (origin : Origin (Box Con
     open_rest = subst (λ b. MatchBool b (h.home.rest ≡ []) (h.gave ≡ false → IsRested h.home)) not_closed s.rest
 
     none-next : IsRested h.home → HasNext h.home → IsRested new
-    none-next rested (inl some) = absurd (subst (λ (x : Option (ℕ × SysMsg)). IsSome x) rested.no_front some)
+    none-next rested (inl some) = absurd (cc (subst (λ (x : Option (ℕ × SysMsg)). IsSome x) rested.no_front some))
     none-next rested (inr left) = absurd (left rested.no_rest)
 
     beside-open : given_of new ≡ h.given → (h.gave ≡ false → IsRested new) → IsBeside (record h { home = new })

@@ -1,9 +1,9 @@
 -- What holds of a claim in its run holds after each step.
-use Rattle.std.proofs.Common.{◌≡◌, ◌⊎◌, ℕ, ◌+◌, ◌<◌, Bool, true, false, List, [], ◌∷◌, ◌++◌, length, Some, None}
+use Rattle.std.proofs.Common.{◌≡◌, ◌⊎◌, ℕ, ◌+◌, ◌<◌, Bool, true, false, List, [], ◌∷◌, ◌++◌, Some, None}
 use Rattle.std.proofs.Common.{refl, sym, ap, ◌∙◌, subst}
-use Rattle.std.specs.Prelude.{if◌then◌else◌, IfSome}
+use Rattle.std.specs.Prelude.{if◌then◌else◌}
 use Rattle.std.specs.Global.{Box}
-use Rattle.mb_status.specs.Mailbox.{Mailbox, most_suspensions, idle, suspend, resume, the_closed}
+use Rattle.mb_status.specs.Mailbox.{Mailbox, most_suspensions, suspend, resume, the_closed}
 use Rattle.mb_msg.specs.declared.envelope.Body.{Body}
 use Rattle.mb_msg.specs.declared.id.ActorId.{ActorId}
 use Rattle.mb_msg.specs.declared.system.SysMsg.{SysMsg}
@@ -14,7 +14,7 @@ use Rattle.mb_journal.specs.Entry.{Entry}
 use Rattle.mb_journal.specs.Identity.{Identity}
 use Rattle.mb_rule.specs.Seen.{Each}
 use Rattle.mb_gate.specs.Named.{EachNamesBelow}
-use Rattle.mb_gate.specs.Record.{answered_to, messages_of, notice}
+use Rattle.mb_gate.specs.Record.{answered_to, notice}
 use Rattle.mb_gate.specs.View.{Sight, Said, Took, Drained, Ended}
 use Rattle.mb_cell.specs.Seen.{Seen}
 use Rattle.mb_home.specs.AtHome.{closed_receivers, mailbox_at}
@@ -178,7 +178,8 @@ module _ (gives : ℕ → Moment → Reply → Type 0) (origin : Origin (Box Con
         (told-close h.home.cell.who h.actor h.before h.home.cell.journal rest h.recorded h.status.closed r.told) r.sends
 
     -- something was said
-    running-recorded : (pending left : List Act) (recorded : List Said) → IsRunning gives origin pending seen h → IsSettled (gives h.actor) left h.home →
+    running-recorded : (pending left : List Act) (recorded : List Said) → IsRunning gives origin pending seen h →
+        IsSettled (gives h.actor) left h.home →
         Leads h.status left (mailbox_at h.home.cell.who h.home.cell.journal) →
         IsSaidBut h.home.cell.who h.actor h.status.closed h.home.cell.journal h.before left recorded → SendsBelow origin.actors left →
         IsRunning gives origin left seen (record h { recorded = recorded })

@@ -1,7 +1,7 @@
 -- What a status that was written makes of a run.
-use Rattle.std.proofs.Common.{◌≡◌, ℕ, ◌<◌, true, List, ◌∷◌, refl, sym, ap, ◌∙◌, subst}
+use Rattle.std.proofs.Common.{◌≡◌, ℕ, List, ◌∷◌, refl, sym, ap, ◌∙◌, subst}
 use Rattle.std.specs.Global.{Box}
-use Rattle.mb_status.specs.Mailbox.{Mailbox, most_suspensions, suspend, resume, the_closed}
+use Rattle.mb_status.specs.Mailbox.{Mailbox, suspend, resume, the_closed}
 use Rattle.mb_actor.specs.Behaviour.{Moment, Reply}
 use Rattle.mb_journal.specs.Acts.Act.{SuspendSelf, ResumeSelf, CloseSelf}
 use Rattle.mb_gate.specs.declared.claim.Claim.{Claim}
@@ -14,7 +14,7 @@ use Rattle.mb_turn.specs.Hold.{Hold, hold_of}
 use Rattle.mb_turn.specs.Running.{IsRunning, IsBeside, KeepsJournal}
 use Rattle.mb_turn.proofs.BesideLemmas.{beside-status}
 use Rattle.mb_turn.proofs.HoldLemmas.{hold-written}
-use Rattle.mb_turn.proofs.RunningSteps.{running-suspend, running-resume, running-close, suspend-closed}
+use Rattle.mb_turn.proofs.RunningSteps.{running-suspend, running-resume, running-close}
 
 module _ (c new : Claim (Box Contents)) (m : Mailbox) (word : ℕ) (ours : (claim_id new ≡ claim_id c) × (held_actor new ≡ held_actor c))
     (home : new.home ≡ c.home) (known : known_of new ≡ writing word (known_of c)) (taken : SameTaken c new) (status : status_of new ≡ m) where

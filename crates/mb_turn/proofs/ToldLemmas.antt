@@ -1,5 +1,5 @@
 -- What was said in a run, act by act.
-use Rattle.std.proofs.Common.{◌≡◌, ◌⊎◌, ℕ, Bool, true, false, List, [], ◌∷◌, ◌++◌, Some, None, refl, sym, ap, ◌∙◌, subst, append_assoc, append-nil}
+use Rattle.std.proofs.Common.{◌≡◌, ℕ, Bool, true, false, List, [], ◌∷◌, ◌++◌, Some, None, refl, sym, ap, ◌∙◌, subst, append_assoc, append-nil}
 use Rattle.mb_msg.specs.declared.system.SysMsg.{SysMsg}
 use Rattle.mb_msg.specs.declared.envelope.Body.{Body}
 use Rattle.mb_msg.specs.declared.id.ActorId.{ActorId}
@@ -7,9 +7,8 @@ use Rattle.mb_journal.specs.Acts.{Act, acts}
 use Rattle.mb_journal.specs.Acts.Act.{Tell, Sys, SuspendSelf, ResumeSelf, CloseSelf}
 use Rattle.mb_journal.specs.Entry.{Entry}
 use Rattle.mb_journal.specs.Identity.{Identity}
-use Rattle.mb_rule.specs.Seen.{Each}
 use Rattle.mb_rule.proofs.SeenLemmas.{each_weaker}
-use Rattle.mb_gate.specs.Record.{Part, Listed, Dropped, Answered, Parting, IsRight, IsSaid, IsSaidSince, answered_to, due_since, messages_of, notice}
+use Rattle.mb_gate.specs.Record.{Part, Listed, Dropped, Answered, Parting, IsRight, IsSaid, IsSaidSince, answered_to, messages_of, notice}
 use Rattle.mb_gate.specs.View.{Said}
 use Rattle.mb_gate.proofs.RecordLemmas.{said_nothing, said_listed, said_dropped, said_answered, said_parting}
 use Rattle.mb_turn.specs.Told.{IsSaidBut}
@@ -64,7 +63,7 @@ module _ (who : Identity) (actor : ℕ) (before : List Entry) where
         parts = t.told.parts;
         said_is = t.told.said_is;
         due_is = t.told.due_is;
-        right = each_weaker (IsRight actor shut) (IsRight actor true) (right-closed shut) t.told.parts t.told.right;
+        right = each_weaker (IsRight actor shut) (IsRight actor true) t.told.parts (right-closed shut) t.told.right;
       };
     }
 

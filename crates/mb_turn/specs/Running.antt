@@ -1,5 +1,5 @@
 -- What holds of a claim between two steps of its run (`akka.dispatch.Mailbox.run`; the books are this project's own profile).
-use Rattle.std.specs.Prelude.{◌≡◌, ◌<◌, ℕ, true, false, MatchBool, List, [], ◌++◌, ◌⊎◌}
+use Rattle.std.specs.Prelude.{◌≡◌, ◌<◌, ℕ, false, MatchBool, List, [], ◌++◌, ◌⊎◌}
 use Rattle.std.specs.Global.{Box}
 use Rattle.mb_actor.specs.Behaviour.{Moment, Reply}
 use Rattle.mb_journal.specs.Acts.{Act}

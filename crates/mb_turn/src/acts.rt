@@ -41,7 +41,7 @@ pub(crate) fn carry_out<A: Actor, K: Behaviours, W: Way<Place<A, K>>, R: Wait>(
 {
     let mut is_clean = true;
     while let Some(act) = claim.home.next_act() {
-        is_clean = carry(rt, gates, waker, claim, act).is_ok() && is_clean;
+        is_clean &= carry(rt, gates, waker, claim, act).is_ok();
     }
     answer_of(is_clean)
 }

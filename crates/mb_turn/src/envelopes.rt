@@ -92,6 +92,8 @@ fn apply_envelope<A: Actor, K: Behaviours, W: Way<Place<A, K>>, R: Wait>(
     }
     gates.note_taken(claim);
     turn.envelopes += 1;
-    carry_out(rt, gates, waker, claim)?;
-    Ok(true)
+    match carry_out(rt, gates, waker, claim) {
+        Ok(()) => Ok(true),
+        Err(fault) => Err(fault),
+    }
 }

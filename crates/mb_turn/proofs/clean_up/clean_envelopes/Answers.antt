@@ -1,11 +1,13 @@
 use Rattle.std.proofs.Common.{◌≡◌, inr, true, refl, sym, ap, ◌∙◌, subst}
 use Rattle.std.specs.Global.{Box}
 use Rattle.std.specs.Prelude.{MatchBool}
+use Rattle.mb_journal.specs.Life.{closed}
 use Rattle.mb_status.specs.Mailbox.{Mailbox}
-use Rattle.mb_gate.specs.Names.{held_actor, known_of}
+use Rattle.mb_gate.specs.Names.{claim_id, held_actor}
 use Rattle.mb_gate.specs.Untouched.{origin_of}
 use Rattle.mb_home.specs.AtHome.{given_of}
 use Rattle.mb_home.specs.Contents.{Contents}
+use Rattle.mb_home.specs.Settled.{IsSettled}
 use Rattle.mb_home.specs.Steps.{Cleans, FindsNone}
 use Rattle.mb_turn.specs.Hold.{hold_of}
 use Rattle.mb_turn.specs.Running.{IsRunning}
@@ -31,11 +33,13 @@ loop-init g c = (
 pub clean_next-requires-clause-ended : goal.clean_next-requires-clause-ended
 clean_next-requires-clause-ended g c =
     let r = c.loop.invariant.4 c.requires.running.0 c.requires.running.1 in
-    ended-closed _ _ _ (hold_of c.loop.claim) _ c.loop.invariant.2 r
+    subst (λ (x : Contents). closed x.cell.who x.cell.journal ≡ true) (sym c.deref_mut.ensures.value)
+    (ended-closed _ _ _ (hold_of c.loop.claim) _ c.loop.invariant.2 r)
 
 pub clean_next-requires-clause-settled : goal.clean_next-requires-clause-settled
 clean_next-requires-clause-settled g c =
-    running-own _ _ _ _ (hold_of c.loop.claim) (c.loop.invariant.4 c.requires.running.0 c.requires.running.1)
+    subst (λ (x : Contents). IsSettled (g.K.Behaviours.gives x.cell.who.this.0) x.cell.acts x) (sym c.deref_mut.ensures.value)
+    (running-own _ _ _ _ (hold_of c.loop.claim) (c.loop.invariant.4 c.requires.running.0 c.requires.running.1))
 
 pub note_taken-requires-clause-ours : goal.note_taken-requires-clause-ours
 note_taken-requires-clause-ours g c = (c.loop.invariant.4 c.requires.running.0 c.requires.running.1).ours
@@ -48,28 +52,34 @@ note_taken-requires-clause-there g c = (c.loop.invariant.4 c.requires.running.0 
 pub returns-in_err-clean_next-clause-running : goal.returns-in_err-clean_next-clause-running
 returns-in_err-clean_next-clause-running g c =
     λ seen r. subst (λ (x : Contents). IsRunning g.K.Behaviours.gives (origin_of c.args.gates.now) x.cell.acts seen
-    (record (hold_of c.loop.claim) { home = x })) (sym c.in_err-clean_next.ensures.refused) (c.loop.invariant.4 seen r)
+    (record (hold_of c.loop.claim) { home = x })) (sym (c.in_err-clean_next.ensures.refused ∙ c.deref_mut.ensures.value)) (c.loop.invariant.4 seen r)
 
 pub returns-in_err-clean_next-clause-none : goal.returns-in_err-clean_next-clause-none
-returns-in_err-clean_next-clause-none g c = ap (λ (x : Contents). x.rest) c.in_err-clean_next.ensures.refused ∙ c.loop.invariant.5
+returns-in_err-clean_next-clause-none g c =
+    ap (λ (x : Contents). x.rest) (c.in_err-clean_next.ensures.refused ∙ c.deref_mut.ensures.value) ∙ c.loop.invariant.5
 
 pub returns-in_err-clean_next-clause-given : goal.returns-in_err-clean_next-clause-given
-returns-in_err-clean_next-clause-given g c = (ap given_of c.in_err-clean_next.ensures.refused ∙ c.loop.invariant.6, c.loop.invariant.7)
+returns-in_err-clean_next-clause-given g c =
+    (ap given_of (c.in_err-clean_next.ensures.refused ∙ c.deref_mut.ensures.value) ∙ c.loop.invariant.6, c.loop.invariant.7)
 
 pub returns-in_err-clean_next-clause-left : goal.returns-in_err-clean_next-clause-left
-returns-in_err-clean_next-clause-left g c = ap (λ (x : Contents). x.cell) c.in_err-clean_next.ensures.refused ∙ c.loop.invariant.8
+returns-in_err-clean_next-clause-left g c =
+    ap (λ (x : Contents). x.cell) (c.in_err-clean_next.ensures.refused ∙ c.deref_mut.ensures.value) ∙ c.loop.invariant.8
 
 pub returns-in_err-clean_next-clause-same : goal.returns-in_err-clean_next-clause-same
 returns-in_err-clean_next-clause-same g c =
     keeps-then _ _ _ c.loop.invariant.9
-    (keeps-home (hold_of c.loop.claim) c.clean_next.new.self (ap (λ (x : Contents). x.cell) c.in_err-clean_next.ensures.refused))
+    (keeps-home (hold_of c.loop.claim) c.clean_next.new.self
+    (ap (λ (x : Contents). x.cell) (c.in_err-clean_next.ensures.refused ∙ c.deref_mut.ensures.value)))
 
 -- ---- none was there
 
-pub returns-then-not-clean_next-clause-running : goal.returns-then-not-clean_next-clause-running
-returns-then-not-clean_next-clause-running g c =
+pub returns-then-not-branch-clause-running : goal.returns-then-not-branch-clause-running
+returns-then-not-branch-clause-running g c =
+    let at_home = subst (λ (x : Contents). MatchBool c.in_ok-clean_next.field-0 (Cleans x c.clean_next.new.self) (FindsNone x
+    c.clean_next.new.self)) c.deref_mut.ensures.value c.in_ok-clean_next.ensures.cleaned in
     let found = subst (λ b. MatchBool b (Cleans c.loop.claim.home.value c.clean_next.new.self) (FindsNone c.loop.claim.home.value
-    c.clean_next.new.self)) c.if-not-clean_next.true c.in_ok-clean_next.ensures.cleaned in
+    c.clean_next.new.self)) c.if-not-branch.true at_home in
     λ seen r. running-within g.K.Behaviours.gives (origin_of c.args.gates.now) seen (hold_of c.loop.claim) (c.loop.invariant.4 seen r)
     c.clean_next.new.self (ap (λ (x : Contents). x.cell) found.same) (ap (λ (x : Contents). x.roll) found.same)
     (ap (λ (x : Contents). x.dead) found.same) c.clean_next.ensures.settled (ap (λ (x : Contents). x.rest) found.same)
@@ -83,10 +93,11 @@ loop-preserved g c =
     let mid : Contents = c.clean_next.new.self in
     let new = c.note_taken.new.claim in
     let did = c.note_taken.ensures in
-    let found = subst (λ b. MatchBool b (Cleans l.home.value mid) (FindsNone l.home.value mid)) c.if-not-clean_next.false
+    let at_home = subst (λ (x : Contents). MatchBool c.in_ok-clean_next.field-0 (Cleans x mid) (FindsNone x mid)) c.deref_mut.ensures.value
     c.in_ok-clean_next.ensures.cleaned in
+    let found = subst (λ b. MatchBool b (Cleans l.home.value mid) (FindsNone l.home.value mid)) c.if-not-branch.false at_home in
     let cell = ap (λ (x : Contents). x.cell) found.same in
-    let ours = (did.ours, did.actor) in (
+    let ours : (claim_id new ≡ claim_id l) × (held_actor new ≡ held_actor l) = (did.ours, did.actor) in (
       tt,
       tt,
       ap (λ (m : Mailbox). m.closed) did.same.0 ∙ inv.2,

@@ -1,4 +1,4 @@
-use Rattle.std.proofs.Common.{◌≡◌, ◌∙◌, arith}
+use Rattle.std.proofs.Common.{◌∙◌, arith}
 use Rattle.mb_turn.proofs.BesideLemmas.{same-run-then}
 use Rattle.mb_turn.proofs.CallerLemmas.{further-then}
 use Rattle.mb_turn.proofs.run.run_claim.Goals as goal

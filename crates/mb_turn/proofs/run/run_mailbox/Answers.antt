@@ -1,7 +1,6 @@
 use Rattle.std.proofs.Common.{◌≡◌, ◌<◌, ◌≤◌, length, refl, sym, ap, ◌∙◌, subst, arith}
-use Rattle.std.specs.Prelude.{IfOk, IsErrOf, Some, Result, Ok, Err}
+use Rattle.std.specs.Prelude.{IfOk, Result, Err}
 use Rattle.mb_journal.specs.declared.error.ReadyError.{ReadyError}
-use Rattle.mb_journal.specs.declared.error.ReadyError.TheVariants.{JournalFull}
 use Rattle.mb_journal.specs.Identity.{Identity}
 use Rattle.mb_journal.specs.Run.{IsReason, Stopped}
 use Rattle.mb_journal.specs.Run.Stopped.{NoRoom}
@@ -18,20 +17,20 @@ use Rattle.mb_turn.proofs.run.run_mailbox.Goals as goal
 
 -- ---- the claim as it was taken
 
-pub run_claim-requires-clause-running : goal.run_claim-requires-clause-running
-run_claim-requires-clause-running g c =
+pub run_claim-outcome-requires-clause-running : goal.run_claim-outcome-requires-clause-running
+run_claim-outcome-requires-clause-running g c =
     running-fresh g.K.Behaviours.gives (origin_of c.args.gates.now) c.args.claim c.requires.untouched
     (known_by c.args.waker.now.pass).log c.requires.many
 
-pub run_claim-requires-clause-beside : goal.run_claim-requires-clause-beside
-run_claim-requires-clause-beside g c =
+pub run_claim-outcome-requires-clause-beside : goal.run_claim-outcome-requires-clause-beside
+run_claim-outcome-requires-clause-beside g c =
     beside-fresh g.K.Behaviours.gives (origin_of c.args.gates.now) c.args.claim c.requires.untouched
 
-pub run_claim-requires-clause-carried_out : goal.run_claim-requires-clause-carried_out
-run_claim-requires-clause-carried_out g c = c.requires.untouched.ours.own.carried_out
+pub run_claim-outcome-requires-clause-carried_out : goal.run_claim-outcome-requires-clause-carried_out
+run_claim-outcome-requires-clause-carried_out g c = c.requires.untouched.ours.own.carried_out
 
-pub run_claim-requires-clause-turning : goal.run_claim-requires-clause-turning
-run_claim-requires-clause-turning g c =
+pub run_claim-outcome-requires-clause-turning : goal.run_claim-outcome-requires-clause-turning
+run_claim-outcome-requires-clause-turning g c =
     (turning-fresh g.K.Behaviours.gives (origin_of c.args.gates.now) c.args.claim c.requires.untouched _ c.actor-actor.ensures refl refl, refl)
 
 -- ---- it may go home
@@ -117,12 +116,15 @@ returns-in-Ok-clause-ran g c =
     run.ensures.running.owes_nothing c.release.ensures.known (known_by c.register.new.self.pass) looks in
     let taken = taken-fresh g.K.Behaviours.gives (origin_of c.args.gates.now) c.args.claim c.requires.untouched in
     let ended = subst (λ (o : Result (Unit {0}) ReadyError). IfOk o (λ _. (stopped : Stopped) × HadRoom stopped × EndsDrained (held_actor last)
-    (known_of last).log stopped × IsReason last.home.value.cell.who c.args.throughput turn.envelopes journal stopped)) c.in-Ok.is run.ensures.ended in (
+    (known_of last).log stopped × IsReason last.home.value.cell.who c.args.throughput turn.envelopes journal stopped)) c.in-Ok.is
+    run.ensures.ended in (
       journal,
-      ended.0,
-      ended.1,
-      leaves-run c.args.throughput c.args.claim last (known_by c.register.new.self.pass) turn ended.0 taken run.ensures.turning.1 run.ensures.turning.0
-          run.ensures.few ended.3 ended.2 run.ensures.running.dry saw part,
+      (
+        ended.0,
+        ended.1,
+        leaves-run c.args.throughput c.args.claim last (known_by c.register.new.self.pass) turn ended.0 taken run.ensures.turning.1
+            run.ensures.turning.0 run.ensures.few ended.3 ended.2 run.ensures.running.dry saw part,
+      ),
     )
 
 pub returns-in-Err-clause-ran : goal.returns-in-Err-clause-ran
@@ -140,9 +142,11 @@ returns-in-Err-clause-ran g c =
     run.ensures.running.owes_nothing c.release.ensures.known (known_by c.register.new.self.pass) looks in
     let taken = taken-fresh g.K.Behaviours.gives (origin_of c.args.gates.now) c.args.claim c.requires.untouched in (
       journal,
-      turn,
-      leaves-run c.args.throughput c.args.claim last (known_by c.register.new.self.pass) turn NoRoom taken run.ensures.turning.1 run.ensures.turning.0
-          run.ensures.few tt tt run.ensures.running.dry saw part,
-      λ full. subst (λ (w : Identity). w.limit ≤ length journal) run.ensures.turning.1.who
-          (run.ensures.full (c.in-Err.is ∙ ap (λ (f : ReadyError). Err f) (same-fault c.in-Err.fault full))),
+      (
+        turn,
+        leaves-run c.args.throughput c.args.claim last (known_by c.register.new.self.pass) turn NoRoom taken run.ensures.turning.1
+            run.ensures.turning.0 run.ensures.few tt tt run.ensures.running.dry saw part,
+        λ full. subst (λ (w : Identity). w.limit ≤ length journal) run.ensures.turning.1.who
+            (run.ensures.full (c.in-Err.is ∙ ap (λ (f : ReadyError). Err f) (same-fault c.in-Err.fault full))),
+      ),
     )

@@ -1,4 +1,4 @@
-use Rattle.std.proofs.Common.{◌≡◌, ◌<◌, [], ◌∷◌, Some, sym, refl, ap, ◌∙◌, subst}
+use Rattle.std.proofs.Common.{◌<◌, Some, sym, refl, ◌∙◌, subst}
 use Rattle.mb_gate.specs.Named.{NamesBelow}
 use Rattle.mb_gate.specs.Names.{actors_of, known_by}
 use Rattle.mb_gate.specs.Untouched.{origin_of}
@@ -71,24 +71,25 @@ returns-in-Err-clause-running g c =
     let gives = g.K.Behaviours.gives in
     let origin = origin_of c.args.gates.now in
     let seen = (known_by c.args.waker.now.pass).log in
-    let r = running-refused gives origin seen c.args.to c.args.node c.args.claim.now c.requires.running mid new c.in-Err.node c.actor-parent.result
+    let r = running-refused gives origin seen c.args.to c.args.node c.args.claim.now c.requires.running mid new c.in-Err.field-0.0
+    c.actor-parent.result
     c.in-Err.ensures.ended.0 c.actor-parent.ensures c.in-Err.ensures.recorded c.answer.ensures.answered in
     running-goes gives origin new.home.value.cell.acts _ _ (hold_of new) (returns-in-Err-clause-goes g c) r
 
 pub returns-in-Err-clause-beside : goal.returns-in-Err-clause-beside
 returns-in-Err-clause-beside g c =
     let mid = c.sys_enqueue_in_run.new.claim in
-    beside-answered c.args.to.0 mid c.answer.new.claim (asker (Some c.actor-parent.result) c.in-Err.node) c.answer.ensures.answered
+    beside-answered c.args.to.0 mid c.answer.new.claim (asker (Some c.actor-parent.result) c.in-Err.field-0.0) c.answer.ensures.answered
     (beside-said c.args.claim.now mid _ c.in-Err.ensures.recorded c.requires.beside)
 
 pub returns-in-Err-clause-left : goal.returns-in-Err-clause-left
 returns-in-Err-clause-left g c =
     let mid = c.sys_enqueue_in_run.new.claim in
-    home-answered c.args.to.0 mid c.answer.new.claim (asker (Some c.actor-parent.result) c.in-Err.node) c.answer.ensures.answered
+    home-answered c.args.to.0 mid c.answer.new.claim (asker (Some c.actor-parent.result) c.in-Err.field-0.0) c.answer.ensures.answered
     ∙ c.in-Err.ensures.recorded.home
 
 pub returns-in-Err-clause-same : goal.returns-in-Err-clause-same
 returns-in-Err-clause-same g c =
     let mid = c.sys_enqueue_in_run.new.claim in
     keeps-then _ _ _ (keeps-recorded c.args.claim.now mid _ c.in-Err.ensures.recorded)
-    (keeps-answered c.args.to.0 mid c.answer.new.claim (asker (Some c.actor-parent.result) c.in-Err.node) c.answer.ensures.answered)
+    (keeps-answered c.args.to.0 mid c.answer.new.claim (asker (Some c.actor-parent.result) c.in-Err.field-0.0) c.answer.ensures.answered)

@@ -1,11 +1,10 @@
-use Rattle.std.proofs.Common.{◌≡◌, inl, inr, true, false, refl, sym, ap, ◌∙◌, subst}
+use Rattle.std.proofs.Common.{inl, inr, refl, sym, ap, ◌∙◌, subst}
 use Rattle.std.specs.Prelude.{MatchBool}
 use Rattle.mb_status.specs.Mailbox.{Mailbox}
 use Rattle.mb_cell.specs.Seen.{Seen}
 use Rattle.mb_gate.specs.Names.{known_by}
 use Rattle.mb_home.specs.Contents.{Contents}
 use Rattle.mb_home.specs.Steps.{HasNext, IsRested}
-use Rattle.mb_turn.specs.Hold.{hold_of}
 use Rattle.mb_turn.proofs.AppliedLemmas.{same-keeps}
 use Rattle.mb_turn.proofs.BesideLemmas.{keeps-same, same-run-then}
 use Rattle.mb_turn.proofs.CallerLemmas.{further-none, further-then}
@@ -33,7 +32,8 @@ returns-then-closed-clause-whole g c = inl (sym (c.closed.ensures ∙ ap (λ (m 
 
 pub apply_one-requires-clause-due : goal.apply_one-requires-clause-due
 apply_one-requires-clause-due g c =
-    subst (λ b. MatchBool b (HasNext c.loop.claim.home.value) (IsRested c.loop.claim.home.value)) c.if-has_next.true c.has_next.ensures
+    let at_home = subst (λ (x : Contents). MatchBool c.has_next.result (HasNext x) (IsRested x)) c.deref.ensures c.has_next.ensures in
+    subst (λ b. MatchBool b (HasNext c.loop.claim.home.value) (IsRested c.loop.claim.home.value)) c.if-has_next.true at_home
 
 pub apply_one-requires-clause-not_closed : goal.apply_one-requires-clause-not_closed
 apply_one-requires-clause-not_closed g c = sym (c.closed.ensures ∙ ap (λ (m : Mailbox). m.closed) c.status.ensures) ∙ c.if-closed.false
@@ -66,7 +66,8 @@ loop-preserved-then-has_next g c = (
 
 pub drain-requires-clause-rested : goal.drain-requires-clause-rested
 drain-requires-clause-rested g c =
-    subst (λ b. MatchBool b (HasNext c.loop.claim.home.value) (IsRested c.loop.claim.home.value)) c.if-has_next.false c.has_next.ensures
+    let at_home = subst (λ (x : Contents). MatchBool c.has_next.result (HasNext x) (IsRested x)) c.deref.ensures c.has_next.ensures in
+    subst (λ b. MatchBool b (HasNext c.loop.claim.home.value) (IsRested c.loop.claim.home.value)) c.if-has_next.false at_home
 
 pub drain-requires-clause-not_closed : goal.drain-requires-clause-not_closed
 drain-requires-clause-not_closed g c = sym (c.closed.ensures ∙ ap (λ (m : Mailbox). m.closed) c.status.ensures) ∙ c.if-closed.false

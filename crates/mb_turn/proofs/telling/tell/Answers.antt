@@ -1,10 +1,13 @@
-use Rattle.std.proofs.Common.{◌≡◌, inl, [], ◌∷◌, List, refl, sym, ap, ◌∙◌, subst, arith}
-use Rattle.std.specs.Global.{Box}
+use Rattle.std.proofs.Common.{inl, [], ◌∷◌, List, sym, ap, ◌∙◌, subst, arith}
 use Rattle.mb_status.specs.Mailbox.{word_of}
+use Rattle.mb_msg.specs.declared.dead_letter.Why.TheVariants.{Closed}
+use Rattle.mb_journal.specs.Acts.Act.{Tell}
 use Rattle.mb_gate.specs.Names.{known_by}
 use Rattle.mb_gate.specs.Untouched.{origin_of}
 use Rattle.mb_gate.specs.View.{Sight}
 use Rattle.mb_home.specs.Contents.{Contents}
+use Rattle.mb_home.specs.Settled.{IsSettled}
+use Rattle.mb_home.specs.Steps.{Pushes, Buries, reason_of}
 use Rattle.mb_wake.proofs.Views.{looks-read, does-then, does-sending, does-unsending}
 use Rattle.mb_turn.specs.Hold.{hold_of}
 use Rattle.mb_turn.specs.Running.{IsRunning}
@@ -15,17 +18,25 @@ use Rattle.mb_turn.proofs.TellingLemmas.{running-own, told-below, log-closed, pa
 use Rattle.mb_turn.proofs.TellingLemmas.{running-pushed, running-refused_push, running-told_closed}
 use Rattle.mb_turn.proofs.telling.tell.Goals as goal
 
-pub status-requires-clause-there : goal.status-requires-clause-there
-status-requires-clause-there g c = told-below _ _ _ _ _ _ c.requires.running
+pub status-status-requires-clause-there : goal.status-status-requires-clause-there
+status-status-requires-clause-there g c = told-below _ _ _ _ _ _ c.requires.running
 
-pub bury_closed-requires-clause-settled : goal.bury_closed-requires-clause-settled
-bury_closed-requires-clause-settled g c = running-own _ _ _ _ _ c.requires.running
+pub bury_closed-requires : goal.bury_closed-requires
+bury_closed-requires g c = record {
+  settled =
+      subst (λ (x : Contents). IsSettled (g.K.Behaviours.gives x.cell.who.this.0) (Tell c.args.to c.args.body ∷ x.cell.acts) x)
+      (sym c.deref_mut.ensures.value) (running-own _ _ _ _ (hold_of c.args.claim.now) c.requires.running);
+}
 
 pub note_sent-requires-clause-there : goal.note_sent-requires-clause-there
 note_sent-requires-clause-there g c = told-below _ _ _ _ _ _ c.requires.running
 
-pub push-requires-clause-settled : goal.push-requires-clause-settled
-push-requires-clause-settled g c = running-own _ _ _ _ _ c.requires.running
+pub push-requires : goal.push-requires
+push-requires g c = record {
+  settled =
+      subst (λ (x : Contents). IsSettled (g.K.Behaviours.gives x.cell.who.this.0) (Tell c.args.to c.args.body ∷ x.cell.acts) x)
+      (sym c.deref_mut-2.ensures.value) (running-own _ _ _ _ (hold_of c.args.claim.now) c.requires.running);
+}
 
 pub register-requires-clause-there : goal.register-requires-clause-there
 register-requires-clause-there g c =
@@ -34,14 +45,16 @@ register-requires-clause-there g c =
 pub note_unsent-requires-clause-there : goal.note_unsent-requires-clause-there
 note_unsent-requires-clause-there g c = told-below _ _ _ _ _ _ c.requires.running
 
-pub register-in-Err-requires-clause-there : goal.register-in-Err-requires-clause-there
-register-in-Err-requires-clause-there g c =
+pub register-requires-in-Err-clause-there : goal.register-requires-in-Err-clause-there
+register-requires-in-Err-clause-there g c =
     let below = told-below _ _ _ _ _ _ c.requires.running in (below, omega (arith, below, c.requires.ours.2))
 
 -- ---- the receiver was read closed
 
 pub returns-then-closed-clause-running : goal.returns-then-closed-clause-running
 returns-then-closed-clause-running g c =
+    let buried = subst (λ (x : Contents). Buries x c.bury_closed.new.self c.args.to c.args.body Closed) c.deref_mut.ensures.value
+    c.bury_closed.ensures.buried in
     let id = c.args.to.0 in
     let a = known_by c.args.waker.now.pass in let b = known_by c.status-status.new.pass in
     let new : Contents = c.bury_closed.new.self in
@@ -49,20 +62,27 @@ returns-then-closed-clause-running g c =
     subst (λ (l : List Sight). IsRunning g.K.Behaviours.gives (origin_of c.args.gates.now) new.cell.acts l
     (record (hold_of c.args.claim.now) { home = new })) (sym (log-closed id c.status-status.result a b shut c.status-status.ensures.known))
     (running-told_closed g.K.Behaviours.gives (origin_of c.args.gates.now) a.log (hold_of c.args.claim.now) c.args.to c.args.body new
-    c.requires.running c.bury_closed.ensures.settled c.bury_closed.ensures.buried)
+    c.requires.running c.bury_closed.ensures.settled buried)
 
 pub returns-then-closed-clause-beside : goal.returns-then-closed-clause-beside
 returns-then-closed-clause-beside g c =
-    let same = c.bury_closed.ensures.buried.same in
+    let buried = subst (λ (x : Contents). Buries x c.bury_closed.new.self c.args.to c.args.body Closed) c.deref_mut.ensures.value
+    c.bury_closed.ensures.buried in
+    let same = buried.same in
     beside-cell (hold_of c.args.claim.now) c.bury_closed.new.self (ap (λ (x : Contents). x.cell) same) (ap (λ (x : Contents). x.rest) same)
     (ap (λ (x : Contents). x.dropped) same) c.requires.beside
 
 pub returns-then-closed-clause-left : goal.returns-then-closed-clause-left
-returns-then-closed-clause-left g c = ap (λ (x : Contents). x.cell) c.bury_closed.ensures.buried.same
+returns-then-closed-clause-left g c =
+    let buried = subst (λ (x : Contents). Buries x c.bury_closed.new.self c.args.to c.args.body Closed) c.deref_mut.ensures.value
+    c.bury_closed.ensures.buried in
+    ap (λ (x : Contents). x.cell) buried.same
 
 pub returns-then-closed-clause-same : goal.returns-then-closed-clause-same
 returns-then-closed-clause-same g c =
-    keeps-home (hold_of c.args.claim.now) c.bury_closed.new.self (ap (λ (x : Contents). x.cell) c.bury_closed.ensures.buried.same)
+    let buried = subst (λ (x : Contents). Buries x c.bury_closed.new.self c.args.to c.args.body Closed) c.deref_mut.ensures.value
+    c.bury_closed.ensures.buried in
+    keeps-home (hold_of c.args.claim.now) c.bury_closed.new.self (ap (λ (x : Contents). x.cell) buried.same)
 
 pub returns-then-closed-clause-goes : goal.returns-then-closed-clause-goes
 returns-then-closed-clause-goes g c =
@@ -87,26 +107,31 @@ returns-in-Ok-clause-goes g c =
 
 pub returns-in-Ok-clause-running : goal.returns-in-Ok-clause-running
 returns-in-Ok-clause-running g c =
+    let pushed = subst (λ (x : Contents). Pushes x c.push.new.self c.args.to c.args.body) c.deref_mut-2.ensures.value c.in-Ok.ensures.pushed in
     let gives = g.K.Behaviours.gives in
     let origin = origin_of c.args.gates.now in
     let h = hold_of c.args.claim.now in
     let new : Contents = c.push.new.self in
     running-goes gives origin new.cell.acts _ _ (record h { home = new }) (returns-in-Ok-clause-goes g c)
     (running-pushed gives origin (known_by c.args.waker.now.pass).log h c.args.to c.args.body c.requires.running new c.push.ensures.settled
-    c.in-Ok.ensures.pushed)
+    pushed)
 
 pub returns-in-Ok-clause-beside : goal.returns-in-Ok-clause-beside
 returns-in-Ok-clause-beside g c =
-    let same = c.in-Ok.ensures.pushed.same in
+    let pushed = subst (λ (x : Contents). Pushes x c.push.new.self c.args.to c.args.body) c.deref_mut-2.ensures.value c.in-Ok.ensures.pushed in
+    let same = pushed.same in
     beside-cell (hold_of c.args.claim.now) c.push.new.self (ap (λ (x : Contents). x.cell) same) (ap (λ (x : Contents). x.rest) same)
     (ap (λ (x : Contents). x.dropped) same) c.requires.beside
 
 pub returns-in-Ok-clause-left : goal.returns-in-Ok-clause-left
-returns-in-Ok-clause-left g c = ap (λ (x : Contents). x.cell) c.in-Ok.ensures.pushed.same
+returns-in-Ok-clause-left g c =
+    let pushed = subst (λ (x : Contents). Pushes x c.push.new.self c.args.to c.args.body) c.deref_mut-2.ensures.value c.in-Ok.ensures.pushed in
+    ap (λ (x : Contents). x.cell) pushed.same
 
 pub returns-in-Ok-clause-same : goal.returns-in-Ok-clause-same
 returns-in-Ok-clause-same g c =
-    keeps-home (hold_of c.args.claim.now) c.push.new.self (ap (λ (x : Contents). x.cell) c.in-Ok.ensures.pushed.same)
+    let pushed = subst (λ (x : Contents). Pushes x c.push.new.self c.args.to c.args.body) c.deref_mut-2.ensures.value c.in-Ok.ensures.pushed in
+    keeps-home (hold_of c.args.claim.now) c.push.new.self (ap (λ (x : Contents). x.cell) pushed.same)
 
 -- ---- it was refused
 
@@ -124,23 +149,32 @@ returns-in-Err-clause-goes g c =
 
 pub returns-in-Err-clause-running : goal.returns-in-Err-clause-running
 returns-in-Err-clause-running g c =
+    let buried = subst (λ (x : Contents). Buries x c.push.new.self c.args.to c.args.body (reason_of c.in-Err.field-0)) c.deref_mut-2.ensures.value
+    c.in-Err.ensures.pushed.1 in
     let gives = g.K.Behaviours.gives in
     let origin = origin_of c.args.gates.now in
     let h = hold_of c.args.claim.now in
     let new : Contents = c.push.new.self in
     running-goes gives origin new.cell.acts _ _ (record h { home = new }) (returns-in-Err-clause-goes g c)
     (running-refused_push gives origin (known_by c.args.waker.now.pass).log h c.args.to c.args.body c.requires.running new c.push.ensures.settled
-    c.in-Err.field-0 c.in-Err.ensures.pushed.1)
+    c.in-Err.field-0 buried)
 
 pub returns-in-Err-clause-beside : goal.returns-in-Err-clause-beside
 returns-in-Err-clause-beside g c =
-    let same = c.in-Err.ensures.pushed.1.same in
+    let buried = subst (λ (x : Contents). Buries x c.push.new.self c.args.to c.args.body (reason_of c.in-Err.field-0)) c.deref_mut-2.ensures.value
+    c.in-Err.ensures.pushed.1 in
+    let same = buried.same in
     beside-cell (hold_of c.args.claim.now) c.push.new.self (ap (λ (x : Contents). x.cell) same) (ap (λ (x : Contents). x.rest) same)
     (ap (λ (x : Contents). x.dropped) same) c.requires.beside
 
 pub returns-in-Err-clause-left : goal.returns-in-Err-clause-left
-returns-in-Err-clause-left g c = ap (λ (x : Contents). x.cell) c.in-Err.ensures.pushed.1.same
+returns-in-Err-clause-left g c =
+    let buried = subst (λ (x : Contents). Buries x c.push.new.self c.args.to c.args.body (reason_of c.in-Err.field-0)) c.deref_mut-2.ensures.value
+    c.in-Err.ensures.pushed.1 in
+    ap (λ (x : Contents). x.cell) buried.same
 
 pub returns-in-Err-clause-same : goal.returns-in-Err-clause-same
 returns-in-Err-clause-same g c =
-    keeps-home (hold_of c.args.claim.now) c.push.new.self (ap (λ (x : Contents). x.cell) c.in-Err.ensures.pushed.1.same)
+    let buried = subst (λ (x : Contents). Buries x c.push.new.self c.args.to c.args.body (reason_of c.in-Err.field-0)) c.deref_mut-2.ensures.value
+    c.in-Err.ensures.pushed.1 in
+    keeps-home (hold_of c.args.claim.now) c.push.new.self (ap (λ (x : Contents). x.cell) buried.same)

@@ -1,7 +1,8 @@
-use Rattle.std.proofs.Common.{rules, ◌+◌, ◌%◌, ap, sym, ◌∙◌, arith}
+use Rattle.std.proofs.Common.{rules, ◌+◌, ◌%◌, ap, sym, subst, ◌∙◌, arith}
 use Rattle.mb_gate.specs.Names.{first_of, known_by}
 use Rattle.mb_gate.specs.View.{reading}
 use Rattle.mb_gate.specs.Rule.{is_some_item}
+use Rattle.mb_gate.specs.Plays.{StaysClosed}
 use mathlib.Core.Option.{some}
 use Rattle.mb_gate.proofs.Allowed.{schedules_allowed}
 use Rattle.mb_gate.proofs.Wins.{free_mod, scheduled_word, taken, got}
@@ -76,4 +77,5 @@ returns-clause-answer g c =
       c.requires.free,
       (λ e. c.if-found-old.false (sym same ∙ (e ∙ sym c.word-old.ensures.word))),
       ap (λ m. m.0) lost.0 ∙ ap (λ w. reading c.args.id.0 w (known_by c.args.pass.now)) (sym same),
+      subst (λ w. StaysClosed c.args.id.0 w (known_by c.args.pass.now)) (sym same) lost.2,
     )

@@ -1,0 +1,96 @@
+-- Ends and feeds may go to another thread where the home may. (Said once, since a search would go through the boxes of a claim's list at
+-- each queue.)
+use denote.RattleType.{RattleType}
+use denote.Param.Send.{IsSend, IsSync, sendable, view_send}
+use denote.Param.SendFields.{declared_send, declared_sync, variants_send}
+use Rattle.std.proofs.Crossing.{crosses as std_crosses, send as heap_send, sync as heap_sync}
+use Rattle.atomic_table.proofs.shared.Seat.TheSendSync as seat
+use Rattle.atomic_blocks.proofs.rows.shared.Seat.TheSendSync as rows_seat
+use Rattle.atomic_blocks.proofs.web.Seat.TheSendSync as web_seat
+use Rattle.crossbeam_queue.proofs.array_queue.Slotted.TheSendSync as slotted
+use Rattle.crossbeam_queue.proofs.array_queue.Doing.TheSendSync as doing
+use Rattle.crossbeam_deque.proofs.injector.Injector.TheSendSync as injector
+use Rattle.crossbeam_deque.proofs.handles.Worker.TheSendSync as worker
+use Rattle.crossbeam_deque.proofs.handles.Stealer.TheSendSync as stealer
+use Rattle.mb_gate.specs.declared.resident.Resident as resident
+use Rattle.mb_gate.proofs.Crossing.{claim_send}
+use Rattle.mb_pool.proofs.knowledge.Knowledge.TheSendSync as knowledge
+use Rattle.mb_pool.specs.contracts.parked.Parked as parked
+use Rattle.mb_pool.specs.contracts.slots.Slots as slots
+use Rattle.mb_pool.specs.contracts.slots_port.SlotsPort as slots_port
+use Rattle.mb_pool.specs.contracts.slots_port.SlotsPort.TheInside as slots_inside
+use Rattle.mb_pool.specs.contracts.inlet.Inlet as inlet
+use Rattle.mb_pool.specs.contracts.inlet_port.InletPort as inlet_port
+use Rattle.mb_pool.specs.contracts.inlet_port.InletPort.TheInside as inlet_inside
+use Rattle.mb_pool.specs.contracts.door.Door as door
+use Rattle.mb_pool.specs.contracts.deque.Deque as deque
+use Rattle.mb_pool.specs.contracts.own.Own as own
+use Rattle.mb_pool.specs.contracts.own.Own.TheInside as own_inside
+use Rattle.mb_pool.specs.contracts.thief.Thief as thief
+use Rattle.mb_pool.specs.contracts.thief.Thief.TheInside as thief_inside
+use Rattle.mb_pool.specs.contracts.member.Member as member
+use Rattle.mb_pool.specs.contracts.end.WorkerEnd as end
+use Rattle.mb_pool.specs.contracts.end.WorkerEnd.TheInside as end_inside
+use Rattle.mb_pool.specs.contracts.feed.Feed as feed
+use Rattle.mb_pool.specs.contracts.feed.Feed.TheInside as feed_inside
+
+pub parked_send : (H : RattleType) → IsSend H → IsSend (parked.the_row H)
+parked_send H home = declared_send (parked.the_type H) (claim_send H home, tt)
+
+module _ (H : RattleType) (g : resident.Ghosts H.Denot) (home : IsSend H) where
+  slots_send : IsSend (slots.the_row H g)
+  slots_send = declared_send (slots.the_type H g)
+      (search (sendable, std_crosses, heap_send, slotted.the_field_send, slotted.the_send, parked_send) depth 30, tt)
+
+  slots_sync : IsSync (slots.the_row H g)
+  slots_sync = declared_sync (slots.the_type H g)
+      (search (sendable, std_crosses, heap_send, heap_sync, slotted.the_field_sync, slotted.the_sync, parked_send) depth 30, tt)
+
+  slots_port_send : IsSend (slots_port.the_row H g)
+  slots_port_send = view_send _ _ _ _ _ (declared_send (slots_inside.the_type H g) (
+    search (sendable, std_crosses, slots_send, slots_sync) depth 20,
+    (search (sendable, std_crosses, seat.the_send, parked_send) depth 20, tt),
+  ))
+
+  inlet_send : IsSend (inlet.the_row H g)
+  inlet_send = declared_send (inlet.the_type H g)
+      (search (sendable, std_crosses, heap_send, injector.the_field_send, injector.the_send, parked_send) depth 30, tt)
+
+  inlet_sync : IsSync (inlet.the_row H g)
+  inlet_sync = declared_sync (inlet.the_type H g)
+      (search (sendable, std_crosses, heap_send, heap_sync, injector.the_field_sync, injector.the_sync, parked_send) depth 30, tt)
+
+  inlet_port_send : IsSend (inlet_port.the_row H g)
+  inlet_port_send = view_send _ _ _ _ _ (declared_send (inlet_inside.the_type H g) (
+    search (sendable, std_crosses, inlet_send, inlet_sync) depth 20,
+    (search (sendable, std_crosses, heap_send, web_seat.the_send, parked_send) depth 20, tt),
+  ))
+
+  pub door_send : IsSend (door.the_row H g)
+  door_send = variants_send (door.enum H g) ((slots_port_send, tt), ((inlet_port_send, tt), tt))
+
+  deque_send : IsSend (deque.the_row H g)
+  deque_send = declared_send (deque.the_type H g)
+      (search (sendable, std_crosses, heap_send, heap_sync, worker.the_field_send, worker.the_send, parked_send) depth 30, tt)
+
+  own_send : IsSend (own.the_row H g)
+  own_send = view_send _ _ _ _ _ (declared_send (own_inside.the_type H g) (search sendable depth 20, (deque_send, tt)))
+
+  thief_send : IsSend (thief.the_row H g)
+  thief_send = view_send _ _ _ _ _ (declared_send (thief_inside.the_type H g) (
+    search sendable depth 20,
+    (
+      search (sendable, std_crosses, heap_send, stealer.the_field_send, stealer.the_send, parked_send) depth 30,
+      (search (sendable, std_crosses, heap_send, rows_seat.the_send, parked_send) depth 20, tt),
+    ),
+  ))
+
+  member_send : IsSend (member.the_row H g)
+  member_send = declared_send (member.the_type H g) (own_send, (search (sendable, std_crosses, thief_send) depth 20, tt))
+
+  pub end_send : IsSend (end.the_row H g)
+  end_send = view_send _ _ _ _ _
+      (declared_send (end_inside.the_type H g) (door_send, (search (sendable, std_crosses, member_send) depth 20, tt)))
+
+  pub feed_send : IsSend (feed.the_row H g)
+  feed_send = view_send _ _ _ _ _ (declared_send (feed_inside.the_type H g) (door_send, tt))
