@@ -4,3 +4,5 @@ pub mod Numbers
 pub mod Identities
 pub mod Handed
 pub mod Made
+pub mod Behaved
+pub mod Housed

@@ -1,6 +1,8 @@
 //! The actors' cells.
-ghost use Rattle.std.specs.Prelude.{◌≡◌, ◌<◌, IfOk, length};
-ghost use Rattle.mb_build.specs.Identities.{children_from};
+ghost use Rattle.std.specs.Prelude.{◌≡◌, ◌+◌, ◌<◌, IfOk, length, map};
+ghost use Rattle.mb_build.specs.Behaved.{AreBehaved};
+ghost use Rattle.mb_build.specs.Housed.{unstarted};
+ghost use Rattle.mb_build.specs.Identities.{children_from, guardian as guardian_of, identities};
 
 use mb_actor::{Actor, Behaviours};
 use mb_cell::Cell;
@@ -19,7 +21,13 @@ pub(crate) fn cells<A: Actor, K: Behaviours>(
     parents: &[ActorId],
     strategies: Vec<Strategy>,
     journal_limit: u32,
-) -> Result<Vec<Cell<A, K>>, AllocError> {
+) -> Result<Vec<Cell<A, K>>, AllocError>
+    requires few { length parents.now < 64 }
+    requires many { (length actors.items ≡ length parents.now) × (length strategies.items ≡ length parents.now) }
+    requires behaved { AreBehaved A.content A.after A.gives K.after K.gives 1 actors.items }
+    ensures { IfOk result (λ cells. cells.items
+        ≡ map unstarted (identities (length parents.now + 1) journal_limit parents.now strategies.items)) }
+{
     let count = parents.len() as u32 + 1;
     let mut cells = Vec::with_capacity(alloc, parents.len() + 1)?;
     cells.push(guardian(alloc, count, parents, journal_limit)?)?;
@@ -51,7 +59,10 @@ fn guardian<A: Actor, K: Behaviours>(
     count: u32,
     parents: &[ActorId],
     journal_limit: u32,
-) -> Result<Cell<A, K>, AllocError> {
+) -> Result<Cell<A, K>, AllocError>
+    requires { length parents.now < 64 }
+    ensures { IfOk result (λ cell. cell ≡ unstarted (guardian_of count journal_limit parents.now)) }
+{
     let prepared = children(alloc, GUARDIAN, parents)?;
     let strategy = Strategy {
         rows: Vec::new(alloc),

@@ -1,4 +1,14 @@
 //! The actors' homes.
+ghost use Rattle.std.specs.Prelude.{◌≡◌, ℕ, ◌+◌, ◌<◌, ◌≤◌, [], ◌∷◌, List, IfOk, drop, length, map};
+ghost use Rattle.mb_queue.specs.declared.kind.Kind.{Kind};
+ghost use Rattle.mb_build.specs.Behaved.{AreBehaved};
+ghost use Rattle.mb_build.specs.Housed.{enrolled, AreAtFirst, AreFresh, IsHoused, unstarted};
+ghost use Rattle.mb_build.specs.Identities.{ArePlanned, identities};
+ghost use Rattle.mb_build.specs.Kinds.{AreQueues};
+ghost use Rattle.mb_build.specs.Made.{AreMade};
+ghost use Rattle.mb_build.specs.Numbers.{sender_numbers};
+ghost use Rattle.mb_build.specs.Reasons.{bad_bounds, bad_parents};
+
 use crate::cells::cells;
 use crate::planned::{Planned, take_apart};
 use crate::queues::{Queues, make_queues};
@@ -25,7 +35,15 @@ pub fn house<A: Actor, K: Behaviours>(
     actors: Vec<A>,
     senders: u32,
     journal_limit: u32,
-) -> Result<Housed<A, K>, AllocError> {
+) -> Result<Housed<A, K>, AllocError>
+    requires few { (length plans.items < 64) × (senders ≤ 16) }
+    requires right { (bad_parents 1 plans.items ≡ []) × (bad_bounds 1 plans.items ≡ []) }
+    requires many { length actors.items ≡ length plans.items }
+    requires behaved { AreBehaved A.content A.after A.gives K.after K.gives 1 actors.items }
+    ensures { IfOk result (λ housed. (kinds : List Kind) × AreQueues plans.items kinds
+        × IsHoused K.gives (identities (length plans.items + 1) journal_limit (map (λ a. a.parent) plans.items) (map (λ a. a.strategy) plans.items))
+        kinds senders housed.homes.items (map (λ row. row.items) housed.outside.items)) }
+{
     let Planned {
         parents,
         kinds,
@@ -47,7 +65,11 @@ fn enroll<A: Actor, K: Behaviours>(
     cells: &[Cell<A, K>],
     guardian: &TakePass,
     takes: &[TakePass],
-) -> Result<Vec<Named<A, K>>, AllocError> {
+) -> Result<Vec<Named<A, K>>, AllocError>
+    requires { length cells.now ≡ length takes.now + 1 }
+    ensures { IfOk result (λ roll. map (λ n. record { who = n.cell.value.who; queue = n.take.value.queue }) roll.items
+        ≡ enrolled (map (λ c. c.who) cells.now) (guardian.now ∷ takes.now)) }
+{
     let mut roll = Vec::with_capacity(alloc, cells.len())?;
     for number in 0..cells.len() {
         let take = if number == 0 {
@@ -71,7 +93,19 @@ fn homes<A: Actor, K: Behaviours>(
     takes: Vec<TakePass>,
     senders: Vec<Vec<SendPass>>,
     roll: &Vec<Named<A, K>>,
-) -> Result<Housed<A, K>, AllocError> {
+) -> Result<Housed<A, K>, AllocError>
+    requires few { length cells.items ≤ 64 }
+    requires cells { (cells.items ≡ map unstarted (map (λ c. c.who) cells.items)) × ArePlanned (length cells.items) 0 (map (λ c. c.who) cells.items) }
+    requires made { (kinds : List Kind) × (outside : ℕ) × (length cells.items ≡ length kinds + 1) × (outside ≤ 16)
+        × AreMade kinds (sender_numbers (length cells.items) outside) guardian takes.items (map (λ row. row.items) senders.items) }
+    requires roll { map (λ n. record { who = n.cell.value.who; queue = n.take.value.queue }) roll.now.items
+        ≡ enrolled (map (λ c. c.who) cells.items) (guardian ∷ takes.items) }
+    ensures first { IfOk result (λ housed. AreAtFirst (enrolled (map (λ c. c.who) cells.items) (guardian ∷ takes.items)) takes.items 0
+        (map (λ c. c.who) cells.items) (guardian ∷ takes.items) housed.homes.items) }
+    ensures fresh { IfOk result (λ housed. AreFresh K.gives housed.homes.items) }
+    ensures outside { IfOk result (λ housed. map (λ row. row.items) housed.outside.items
+        ≡ drop (length cells.items) (map (λ row. row.items) senders.items)) }
+{
     let mut homes = Vec::with_capacity(alloc, cells.len())?;
     let mut next = Some(guardian);
     let mut takes = takes.into_iter();

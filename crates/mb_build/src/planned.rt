@@ -2,13 +2,12 @@
 ghost use Rattle.std.specs.Prelude.{◌≡◌, IfOk, map};
 ghost use Rattle.mb_build.specs.Kinds.{AreQueues};
 
+use crate::kinds::kind_of;
 use mb_journal::Strategy;
 use mb_msg::ActorId;
 use mb_plan::ActorPlan;
 use mb_queue::Kind;
 use std::alloc::{AllocError, Global};
-
-use crate::kinds::kind_of;
 
 /// What is planned of the actors from number 1 on, each in its order: their parents, the kinds of their queues, and what they
 /// do about children that fail.

@@ -7,7 +7,7 @@ use mb_actor::{Actor, Behaviours};
 use std::sync::Wait;
 use std::thread::{Threads, join_mut};
 
-impl<A: Actor + Send + Sync, K: Behaviours + Send + Sync> System<A, K> {
+impl<A: Actor + Send, K: Behaviours + Send> System<A, K> {
     /// Runs claims by all these ends, while the jobs send, each on a thread of its own, until no claim exists and no job is
     /// open. All actors are registered first. Where a thread is refused, another does its work in turn, jobs before ends.
     ///
@@ -37,7 +37,7 @@ struct Outcome {
 
 // The first job on this thread, beside the others and the ends on another. Where that is refused, they come after the job: no
 // end waits for a job that is not begun.
-fn send_and_work<A: Actor + Send + Sync, K: Behaviours + Send + Sync, R: Threads + Wait + Sync>(
+fn send_and_work<A: Actor + Send, K: Behaviours + Send, R: Threads + Wait + Sync>(
     rt: &R,
     system: &System<A, K>,
     ends: &mut [WorkerEnd<A, K>],
@@ -61,7 +61,7 @@ fn send_and_work<A: Actor + Send + Sync, K: Behaviours + Send + Sync, R: Threads
 }
 
 // The first end on this thread, beside the others.
-fn work_all<A: Actor + Send + Sync, K: Behaviours + Send + Sync, R: Threads + Wait + Sync>(
+fn work_all<A: Actor + Send, K: Behaviours + Send, R: Threads + Wait + Sync>(
     rt: &R,
     system: &System<A, K>,
     ends: &mut [WorkerEnd<A, K>],

@@ -24,8 +24,7 @@ returns-then-plan-eq0 c =
       | then-plan-eq0-via-else-plan-eq0+then-plan-gt-WORKERS w ↦
           (let many = w.if-plan-gt-WORKERS.true in let fails : nat_le plan.workers 16 ≡ false = grind (arith, nat_tests) in
           second_fails (nat_le 1 plan.workers) (nat_le plan.workers 16) fails)
-    ] in
-    (
+    ] in (
       _,
       is_none_here (nat_le plan.senders 16) Senders _ good
           ∙ is_first (nat_le 1 plan.workers && nat_le plan.workers 16) Workers (unless (nat_le 1 plan.journal_limit) JournalLimit) bad,

@@ -27,8 +27,7 @@ returns-in-Err c =
     let few = c.if-len.false in let n = c.len.ensures in let m = c.len-2.ensures in let same = c.if-len-actors.false in
     let good : nat_lt (length all) 64 ≡ true = grind (arith, nat_tests) in
     let as_many : (length all == c.args.actors) ≡ true = grind (arith, nat_tests) in
-    let these : c.deref.result.now ≡ all = search rules in
-    (
+    let these : c.deref.result.now ≡ all = search rules in (
       _,
       is_none_here (nat_lt (length all) 64) Actors _ good ∙ is_none_here (length all == c.args.actors) Boxes _ as_many
           ∙ ap (λ l. bad_parents 1 l ++ (bad_bounds 1 all ++ bad_numbers plan)) (sym these)
@@ -42,8 +41,7 @@ returns-in-Err-check_bounds c =
     let good : nat_lt (length all) 64 ≡ true = grind (arith, nat_tests) in
     let as_many : (length all == c.args.actors) ≡ true = grind (arith, nat_tests) in
     let these : c.deref.result.now ≡ all = search rules in
-    let those : c.deref-2.result.now ≡ all = search rules in
-    (
+    let those : c.deref-2.result.now ≡ all = search rules in (
       _,
       is_none_here (nat_lt (length all) 64) Actors _ good ∙ is_none_here (length all == c.args.actors) Boxes _ as_many
           ∙ ap (λ l. bad_parents 1 l ++ (bad_bounds 1 all ++ bad_numbers plan)) (sym these)
