@@ -20,9 +20,9 @@ use Rattle.mb_build.specs.Numbers.{numbers, sender_numbers}
 abbrev pub unstarted : Identity → Seen
 unstarted who = record { who = who; journal = []; acts = []; is_ready = false }
 
--- the roll of these actors, whose queues these take from, in order
+-- the roll of these actors, whose queues these take from, with whose turn it is there, in order
 abbrev pub enrolled : List Identity → List Taking → List Enrolled
-enrolled (who ∷ all) (t ∷ takes) = record { who = who; queue = t.queue } ∷ enrolled all takes
+enrolled (who ∷ all) (t ∷ takes) = record { who = who; queue = t.queue; turns = t.turns } ∷ enrolled all takes
 enrolled _ _ = []
 
 -- the homes of these actors, which are numbered on from this one, as they begin: each has its cell, takes from its queue, and pushes into

@@ -67,7 +67,7 @@ fn enroll<A: Actor, K: Behaviours>(
     takes: &[TakePass],
 ) -> Result<Vec<Named<A, K>>, AllocError>
     requires { length cells.now ≡ length takes.now + 1 }
-    ensures { IfOk result (λ roll. map (λ n. record { who = n.cell.value.who; queue = n.take.value.queue }) roll.items
+    ensures { IfOk result (λ roll. map (λ n. record { who = n.cell.value.who; queue = n.take.value.queue; turns = n.take.value.turns }) roll.items
         ≡ enrolled (map (λ c. c.who) cells.now) (guardian.now ∷ takes.now)) }
 {
     let mut roll = Vec::with_capacity(alloc, cells.len())?;
@@ -98,7 +98,7 @@ fn homes<A: Actor, K: Behaviours>(
     requires cells { (cells.items ≡ map unstarted (map (λ c. c.who) cells.items)) × ArePlanned (length cells.items) 0 (map (λ c. c.who) cells.items) }
     requires made { (kinds : List Kind) × (outside : ℕ) × (length cells.items ≡ length kinds + 1) × (outside ≤ 16)
         × AreMade kinds (sender_numbers (length cells.items) outside) guardian takes.items (map (λ row. row.items) senders.items) }
-    requires roll { map (λ n. record { who = n.cell.value.who; queue = n.take.value.queue }) roll.now.items
+    requires roll { map (λ n. record { who = n.cell.value.who; queue = n.take.value.queue; turns = n.take.value.turns }) roll.now.items
         ≡ enrolled (map (λ c. c.who) cells.items) (guardian ∷ takes.items) }
     ensures first { IfOk result (λ housed. AreAtFirst (enrolled (map (λ c. c.who) cells.items) (guardian ∷ takes.items)) takes.items 0
         (map (λ c. c.who) cells.items) (guardian ∷ takes.items) housed.homes.items) }

@@ -1,2 +1,6 @@
 pub mod Members
 pub mod Whole
+pub mod Belonging
+pub mod Refused
+pub mod Begun
+pub mod Unbuilt

@@ -1,4 +1,11 @@
 //! How a system is built.
+ghost use Rattle.std.specs.Prelude.{◌≡◌, ◌+◌, ◌<◌, ◌≤◌, [], ◌∷◌, List, IfErr, IfOk, length, map, vec_len};
+ghost use Rattle.mb_gate.specs.Names.{actors_of, first_of, gates_id, known_by, pass_id};
+ghost use Rattle.mb_build.specs.Behaved.{AreBehaved};
+ghost use Rattle.mb_build.specs.Reasons.{reasons};
+ghost use Rattle.mb_dispatch.specs.Begun.{IsBegun};
+ghost use Rattle.mb_dispatch.specs.Unbuilt.{IsNoSystem};
+
 use crate::built::Built;
 use crate::end::WorkerEnd;
 use crate::open::Open;
@@ -38,7 +45,11 @@ impl<A: Actor, K: Behaviours> System<A, K> {
         alloc: Global,
         plan: Plan,
         actors: Vec<A>,
-    ) -> Result<Built<A, K>, BuildError<A>> {
+    ) -> Result<Built<A, K>, BuildError<A>>
+        requires behaved { AreBehaved A.content A.after A.gives K.after K.gives 1 actors.items }
+        ensures begun { IfOk result (IsBegun K.gives plan) }
+        ensures refused { IfErr result (IsNoSystem plan actors.items) }
+    {
         if let Err(reason) = check_plan(&plan, actors.len()) {
             return Err(BuildError::BadPlan(reason, plan, actors));
         }
@@ -55,7 +66,11 @@ fn assemble<A: Actor, K: Behaviours, R: Wait>(
     alloc: Global,
     plan: Plan,
     actors: Vec<A>,
-) -> Result<Built<A, K>, AllocError> {
+) -> Result<Built<A, K>, AllocError>
+    requires right { reasons plan (length actors.items) ≡ [] }
+    requires behaved { AreBehaved A.content A.after A.gives K.after K.gives 1 actors.items }
+    ensures { IfOk result (IsBegun K.gives plan) }
+{
     let Plan {
         throughput,
         workers,

@@ -1,4 +1,11 @@
 //! How a system ends.
+ghost use Rattle.std.specs.Prelude.{◌≡◌, ◌≤◌, List, IfErr, IfOk};
+ghost use Rattle.mb_fates.specs.declared.posting.Posting.{Posting};
+ghost use Rattle.mb_gate.specs.Names.{first_of};
+ghost use Rattle.mb_dispatch.specs.Belonging.{AreAnswers, BelongsTogether};
+ghost use Rattle.mb_dispatch.specs.Refused.{IsComplete, IsRefusal};
+ghost use Rattle.mb_dispatch.specs.Whole.{IsWhole};
+
 use crate::built::Built;
 use crate::leaving::gather;
 use crate::missing::{missing_end, missing_sender};
@@ -42,7 +49,13 @@ impl<A: Actor, K: Behaviours> Built<A, K> {
     ///
     /// It answers the least number of a worker whose end is missing; else of a sender that is; else the least actor that is
     /// scheduled or has something to run; else `NoMemory`. All comes back then, and the same call may be made again.
-    pub fn finish<R: Wait>(self, rt: &R) -> Result<Report, FinishError<A, K>> {
+    pub fn finish<R: Wait>(self, rt: &R) -> Result<Report, FinishError<A, K>>
+        requires together { BelongsTogether self }
+        ensures whole { IfOk result (λ report. (answers : List (List Posting)) × AreAnswers self.system.senders self.senders.items answers
+            × IsWhole K.after K.gives (first_of self.system.gates).value.roll answers report) }
+        ensures quiet { IfOk result (λ _. IsComplete self) }
+        ensures refused { IfErr result (IsRefusal self) }
+    {
         if let Some(number) = missing_end(&self) {
             return Err(FinishError::MissingEnd(number, self));
         }

@@ -1,4 +1,7 @@
 //! A system of actors.
+ghost use Rattle.std.specs.Prelude.{◌≡◌, ◌≤◌, length};
+ghost use Rattle.mb_gate.specs.Names.{actors_of, first_of};
+
 use crate::open::Open;
 use mb_actor::{Actor, Behaviours};
 use mb_gate::Gates;
@@ -16,4 +19,6 @@ pub struct System<A: Actor, K: Behaviours> {
     pub(crate) senders: u32,
     pub(crate) throughput: u32,
     pub(crate) alloc: Global,
+    ghost few: { (actors_of gates ≤ 64) × (senders ≤ 16) },
+    ghost roll: { length (first_of gates).value.roll ≡ actors_of gates },
 }
