@@ -4,3 +4,4 @@ pub mod Belonging
 pub mod Refused
 pub mod Begun
 pub mod Unbuilt
+pub mod Orders

@@ -73,7 +73,8 @@ impl<A: Actor, K: Behaviours> WorkerEnd<A, K> {
         ensures leaves { LeavesCaller (end_caller self.old.waker) (end_caller self.new.waker) }
         ensures number { self.new.number ≡ self.old.number }
     {
-        self.waker.register(rt, &system.gates, id, messages, systems)
+        self.waker
+            .register(rt, &system.gates, id, messages, systems)
     }
 
     /// Does so for all actors, in the order of their numbers.

@@ -8,7 +8,7 @@ ghost use Rattle.mb_dispatch.specs.Whole.{IsWhole};
 
 use crate::built::Built;
 use crate::leaving::gather;
-use crate::missing::{missing_end, missing_sender};
+use crate::missing::{arrange, missing_end, missing_sender};
 use crate::reckoning::{add_outside, report_on, take_apart};
 use crate::room::{Room, make_room};
 use crate::settled::first_unsettled;
@@ -69,6 +69,7 @@ impl<A: Actor, K: Behaviours> Built<A, K> {
         let Some(room) = room_of(&mut built) else {
             return Err(FinishError::NoMemory(built));
         };
+        arrange(&mut built.senders);
         match reckon(rt, built, room) {
             Ok(report) => Ok(report),
             Err(mismatch) => Err(FinishError::Mismatch(mismatch)),

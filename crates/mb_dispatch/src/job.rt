@@ -1,4 +1,8 @@
 //! What a sender is to send in a run.
+ghost use Rattle.std.specs.Prelude.{◌≡◌, [], ◌∷◌, OnOk};
+ghost use Rattle.mb_dispatch.specs.Members.{IsSenderOf};
+ghost use Rattle.mb_dispatch.specs.Orders.{HasSent, OwesNobody};
+
 use crate::failure::{RunError, of_sending};
 use crate::sender::Sender;
 use crate::system::System;
@@ -39,13 +43,23 @@ impl<A: Actor, K: Behaviours> Job<A, K> {
         &mut self,
         rt: &R,
         system: &System<A, K>,
-    ) -> Result<(), RunError> {
+    ) -> Result<(), RunError>
+        requires ours { IsSenderOf system.now.gates self.old.sender.inner }
+        ensures ours { IsSenderOf system.now.gates self.new.sender.inner }
+        ensures sends { self.new.sends ≡ self.old.sends }
+        ensures sent { OnOk result (HasSent self.old.sends.items self.old.sender self.new.sender × OwesNobody system.now.gates self.new.sender) }
+    {
         let outcome = self.send_each(rt, system);
         system.open.close_job();
         outcome
     }
 
-    fn send_each<R: Wait>(&mut self, rt: &R, system: &System<A, K>) -> Result<(), RunError> {
+    fn send_each<R: Wait>(&mut self, rt: &R, system: &System<A, K>) -> Result<(), RunError>
+        requires ours { IsSenderOf system.now.gates self.old.sender.inner }
+        ensures ours { IsSenderOf system.now.gates self.new.sender.inner }
+        ensures sends { self.new.sends ≡ self.old.sends }
+        ensures sent { OnOk result (HasSent self.old.sends.items self.old.sender self.new.sender × OwesNobody system.now.gates self.new.sender) }
+    {
         for order in &self.sends {
             send(rt, system, &mut self.sender, *order)?;
         }
@@ -59,7 +73,11 @@ fn send<A: Actor, K: Behaviours, R: Wait>(
     system: &System<A, K>,
     sender: &mut Sender<A, K>,
     order: Order,
-) -> Result<(), RunError> {
+) -> Result<(), RunError>
+    requires ours { IsSenderOf system.now.gates sender.old.inner }
+    ensures ours { IsSenderOf system.now.gates sender.new.inner }
+    ensures sent { OnOk result (HasSent (order ∷ []) sender.old sender.new) }
+{
     match order.what {
         What::Tell(body) => match sender.tell(rt, system, order.to, body) {
             Ok(_) => Ok(()),

@@ -1,4 +1,10 @@
 //! A run of all workers and some senders, each on a thread of its own.
+ghost use Rattle.std.specs.Prelude.{◌≡◌, IsOk, OnOk, length};
+ghost use Rattle.std.specs.Thread.{IsSync};
+ghost use Rattle.mb_dispatch.specs.Belonging.{ends_numbers};
+ghost use Rattle.mb_dispatch.specs.Members.{AreEndsOf, AreJobsOf, ArePaid};
+ghost use Rattle.mb_dispatch.specs.Orders.{AreDone};
+
 use crate::end::WorkerEnd;
 use crate::failure::RunError;
 use crate::job::Job;
@@ -17,7 +23,14 @@ impl<A: Actor + Send, K: Behaviours + Send> System<A, K> {
         rt: &R,
         ends: &mut [WorkerEnd<A, K>],
         jobs: &mut [Job<A, K>],
-    ) -> Result<(), RunError> {
+    ) -> Result<(), RunError>
+        requires ends { AreEndsOf self.now.gates ends.old }
+        requires jobs { AreJobsOf self.now.gates jobs.old }
+        ensures ends { AreEndsOf self.now.gates ends.new × (ends_numbers ends.new ≡ ends_numbers ends.old) }
+        ensures jobs { AreJobsOf self.now.gates jobs.new × (length jobs.new ≡ length jobs.old) }
+        ensures paid { OnOk result (ArePaid self.now.gates ends.new) }
+        ensures done { OnOk result (AreDone self.now.gates jobs.old jobs.new) }
+    {
         if let Some(first) = ends.first_mut() {
             first.register_all(rt, self);
         }
@@ -42,7 +55,14 @@ fn send_and_work<A: Actor + Send, K: Behaviours + Send, R: Threads + Wait + Sync
     system: &System<A, K>,
     ends: &mut [WorkerEnd<A, K>],
     jobs: &mut [Job<A, K>],
-) -> Outcome {
+) -> Outcome
+    requires ends { AreEndsOf system.now.gates ends.old }
+    requires jobs { AreJobsOf system.now.gates jobs.old }
+    ensures ends { AreEndsOf system.now.gates ends.new × (ends_numbers ends.new ≡ ends_numbers ends.old) }
+    ensures jobs { AreJobsOf system.now.gates jobs.new × (length jobs.new ≡ length jobs.old) }
+    ensures paid { OnOk result.ends (ArePaid system.now.gates ends.new) }
+    ensures done { OnOk result.jobs (AreDone system.now.gates jobs.old jobs.new) }
+{
     let Some((job, others)) = jobs.split_first_mut() else {
         return Outcome {
             ends: work_all(rt, system, ends),
@@ -51,8 +71,12 @@ fn send_and_work<A: Actor + Send, K: Behaviours + Send, R: Threads + Wait + Sync
     };
     let (rest, first) = join_mut(
         rt,
-        &mut || send_and_work(rt, system, ends, others),
-        &mut || job.send_all(rt, system),
+        &mut || -> Outcome
+            requires { IsSync R.row }
+        { send_and_work(rt, system, ends, others) },
+        &mut || -> Result<(), RunError>
+            requires { IsSync R.row }
+        { job.send_all(rt, system) },
     );
     Outcome {
         ends: rest.ends,
@@ -65,20 +89,30 @@ fn work_all<A: Actor + Send, K: Behaviours + Send, R: Threads + Wait + Sync>(
     rt: &R,
     system: &System<A, K>,
     ends: &mut [WorkerEnd<A, K>],
-) -> Result<(), RunError> {
+) -> Result<(), RunError>
+    requires ends { AreEndsOf system.now.gates ends.old }
+    ensures ends { AreEndsOf system.now.gates ends.new × (ends_numbers ends.new ≡ ends_numbers ends.old) }
+    ensures paid { OnOk result (ArePaid system.now.gates ends.new) }
+{
     let Some((end, others)) = ends.split_first_mut() else {
         return Ok(());
     };
     let (rest, first) = join_mut(
         rt,
-        &mut || work_all(rt, system, others),
-        &mut || end.work(rt, system),
+        &mut || -> Result<(), RunError>
+            requires { IsSync R.row }
+        { work_all(rt, system, others) },
+        &mut || -> Result<(), RunError>
+            requires { IsSync R.row }
+        { end.work(rt, system) },
     );
     first_of(first, rest)
 }
 
 // The first fault of two.
-fn first_of(first: Result<(), RunError>, rest: Result<(), RunError>) -> Result<(), RunError> {
+fn first_of(first: Result<(), RunError>, rest: Result<(), RunError>) -> Result<(), RunError>
+    ensures { OnOk result (IsOk first × IsOk rest) }
+{
     first?;
     rest
 }

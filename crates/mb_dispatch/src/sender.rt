@@ -1,4 +1,14 @@
 //! A sender outside the actors.
+ghost use Rattle.std.specs.Prelude.{◌≡◌, ◌⊎◌, ◌<◌, ◌≤◌, true, false, IfOk, IsErrOf, OnErr, OnOk};
+ghost use Rattle.mb_core.specs.Actor.{nothing};
+ghost use Rattle.mb_gate.specs.Names.{actors_of, known_by};
+ghost use Rattle.mb_gate.specs.View.{owes};
+ghost use Rattle.mb_send.specs.Answers.{IsSeen, IsSent, IsTold, Stops};
+ghost use Rattle.mb_send.specs.declared.unsent.Unsent.TheVariants as Refusal;
+ghost use Rattle.mb_wake.specs.Owed.{is_owed};
+ghost use Rattle.mb_dispatch.specs.Members.{IsSenderOf};
+ghost use Rattle.mb_dispatch.specs.Orders.{OwesNobody};
+
 use crate::failure::{RunError, of_debts};
 use crate::system::System;
 use mb_actor::{Actor, Behaviours};
@@ -35,7 +45,9 @@ impl<A: Actor, K: Behaviours> Drop for Sender<A, K> {
 
 impl<A: Actor, K: Behaviours> Sender<A, K> {
     /// What the sender knows, its passes into the queues, and what it was answered; its way into the pool is let go.
-    pub(crate) fn into_parts(self) -> (Pass<Place<A, K>>, Vec<SendPass>, Book) {
+    pub(crate) fn into_parts(self) -> (Pass<Place<A, K>>, Vec<SendPass>, Book)
+        ensures { (result.0 ≡ self.inner.waker.pass) × (result.1 ≡ self.inner.sends) × (result.2 ≡ self.inner.book) }
+    {
         let Sender { inner } = self;
         let mb_send::Sender {
             waker,
@@ -52,7 +64,17 @@ impl<A: Actor, K: Behaviours> Sender<A, K> {
     }
 
     /// Looks whether the receiver is open, by one reading of its status.
-    pub fn look(&mut self, system: &System<A, K>, to: ActorId) -> Result<Look, Unsent> {
+    pub fn look(&mut self, system: &System<A, K>, to: ActorId) -> Result<Look, Unsent>
+        requires ours { IsSenderOf system.now.gates self.old.inner }
+        ensures ours { IsSenderOf system.now.gates self.new.inner }
+        ensures by { self.new.inner.book.by ≡ self.old.inner.book.by }
+        ensures refused { OnErr result ((self.new ≡ self.old) × IsErrOf result Refusal.NoSuchActor
+            × ((to.0 ≡ 0) ⊎ (actors_of system.now.gates ≤ to.0))) }
+        ensures seen { IfOk result (λ look. (0 < to.0) × (to.0 < actors_of system.now.gates)
+            × IsSeen to look (known_by self.old.inner.waker.pass) (known_by self.new.inner.waker.pass)) }
+        ensures same { (self.new.inner.book ≡ self.old.inner.book) × (self.new.inner.sends ≡ self.old.inner.sends)
+            × (self.new.inner.waker.owed ≡ self.old.inner.waker.owed) }
+    {
         self.inner.look(&system.gates, to)
     }
 
@@ -63,7 +85,17 @@ impl<A: Actor, K: Behaviours> Sender<A, K> {
         system: &System<A, K>,
         ticket: Ticket,
         body: Body,
-    ) -> Result<Put, Unsent> {
+    ) -> Result<Put, Unsent>
+        requires ours { IsSenderOf system.now.gates self.old.inner }
+        requires there { (0 < ticket.to.0) × (ticket.to.0 < actors_of system.now.gates) }
+        ensures ours { IsSenderOf system.now.gates self.new.inner }
+        ensures by { self.new.inner.book.by ≡ self.old.inner.book.by }
+        ensures refused { OnErr result (IsErrOf result Refusal.NoMemory × (self.new.inner.book.posted ≡ self.old.inner.book.posted)
+            × (self.new.inner.waker ≡ self.old.inner.waker)) }
+        ensures sent { IfOk result (IsSent self.old.inner.book.by self.old.inner.book.sent ticket.to body self.old.inner.book.posted
+            self.new.inner.book.posted self.old.inner.sends.items (known_by self.old.inner.waker.pass) (known_by self.new.inner.waker.pass)) }
+        ensures paid { IfOk result (λ _. (owes ticket.to.0 (known_by self.new.inner.waker.pass) ≡ nothing) ⊎ (is_owed self.new.inner.waker.owed ticket.to.0 ≡ true)) }
+    {
         self.inner.put(rt, &system.gates, ticket, body)
     }
 
@@ -74,7 +106,17 @@ impl<A: Actor, K: Behaviours> Sender<A, K> {
         system: &System<A, K>,
         to: ActorId,
         body: Body,
-    ) -> Result<Put, Unsent> {
+    ) -> Result<Put, Unsent>
+        requires ours { IsSenderOf system.now.gates self.old.inner }
+        ensures ours { IsSenderOf system.now.gates self.new.inner }
+        ensures by { self.new.inner.book.by ≡ self.old.inner.book.by }
+        ensures refused { OnErr result ((self.new.inner.book.posted ≡ self.old.inner.book.posted)
+            × ((IsErrOf result Refusal.NoSuchActor × ((to.0 ≡ 0) ⊎ (actors_of system.now.gates ≤ to.0)))
+            ⊎ (IsErrOf result Refusal.NoMemory × (0 < to.0) × (to.0 < actors_of system.now.gates)))) }
+        ensures told { IfOk result (IsTold self.old.inner.book.by self.old.inner.book.sent to body self.old.inner.book.posted
+            self.new.inner.book.posted self.old.inner.sends.items (known_by self.old.inner.waker.pass) (known_by self.new.inner.waker.pass)) }
+        ensures paid { IfOk result (λ _. (owes to.0 (known_by self.new.inner.waker.pass) ≡ nothing) ⊎ (is_owed self.new.inner.waker.owed to.0 ≡ true)) }
+    {
         self.inner.tell(rt, &system.gates, to, body)
     }
 
@@ -84,12 +126,28 @@ impl<A: Actor, K: Behaviours> Sender<A, K> {
         rt: &R,
         system: &System<A, K>,
         id: ActorId,
-    ) -> Result<bool, Unsent> {
+    ) -> Result<bool, Unsent>
+        requires ours { IsSenderOf system.now.gates self.old.inner }
+        ensures ours { IsSenderOf system.now.gates self.new.inner }
+        ensures by { self.new.inner.book.by ≡ self.old.inner.book.by }
+        ensures refused { OnErr result ((self.new ≡ self.old) × ((IsErrOf result Refusal.NoSuchActor × (actors_of system.now.gates ≤ id.0))
+            ⊎ (IsErrOf result Refusal.NoMemory × (id.0 < actors_of system.now.gates)))) }
+        ensures stopped { IfOk result (Stops id.0 (known_by self.old.inner.waker.pass) (known_by self.new.inner.waker.pass)) }
+        ensures same { (self.new.inner.book ≡ self.old.inner.book) × (self.new.inner.sends ≡ self.old.inner.sends) }
+        ensures paid { IfOk result (λ _. (owes id.0 (known_by self.new.inner.waker.pass) ≡ nothing) ⊎ (is_owed self.new.inner.waker.owed id.0 ≡ true)) }
+    {
         self.inner.stop(rt, &system.gates, id)
     }
 
     /// Looks again after each actor that it owes a look.
-    pub(crate) fn pay<R: Wait>(&mut self, rt: &R, system: &System<A, K>) -> Result<(), RunError> {
+    pub(crate) fn pay<R: Wait>(&mut self, rt: &R, system: &System<A, K>) -> Result<(), RunError>
+        requires ours { IsSenderOf system.now.gates self.old.inner }
+        ensures ours { IsSenderOf system.now.gates self.new.inner }
+        ensures by { self.new.inner.book.by ≡ self.old.inner.book.by }
+        ensures done { OnOk result (OwesNobody system.now.gates self.new) }
+        ensures same { ((known_by self.new.inner.waker.pass).said ≡ (known_by self.old.inner.waker.pass).said)
+            × (self.new.inner.book ≡ self.old.inner.book) × (self.new.inner.sends ≡ self.old.inner.sends) }
+    {
         match self.inner.waker.pay(rt, &system.gates) {
             Ok(()) => Ok(()),
             Err(error) => Err(of_debts(error)),
