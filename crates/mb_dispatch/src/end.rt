@@ -1,11 +1,12 @@
 //! A worker's end of a system.
-ghost use Rattle.std.specs.Prelude.{◌≡◌, ◌<◌, ◌≤◌, ℕ, false, List, IfSome, IsErrOf, MatchResult, OnOk, Some, length};
+ghost use Rattle.std.specs.Prelude.{◌≡◌, ◌<◌, ◌≤◌, ℕ, false, List, All, IfNone, IfSome, IsErrOf, MatchResult, OnOk, Some, length};
 ghost use Rattle.mb_journal.specs.Entry.{Entry};
 ghost use Rattle.mb_journal.specs.Run.{Stopped};
 ghost use Rattle.mb_journal.specs.Run.Stopped.{NoRoom};
 ghost use Rattle.mb_gate.specs.Names.{actors_of, held_actor, known_by};
 ghost use Rattle.mb_gate.specs.Untouched.{origin_of};
-ghost use Rattle.mb_pool.specs.Places.{gates_of};
+ghost use Rattle.mb_pool.specs.Places.{gates_of, looks};
+ghost use Rattle.mb_pool.specs.Moves.{WasEmpty};
 ghost use Rattle.mb_turn.specs.Caller.{IsPaid, LeavesCaller};
 ghost use Rattle.mb_turn.specs.Fresh.{IsFreshClaim};
 ghost use Rattle.mb_turn.specs.Ran.{HadRoom, LeavesRun};
@@ -91,6 +92,7 @@ impl<A: Actor, K: Behaviours> WorkerEnd<A, K> {
     /// Takes a claim out of the pool; `None` only if each place in which it looks was empty at a moment.
     pub fn take<R: Wait>(&mut self, rt: &R) -> Option<Claim<Place<A, K>>>
         ensures fit { IfSome result (IsFreshClaim K.gives (gates_of self.old.waker.way.end)) }
+        ensures none { IfNone result (All (WasEmpty (IsFreshClaim K.gives)) (looks self.old.waker.way.end)) }
         ensures same { (self.new.waker.pass ≡ self.old.waker.pass) × (self.new.waker.owed ≡ self.old.waker.owed)
             × (gates_of self.new.waker.way.end ≡ gates_of self.old.waker.way.end) × (self.new.number ≡ self.old.number) }
     {

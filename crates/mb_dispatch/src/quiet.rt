@@ -1,5 +1,10 @@
 //! Running on one thread alone.
-ghost use Rattle.std.specs.Prelude.{◌≡◌, OnOk};
+ghost use Rattle.std.specs.Prelude.{◌≡◌, All, OnOk};
+ghost use Rattle.std.specs.Global.{Box};
+ghost use Rattle.mb_home.specs.Contents.{Contents};
+ghost use Rattle.mb_pool.specs.Moves.{WasEmpty};
+ghost use Rattle.mb_pool.specs.Places.{Way, gates_of, looks};
+ghost use Rattle.mb_turn.specs.Fresh.{IsFreshClaim};
 ghost use Rattle.mb_wake.specs.Owed.{IsNobody};
 ghost use Rattle.mb_dispatch.specs.Members.{IsEndOf};
 
@@ -23,6 +28,8 @@ impl<A: Actor, K: Behaviours> WorkerEnd<A, K> {
         requires ours { IsEndOf system.now.gates self.old.waker }
         ensures ours { IsEndOf system.now.gates self.new.waker }
         ensures paid { OnOk result (IsNobody self.new.waker.owed) }
+        ensures empty { OnOk result ((end : Way (Box Contents)) × (gates_of end ≡ gates_of self.new.waker.way.end)
+            × All (WasEmpty (IsFreshClaim K.gives)) (looks end)) }
         ensures number { self.new.number ≡ self.old.number }
     {
         self.register_all(rt, system);

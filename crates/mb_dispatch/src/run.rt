@@ -1,9 +1,11 @@
 //! A run of all workers and some senders, each on a thread of its own.
-ghost use Rattle.std.specs.Prelude.{◌≡◌, IsOk, OnOk, length};
+ghost use Rattle.std.specs.Prelude.{◌≡◌, ◌<◌, ℕ, false, IsOk, OnOk, length};
 ghost use Rattle.std.specs.Thread.{IsSync};
+ghost use Rattle.mb_gate.specs.Names.{actors_of};
+ghost use Rattle.mb_wake.specs.Owed.{is_owed};
 ghost use Rattle.mb_dispatch.specs.Belonging.{ends_numbers};
-ghost use Rattle.mb_dispatch.specs.Members.{AreEndsOf, AreJobsOf, ArePaid};
-ghost use Rattle.mb_dispatch.specs.Orders.{AreDone};
+ghost use Rattle.mb_dispatch.specs.Members.{AreEndsOf, AreJobsOf, ArePaid, IsEndOf, IsSenderOf};
+ghost use Rattle.mb_dispatch.specs.Orders.{AreDone, HasSent, OwesNobody};
 
 use crate::end::WorkerEnd;
 use crate::failure::RunError;
@@ -72,10 +74,17 @@ fn send_and_work<A: Actor + Send, K: Behaviours + Send, R: Threads + Wait + Sync
     let (rest, first) = join_mut(
         rt,
         &mut || -> Outcome
-            requires { IsSync R.row }
+            requires { IsSync R.row × AreEndsOf system.now.gates ends.now × AreJobsOf system.now.gates others.now }
+            ensures { AreEndsOf system.now.gates ends.exit.now × (ends_numbers ends.exit.now ≡ ends_numbers ends.entry.now)
+                × OnOk result.ends (ArePaid system.now.gates ends.exit.now)
+                × AreJobsOf system.now.gates others.exit.now × (length others.exit.now ≡ length others.entry.now)
+                × OnOk result.jobs (AreDone system.now.gates others.entry.now others.exit.now) }
         { send_and_work(rt, system, ends, others) },
         &mut || -> Result<(), RunError>
-            requires { IsSync R.row }
+            requires { IsSync R.row × IsSenderOf system.now.gates job.now.sender.inner }
+            ensures { IsSenderOf system.now.gates job.exit.now.sender.inner × (job.exit.now.sends ≡ job.entry.now.sends)
+                × OnOk result (HasSent job.entry.now.sends.items job.entry.now.sender job.exit.now.sender
+                × OwesNobody system.now.gates job.exit.now.sender) }
         { job.send_all(rt, system) },
     );
     Outcome {
@@ -100,10 +109,14 @@ fn work_all<A: Actor + Send, K: Behaviours + Send, R: Threads + Wait + Sync>(
     let (rest, first) = join_mut(
         rt,
         &mut || -> Result<(), RunError>
-            requires { IsSync R.row }
+            requires { IsSync R.row × AreEndsOf system.now.gates others.now }
+            ensures { AreEndsOf system.now.gates others.exit.now × (ends_numbers others.exit.now ≡ ends_numbers others.entry.now)
+                × OnOk result (ArePaid system.now.gates others.exit.now) }
         { work_all(rt, system, others) },
         &mut || -> Result<(), RunError>
-            requires { IsSync R.row }
+            requires { IsSync R.row × IsEndOf system.now.gates end.now.waker }
+            ensures { IsEndOf system.now.gates end.exit.now.waker × (end.exit.now.number ≡ end.entry.now.number)
+                × OnOk result ((id : ℕ) → id < actors_of system.now.gates → is_owed end.exit.now.waker.owed id ≡ false) }
         { end.work(rt, system) },
     );
     first_of(first, rest)

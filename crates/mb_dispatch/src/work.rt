@@ -1,5 +1,5 @@
 //! A worker among others.
-ghost use Rattle.std.specs.Prelude.{◌≡◌, ◌<◌, ℕ, false, OnOk};
+ghost use Rattle.std.specs.Prelude.{◌≡◌, ◌<◌, ℕ, false, true, Ok, OnOk};
 ghost use Rattle.mb_gate.specs.Names.{actors_of};
 ghost use Rattle.mb_wake.specs.Owed.{is_owed};
 ghost use Rattle.mb_dispatch.specs.Members.{IsEndOf};
@@ -63,7 +63,13 @@ impl<A: Actor, K: Behaviours> WorkerEnd<A, K> {
     }
 
     // Waits for a claim, and runs it; or finds that none will come.
-    fn is_over<R: Wait>(&mut self, rt: &R, system: &System<A, K>) -> Result<bool, RunError> {
+    fn is_over<R: Wait>(&mut self, rt: &R, system: &System<A, K>) -> Result<bool, RunError>
+        requires ours { IsEndOf system.now.gates self.old.waker }
+        requires paid { (id : ℕ) → id < actors_of system.now.gates → is_owed self.old.waker.owed id ≡ false }
+        ensures ours { IsEndOf system.now.gates self.new.waker }
+        ensures paid { OnOk result (result ≡ Ok true → (id : ℕ) → id < actors_of system.now.gates → is_owed self.new.waker.owed id ≡ false) }
+        ensures number { self.new.number ≡ self.old.number }
+    {
         system.open.leave();
         let backoff = Backoff::new();
         for _ in rt.forever() {
