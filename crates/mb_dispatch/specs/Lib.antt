@@ -5,3 +5,4 @@ pub mod Refused
 pub mod Begun
 pub mod Unbuilt
 pub mod Orders
+pub mod Apart

@@ -1,4 +1,9 @@
 //! All that belongs to a system comes together.
+ghost use Rattle.std.specs.Prelude.{◌≡◌, ◌≢◌, ◌≤◌, [], All, length, map, vec_capacity};
+ghost use Rattle.mb_gate.specs.Names.{gates_id, known_by, pass_id};
+ghost use Rattle.mb_gate.specs.Rule.{IsPart};
+ghost use Rattle.mb_dispatch.specs.Belonging.{BelongsTogether};
+
 use crate::built::Built;
 use crate::system::System;
 use mb_actor::{Actor, Behaviours};
@@ -12,7 +17,15 @@ use mb_turn::Place;
 pub(crate) fn gather<A: Actor, K: Behaviours>(
     built: Built<A, K>,
     outside: &mut Vec<(Vec<SendPass>, Book)>,
-) -> (Gates<Place<A, K>>, Pass<Place<A, K>>) {
+) -> (Gates<Place<A, K>>, Pass<Place<A, K>>)
+    requires together { BelongsTogether built }
+    requires some { built.ends.items ≢ [] }
+    requires room { (outside.old.items ≡ []) × (length built.senders.items ≤ vec_capacity outside.old) }
+    ensures gates { (result.0 ≡ built.system.gates) × (pass_id result.1 ≡ gates_id result.0) }
+    ensures ends { All (λ e. IsPart (known_by e.waker.pass).log (known_by result.1).log) built.ends.items }
+    ensures senders { All (λ s. IsPart (known_by s.inner.waker.pass).log (known_by result.1).log) built.senders.items }
+    ensures outside { map (λ o. (o.0.items, o.1)) outside.new.items ≡ map (λ s. (s.inner.sends.items, s.inner.book)) built.senders.items }
+{
     let Built {
         system,
         ends,

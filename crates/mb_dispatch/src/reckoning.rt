@@ -1,4 +1,8 @@
 //! What is left of the actors.
+ghost use Rattle.std.specs.Prelude.{◌≡◌, ◌+◌, ◌<◌, ◌≤◌, [], ◌++◌, IfErr, IfOk, OnOk, length, map, vec_capacity};
+ghost use Rattle.mb_dispatch.specs.Apart.{AreApart, ShowsAll, ShowsCell, ended_of, sent_of};
+ghost use Rattle.mb_dispatch.specs.Refused.{of_whom};
+
 use crate::finish::Mismatch;
 use crate::room::Ended;
 use mb_actor::{Actor, Behaviours};
@@ -18,13 +22,27 @@ pub(crate) fn take_apart<A: Actor, K: Behaviours>(
     takes: &mut Vec<TakePass>,
     rows: &mut Vec<Vec<SendPass>>,
     senders: &mut Vec<SenderReport>,
-) -> Result<(), Mismatch> {
+) -> Result<(), Mismatch>
+    requires empty { (ended.old.items ≡ []) × (takes.old.items ≡ []) × (rows.old.items ≡ []) × (senders.old.items ≡ []) }
+    requires room { (length all.items ≤ vec_capacity ended.old) × (length all.items ≤ vec_capacity takes.old)
+        × (length all.items ≤ vec_capacity rows.old) × (length all.items ≤ vec_capacity senders.old) × (length all.items ≤ 64) }
+    ensures apart { OnOk result (AreApart all.items ended.new.items takes.new.items (map (λ r. r.items) rows.new.items) senders.new.items) }
+    ensures whom { IfErr result (λ mismatch. of_whom mismatch < length all.items) }
+    ensures room { (vec_capacity rows.new ≡ vec_capacity rows.old) × (vec_capacity senders.new ≡ vec_capacity senders.old) }
+{
     for left in all {
         let id = ActorId(ended.len() as u32);
-        let Some(Left { home, given: _ }) = left else {
+        let Some(
+            Left {
+                home,
+                given: _,
+                listed,
+            },
+        ) = left
+        else {
             return Err(Mismatch::Held(id));
         };
-        if home.has_next() {
+        if listed || home.has_next() {
             return Err(Mismatch::List(id));
         }
         let Parts {
@@ -55,7 +73,12 @@ pub(crate) fn add_outside(
     outside: Vec<(Vec<SendPass>, Book)>,
     rows: &mut Vec<Vec<SendPass>>,
     senders: &mut Vec<SenderReport>,
-) {
+)
+    requires room { (length rows.old.items + length outside.items ≤ vec_capacity rows.old)
+        × (length senders.old.items + length outside.items ≤ vec_capacity senders.old) }
+    ensures rows { map (λ r. r.items) rows.new.items ≡ map (λ r. r.items) rows.old.items ++ map (λ o. o.0.items) outside.items }
+    ensures senders { map sent_of senders.new.items ≡ map sent_of senders.old.items ++ map (λ o. (o.1.sent, o.1.dead.items)) outside.items }
+{
     for (sends, book) in outside {
         let Book {
             by: _,
@@ -75,7 +98,13 @@ pub(crate) fn report_on<A: Actor, K: Behaviours>(
     waiting: &[u64],
     room: Vec<ActorReport>,
     senders: Vec<SenderReport>,
-) -> Result<Report, Mismatch> {
+) -> Result<Report, Mismatch>
+    requires many { (length lefts.items ≡ length ended.items) × (length waiting.now ≡ length ended.items) × (length ended.items ≤ 64) }
+    requires room { (room.items ≡ []) × (length ended.items ≤ vec_capacity room) }
+    ensures shows { IfOk result (λ report. ShowsAll K.after ended.items (map (λ l. l.items) lefts.items) waiting.now report.actors.items
+        × (report.senders ≡ senders)) }
+    ensures whom { IfErr result (λ mismatch. of_whom mismatch < length ended.items) }
+{
     let mut actors = room;
     let mut lefts = lefts.into_iter();
     for one in ended {
@@ -92,7 +121,9 @@ pub(crate) fn report_on<A: Actor, K: Behaviours>(
 }
 
 // What is reported of one actor.
-fn actor_report<A: Actor, K: Behaviours>(ended: Ended<A, K>, left: Vec<Envelope>) -> ActorReport {
+fn actor_report<A: Actor, K: Behaviours>(ended: Ended<A, K>, left: Vec<Envelope>) -> ActorReport
+    ensures { ShowsCell K.after (ended_of ended) left.items result }
+{
     let Ended {
         cell,
         cleaned,
