@@ -6,3 +6,4 @@ pub mod Begun
 pub mod Unbuilt
 pub mod Orders
 pub mod Apart
+pub mod Rooms

@@ -1,4 +1,9 @@
 //! The room that the end of a system takes: after it no memory is asked for.
+ghost use Rattle.std.specs.Prelude.{◌≡◌, ◌≤◌, IfOk};
+ghost use Rattle.mb_gate.specs.Names.{actors_of, gates_id, known_by, pass_id};
+ghost use Rattle.mb_gate.specs.Rule.{IsPart};
+ghost use Rattle.mb_dispatch.specs.Rooms.{IsRoom};
+
 use mb_actor::{Actor, Behaviours};
 use mb_cell::Cell;
 use mb_gate::{Gates, Left, Pass};
@@ -37,7 +42,13 @@ pub(crate) fn make_room<A: Actor, K: Behaviours>(
     gates: &Gates<Place<A, K>>,
     pass: &mut Pass<Place<A, K>>,
     outside: usize,
-) -> Result<Room<A, K>, AllocError> {
+) -> Result<Room<A, K>, AllocError>
+    requires ours { pass_id pass.old ≡ gates_id gates.now }
+    requires few { (actors_of gates.now ≤ 64) × (outside ≤ 16) }
+    ensures ours { pass_id pass.new ≡ pass_id pass.old }
+    ensures known { IsPart (known_by pass.old).log (known_by pass.new).log }
+    ensures room { IfOk result (IsRoom (actors_of gates.now) outside) }
+{
     let actors = gates.actors();
     let senders = actors.checked_add(outside).ok_or(AllocError)?;
     let mut room = Room {
