@@ -1,5 +1,6 @@
 -- Numbers in order.
-use Rattle.std.proofs.Common.{◌≡◌, ◌≤◌, ◌<◌, ℕ, zero, suc, ◌+◌, ◌-◌, List, [], ◌∷◌, ◌++◌, map, refl, sym, ap, ◌∙◌, append_assoc, arith}
+use Rattle.std.proofs.Common.{◌≡◌, ◌≢◌, ◌≤◌, ◌<◌, ℕ, zero, suc, ◌+◌, ◌-◌, List, [], ◌∷◌, ◌++◌, map, refl, sym, ap, ◌∙◌, append_assoc, arith}
+use Rattle.std.specs.Prelude.{All, AllPairs}
 use Rattle.std.proofs.lemmas.List.{map-append}
 use Rattle.mb_msg.specs.declared.id.SenderId.{SenderId}
 use Rattle.mb_queue.specs.Made.{numbers_of}
@@ -23,3 +24,13 @@ one-number-more old now new first number le before is =
     ∙ append_assoc (numbers_of old) (numbers first (number - first)) (number ∷ [])
     ∙ ap (λ l. numbers_of old ++ l) (ap (λ n. numbers first (number - first) ++ n ∷ []) (omega (arith, le))
     ∙ sym (numbers-more first (number - first)) ∙ ap (numbers first) (shifted first number le))
+
+-- a number below the first of these is none of them
+none_below : (b first count : ℕ) → b < first → All (λ (n : ℕ). b ≢ n) (numbers first count)
+none_below b first zero lt = tt
+none_below b first (suc count) lt = ((λ same. absurd (omega (arith, lt, same))), none_below b (first + 1) count (omega (arith, lt)))
+
+-- numbers in order are different
+pub all_different : (first count : ℕ) → AllPairs (λ a b. a ≢ b) (numbers first count)
+all_different first zero = tt
+all_different first (suc count) = (none_below first (first + 1) count (omega arith), all_different (first + 1) count)

@@ -7,3 +7,4 @@ pub mod Unbuilt
 pub mod Orders
 pub mod Apart
 pub mod Rooms
+pub mod Seen

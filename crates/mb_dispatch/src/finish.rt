@@ -1,9 +1,10 @@
 //! How a system ends.
-ghost use Rattle.std.specs.Prelude.{◌≡◌, ◌≤◌, List, IfErr, IfOk};
+ghost use Rattle.std.specs.Prelude.{All, List, IfErr, IfOk};
 ghost use Rattle.mb_fates.specs.declared.posting.Posting.{Posting};
-ghost use Rattle.mb_gate.specs.Names.{first_of};
+ghost use Rattle.mb_gate.specs.Names.{first_of, known_by};
 ghost use Rattle.mb_dispatch.specs.Belonging.{AreAnswers, BelongsTogether};
 ghost use Rattle.mb_dispatch.specs.Refused.{IsComplete, IsRefusal};
+ghost use Rattle.mb_dispatch.specs.Seen.{GoesOnFromAll};
 ghost use Rattle.mb_dispatch.specs.Whole.{IsWhole};
 
 use crate::built::Built;
@@ -54,6 +55,8 @@ impl<A: Actor, K: Behaviours> Built<A, K> {
         ensures whole { IfOk result (λ report. (answers : List (List Posting)) × AreAnswers self.system.senders self.senders.items answers
             × IsWhole K.after K.gives (first_of self.system.gates).value.roll answers report) }
         ensures quiet { IfOk result (λ _. IsComplete self) }
+        ensures seen { IfOk result (λ report. All (λ e. GoesOnFromAll report (known_by e.waker.pass)) self.ends.items
+            × All (λ s. GoesOnFromAll report (known_by s.inner.waker.pass)) self.senders.items) }
         ensures refused { IfErr result (IsRefusal self) }
     {
         if let Some(number) = missing_end(&self) {
