@@ -6,7 +6,7 @@ use Rattle.mb_gate.specs.Names.{actors_of, first_of}
 use Rattle.mb_home.specs.Contents.{Contents}
 use Rattle.mb_home.specs.Roll.{queues_of}
 use Rattle.mb_pool.specs.Places.{gates_of, looks}
-use Rattle.mb_queue.specs.Passes.{Sending}
+use Rattle.mb_send.specs.Sends.{receiving_queues}
 use Rattle.mb_send.specs.declared.sender.Sender.{Sender}
 use Rattle.mb_turn.specs.Caller.{Caller, caller_of, IsWakerOf}
 use Rattle.mb_wake.specs.Owed.{is_owed}
@@ -25,7 +25,7 @@ IsEndOf gates waker = IsWakerOf (λ (way : EndWay (Box Contents)). gates_of way.
 pub record IsSenderOf (gates : Gates (Box Contents)) (sender : Sender (Box Contents) (FeedWay (Box Contents))) : Type 0 where
   pub ours : IsWakerOf (λ (way : FeedWay (Box Contents)). gates_of way.feed) gates sender.waker
   pub all : vec_len sender.sends + 1 ≡ actors_of gates
-  pub queues : map (λ (p : Sending). p.queue) sender.sends.items ≡ drop 1 (queues_of (first_of gates).value.roll)
+  pub queues : receiving_queues sender.sends.items ≡ drop 1 (queues_of (first_of gates).value.roll)
 
 -- what an end, and what a sender's waker, knows and owes, with its account with the pool
 abbrev pub end_caller : Waker (Box Contents) (EndWay (Box Contents)) → Caller (Box Contents)
