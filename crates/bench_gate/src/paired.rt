@@ -19,14 +19,17 @@ struct Turned {
     done: u64,
 }
 
-/// How long two threads took, and what they gained: how many hundredths of one thread's turns they did in the same time.
+/// How often each thread does as many turns as a round of one thread has, so that its start counts for little.
+const LAPS: u64 = 4;
+
+/// How long two threads took, and what they gained: how many hundredths of that time they took one after the other.
 pub struct Paired {
     pub figure: Figure,
     pub gains: Vec<u64>,
 }
 
-/// Each of two threads schedules its actor and gives its cell home. Before each round one thread does its turns alone, so that
-/// the two are compared while the machine is as fast.
+/// Each of two threads schedules its actor and gives its cell home. Before each round the same threads do their turns one
+/// after the other, so that the two are compared while the machine is as fast.
 pub fn turns<R: Clock + Threads + Sync>(rt: &R, alloc: Global) -> Option<Paired> {
     let (gates, mut first) = two(alloc)?;
     let mut second = gates.another(&mut first);
@@ -35,16 +38,17 @@ pub fn turns<R: Clock + Threads + Sync>(rt: &R, alloc: Global) -> Option<Paired>
     let mut done = 0u64;
     for _ in 0..ROUNDS {
         let begin = Instant::now(rt).ok();
-        let _ = turn_often(&gates, &mut first, ActorId(0));
-        let alone = elapsed(rt, begin);
+        let (one, other) = both(rt, &gates, first, second, LAPS, 0);
+        let (one, other) = both(rt, &gates, one.pass, other.pass, 0, LAPS);
+        let apart = elapsed(rt, begin);
         let begin = Instant::now(rt).ok();
-        let (one, other) = both(rt, &gates, first, second);
+        let (one, other) = both(rt, &gates, one.pass, other.pass, LAPS, LAPS);
         let time = elapsed(rt, begin);
         done = one.done.wrapping_add(other.done);
         first = one.pass;
         second = other.pass;
-        times.push(time).ok()?;
-        gains.push(gain(alone, time)).ok()?;
+        times.push(time / LAPS).ok()?;
+        gains.push(gain(apart, time)).ok()?;
     }
     Some(Paired {
         figure: Figure { done, times },
@@ -52,15 +56,18 @@ pub fn turns<R: Clock + Threads + Sync>(rt: &R, alloc: Global) -> Option<Paired>
     })
 }
 
-fn gain(alone: u64, both: u64) -> u64 {
-    alone.saturating_mul(200).checked_div(both).unwrap_or(0)
+fn gain(apart: u64, together: u64) -> u64 {
+    apart.saturating_mul(100).checked_div(together).unwrap_or(0)
 }
 
+// Each thread does so many laps.
 fn both<R: Threads + Sync>(
     rt: &R,
     gates: &Gates<Desk>,
     first: Pass<Desk>,
     second: Pass<Desk>,
+    laps: u64,
+    second_laps: u64,
 ) -> (Turned, Turned)
     requires ours { (pass_id first ≡ gates_id gates.now) × (pass_id second ≡ gates_id gates.now) }
     requires there { 1 < actors_of gates.now }
@@ -71,19 +78,22 @@ fn both<R: Threads + Sync>(
         || -> Turned
             requires { (pass_id first ≡ gates_id gates.now) × (1 < actors_of gates.now) }
             ensures { pass_id result.pass ≡ gates_id gates.entry.now }
-        { turn_all(gates, first, ActorId(0)) },
+        { turn_all(gates, first, ActorId(0), laps) },
         || -> Turned
             requires { (pass_id second ≡ gates_id gates.now) × (1 < actors_of gates.now) }
             ensures { pass_id result.pass ≡ gates_id gates.entry.now }
-        { turn_all(gates, second, ActorId(1)) },
+        { turn_all(gates, second, ActorId(1), second_laps) },
     )
 }
 
-fn turn_all(gates: &Gates<Desk>, mut pass: Pass<Desk>, id: ActorId) -> Turned
+fn turn_all(gates: &Gates<Desk>, mut pass: Pass<Desk>, id: ActorId, laps: u64) -> Turned
     requires ours { pass_id pass ≡ gates_id gates.now }
     requires there { id.0 < actors_of gates.now }
     ensures ours { pass_id result.pass ≡ gates_id gates.now }
 {
-    let done = turn_often(gates, &mut pass, id);
+    let mut done = 0u64;
+    for _ in 0..laps {
+        done = done.wrapping_add(turn_often(gates, &mut pass, id));
+    }
     Turned { pass, done }
 }

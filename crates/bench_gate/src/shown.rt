@@ -39,14 +39,14 @@ pub fn show<R: Print + Eprint>(rt: &R, what: &str, made: Made) -> io::Result<()>
     Ok(())
 }
 
-/// Shows how many times the turns of one thread two did in the same time.
+/// Shows how many times as long two threads took one after the other as at once.
 pub fn show_gain<R: Eprint>(rt: &R, gains: Vec<u64>) {
     if let Some(median) = median(gains) {
         let whole = median / 100;
         let tenth = median % 100 / 10;
         let hundredth = median % 10;
         let _ = eprintln!(rt;
-            "two threads did {whole}.{tenth}{hundredth} times what one did, the median of {ROUNDS} rounds"
+            "two threads took {whole}.{tenth}{hundredth} times as long one after the other, the median of {ROUNDS} rounds"
         );
     }
 }

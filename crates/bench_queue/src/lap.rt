@@ -57,7 +57,7 @@ impl Laps {
         Ok(())
     }
 
-    /// The median, for one push with its take.
+    /// The median, for one of so many.
     fn each(&mut self, rounds: u64) -> u64 {
         self.times.sort_unstable();
         let middle = self.times.len() / 2;
@@ -137,5 +137,41 @@ where
         "{what}: {} ns a push with its take",
         laps.each(course.rounds)
     );
+    Ok(())
+}
+
+/// A queue whose pushes can be timed apart from its takes.
+pub trait Parted: Drop {
+    /// So many pushes.
+    fn push_some<R: Wait>(&mut self, rt: &R, rounds: u64);
+
+    /// So many takes. It gives how many gave something.
+    fn take_some<R: Wait>(&mut self, rt: &R, rounds: u64) -> u64;
+}
+
+/// Times one queue, the pushes of each lap apart from its takes.
+pub(crate) fn measure_apart<R, A: Parted>(
+    rt: &R,
+    alloc: Global,
+    course: Course,
+    what: &str,
+    mut ours: A,
+) -> io::Result<()>
+where
+    R: Clock + Wait + Print + Eprint,
+{
+    let mut pushes = Laps::new(alloc);
+    let mut takes = Laps::new(alloc);
+    for _ in 0..course.laps {
+        let begin = Instant::now(rt).ok();
+        ours.push_some(rt, course.rounds);
+        pushes.add(0, elapsed(rt, begin))?;
+        let begin = Instant::now(rt).ok();
+        let taken = ours.take_some(rt, course.rounds);
+        takes.add(taken, elapsed(rt, begin))?;
+    }
+    println!(rt; "{what}: {} taken", takes.taken)?;
+    let (push, take) = (pushes.each(course.rounds), takes.each(course.rounds));
+    let _ = eprintln!(rt; "{what}: {push} ns a push, {take} ns a take");
     Ok(())
 }

@@ -2,7 +2,7 @@
 ghost use Rattle.std.specs.Prelude.{◌≡◌, ◌<◌};
 ghost use Rattle.mb_queue.specs.Made.{IsMakeable};
 
-use crate::lap::{Course, Lapped};
+use crate::lap::{Course, Lapped, Parted};
 use crate::sender::{RECEIVER, SENDER, Sender};
 use mb_queue::{Kind, MailQueue, TakePass};
 use std::alloc::{AllocError, Global};
@@ -35,9 +35,7 @@ impl Mail {
             take,
             send: Sender::new(send),
         };
-        for number in 0..held {
-            let _ = mail.send.push(rt, number);
-        }
+        mail.push_some(rt, held);
         Ok(mail)
     }
 
@@ -71,6 +69,22 @@ impl Lapped for Mail {
         } else {
             self.alone(rt, course.rounds)
         }
+    }
+}
+
+impl Parted for Mail {
+    fn push_some<R: Wait>(&mut self, rt: &R, rounds: u64) {
+        for number in 0..rounds {
+            let _ = self.send.push(rt, number);
+        }
+    }
+
+    fn take_some<R: Wait>(&mut self, rt: &R, rounds: u64) -> u64 {
+        let mut taken = 0u64;
+        for _ in 0..rounds {
+            taken = taken.wrapping_add(u64::from(self.take.take(rt).is_some()));
+        }
+        taken
     }
 }
 

@@ -1,8 +1,8 @@
 //! `bench_queue`: what a push with its take costs in the queues of mailboxes, beside the kit's plain ones, on one thread
 //! and on two.
 //!
-//! The two of a comparison are timed in turn, lap by lap, so that what else the machine does falls on both alike. What was
-//! taken goes to standard output, the medians to standard error.
+//! The two of a comparison are timed in turn, lap by lap, so that what else the machine does falls on both alike. By rank the
+//! takes of a lap are timed apart from its pushes. What was taken goes to standard output, the medians to standard error.
 #![tactic(auto)]
 
 mod lap;
@@ -11,7 +11,7 @@ mod plain;
 mod sender;
 
 use crossbeam_queue::{ArrayQueue, SegQueue};
-use lap::{ALONE, Course, PAIRED, compare, measure};
+use lap::{ALONE, Course, PAIRED, compare, measure, measure_apart};
 use mail::Mail;
 use mb_queue::{Kind, RankRow, Ranks};
 use std::alloc::{AllocError, Global};
@@ -60,13 +60,12 @@ fn control<R: Clock + Threads + Wait + Sync + Print + Eprint>(
     measure(rt, alloc, ALONE, "control-aware", mail)
 }
 
-fn priority<R: Clock + Threads + Wait + Sync + Print + Eprint>(
-    rt: &R,
-    alloc: Global,
-) -> io::Result<()> {
+/// The takes are timed apart, as it is a take that chooses. Before each lap and after it 1,000 are held, so at each of its
+/// takes from 1,000 to 1,024 are.
+fn priority<R: Clock + Wait + Print + Eprint>(rt: &R, alloc: Global) -> io::Result<()> {
     let rows = ranks(alloc)?;
     let mail = Mail::new(rt, alloc, Kind::Priority { rows, other: 9 }, 1_000)?;
-    measure(rt, alloc, ALONE, "priority, 1000 held", mail)
+    measure_apart(rt, alloc, ALONE, "priority, 1000 held", mail)
 }
 
 /// Of the four kinds of message that are pushed three have rows, in no order.

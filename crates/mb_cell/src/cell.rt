@@ -190,6 +190,13 @@ impl<A: Actor, K: Behaviours> Cell<A, K> {
         self.books.aside()
     }
 
+    /// The actor's parent; the guardian has none (`akka.actor.ActorContext.parent`).
+    pub fn parent(&self) -> Option<ActorId>
+        ensures { result ≡ self.now.who.parent }
+    {
+        self.place.parent
+    }
+
     /// Where the actor stands in its life.
     pub fn phase(&self) -> Phase
         ensures { result ≡ phase_of self.now.who self.now.journal }

@@ -14,8 +14,6 @@ mod laws;
 mod messages;
 mod model;
 mod run;
-#[cfg(test)]
-mod tests;
 
 pub use actor::ActorState;
 pub use debt::Debt;

@@ -12,11 +12,13 @@ use Rattle.mb_core.specs.Held.{IsHeldRightly, HasPossibleMailbox}
 use Rattle.mb_core.specs.Settled.{IsSettled}
 use Rattle.mb_rule.specs.Layout.{Spot, spot_of}
 use Rattle.mb_rule.specs.Ruled.{Ruled}
+use Rattle.mb_rule.specs.Seen.{Each}
 use Rattle.mb_rule.specs.Shares.{IsWhole}
 use Rattle.mb_gate.specs.declared.slot.Slot.{Slot}
 use Rattle.mb_gate.specs.declared.slot.Slot.TheVariants.{Home}
 use Rattle.mb_gate.specs.View.{View, Sight, Pushed, Drained, Ended, Held, owes, alone, copied, halving, idling, taking_in, taking_over}
 use Rattle.mb_gate.specs.Waiting.{on_by, off_by, IsBalance}
+use Rattle.mb_gate.specs.Leaves.{IsKept}
 use Rattle.mb_gate.specs.Rule.{Word, Status, Waiting, word_offset, Shelf, CellShelf, slot_offset, Ghost, IsAmong, claim_for, Fact}
 
 abbrev pub holder_of : Option (ℕ × Held) → Option ℕ
@@ -65,6 +67,17 @@ ShowsClaims {H} is_of journal mailbox rested given_by closed_to =
     → (v : View) × (claim : Held) × (get_elem? s.views p ≡ some v) × (claim_for actor v ≡ Some claim))
     × (IsNone (holder_of x.ghost.holder) ↔ IsAtHome x)
     × ((home : H) → x.slot CellShelf ≡ some (some (Home home)) → is_of actor home × (x.row Status ≡ word_of (mailbox home))))
+
+-- What each seat has seen of an actor is so: the actor is closed if it was seen closed, or its list was ended, and the journal that its cell
+-- has at home, or had as it was taken, goes on from each that was seen.
+abbrev pub ShowsSeen : {H : Type 0} → (ℕ → H → Type 0) → (H → List Entry) → (H → Mailbox) → (H → Type 0) → (H → ℕ) → (H → List ℕ) → Type 0
+ShowsSeen {H} is_of journal mailbox rested given_by closed_to =
+    (n : ℕ) (s : State (Slot H) View) (r : Ruled word_offset slot_offset n (Fact is_of journal mailbox rested given_by closed_to n) s) (actor : ℕ)
+    → actor < n → (p : ℕ) (v : View) → get_elem? s.views p ≡ some v →
+    (let x = spot_of word_offset slot_offset s r.ghosts actor in
+    ((home : H) → x.slot CellShelf ≡ some (some (Home home)) → Each (IsKept actor (journal home) (x.row Status)) v.log)
+    × ((q : ℕ) (w : View) (claim : Held) → get_elem? s.views q ≡ some w → claim_for actor w ≡ Some claim
+    → Each (IsKept actor claim.journal (x.row Status)) v.log))
 
 -- Each actor of which another's home says that it is closed is closed, as that home is in its place or was taken: its word says so.
 abbrev pub ShowsClosed : {H : Type 0} → (ℕ → H → Type 0) → (H → List Entry) → (H → Mailbox) → (H → Type 0) → (H → ℕ) → (H → List ℕ) → Type 0

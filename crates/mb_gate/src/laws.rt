@@ -1,4 +1,4 @@
-ghost use Rattle.mb_gate.specs.Shown.{MakesWhole, ShowsMachine, ShowsClaims, ShowsClosed, ShowsBalance, ShowsNumbers, ReleasesAlike};
+ghost use Rattle.mb_gate.specs.Shown.{MakesWhole, ShowsMachine, ShowsClaims, ShowsSeen, ShowsClosed, ShowsBalance, ShowsNumbers, ReleasesAlike};
 
 use crate::resident::Resident;
 
@@ -13,6 +13,12 @@ pub fn words_show_the_machine<H: Resident>()
 /// cell is in its slot exactly where nobody holds it, and is its own there, with the word that its journal says.
 pub fn claims_are_the_holders<H: Resident>()
     ensures { (first : H) → ShowsClaims (H.is_of first) H.journal H.mailbox H.rested H.given H.closed_to }
+{}
+
+/// A law: between any two atomic steps what each pass and each claim has seen of an actor is so. It is closed if it was seen
+/// closed; the journal of its cell, at home or as it was taken, goes on from each that was seen.
+pub fn what_was_seen_is_so<H: Resident>()
+    ensures { (first : H) → ShowsSeen (H.is_of first) H.journal H.mailbox H.rested H.given H.closed_to }
 {}
 
 /// A law: between any two atomic steps each actor of which a home says that it is closed is closed.

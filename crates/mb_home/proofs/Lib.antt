@@ -8,6 +8,7 @@ pub mod GuardianLemmas
 pub mod LeadLemmas
 pub mod MoveLemmas
 pub mod MoveRules
+pub mod NamedLaw
 pub mod NobodyLemmas
 pub mod NumberedLaw
 pub mod OnceLaw

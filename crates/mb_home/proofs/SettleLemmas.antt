@@ -49,7 +49,7 @@ one-less : {X : Type 0} (list : List X) → length (drop 1 list) ≡ length list
 one-less [] = refl
 one-less (x ∷ list) = omega arith
 
-many-sends : (h : Contents) → IsOwn h → length h.sends ≡ length h.roll - 1
+pub many-sends : (h : Contents) → IsOwn h → length h.sends ≡ length h.roll - 1
 many-sends h own =
     sym (length-map h.sends (λ (p : Sending). p.queue))
     ∙ ap length own.queues

@@ -12,15 +12,17 @@ use Rattle.mb_journal.specs.Identity.{Identity}
 use Rattle.mb_journal.specs.Life.{closed}
 use Rattle.mb_journal.specs.Suspension.{count}
 use Rattle.mb_home.specs.Contents.{Contents}
+use Rattle.mb_home.specs.Named.{NamesActors}
 use Rattle.mb_home.specs.Settled.{IsSettled}
 
--- it is the home of the actor of this number, on the same roll as the first one; nothing is to be carried out, and its books agree with
--- its journal
+-- it is the home of the actor of this number, on the same roll as the first one; nothing is to be carried out, its books agree with its
+-- journal, and it names actors that there are alone
 pub record IsHomeOf (gives : Moment → Reply → Type 0) (first : Contents) (actor : ℕ) (h : Contents) : Type 0 where
   pub roll : h.roll ≡ first.roll
   pub number : h.cell.who.this.0 ≡ actor
   pub carried_out : h.cell.acts ≡ []
   pub settled : IsSettled gives [] h
+  pub named : NamesActors h
 
 -- the mailbox that a journal says: closed or not, how often suspended, and not scheduled
 abbrev pub mailbox_at : Identity → List Entry → Mailbox

@@ -133,6 +133,13 @@ impl<A: Actor, K: Behaviours> Home<A, K> {
         }
     }
 
+    /// The actor's parent; the guardian has none (`akka.actor.ActorContext.parent`).
+    pub fn parent(&self) -> Option<ActorId>
+        ensures { result ≡ self.now.cell.who.parent }
+    {
+        self.cell.parent()
+    }
+
     /// What the home leaves at the end.
     pub fn into_parts(self) -> Parts<A, K>
         ensures cell { result.cell ≡ self.cell }

@@ -6,8 +6,10 @@ ghost use Rattle.mb_journal.specs.Life.{closed};
 ghost use Rattle.mb_fates.specs.Accepted.{IsNumbered};
 ghost use Rattle.mb_fates.specs.Told.{told};
 ghost use Rattle.mb_home.specs.Contents.{Contents};
+ghost use Rattle.mb_home.specs.Named.{NamesActors, SendsBelow};
 ghost use Rattle.mb_home.specs.Numbers.{applied_numbers, numbers_in, times};
 ghost use Rattle.mb_home.specs.Settled.{IsSettled};
+ghost use Rattle.mb_home.specs.Steps.{AppliesNext, Begins};
 
 use mb_actor::Behaviours;
 
@@ -31,4 +33,13 @@ pub fn system_messages_stand_once<K: Behaviours>()
 pub fn what_waits_at_the_end_is_dead<K: Behaviours>()
     ensures { (pending : List Act) (h : Contents) → IsSettled (K.gives h.cell.who.this.0) pending h
         → closed h.cell.who h.cell.journal ≡ true → h.aside_dead ≡ length (ever_aside h.cell.journal) }
+{}
+
+/// A law: where a home names actors that there are alone, so does it once its actor was given a system message or an envelope, and
+/// what that has the actor send goes to such and names such alone.
+pub fn what_is_sent_names_actors<K: Behaviours>()
+    ensures applied { (old new : Contents) → NamesActors old → IsSettled (K.gives new.cell.who.this.0) new.cell.acts new → AppliesNext old new
+        → NamesActors new × SendsBelow new.cell.who.actors new.cell.acts }
+    ensures begun { (old new : Contents) (reading : ℕ) → NamesActors old → IsSettled (K.gives new.cell.who.this.0) new.cell.acts new
+        → Begins old new reading → NamesActors new × SendsBelow new.cell.who.actors new.cell.acts }
 {}

@@ -10,5 +10,8 @@ mod laws;
 mod named;
 
 pub use home::{Home, Parts};
-pub use laws::{system_messages_stand_once, tellings_are_numbered, what_waits_at_the_end_is_dead};
+pub use laws::{
+    system_messages_stand_once, tellings_are_numbered, what_is_sent_names_actors,
+    what_waits_at_the_end_is_dead,
+};
 pub use named::Named;

@@ -24,37 +24,37 @@ use Rattle.mb_report.specs.declared.report.SenderReport.{SenderReport}
 use Rattle.mb_reader.specs.Plans.{ScenarioData}
 use Rattle.mb_script.specs.Script.{Scripted, after_of}
 use Rattle.mb_run.specs.Begun.{the_guardian}
-use Rattle.mb_run.specs.Fates.{envelope_in, envelopes_of}
+use Rattle.mb_run.specs.Fates.{envelope_in, envelopes_in}
 use Rattle.mb_program.specs.CalmReport.{calm_line, lines_of, report_of, state_after}
-use Rattle.mb_run.specs.Reported.{AreSenders}
+use Rattle.mb_run.specs.Reported.{HaveSent}
 use Rattle.mb_run.specs.Plain.{is_plain_send}
 use Rattle.mb_run.specs.Sent.{bodies}
 use Rattle.mb_program.specs.Ran.{HasRun}
 use Rattle.mb_run.proofs.SentLemmas.{length-bodies, length-sent}
 
 -- as many entries tell of an envelope as there are envelopes
-counted : (journal : List Entry) → count_by tells_of_envelope journal ≡ length (envelopes_of journal)
-unfolding envelopes_of
+counted : (journal : List Entry) → count_by tells_of_envelope journal ≡ length (envelopes_in journal)
+unfolding envelopes_in
 counted [] = refl
 counted (e ∷ before) = one e (counted before)
   where
-    one : (x : Entry) → count_by tells_of_envelope before ≡ length (envelopes_of before) →
-        count_by tells_of_envelope (x ∷ before) ≡ length (envelopes_of before ++ envelope_in x)
+    one : (x : Entry) → count_by tells_of_envelope before ≡ length (envelopes_in before) →
+        count_by tells_of_envelope (x ∷ before) ≡ length (envelopes_in before ++ envelope_in x)
     one (Handled envelope reading outcome) so_far =
         let more : count_by tells_of_envelope (Handled envelope reading outcome ∷ before) ≡ 1 + count_by tells_of_envelope before =
         sum_by-cons (λ (y : Entry). cond (tells_of_envelope y) 1 0) (Handled envelope reading outcome) before in
-        omega (arith, so_far, more, length-append (envelopes_of before) (envelope ∷ []))
+        omega (arith, so_far, more, length-append (envelopes_in before) (envelope ∷ []))
     one (System number message outcome) so_far =
         let more : count_by tells_of_envelope (System number message outcome ∷ before) ≡ 0 + count_by tells_of_envelope before =
         sum_by-cons (λ (y : Entry). cond (tells_of_envelope y) 1 0) (System number message outcome) before in
-        omega (arith, so_far, more, length-append (envelopes_of before) [])
+        omega (arith, so_far, more, length-append (envelopes_in before) [])
     one (Dropped envelope) so_far =
         let more : count_by tells_of_envelope (Dropped envelope ∷ before) ≡ 1 + count_by tells_of_envelope before =
         sum_by-cons (λ (y : Entry). cond (tells_of_envelope y) 1 0) (Dropped envelope) before in
-        omega (arith, so_far, more, length-append (envelopes_of before) (envelope ∷ []))
+        omega (arith, so_far, more, length-append (envelopes_in before) (envelope ∷ []))
 
 -- where no dead letter is, none was sent to an actor
-none_refused : (numbers : List ℕ) (senders : List SenderReport) (id : ℕ) → AreSenders numbers senders → refused_to id senders ≡ 0
+none_refused : (numbers : List ℕ) (senders : List SenderReport) (id : ℕ) → HaveSent numbers senders → refused_to id senders ≡ 0
 none_refused [] [] id are = refl
 none_refused [] (sender ∷ senders) id are = absurd are
 none_refused (n ∷ numbers) [] id are = absurd are
@@ -65,7 +65,7 @@ none_refused (n ∷ numbers) (sender ∷ senders) id are =
 
 -- the line of an actor that is live, with nothing left, dead or started afresh
 calm : (senders : List SenderReport) (numbers : List ℕ) (id : ℕ) (name : List ℕ) (a : ActorReport) (state : Option ℤ) (handled : ℕ) →
-    AreSenders numbers senders → a.phase ≡ Live → a.state ≡ state → a.count ≡ 0 → handled_of a ≡ handled → a.left.items ≡ [] → a.cleaned.items ≡ [] →
+    HaveSent numbers senders → a.phase ≡ Live → a.state ≡ state → a.count ≡ 0 → handled_of a ≡ handled → a.left.items ≡ [] → a.cleaned.items ≡ [] →
     restarts_of a ≡ 0 → line_data senders id name a ≡ calm_line name state handled
 calm senders numbers id name a state handled are live state_is unsuspended handled_is none_left none_cleaned no_restart =
     let dead : dead_of id senders a ≡ 0 =

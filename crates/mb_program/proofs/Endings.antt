@@ -1,28 +1,31 @@
 -- How a run ends.
 use Rattle.std.proofs.Common.{◌≡◌, ℕ, ◌<◌, Bool, true, false, ◌||◌, List, take, Option, Some, None, IfSome, refl, sym, subst, inl}
 use Rattle.std.proofs.Common.{inr, arith}
-use Rattle.std.specs.Io.KnownBytes.{Appends, Keeps}
+use Rattle.std.specs.Io.KnownBytes.{Appends}
 use Rattle.mb_reader.specs.declared.fault.Fault.{Fault}
 use Rattle.mb_reader.specs.declared.fault.Fault.TheVariants.{NoMemory, NotToml, BadScenario}
-use Rattle.mb_program.specs.Answer.{most_read, HasReported, IsAnswer, IsAtFault, IsCutShort, IsMet, IsRead, IsRefused, IsSaid, IsSaidFor}
+use Rattle.mb_program.specs.Answer.{most_read, HasReported, IsAnswer, IsAtFault, IsCutShort, IsLineSaid, IsMet, IsRead, IsRefused}
+use Rattle.mb_program.specs.Answer.{IsSaidFor}
 use Rattle.mb_program.specs.Answer.IsCutShort.{nothing, a_beginning}
-use Rattle.mb_program.specs.Failure.{error_line, status_of}
+use Rattle.mb_program.specs.Failure.{error_line, exit_status}
+use Rattle.mb_program.specs.Watching.{Watching}
 use Rattle.mb_program.specs.Written.{AppendsBeginning}
 use Rattle.mb_program.specs.declared.failure.Failure.{Failure}
 use Rattle.mb_program.specs.declared.failure.Failure.TheVariants.{Os, Arguments, NotYet, Input}
 use Rattle.mb_program.proofs.Refusals.{read_not_refused}
-use Rattle.mb_program.proofs.WrittenLemmas.{keeps_itself}
 
 -- what was said where this failure was met, and the status
 abbrev pub IsRefusal : Failure → ℕ → Option (List ℕ) → Option (List ℕ) → Bool → Type 0
 IsRefusal failure result old new failed =
-    (said : Failure) × IsSaidFor failure said × (result ≡ status_of said) × IsSaid old new failed (error_line said)
+    (said : Failure) × IsSaidFor failure said × (result ≡ exit_status said) × IsLineSaid old new failed (error_line said)
 
--- what a run with another status than 0 promises
-abbrev pub HasFailed : ℕ → ℕ → Option (List ℕ) → Bool → Bool → Bool → Option (List ℕ) → Option (List ℕ) → Option (List ℕ) → Option (List ℕ) → Type 0
-HasFailed result arguments known read_failed write_failed errors_failed old new said_old said_new =
-    (failure : Failure) × (result ≡ status_of failure) × IsMet arguments known (read_failed || write_failed) failure
-    × IsCutShort known write_failed old new × IsSaid said_old said_new errors_failed (error_line failure)
+-- what a run with another status than 0 promises, of its result, its arguments, what the reader has and whether it failed, the
+-- writer, and what was said
+abbrev pub HasFailed : (W : Type 0) → (W → Option (List ℕ)) → ℕ → ℕ → Option (List ℕ) → Bool → Watching W → Watching W →
+    Option (List ℕ) → Option (List ℕ) → Bool → Type 0
+HasFailed W contents result arguments known read_failed old new said_old said_new errors_failed =
+    (failure : Failure) × (result ≡ exit_status failure) × IsMet arguments known (read_failed || new.failed) failure
+    × IsCutShort contents known old new × IsLineSaid said_old said_new errors_failed (error_line failure)
 
 pub has_reported : (known old new : Option (List ℕ)) (report bytes : List ℕ) → IsAnswer known report → bytes ≡ report →
     Appends old new bytes → HasReported known old new
@@ -37,13 +40,13 @@ answered_not_refused A (Some input) report answer = λ failure refused.
     absurd (read_not_refused answer.0 answer.2.0 failure answer.2.1 answer.2.2 (subst (λ (t : List ℕ). IsRefused t failure) (sym read) refused.0)
     refused.1)
 
--- where nothing was written, nothing was written for what is no scenario
-pub nothing_for_refused : (known old : Option (List ℕ)) →
-    IfSome known (λ input. (failure : Failure) → IsAtFault (take most_read input) failure → Keeps old old)
-nothing_for_refused None old = tt
-nothing_for_refused (Some input) old = λ failure refused. keeps_itself old
+-- a writer that was not called was not called for what is no scenario
+pub nothing_for_refused : (W : Type 0) → (known : Option (List ℕ)) (writer : Watching W) →
+    IfSome known (λ input. (failure : Failure) → IsAtFault (take most_read input) failure → writer ≡ writer)
+nothing_for_refused W None writer = tt
+nothing_for_refused W (Some input) writer = λ failure refused. refl
 
-positive : (failure : Failure) → 0 < status_of failure
+positive : (failure : Failure) → 0 < exit_status failure
 positive Os = omega arith
 positive Arguments = omega arith
 positive NotYet = omega arith
@@ -91,29 +94,31 @@ or_true true b e = refl
 or_true false b e = e
 
 -- a run that failed before anything was written
-pub failed_before : (failure : Failure) (result : ℕ) (known : Option (List ℕ)) (read_failed write_failed errors_failed : Bool)
-    (old said_old said_new : Option (List ℕ)) → write_failed ≡ false → IsMet 0 known read_failed failure →
-    IsRefusal failure result said_old said_new errors_failed →
-    HasFailed result 0 known read_failed write_failed errors_failed old old said_old said_new
-failed_before failure result known read_failed write_failed errors_failed old said_old said_new none met refusal = (
+pub failed_before : (W : Type 0) → (contents : W → Option (List ℕ)) → (failure : Failure) (result : ℕ) (known : Option (List ℕ)) (read_failed : Bool)
+    (writer : Watching W) (said_old said_new : Option (List ℕ)) (errors_failed : Bool) → writer.failed ≡ false →
+    IsMet 0 known read_failed failure → IsRefusal failure result said_old said_new errors_failed →
+    HasFailed W contents result 0 known read_failed writer writer said_old said_new errors_failed
+failed_before W contents failure result known read_failed writer said_old said_new errors_failed none met refusal = (
   refusal.0,
   refusal.2,
-  subst (λ (b : Bool). IsMet 0 known b refusal.0) (sym (or_false read_failed write_failed none))
+  subst (λ (b : Bool). IsMet 0 known b refusal.0) (sym (or_false read_failed writer.failed none))
       (met_said failure refusal.0 0 known read_failed refusal.1 met),
-  nothing (keeps_itself old),
+  nothing refl,
   refusal.3,
 )
 
 -- a run whose report could not be written
-pub failed_writing : (result : ℕ) (known : Option (List ℕ)) (read_failed write_failed errors_failed : Bool)
-    (old new said_old said_new : Option (List ℕ)) (report bytes : List ℕ) → write_failed ≡ true → IsAnswer known report → bytes ≡ report →
-    AppendsBeginning old new bytes → IsRefusal Os result said_old said_new errors_failed →
-    HasFailed result 0 known read_failed write_failed errors_failed old new said_old said_new
-failed_writing result known read_failed write_failed errors_failed old new said_old said_new report bytes failed answer same part refusal = (
+pub failed_writing : (W : Type 0) → (contents : W → Option (List ℕ)) → (result : ℕ) (known : Option (List ℕ)) (read_failed : Bool)
+    (old new : Watching W) (said_old said_new : Option (List ℕ)) (errors_failed : Bool) (report bytes : List ℕ) → new.failed ≡ true →
+    IsAnswer known report → bytes ≡ report → AppendsBeginning (contents old.stream) (contents new.stream) bytes →
+    IsRefusal Os result said_old said_new errors_failed →
+    HasFailed W contents result 0 known read_failed old new said_old said_new errors_failed
+failed_writing W contents result known read_failed old new said_old said_new errors_failed report bytes failed answer same part refusal = (
   refusal.0,
   refusal.2,
-  subst (λ (f : Failure). IsMet 0 known (read_failed || write_failed) f) (sym refusal.1) (refl, or_true read_failed write_failed failed),
-  a_beginning report failed answer (subst (λ (b : List ℕ). AppendsBeginning old new b) same part),
+  subst (λ (f : Failure). IsMet 0 known (read_failed || new.failed) f) (sym refusal.1) (refl, or_true read_failed new.failed failed),
+  a_beginning report failed answer
+      (subst (λ (b : List ℕ). AppendsBeginning (contents old.stream) (contents new.stream) b) same part),
   refusal.3,
 )
 
@@ -122,9 +127,9 @@ pub said_no_memory : (failure : Failure) (fault : Fault) → failure ≡ Input f
 said_no_memory failure fault same = subst (λ (f : Failure). IsSaidFor f (Input NoMemory)) (sym same) (inr refl)
 
 -- without arguments
-pub failed_without : (result arguments : ℕ) (known : Option (List ℕ)) (read_failed write_failed errors_failed : Bool)
-    (old new said_old said_new : Option (List ℕ)) → arguments ≡ 0 →
-    HasFailed result 0 known read_failed write_failed errors_failed old new said_old said_new →
-    HasFailed result arguments known read_failed write_failed errors_failed old new said_old said_new
-failed_without result arguments known read_failed write_failed errors_failed old new said_old said_new none has =
-    subst (λ (n : ℕ). HasFailed result n known read_failed write_failed errors_failed old new said_old said_new) (sym none) has
+pub failed_without : (W : Type 0) → (contents : W → Option (List ℕ)) → (result arguments : ℕ) (known : Option (List ℕ)) (read_failed : Bool)
+    (old new : Watching W) (said_old said_new : Option (List ℕ)) (errors_failed : Bool) → arguments ≡ 0 →
+    HasFailed W contents result 0 known read_failed old new said_old said_new errors_failed →
+    HasFailed W contents result arguments known read_failed old new said_old said_new errors_failed
+failed_without W contents result arguments known read_failed old new said_old said_new errors_failed none has =
+    subst (λ (n : ℕ). HasFailed W contents result n known read_failed old new said_old said_new errors_failed) (sym none) has

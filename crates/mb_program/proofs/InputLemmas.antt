@@ -1,8 +1,10 @@
 -- What was read of a reader, where its bytes are known.
-use Rattle.std.proofs.Common.{◌≡◌, ◌≤◌, ℕ, List, [], ◌++◌, length, take, Option, Some, None, IfSome, arith, sym, ◌∙◌, ap, append-nil, subst}
+use Rattle.std.proofs.Common.{◌≡◌, ◌+◌, ◌≤◌, ℕ, List, [], ◌++◌, length, take, Option, Some, None, IfSome, arith, sym, ◌∙◌, ap, append-nil}
+use Rattle.std.proofs.Common.{append_assoc, length-append, subst}
 use Rattle.std.proofs.lemmas.List.{take_all}
 use Rattle.std.specs.Io.KnownBytes.{Consumes, IsAtEnd}
 use Rattle.std.proofs.lemmas.Grind.{common_steps}
+use Rattle.mb_program.specs.Answer.{TakesAtMost}
 
 -- as many bytes as are wanted were read
 pub read_in_full : (old new : Option (List ℕ)) (text : List ℕ) (n : ℕ) → Consumes old new text → length text ≡ n →
@@ -22,3 +24,15 @@ read_to_the_end (Some input) (Some rest) (Some left) text buf n count read last 
     let rest_is : rest ≡ [] = last ∙ ap (λ front. front ++ left) nothing ∙ at_end in
     let input_is : input ≡ text = read ∙ ap (λ more. text ++ more) rest_is ∙ append-nil text in
     subst (λ (xs : List ℕ). text ≡ take n xs) (sym input_is) (sym (take_all n text within))
+
+-- where some were read, and then some more
+pub takes_more : (most : ℕ) (old middle new : Option (List ℕ)) (text more : List ℕ) → Consumes old middle text → Consumes middle new more →
+    length text + length more ≤ most → TakesAtMost most old new
+takes_more most None middle new text more read then_read within = ([], tt, omega arith)
+takes_more most (Some input) None new text more read then_read within = absurd read
+takes_more most (Some input) (Some rest) None text more read then_read within = absurd then_read
+takes_more most (Some input) (Some rest) (Some left) text more read then_read within = (
+  text ++ more,
+  read ∙ ap (λ l. text ++ l) then_read ∙ sym (append_assoc text more left),
+  omega (arith, within, length-append text more),
+)

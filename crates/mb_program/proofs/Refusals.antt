@@ -5,7 +5,7 @@ use Rattle.mb_reader.specs.Reading.{Finds, IsReadAs, too_long, in_document}
 use Rattle.mb_reader.specs.declared.fault.Fault.TheVariants.{NoMemory, NotToml, BadScenario}
 use Rattle.mb_format.specs.Place.{Fault as Found}
 use Rattle.mb_program.specs.Answer.{IsRefused}
-use Rattle.mb_program.specs.Failure.{status_of}
+use Rattle.mb_program.specs.Failure.{exit_status}
 use Rattle.mb_program.specs.Scope.{can_run}
 use Rattle.mb_program.specs.declared.failure.Failure.{Failure}
 use Rattle.mb_program.specs.declared.failure.Failure.TheVariants.{Os, Arguments, NotYet, Input}
@@ -28,7 +28,7 @@ same_scenario text a b read_a read_b =
     cc
 
 pub read_not_refused : (text : List ℕ) (scenario : ScenarioData) (failure : Failure) → IsReadAs text scenario → can_run scenario ≡ true →
-    IsRefused text failure → status_of failure ≡ 2 → ⊥
+    IsRefused text failure → exit_status failure ≡ 2 → ⊥
 read_not_refused text scenario Os read runs refused status = refused
 read_not_refused text scenario Arguments read runs refused status = refused
 read_not_refused text scenario NotYet read runs refused status =

@@ -1,15 +1,16 @@
 -- What the program makes of its input (this project's own profile).
-use Rattle.std.specs.Prelude.{◌≡◌, ℕ, ◌<◌, Bool, true, false, IsTrue, ◌⊎◌, List, take, Option, IfSome}
-use Rattle.std.specs.Io.KnownBytes.{Appends, Keeps}
+use Rattle.std.specs.Prelude.{◌≡◌, ℕ, ◌<◌, ◌≤◌, Bool, true, false, IsTrue, ◌⊎◌, List, length, take, Option, IfSome}
+use Rattle.std.specs.Io.KnownBytes.{Appends, Consumes}
 use Rattle.mb_reader.specs.Plans.{ScenarioData}
 use Rattle.mb_reader.specs.Reading.{IsReadAs, Refuses}
 use Rattle.mb_reader.specs.declared.fault.Fault.TheVariants.{NoMemory, NotToml, BadScenario}
 use Rattle.mb_report.specs.Lines.{report_text_of}
 use Rattle.mb_report.specs.declared.report.Report.{Report}
-use Rattle.mb_program.specs.Failure.{status_of}
+use Rattle.mb_program.specs.Failure.{exit_status}
 use Rattle.mb_program.specs.CalmReport.{report_of}
 use Rattle.mb_program.specs.Scope.{can_run}
 use Rattle.mb_program.specs.Ran.{HasRun}
+use Rattle.mb_program.specs.Watching.{Watching}
 use Rattle.mb_program.specs.Written.{AppendsBeginning}
 use Rattle.mb_program.specs.declared.failure.Failure.{Failure}
 use Rattle.mb_program.specs.declared.failure.Failure.TheVariants.{Os, Arguments, NotYet, Input}
@@ -21,6 +22,10 @@ most_read = 1048577
 -- this text was read: where it is known which bytes the reader has, the first of them, as many as are read at most
 abbrev pub IsRead : Option (List ℕ) → List ℕ → Type 0
 IsRead known text = IfSome known (λ input. text ≡ take most_read input)
+
+-- the reader lost some of its known bytes, from the front, and no more than are read at most
+abbrev pub TakesAtMost : ℕ → Option (List ℕ) → Option (List ℕ) → Type 0
+TakesAtMost most old new = (taken : List ℕ) × Consumes old new taken × (length taken ≤ most)
 
 -- these bytes are the text of the report of a run of the scenario, which says that all that was sent was handled
 pub record TellsOfARun (scenario : ScenarioData) (bytes : List ℕ) : Type 0 where
@@ -46,7 +51,7 @@ IsRefused text (Input fault) = Refuses text fault
 
 -- the text is at fault: it is no scenario that can be run, and this is why
 abbrev pub IsAtFault : List ℕ → Failure → Type 0
-IsAtFault text failure = IsRefused text failure × (status_of failure ≡ 2)
+IsAtFault text failure = IsRefused text failure × (exit_status failure ≡ 2)
 
 -- the report is that of what was read
 abbrev pub IsAnswer : Option (List ℕ) → List ℕ → Type 0
@@ -71,15 +76,16 @@ IsMet arguments known failed (Input NotToml) = (arguments ≡ 0) × (failed ≡ 
 IsMet arguments known failed (Input (BadScenario place reason)) =
     (arguments ≡ 0) × (failed ≡ false) × IsRefusedOf known (Input (BadScenario place reason))
 
--- what a run has written that failed: nothing; or a beginning of the report of what was read, where writing it failed
-pub data IsCutShort (known : Option (List ℕ)) (failed : Bool) (old new : Option (List ℕ)) : Type 0 where
-  nothing : Keeps old new → IsCutShort known failed old new
-  a_beginning : (report : List ℕ) → IsTrue failed → IsAnswer known report → AppendsBeginning old new report →
-      IsCutShort known failed old new
+-- what a run that failed has done with its writer: nothing, it was not called; or a beginning of the report of what was read
+-- was written, where writing it failed
+pub data IsCutShort {W : Type 0} (contents : W → Option (List ℕ)) (known : Option (List ℕ)) (old new : Watching W) : Type 0 where
+  nothing : new ≡ old → IsCutShort contents known old new
+  a_beginning : (report : List ℕ) → IsTrue new.failed → IsAnswer known report →
+      AppendsBeginning (contents old.stream) (contents new.stream) report → IsCutShort contents known old new
 
 -- the line was said: a beginning of it, and the whole line unless writing it failed
-abbrev pub IsSaid : Option (List ℕ) → Option (List ℕ) → Bool → List ℕ → Type 0
-IsSaid old new failed line = AppendsBeginning old new line × (failed ≡ false → Appends old new line)
+abbrev pub IsLineSaid : Option (List ℕ) → Option (List ℕ) → Bool → List ℕ → Type 0
+IsLineSaid old new failed line = AppendsBeginning old new line × (failed ≡ false → Appends old new line)
 
 -- reading ended in this failure: the reader failed, or memory was refused and it did not
 abbrev pub IsReadFailure : Bool → Bool → Failure → Type 0

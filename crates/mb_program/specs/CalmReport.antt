@@ -5,11 +5,11 @@ use Rattle.mb_reader.specs.Plans.{ScenarioData}
 use Rattle.mb_reader.specs.declared.scenario.Sending.{Sending}
 use Rattle.mb_report.specs.Lines.{LineData, lines_text}
 use Rattle.mb_script.specs.Script.{ScriptData, Scripted, after_of}
-use Rattle.mb_run.specs.Sent.{bodies, messages_of}
+use Rattle.mb_run.specs.Sent.{bodies, messages_in_bodies}
 
 -- the state once all that is sent is handled, in order
 abbrev pub state_after : ScriptData → List Sending → ℤ
-state_after script sends = after_of script.initial script.rows (messages_of (bodies sends))
+state_after script sends = after_of script.initial script.rows (messages_in_bodies (bodies sends))
 
 -- an actor that is live and not suspended, with nothing left in its mailbox, nothing lost and no restart
 abbrev pub calm_line : List ℕ → Option ℤ → ℕ → LineData

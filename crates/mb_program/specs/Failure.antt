@@ -6,13 +6,13 @@ use Rattle.mb_program.specs.declared.failure.Failure.{Failure}
 use Rattle.mb_program.specs.declared.failure.Failure.TheVariants.{Os, Arguments, NotYet, Input}
 
 -- the exit status: 1 if the machine failed the program, 2 if what it was given is at fault
-abbrev pub status_of : Failure → ℕ
-status_of Os = 1
-status_of Arguments = 2
-status_of NotYet = 2
-status_of (Input NoMemory) = 1
-status_of (Input NotToml) = 2
-status_of (Input (BadScenario place reason)) = 2
+abbrev pub exit_status : Failure → ℕ
+exit_status Os = 1
+exit_status Arguments = 2
+exit_status NotYet = 2
+exit_status (Input NoMemory) = 1
+exit_status (Input NotToml) = 2
+exit_status (Input (BadScenario place reason)) = 2
 
 -- a failure as it is printed: its number, its name, and what is wrong where
 abbrev pub failure_text : Failure → List ℕ

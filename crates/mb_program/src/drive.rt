@@ -1,7 +1,6 @@
 ghost use Rattle.std.specs.Prelude.{◌≡◌, ◌≢◌, ◌<◌, ◌≤◌, ◌||◌, false, IfSome, IfOk, IfErr, take, string_bytes};
-ghost use Rattle.std.specs.Io.KnownBytes.{Keeps};
-ghost use Rattle.mb_program.specs.Answer.{most_read, HasReported, IsAnswer, IsAtFault, IsCutShort, IsMet, IsSaid, IsSaidFor};
-ghost use Rattle.mb_program.specs.Failure.{error_line, status_of};
+ghost use Rattle.mb_program.specs.Answer.{most_read, HasReported, IsAnswer, IsAtFault, IsCutShort, IsLineSaid, IsMet, IsSaidFor, TakesAtMost};
+ghost use Rattle.mb_program.specs.Failure.{error_line, exit_status};
 ghost use Rattle.mb_program.specs.declared.failure.Failure.{Failure};
 
 use crate::answer::answer;
@@ -31,17 +30,20 @@ pub fn run_program<R: Read, W: Write, E: Write>(
     ensures unread { 0 < arguments → reader.new ≡ reader.old }
     ensures unwritten { 0 < arguments → writer.new ≡ writer.old }
 
-    // With the status 0 the whole report was written of what was read, no call failed, and no error was said.
+    // No more is read than a text may have and a byte beyond.
+    ensures taken { TakesAtMost most_read (R.remaining reader.old.stream) (R.remaining reader.new.stream) }
+
+    // With the status 0 the whole report was written of what was read, no call failed, and the stream for errors was not called.
     ensures reported { result ≡ 0 →
         HasReported (R.remaining reader.old.stream) (W.contents writer.old.stream) (W.contents writer.new.stream) }
     ensures no_failure { result ≡ 0 → (reader.new.failed || writer.new.failed) ≡ false }
-    ensures no_error { result ≡ 0 → Keeps (E.contents errors.old.stream) (E.contents errors.new.stream) }
+    ensures no_error { result ≡ 0 → errors.new ≡ errors.old }
 
-    // With another a failure was met: nothing was written but a beginning of the report, and its one line was said.
-    ensures failed { result ≢ 0 → (failure : Failure) × (result ≡ status_of failure)
+    // With another a failure was met, and its one line was said. The writer was not called, unless writing the report failed.
+    ensures failed { result ≢ 0 → (failure : Failure) × (result ≡ exit_status failure)
         × IsMet arguments (R.remaining reader.old.stream) (reader.new.failed || writer.new.failed) failure
-        × IsCutShort (R.remaining reader.old.stream) writer.new.failed (W.contents writer.old.stream) (W.contents writer.new.stream)
-        × IsSaid (E.contents errors.old.stream) (E.contents errors.new.stream) errors.new.failed (error_line failure) }
+        × IsCutShort W.contents (R.remaining reader.old.stream) writer.old writer.new
+        × IsLineSaid (E.contents errors.old.stream) (E.contents errors.new.stream) errors.new.failed (error_line failure) }
 {
     if arguments > 0 {
         return refuse(alloc, errors, &Failure::Arguments);
@@ -63,21 +65,24 @@ pub fn drive<R: Read, W: Write, E: Write>(
     requires errors { errors.old.failed ≡ false }
     ensures status { result ≤ 2 }
 
-    // With the status 0 the whole report was written of what was read, no call failed, and no error was said.
+    // No more is read than a text may have and a byte beyond.
+    ensures taken { TakesAtMost most_read (R.remaining reader.old.stream) (R.remaining reader.new.stream) }
+
+    // With the status 0 the whole report was written of what was read, no call failed, and the stream for errors was not called.
     ensures reported { result ≡ 0 →
         HasReported (R.remaining reader.old.stream) (W.contents writer.old.stream) (W.contents writer.new.stream) }
     ensures no_failure { result ≡ 0 → (reader.new.failed || writer.new.failed) ≡ false }
-    ensures no_error { result ≡ 0 → Keeps (E.contents errors.old.stream) (E.contents errors.new.stream) }
+    ensures no_error { result ≡ 0 → errors.new ≡ errors.old }
 
-    // With another a failure was met: nothing was written but a beginning of the report, and its one line was said.
-    ensures failed { result ≢ 0 → (failure : Failure) × (result ≡ status_of failure)
+    // With another a failure was met, and its one line was said. The writer was not called, unless writing the report failed.
+    ensures failed { result ≢ 0 → (failure : Failure) × (result ≡ exit_status failure)
         × IsMet 0 (R.remaining reader.old.stream) (reader.new.failed || writer.new.failed) failure
-        × IsCutShort (R.remaining reader.old.stream) writer.new.failed (W.contents writer.old.stream) (W.contents writer.new.stream)
-        × IsSaid (E.contents errors.old.stream) (E.contents errors.new.stream) errors.new.failed (error_line failure) }
+        × IsCutShort W.contents (R.remaining reader.old.stream) writer.old writer.new
+        × IsLineSaid (E.contents errors.old.stream) (E.contents errors.new.stream) errors.new.failed (error_line failure) }
 
-    // Whatever is no scenario that can be run, nothing is written for it.
+    // For whatever is no scenario that can be run, the writer is not called.
     ensures silent { IfSome (R.remaining reader.old.stream) (λ input. (failure : Failure) → IsAtFault (take most_read input) failure →
-        Keeps (W.contents writer.old.stream) (W.contents writer.new.stream)) }
+        writer.new ≡ writer.old) }
 {
     match answer_to(alloc, reader) {
         Ok(report) => match writer.send(report.as_bytes()) {
@@ -91,6 +96,7 @@ pub fn drive<R: Read, W: Write, E: Write>(
 /// The report of the scenario that the reader gives.
 fn answer_to<R: Read>(alloc: Global, reader: &mut Watched<R>) -> Result<String, Failure>
     requires reader { reader.old.failed ≡ false }
+    ensures taken { TakesAtMost most_read (R.remaining reader.old.stream) (R.remaining reader.new.stream) }
     ensures report { IfOk result (λ report. (reader.new.failed ≡ false) × IsAnswer (R.remaining reader.old.stream) (string_bytes report)) }
     ensures failure { IfErr result (IsMet 0 (R.remaining reader.old.stream) reader.new.failed) }
 {
@@ -102,8 +108,8 @@ fn answer_to<R: Read>(alloc: Global, reader: &mut Watched<R>) -> Result<String, 
 /// the line of a fault of the input, that is the failure.
 fn refuse<E: Write>(alloc: Global, errors: &mut Watched<E>, failure: &Failure) -> u8
     requires errors { errors.old.failed ≡ false }
-    ensures { (said : Failure) × IsSaidFor failure.now said × (result ≡ status_of said)
-        × IsSaid (E.contents errors.old.stream) (E.contents errors.new.stream) errors.new.failed (error_line said) }
+    ensures { (said : Failure) × IsSaidFor failure.now said × (result ≡ exit_status said)
+        × IsLineSaid (E.contents errors.old.stream) (E.contents errors.new.stream) errors.new.failed (error_line said) }
 {
     match failure {
         Failure::Os => say(errors, "mailrun: 2 Os\n"),
@@ -130,7 +136,7 @@ fn fault_line(alloc: Global, fault: &Fault) -> Result<String, AllocError>
 /// Says the line, as far as it can be written.
 fn say<E: Write>(errors: &mut Watched<E>, line: &str)
     requires errors { errors.old.failed ≡ false }
-    ensures { IsSaid (E.contents errors.old.stream) (E.contents errors.new.stream) errors.new.failed line.now }
+    ensures { IsLineSaid (E.contents errors.old.stream) (E.contents errors.new.stream) errors.new.failed line.now }
 {
     let _ = errors.send(line.as_bytes());
 }

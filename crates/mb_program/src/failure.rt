@@ -1,7 +1,7 @@
 ghost use Rattle.std.specs.Prelude.{◌≡◌};
 ghost use Rattle.mb_program.specs.declared.failure.Failure.TheVariants.{Input};
 ghost use Rattle.mb_reader.specs.declared.fault.Fault.TheVariants.{NoMemory};
-ghost use Rattle.mb_program.specs.Failure.{status_of};
+ghost use Rattle.mb_program.specs.Failure.{exit_status};
 
 use mb_reader::Fault;
 use std::alloc::{AllocError, AllocFailed};
@@ -22,7 +22,7 @@ pub enum Failure {
 impl Failure {
     /// The exit status of the program: 1 if the machine failed it, 2 if what it was given is at fault.
     pub fn status(&self) -> u8
-        ensures { result ≡ status_of self.now }
+        ensures { result ≡ exit_status self.now }
     {
         match self {
             Failure::Os | Failure::Input(Fault::NoMemory) => 1,

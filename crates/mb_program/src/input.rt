@@ -1,5 +1,5 @@
-ghost use Rattle.std.specs.Prelude.{◌≡◌, IfOk, MatchResult};
-ghost use Rattle.mb_program.specs.Answer.{IsRead, IsReadFailure};
+ghost use Rattle.std.specs.Prelude.{◌≡◌, false, IfOk, MatchResult};
+ghost use Rattle.mb_program.specs.Answer.{most_read, IsRead, IsReadFailure, TakesAtMost};
 
 use crate::failure::Failure;
 use crate::watched::Watched;
@@ -15,7 +15,9 @@ const CHUNK: usize = 8192;
 /// Reads to the end of the input, or until there is one byte more than a scenario may have. The first error of the
 /// reader ends it with `Os`.
 pub fn read_input<R: Read>(alloc: Global, reader: &mut Watched<R>) -> Result<Vec<u8>, Failure>
+    requires reader { reader.old.failed ≡ false }
     ensures text { IfOk result (λ text. IsRead (R.remaining reader.old.stream) text.items) }
+    ensures taken { TakesAtMost most_read (R.remaining reader.old.stream) (R.remaining reader.new.stream) }
     ensures failure { MatchResult result (λ _. reader.new.failed ≡ reader.old.failed) (IsReadFailure reader.old.failed reader.new.failed) }
 {
     let mut text = Vec::new(alloc);

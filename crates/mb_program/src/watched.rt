@@ -7,7 +7,7 @@ use std::io;
 use std::io::{ErrorKind, Read, Write};
 use std::marker::Model;
 
-/// A stream of which it is known whether a call of it has failed.
+/// A stream of which it is known whether a call of it has failed: then no other call of it is made.
 #[derive(Drop)]
 pub struct Watched<S> {
     stream: S,
@@ -38,6 +38,7 @@ impl<S: Drop> Watched<S> {
 impl<R: Read> Watched<R> {
     /// Reads some bytes: none at the end, or where there is no room. An error is the stream's own.
     pub fn read(&mut self, buf: &mut [u8]) -> io::Result<usize>
+        requires working { self.old.failed ≡ false }
         ensures bound { ReadsAtMost result buf.new }
         ensures bytes { ReadConsumes (R.remaining self.old.stream) (R.remaining self.new.stream) result buf.new }
         ensures watched { self.new.failed ≡ (self.old.failed || is_err result) }
@@ -52,6 +53,7 @@ impl<W: Write> Watched<W> {
     /// Writes some of the bytes, at least one where there is one. An error is the stream's own, or `WriteZero` where it
     /// takes none.
     fn write(&mut self, bytes: &[u8]) -> io::Result<usize>
+        requires working { self.old.failed ≡ false }
         ensures bound { WritesAtMost result bytes.now }
         ensures some { IfOk result (λ count. 0 < length bytes.now → 0 < count) }
         ensures bytes { WriteAppends (W.contents self.old.stream) (W.contents self.new.stream) result bytes.now }
@@ -67,6 +69,7 @@ impl<W: Write> Watched<W> {
 
     /// Sees to it that what was written leaves the process. An error is the stream's own.
     fn flush(&mut self) -> io::Result<()>
+        requires working { self.old.failed ≡ false }
         ensures bytes { Keeps (W.contents self.old.stream) (W.contents self.new.stream) }
         ensures watched { self.new.failed ≡ (self.old.failed || is_err result) }
     {
@@ -78,6 +81,7 @@ impl<W: Write> Watched<W> {
     /// Writes all the bytes, once, and sees to it that they leave the process. The first error ends it: a beginning of
     /// the bytes was written then.
     pub fn send(&mut self, bytes: &[u8]) -> io::Result<()>
+        requires working { self.old.failed ≡ false }
         ensures whole { OnOk result (Appends (W.contents self.old.stream) (W.contents self.new.stream) bytes.now) }
         ensures part { AppendsBeginning (W.contents self.old.stream) (W.contents self.new.stream) bytes.now }
         ensures watched { self.new.failed ≡ (self.old.failed || is_err result) }

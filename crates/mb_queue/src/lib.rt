@@ -10,8 +10,6 @@ mod make;
 mod order;
 mod send_pass;
 mod take_pass;
-#[cfg(test)]
-mod tests;
 
 pub use kind::Kind;
 pub use make::MailQueue;

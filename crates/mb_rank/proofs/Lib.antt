@@ -1,2 +1,4 @@
+pub mod Keeps
 pub mod Ranked
+pub mod Slots
 pub mod Turns

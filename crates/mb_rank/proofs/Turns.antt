@@ -1,14 +1,14 @@
 -- What the heap's order says of whose turn it is.
 use Rattle.std.proofs.Common.{◌≡◌, ◌⊎◌, ℕ, ◌<◌, ◌≤◌, ◌==◌, Bool, true, false, cond, List, [], ◌∷◌, nat_lt, inl, inr, arith, Decides, refl, sym}
 use Rattle.std.specs.List.{All, AllByRecursion}
-use Rattle.std.specs.Ordering.{nat_cmp, ordering_then, is_lt}
+use Rattle.std.specs.Ordering.{ordering_then, is_lt}
 use Rattle.std.specs.declared.cmp.Ordering.TheVariants.{Less, Equal, Greater}
 use Rattle.std.specs.declared.cmp.Reverse.{Reverse}
 use Rattle.std.proofs.lemmas.Bool.Decides.{Decides-eqb, nat_tests}
 use Rattle.std.proofs.lemmas.List.Elements.{All-cons}
-use Rattle.mb_rank.specs.declared.waiting.Arrival.{Arrival}
+use Rattle.mb_rank.specs.declared.turn.Turn.{Turn}
 use Rattle.mb_rank.specs.Arrival.{IsBehind}
-use Rattle.mb_rank.specs.Kept.{turn_cmp}
+use Rattle.mb_rank.specs.Kept.{arrival_of, turn_cmp}
 
 by_tests : (r s n m : ℕ) (b c d e : Bool) → Decides b (s < r) → Decides c (s ≡ r) → Decides d (m < n)
     → is_lt (ordering_then (cond b Less (cond c Equal Greater)) (cond d Less (cond e Equal Greater))) ≡ false
@@ -21,12 +21,12 @@ by_tests r s n m false false d e lt same less is =
     let no : s < r → ⊥ = λ h. (let f : false ≡ true = lt.1 h in cc) in let ne : s ≡ r → ⊥ = λ h. (let f : false ≡ true = same.1 h in cc) in
     inl (omega (arith, no, ne))
 
-behind : (x y : Reverse Arrival) → is_lt (turn_cmp x y) ≡ false → IsBehind x.0 y.0
+behind : (x y : Reverse Turn) → is_lt (turn_cmp x y) ≡ false → IsBehind (arrival_of x) (arrival_of y)
 behind x y is = by_tests x.0.rank y.0.rank x.0.number y.0.number (nat_lt y.0.rank x.0.rank) (y.0.rank == x.0.rank) (nat_lt y.0.number x.0.number)
     (y.0.number == x.0.number)
     (grind (arith, nat_tests), grind (arith, nat_tests)) (Decides-eqb y.0.rank x.0.rank) (grind (arith, nat_tests), grind (arith, nat_tests)) is
 
-pub all_behind : (x : Reverse Arrival) (xs : List (Reverse Arrival)) → AllByRecursion (λ y. is_lt (turn_cmp x y) ≡ false) xs
-    → All (λ (y : Reverse Arrival). IsBehind x.0 y.0) xs
+pub all_behind : (x : Reverse Turn) (xs : List (Reverse Turn)) → AllByRecursion (λ y. is_lt (turn_cmp x y) ≡ false) xs
+    → All (λ (y : Reverse Turn). IsBehind (arrival_of x) (arrival_of y)) xs
 all_behind x [] h = λ k d lt. absurd (omega arith)
-all_behind x (y ∷ xs) h = All-cons (λ (z : Reverse Arrival). IsBehind x.0 z.0) y xs (behind x y h.0) (all_behind x xs h.1)
+all_behind x (y ∷ xs) h = All-cons (λ (z : Reverse Turn). IsBehind (arrival_of x) (arrival_of z)) y xs (behind x y h.0) (all_behind x xs h.1)

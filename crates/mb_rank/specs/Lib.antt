@@ -1,3 +1,4 @@
 pub mod Arrival
 pub mod Kept
 pub mod Rank
+pub mod Turn

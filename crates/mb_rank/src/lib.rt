@@ -2,6 +2,7 @@
 #![tactic(auto)]
 
 mod ranks;
+mod turn;
 mod waiting;
 
 pub use ranks::{RankRow, Ranks};

@@ -2,29 +2,32 @@
 ghost use Rattle.std.specs.Prelude.{◌≡◌, ◌<◌, ◌≤◌, ◌↔◌, [], ◌∷◌, length, All, IfOk, IsTrue, IsPermutation, MatchOption};
 ghost use Rattle.mb_rank.specs.Arrival.{IsBehind};
 
+use crate::turn::Turn;
 use mb_msg::Envelope;
+use slab::Slab;
 use std::alloc::{AllocError, Global};
 use std::cmp::Reverse;
 use std::collections::BinaryHeap;
 use std::marker::Model;
+use std::snapshot::Snapshot;
 
 /// How many are held at most, in room that is made once.
 pub const HELD_AT_MOST: usize = 1024;
 
 /// An envelope with what its turn goes by: its rank, and the how manieth of all it came in as, from 0.
 #[derive(Clone, Copy, Debug)]
-#[derive_where(PartialEq, Eq, PartialOrd, Ord)]
 pub struct Arrival {
     pub rank: u32,
     pub number: u64,
-    #[derive_where(skip(EqHashOrd))]
     pub envelope: Envelope,
 }
 
-/// What is held, in no order that matters. Contracts see the list.
+/// What is held, in no order that matters: the turns in a heap, and each envelope where it stays until its turn. Contracts
+/// see the list.
 #[derive(Drop)]
 pub struct Waiting {
-    heap: BinaryHeap<Reverse<Arrival>>,
+    turns: BinaryHeap<Reverse<Turn>>,
+    envelopes: Slab<Envelope>,
 }
 
 impl Model for Waiting {
@@ -33,11 +36,11 @@ impl Model for Waiting {
 
     ghost Value = { List Arrival };
 
-    ghost use Rattle.mb_rank.specs.Kept.{arrivals, IsTurnHeap};
+    ghost use Rattle.mb_rank.specs.Kept.{arrivals, IsKept};
 
-    ghost view = { λ w. arrivals w.heap };
+    ghost view = { λ w. arrivals w.turns };
 
-    ghost invariant = { λ w. IsTurnHeap w.heap };
+    ghost invariant = { λ w. IsKept w.turns w.envelopes };
 }
 
 impl Waiting {
@@ -45,8 +48,9 @@ impl Waiting {
     pub fn new(alloc: Global) -> Result<Waiting, AllocError>
         ensures { IfOk result (λ w. w ≡ []) }
     {
-        let heap = BinaryHeap::with_capacity(alloc, HELD_AT_MOST)?;
-        Ok(Waiting { heap })
+        let turns = BinaryHeap::with_capacity(alloc, HELD_AT_MOST)?;
+        let envelopes = Slab::with_capacity(alloc, HELD_AT_MOST)?;
+        Ok(Waiting { turns, envelopes })
     }
 
     /// Whether as many are held as may be.
@@ -54,7 +58,7 @@ impl Waiting {
         ensures full { IsTrue result ↔ (length self.now ≡ 1024) }
         ensures most { length self.now ≤ 1024 }
     {
-        self.heap.len() == HELD_AT_MOST
+        self.turns.len() == HELD_AT_MOST
     }
 
     /// Holds one more. It takes no memory.
@@ -62,7 +66,19 @@ impl Waiting {
         requires { length self.old < 1024 }
         ensures { IsPermutation (arrival ∷ self.old) self.new }
     {
-        let Ok(()) = self.heap.push(Reverse(arrival)) else {
+        let Arrival {
+            rank,
+            number,
+            envelope,
+        } = arrival;
+        let slot = self.envelopes.insert_reserved(envelope);
+        let turn = Turn {
+            rank,
+            number,
+            slot,
+            envelope: Snapshot::of(&envelope),
+        };
+        let Ok(()) = self.turns.push(Reverse(turn)) else {
             unreachable!();
         };
     }
@@ -72,7 +88,12 @@ impl Waiting {
         ensures { MatchOption result ((self.old ≡ []) × (self.new ≡ []))
             (λ first. IsPermutation self.old (first ∷ self.new) × All (IsBehind first) self.new) }
     {
-        let Reverse(first) = self.heap.pop()?;
-        Some(first)
+        let Reverse(turn) = self.turns.pop()?;
+        let envelope = self.envelopes.remove(turn.slot);
+        Some(Arrival {
+            rank: turn.rank,
+            number: turn.number,
+            envelope,
+        })
     }
 }

@@ -56,7 +56,10 @@ on = [{ kind = 1, do = ["no"] }, 1] => actor 1 on 1 do 1: bad op
 // In a table the least unknown key, and then the keys in their order.
 mailbox = "priority" | rank = [{ kind = 1.5, zoo = 1 }] => actor 1 rank 1 zoo: unknown key
 mailbox = "priority" | rank = [{ rank = -1, kind = 1.5 }] => actor 1 rank 1 kind: wrong type
+on = [{ kind = 1.5, zoo = 1 }] => actor 1 on 1 zoo: unknown key
 on = [{ do = 1, kind = -1 }] => actor 1 on 1 kind: out of range
+on = [{ kind = 1, do = 1 }, { zoo = 1 }] => actor 1 on 1 do: wrong type
+strategy = [{ cause = 1, zoo = 1 }] => actor 1 strategy 1 zoo: unknown key
 strategy = [{ then = 1, cause = "no" }] => actor 1 strategy 1 cause: out of range
 // Of one key: its type, whether it may stand, what it may be.
 capacity = "1" => actor 1 capacity: wrong type

@@ -39,6 +39,7 @@ const RANKS: &str = r#"
 { kind = 4294967295, rank = 4294967295 } => may stand
 { rank = 0, kind = 0 } => may stand
 { kind = 1, rank = -1 } => actor 1 rank 1 rank: out of range
+{} => actor 1 rank 1 kind: missing
 "#;
 
 const ROWS: &str = r#"
@@ -57,6 +58,7 @@ const ROWS: &str = r#"
 { do = ["add"], kind = 1 } => may stand
 { kind = 0, do = [] }, { kind = 0, do = [] } => may stand
 { kind = 4294967295, do = ["add", "add"] } => may stand
+{} => actor 1 on 1 kind: missing
 "#;
 
 const STRATEGIES: &str = r#"
@@ -65,6 +67,7 @@ const STRATEGIES: &str = r#"
 { cause = "any" } => actor 1 strategy 1 then: missing
 { cause = 1, then = "stop" } => actor 1 strategy 1 cause: wrong type
 { cause = "any", then = true } => actor 1 strategy 1 then: wrong type
+{} => actor 1 strategy 1 cause: missing
 { cause = "any", then = "stop", retries = 1 } => actor 1 strategy 1 retries: unknown key
 { cause = "any", then = "resume" } => may stand
 { cause = "error", then = "restart" } => may stand

@@ -31,7 +31,7 @@ use Rattle.mb_cell.specs.MayHandle.{MayHandle}
 use Rattle.mb_cell.specs.Seen.{IsOf, Seen, TakesEnvelope, with_entry}
 use Rattle.mb_cell.proofs.RunLaws.{turn-more}
 use Rattle.mb_run.specs.Calm.{IsQuiet, IsRunning, IsUser}
-use Rattle.mb_run.specs.Fates.{envelopes_of, messages_in}
+use Rattle.mb_run.specs.Fates.{envelopes_in, messages_in}
 use Rattle.mb_run.specs.Rest.{IsAtRest, LosesNothing, World, world}
 
 -- an actor that runs has not ended
@@ -68,8 +68,8 @@ pub record EnvelopeStep (old new : World) : Type 0 where
 
 -- the envelope is told of last
 told : (before : List Entry) (envelope : Envelope) (reading : ℕ) (a : Option Answer) (effects : List Effect) →
-    envelopes_of (Handled envelope reading (Applied a effects) ∷ before) ≡ envelopes_of before ++ envelope ∷ []
-unfolding envelopes_of
+    envelopes_in (Handled envelope reading (Applied a effects) ∷ before) ≡ envelopes_in before ++ envelope ∷ []
+unfolding envelopes_in
 told before envelope reading a effects = refl
 
 -- the messages in envelopes with one more
@@ -109,13 +109,13 @@ handled_so w e reading a effects envelopes kind value rest some is well none =
         addressed = (subst (AllByRecursion (λ (x : Envelope). x.to ≡ who.this)) some rest.addressed).1;
         users = (subst (AllByRecursion (λ (x : Envelope). IsUser x.body)) some rest.users).1;
         heard = messages-handled who before e reading a effects ∙ ap (λ l. l ++ body_messages e.body) rest.heard
-            ∙ sym (ap messages_in tells ∙ one_more_message (envelopes_of before) e);
+            ∙ sym (ap messages_in tells ∙ one_more_message (envelopes_in before) e);
         no_restart = rest.no_restart;
       };
       kept = record {
         same_who = refl;
-        envelopes = ap (λ l. l ++ envelopes) tells ∙ append_assoc (envelopes_of before) (e ∷ []) envelopes
-            ∙ sym (ap (λ l. envelopes_of before ++ l) some);
+        envelopes = ap (λ l. l ++ envelopes) tells ∙ append_assoc (envelopes_in before) (e ∷ []) envelopes
+            ∙ sym (ap (λ l. envelopes_in before ++ l) some);
         in_all = let fewer = ap (λ (l : List Envelope). length l) some in omega (arith, fewer);
       };
       turn = λ from n turns. turn-more from n (readied w.cell) (with_entry (readied w.cell) entry) e reading

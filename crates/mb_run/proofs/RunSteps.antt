@@ -15,7 +15,7 @@ use Rattle.mb_journal.specs.declared.error.ReadyError.{ReadyError}
 use Rattle.mb_journal.specs.declared.error.ReadyError.TheVariants.{JournalFull}
 use Rattle.mb_status.specs.Mailbox.{Mailbox, should_process, word_of}
 use Rattle.mb_cell.specs.Seen.{Seen}
-use Rattle.mb_run.specs.Fates.{envelopes_of}
+use Rattle.mb_run.specs.Fates.{envelopes_in}
 use Rattle.mb_run.specs.Rest.{HasHandled, IsAtRest, IsRunOf, IsWholeRun, LosesNothing, World}
 use Rattle.mb_run.proofs.EnvelopeStep.{running-open}
 
@@ -59,8 +59,8 @@ nothing_in_front old new kept rest = next_front-none old.cell.who new.cell.journ
 -- where so many fewer wait, these were handled, the first ones first
 pub handled_first : (old new : World) (n : ℕ) → LosesNothing old new → n + length new.envelopes ≡ length old.envelopes → HasHandled old new n
 handled_first old new n kept taken =
-    let now = envelopes_of new.cell.journal in
-    let before = envelopes_of old.cell.journal in
+    let now = envelopes_in new.cell.journal in
+    let before = envelopes_in old.cell.journal in
     let in_all = sym (length-append now new.envelopes) ∙ ap (λ (l : List Envelope). length l) kept.envelopes ∙ length-append before old.envelopes in
     let more : length now ≡ length before + n = omega (arith, in_all, taken) in
     record {

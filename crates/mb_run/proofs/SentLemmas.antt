@@ -10,7 +10,7 @@ use Rattle.mb_reader.specs.declared.scenario.What.TheVariants as what
 use Rattle.mb_run.specs.Calm.{IsUser}
 use Rattle.mb_run.specs.Fates.{messages_in}
 use Rattle.mb_run.specs.Plain.{is_message, is_plain_send}
-use Rattle.mb_run.specs.Sent.{bodies, body_in, messages_of, sent}
+use Rattle.mb_run.specs.Sent.{bodies, body_in, messages_in_bodies, sent}
 
 pub and-true : (a b : Bool) → (a && b) ≡ true → (a ≡ true) × (b ≡ true)
 and-true true b e = (refl, e)
@@ -68,8 +68,8 @@ bodies_in-sent : (number : ℕ) (list : List Body) → map (λ (e : Envelope). e
 bodies_in-sent number [] = refl
 bodies_in-sent number (b ∷ list) = ap (λ l. b ∷ l) (bodies_in-sent (number + 1) list)
 
-pub messages_in-sent : (number : ℕ) (list : List Body) → messages_in (sent number list) ≡ messages_of list
-messages_in-sent number list = ap messages_of (bodies_in-sent number list)
+pub messages_in-sent : (number : ℕ) (list : List Body) → messages_in (sent number list) ≡ messages_in_bodies list
+messages_in-sent number list = ap messages_in_bodies (bodies_in-sent number list)
 
 pub length-sent : (number : ℕ) (list : List Body) → length (sent number list) ≡ length list
 length-sent number [] = refl

@@ -24,18 +24,18 @@ use Rattle.mb_report.specs.Counts.{tells_of_restart}
 use Rattle.mb_report.specs.declared.report.Report.{Report}
 use Rattle.mb_run.specs.Begun.{IsBegun, started_guardian, the_actor}
 use Rattle.mb_run.specs.Calm.{IsUser}
-use Rattle.mb_run.specs.Fates.{envelopes_of, messages_in}
+use Rattle.mb_run.specs.Fates.{envelopes_in, messages_in}
 use Rattle.mb_run.specs.Reported.{IsReportedOf, Reports}
 use Rattle.mb_run.specs.Rest.{IsAtRest, LosesNothing, messages_in_all, world}
 use Rattle.mb_run.specs.Plain.{is_plain_send}
-use Rattle.mb_run.specs.Sent.{bodies, messages_of, sent}
-use Rattle.mb_run.specs.Told.{AreRuns, IsTold}
+use Rattle.mb_run.specs.Sent.{bodies, messages_in_bodies, sent}
+use Rattle.mb_run.specs.Told.{AreRuns, IsRunReport}
 use Rattle.mb_run.proofs.SentLemmas.{addressed-sent, length-bodies, length-sent, messages_in-sent, users-sent}
 use Rattle.mb_run.proofs.StartSteps.{ever_aside-none}
 
 -- a start tells of no envelope
-pub no_envelope : (answer : Option Answer) → envelopes_of (System 0 Create (Applied answer []) ∷ []) ≡ []
-unfolding envelopes_of
+pub no_envelope : (answer : Option Answer) → envelopes_in (System 0 Create (Applied answer []) ∷ []) ≡ []
+unfolding envelopes_in
 no_envelope answer = refl
 
 no_restart : (answer : Option Answer) → count_by tells_of_restart (System 0 Create (Applied answer []) ∷ []) ≡ 0
@@ -54,7 +54,7 @@ begun_rest cell strategy limit sends envelopes begun who are plain = record {
       (subst (λ (w : Identity). AllByRecursion (λ (e : Envelope). e.to ≡ w.this) (sent 0 (bodies sends))) (sym who) (addressed-sent 0 (bodies
       sends)));
   users = subst (λ (l : List Envelope). AllByRecursion (λ (e : Envelope). IsUser e.body) l) (sym are) (users-sent sends plain);
-  heard = begun.unheard ∙ sym (ap messages_in (ap envelopes_of begun.created ∙ no_envelope begun.answer));
+  heard = begun.unheard ∙ sym (ap messages_in (ap envelopes_in begun.created ∙ no_envelope begun.answer));
   no_restart = ap (λ (l : List Entry). count_by tells_of_restart l) begun.created ∙ no_restart begun.answer;
 }
 
@@ -68,9 +68,9 @@ begun_block cell begun =
 -- how many messages there are, and what was sent
 pub begun_kept : (cell : Seen) (sends : List Sending) (envelopes : List Envelope) → IsBegun cell → envelopes ≡ sent 0 (bodies sends) →
     list_all is_plain_send sends ≡ true →
-    (envelopes_of cell.journal ++ envelopes ≡ sent 0 (bodies sends)) × (messages_in_all (world cell envelopes) ≡ length sends + 1)
+    (envelopes_in cell.journal ++ envelopes ≡ sent 0 (bodies sends)) × (messages_in_all (world cell envelopes) ≡ length sends + 1)
 begun_kept cell sends envelopes begun are plain =
-    let none = ap envelopes_of begun.created ∙ no_envelope begun.answer in
+    let none = ap envelopes_in begun.created ∙ no_envelope begun.answer in
     let one = ap (λ (l : List Entry). length l) begun.created in
     let many = ap (λ (l : List Envelope). length l) are ∙ length-sent 0 (bodies sends) ∙ length-bodies sends plain in (
       ap (λ (l : List Envelope). l ++ envelopes) none ∙ are,
@@ -91,14 +91,14 @@ pub told_run : (after : ℕ → List Message → ℤ) (gives : ℕ → Moment �
     first.who ≡ the_actor strategy limit → before ≡ sent 0 (bodies sends) → list_all is_plain_send sends ≡ true → IsAtRest (world last left) →
     LosesNothing (world first before) (world last left) → left ≡ [] → AreRuns first.who throughput last.journal →
     Reports after gives guardian last (length sends) report →
-    IsTold (after 1) (gives 0) (gives 1) (the_actor strategy limit) throughput sends report
+    IsRunReport (after 1) (gives 0) (gives 1) (the_actor strategy limit) throughput sends report
 told_run after gives guardian first last before left strategy limit throughput sends report begun guardian_is who are plain rest kept none runs
     reports =
     let last_who : last.who ≡ the_actor strategy limit = kept.same_who ∙ who in
-    let told : envelopes_of last.journal ≡ sent 0 (bodies sends) =
-    sym (append-nil (envelopes_of last.journal)) ∙ sym (ap (λ (l : List Envelope). envelopes_of last.journal ++ l) none) ∙ kept.envelopes
+    let told : envelopes_in last.journal ≡ sent 0 (bodies sends) =
+    sym (append-nil (envelopes_in last.journal)) ∙ sym (ap (λ (l : List Envelope). envelopes_in last.journal ++ l) none) ∙ kept.envelopes
     ∙ (begun_kept first sends before begun are plain).0 in
-    let heard : messages (the_actor strategy limit) last.journal ≡ messages_of (bodies sends) =
+    let heard : messages (the_actor strategy limit) last.journal ≡ messages_in_bodies (bodies sends) =
     sym (ap (λ (w : Identity). messages w last.journal) last_who) ∙ rest.heard ∙ ap messages_in told ∙ messages_in-sent 0 (bodies sends) in
     record {
       guardian = reports.first;

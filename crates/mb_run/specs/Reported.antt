@@ -26,15 +26,15 @@ pub record IsReportedOf (who : Identity) (gives : Moment → Reply → Type 0) (
   pub none_dead : actor.dead_system ≡ 0
 
 -- the sender sent so many envelopes, and each was taken
-pub record IsSender (sent : ℕ) (sender : SenderReport) : Type 0 where
+pub record HasSent (sent : ℕ) (sender : SenderReport) : Type 0 where
   pub sent_is : sender.sent ≡ sent
   pub none_dead : sender.dead.items ≡ []
 
 -- the senders sent so many envelopes, each of which was taken
-abbrev pub AreSenders : List ℕ → List SenderReport → Type 0
-AreSenders [] [] = Unit {0}
-AreSenders (sent ∷ numbers) (sender ∷ senders) = IsSender sent sender × AreSenders numbers senders
-AreSenders _ _ = ⊥
+abbrev pub HaveSent : List ℕ → List SenderReport → Type 0
+HaveSent [] [] = Unit {0}
+HaveSent (sent ∷ numbers) (sender ∷ senders) = HasSent sent sender × HaveSent numbers senders
+HaveSent _ _ = ⊥
 
 -- the report tells of the guardian, which shows no content, of its child, and of what the one sender outside sent; the two
 -- actors sent nothing
@@ -43,7 +43,7 @@ pub record Reports (after : ℕ → List Message → ℤ) (gives : ℕ → Momen
   pub first : ActorReport
   pub second : ActorReport
   pub actors : report.actors.items ≡ first ∷ second ∷ []
-  pub senders : AreSenders (0 ∷ 0 ∷ sent ∷ []) report.senders.items
+  pub senders : HaveSent (0 ∷ 0 ∷ sent ∷ []) report.senders.items
   pub of_guardian : IsReportedOf guardian.who (gives guardian.who.this.0) guardian.journal first
   pub no_state : first.state ≡ None
   pub of_actor : IsReportedOf cell.who (gives cell.who.this.0) cell.journal second

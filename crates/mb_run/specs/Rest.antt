@@ -10,7 +10,7 @@ use Rattle.mb_journal.specs.Run.Stopped.{UsedUp, NotOpen, NoEnvelope, AtClosing,
 use Rattle.mb_cell.specs.Seen.{Seen}
 use Rattle.mb_report.specs.Counts.{tells_of_restart}
 use Rattle.mb_run.specs.Calm.{IsRunning, IsUser}
-use Rattle.mb_run.specs.Fates.{envelopes_of, messages_in}
+use Rattle.mb_run.specs.Fates.{envelopes_in, messages_in}
 
 -- an actor's cell and the envelopes that wait for it, in order
 pub record World : Type 0 where
@@ -28,7 +28,7 @@ pub record IsAtRest (w : World) : Type 0 where
   pub running : IsRunning w.cell.who w.cell.journal
   pub addressed : AllByRecursion (λ (e : Envelope). e.to ≡ w.cell.who.this) w.envelopes
   pub users : AllByRecursion (λ (e : Envelope). IsUser e.body) w.envelopes
-  pub heard : messages w.cell.who w.cell.journal ≡ messages_in (envelopes_of w.cell.journal)
+  pub heard : messages w.cell.who w.cell.journal ≡ messages_in (envelopes_in w.cell.journal)
   pub no_restart : count_by tells_of_restart w.cell.journal ≡ 0
 
 -- how many messages there are in all: those that have an entry, and those that wait
@@ -38,7 +38,7 @@ messages_in_all w = length w.cell.journal + length w.envelopes
 -- nothing is lost or made: what the journal tells of and what waits is together what it was
 pub record LosesNothing (old new : World) : Type 0 where
   pub same_who : new.cell.who ≡ old.cell.who
-  pub envelopes : envelopes_of new.cell.journal ++ new.envelopes ≡ envelopes_of old.cell.journal ++ old.envelopes
+  pub envelopes : envelopes_in new.cell.journal ++ new.envelopes ≡ envelopes_in old.cell.journal ++ old.envelopes
   pub in_all : messages_in_all new ≡ messages_in_all old
 
 -- the first envelope was handled, as one turn more; or none was there, and nothing changed
@@ -68,7 +68,7 @@ pub record IsRunOf (throughput : ℕ) (old new : World) (stopped : Stopped) : Ty
 -- still wait
 pub record HasHandled (old new : World) (handled : ℕ) : Type 0 where
   pub taken : length old.envelopes ≡ handled + length new.envelopes
-  pub told : envelopes_of new.cell.journal ≡ envelopes_of old.cell.journal ++ take handled old.envelopes
+  pub told : envelopes_in new.cell.journal ≡ envelopes_in old.cell.journal ++ take handled old.envelopes
   pub left : new.envelopes ≡ drop handled old.envelopes
 
 -- the run ended by itself, and handled so many: at least one, if one waited

@@ -19,14 +19,14 @@ abbrev pub bodies : List Sending → List Body
 bodies sends = flat_map (λ (send : Sending). body_in send.what) sends
 
 -- the envelope that the one sender sends the one actor with this number
-abbrev pub envelope_of : ℕ → Body → Envelope
-envelope_of number body = record { by = record { 0 = 64 }; number = number; to = record { 0 = 1 }; body = body }
+abbrev pub sent_envelope : ℕ → Body → Envelope
+sent_envelope number body = record { by = record { 0 = 64 }; number = number; to = record { 0 = 1 }; body = body }
 
 -- the envelopes that carry these, numbered from this on
 abbrev pub sent : ℕ → List Body → List Envelope
 sent number [] = []
-sent number (body ∷ bodies) = envelope_of number body ∷ sent (number + 1) bodies
+sent number (body ∷ bodies) = sent_envelope number body ∷ sent (number + 1) bodies
 
 -- the messages in what is carried, in order
-abbrev pub messages_of : List Body → List Message
-messages_of bodies = flat_map body_messages bodies
+abbrev pub messages_in_bodies : List Body → List Message
+messages_in_bodies bodies = flat_map body_messages bodies

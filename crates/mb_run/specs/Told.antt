@@ -13,9 +13,9 @@ use Rattle.mb_report.specs.Counts.{tells_of_restart}
 use Rattle.mb_report.specs.declared.report.ActorReport.{ActorReport}
 use Rattle.mb_report.specs.declared.report.Report.{Report}
 use Rattle.mb_run.specs.Begun.{started_guardian}
-use Rattle.mb_run.specs.Fates.{envelopes_of}
-use Rattle.mb_run.specs.Reported.{AreSenders, IsReportedOf}
-use Rattle.mb_run.specs.Sent.{bodies, messages_of, sent}
+use Rattle.mb_run.specs.Fates.{envelopes_in}
+use Rattle.mb_run.specs.Reported.{HaveSent, IsReportedOf}
+use Rattle.mb_run.specs.Sent.{bodies, messages_in_bodies, sent}
 
 -- the journal came by runs of a mailbox from nothing, one after another, each of which used up the throughput
 pub data AreUsedUp (who : Identity) (throughput : ℕ) : List Entry → Type 0 where
@@ -31,19 +31,19 @@ pub data AreRuns (who : Identity) (throughput : ℕ) (journal : List Entry) : Ty
 -- The report tells of two actors. The guardian was started, and shows no content. The actor's journal is one that it can
 -- have, which came by runs of the throughput, in which the sends were handled, each once and in order; it is Live and not
 -- suspended, was never started afresh, and its content is its own function of the messages. Nothing is left or dead.
-pub record IsTold (after : List Message → ℤ) (guardian_gives gives : Moment → Reply → Type 0) (who : Identity) (throughput : ℕ)
+pub record IsRunReport (after : List Message → ℤ) (guardian_gives gives : Moment → Reply → Type 0) (who : Identity) (throughput : ℕ)
     (sends : List Sending) (report : Report) : Type 0 where
   pub guardian : ActorReport
   pub actor : ActorReport
   pub actors : report.actors.items ≡ guardian ∷ actor ∷ []
-  pub senders : AreSenders (0 ∷ 0 ∷ length sends ∷ []) report.senders.items
+  pub senders : HaveSent (0 ∷ 0 ∷ length sends ∷ []) report.senders.items
   pub of_guardian : IsReportedOf (started_guardian who.limit).who guardian_gives (started_guardian who.limit).journal guardian
   pub no_state : guardian.state ≡ None
   pub journal : List Entry
   pub of_actor : IsReportedOf who gives journal actor
   pub runs : AreRuns who throughput journal
-  pub told : envelopes_of journal ≡ sent 0 (bodies sends)
-  pub heard : messages who journal ≡ messages_of (bodies sends)
+  pub told : envelopes_in journal ≡ sent 0 (bodies sends)
+  pub heard : messages who journal ≡ messages_in_bodies (bodies sends)
   pub state : actor.state ≡ Some (after (messages who journal))
   pub live : actor.phase ≡ Live
   pub unsuspended : actor.count ≡ 0

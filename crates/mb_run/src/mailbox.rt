@@ -17,7 +17,8 @@ use std::collections::VecDeque;
 /// status is that of the mailbox, which is open, and whether it is scheduled makes no difference.
 ///
 /// It stops before an envelope for which there is no room, with everything before it kept: room is made before each is
-/// taken, also where none comes. The answer is `JournalFull` exactly where the journal is full then, else `NoMemory`.
+/// taken, also where none comes, but not once the throughput is used up. The answer is `JournalFull` exactly where the
+/// journal is full then, else `NoMemory`.
 pub fn run_mailbox<A: Actor, K: Behaviours>(
     cell: &mut Cell<A, K>,
     status: Status,
@@ -30,6 +31,7 @@ pub fn run_mailbox<A: Actor, K: Behaviours>(
     ensures whole { IfOk result (IsWholeRun throughput (world cell.old envelopes.old.items) (world cell.new envelopes.new.items)) }
     ensures handled { IfOk result (HasHandled (world cell.old envelopes.old.items) (world cell.new envelopes.new.items)) }
     ensures stopped { OnErr result (IsRunOf throughput (world cell.old envelopes.old.items) (world cell.new envelopes.new.items) NoRoom) }
+    ensures early { OnErr result (length envelopes.old.items < length envelopes.new.items + most_envelopes throughput) }
     ensures full { IsErrOf result ReadyError.JournalFull ↔ (cell.new.who.limit ≤ length cell.new.journal)
         × (length envelopes.old.items < length envelopes.new.items + most_envelopes throughput) }
 {

@@ -2,7 +2,7 @@
 
 ghost use Rattle.std.specs.Prelude.{◌≡◌, IfOk, false};
 ghost use Rattle.mb_journal.specs.Identity.{is_guardian};
-ghost use Rattle.mb_run.specs.Reported.{IsReportedOf, IsSender, Reports};
+ghost use Rattle.mb_run.specs.Reported.{IsReportedOf, HasSent, Reports};
 
 use mb_actor::{Actor, Behaviours};
 use mb_cell::Cell;
@@ -32,7 +32,7 @@ pub fn report_on<A: Actor, K: Behaviours>(
 
 /// What is reported of a sender that sent so many envelopes, each of which was taken.
 fn sender_report(alloc: Global, sent: u64) -> SenderReport
-    ensures { IsSender sent result }
+    ensures { HasSent sent result }
 {
     SenderReport {
         sent,

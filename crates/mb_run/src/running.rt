@@ -8,8 +8,8 @@ ghost use Rattle.mb_run.specs.Begun.{the_actor};
 ghost use Rattle.mb_run.specs.Calm.{IsQuiet};
 ghost use Rattle.mb_run.specs.Rest.{IsAtRest, LosesNothing, world};
 ghost use Rattle.mb_run.specs.Plain.{is_plain_send};
-ghost use Rattle.mb_run.specs.Sent.{bodies, envelope_of, sent};
-ghost use Rattle.mb_run.specs.Told.{AreRuns, IsTold};
+ghost use Rattle.mb_run.specs.Sent.{bodies, sent_envelope, sent};
+ghost use Rattle.mb_run.specs.Told.{AreRuns, IsRunReport};
 
 use crate::beginning::{ACTOR, start};
 use crate::mailbox::run_mailbox;
@@ -54,7 +54,7 @@ pub fn run<A: Actor, K: Behaviours>(
     requires allows { AllowsSame (A.gives actor) (K.gives 1) }
     requires quiet { IsQuiet (K.gives 1) }
     requires plain { list_all is_plain_send sends.now ≡ true }
-    ensures told { IfOk result (IsTold (K.after 1) (K.gives 0) (K.gives 1)
+    ensures told { IfOk result (IsRunReport (K.after 1) (K.gives 0) (K.gives 1)
         (the_actor (strategy_data rules.strategy) rules.journal_limit) rules.throughput sends.now) }
     ensures full { result ≡ Err ReadyError.JournalFull → rules.journal_limit ≤ length sends.now + 1 }
 {
@@ -109,14 +109,14 @@ pub fn post_of(alloc: Global, sends: &[Sending]) -> Result<VecDeque<Envelope>, A
         let What::Envelope(body) = send.what else {
             unreachable!();
         };
-        envelopes.push_back(envelope_of(number as u64, body))?;
+        envelopes.push_back(sent_envelope(number as u64, body))?;
     }
     Ok(envelopes)
 }
 
 /// The envelope that the sender sends with this number.
-fn envelope_of(number: u64, body: Body) -> Envelope
-    ensures { result ≡ envelope_of number body }
+fn sent_envelope(number: u64, body: Body) -> Envelope
+    ensures { result ≡ sent_envelope number body }
 {
     Envelope {
         by: SENDER,

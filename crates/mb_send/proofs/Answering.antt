@@ -1,6 +1,6 @@
 -- Why a push was refused, as its sender is told.
-use Rattle.std.proofs.Common.{◌≡◌, subst, sym, ap}
-use Rattle.std.specs.Prelude.{Option, Some}
+use Rattle.std.proofs.Common.{◌≡◌, subst, sym}
+use Rattle.std.specs.Prelude.{Some}
 use Rattle.mb_msg.specs.declared.dead_letter.Why.{Why}
 use Rattle.mb_lane.specs.declared.refused.PushError.{PushError}
 use Rattle.mb_lane.specs.declared.refused.PushError.TheVariants.{Full, NoMemory}

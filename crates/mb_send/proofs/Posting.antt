@@ -1,16 +1,14 @@
 -- One more envelope in a sender's book.
-use Rattle.std.proofs.Common.{◌≡◌, ◌≢◌, ◌==◌, ℕ, ◌+◌, ◌<◌, Bool, true, false, cond, List, [], ◌∷◌, ◌++◌}
-use Rattle.std.proofs.Common.{map, filter, length, refl, sym, ap, ◌∙◌, subst, arith, Option, Some, None, is_none, append_assoc}
-use Rattle.std.specs.List.{flat_map}
+use Rattle.std.proofs.Common.{◌≡◌, ◌≢◌, ◌==◌, ℕ, ◌+◌, true, false, cond, List, [], ◌∷◌, ◌++◌}
+use Rattle.std.proofs.Common.{map, filter, length, refl, sym, ap, ◌∙◌, subst, arith, Some, None, append_assoc}
 use Rattle.std.proofs.lemmas.List.{append-nil, length-append, length-map, map-append}
 use Rattle.std.proofs.lemmas.List.Elements.{filter-append}
 use Rattle.std.proofs.lemmas.Bool.Decides.{nat_tests}
 use Rattle.mb_msg.specs.declared.envelope.Envelope.{Envelope}
 use Rattle.mb_msg.specs.declared.dead_letter.Why.{Why}
-use Rattle.mb_msg.specs.declared.dead_letter.DeadLetter.{DeadLetter}
 use Rattle.mb_send.specs.Posted.{names_from, names_of}
 use Rattle.mb_fates.specs.declared.posting.Posting.{Posting}
-use Rattle.mb_fates.specs.Accepted.{IsNumbered, accepted, queued, dead_letters, letters, letter_of, is_queued, to_actor}
+use Rattle.mb_fates.specs.Accepted.{IsNumbered, accepted, queued, dead_letters, letter_of, is_queued, to_actor}
 
 abbrev first : List (ℕ × ℕ) → ℕ × ℕ
 first [] = (0, 0)

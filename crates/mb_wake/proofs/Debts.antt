@@ -1,6 +1,6 @@
 -- A look at an actor that finds nothing to do leaves nothing owed.
-use Rattle.std.proofs.Common.{◌≡◌, ◌≢◌, ◌==◌, ℕ, ◌+◌, ◌*◌, ◌/◌, ◌%◌, Bool, true}
-use Rattle.std.proofs.Common.{false, ◌||◌, ◌&&◌, not, if◌then◌else◌, refl, sym, ap, ◌∙◌, subst, arith}
+use Rattle.std.proofs.Common.{◌≡◌, ◌==◌, ℕ, ◌+◌, ◌*◌, ◌/◌, ◌%◌, Bool, true}
+use Rattle.std.proofs.Common.{false, ◌||◌, ◌&&◌, not, if◌then◌else◌, refl, ap, ◌∙◌, arith}
 use Rattle.std.proofs.lemmas.Bool.Decides.{nat_tests}
 use Rattle.mb_status.specs.Mailbox.{Mailbox, mailbox_of, word_of, suspended, can_schedule}
 use Rattle.mb_core.specs.declared.debt.Debt.{Debt}

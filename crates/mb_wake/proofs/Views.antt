@@ -1,5 +1,5 @@
 -- What the steps of a pass at one actor do to what it knows.
-use Rattle.std.proofs.Common.{◌≡◌, ◌≢◌, ◌==◌, ℕ, Bool, true, false, ◌||◌, ◌&&◌, not, if◌then◌else◌}
+use Rattle.std.proofs.Common.{◌≡◌, ◌≢◌, ◌==◌, ℕ, Bool, true, false, ◌||◌, if◌then◌else◌}
 use Rattle.std.proofs.Common.{List, [], ◌∷◌, ◌++◌, refl, sym, ap, ◌∙◌, subst, arith, append_assoc, append-nil}
 use Rattle.std.proofs.lemmas.Bool.Decides.{nat_tests}
 use Rattle.mb_status.specs.Mailbox.{mailbox_of}
@@ -8,7 +8,6 @@ use Rattle.mb_core.specs.declared.debt.Debt.{Debt}
 use Rattle.mb_core.specs.Actor.{nothing}
 use Rattle.mb_core.specs.Run.{after_reading}
 use Rattle.mb_journal.specs.Entry.{Entry}
-use Rattle.mb_rule.specs.Seen.{Each}
 use Rattle.mb_rule.proofs.SeenLemmas.{each_append}
 use Rattle.mb_gate.specs.Claims.{claimed}
 use Rattle.mb_gate.specs.View.{View, Sight, Saw, Sent, Unsent, Pushed, Said, owes, owing, debt_of, added_debts, either_owes}

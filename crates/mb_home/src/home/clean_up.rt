@@ -1,6 +1,6 @@
 //! What is done with what is left when an actor ends (`Mailbox.cleanUp`).
 
-ghost use Rattle.std.specs.Prelude.{◌≡◌, ◌+◌, ◌%◌, ◌^◌, ◌++◌, true, is_some, if◌then◌else◌, option_to_list, OnErr, IfOk, MatchBool};
+ghost use Rattle.std.specs.Prelude.{◌≡◌, ◌+◌, ◌%◌, ◌^◌, ◌++◌, [], true, is_some, if◌then◌else◌, option_to_list, IfNone, OnErr, IfOk, MatchBool};
 ghost use Rattle.mb_journal.specs.Life.{closed};
 ghost use Rattle.mb_home.specs.Settled.{IsSettled};
 ghost use Rattle.mb_home.specs.Steps.{Cleans, FindsNone};
@@ -17,6 +17,7 @@ impl<A: Actor, K: Behaviours> Home<A, K> {
         requires ended { closed self.old.cell.who self.old.cell.journal ≡ true }
         requires settled { IsSettled (K.gives self.old.cell.who.this.0) self.old.cell.acts self.old }
         ensures dropped { self.old.rest ≡ option_to_list result ++ self.new.rest }
+        ensures none { IfNone result (self.old.rest ≡ []) }
         ensures same { self.new ≡ record self.old {
           rest = self.new.rest;
           dropped = (if is_some result then (self.old.dropped + 1) % 2 ^ 64 else self.old.dropped);

@@ -1,8 +1,20 @@
-use denote.Param.Send.{sendable}
+-- What goes by the queue may go to another thread.
+use denote.Param.Send.{IsSend, sendable}
+use denote.Param.SendFields.{declared_send}
 use Rattle.std.proofs.Crossing.{crosses as std_crosses, send as heap_send, sync as heap_sync}
 use Rattle.crossbeam_queue.proofs.array_queue.plain.ArrayQueue.TheSendSync as queue
-use Rattle.mb_gate_tests.proofs.Crossing.{errand_send}
+use Rattle.mb_gate.proofs.Crossing.{gates_send, pass_send, claim_send}
+use Rattle.mb_gate_tests.proofs.desk.Desk.TheSendSync as desk
+use Rattle.mb_gate_tests.specs.contracts.desk.DeskResident.TheImpl as resident
+use Rattle.mb_gate_tests.specs.contracts.shift.Shift as shift
+use Rattle.mb_gate_tests.specs.contracts.errand.Errand as errand
 use Rattle.mb_gate_tests.proofs.errand.claims_go_by_a_queue.Goals as goal
+
+shift_send : IsSend shift.the_row
+shift_send = declared_send shift.the_type (claim_send _ desk.the_send, tt)
+
+errand_send : IsSend errand.the_row
+errand_send = declared_send errand.the_type (gates_send _ resident.ghosts desk.the_send, (pass_send _ desk.the_send, (shift_send, tt)))
 
 pub join-words-requires-send-F : goal.join-words-requires-send-F
 join-words-requires-send-F g c κs within =

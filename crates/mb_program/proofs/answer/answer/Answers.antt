@@ -10,7 +10,7 @@ use Rattle.mb_script.specs.Script.{after_of, gives_of}
 use Rattle.mb_run.specs.Begun.{the_actor}
 use Rattle.mb_program.specs.Scope.{can_run}
 use Rattle.mb_run.specs.Plain.{is_plain_send}
-use Rattle.mb_run.specs.Told.{IsTold}
+use Rattle.mb_run.specs.Told.{IsRunReport}
 use Rattle.mb_program.specs.Ran.{HasRun}
 use Rattle.mb_program.proofs.Answering.{mapped, outcome, popped}
 use Rattle.mb_program.proofs.ScopeLemmas.{Runs, only_adds, only_new, runs}
@@ -63,9 +63,9 @@ returns-clause-report c =
     let runs_are : Runs scenario = runs scenario can_it in
     let actor = c.in-Some.actor in
     let script = c.in-Some-pop.script in
-    let told : IsTold (after_of script.script.initial script.script.rows) (gives_of script.script) (gives_of script.script)
+    let told : IsRunReport (after_of script.script.initial script.script.rows) (gives_of script.script) (gives_of script.script)
     (the_actor (strategy_data actor.strategy) scenario.plan.journal_limit) scenario.plan.throughput scenario.sends c.in-Ok.report =
-    subst (λ (l : List Sending). IsTold (after_of script.script.initial script.script.rows) (gives_of script.script) (gives_of script.script)
+    subst (λ (l : List Sending). IsRunReport (after_of script.script.initial script.script.rows) (gives_of script.script) (gives_of script.script)
     (the_actor (strategy_data actor.strategy) scenario.plan.journal_limit) scenario.plan.throughput l c.in-Ok.report) c.deref.ensures.value
     c.in-Ok.ensures.told in
     let ran : HasRun scenario c.in-Ok.report = record {

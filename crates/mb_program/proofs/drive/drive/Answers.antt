@@ -17,17 +17,17 @@ returns-in-Ok-clause-reported g c = λ zero. absurd (refused_not_zero Os _ _ _ _
 pub returns-in-Ok-clause-failed : goal.returns-in-Ok-clause-failed
 returns-in-Ok-clause-failed g c = λ other.
     let failed : c.send.new.self.failed ≡ true = grind (arith, common_steps) in
-    failed_writing _ _ _ _ _ _ _ _ _ _ _ failed c.in-Ok.ensures.report.1 c.as_bytes.ensures.value c.send.ensures.part c.refuse.ensures
+    failed_writing _ _ _ _ _ _ _ _ _ _ _ _ failed c.in-Ok.ensures.report.1 c.as_bytes.ensures.value c.send.ensures.part c.refuse.ensures
 
 pub returns-clause-reported : goal.returns-clause-reported
 returns-clause-reported g c = λ zero. absurd (refused_not_zero c.in-Err.failure _ _ _ _ c.refuse-in-Err.ensures zero)
 
 pub returns-clause-failed : goal.returns-clause-failed
 returns-clause-failed g c = λ other.
-    failed_before c.in-Err.failure _ _ _ _ _ _ _ _ c.requires.writer c.in-Err.ensures.failure c.refuse-in-Err.ensures
+    failed_before _ _ c.in-Err.failure _ _ _ _ _ _ _ c.requires.writer c.in-Err.ensures.failure c.refuse-in-Err.ensures
 
 pub returns-clause-silent : goal.returns-clause-silent
-returns-clause-silent g c = nothing_for_refused _ _
+returns-clause-silent g c = nothing_for_refused _ _ _
 
 pub returns-in-Ok-clause-silent : goal.returns-in-Ok-clause-silent
 returns-in-Ok-clause-silent g c = answered_not_refused _ _ _ c.in-Ok.ensures.report.1

@@ -7,4 +7,4 @@ pub returns-then-arguments-gt0-clause-reported : goal.returns-then-arguments-gt0
 returns-then-arguments-gt0-clause-reported g c = λ zero. absurd (refused_not_zero Arguments _ _ _ _ c.refuse.ensures zero)
 
 pub returns-clause-failed : goal.returns-clause-failed
-returns-clause-failed g c = λ other. failed_without _ _ _ _ _ _ _ _ _ _ (omega arith) (c.drive.ensures.failed other)
+returns-clause-failed g c = λ other. failed_without _ _ _ _ _ _ _ _ _ _ _ (omega arith) (c.drive.ensures.failed other)

@@ -1,5 +1,5 @@
 use Rattle.std.proofs.Common.{arith, ℕ, length-take}
-use Rattle.mb_program.proofs.InputLemmas.{read_in_full, read_to_the_end}
+use Rattle.mb_program.proofs.InputLemmas.{read_in_full, read_to_the_end, takes_more}
 use Rattle.mb_program.proofs.input.read_input.Goals as goal
 
 pub returns-then-count-eq0-clause-text : goal.returns-then-count-eq0-clause-text
@@ -9,3 +9,8 @@ returns-then-count-eq0-clause-text g c =
 
 pub returns-clause-text : goal.returns-clause-text
 returns-clause-text g c = read_in_full _ _ _ 1048577 c.loop-chunk.invariant.read (omega arith)
+
+pub returns-in_err-extend_from_slice-clause-taken : goal.returns-in_err-extend_from_slice-clause-taken
+returns-in_err-extend_from_slice-clause-taken g c =
+    let bound = c.in-Ok.ensures.bound in
+    takes_more 1048577 _ _ _ _ _ c.loop-chunk.invariant.read c.in-Ok.ensures.bytes.0 (omega (arith, bound, length-take {A = ℕ}))

@@ -3,7 +3,7 @@ use Rattle.std.specs.Prelude.{Option, Some, None, IfNone, IfSome}
 use Rattle.mb_journal.specs.Identity.{Identity, is_guardian}
 use Rattle.mb_report.specs.declared.report.ActorReport.{ActorReport}
 use Rattle.mb_report.specs.declared.report.SenderReport.{SenderReport}
-use Rattle.mb_run.specs.Reported.{AreSenders}
+use Rattle.mb_run.specs.Reported.{HaveSent}
 use Rattle.mb_run.proofs.reporting.report_on.Goals as goal
 
 -- what an actor shows that is no guardian
@@ -32,7 +32,7 @@ returns g c =
       second = second;
       actors = actors;
       senders =
-          subst (λ (l : List SenderReport). AreSenders (0 ∷ 0 ∷ c.args.sent ∷ []) l) (sym senders)
+          subst (λ (l : List SenderReport). HaveSent (0 ∷ 0 ∷ c.args.sent ∷ []) l) (sym senders)
           (c.sender_report.ensures, (c.sender_report-2.ensures, (c.sender_report-3.ensures, tt)));
       of_guardian = c.actor_report.ensures.reported;
       no_state = c.actor_report.ensures.state;

@@ -1,4 +1,4 @@
-use Rattle.std.proofs.Common.{◌≡◌, ◌∙◌, subst, sym}
+use Rattle.std.proofs.Common.{◌∙◌}
 use Rattle.mb_status.specs.Mailbox.{word_of}
 use Rattle.mb_gate.specs.Names.{known_by}
 use Rattle.mb_wake.proofs.Views.{looks-then, looks-read, looks-read-twice, looks-read-won}

@@ -1,4 +1,4 @@
-use Rattle.std.proofs.Common.{◌≡◌, ℕ}
+use Rattle.std.proofs.Common.{◌≡◌}
 use Rattle.mb_gate.specs.Names.{pass_id, known_by}
 use Rattle.mb_wake.specs.Views.{LooksAfter}
 use Rattle.mb_wake.proofs.due.take_due.Given as goal

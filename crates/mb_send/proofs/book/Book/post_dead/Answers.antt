@@ -1,4 +1,4 @@
-use Rattle.std.proofs.Common.{◌≡◌, ◌+◌, ◌++◌, [], ◌∷◌, ℕ, List, length, Some, refl, sym, ap, ◌∙◌, subst, arith}
+use Rattle.std.proofs.Common.{◌≡◌, ◌+◌, ◌++◌, [], ◌∷◌, length, Some, sym, ap, ◌∙◌, subst}
 use Rattle.mb_msg.specs.declared.id.SenderId.{SenderId}
 use Rattle.mb_msg.specs.declared.dead_letter.DeadLetter.{DeadLetter}
 use Rattle.mb_fates.specs.Accepted.{accepted, dead_letters}

@@ -1,5 +1,5 @@
 use Rattle.std.proofs.Common.{◌≡◌, ◌∙◌, ◌+◌, ◌-◌, ◌<◌, ◌++◌, [], ◌∷◌, ℕ, List}
-use Rattle.std.proofs.Common.{length, true, Some, None, refl, subst, sym, ap, slice_get, slice_set, arith}
+use Rattle.std.proofs.Common.{length, true, Some, None, refl, subst, sym, ap, slice_set, arith}
 use Rattle.mb_msg.specs.declared.id.SenderId.{SenderId}
 use Rattle.std.proofs.lemmas.Option.{slice_get_read}
 use Rattle.mb_msg.specs.declared.envelope.Envelope.{Envelope}
@@ -8,7 +8,6 @@ use Rattle.mb_send.specs.Answers.{counts, says}
 use Rattle.mb_send.specs.Posted.{envelope_of, posting}
 use Rattle.mb_send.specs.Sends.{AreRoutes}
 use Rattle.mb_gate.specs.Names.{known_by}
-use Rattle.mb_queue.specs.Passes.{Sending}
 use Rattle.mb_send.proofs.Answering.{why-told}
 use Rattle.mb_wake.proofs.Views.{does-then, does-sending, does-unsending}
 use Rattle.mb_send.proofs.Routes.{routes-more, routes-dead}

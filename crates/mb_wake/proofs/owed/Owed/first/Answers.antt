@@ -1,4 +1,4 @@
-use Rattle.std.proofs.Common.{◌≡◌, ◌≢◌, ℕ, arith}
+use Rattle.std.proofs.Common.{◌≢◌, arith}
 use Rattle.std.proofs.lemmas.Bool.Decides.{nat_tests}
 use Rattle.mb_wake.proofs.Bits.{lowest}
 use Rattle.mb_wake.proofs.owed.Owed.first.Goals as goal

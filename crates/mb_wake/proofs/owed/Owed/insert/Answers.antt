@@ -1,4 +1,3 @@
-use Rattle.std.proofs.Common.{◌≡◌, ◌≢◌, ◌==◌, ◌||◌, ◌<◌, ◌*◌, ◌%◌, ◌^◌, ℕ, Bool, max, bit_or, true, false, refl, sym, ap, ◌∙◌, arith}
 use Rattle.mb_wake.proofs.Bits.{with_bit}
 use Rattle.mb_wake.proofs.owed.Owed.insert.Goals as goal
 

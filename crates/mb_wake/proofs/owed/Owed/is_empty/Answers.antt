@@ -1,6 +1,5 @@
-use Rattle.std.proofs.Common.{◌≡◌, ℕ, ◌==◌, true, refl, sym, subst, arith}
+use Rattle.std.proofs.Common.{◌==◌, refl, sym, subst, arith}
 use Rattle.std.specs.Prelude.{IsTrue}
-use Rattle.std.proofs.lemmas.Bool.Decides.{nat_tests}
 use Rattle.mb_wake.proofs.Bits.{none_is_zero}
 use Rattle.mb_wake.proofs.owed.Owed.is_empty.Goals as goal
 

@@ -1,4 +1,4 @@
-use Rattle.std.proofs.Common.{◌≡◌, ◌<◌, ap, ◌∙◌, arith}
+use Rattle.std.proofs.Common.{◌<◌, ap, ◌∙◌, arith}
 use Rattle.mb_gate.specs.Names.{known_by}
 use Rattle.mb_wake.specs.declared.waker.Waker.{Waker}
 use Rattle.mb_wake.proofs.Pays.{looked-on, paid-next}

@@ -1,4 +1,4 @@
-use Rattle.std.proofs.Common.{◌≡◌, ◌∙◌, ℕ, refl, subst, ap, inr}
+use Rattle.std.proofs.Common.{◌∙◌, ℕ, refl, subst, ap, inr}
 use Rattle.mb_gate.specs.Names.{known_by, held_actor}
 use Rattle.mb_gate.specs.declared.claim.Claim.{Claim}
 use Rattle.mb_wake.specs.Views.{LooksAfter}

@@ -1,0 +1,148 @@
+//! Generated runs against the laws.
+ghost use Rattle.std.specs.Prelude.{◌<◌};
+
+use crate::words::step_of;
+use mb_core::{ActorState, Debt, Event, replay};
+use mb_msg::ActorId;
+use std::alloc::Global;
+use std::process::Abort;
+use std::test::Fail;
+
+const ACTORS: [u64; 3] = [0, 4, 1];
+
+const PARTIES: usize = 3;
+
+/// The steps that are drawn, some more often than others.
+const STEPS: [&str; 24] = [
+    "read",
+    "schedule",
+    "schedule",
+    "schedule",
+    "schedule",
+    "idle",
+    "idle suspend",
+    "suspend",
+    "resume",
+    "close",
+    "sent",
+    "sent",
+    "unsent",
+    "taken",
+    "count",
+    "push 7",
+    "take 0",
+    "take 1",
+    "add terminate",
+    "add suspend",
+    "look",
+    "look",
+    "drain",
+    "end",
+];
+
+/// A small fixed generator of numbers.
+#[derive(Drop)]
+struct Numbers {
+    state: u64,
+}
+
+impl Numbers {
+    /// A number below the limit.
+    fn below(&mut self, limit: u64) -> u64
+        requires { 0 < limit }
+        ensures { result < limit }
+    {
+        self.state = self
+            .state
+            .wrapping_mul(6364136223846793005)
+            .wrapping_add(1442695040888963407);
+        (self.state >> 33) % limit
+    }
+
+    fn event(&mut self, alloc: Global) -> Result<Event, Fail> {
+        let party = self.below(3) as usize;
+        let actor = ActorId(self.below(3) as u32);
+        let words = STEPS[self.below(24) as usize];
+        let step = step_of(alloc, actor, words)?;
+        Ok(Event { party, actor, step })
+    }
+}
+
+/// Who holds the actor, and whether nothing is stranded, by the laws in plain words.
+fn is_lawful(actor: &ActorState) -> bool {
+    let status = actor.status();
+    if status.scheduled() {
+        return actor.holder().is_some();
+    }
+    if status.closed() {
+        return true;
+    }
+    let system = actor.system().is_some_and(|listed| !listed.is_empty());
+    let waits = status.count() == 0 && actor.waiting() > 0;
+    let (owed_system, owed_message) = what_is_owed(actor.owed());
+    actor.holder().is_none() && (!system || owed_system) && (!waits || owed_message)
+}
+
+/// Whether somebody owes a look at the system work, and whether somebody owes one at the envelopes.
+fn what_is_owed(owed: &[Debt]) -> (bool, bool) {
+    let mut system = false;
+    let mut message = false;
+    for debt in owed {
+        system |= debt.system;
+        message |= debt.message || debt.sending;
+    }
+    (system, message)
+}
+
+/// How many runs there were, and in how many of their states an actor was held, or one that a worker should take.
+#[derive(Drop)]
+struct Tally {
+    runs: u64,
+    held: u64,
+    runnable: u64,
+}
+
+impl Tally {
+    /// One step more, if it is allowed, and then the laws.
+    fn go_on<R: Abort>(
+        &mut self,
+        rt: &R,
+        alloc: Global,
+        events: &mut Vec<Event>,
+        event: Event,
+    ) -> Result<(), Fail> {
+        events.push(event)?;
+        let Some(model) = replay(alloc, &ACTORS, PARTIES, events)? else {
+            let _ = events.pop();
+            return Ok(());
+        };
+        self.runs = self.runs.wrapping_add(1);
+        for actor in model.actors() {
+            let runs = self.runs;
+            assert!(rt; is_lawful(actor), "run {runs}");
+            self.held = self.held.wrapping_add(u64::from(actor.holder().is_some()));
+            self.runnable = self.runnable.wrapping_add(u64::from(actor.is_runnable()));
+        }
+        Ok(())
+    }
+}
+
+#[test]
+fn every_generated_run_is_lawful(rt: HostRuntime) -> Result<(), Fail> {
+    let alloc = rt.alloc();
+    let mut numbers = Numbers { state: 1 };
+    let mut tally = Tally {
+        runs: 0,
+        held: 0,
+        runnable: 0,
+    };
+    for _ in 0..100u64 {
+        let mut events = Vec::new(alloc);
+        for _ in 0..60u64 {
+            let event = numbers.event(alloc)?;
+            tally.go_on(&rt, alloc, &mut events, event)?;
+        }
+    }
+    assert!(rt; tally.runs > 2000 && tally.held > 500 && tally.runnable > 500);
+    Ok(())
+}

@@ -1,0 +1,48 @@
+-- What the accounts of a receiver say once all passes were taken in.
+use Rattle.std.proofs.Common.{◌≡◌, ◌≢◌, ℕ, List, [], ◌∷◌, refl, ◌∙◌, Some}
+use Rattle.std.specs.List.{All}
+use Rattle.std.proofs.lemmas.List.Elements.{All-nil, All-cons, All-head, All-tail}
+use Rattle.mb_lane.specs.Ledger.{account, home}
+use Rattle.mb_lane.proofs.Lists.{account-other, account-same}
+use Rattle.mb_queue.specs.Fates.{InOrder}
+use Rattle.mb_queue.specs.Passes.{Sending, Taking, first_in_first_out}
+use Rattle.mb_queue.specs.Takes.{EachOnce}
+use Rattle.mb_finish.specs.Came.{Came}
+use Rattle.mb_finish.specs.Joined.{AreOfDifferent, joined, joined_by}
+
+-- the account of another sender stays
+account-kept : (t : Taking) (passes : List Sending) (sender : ℕ) → All (λ (q : Sending). q.by ≢ sender) passes
+    → account (joined_by t passes).accounts sender ≡ account t.accounts sender
+account-kept t [] sender others = refl
+account-kept t (p ∷ passes) sender others =
+    account-kept (joined t p) passes sender (All-tail (λ (q : Sending). q.by ≢ sender) p passes others)
+    ∙ account-other t.accounts (home p.by p.pushed) sender (All-head (λ (q : Sending). q.by ≢ sender) p passes others)
+
+abbrev pub IsKnownBy : Taking → Sending → Type 0
+IsKnownBy t p = account t.accounts p.by ≡ Some p.pushed
+
+-- the account of each is what it pushed
+pub all-known : (t : Taking) (passes : List Sending) → AreOfDifferent passes → All (IsKnownBy (joined_by t passes)) passes
+all-known t [] different = All-nil (IsKnownBy t)
+all-known t (p ∷ passes) different =
+    All-cons (IsKnownBy (joined_by (joined t p) passes)) p passes
+    (account-kept (joined t p) passes p.by different.0 ∙ account-same t.accounts (home p.by p.pushed) p.by refl)
+    (all-known (joined t p) passes different.1)
+
+pub same-turns : (t : Taking) (passes : List Sending) → (joined_by t passes).turns ≡ t.turns
+same-turns t [] = refl
+same-turns t (p ∷ passes) = same-turns (joined t p) passes
+
+pub same-taken : (t : Taking) (passes : List Sending) → (joined_by t passes).taken ≡ t.taken
+same-taken t [] = refl
+same-taken t (p ∷ passes) = same-taken (joined t p) passes
+
+-- once a take found nothing, all that each pushed came
+pub all-came : (t : Taking) (passes : List Sending) → EachOnce t → (t.turns ≡ first_in_first_out → InOrder t)
+    → All (IsKnownBy t) passes → All (Came t.turns t.taken) passes
+all-came t [] once in_order known = All-nil (Came t.turns t.taken)
+all-came t (p ∷ passes) once in_order known =
+    let mine = All-head (IsKnownBy t) p passes known in
+    All-cons (Came t.turns t.taken) p passes
+    (record { once = once p.by p.pushed mine; in_order = λ turns. in_order turns p.by p.pushed mine })
+    (all-came t passes once in_order (All-tail (IsKnownBy t) p passes known))

@@ -1,0 +1,4 @@
+pub mod JoinLemmas
+pub mod CameLemmas
+pub mod RestLemmas
+pub mod SettleLemmas

@@ -1,0 +1,51 @@
+-- What is left, once a take found nothing.
+use Rattle.std.proofs.Common.{◌≡◌, ◌<◌, ℕ, zero, suc, List, [], ◌∷◌, ◌++◌, length}
+use Rattle.std.proofs.Common.{map, take, drop, set, refl, sym, ap, ◌∙◌, subst, arith}
+use Rattle.std.specs.List.{All}
+use Rattle.std.proofs.lemmas.List.Elements.{All-nil, All-cons, All-head, All-tail}
+use Rattle.mb_msg.specs.declared.envelope.Envelope.{Envelope}
+use Rattle.mb_queue.specs.Fates.{InOrder}
+use Rattle.mb_queue.specs.Passes.{Sending, Taking, Turns, first_in_first_out}
+use Rattle.mb_queue.specs.Takes.{EachOnce}
+use Rattle.mb_finish.specs.Came.{Came}
+use Rattle.mb_finish.specs.Rest.{AreRests, IsRest}
+use Rattle.mb_finish.proofs.CameLemmas.{IsKnownBy, all-came, all-known, same-taken, same-turns}
+
+-- the receiver took this besides, and then found nothing
+pub is-rest : (first last : Taking) (left : List Envelope) → last.taken ≡ first.taken ++ left → last.turns ≡ first.turns
+    → last.accounts ≡ first.accounts → EachOnce last → (last.turns ≡ first_in_first_out → InOrder last) → IsRest first left
+is-rest first last left taken turns accounts once in_order before passes is different =
+    let kind : last.turns ≡ before.turns = turns ∙ ap (λ (t : Taking). t.turns) is ∙ same-turns before passes in
+    let all : last.taken ≡ before.taken ++ left
+    = taken ∙ ap (λ (t : Taking). t.taken ++ left) is ∙ ap (λ l. l ++ left) (same-taken before passes) in
+    let known : All (IsKnownBy last) passes
+    = subst (λ l. All (λ (p : Sending). IsKnownBy (record last { accounts = l }) p) passes)
+    (sym (accounts ∙ ap (λ (t : Taking). t.accounts) is)) (all-known before passes different) in
+    subst (λ (x : Turns × List Envelope). All (Came x.0 x.1) passes) (λ i. (kind i, all i)) (all-came last passes once in_order known)
+
+module _ {R : Type 0} where
+  pub take-set : (xs : List R) (n : ℕ) (x : R) → take n (set xs n x) ≡ take n xs
+  take-set [] zero x = refl
+  take-set [] (suc n) x = refl
+  take-set (y ∷ xs) zero x = refl
+  take-set (y ∷ xs) (suc n) x = ap (λ l. y ∷ l) (take-set xs n x)
+
+  pub drop-set : (xs : List R) (n : ℕ) (x : R) → n < length xs → drop n (set xs n x) ≡ x ∷ drop (suc n) xs
+  drop-set [] n x lt = absurd (omega (arith, lt))
+  drop-set (y ∷ xs) zero x lt = refl
+  drop-set (y ∷ xs) (suc n) x lt = drop-set xs n x (omega (arith, lt))
+
+  -- what holds of each of the first, holds of each of fewer
+  pub all-fewer : (P : R → Type 0) (xs : List R) (n : ℕ) → All P (take (suc n) xs) → All P (take n xs)
+  all-fewer P [] zero all = all
+  all-fewer P [] (suc n) all = all
+  all-fewer P (x ∷ xs) zero all = All-nil P
+  all-fewer P (x ∷ xs) (suc n) all =
+      All-cons P x (take n xs) (All-head P x (take (suc n) xs) all) (all-fewer P xs n (All-tail P x (take (suc n) xs) all))
+
+  -- the rest of one receiver more, before the others
+  pub rests-more : (items : R → List Envelope) (rooms : List R) (n : ℕ) (room : R) (take1 : Taking) (done : List Taking) → n < length rooms
+      → IsRest take1 (items room) → AreRests done (map items (drop (suc n) rooms))
+      → AreRests (take1 ∷ done) (map items (drop n (set rooms n room)))
+  rests-more items rooms n room take1 done lt rest rests =
+      subst (λ l. AreRests (take1 ∷ done) (map items l)) (sym (drop-set rooms n room lt)) (rest, rests)

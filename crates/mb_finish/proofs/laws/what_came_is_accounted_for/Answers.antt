@@ -1,0 +1,11 @@
+use Rattle.mb_finish.proofs.SettleLemmas.{in_order, often, once}
+use Rattle.mb_finish.proofs.laws.what_came_is_accounted_for.Goals as goal
+
+pub returns-clause-often : goal.returns-clause-often
+returns-clause-often c = often
+
+pub returns-clause-once : goal.returns-clause-once
+returns-clause-once c = once
+
+pub returns-clause-in_order : goal.returns-clause-in_order
+returns-clause-in_order c = in_order

@@ -1,0 +1,3 @@
+pub mod Joined
+pub mod Came
+pub mod Rest

@@ -1,0 +1,54 @@
+//! What is left in the queues.
+ghost use Rattle.std.specs.Prelude.{◌≡◌, ◌<◌, [], All, length, map, IfErr, IfOk, true};
+ghost use Rattle.mb_finish.specs.Rest.{AreRests, IsRest};
+
+use mb_msg::Envelope;
+use mb_queue::TakePass;
+use std::sync::Wait;
+
+/// More is left in a queue than there is room for: the place of its receiver.
+#[derive(Clone, Copy, Debug, PartialEq, Eq)]
+pub struct TooMany(pub usize);
+
+/// Takes out all that is left in each of these queues, into a room of its own. Then all came to its receiver that the passes
+/// pushed which it had taken in.
+///
+/// It answers `TooMany` if more is left in a queue than there is room for.
+pub(crate) fn take_rests<R: Wait>(
+    rt: &R,
+    takes: Vec<TakePass>,
+    rooms: &mut [Vec<Envelope>],
+) -> Result<(), TooMany>
+    requires many { length rooms.old ≡ length takes.items }
+    requires empty { All (λ room. room.items ≡ []) rooms.old }
+    ensures rests { IfOk result (λ _. AreRests takes.items (map (λ room. room.items) rooms.new)) }
+    ensures place { IfErr result (λ many. many.0 < length takes.items) }
+{
+    let mut takes = takes;
+    while let Some(take) = takes.pop() {
+        let place = takes.len();
+        if !take_rest(rt, take, &mut rooms[place]) {
+            return Err(TooMany(place));
+        }
+    }
+    Ok(())
+}
+
+/// Takes out all that is left in a queue, until a take finds nothing. It answers `false` if there is one more than there is
+/// room for.
+fn take_rest<R: Wait>(rt: &R, take: TakePass, room: &mut Vec<Envelope>) -> bool
+    requires empty { room.old.items ≡ [] }
+    ensures { result ≡ true → IsRest take room.new.items }
+{
+    let mut take = take;
+    for _ in rt.forever() {
+        let Some(envelope) = take.take(rt) else {
+            return true;
+        };
+        if room.len() == room.capacity() {
+            return false;
+        }
+        room.push_reserved(envelope);
+    }
+    unreachable!()
+}

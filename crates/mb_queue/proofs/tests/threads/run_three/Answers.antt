@@ -1,6 +1,0 @@
-use Rattle.std.proofs.Common.{sym, ◌∙◌}
-use Rattle.mb_queue.proofs.tests.threads.run_three.Goals as goal
-
--- the last take gave nothing, and changed no turns
-pub returns-clause-in_order : goal.returns-clause-in_order
-returns-clause-in_order g c = λ turns. c.in-None.ensures.in_order (sym c.take-2.ensures.same.1 ∙ turns)

@@ -1,0 +1,94 @@
+//! A queue of two senders, and the calls of its passes with no more of their contracts than the tests need.
+ghost use Rattle.std.specs.Prelude.{◌≡◌, [], ◌∷◌, IfOk};
+ghost use Rattle.mb_queue.specs.Made.{IsMakeable};
+
+use mb_msg::{ActorId, Body, Envelope, SenderId};
+use mb_queue::{Kind, MailQueue, PushError, RankRow, Ranks, SendPass, TakePass};
+use std::alloc::{AllocError, Global};
+use std::sync::Wait;
+
+/// The actor that every queue here is of.
+pub const ME: ActorId = ActorId(2);
+
+/// The two senders of every queue here.
+pub const NEAR: SenderId = SenderId(1);
+
+pub const FAR: SenderId = SenderId(64);
+
+pub fn user(by: SenderId, number: u64, kind: u32, value: i64) -> Envelope
+    ensures { (result.by ≡ by) × (result.to.0 ≡ 2) }
+{
+    Envelope {
+        by,
+        to: ME,
+        number,
+        body: Body::User { kind, value },
+    }
+}
+
+pub fn control(by: SenderId, number: u64, value: i64) -> Envelope
+    ensures { (result.by ≡ by) × (result.to.0 ≡ 2) }
+{
+    Envelope {
+        by,
+        to: ME,
+        number,
+        body: Body::Control { kind: 1, value },
+    }
+}
+
+/// A queue and the passes of its two senders.
+pub fn queue(alloc: Global, kind: Kind) -> Result<(TakePass, SendPass, SendPass), AllocError>
+    requires { IsMakeable kind }
+    ensures queue { IfOk result (λ r. (r.1.queue ≡ r.0.queue) × (r.2.queue ≡ r.0.queue)) }
+    ensures senders { IfOk result (λ r. (r.1.by ≡ 1) × (r.2.by ≡ 64)) }
+    ensures actor { IfOk result (λ r. r.0.queue.to ≡ 2) }
+    ensures all { IfOk result (λ r. r.0.queue.senders ≡ 1 ∷ 64 ∷ []) }
+{
+    let (take, mut sends) = MailQueue::new(alloc, kind, ME, &[NEAR, FAR])?;
+    let Some(far) = sends.pop() else {
+        unreachable!();
+    };
+    let Some(near) = sends.pop() else {
+        unreachable!();
+    };
+    Ok((take, near, far))
+}
+
+pub fn ranked(alloc: Global) -> Result<Kind, AllocError>
+    ensures { IfOk result IsMakeable }
+{
+    let mut rows = Vec::new(alloc);
+    rows.push(RankRow { kind: 9, rank: 0 })?;
+    Ok(Kind::Priority {
+        rows: Ranks::new(rows),
+        other: 1,
+    })
+}
+
+/// Whether the push was done; if not, the envelope came back as from a full queue.
+pub fn pushed<R: Wait>(rt: &R, pass: &mut SendPass, envelope: Envelope) -> Option<bool>
+    requires { (envelope.by.0 ≡ pass.old.by) × (envelope.to.0 ≡ pass.old.queue.to) }
+    ensures { (pass.new.queue ≡ pass.old.queue) × (pass.new.by ≡ pass.old.by) }
+{
+    match pass.push(rt, envelope) {
+        Ok(()) => Some(true),
+        Err(refused) => (refused == PushError::Full(envelope)).then_some(false),
+    }
+}
+
+pub fn taken<R: Wait>(rt: &R, take: &mut TakePass) -> Option<Envelope>
+    ensures { take.new.queue ≡ take.old.queue }
+{
+    take.take(rt)
+}
+
+/// The value of the message that is taken.
+pub fn value_taken<R: Wait>(rt: &R, take: &mut TakePass) -> Option<i64>
+    ensures { take.new.queue ≡ take.old.queue }
+{
+    match taken(rt, take)?.body {
+        Body::User { value, .. } | Body::Control { value, .. } => Some(value),
+        _ => None,
+    }
+}

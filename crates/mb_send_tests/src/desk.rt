@@ -1,0 +1,73 @@
+//! A stand-in for a home, and the gates of three.
+ghost use Rattle.std.specs.Prelude.{◌≡◌, false, IfOk};
+ghost use Rattle.mb_gate.specs.Names.{gates_id, pass_id, actors_of};
+
+use mb_gate::{Gates, Pass, Resident};
+use mb_msg::ActorId;
+use mb_status::Status;
+use std::alloc::Global;
+use std::test::Fail;
+
+/// The actors, and the number of none.
+pub const GUARDIAN: ActorId = ActorId(0);
+
+pub const FIRST: ActorId = ActorId(1);
+
+pub const SECOND: ActorId = ActorId(2);
+
+pub const NOBODY: ActorId = ActorId(3);
+
+/// A status that is neither suspended nor scheduled; its journal stays empty.
+#[derive(Drop)]
+pub struct Desk {
+    status: Status,
+    ghost idle: { status ≡ record { closed = false; scheduled = false; count = 0 } },
+}
+
+impl Resident for Desk {
+    ghost use Rattle.std.specs.Prelude.{◌≡◌, [], None, pos, false};
+
+    ghost is_of = { λ first actor desk. Unit {0} };
+
+    ghost who = { λ desk. record {
+      this = record { 0 = 0 };
+      parent = None;
+      actors = 1;
+      prepared = [];
+      strategy = [];
+      retries = pos 0;
+      all_for_one = false;
+      limit = 0;
+    } };
+
+    ghost journal = { λ desk. [] };
+
+    ghost mailbox = { λ desk. desk.status };
+
+    ghost rested = { λ desk. Unit {0} };
+
+    ghost given = { λ desk. 0 };
+
+    ghost closed_to = { λ desk. [] };
+
+    fn status(&self) -> Status {
+        self.status
+    }
+}
+
+/// The gates of a guardian and two actors, with a pass.
+pub fn gates_of_three(alloc: Global) -> Result<(Gates<Desk>, Pass<Desk>), Fail>
+    ensures { IfOk result (λ made. (actors_of made.0 ≡ 3) × (pass_id made.1 ≡ gates_id made.0)) }
+{
+    let mut desks = Vec::with_capacity(alloc, 3)?;
+    let Some(status) = Status::of(0) else {
+        return Err(Fail::from("a valid word"));
+    };
+    desks.push_reserved(Desk { status });
+    desks.push_reserved(Desk { status });
+    desks.push_reserved(Desk { status });
+    match Gates::new(alloc, desks) {
+        Ok(made) => Ok(made),
+        Err(_) => Err(Fail::from("no memory")),
+    }
+}

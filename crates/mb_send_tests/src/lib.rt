@@ -1,0 +1,21 @@
+//! The tests of waking and sending from outside, with ample memory: what `register`, `pay`, `look`, `put`, `tell` and `stop`
+//! answer, and what stands then in the pool, among those that are owed a look, and in the sender's book. A story is text, a
+//! step and its answer in each line.
+#![tactic(auto)]
+
+#[cfg(test)]
+mod awake;
+#[cfg(test)]
+mod closing;
+#[cfg(test)]
+mod desk;
+#[cfg(test)]
+mod outside;
+#[cfg(test)]
+mod seat;
+#[cfg(test)]
+mod sending;
+#[cfg(test)]
+mod waking;
+#[cfg(test)]
+mod words;

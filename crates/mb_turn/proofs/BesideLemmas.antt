@@ -1,0 +1,70 @@
+-- What lies beside a cell stays right where neither it nor the journal changes.
+use Rattle.std.proofs.Common.{◌≡◌, ◌+◌, ◌%◌, ◌^◌, Bool, true, false, List, [], length, refl, sym, ◌∙◌, subst}
+use Rattle.std.specs.Prelude.{MatchBool}
+use Rattle.mb_status.specs.Mailbox.{Mailbox}
+use Rattle.mb_journal.specs.Aside.{next_front, next_number}
+use Rattle.mb_gate.specs.View.{Said, Sight}
+use Rattle.mb_home.specs.AtHome.{given_of}
+use Rattle.mb_home.specs.Contents.{Contents}
+use Rattle.mb_home.specs.Steps.{IsRested}
+use Rattle.mb_turn.specs.Hold.{Hold}
+use Rattle.mb_turn.specs.Running.{IsBeside, KeepsJournal, SameRun}
+
+pub match-both : (b : Bool) (P Q P' Q' : Type 0) → (P → P') → (Q → Q') → MatchBool b P Q → MatchBool b P' Q'
+match-both true P Q P' Q' f g p = f p
+match-both false P Q P' Q' f g q = g q
+
+module _ (h : Hold) (s : IsBeside h) where
+  -- what lies at home changed, but neither the journal nor what was drained
+  pub beside-home : (new : Contents) → new.cell.who ≡ h.home.cell.who → new.cell.journal ≡ h.home.cell.journal → new.rest ≡ h.home.rest →
+      new.dropped ≡ h.home.dropped → IsBeside (record h { home = new })
+  beside-home new who journal rest dropped = record {
+    count = (λ i. (next_number (journal i) + dropped i + length (rest i)) % 2 ^ 64) ∙ s.count;
+    rest =
+        match-both h.status.closed (h.home.rest ≡ []) (h.gave ≡ false → IsRested h.home) (new.rest ≡ []) (h.gave ≡ false → IsRested new)
+        (λ none. rest ∙ none)
+        (λ rested nothing. record {
+          no_rest = rest ∙ (rested nothing).no_rest;
+          no_front = (λ i. next_front (who i) (journal i)) ∙ (rested nothing).no_front;
+        })
+        s.rest;
+  }
+
+  -- the status was written, but the mailbox was not closed
+  pub beside-status : (status : Mailbox) → status.closed ≡ h.status.closed → IsBeside (record h { status = status })
+  beside-status status same = record {
+    count = s.count;
+    rest = subst (λ b. MatchBool b (h.home.rest ≡ []) (h.gave ≡ false → IsRested h.home)) (sym same) s.rest;
+  }
+
+  -- something was said
+  pub beside-recorded : (recorded : List Said) → IsBeside (record h { recorded = recorded })
+  beside-recorded recorded = record { count = s.count; rest = s.rest }
+
+  -- the pass or the claim did something that no drain is
+  pub beside-log : (log : List Sight) → IsBeside (record h { log = log })
+  beside-log log = record { count = s.count; rest = s.rest }
+
+-- once it is closed, nothing is beside it
+pub beside-closed : (h : Hold) → h.status.closed ≡ true → given_of h.home ≡ h.given → h.home.rest ≡ [] → IsBeside h
+beside-closed h shut count none = record {
+  count = count;
+  rest = subst (λ b. MatchBool b (h.home.rest ≡ []) (h.gave ≡ false → IsRested h.home)) (sym shut) none;
+}
+
+-- a run that keeps the journal, step after step
+pub keeps-same : (h : Hold) → KeepsJournal h h
+keeps-same h = record { same = record { actor = refl; who = refl; before = refl }; journal = refl }
+
+pub keeps-then : (a b c : Hold) → KeepsJournal a b → KeepsJournal b c → KeepsJournal a c
+keeps-then a b c p q = record {
+  same = record {
+    actor = q.same.actor ∙ p.same.actor;
+    who = q.same.who ∙ p.same.who;
+    before = q.same.before ∙ p.same.before;
+  };
+  journal = q.journal ∙ p.journal;
+}
+
+pub same-run-then : (a b c : Hold) → SameRun a b → SameRun b c → SameRun a c
+same-run-then a b c p q = record { actor = q.actor ∙ p.actor; who = q.who ∙ p.who; before = q.before ∙ p.before }

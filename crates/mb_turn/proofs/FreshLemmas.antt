@@ -1,0 +1,110 @@
+-- A claim that was just taken is a run's to begin with.
+use Rattle.std.proofs.Common.{◌≡◌, inl, ℕ, false, List, [], ◌∷◌, length, Some, refl, sym, ap, ◌∙◌, subst, arith}
+use Rattle.std.specs.Prelude.{MatchBool}
+use Rattle.std.specs.Global.{Box}
+use Rattle.mb_actor.specs.Behaviour.{Moment, Reply}
+use Rattle.mb_journal.specs.Run.{IsTurns}
+use Rattle.mb_journal.specs.Run.IsBlock.{no_more}
+use Rattle.mb_journal.specs.Run.IsTurns.{a_block}
+use Rattle.mb_rule.specs.Seen.{Each}
+use Rattle.mb_gate.specs.Claims.{held_in}
+use Rattle.mb_gate.specs.declared.claim.Claim.{Claim}
+use Rattle.mb_gate.specs.Names.{claim_id, held_actor, status_of, gave_last, taken_with}
+use Rattle.mb_gate.specs.Rule.{IsAmong}
+use Rattle.mb_gate.specs.Untouched.{Origin}
+use Rattle.mb_gate.specs.View.{View, Sight}
+use Rattle.mb_gate.proofs.Numbers.{among_first, among_more}
+use Rattle.mb_home.specs.AtHome.{closed_receivers, given_of, mailbox_at}
+use Rattle.mb_home.specs.Contents.{Contents}
+use Rattle.mb_home.specs.Roll.{Enrolled}
+use Rattle.mb_home.specs.Steps.{IsRested}
+use Rattle.mb_home.proofs.CarryLemmas.{same-word}
+use Rattle.mb_turn.specs.declared.turn.Turn.{Turn}
+use Rattle.mb_turn.specs.Fresh.{IsFreshClaim}
+use Rattle.mb_turn.specs.Hold.{Hold, hold_of}
+use Rattle.mb_turn.specs.Ran.{IsTurning}
+use Rattle.mb_turn.specs.Running.{IsRunning, IsBeside, IsShutTo}
+use Rattle.mb_turn.proofs.ToldLemmas.{told-first}
+
+each-of : {A : Type 0} (P : A → Type 0) (xs : List A) → ((x : A) → IsAmong x xs → P x) → Each P xs
+each-of P [] f = tt
+each-of P (x ∷ xs) f = (f x (among_first x xs), each-of P xs (λ y a. f y (among_more y x xs a)))
+
+module _ (gives : ℕ → Moment → Reply → Type 0) (origin : Origin (Box Contents)) (c : Claim (Box Contents)) (u : IsFreshClaim gives (Some origin) c)
+  where
+    -- as it was taken
+    abbrev fresh_hold : Hold
+    fresh_hold = record {
+      gates = claim_id c;
+      actor = held_actor c;
+      status = status_of c;
+      home = c.home.value;
+      before = c.home.value.cell.journal;
+      closed_to = closed_receivers c.home.value.dead;
+      gave = gave_last c;
+      given = given_of c.home.value;
+      recorded = [];
+      log = [];
+      debts = [];
+    }
+
+    hold-fresh : hold_of c ≡ fresh_hold
+    hold-fresh = λ i. record {
+      gates = claim_id c;
+      actor = held_actor c;
+      status = status_of c;
+      home = c.home.value;
+      before = (held_in (u.known i)).journal;
+      closed_to = (held_in (u.known i)).closed_to;
+      gave = (held_in (u.known i)).gave;
+      given = (held_in (u.known i)).given;
+      recorded = u.recorded i;
+      log = (u.known i).log;
+      debts = (u.known i).debts;
+    }
+
+    pub taken-fresh : taken_with c ≡ c.home.value.cell.journal
+    taken-fresh = ap (λ (v : View). (held_in v).journal) u.known
+
+    pub running-fresh : (seen : List Sight) → length origin.first.value.roll ≡ origin.actors → IsRunning gives origin [] seen (hold_of c)
+    running-fresh seen many =
+        let h = c.home.value in
+        subst (IsRunning gives origin [] seen) (sym hold-fresh)
+        (record {
+          ours = u.ours.gates;
+          there = u.ours.there;
+          roll = u.ours.own.roll;
+          number = u.ours.own.number;
+          settled = u.ours.own.settled;
+          leads = record {
+            ends = same-word (mailbox_at h.cell.who h.cell.journal) (status_of c) refl u.open_yet u.word;
+            counts = tt;
+          };
+          told = told-first h.cell.who (held_actor c) h.cell.journal (status_of c).closed;
+          shut = each-of (IsShutTo seen fresh_hold) (closed_receivers h.dead) (λ other among. inl among);
+          many = u.ours.own.settled.own.all_there ∙ ap (λ (l : List Enrolled). length l) u.ours.own.roll ∙ many;
+          named = u.ours.own.named;
+          sends = tt;
+          dry = tt;
+          owes_nothing = refl;
+        })
+
+    pub beside-fresh : IsBeside (hold_of c)
+    beside-fresh =
+        subst IsBeside (sym hold-fresh)
+        (record {
+          count = refl;
+          rest =
+              subst (λ b. MatchBool b (c.home.value.rest ≡ []) (gave_last c ≡ false → IsRested c.home.value)) (sym u.open_yet) u.rest;
+        })
+
+    pub turning-fresh : (turn : Turn) → turn.actor.0 ≡ held_actor c → turn.system ≡ 0 → turn.envelopes ≡ 0 → IsTurning (hold_of c) turn
+    turning-fresh turn actor system envelopes =
+        subst (λ (x : Hold). IsTurning x turn) (sym hold-fresh)
+        (record {
+          turns =
+              subst (λ n. IsTurns c.home.value.cell.who c.home.value.cell.journal n c.home.value.cell.journal) (sym envelopes)
+              (a_block c.home.value.cell.journal no_more);
+          system = omega (arith, system);
+          actor = actor;
+        })

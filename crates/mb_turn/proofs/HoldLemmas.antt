@@ -1,0 +1,99 @@
+-- What the gates' calls change of a claim, as the run sees it.
+use Rattle.std.proofs.Common.{◌≡◌, ℕ, Bool, List, [], ◌∷◌, ◌++◌}
+use Rattle.std.specs.Global.{Box}
+use Rattle.mb_msg.specs.declared.system.SysMsg.{SysMsg}
+use Rattle.mb_gate.specs.Claims.{held_in}
+use Rattle.mb_gate.specs.declared.claim.Claim.{Claim}
+use Rattle.mb_gate.specs.Names.{claim_id, known_of, held_actor, status_of, taken_with, closed_with, gave_last, given_to, recorded_by}
+use Rattle.mb_gate.specs.Names.{IsRecorded, SameTaken}
+use Rattle.mb_gate.specs.View.{Said, Took, Drained, Ended, writing, counting_off, draining, ending, given_after}
+use Rattle.mb_home.specs.Contents.{Contents}
+use Rattle.mb_turn.specs.Hold.{hold_of}
+
+module _ (c new : Claim (Box Contents)) (ours : (claim_id new ≡ claim_id c) × (held_actor new ≡ held_actor c)) (home : new.home ≡ c.home) where
+  -- the status was written
+  pub hold-written : (word : ℕ) → known_of new ≡ writing word (known_of c) → SameTaken c new →
+      hold_of new ≡ record (hold_of c) { status = status_of new }
+  hold-written word known same = λ i. record {
+    gates = ours.0 i;
+    actor = ours.1 i;
+    status = status_of new;
+    home = (home i).value;
+    before = same.journal i;
+    closed_to = same.closed i;
+    gave = same.gave i;
+    given = same.given i;
+    recorded = same.recorded i;
+    log = (known i).log;
+    debts = (known i).debts;
+  }
+
+  -- an envelope was counted as taken
+  pub hold-taken : (actor n : ℕ) → status_of new ≡ status_of c → known_of new ≡ counting_off actor n (known_of c) → SameTaken c new →
+      hold_of new ≡ record (hold_of c) { log = Took actor n ∷ (known_of c).log }
+  hold-taken actor n status known same = λ i. record {
+    gates = ours.0 i;
+    actor = ours.1 i;
+    status = status i;
+    home = (home i).value;
+    before = same.journal i;
+    closed_to = same.closed i;
+    gave = same.gave i;
+    given = same.given i;
+    recorded = same.recorded i;
+    log = (known i).log;
+    debts = (known i).debts;
+  }
+
+  module _ (status : status_of new ≡ status_of c) (taken : (taken_with new ≡ taken_with c) × (closed_with new ≡ closed_with c))
+      (recorded : recorded_by new ≡ recorded_by c) (result : List (ℕ × SysMsg)) (given : given_to new ≡ given_after (given_to c) result) where
+    -- the list was drained
+    pub hold-drained : (actor : ℕ) (gave : Bool) → known_of new ≡ draining actor result gave (known_of c) → gave_last new ≡ gave →
+        hold_of new ≡ record (hold_of c) { gave = gave; given = given_after (given_to c) result; log = Drained actor result ∷ (known_of c).log }
+    hold-drained actor gave known last = λ i. record {
+      gates = ours.0 i;
+      actor = ours.1 i;
+      status = status i;
+      home = (home i).value;
+      before = taken.0 i;
+      closed_to = taken.1 i;
+      gave = last i;
+      given = given i;
+      recorded = recorded i;
+      log = (known i).log;
+      debts = (known i).debts;
+    }
+
+    -- it was ended
+    pub hold-ended : (actor : ℕ) (gave : Bool) → known_of new ≡ ending actor result gave (known_of c) → gave_last new ≡ gave_last c →
+        hold_of new ≡ record (hold_of c) { given = given_after (given_to c) result; log = Ended actor result ∷ (known_of c).log }
+    hold-ended actor gave known last = λ i. record {
+      gates = ours.0 i;
+      actor = ours.1 i;
+      status = status i;
+      home = (home i).value;
+      before = taken.0 i;
+      closed_to = taken.1 i;
+      gave = last i;
+      given = given i;
+      recorded = recorded i;
+      log = (known i).log;
+      debts = (known i).debts;
+    }
+
+-- something was said in the run
+pub hold-recorded : (c new : Claim (Box Contents)) (said : Said) → IsRecorded c new said →
+    hold_of new ≡ record (hold_of c) { recorded = recorded_by c ++ said ∷ [] }
+hold-recorded c new said r = λ i. record {
+  gates = r.id i;
+  actor = r.actor i;
+  status = r.status i;
+  home = (r.home i).value;
+  before = (held_in (r.known i)).journal;
+  closed_to = (held_in (r.known i)).closed_to;
+  gave = (held_in (r.known i)).gave;
+  given = (held_in (r.known i)).given;
+  recorded = r.record_is i;
+  log = (r.known i).log;
+  debts = (r.known i).debts;
+}

@@ -1,0 +1,32 @@
+-- Books that agree but for some acts agree but for others that tell the same.
+use Rattle.std.proofs.Common.{◌≡◌, ◌<◌, ◌≤◌, List, ◌++◌, All, length, subst}
+use Rattle.mb_actor.specs.Behaviour.{Moment, Reply}
+use Rattle.mb_journal.specs.Acts.{Act}
+use Rattle.mb_fates.specs.Accepted.{accepted}
+use Rattle.mb_fates.specs.Told.{Telling, tells, told, envelopes_from}
+use Rattle.mb_home.specs.Contents.{Contents}
+use Rattle.mb_home.specs.Settled.{IsSettled}
+
+pub settled-silent : (gives : Moment → Reply → Type 0) (a b : List Act) (h : Contents) → tells a ≡ tells b → IsSettled gives a h →
+    IsSettled gives b h
+settled-silent gives a b h same s = record {
+  own = s.own;
+  lawful = s.lawful;
+  taken = s.taken;
+  open_keeps = s.open_keeps;
+  fit = record {
+    there = subst (λ (ts : List Telling). All (λ (t : Telling). (0 < t.0.0) × (t.0.0 ≤ length h.sends)) ts) same s.fit.there;
+    room = subst (λ (ts : List Telling). length ts ≤ h.room) same s.fit.room;
+  };
+  posted = record {
+    postings = s.posted.postings;
+    told =
+        subst (λ (ts : List Telling). accepted s.posted.postings ++ envelopes_from h.cell.who.this.0 (length s.posted.postings) ts
+        ≡ told h.cell.who h.cell.journal) same s.posted.told;
+    sent = s.posted.sent;
+    pushed = s.posted.pushed;
+    dead = s.posted.dead;
+  };
+  counted = s.counted;
+  reasons = s.reasons;
+}

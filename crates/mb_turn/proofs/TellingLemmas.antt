@@ -1,0 +1,144 @@
+-- What a tell makes of a run.
+use Rattle.std.proofs.Common.{◌≡◌, ℕ, ◌<◌, ◌*◌, ◌+◌, true, List, [], ◌∷◌, refl, sym, ap, ◌∙◌, subst, arith}
+use Rattle.std.specs.Prelude.{if◌then◌else◌}
+use Rattle.std.specs.Global.{Box}
+use Rattle.mb_status.specs.Mailbox.{Mailbox, word_of, mailbox_of}
+use Rattle.mb_msg.specs.declared.dead_letter.Why.{Why}
+use Rattle.mb_msg.specs.declared.dead_letter.Why.TheVariants.{Closed}
+use Rattle.mb_msg.specs.declared.envelope.Body.{Body}
+use Rattle.mb_msg.specs.declared.id.ActorId.{ActorId}
+use Rattle.mb_actor.specs.Behaviour.{Moment, Reply}
+use Rattle.mb_core.specs.Actor.{nothing}
+use Rattle.mb_core.specs.Run.{after_reading}
+use Rattle.mb_journal.specs.Acts.{Act}
+use Rattle.mb_journal.specs.Acts.Act.{Tell}
+use Rattle.mb_lane.specs.declared.refused.PushError.{PushError}
+use Rattle.mb_lane.specs.declared.refused.PushError.TheVariants.{Full, NoMemory}
+use Rattle.mb_cell.specs.Seen.{Seen}
+use Rattle.mb_rule.specs.Seen.{Each}
+use Rattle.mb_gate.specs.Untouched.{Origin}
+use Rattle.mb_gate.specs.View.{View, Sight, Read, owes, seeing, reading}
+use Rattle.mb_home.specs.AtHome.{closed_receivers, receiver_if_closed}
+use Rattle.mb_home.specs.Contents.{Contents}
+use Rattle.mb_home.specs.Settled.{IsSettled}
+use Rattle.mb_home.specs.Steps.{Pushes, Buries, next_envelope, reason_of}
+use Rattle.mb_home.proofs.SettleLemmas.{many-sends}
+use Rattle.mb_home.proofs.TellSteps.{told-there}
+use Rattle.mb_wake.proofs.Views.{owes-same}
+use Rattle.mb_turn.specs.Hold.{Hold}
+use Rattle.mb_turn.specs.Running.{IsRunning, IsBeside, KeepsJournal, IsShutTo}
+use Rattle.mb_turn.proofs.BesideLemmas.{beside-home}
+use Rattle.mb_turn.proofs.RunningSteps.{running-seen, running-same, running-told}
+use Rattle.mb_turn.proofs.ShutLemmas.{shut-buried, shut-read}
+
+-- ---- the home of a run is its actor's
+
+pub running-own : (gives : ℕ → Moment → Reply → Type 0) (origin : Origin (Box Contents)) (pending : List Act) (seen : List Sight) (h : Hold) →
+    IsRunning gives origin pending seen h → IsSettled (gives h.home.cell.who.this.0) pending h.home
+running-own gives origin pending seen h r = subst (λ n. IsSettled (gives n) pending h.home) (sym r.number) r.settled
+
+-- and stays so where its cell has the same actor and the same acts are left
+pub settled-here : (gives : ℕ → Moment → Reply → Type 0) (actor : ℕ) (old new : Contents) → old.cell.who.this.0 ≡ actor → new.cell ≡ old.cell →
+    IsSettled (gives new.cell.who.this.0) new.cell.acts new → IsSettled (gives actor) old.cell.acts new
+settled-here gives actor old new number cell s =
+    let here : new.cell.who.this.0 ≡ actor = ap (λ (c : Seen). c.who.this.0) cell ∙ number in
+    subst (λ (x : ℕ × List Act). IsSettled (gives x.0) x.1 new) (λ i. (here i, (cell i).acts)) s
+
+-- ---- a status that was read closed
+
+pub closed-word : (m : Mailbox) → m.closed ≡ true → word_of m ≡ 1
+closed-word m shut = ap (λ b. if b then 1 else 4 * m.count + (if m.scheduled then 2 else 0)) shut
+
+pub log-closed : (id : ℕ) (m : Mailbox) (a b : View) → m.closed ≡ true → b ≡ reading id (word_of m) a → b.log ≡ Read id 1 ∷ a.log
+log-closed id m a b shut known = ap (λ (v : View). v.log) known ∙ ap (λ w. Read id w ∷ a.log) (closed-word m shut)
+
+pub paid-closed : (id : ℕ) (m : Mailbox) (a b : View) → m.closed ≡ true → b ≡ reading id (word_of m) a → owes id b ≡ nothing
+paid-closed id m a b shut known =
+    ap (owes id) known
+    ∙ owes-same id (after_reading (mailbox_of (word_of m)) (owes id a)) (seeing (Read id (word_of m)) a)
+    ∙ ap (λ w. after_reading (mailbox_of w) (owes id a)) (closed-word m shut)
+
+-- ---- a home whose cell and whose drained messages stay
+
+module _ (h : Hold) (new : Contents) (cell : new.cell ≡ h.home.cell) where
+  pub keeps-home : KeepsJournal h (record h { home = new })
+  keeps-home = record {
+    same = record { actor = refl; who = ap (λ (c : Seen). c.who) cell; before = refl };
+    journal = ap (λ (c : Seen). c.journal) cell;
+  }
+
+  pub beside-cell : new.rest ≡ h.home.rest → new.dropped ≡ h.home.dropped → IsBeside h → IsBeside (record h { home = new })
+  beside-cell rest dropped s =
+      beside-home h s new (ap (λ (c : Seen). c.who) cell) (ap (λ (c : Seen). c.journal) cell) rest dropped
+
+-- the next act was taken out to be carried out
+module _ (h : Hold) (new : Contents) (same : new ≡ record h.home { cell = record h.home.cell { acts = new.cell.acts } }) where
+  pub keeps-next : KeepsJournal h (record h { home = new })
+  keeps-next = record {
+    same = record { actor = refl; who = ap (λ (x : Contents). x.cell.who) same; before = refl };
+    journal = ap (λ (x : Contents). x.cell.journal) same;
+  }
+
+  pub beside-next : IsBeside h → IsBeside (record h { home = new })
+  beside-next s =
+      beside-home h s new (ap (λ (x : Contents). x.cell.who) same) (ap (λ (x : Contents). x.cell.journal) same)
+      (ap (λ (x : Contents). x.rest) same) (ap (λ (x : Contents). x.dropped) same)
+
+  pub running-next : (gives : ℕ → Moment → Reply → Type 0) (origin : Origin (Box Contents)) (seen : List Sight) (pending : List Act) →
+      h.home.cell.acts ≡ pending → IsSettled (gives new.cell.who.this.0) pending new → IsRunning gives origin h.home.cell.acts seen h →
+      IsRunning gives origin pending seen (record h { home = new })
+  running-next gives origin seen pending is settled r =
+      let here : new.cell.who.this.0 ≡ h.actor = ap (λ (x : Contents). x.cell.who.this.0) same ∙ r.number in
+      running-same gives origin seen h pending new (subst (λ p. IsRunning gives origin p seen h) is r) (ap (λ (x : Contents). x.cell.who) same)
+      (ap (λ (x : Contents). x.cell.journal) same) (ap (λ (x : Contents). x.roll) same) (ap (λ (x : Contents). x.dead) same)
+      (ap (λ (x : Contents). x.rest) same) (subst (λ n. IsSettled (gives n) pending new) here settled)
+
+-- ---- a tell
+
+module _ (gives : ℕ → Moment → Reply → Type 0) (origin : Origin (Box Contents)) (seen : List Sight) (h : Hold) (to : ActorId) (body : Body)
+    (r : IsRunning gives origin (Tell to body ∷ h.home.cell.acts) seen h) where
+  -- the receiver is one of the actors
+  pub told-below : to.0 < origin.actors
+  told-below =
+      let there = told-there h.home (gives h.actor) to body h.home.cell.acts r.settled in
+      omega (arith, there.0, there.1, many-sends h.home r.settled.own, r.settled.own.all_there, r.many)
+
+  module _ (new : Contents) (settled : IsSettled (gives new.cell.who.this.0) new.cell.acts new) where
+    -- the acts that are left, with what is dead known
+    running-left : new.cell ≡ h.home.cell → new.roll ≡ h.home.roll → new.rest ≡ h.home.rest → Each (IsShutTo seen h) (closed_receivers new.dead) →
+        IsRunning gives origin new.cell.acts seen (record h { home = new })
+    running-left cell roll rest shut =
+        subst (λ (c : Seen). IsRunning gives origin c.acts seen (record h { home = new })) (sym cell)
+        (running-told gives origin seen h h.home.cell.acts to body new r (ap (λ (c : Seen). c.who) cell) (ap (λ (c : Seen). c.journal) cell) roll rest
+        (settled-here gives h.actor h.home new r.number cell settled) shut)
+
+    -- it was pushed
+    pub running-pushed : Pushes h.home new to body → IsRunning gives origin new.cell.acts seen (record h { home = new })
+    running-pushed p =
+        running-left (ap (λ (x : Contents). x.cell) p.same) (ap (λ (x : Contents). x.roll) p.same) (ap (λ (x : Contents). x.rest) p.same)
+        (subst (λ d. Each (IsShutTo seen h) (closed_receivers d)) (sym (ap (λ (x : Contents). x.dead) p.same)) r.shut)
+
+    -- it is a dead letter
+    pub running-buried : (why : Why) → Buries h.home new to body why → Each (IsShutTo seen h) (receiver_if_closed why to.0) →
+        IsRunning gives origin new.cell.acts seen (record h { home = new })
+    running-buried why b known =
+        running-left (ap (λ (x : Contents). x.cell) b.same) (ap (λ (x : Contents). x.roll) b.same) (ap (λ (x : Contents). x.rest) b.same)
+        (subst (λ d. Each (IsShutTo seen h) (closed_receivers d)) (sym (ap (λ (x : Contents). x.dead) b.same))
+        (shut-buried seen h h.home.dead (record { envelope = next_envelope h.home to body; why = why }) r.shut known))
+
+    none-known : (refused : PushError) → Each (IsShutTo seen h) (receiver_if_closed (reason_of refused) to.0)
+    none-known (Full e) = tt
+    none-known (NoMemory e) = tt
+
+    pub running-refused_push : (refused : PushError) → Buries h.home new to body (reason_of refused) →
+        IsRunning gives origin new.cell.acts seen (record h { home = new })
+    running-refused_push refused b = running-buried (reason_of refused) b (none-known refused)
+
+-- one that was read closed
+pub running-told_closed : (gives : ℕ → Moment → Reply → Type 0) (origin : Origin (Box Contents)) (seen : List Sight) (h : Hold) (to : ActorId)
+    (body : Body) (new : Contents) → IsRunning gives origin (Tell to body ∷ h.home.cell.acts) seen h →
+    IsSettled (gives new.cell.who.this.0) new.cell.acts new → Buries h.home new to body Closed →
+    IsRunning gives origin new.cell.acts (Read to.0 1 ∷ seen) (record h { home = new })
+running-told_closed gives origin seen h to body new r settled b =
+    running-buried gives origin (Read to.0 1 ∷ seen) h to body
+    (running-seen gives origin (Tell to body ∷ h.home.cell.acts) (Read to.0 1 ∷ []) seen h r) new settled Closed b (shut-read seen h to.0, tt)

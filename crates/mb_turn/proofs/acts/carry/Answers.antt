@@ -1,0 +1,95 @@
+use Rattle.std.proofs.Common.{◌∷◌, refl, ap, ◌∙◌, subst}
+use Rattle.std.specs.Global.{Box}
+use Rattle.mb_status.specs.Mailbox.{Mailbox, word_of}
+use Rattle.mb_books.specs.declared.act.Act.{Act as Handed}
+use Rattle.mb_books.specs.ActQueue.{act_of}
+use Rattle.mb_cell.specs.Seen.{Seen}
+use Rattle.mb_gate.specs.Names.{known_by, status_of}
+use Rattle.mb_gate.specs.Untouched.{origin_of}
+use Rattle.mb_home.specs.Contents.{Contents}
+use Rattle.mb_turn.specs.Hold.{hold_of}
+use Rattle.mb_turn.specs.Running.{IsRunning}
+use Rattle.mb_turn.proofs.CallerLemmas.{further-none}
+use Rattle.mb_turn.proofs.RunningSteps.{running-suspend, suspend-closed}
+use Rattle.mb_turn.proofs.StatusLemmas.{keeps-written, beside-written, running-suspended, running-resumed}
+use Rattle.mb_turn.proofs.acts.carry.Goals as goal
+
+-- ---- a tell, and a system message
+
+pub returns-in-Tell-clause-left : goal.returns-in-Tell-clause-left
+returns-in-Tell-clause-left g c = ap (λ (x : Seen). x.acts) c.tell.ensures.left
+
+pub returns-in-Sys-clause-left : goal.returns-in-Sys-clause-left
+returns-in-Sys-clause-left g c = ap (λ (b : Box Contents). b.value.cell.acts) c.say.ensures.left
+
+-- ---- a suspension
+
+pub suspend-requires-clause-ours : goal.suspend-requires-clause-ours
+suspend-requires-clause-ours g c = c.requires.running.ours
+
+pub suspend-requires-clause-there : goal.suspend-requires-clause-there
+suspend-requires-clause-there g c = c.requires.running.there
+
+pub suspend-requires-clause-few : goal.suspend-requires-clause-few
+suspend-requires-clause-few g c =
+    let r = subst (λ (a : Handed). IsRunning g.K.Behaviours.gives (origin_of c.args.gates.now) (act_of a ∷ c.args.claim.now.home.value.cell.acts)
+    (known_by c.args.waker.now.pass).log (hold_of c.args.claim.now)) c.in-SuspendSelf.is c.requires.running in
+    (running-suspend _ _ _ _ _ r).0
+
+pub returns-in-SuspendSelf-clause-running : goal.returns-in-SuspendSelf-clause-running
+returns-in-SuspendSelf-clause-running g c =
+    let old = c.args.claim.now in let new = c.suspend.new.claim in let did = c.suspend.ensures in
+    let r = subst (λ (a : Handed). IsRunning g.K.Behaviours.gives (origin_of c.args.gates.now) (act_of a ∷ old.home.value.cell.acts)
+    (known_by c.args.waker.now.pass).log (hold_of old)) c.in-SuspendSelf.is c.requires.running in
+    running-suspended old new (status_of new) (word_of (status_of new)) did.ours did.home did.known did.taken refl g.K.Behaviours.gives
+    (origin_of c.args.gates.now) (known_by c.args.waker.now.pass).log did.status r
+
+pub returns-in-SuspendSelf-clause-beside : goal.returns-in-SuspendSelf-clause-beside
+returns-in-SuspendSelf-clause-beside g c =
+    let old = c.args.claim.now in let new = c.suspend.new.claim in let did = c.suspend.ensures in
+    beside-written old new (status_of new) (word_of (status_of new)) did.ours did.home did.known did.taken refl
+    (ap (λ (m : Mailbox). m.closed) did.status ∙ suspend-closed (status_of old)) c.requires.beside
+
+pub returns-in-SuspendSelf-clause-left : goal.returns-in-SuspendSelf-clause-left
+returns-in-SuspendSelf-clause-left g c = ap (λ (b : Box Contents). b.value.cell.acts) c.suspend.ensures.home
+
+pub returns-in-SuspendSelf-clause-same : goal.returns-in-SuspendSelf-clause-same
+returns-in-SuspendSelf-clause-same g c =
+    let old = c.args.claim.now in let new = c.suspend.new.claim in let did = c.suspend.ensures in
+    keeps-written old new (status_of new) (word_of (status_of new)) did.ours did.home did.known did.taken refl
+
+pub returns-in-SuspendSelf-clause-goes : goal.returns-in-SuspendSelf-clause-goes
+returns-in-SuspendSelf-clause-goes g c = further-none _
+
+-- ---- the end of one
+
+pub resume-requires-clause-ours : goal.resume-requires-clause-ours
+resume-requires-clause-ours g c = c.requires.running.ours
+
+pub resume-requires-clause-there : goal.resume-requires-clause-there
+resume-requires-clause-there g c = c.requires.running.there
+
+pub returns-in-ResumeSelf-clause-running : goal.returns-in-ResumeSelf-clause-running
+returns-in-ResumeSelf-clause-running g c =
+    let old = c.args.claim.now in let new = c.resume.new.claim in let did = c.resume.ensures in
+    let r = subst (λ (a : Handed). IsRunning g.K.Behaviours.gives (origin_of c.args.gates.now) (act_of a ∷ old.home.value.cell.acts)
+    (known_by c.args.waker.now.pass).log (hold_of old)) c.in-ResumeSelf.is c.requires.running in
+    running-resumed old new (status_of new) (word_of (status_of new)) did.ours did.home did.known did.taken refl g.K.Behaviours.gives
+    (origin_of c.args.gates.now) (known_by c.args.waker.now.pass).log did.status r
+
+pub returns-in-ResumeSelf-clause-beside : goal.returns-in-ResumeSelf-clause-beside
+returns-in-ResumeSelf-clause-beside g c =
+    let old = c.args.claim.now in let new = c.resume.new.claim in let did = c.resume.ensures in
+    beside-written old new (status_of new) (word_of (status_of new)) did.ours did.home did.known did.taken refl
+    (ap (λ (m : Mailbox). m.closed) did.status) c.requires.beside
+
+pub returns-in-ResumeSelf-clause-left : goal.returns-in-ResumeSelf-clause-left
+returns-in-ResumeSelf-clause-left g c = ap (λ (b : Box Contents). b.value.cell.acts) c.resume.ensures.home
+
+pub returns-in-ResumeSelf-clause-same : goal.returns-in-ResumeSelf-clause-same
+returns-in-ResumeSelf-clause-same g c =
+    let old = c.args.claim.now in let new = c.resume.new.claim in let did = c.resume.ensures in
+    keeps-written old new (status_of new) (word_of (status_of new)) did.ours did.home did.known did.taken refl
+
+pub returns-in-ResumeSelf-clause-goes : goal.returns-in-ResumeSelf-clause-goes
+returns-in-ResumeSelf-clause-goes g c = further-none _

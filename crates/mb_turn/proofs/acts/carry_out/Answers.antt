@@ -1,0 +1,91 @@
+use Rattle.std.proofs.Common.{◌≡◌, ◌∷◌, [], List, length, sym, ap, ◌∙◌, subst, arith}
+use Rattle.mb_books.specs.ActQueue.{act_of}
+use Rattle.mb_journal.specs.Acts.{Act}
+use Rattle.mb_gate.specs.Names.{known_by}
+use Rattle.mb_gate.specs.Untouched.{origin_of}
+use Rattle.mb_home.specs.Contents.{Contents}
+use Rattle.mb_home.specs.Settled.{IsSettled}
+use Rattle.mb_turn.specs.Hold.{hold_of}
+use Rattle.mb_turn.specs.Running.{IsRunning}
+use Rattle.mb_turn.proofs.BesideLemmas.{keeps-same, keeps-then}
+use Rattle.mb_turn.proofs.CallerLemmas.{further-none, further-then}
+use Rattle.mb_turn.proofs.TellingLemmas.{running-own, running-next, beside-next, keeps-next}
+use Rattle.mb_turn.proofs.acts.carry_out.Goals as goal
+
+pub loop-act-init : goal.loop-act-init
+loop-act-init g c = (c.requires.ours, c.requires.running, c.requires.beside, keeps-same _, further-none _)
+
+pub next_act-requires : goal.next_act-requires
+next_act-requires g c = record {
+  settled =
+      subst (λ (x : Contents). IsSettled (g.K.Behaviours.gives x.cell.who.this.0) x.cell.acts x) (sym c.deref_mut.ensures.value)
+      (running-own _ _ _ _ (hold_of c.loop-act.claim) c.loop-act.invariant.1);
+}
+
+-- ---- an act is left
+
+pub carry-requires-clause-running : goal.carry-requires-clause-running
+carry-requires-clause-running g c =
+    let new : Contents = c.next_act.new.self in
+    let same = subst (λ (x : Contents). new ≡ record x { cell = record x.cell { acts = new.cell.acts } }) c.deref_mut.ensures.value
+    c.next_act.ensures.same in
+    let taken = sym (ap (λ (x : Contents). x.cell.acts) c.deref_mut.ensures.value) ∙ c.in-Some.ensures.taken in
+    running-next (hold_of c.loop-act.claim) new same g.K.Behaviours.gives (origin_of c.args.gates.now) (known_by c.loop-act.waker.pass).log
+    (act_of c.in-Some.act ∷ new.cell.acts) taken c.in-Some.ensures.settled c.loop-act.invariant.1
+
+pub carry-requires-clause-beside : goal.carry-requires-clause-beside
+carry-requires-clause-beside g c =
+    let new : Contents = c.next_act.new.self in
+    let same = subst (λ (x : Contents). new ≡ record x { cell = record x.cell { acts = new.cell.acts } }) c.deref_mut.ensures.value
+    c.next_act.ensures.same in
+    beside-next (hold_of c.loop-act.claim) new same c.loop-act.invariant.2
+
+pub loop-act-preserved : goal.loop-act-preserved
+loop-act-preserved g c =
+    let new : Contents = c.next_act.new.self in
+    let same = subst (λ (x : Contents). new ≡ record x { cell = record x.cell { acts = new.cell.acts } }) c.deref_mut.ensures.value
+    c.next_act.ensures.same in (
+      c.carry.ensures.ours,
+      c.carry.ensures.running,
+      c.carry.ensures.beside,
+      keeps-then _ _ _ c.loop-act.invariant.3 (keeps-then _ _ _ (keeps-next (hold_of c.loop-act.claim) new same) c.carry.ensures.same),
+      further-then _ _ _ c.loop-act.invariant.4 c.carry.ensures.goes,
+    )
+
+pub loop-act-smaller : goal.loop-act-smaller
+loop-act-smaller g c =
+    let left = ap (λ (l : List Act). length l) c.carry.ensures.left in
+    let taken = sym (ap (λ (x : Contents). x.cell.acts) c.deref_mut.ensures.value) ∙ c.in-Some.ensures.taken in
+    let before = ap (λ (l : List Act). length l) taken in
+    omega (arith, left, before)
+
+-- ---- none is left
+
+pub returns-clause-running : goal.returns-clause-running
+returns-clause-running g c =
+    let new : Contents = c.next_act.new.self in
+    let same = subst (λ (x : Contents). new ≡ record x { cell = record x.cell { acts = new.cell.acts } }) c.deref_mut.ensures.value
+    c.next_act.ensures.same in
+    let taken = sym (ap (λ (x : Contents). x.cell.acts) c.deref_mut.ensures.value) ∙ c.in_default.ensures.taken in
+    let none : new.cell.acts ≡ [] = sym c.in_default.ensures.taken ∙ c.in_default.ensures.none in
+    subst (λ l. IsRunning g.K.Behaviours.gives (origin_of c.args.gates.now) l (known_by c.loop-act.waker.pass).log
+    (record (hold_of c.loop-act.claim) { home = new })) none
+    (running-next (hold_of c.loop-act.claim) new same g.K.Behaviours.gives (origin_of c.args.gates.now) (known_by c.loop-act.waker.pass).log
+    new.cell.acts taken c.in_default.ensures.settled c.loop-act.invariant.1)
+
+pub returns-clause-beside : goal.returns-clause-beside
+returns-clause-beside g c =
+    let new : Contents = c.next_act.new.self in
+    let same = subst (λ (x : Contents). new ≡ record x { cell = record x.cell { acts = new.cell.acts } }) c.deref_mut.ensures.value
+    c.next_act.ensures.same in
+    beside-next (hold_of c.loop-act.claim) new same c.loop-act.invariant.2
+
+pub returns-clause-carried_out : goal.returns-clause-carried_out
+returns-clause-carried_out g c = sym c.in_default.ensures.taken ∙ c.in_default.ensures.none
+
+pub returns-clause-same : goal.returns-clause-same
+returns-clause-same g c =
+    let new : Contents = c.next_act.new.self in
+    let same = subst (λ (x : Contents). new ≡ record x { cell = record x.cell { acts = new.cell.acts } }) c.deref_mut.ensures.value
+    c.next_act.ensures.same in
+    keeps-then _ _ _ c.loop-act.invariant.3 (keeps-next (hold_of c.loop-act.claim) new same)

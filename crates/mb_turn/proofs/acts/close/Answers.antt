@@ -1,0 +1,40 @@
+use Rattle.std.proofs.Common.{refl, ap, ◌∙◌}
+use Rattle.std.specs.Global.{Box}
+use Rattle.mb_status.specs.Mailbox.{Mailbox, word_of}
+use Rattle.mb_gate.specs.Names.{known_by, status_of}
+use Rattle.mb_gate.specs.Untouched.{origin_of}
+use Rattle.mb_cell.specs.Seen.{Seen}
+use Rattle.mb_home.specs.Contents.{Contents}
+use Rattle.mb_turn.proofs.BesideLemmas.{keeps-then}
+use Rattle.mb_turn.proofs.StatusLemmas.{keeps-written, count-written, running-closed}
+use Rattle.mb_turn.proofs.acts.close.Goals as goal
+
+pub close_mailbox-requires-clause-ours : goal.close_mailbox-requires-clause-ours
+close_mailbox-requires-clause-ours g c = c.requires.running.ours
+
+pub close_mailbox-requires-clause-there : goal.close_mailbox-requires-clause-there
+close_mailbox-requires-clause-there g c = c.requires.running.there
+
+pub clean_up-requires-clause-closed : goal.clean_up-requires-clause-closed
+clean_up-requires-clause-closed g c = ap (λ (m : Mailbox). m.closed) c.close_mailbox.ensures.status
+
+pub clean_up-requires-clause-running : goal.clean_up-requires-clause-running
+clean_up-requires-clause-running g c =
+    let old = c.args.claim.now in let new = c.close_mailbox.new.claim in let did = c.close_mailbox.ensures in
+    running-closed old new (status_of new) (word_of (status_of new)) did.ours did.home did.known did.taken refl g.K.Behaviours.gives
+    (origin_of c.args.gates.now) (known_by c.args.waker.now.pass).log did.status c.requires.running
+
+pub clean_up-requires-clause-count : goal.clean_up-requires-clause-count
+clean_up-requires-clause-count g c =
+    let old = c.args.claim.now in let new = c.close_mailbox.new.claim in let did = c.close_mailbox.ensures in
+    count-written old new (status_of new) (word_of (status_of new)) did.ours did.home did.known did.taken refl c.requires.beside.count
+
+pub returns-clause-left : goal.returns-clause-left
+returns-clause-left g c =
+    ap (λ (x : Seen). x.acts) c.clean_up.ensures.left ∙ ap (λ (b : Box Contents). b.value.cell.acts) c.close_mailbox.ensures.home
+
+pub returns-clause-same : goal.returns-clause-same
+returns-clause-same g c =
+    let old = c.args.claim.now in let new = c.close_mailbox.new.claim in let did = c.close_mailbox.ensures in
+    keeps-then _ _ _ (keeps-written old new (status_of new) (word_of (status_of new)) did.ours did.home did.known did.taken refl)
+    c.clean_up.ensures.same

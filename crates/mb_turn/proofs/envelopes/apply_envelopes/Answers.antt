@@ -1,0 +1,86 @@
+use Rattle.std.proofs.Common.{◌≡◌, ◌<◌, ◌+◌, ap, ◌∙◌, subst, arith}
+use Rattle.std.specs.Prelude.{MatchBool}
+use Rattle.mb_journal.specs.Run.{most_envelopes}
+use Rattle.mb_gate.specs.Names.{known_by}
+use Rattle.mb_gate.specs.Untouched.{origin_of}
+use Rattle.mb_turn.specs.declared.turn.Turn.{Turn}
+use Rattle.mb_turn.specs.Hold.{hold_of}
+use Rattle.mb_turn.proofs.BesideLemmas.{keeps-same, same-run-then}
+use Rattle.mb_turn.proofs.CallerLemmas.{further-none, further-then}
+use Rattle.mb_turn.proofs.EnvelopeLemmas.{IsWhy, reason-why, reason-used}
+use Rattle.mb_turn.proofs.envelopes.apply_envelopes.Goals as goal
+
+pub loop-handled-init : goal.loop-handled-init
+loop-handled-init g c = (
+  c.requires.ours,
+  c.requires.running,
+  c.requires.beside,
+  c.requires.carried_out,
+  c.requires.turning.0,
+  (keeps-same _).same,
+  c.requires.turning.1,
+  c.requires.whole,
+  further-none _,
+)
+
+pub returns-in_err-took-clause-turning : goal.returns-in_err-took-clause-turning
+returns-in_err-took-clause-turning g c =
+    (c.apply_envelope.ensures.turning.0, same-run-then _ _ _ c.loop-handled.invariant.5 c.apply_envelope.ensures.turning.1)
+
+pub returns-in_err-took-clause-goes : goal.returns-in_err-took-clause-goes
+returns-in_err-took-clause-goes g c = further-then _ _ _ c.loop-handled.invariant.8 c.apply_envelope.ensures.goes
+
+pub returns-then-not-took-clause-turning : goal.returns-then-not-took-clause-turning
+returns-then-not-took-clause-turning g c =
+    (c.apply_envelope.ensures.turning.0, same-run-then _ _ _ c.loop-handled.invariant.5 c.apply_envelope.ensures.turning.1)
+
+pub returns-then-not-took-clause-goes : goal.returns-then-not-took-clause-goes
+returns-then-not-took-clause-goes g c = further-then _ _ _ c.loop-handled.invariant.8 c.apply_envelope.ensures.goes
+
+-- why no envelope was taken
+pub returns-then-not-took-clause-ended : goal.returns-then-not-took-clause-ended
+returns-then-not-took-clause-ended g c =
+    let h = hold_of c.apply_envelope.new.claim in
+    let old = c.loop-handled.turn in
+    let new = c.apply_envelope.new.turn in
+    let found = subst (λ b. MatchBool b (new.envelopes ≡ old.envelopes + 1) ((new ≡ old) × IsWhy h)) c.if-not-took.true
+    c.in_ok-took.ensures.took in
+    let same : new.envelopes ≡ old.envelopes = ap (λ (t : Turn). t.envelopes) found.0 in
+    let less : new.envelopes < most_envelopes c.args.throughput = omega (arith, same, c.loop-handled.invariant.6, c.loop-handled-test.true) in
+    reason-why h c.args.throughput new.envelopes less found.1
+
+pub returns-in_err-apply_systems-clause-turning : goal.returns-in_err-apply_systems-clause-turning
+returns-in_err-apply_systems-clause-turning g c = (
+  c.apply_systems.ensures.turning.0,
+  same-run-then _ _ _ c.loop-handled.invariant.5 (same-run-then _ _ _ c.apply_envelope.ensures.turning.1 c.apply_systems.ensures.turning.1),
+)
+
+pub returns-in_err-apply_systems-clause-goes : goal.returns-in_err-apply_systems-clause-goes
+returns-in_err-apply_systems-clause-goes g c =
+    further-then _ _ _ c.loop-handled.invariant.8 (further-then _ _ _ c.apply_envelope.ensures.goes c.apply_systems.ensures.goes)
+
+pub loop-handled-preserved : goal.loop-handled-preserved
+loop-handled-preserved g c =
+    let h = hold_of c.apply_envelope.new.claim in
+    let old = c.loop-handled.turn in
+    let new = c.apply_envelope.new.turn in
+    let more = subst (λ b. MatchBool b (new.envelopes ≡ old.envelopes + 1) ((new ≡ old) × IsWhy h)) c.if-not-took.false
+    c.in_ok-took.ensures.took in (
+      c.apply_systems.ensures.ours,
+      c.apply_systems.ensures.running,
+      c.apply_systems.ensures.beside,
+      c.apply_systems.ensures.carried_out,
+      c.apply_systems.ensures.turning.0,
+      same-run-then _ _ _ c.loop-handled.invariant.5 (same-run-then _ _ _ c.apply_envelope.ensures.turning.1 c.apply_systems.ensures.turning.1),
+      c.apply_systems.ensures.envelopes ∙ more ∙ ap (λ n. n + 1) c.loop-handled.invariant.6,
+      c.in_ok-apply_systems.ensures.whole,
+      further-then _ _ _ c.loop-handled.invariant.8 (further-then _ _ _ c.apply_envelope.ensures.goes c.apply_systems.ensures.goes),
+    )
+
+-- the throughput was used up
+pub returns-clause-ended : goal.returns-clause-ended
+returns-clause-ended g c =
+    let n = c.loop-handled.turn.envelopes in
+    let all : n ≡ most_envelopes c.args.throughput = omega (arith, c.loop-handled.invariant.6, c.loop-handled-test.false) in
+    reason-used g.K.Behaviours.gives (origin_of c.args.gates.now) (known_by c.loop-handled.waker.pass).log (hold_of c.loop-handled.claim)
+    c.args.throughput n c.loop-handled.invariant.1 all c.loop-handled.invariant.7

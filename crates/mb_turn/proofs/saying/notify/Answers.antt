@@ -1,0 +1,34 @@
+use Rattle.std.proofs.Common.{sym, refl, subst}
+use Rattle.std.specs.Prelude.{is_err}
+use Rattle.mb_gate.specs.Named.{NamesBelow}
+use Rattle.mb_gate.specs.Names.{actors_of, known_by}
+use Rattle.mb_wake.proofs.Views.{does-then, does-enlisting}
+use Rattle.mb_turn.proofs.CallerLemmas.{account-woken, further-said}
+use Rattle.mb_turn.proofs.MoveLemmas.{moves-does, further-moves}
+use Rattle.mb_turn.proofs.SayLemmas.{notified}
+use Rattle.mb_turn.proofs.saying.notify.Goals as goal
+
+pub sys_enqueue_in_run-requires-clause-named : goal.sys_enqueue_in_run-requires-clause-named
+sys_enqueue_in_run-requires-clause-named g c = subst (NamesBelow (actors_of c.args.gates.now)) (sym c.set.ensures) c.requires.there.1
+
+pub returns-clause-told : goal.returns-clause-told
+returns-clause-told g c =
+    notified c.args.whom.0 c.args.ended.0 c.set.new.self (is_err c.sys_enqueue_in_run.result) c.args.claim.now c.sys_enqueue_in_run.new.claim
+    c.set.ensures c.sys_enqueue_in_run.ensures.recorded
+
+pub returns-clause-goes : goal.returns-clause-goes
+returns-clause-goes g c =
+    let id = c.args.whom.0 in
+    let a = known_by c.args.waker.now.pass in let b = known_by c.sys_enqueue_in_run.new.pass in let d = known_by c.register.new.self.pass in
+    further-moves id _ _
+    (moves-does id _ _ a d
+    (does-then id _ _ a b d (does-enlisting id c.in-Ok.field-0 c.set.new.self a b c.in-Ok.ensures.listed) c.register.ensures.looks))
+    (account-woken id _ _ c.register.result c.register.ensures.woken) c.register.ensures.paid
+
+pub returns-in_default-clause-told : goal.returns-in_default-clause-told
+returns-in_default-clause-told g c =
+    notified c.args.whom.0 c.args.ended.0 c.set.new.self (is_err c.sys_enqueue_in_run.result) c.args.claim.now c.sys_enqueue_in_run.new.claim
+    c.set.ensures c.sys_enqueue_in_run.ensures.recorded
+
+pub returns-in_default-clause-goes : goal.returns-in_default-clause-goes
+returns-in_default-clause-goes g c = further-said _ _ _ c.in_default.ensures.ended.1 refl

@@ -1,0 +1,18 @@
+use Rattle.std.proofs.Common.{◌≡◌, []}
+use Rattle.mb_gate.specs.Names.{known_by}
+use Rattle.mb_gate.specs.Untouched.{origin_of}
+use Rattle.mb_turn.specs.Caller.{IsWakerOf, caller_of, GoesFurther}
+use Rattle.mb_turn.specs.Hold.{hold_of}
+use Rattle.mb_turn.specs.Ran.{IsTurning}
+use Rattle.mb_turn.specs.Running.{IsRunning, IsBeside, SameRun}
+use Rattle.mb_turn.proofs.systems.apply_systems.Given as goal
+
+abbrev pub invariant-loop : goal.invariant-loop
+invariant-loop g l =
+    (goal.iterator-loop g).can_next l.iterator' × (goal.iterator-loop g).is_finite l.iterator'
+    × IsWakerOf g.W.Way.origin l.gates l.waker
+    × IsRunning g.K.Behaviours.gives (origin_of l.gates) [] (known_by l.waker.pass).log (hold_of l.claim)
+    × IsBeside (hold_of l.claim) × (l.claim.home.value.cell.acts ≡ [])
+    × IsTurning (hold_of l.claim) l.turn × SameRun (hold_of l.initial.claim) (hold_of l.claim)
+    × (l.turn.envelopes ≡ l.initial.turn.envelopes)
+    × GoesFurther (caller_of g.W.Way.pushed g.W.Way.refused l.initial.waker) (caller_of g.W.Way.pushed g.W.Way.refused l.waker)

@@ -1,0 +1,78 @@
+use Rattle.std.proofs.Common.{◌≡◌, List, refl, sym, ap, ◌∙◌, subst}
+use Rattle.std.specs.Global.{Box}
+use Rattle.mb_journal.specs.Acts.{Act}
+use Rattle.mb_gate.specs.Lists.{IsNumberedFrom}
+use Rattle.mb_gate.specs.Untouched.{origin_of}
+use Rattle.mb_home.specs.AtHome.{given_of}
+use Rattle.mb_home.specs.Contents.{Contents}
+use Rattle.mb_home.specs.Settled.{IsSettled}
+use Rattle.mb_turn.specs.Hold.{hold_of}
+use Rattle.mb_turn.proofs.DrainingLemmas.{not-false, keeps-drained, drained-from, beside-drained, is-drained, running-drain}
+use Rattle.mb_turn.proofs.TellingLemmas.{running-own}
+use Rattle.mb_turn.proofs.systems.drain.Goals as goal
+
+pub sys_drain-drained-requires-clause-ours : goal.sys_drain-drained-requires-clause-ours
+sys_drain-drained-requires-clause-ours g c = c.requires.running.1.ours
+
+pub sys_drain-drained-requires-clause-there : goal.sys_drain-drained-requires-clause-there
+sys_drain-drained-requires-clause-there g c = c.requires.running.1.there
+
+pub keep-requires-clause-none_left : goal.keep-requires-clause-none_left
+keep-requires-clause-none_left g c =
+    ap (λ (x : Contents). x.rest) c.deref_mut.ensures.value ∙ ap (λ (b : Box Contents). b.value.rest) c.sys_drain-drained.ensures.same.1
+    ∙ c.requires.rested.no_rest
+
+pub keep-requires-clause-goes_on : goal.keep-requires-clause-goes_on
+keep-requires-clause-goes_on g c =
+    let did = c.sys_drain-drained.ensures in
+    subst (λ (x : Contents). IsNumberedFrom (given_of x) c.sys_drain-drained.result) (sym c.deref_mut.ensures.value)
+    (drained-from c.args.claim.now c.sys_drain-drained.new.claim did.ours did.same did.taken did.recorded c.sys_drain-drained.result did.given
+    did.known did.gave (record c.sys_drain-drained.new.claim.home.value { rest = c.sys_drain-drained.result }) refl c.requires.beside.count
+    did.numbers)
+
+pub keep-requires-clause-settled : goal.keep-requires-clause-settled
+keep-requires-clause-settled g c =
+    let old = c.args.claim.now in
+    let own = running-own _ _ _ _ (hold_of old) c.requires.running.1 in
+    let here = subst (λ (l : List Act). IsSettled (g.K.Behaviours.gives old.home.value.cell.who.this.0) l old.home.value)
+    (sym c.requires.carried_out) own in
+    let home = c.deref_mut.ensures.value ∙ ap (λ (b : Box Contents). b.value) c.sys_drain-drained.ensures.same.1 in
+    subst (λ (x : Contents). IsSettled (g.K.Behaviours.gives x.cell.who.this.0) x.cell.acts x) (sym home) here
+
+pub returns-clause-running : goal.returns-clause-running
+returns-clause-running g c =
+    let did = c.sys_drain-drained.ensures in
+    let kept = subst (λ (x : Contents). c.keep.new.self ≡ record x { rest = c.sys_drain-drained.result }) c.deref_mut.ensures.value
+    c.keep.ensures.kept in
+    λ seen r. running-drain c.args.claim.now c.sys_drain-drained.new.claim did.ours did.same did.taken did.recorded c.sys_drain-drained.result
+    did.given did.known did.gave c.keep.new.self kept g.K.Behaviours.gives (origin_of c.args.gates.now) seen c.requires.carried_out
+    c.keep.ensures.settled did.named r
+
+pub returns-clause-beside : goal.returns-clause-beside
+returns-clause-beside g c =
+    let did = c.sys_drain-drained.ensures in
+    let kept = subst (λ (x : Contents). c.keep.new.self ≡ record x { rest = c.sys_drain-drained.result }) c.deref_mut.ensures.value
+    c.keep.ensures.kept in
+    beside-drained c.args.claim.now c.sys_drain-drained.new.claim did.ours did.same did.taken did.recorded c.sys_drain-drained.result did.given
+    did.known did.gave c.keep.new.self kept c.requires.rested c.requires.not_closed c.requires.beside.count
+
+pub returns-clause-left : goal.returns-clause-left
+returns-clause-left g c =
+    ap (λ (x : Contents). x.cell) c.keep.ensures.kept ∙ ap (λ (x : Contents). x.cell) c.deref_mut.ensures.value
+    ∙ ap (λ (b : Box Contents). b.value.cell) c.sys_drain-drained.ensures.same.1
+
+pub returns-clause-same : goal.returns-clause-same
+returns-clause-same g c =
+    let did = c.sys_drain-drained.ensures in
+    let kept = subst (λ (x : Contents). c.keep.new.self ≡ record x { rest = c.sys_drain-drained.result }) c.deref_mut.ensures.value
+    c.keep.ensures.kept in
+    keeps-drained c.args.claim.now c.sys_drain-drained.new.claim did.ours did.same did.taken did.recorded c.sys_drain-drained.result did.given
+    did.known did.gave c.keep.new.self kept
+
+pub returns-clause-drained : goal.returns-clause-drained
+returns-clause-drained g c =
+    let did = c.sys_drain-drained.ensures in
+    let kept = subst (λ (x : Contents). c.keep.new.self ≡ record x { rest = c.sys_drain-drained.result }) c.deref_mut.ensures.value
+    c.keep.ensures.kept in
+    λ nothing. is-drained c.args.claim.now c.sys_drain-drained.new.claim did.ours did.same did.taken did.recorded c.sys_drain-drained.result
+    did.given did.known did.gave c.keep.new.self kept c.requires.rested (c.is_empty-some.ensures.0 (not-false _ nothing))

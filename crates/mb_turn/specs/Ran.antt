@@ -1,0 +1,76 @@
+-- What a run tells.
+use Rattle.std.specs.Prelude.{◌≡◌, ℕ, ◌+◌, true, List, [], ◌∷◌, None}
+use Rattle.std.specs.Global.{Box}
+use Rattle.mb_journal.specs.Aside.{next_front}
+use Rattle.mb_journal.specs.Entry.{Entry}
+use Rattle.mb_journal.specs.Entry.Entry.{Handled, System, Dropped}
+use Rattle.mb_journal.specs.Identity.{Identity}
+use Rattle.mb_journal.specs.Life.{closed}
+use Rattle.mb_journal.specs.Reading.{IsOpen}
+use Rattle.mb_journal.specs.Run.{IsRun, IsShut, IsTurns, Stopped}
+use Rattle.mb_journal.specs.Run.Stopped.{UsedUp, NotOpen, NoEnvelope, AtClosing, NoRoom}
+use Rattle.mb_gate.specs.declared.claim.Claim.{Claim}
+use Rattle.mb_gate.specs.Names.{held_actor}
+use Rattle.mb_gate.specs.Rule.{IsAmong, IsPart}
+use Rattle.mb_gate.specs.View.{View, Sight, Saw}
+use Rattle.mb_home.specs.Contents.{Contents}
+use Rattle.mb_turn.specs.declared.turn.Turn.{Turn}
+use Rattle.mb_turn.specs.Dry.{DrainedLast, TakesDry}
+use Rattle.mb_turn.specs.Hold.{Hold}
+
+-- how many of these entries are of system messages
+abbrev pub systems_in : List Entry → ℕ
+systems_in [] = 0
+systems_in (System number m outcome ∷ before) = systems_in before + 1
+systems_in (Handled envelope reading outcome ∷ before) = systems_in before
+systems_in (Dropped envelope ∷ before) = systems_in before
+
+-- A run in progress: the journal went on by blocks of system messages, with an envelope before each but the first, and the turn counts both.
+pub record IsTurning (hold : Hold) (turn : Turn) : Type 0 where
+  pub turns : IsTurns hold.home.cell.who hold.before turn.envelopes hold.home.cell.journal
+  pub system : turn.system + systems_in hold.before ≡ systems_in hold.home.cell.journal
+  pub actor : turn.actor.0 ≡ hold.actor
+
+-- a block is at its end: the mailbox is closed, or a drain gave nothing, and nothing is put in front
+pub record IsDrained (hold : Hold) : Type 0 where
+  pub last : DrainedLast hold.actor hold.log
+  pub none : next_front hold.home.cell.who hold.home.cell.journal ≡ None
+
+-- this was a reason to take no envelope more
+abbrev pub IsEnough : Identity → List Entry → Stopped → Type 0
+IsEnough who journal UsedUp = ⊥
+IsEnough who journal (NotOpen word) = IsShut who journal word × (next_front who journal ≡ None)
+IsEnough who journal (NoEnvelope word) = IsOpen who journal word × (next_front who journal ≡ None)
+IsEnough who journal AtClosing = closed who journal ≡ true
+IsEnough who journal NoRoom = ⊥
+
+-- there was room for all that the run took
+abbrev pub HadRoom : Stopped → Type 0
+HadRoom UsedUp = Unit {0}
+HadRoom (NotOpen word) = Unit {0}
+HadRoom (NoEnvelope word) = Unit {0}
+HadRoom AtClosing = Unit {0}
+HadRoom NoRoom = ⊥
+
+-- unless it was closed or had no room, the run's last step at the actor's list was a drain that gave nothing
+abbrev pub EndsDrained : ℕ → List Sight → Stopped → Type 0
+EndsDrained actor log UsedUp = DrainedLast actor log
+EndsDrained actor log (NotOpen word) = DrainedLast actor log
+EndsDrained actor log (NoEnvelope word) = DrainedLast actor log
+EndsDrained actor log AtClosing = Unit {0}
+EndsDrained actor log NoRoom = Unit {0}
+
+-- The claim's actor ran from the journal with which the claim was taken to this one, which the pass has seen; the turn names the actor and
+-- counts the entries of either kind. Of its own steps, which the pass has taken over, each that took an envelope came when no system message
+-- was left to be drained.
+pub record LeavesRun (throughput : ℕ) (claim : Claim (Box Contents)) (pass : View) (journal : List Entry) (turn : Turn) (stopped : Stopped)
+    : Type 0 where
+  pub run : IsRun claim.home.value.cell.who throughput claim.home.value.cell.journal journal stopped
+  pub actor : turn.actor.0 ≡ held_actor claim
+  pub envelopes : run.envelopes ≡ turn.envelopes
+  pub system : turn.system + systems_in claim.home.value.cell.journal ≡ systems_in journal
+  pub seen : IsAmong (Saw (held_actor claim) journal) pass.log
+  pub steps : List Sight
+  pub taken_over : IsPart steps pass.log
+  pub dry : TakesDry (held_actor claim) steps
+  pub last : EndsDrained (held_actor claim) steps stopped

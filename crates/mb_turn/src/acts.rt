@@ -1,0 +1,120 @@
+//! The acts of a message.
+ghost use Rattle.std.specs.Prelude.{◌≡◌, [], ◌∷◌, IsErrOf, OnErr};
+ghost use Rattle.mb_books.specs.ActQueue.{act_of};
+ghost use Rattle.mb_journal.specs.Acts.Act.{CloseSelf};
+ghost use Rattle.mb_gate.specs.Names.{known_by};
+ghost use Rattle.mb_gate.specs.Untouched.{origin_of};
+ghost use Rattle.mb_turn.specs.Caller.{IsWakerOf, caller_of, GoesFurther};
+ghost use Rattle.mb_turn.specs.Hold.{hold_of};
+ghost use Rattle.mb_turn.specs.Running.{IsRunning, IsBeside, KeepsJournal};
+
+use crate::clean_up::clean_up;
+use crate::place::Place;
+use crate::saying::say;
+use crate::telling::tell;
+use mb_actor::{Actor, Behaviours};
+use mb_cell::Act;
+use mb_gate::{Claim, Gates};
+use mb_journal::ReadyError;
+use mb_wake::{Waker, Way};
+use std::alloc::AllocError;
+use std::sync::Wait;
+
+/// Carries out the acts of the last message, in order. It answers `NoMemory` if a place for an envelope of an actor that
+/// ended was refused; the other acts are carried out all the same.
+pub(crate) fn carry_out<A: Actor, K: Behaviours, W: Way<Place<A, K>>, R: Wait>(
+    rt: &R,
+    gates: &Gates<Place<A, K>>,
+    waker: &mut Waker<Place<A, K>, W>,
+    claim: &mut Claim<Place<A, K>>,
+) -> Result<(), ReadyError>
+    requires ours { IsWakerOf W.origin gates.now waker.old }
+    requires running { IsRunning K.gives (origin_of gates.now) (claim.old.home.value.cell.acts) (known_by waker.old.pass).log (hold_of claim.old) }
+    requires beside { IsBeside (hold_of claim.old) }
+    ensures ours { IsWakerOf W.origin gates.now waker.new }
+    ensures running { IsRunning K.gives (origin_of gates.now) [] (known_by waker.new.pass).log (hold_of claim.new) }
+    ensures beside { IsBeside (hold_of claim.new) }
+    ensures carried_out { claim.new.home.value.cell.acts ≡ [] }
+    ensures same { KeepsJournal (hold_of claim.old) (hold_of claim.new) }
+    ensures goes { GoesFurther (caller_of W.pushed W.refused waker.old) (caller_of W.pushed W.refused waker.new) }
+    ensures refused { OnErr result (IsErrOf result ReadyError.NoMemory) }
+{
+    let mut is_clean = true;
+    while let Some(act) = claim.home.next_act() {
+        is_clean &= carry(rt, gates, waker, claim, act).is_ok();
+    }
+    answer_of(is_clean)
+}
+
+// What is answered.
+fn answer_of(is_clean: bool) -> Result<(), ReadyError>
+    ensures { OnErr result (IsErrOf result ReadyError.NoMemory) }
+{
+    if is_clean {
+        Ok(())
+    } else {
+        Err(ReadyError::NoMemory)
+    }
+}
+
+// Carries out one act.
+fn carry<A: Actor, K: Behaviours, W: Way<Place<A, K>>, R: Wait>(
+    rt: &R,
+    gates: &Gates<Place<A, K>>,
+    waker: &mut Waker<Place<A, K>, W>,
+    claim: &mut Claim<Place<A, K>>,
+    act: Act,
+) -> Result<(), AllocError>
+    requires ours { IsWakerOf W.origin gates.now waker.old }
+    requires running { IsRunning K.gives (origin_of gates.now) (act_of act ∷ claim.old.home.value.cell.acts)
+        (known_by waker.old.pass).log (hold_of claim.old) }
+    requires beside { IsBeside (hold_of claim.old) }
+    ensures ours { IsWakerOf W.origin gates.now waker.new }
+    ensures running { IsRunning K.gives (origin_of gates.now) (claim.new.home.value.cell.acts) (known_by waker.new.pass).log (hold_of claim.new) }
+    ensures beside { IsBeside (hold_of claim.new) }
+    ensures left { claim.new.home.value.cell.acts ≡ claim.old.home.value.cell.acts }
+    ensures same { KeepsJournal (hold_of claim.old) (hold_of claim.new) }
+    ensures goes { GoesFurther (caller_of W.pushed W.refused waker.old) (caller_of W.pushed W.refused waker.new) }
+{
+    match act {
+        Act::Tell(to, body) => {
+            tell(rt, gates, waker, claim, to, body);
+            Ok(())
+        }
+        Act::Sys(to, node) => {
+            say(rt, gates, waker, claim, to, node);
+            Ok(())
+        }
+        Act::SuspendSelf => {
+            gates.suspend(claim);
+            Ok(())
+        }
+        Act::ResumeSelf => {
+            gates.resume(claim);
+            Ok(())
+        }
+        Act::CloseSelf => close(rt, gates, waker, claim),
+    }
+}
+
+// Closes the mailbox for good, and cleans up.
+fn close<A: Actor, K: Behaviours, W: Way<Place<A, K>>, R: Wait>(
+    rt: &R,
+    gates: &Gates<Place<A, K>>,
+    waker: &mut Waker<Place<A, K>, W>,
+    claim: &mut Claim<Place<A, K>>,
+) -> Result<(), AllocError>
+    requires ours { IsWakerOf W.origin gates.now waker.old }
+    requires running { IsRunning K.gives (origin_of gates.now) (CloseSelf ∷ claim.old.home.value.cell.acts)
+        (known_by waker.old.pass).log (hold_of claim.old) }
+    requires beside { IsBeside (hold_of claim.old) }
+    ensures ours { IsWakerOf W.origin gates.now waker.new }
+    ensures running { IsRunning K.gives (origin_of gates.now) (claim.new.home.value.cell.acts) (known_by waker.new.pass).log (hold_of claim.new) }
+    ensures beside { IsBeside (hold_of claim.new) }
+    ensures left { claim.new.home.value.cell.acts ≡ claim.old.home.value.cell.acts }
+    ensures same { KeepsJournal (hold_of claim.old) (hold_of claim.new) }
+    ensures goes { GoesFurther (caller_of W.pushed W.refused waker.old) (caller_of W.pushed W.refused waker.new) }
+{
+    gates.close_mailbox(claim);
+    clean_up(rt, gates, waker, claim)
+}

@@ -1,0 +1,20 @@
+//! A turn of a mailbox: a claim's system messages, and then some of its envelopes, each with the acts that it asks for
+//! (`akka.dispatch.Mailbox.run`).
+//!
+//! Between two steps what lies at the claim's home agrees with its journal, but for the acts that are still to be carried out.
+//! After the last step it goes home, and its actor is given to a worker again where it has to be.
+#![tactic(auto)]
+
+mod acts;
+mod clean_up;
+mod envelopes;
+mod place;
+mod run;
+mod saying;
+mod systems;
+mod telling;
+mod turn;
+
+pub use place::Place;
+pub use run::run_mailbox;
+pub use turn::Turn;
