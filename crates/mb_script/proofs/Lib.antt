@@ -1,2 +1,3 @@
 pub mod Indexing
 pub mod Keeping
+pub mod Placing

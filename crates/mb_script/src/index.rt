@@ -1,23 +1,42 @@
-//! The table that finds the first row of a kind, however many rows there are.
+//! The table that finds the first row of a kind.
 
-ghost use Rattle.std.specs.Prelude.{◌≡◌, IfOk, map, option_map};
+ghost use Rattle.std.specs.Prelude.{◌≡◌, All, IfOk, length, map, option_map};
+ghost use Rattle.std.specs.BTreeMap.{IsEmpty};
 ghost use Rattle.mb_script.specs.Index.{IsIndexFrom};
 ghost use Rattle.mb_script.specs.Script.{row_data, row_for};
 
 use crate::operation::Row;
 use std::alloc::{AllocError, Global};
-use std::collections::HashMap;
+use std::collections::BTreeMap;
 
-/// Where the first row of each kind stands.
-pub(crate) fn index_of(alloc: Global, rows: &[Row]) -> Result<HashMap<u32, usize>, AllocError>
-    ensures { IfOk result (λ index. IsIndexFrom 0 rows.now index) }
+/// Where the first row of each kind stands. There are as many maps as rows, and a kind is in the one that its
+/// remainder names: so mostly a map has few kinds, and where all are in one it is still searched in order.
+pub(crate) type Index = Vec<BTreeMap<u32, usize>>;
+
+/// The index of the rows.
+pub(crate) fn index_of(alloc: Global, rows: &[Row]) -> Result<Index, AllocError>
+    ensures { IfOk result (λ index. IsIndexFrom 0 rows.now index.items) }
 {
-    let mut index = HashMap::new(alloc);
+    let mut index = empty_maps(alloc, rows.len())?;
     // From the last row on, so that the first of a kind stays.
     let mut place = rows.len();
     while place > 0 {
         place -= 1;
-        index.insert(rows[place].kind, place)?;
+        let kind = rows[place].kind;
+        let map = kind as usize % rows.len();
+        index[map].insert(kind, place)?;
+    }
+    Ok(index)
+}
+
+/// So many maps without an entry.
+fn empty_maps(alloc: Global, count: usize) -> Result<Index, AllocError>
+    ensures count { IfOk result (λ index. length index.items ≡ count) }
+    ensures empty { IfOk result (λ index. All IsEmpty index.items) }
+{
+    let mut index = Vec::new(alloc);
+    for _ in 0..count {
+        index.push(BTreeMap::new(alloc))?;
     }
     Ok(index)
 }
@@ -25,13 +44,16 @@ pub(crate) fn index_of(alloc: Global, rows: &[Row]) -> Result<HashMap<u32, usize
 /// The first row for messages of the kind.
 pub(crate) fn first_of_kind<'a>(
     rows: &'a [Row],
-    index: &HashMap<u32, usize>,
+    index: &[BTreeMap<u32, usize>],
     kind: u32,
 ) -> Option<&'a Row>
     requires { IsIndexFrom 0 rows.now index.now }
     ensures { option_map (λ row. row_data row.now) result ≡ row_for kind (map row_data rows.now) }
 {
-    match index.get(&kind) {
+    if index.is_empty() {
+        return None;
+    }
+    match index[kind as usize % index.len()].get(&kind) {
         Some(place) => Some(&rows[*place]),
         None => None,
     }

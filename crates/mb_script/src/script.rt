@@ -1,13 +1,12 @@
 ghost use Rattle.std.specs.Prelude.{◌≡◌, IfOk, map, option_map};
 ghost use Rattle.mb_script.specs.Script.{answer_with, after_work, asked_with, row_data, work_of_kind};
 
-use crate::index::{first_of_kind, index_of};
+use crate::index::{Index, first_of_kind, index_of};
 use crate::operation::{Operation, Row};
 use crate::perform::{Performed, perform};
 use mb_actor::{Actor, Answer, Message, Outbox};
 use mb_msg::Cause;
 use std::alloc::{AllocError, Global};
-use std::collections::HashMap;
 use std::marker::Model;
 
 /// What a script does beside its rows.
@@ -31,7 +30,7 @@ pub struct Script {
     initial: i64,
     hooks: Hooks,
     rows: Vec<Row>,
-    index: HashMap<u32, usize>,
+    index: Index,
     state: i64,
 }
 

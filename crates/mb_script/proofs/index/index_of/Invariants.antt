@@ -1,4 +1,4 @@
-use Rattle.std.proofs.Common.{◌≤◌, length}
+use Rattle.std.proofs.Common.{◌≡◌, ◌≤◌, length}
 use Rattle.mb_script.specs.Index.{IsIndexFrom}
 use Rattle.mb_script.proofs.index.index_of.Given as goal
 
@@ -6,7 +6,8 @@ use Rattle.mb_script.proofs.index.index_of.Given as goal
 abbrev pub invariant-loop-place : goal.invariant-loop-place
 invariant-loop-place l = record {
   within : l.place ≤ length l.rows;
-  indexed : IsIndexFrom l.place l.rows l.index;
+  count : length l.index.items ≡ length l.rows;
+  indexed : IsIndexFrom l.place l.rows l.index.items;
 }
 
 abbrev pub decreases-loop-place : goal.decreases-loop-place
