@@ -1,14 +1,22 @@
 -- The worked scenario: what it says of a whole small document is computed from the definitions.
 use Rattle.std.proofs.Common.{◌≡◌, ℕ, pos, negsuc, List, [], ◌∷◌, ◌++◌, codes, Option, Some, None, option_map, false, true, refl}
+use Rattle.std.proofs.Common.{◌<◌, ◌⊎◌, inl, inr, length, replicate, subst, sym, ap, arith}
+use Rattle.std.proofs.lemmas.List.{length-replicate}
 use Rattle.std.specs.Fmt.{digits}
 use Rattle.toml.proofs.OnLiterals.{toml_on_literals}
 use Rattle.toml.specs.Parse.{parse_document}
+use Rattle.mb_format.specs.Place.{Fault as Found, reason_text}
 use Rattle.mb_journal.specs.declared.strategy.Pattern.TheVariants.{AnyError}
 use Rattle.mb_msg.specs.declared.envelope.Body.TheVariants.{User}
 use Rattle.mb_msg.specs.declared.supervision.Directive.TheVariants.{Resume}
 use Rattle.mb_plan.specs.declared.plan.Pool.TheVariants.{Shared, Stealing}
 use Rattle.mb_script.specs.declared.operation.Operation.TheVariants.{Add, Spawn}
 use Rattle.mb_reader.specs.Plans.{ScenarioData, StrategyData, scenario_of, unbounded, bounded}
+use Rattle.mb_reader.specs.Fault.{fault_text}
+use Rattle.mb_reader.specs.Limits.{most_bytes}
+use Rattle.mb_reader.specs.Reading.{IsReadAs, Refuses, too_long, in_document}
+use Rattle.mb_reader.specs.declared.fault.Fault.{Fault}
+use Rattle.mb_reader.specs.declared.fault.Fault.TheVariants.{NoMemory, NotToml, BadScenario}
 use Rattle.mb_reader.specs.declared.scenario.What.TheVariants.{Envelope, Stop}
 
 -- the scenario that a text is, where it is a document
@@ -78,3 +86,39 @@ family : says (codes "throughput = 2\npool = \"stealing\"\n[[actor]]\nname = \"p
     })
 unfolding toml_on_literals digits
 family = refl
+
+-- of a text that is too long that alone is told, or that memory was refused
+told_of_long_texts : (text : List ℕ) → most_bytes < length text → (fault : Fault) → Refuses text fault
+    → (fault_text fault ≡ codes "1 NoMemory") ⊎ (fault_text fault ≡ codes "12 BadScenario input: too many")
+told_of_long_texts text long NoMemory h = inl refl
+told_of_long_texts text long NotToml h = absurd (grind (arith, long, h.0))
+told_of_long_texts text long (BadScenario place reason) (too_long more is) =
+    inr (ap (λ (f : Found). codes "12 BadScenario " ++ f.place ++ codes ": " ++ reason_text f.reason) is)
+told_of_long_texts text long (BadScenario place reason) (in_document document is found) = absurd (grind (arith, long, is.short))
+
+-- it is no scenario
+long_texts_are_none : (text : List ℕ) → most_bytes < length text → (scenario : ScenarioData) → IsReadAs text scenario → ⊥
+long_texts_are_none text long scenario h = grind (arith, long, h.1.short)
+
+-- so many spaces
+abbrev spaces : ℕ → List ℕ
+spaces n = replicate n 32
+
+-- they are longer than the limit where their number is above it
+spaces_are_long : (n : ℕ) → most_bytes < n → most_bytes < length (spaces n)
+spaces_are_long n above = subst (λ k. most_bytes < k) (sym (length-replicate n 32)) above
+
+told_of_so_many : (n : ℕ) → most_bytes < n → (fault : Fault) → Refuses (spaces n) fault
+    → (fault_text fault ≡ codes "1 NoMemory") ⊎ (fault_text fault ≡ codes "12 BadScenario input: too many")
+told_of_so_many n above = told_of_long_texts (spaces n) (spaces_are_long n above)
+
+so_many_are_none : (n : ℕ) → most_bytes < n → (scenario : ScenarioData) → IsReadAs (spaces n) scenario → ⊥
+so_many_are_none n above = long_texts_are_none (spaces n) (spaces_are_long n above)
+
+-- 1,048,577 spaces
+told_of_spaces : (fault : Fault) → Refuses (spaces 1048577) fault
+    → (fault_text fault ≡ codes "1 NoMemory") ⊎ (fault_text fault ≡ codes "12 BadScenario input: too many")
+told_of_spaces = told_of_so_many 1048577 (omega arith)
+
+spaces_are_none : (scenario : ScenarioData) → IsReadAs (spaces 1048577) scenario → ⊥
+spaces_are_none = so_many_are_none 1048577 (omega arith)
