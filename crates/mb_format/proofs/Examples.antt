@@ -48,12 +48,17 @@ capacity_zero : found_in (codes "[[actor]]\nname = \"a\"\nmailbox = \"bounded\"\
 unfolding toml_on_literals digits
 capacity_zero = refl
 
-add_with_a_number : found_in (codes "[[actor]]\nname = \"a\"\n[[actor.on]]\nkind = 1\ndo = [\"add 1\"]\n")
-    ≡ fault (codes "actor 1 on 1 do 1") BadOp
+-- an actor that adds up three sends: with this operation, and with these keys of its first send
+abbrev counter : List ℕ → List ℕ → List ℕ
+counter operation times = codes "workers = 0\n[[actor]]\nname = \"a\"\n[[actor.on]]\nkind = 1\ndo = [\"" ++ operation ++ codes "\"]\n"
+    ++ codes "[[send]]\nto = \"a\"\nkind = 1\nvalue = 1\n" ++ times
+    ++ codes "[[send]]\nto = \"a\"\nkind = 1\nvalue = 2\n[[send]]\nto = \"a\"\nkind = 1\nvalue = 3\n"
+
+add_with_a_number : found_in (counter (codes "add 1") []) ≡ fault (codes "actor 1 on 1 do 1") BadOp
 unfolding toml_on_literals digits
 add_with_a_number = refl
 
-times_zero : found_in (codes "[[actor]]\nname = \"a\"\n[[send]]\nto = \"a\"\nkind = 1\ntimes = 0\n") ≡ fault (codes "send 1 times") OutOfRange
+times_zero : found_in (counter (codes "add") (codes "times = 0\n")) ≡ fault (codes "send 1 times") OutOfRange
 unfolding toml_on_literals digits
 times_zero = refl
 
@@ -67,7 +72,7 @@ unfolding toml_on_literals digits
 no_text = refl
 
 -- a document in which nothing is wrong
-nothing_wrong : found_in (codes "[[actor]]\nname = \"a\"\n[[actor.on]]\nkind = 1\ndo = [\"add\"]\n[[send]]\nto = \"a\"\nkind = 1\n") ≡ Some None
+nothing_wrong : found_in (counter (codes "add") []) ≡ Some None
 unfolding toml_on_literals digits
 nothing_wrong = refl
 
