@@ -1,4 +1,4 @@
-use Rattle.std.proofs.Common.{◌≡◌, true, false, Err, List, length, map, sym, ap, subst, ◌∙◌, arith, string_bytes, String}
+use Rattle.std.proofs.Common.{◌≡◌, true, false, Err, List, length, map, sym, ap, subst, ◌∙◌, arith, string_bytes, String, rules}
 use Rattle.std.specs.List.{list_all}
 use Rattle.std.specs.declared.alloc.Global.{Global}
 use Rattle.std.proofs.lemmas.Grind.{common_steps}
@@ -82,3 +82,9 @@ returns-clause-report c =
           (c.in_ok-report_text.ensures
           ∙ ap (λ (l : List (String Global)). report_text_of (map string_bytes l) c.in-Ok.report) c.deref-2.ensures.value),
     )
+
+pub returns-clause-refused : goal.returns-clause-refused
+returns-clause-refused c = search rules
+
+pub returns-then-not-can_run-clause-report : goal.returns-then-not-can_run-clause-report
+returns-then-not-can_run-clause-report c = search rules

@@ -1,4 +1,4 @@
-use Rattle.std.proofs.Common.{arith, ◌≡◌, true}
+use Rattle.std.proofs.Common.{arith, ◌≡◌, true, rules}
 use Rattle.std.proofs.lemmas.Grind.{common_steps}
 use Rattle.mb_program.proofs.Endings.{answered_not_refused, failed_before, failed_writing, has_reported, nothing_for_refused, refused_not_zero}
 use Rattle.mb_program.specs.declared.failure.Failure.TheVariants.{Os}
@@ -31,3 +31,24 @@ returns-clause-silent g c = nothing_for_refused _ _ _
 
 pub returns-in-Ok-clause-silent : goal.returns-in-Ok-clause-silent
 returns-in-Ok-clause-silent g c = answered_not_refused _ _ _ c.in-Ok.ensures.report.1
+
+pub returns-clause-status : goal.returns-clause-status
+returns-clause-status g c = search rules
+
+pub returns-clause-no_failure : goal.returns-clause-no_failure
+returns-clause-no_failure g c = search rules
+
+pub returns-in-Ok-clause-status : goal.returns-in-Ok-clause-status
+returns-in-Ok-clause-status g c = search rules
+
+pub returns-in-Ok-clause-no_failure : goal.returns-in-Ok-clause-no_failure
+returns-in-Ok-clause-no_failure g c = search rules
+
+pub returns-in-Ok-send-clause-status : goal.returns-in-Ok-send-clause-status
+returns-in-Ok-send-clause-status g c = search rules
+
+pub returns-in-Ok-send-clause-no_error : goal.returns-in-Ok-send-clause-no_error
+returns-in-Ok-send-clause-no_error g c = search rules
+
+pub returns-in-Ok-send-clause-failed : goal.returns-in-Ok-send-clause-failed
+returns-in-Ok-send-clause-failed g c = search rules

@@ -1,4 +1,4 @@
-use Rattle.std.proofs.Common.{refl}
+use Rattle.std.proofs.Common.{refl, rules}
 use Rattle.mb_reader.specs.declared.fault.Fault.TheVariants.{NoMemory}
 use Rattle.mb_program.specs.declared.failure.Failure.TheVariants.{Input}
 use Rattle.mb_program.proofs.Endings.{said_no_memory}
@@ -6,3 +6,6 @@ use Rattle.mb_program.proofs.drive.refuse.Goals as goal
 
 pub returns-in-Err : goal.returns-in-Err
 returns-in-Err g c = (Input NoMemory, said_no_memory _ _ c.in-Input.is, refl, c.say-in-Err.ensures)
+
+pub returns : goal.returns
+returns g c = search rules

@@ -1,4 +1,4 @@
-use Rattle.std.proofs.Common.{arith, ℕ, length-take}
+use Rattle.std.proofs.Common.{arith, ℕ, length-take, rules}
 use Rattle.mb_program.proofs.InputLemmas.{read_in_full, read_to_the_end, takes_more}
 use Rattle.mb_program.proofs.input.read_input.Goals as goal
 
@@ -14,3 +14,12 @@ pub returns-in_err-extend_from_slice-clause-taken : goal.returns-in_err-extend_f
 returns-in_err-extend_from_slice-clause-taken g c =
     let bound = c.in-Ok.ensures.bound in
     takes_more 1048577 _ _ _ _ _ c.loop-chunk.invariant.read c.in-Ok.ensures.bytes.0 (omega (arith, bound, length-take {A = ℕ}))
+
+pub returns-in-Err-clause-failure : goal.returns-in-Err-clause-failure
+returns-in-Err-clause-failure g c = search rules
+
+pub returns-in-Err-clause-taken : goal.returns-in-Err-clause-taken
+returns-in-Err-clause-taken g c = search rules
+
+pub returns-clause-taken : goal.returns-clause-taken
+returns-clause-taken g c = search rules

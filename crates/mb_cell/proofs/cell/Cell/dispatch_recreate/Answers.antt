@@ -1,4 +1,4 @@
-use Rattle.std.proofs.Common.{sym, ◌∙◌}
+use Rattle.std.proofs.Common.{sym, ◌∙◌, rules}
 use Rattle.mb_cell.specs.Nothing.DoesNothing.{fresh_recreate, of_guardian}
 use Rattle.mb_cell.proofs.DispatchLemmas.{is_fresh}
 use Rattle.mb_cell.proofs.cell.Cell.dispatch_recreate.Goals as goal
@@ -10,3 +10,6 @@ apply_nothing-requires-clause-nothing g c =
       | then-is_fresh w ↦ fresh_recreate c.args.cause (is_fresh _ (sym c.is_fresh.ensures ∙ w.if-is_fresh.true))
       | else-is_fresh w ↦ of_guardian c.args.cause (sym w.is_guardian.ensures ∙ (sym w.value-is ∙ c.if-is_guardian.true))
     ]
+
+pub apply_recreate-requires-clause-an_actor : goal.apply_recreate-requires-clause-an_actor
+apply_recreate-requires-clause-an_actor g c = search rules

@@ -1,4 +1,4 @@
-use Rattle.std.proofs.Common.{◌≡◌, ℕ, [], true, false, refl, ap, sym, ◌∙◌, subst, arith}
+use Rattle.std.proofs.Common.{◌≡◌, ℕ, [], true, false, refl, ap, sym, ◌∙◌, subst, arith, rules}
 use Rattle.std.specs.Prelude.{Option, Some, None, is_some, is_none, IfSome}
 use Rattle.mb_actor.specs.Behaviour.{AllowsSame}
 use Rattle.mb_actor.specs.Called.{Called}
@@ -63,3 +63,6 @@ invariant_of-result-2 g c = (
 
 pub returns-clause-lawful : goal.returns-clause-lawful
 returns-clause-lawful g c = (invariant_of-result-2 g c).0.lawful
+
+pub returns-clause-fresh : goal.returns-clause-fresh
+returns-clause-fresh g c = search rules

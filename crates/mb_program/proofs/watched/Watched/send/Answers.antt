@@ -1,4 +1,4 @@
-use Rattle.std.proofs.Common.{◌-◌, arith, length, take, drop, length-take, length-drop, ℕ}
+use Rattle.std.proofs.Common.{◌-◌, arith, length, take, drop, length-take, length-drop, ℕ, rules}
 use Rattle.std.proofs.lemmas.Grind.{common_steps}
 use Rattle.std.specs.Io.KnownBytes.{Appends}
 use Rattle.mb_program.proofs.WrittenLemmas.{rest_written}
@@ -15,3 +15,9 @@ loop-sent-preserved g c =
       so_far = rest_written (g.W.Write.contents c.args.self.now.stream) _ _ bytes sent c.in-Ok.count c.loop-sent.invariant.so_far part;
       same = grind (arith, common_steps);
     }
+
+pub returns-clause-whole : goal.returns-clause-whole
+returns-clause-whole g c = grind (arith, common_steps)
+
+pub returns-clause-watched : goal.returns-clause-watched
+returns-clause-watched g c = search rules
