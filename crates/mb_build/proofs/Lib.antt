@@ -1,0 +1,12 @@
+pub mod CellLemmas
+pub mod FreshLemmas
+pub mod HandedLemmas
+pub mod HomeLemmas
+pub mod HouseLemmas
+pub mod KindLemmas
+pub mod NumberLemmas
+pub mod OwnLemmas
+pub mod PlannedLemmas
+pub mod QueueLemmas
+pub mod ReasonLemmas
+pub mod RollLemmas
