@@ -1,4 +1,4 @@
-use Rattle.std.proofs.Common.{length, ap, arith}
+use Rattle.std.proofs.Common.{length, ap, arith, rules}
 use Rattle.mb_run.proofs.EnvelopeStep.{envelope_step, may_handle}
 use Rattle.mb_run.specs.Rest.{world}
 use Rattle.mb_run.proofs.mailbox.handle_next.Goals as goal
@@ -30,3 +30,6 @@ returns-clause-next g c =
           c.in-Some.envelope c.pop_front.new.self.items _ c.requires.quiet c.requires.rest c.in_ok-ready.ensures.ok items
           c.apply_envelope.ensures.taken c.apply_envelope.ensures.lawful).turn,
     )
+
+pub returns-in_err-ready-clause-full : goal.returns-in_err-ready-clause-full
+returns-in_err-ready-clause-full c = search rules

@@ -1,4 +1,4 @@
-use Rattle.std.proofs.Common.{◌≡◌, [], sym, subst, arith}
+use Rattle.std.proofs.Common.{◌≡◌, [], sym, subst, arith, rules}
 use Rattle.std.proofs.lemmas.Grind.{common_steps}
 use Rattle.mb_journal.specs.Identity.{Identity}
 use Rattle.mb_journal.specs.Run.IsBlock.{no_more}
@@ -40,3 +40,6 @@ loop-status-preserved g c =
       runs = subst (λ (w : Identity). IsRunOn w c.args.throughput new) who
           (run_on c.args.throughput old new c.in_ok-run_mailbox-2.field-0 old.cell.journal whole no_more before);
     }
+
+pub returns-clause-none_left : goal.returns-clause-none_left
+returns-clause-none_left c = grind (arith, common_steps)

@@ -1,4 +1,4 @@
-use Rattle.std.proofs.Common.{◌≡◌, ◌≤◌, false, length, ap, sym, ◌∙◌, arith}
+use Rattle.std.proofs.Common.{◌≡◌, ◌≤◌, false, length, ap, sym, ◌∙◌, arith, rules}
 use Rattle.mb_journal.proofs.StoredLemmas.{length-entries}
 use Rattle.std.specs.Prelude.{Result, Ok, Err, is_err, OnOk}
 use Rattle.mb_journal.specs.Log.{Log}
@@ -31,3 +31,21 @@ invariant_of-self-2 c =
           (omega (arith, c.self.inside.rows.ok.0), omega arith);
       effect_room = λ e. on_ok _ _ (sym c.if-is_err-2.false ∙ c.is_err-2.ensures.value) c.reserve-2.ensures.ok;
     }
+
+pub returns-then-is_full-clause-full : goal.returns-then-is_full-clause-full
+returns-then-is_full-clause-full c = search rules
+
+pub returns-then-is_full-clause-err : goal.returns-then-is_full-clause-err
+returns-then-is_full-clause-err c = search rules
+
+pub returns-then-is_err-2-clause-err : goal.returns-then-is_err-2-clause-err
+returns-then-is_err-2-clause-err c = search rules
+
+pub returns-then-is_err-clause-err : goal.returns-then-is_err-clause-err
+returns-then-is_err-clause-err c = search rules
+
+pub returns-clause-ok : goal.returns-clause-ok
+returns-clause-ok c = search rules
+
+pub invariant_of-self : goal.invariant_of-self
+invariant_of-self c = search rules
