@@ -33,7 +33,6 @@ pub fn turns<R: Clock + Threads + Wait + Sync>(rt: &R, alloc: Global, kind: Kind
 }
 
 /// The pairs of workers, and how often each did its work.
-#[tactic(auto, using(crate::proofs::Crossing::worker_crosses))]
 fn four<R: Threads + Wait + Sync>(
     rt: &R,
     gates: &Gates<Desk>,
@@ -56,7 +55,6 @@ fn four<R: Threads + Wait + Sync>(
     )
 }
 
-#[tactic(auto, using(crate::proofs::Crossing::worker_crosses))]
 fn two<R: Threads + Wait + Sync>(rt: &R, gates: &Gates<Desk>, pair: Pair) -> (Pair, u64)
     requires { AreReady gates.now pair }
     ensures { AreReady gates.now result.0 }
