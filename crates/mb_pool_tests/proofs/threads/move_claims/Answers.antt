@@ -13,21 +13,21 @@ put_back {H} old rest now new x y was is front last =
     ap (map (parts_of {H = H})) is ∙ map_last (parts_of {H = H}) now rest y x front last ∙ sym (ap (map (parts_of {H = H})) was)
 
 pub all_work-first-requires-clause-third : goal.all_work-first-requires-clause-third
-all_work-first-requires-clause-third g c =
+all_work-first-requires-clause-third g c κs within =
     let s = c.in_ok-gates.field-0 in let ours = λ (w : Way _). gates_of w ≡ Some s.pool.gates in
     let all : All ours (c.pop.new.self.items ++ c.in-Some.third ∷ []) =
         subst (All ours) c.in-Some.ensures.items (ends_gates s.pool s.ends.items s.are_ends) in
     all_last ours c.pop.new.self.items c.in-Some.third all ∙ ap (λ o. Some o) s.these
 
 pub all_work-first-requires-clause-second : goal.all_work-first-requires-clause-second
-all_work-first-requires-clause-second g c =
+all_work-first-requires-clause-second g c κs within =
     let s = c.in_ok-gates.field-0 in let ours = λ (w : Way _). gates_of w ≡ Some s.pool.gates in
     let all = subst (All ours) c.in-Some.ensures.items (ends_gates s.pool s.ends.items s.are_ends) in
     let front = subst (All ours) c.in-Some-pop.ensures.items (all_front ours c.pop.new.self.items (c.in-Some.third ∷ []) all) in
     all_last ours c.pop-2.new.self.items c.in-Some-pop.second front ∙ ap (λ o. Some o) s.these
 
 pub all_work-first-requires-clause-first : goal.all_work-first-requires-clause-first
-all_work-first-requires-clause-first g c =
+all_work-first-requires-clause-first g c κs within =
     let s = c.in_ok-gates.field-0 in let ours = λ (w : Way _). gates_of w ≡ Some s.pool.gates in
     let all = subst (All ours) c.in-Some.ensures.items (ends_gates s.pool s.ends.items s.are_ends) in
     let front = subst (All ours) c.in-Some-pop.ensures.items (all_front ours c.pop.new.self.items (c.in-Some.third ∷ []) all) in
@@ -35,7 +35,7 @@ all_work-first-requires-clause-first g c =
     all_last ours c.pop-3.new.self.items c.in-Some-pop-2.first head ∙ ap (λ o. Some o) s.these
 
 pub all_work-first-requires-clause-feed : goal.all_work-first-requires-clause-feed
-all_work-first-requires-clause-feed g c =
+all_work-first-requires-clause-feed g c κs within =
     let s = c.in_ok-gates.field-0 in let ours = λ (w : Way _). gates_of w ≡ Some s.pool.gates in
     let all = subst (All ours) c.in-Some-pop-3.ensures.items (feeds_gates s.pool s.feeds.items s.are_feeds) in
     all_last ours c.pop-4.new.self.items c.in-Some-pop-3.feed all ∙ ap (λ o. Some o) s.these
