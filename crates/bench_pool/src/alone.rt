@@ -2,8 +2,9 @@
 ghost use Rattle.bench_pool.specs.Ready.{IsReady};
 
 use crate::shown::{Figure, Made, ROUNDS, elapsed};
-use crate::worker::{work, workers};
-use mb_desk::gates_of;
+use crate::worker::{Worker, work, workers};
+use mb_desk::{Desk, gates_of};
+use mb_gate::Gates;
 use mb_pool::Kind;
 use std::alloc::Global;
 use std::sync::Wait;
@@ -13,13 +14,19 @@ use std::time::{Clock, Instant};
 pub fn turns<R: Clock + Wait>(rt: &R, alloc: Global, kind: Kind) -> Made {
     let (gates, mut pass) = gates_of(alloc, 1).ok()?;
     let mut all = workers(alloc, &gates, &mut pass, kind, 1)?;
-    let mut worker = all.pop()?;
-    let mut times = Vec::with_capacity(alloc, 9).ok()?;
+    let worker = all.pop()?;
+    Some(rounds(rt, &gates, worker))
+}
+
+fn rounds<R: Clock + Wait>(rt: &R, gates: &Gates<Desk>, mut worker: Worker) -> Figure
+    requires { IsReady gates.now worker }
+{
+    let mut times = [0u64; ROUNDS];
     let mut done = 0;
-    for _ in 0..ROUNDS {
+    for round in 0..ROUNDS {
         let begin = Instant::now(rt).ok();
-        (worker, done) = work(rt, &gates, worker);
-        times.push(elapsed(rt, begin)).ok()?;
+        (worker, done) = work(rt, gates, worker);
+        times[round] = elapsed(rt, begin);
     }
-    Some(Figure { done, times })
+    Figure { done, times }
 }

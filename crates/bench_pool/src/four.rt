@@ -1,4 +1,5 @@
 //! Four ends on four threads.
+ghost use Rattle.std.specs.Prelude.{All, IfSome};
 ghost use Rattle.bench_pool.specs.Ready.{AreReady, IsReady};
 
 use crate::shown::{Figure, Made, ROUNDS, elapsed};
@@ -17,19 +18,42 @@ type Pair = (Worker, Worker);
 pub fn turns<R: Clock + Threads + Wait + Sync>(rt: &R, alloc: Global, kind: Kind) -> Made {
     let (gates, mut pass) = gates_of(alloc, 4).ok()?;
     let mut all = workers(alloc, &gates, &mut pass, kind, 4)?;
-    let mut first = (all.pop()?, all.pop()?);
-    let mut second = (all.pop()?, all.pop()?);
-    let mut times = Vec::with_capacity(alloc, 9).ok()?;
+    let first = two_of(&gates, &mut all)?;
+    let second = two_of(&gates, &mut all)?;
+    Some(rounds(rt, &gates, first, second))
+}
+
+/// The last two of these workers, if there are two.
+fn two_of(gates: &Gates<Desk>, all: &mut Vec<Worker>) -> Option<Pair>
+    requires { All (IsReady gates.now) all.old.items }
+    ensures rest { All (IsReady gates.now) all.new.items }
+    ensures pair { IfSome result (AreReady gates.now) }
+{
+    let _ = gates;
+    let a = all.pop()?;
+    let b = all.pop()?;
+    Some((a, b))
+}
+
+fn rounds<R: Clock + Threads + Wait + Sync>(
+    rt: &R,
+    gates: &Gates<Desk>,
+    mut first: Pair,
+    mut second: Pair,
+) -> Figure
+    requires { AreReady gates.now first × AreReady gates.now second }
+{
+    let mut times = [0u64; ROUNDS];
     let mut done = 0u64;
-    for _ in 0..ROUNDS {
+    for round in 0..ROUNDS {
         let begin = Instant::now(rt).ok();
-        let (a, b) = four(rt, &gates, first, second);
-        times.push(elapsed(rt, begin)).ok()?;
+        let (a, b) = four(rt, gates, first, second);
+        times[round] = elapsed(rt, begin);
         first = a.0;
         second = b.0;
         done = a.1.wrapping_add(b.1);
     }
-    Some(Figure { done, times })
+    Figure { done, times }
 }
 
 /// The pairs of workers, and how often each did its work.

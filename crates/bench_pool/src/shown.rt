@@ -5,7 +5,7 @@ use std::time::{Clock, Duration, Instant};
 /// How often the work was done in each round, and how long the rounds took where the system says.
 pub struct Figure {
     pub done: u64,
-    pub times: Vec<u64>,
+    pub times: [u64; ROUNDS],
 }
 
 /// A figure, or that memory was refused.
@@ -15,7 +15,7 @@ pub type Made = Option<Figure>;
 pub const TURNS: u64 = 1_000_000;
 
 /// How many rounds are timed.
-pub const ROUNDS: u64 = 9;
+pub const ROUNDS: usize = 9;
 
 /// The nanoseconds since then, or 0 where the system does not say.
 pub fn elapsed<R: Clock>(rt: &R, begin: Option<Instant>) -> u64 {
@@ -32,10 +32,9 @@ pub fn show<R: Print + Eprint>(rt: &R, what: &str, made: Made) -> io::Result<()>
     };
     println!(rt; "{what}: {done} done")?;
     times.sort_unstable();
-    if let Some(median) = times.get(times.len() / 2) {
-        let whole = median / TURNS;
-        let tenth = median % TURNS * 10 / TURNS;
-        let _ = eprintln!(rt; "{what}: {whole}.{tenth} ns each, the median of {ROUNDS} rounds");
-    }
+    let median = times[ROUNDS / 2];
+    let whole = median / TURNS;
+    let tenth = median % TURNS * 10 / TURNS;
+    let _ = eprintln!(rt; "{what}: {whole}.{tenth} ns each, the median of {ROUNDS} rounds");
     Ok(())
 }

@@ -34,18 +34,41 @@ pub fn workers(
     requires there { (0 < count) × (count ≤ actors_of gates.now) }
     ensures { IfSome result (λ workers. All (IsReady gates.now) workers.items) }
 {
-    let (_pool, mut ends, _feeds) = Pool::new(alloc, gates, kind, count as usize, 0).ok()?;
-    let mut workers = Vec::with_capacity(alloc, ends.len()).ok()?;
+    let Ok((_pool, mut ends, _feeds)) = Pool::new(alloc, gates, kind, count as usize, 0) else {
+        return None;
+    };
+    let Ok(mut workers) = Vec::with_capacity(alloc, ends.len()) else {
+        return None;
+    };
     for number in 0..count {
-        let end = ends.pop()?;
-        let worker = Worker {
-            end,
-            pass: gates.another(pass),
-            actor: ActorId(number),
+        let Some(end) = ends.pop() else {
+            return None;
         };
-        workers.push(worker).ok()?;
+        let worker = worker_of(gates, pass, end, ActorId(number));
+        let Ok(()) = workers.push(worker) else {
+            return None;
+        };
     }
     Some(workers)
+}
+
+fn worker_of(
+    gates: &Gates<Desk>,
+    pass: &mut Pass<Desk>,
+    end: WorkerEnd<Desk>,
+    actor: ActorId,
+) -> Worker
+    requires ours { pass_id pass.old ≡ gates_id gates.now }
+    requires there { actor.0 < actors_of gates.now }
+    requires these { gates_of end ≡ Some (origin_of gates.now) }
+    ensures ours { pass_id pass.new ≡ gates_id gates.now }
+    ensures ready { IsReady gates.now result }
+{
+    Worker {
+        end,
+        pass: gates.another(pass),
+        actor,
+    }
 }
 
 /// The worker, and how often it pushed its actor's claim and took one.

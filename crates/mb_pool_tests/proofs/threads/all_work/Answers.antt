@@ -11,8 +11,7 @@ use Rattle.mb_pool_tests.proofs.threads.all_work.Goals as goal
 pub join-requires-send-F : goal.join-requires-send-F
 join-requires-send-F g c κs within =
     captured 1 _ _
-    (ShrRef _ _ (param 0 g.row.R) ∷ ShrRef _ _ TheGates ∷ TheEnd ∷ ThePass ∷ TheEnd ∷ ThePass ∷ ShrRef _ _ TheNumber ∷ [])
-    (
+    (ShrRef _ _ (param 0 g.row.R) ∷ ShrRef _ _ TheGates ∷ TheEnd ∷ ThePass ∷ TheEnd ∷ ThePass ∷ ShrRef _ _ TheNumber ∷ []) (
       search (sendable, c.type_bounds.sync-R),
       (
         search (sendable, gates_shared),

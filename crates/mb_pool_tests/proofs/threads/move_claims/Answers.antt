@@ -16,7 +16,7 @@ pub all_work-first-requires-clause-third : goal.all_work-first-requires-clause-t
 all_work-first-requires-clause-third g c κs within =
     let s = c.in_ok-gates.field-0 in let ours = λ (w : Way _). gates_of w ≡ Some s.pool.gates in
     let all : All ours (c.pop.new.self.items ++ c.in-Some.third ∷ []) =
-        subst (All ours) c.in-Some.ensures.items (ends_gates s.pool s.ends.items s.are_ends) in
+    subst (All ours) c.in-Some.ensures.items (ends_gates s.pool s.ends.items s.are_ends) in
     all_last ours c.pop.new.self.items c.in-Some.third all ∙ ap (λ o. Some o) s.these
 
 pub all_work-first-requires-clause-second : goal.all_work-first-requires-clause-second
