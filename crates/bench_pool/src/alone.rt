@@ -1,7 +1,7 @@
 //! One end on one thread.
 ghost use Rattle.bench_pool.specs.Ready.{IsReady};
 
-use crate::shown::{Figure, Made, ROUNDS, elapsed};
+use crate::shown::{Figure, Made, ROUNDS, elapsed, median};
 use crate::worker::{Worker, work, workers};
 use mb_desk::{Desk, gates_of};
 use mb_gate::Gates;
@@ -28,5 +28,8 @@ fn rounds<R: Clock + Wait>(rt: &R, gates: &Gates<Desk>, mut worker: Worker) -> F
         (worker, done) = work(rt, gates, worker);
         times[round] = elapsed(rt, begin);
     }
-    Figure { done, times }
+    Figure {
+        done,
+        median: median(times),
+    }
 }

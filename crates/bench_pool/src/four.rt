@@ -2,7 +2,7 @@
 ghost use Rattle.std.specs.Prelude.{All, IfSome};
 ghost use Rattle.bench_pool.specs.Ready.{AreReady, IsReady};
 
-use crate::shown::{Figure, Made, ROUNDS, elapsed};
+use crate::shown::{Figure, Made, ROUNDS, elapsed, median};
 use crate::worker::{Worker, work, workers};
 use mb_desk::{Desk, gates_of};
 use mb_gate::Gates;
@@ -53,7 +53,10 @@ fn rounds<R: Clock + Threads + Wait + Sync>(
         second = b.0;
         done = a.1.wrapping_add(b.1);
     }
-    Figure { done, times }
+    Figure {
+        done,
+        median: median(times),
+    }
 }
 
 /// The pairs of workers, and how often each did its work.

@@ -2,10 +2,10 @@
 use std::io;
 use std::time::{Clock, Duration, Instant};
 
-/// How often the work was done in each round, and how long the rounds took where the system says.
+/// How often the work was done in each round, and how long the round in the middle took where the system says.
 pub struct Figure {
     pub done: u64,
-    pub times: [u64; ROUNDS],
+    pub median: u64,
 }
 
 /// A figure, or that memory was refused.
@@ -26,13 +26,17 @@ pub fn elapsed<R: Clock>(rt: &R, begin: Option<Instant>) -> u64 {
     }
 }
 
+/// The time in the middle.
+pub fn median(mut times: [u64; ROUNDS]) -> u64 {
+    times.sort_unstable();
+    times[ROUNDS / 2]
+}
+
 pub fn show<R: Print + Eprint>(rt: &R, what: &str, made: Made) -> io::Result<()> {
-    let Some(Figure { done, mut times }) = made else {
+    let Some(Figure { done, median }) = made else {
         return println!(rt; "{what}: no memory");
     };
     println!(rt; "{what}: {done} done")?;
-    times.sort_unstable();
-    let median = times[ROUNDS / 2];
     let whole = median / TURNS;
     let tenth = median % TURNS * 10 / TURNS;
     let _ = eprintln!(rt; "{what}: {whole}.{tenth} ns each, the median of {ROUNDS} rounds");
