@@ -1,6 +1,6 @@
 -- The gates are shared by threads, and the passes, the ends and the feed of a pool of these claims go to threads of their own.
 use denote.RattleType.{RattleType}
-use denote.Param.Send.{IsSend, IsSync}
+use denote.Param.Send.{IsSend}
 use Rattle.std.specs.contracts.sync.atomic.AtomicU64 as number
 use Rattle.mb_gate.specs.contracts.gates.Gates as gates
 use Rattle.mb_gate.specs.contracts.pass.Pass as pass

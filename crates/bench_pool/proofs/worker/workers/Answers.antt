@@ -25,5 +25,5 @@ loop-number-preserved c =
       c.worker_of-worker.ensures.ours,
       all_front ours c.pop.new.self.items (c.in-Some.end ∷ []) (subst (All ours) c.in-Some.ensures.items c.loop-number.invariant.1),
       subst (All ready) (sym c.in-Ok-push.ensures.items)
-      (All-push ready c.loop-number.workers.items c.worker_of-worker.result c.loop-number.invariant.2 c.worker_of-worker.ensures.ready),
+          (All-push ready c.loop-number.workers.items c.worker_of-worker.result c.loop-number.invariant.2 c.worker_of-worker.ensures.ready),
     )
