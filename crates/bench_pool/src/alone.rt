@@ -1,0 +1,35 @@
+//! One end on one thread.
+ghost use Rattle.bench_pool.specs.Ready.{IsReady};
+
+use crate::shown::{Figure, Made, ROUNDS, elapsed, median};
+use crate::worker::{Worker, work, workers};
+use mb_desk::{Desk, gates_of};
+use mb_gate::Gates;
+use mb_pool::Kind;
+use std::alloc::Global;
+use std::sync::Wait;
+use std::time::{Clock, Instant};
+
+/// A claim is pushed and taken again.
+pub fn turns<R: Clock + Wait>(rt: &R, alloc: Global, kind: Kind) -> Made {
+    let (gates, mut pass) = gates_of(alloc, 1).ok()?;
+    let mut all = workers(alloc, &gates, &mut pass, kind, 1)?;
+    let worker = all.pop()?;
+    Some(rounds(rt, &gates, worker))
+}
+
+fn rounds<R: Clock + Wait>(rt: &R, gates: &Gates<Desk>, mut worker: Worker) -> Figure
+    requires { IsReady gates.now worker }
+{
+    let mut times = [0u64; ROUNDS];
+    let mut done = 0;
+    for round in 0..ROUNDS {
+        let begin = Instant::now(rt).ok();
+        (worker, done) = work(rt, gates, worker);
+        times[round] = elapsed(rt, begin);
+    }
+    Figure {
+        done,
+        median: median(times),
+    }
+}
