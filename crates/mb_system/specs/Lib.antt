@@ -1,0 +1,3 @@
+pub mod Enrolled
+pub mod Members
+pub mod Orders
