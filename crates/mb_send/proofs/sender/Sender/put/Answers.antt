@@ -1,5 +1,5 @@
 use Rattle.std.proofs.Common.{◌≡◌, ◌∙◌, ◌+◌, ◌-◌, ◌<◌, ◌++◌, [], ◌∷◌, ℕ, suc, List}
-use Rattle.std.proofs.Common.{length, true, Some, None, refl, subst, sym, ap, slice_get, slice_set, arith}
+use Rattle.std.proofs.Common.{length, true, Some, None, refl, subst, sym, ap, slice_set, arith}
 use Rattle.mb_msg.specs.declared.id.SenderId.{SenderId}
 use Rattle.std.proofs.lemmas.Option.{slice_get_read}
 use Rattle.mb_msg.specs.declared.envelope.Envelope.{Envelope}
