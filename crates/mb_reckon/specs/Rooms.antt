@@ -1,0 +1,21 @@
+-- The room that the end of a system takes.
+use Rattle.std.specs.Prelude.{◌≡◌, ℕ, ◌+◌, ◌≤◌, [], Vec, length, vec_capacity}
+use Rattle.std.specs.List.{AllZip}
+use Rattle.std.specs.Global.{Global}
+use Rattle.mb_msg.specs.declared.envelope.Envelope.{Envelope}
+use Rattle.mb_reckon.specs.declared.room.Room.{Room}
+
+-- it is unused, and there is room for so many
+abbrev pub IsEnough : ℕ → Vec Envelope Global → Type 0
+IsEnough waiting room = (room.items ≡ []) × (waiting ≤ vec_capacity room)
+
+-- There is room for what is left of so many actors and of so many senders outside, and for as many envelopes of each actor as are counted.
+pub record IsRoom {A K : Type 0} (actors outside : ℕ) (room : Room A K) : Type 0 where
+  pub counted : length room.waiting.items ≡ actors
+  pub lefts : AllZip IsEnough room.waiting.items room.lefts.items
+  pub homes : (room.homes.items ≡ []) × (actors ≤ vec_capacity room.homes)
+  pub ended : (room.ended.items ≡ []) × (actors ≤ vec_capacity room.ended)
+  pub takes : (room.takes.items ≡ []) × (actors ≤ vec_capacity room.takes)
+  pub rows : (room.rows.items ≡ []) × (actors + outside ≤ vec_capacity room.rows)
+  pub reports : (room.actors.items ≡ []) × (actors ≤ vec_capacity room.actors)
+  pub senders : (room.senders.items ≡ []) × (actors + outside ≤ vec_capacity room.senders)

@@ -1,0 +1,89 @@
+//! The room that the end of a system takes: after it no memory is asked for.
+ghost use Rattle.std.specs.Prelude.{◌≡◌, ◌≤◌, IfOk, length};
+ghost use Rattle.std.specs.List.{AllZip};
+ghost use Rattle.mb_gate.specs.Names.{actors_of, gates_id, known_by, pass_id};
+ghost use Rattle.mb_gate.specs.Rule.{IsPart};
+ghost use Rattle.mb_reckon.specs.Rooms.{IsEnough, IsRoom};
+
+use crate::place::Place;
+use mb_actor::{Actor, Behaviours};
+use mb_cell::Cell;
+use mb_gate::{Gates, Left, Pass, Resident};
+use mb_msg::{ActorId, Envelope};
+use mb_queue::{SendPass, TakePass};
+use mb_report::{ActorReport, SenderReport};
+use std::alloc::{AllocError, Global};
+
+/// What a home leaves but for its passes.
+#[derive(Drop)]
+pub(crate) struct Ended<A: Actor, K: Behaviours> {
+    pub(crate) cell: Cell<A, K>,
+    pub(crate) cleaned: Vec<Envelope>,
+    pub(crate) dead_system: u64,
+}
+
+/// Room for what is left of each actor and of each sender, and how many envelopes wait for each actor.
+#[derive(Drop)]
+pub struct Room<A: Actor, K: Behaviours> {
+    pub(crate) waiting: Vec<u64>,
+    pub(crate) homes: Vec<Option<Left<Place<A, K>>>>,
+    pub(crate) ended: Vec<Ended<A, K>>,
+    pub(crate) takes: Vec<TakePass>,
+    pub(crate) rows: Vec<Vec<SendPass>>,
+    pub(crate) lefts: Vec<Vec<Envelope>>,
+    pub(crate) actors: Vec<ActorReport>,
+    pub(crate) senders: Vec<SenderReport>,
+}
+
+/// Makes room for so many senders outside, and for all that waits.
+pub fn make_room<A: Actor, K: Behaviours>(
+    alloc: Global,
+    gates: &Gates<Place<A, K>>,
+    pass: &mut Pass<Place<A, K>>,
+    outside: usize,
+) -> Result<Room<A, K>, AllocError>
+    requires ours { pass_id pass.old ≡ gates_id gates.now }
+    requires few { (actors_of gates.now ≤ 64) × (outside ≤ 16) }
+    ensures ours { pass_id pass.new ≡ pass_id pass.old }
+    ensures known { IsPart (known_by pass.old).log (known_by pass.new).log }
+    ensures room { IfOk result (IsRoom (actors_of gates.now) outside) }
+{
+    let actors = gates.actors();
+    let senders = actors + outside;
+    let (waiting, lefts) = make_lefts(alloc, gates, pass)?;
+    Ok(Room {
+        waiting,
+        homes: Vec::with_capacity(alloc, actors)?,
+        ended: Vec::with_capacity(alloc, actors)?,
+        takes: Vec::with_capacity(alloc, actors)?,
+        rows: Vec::with_capacity(alloc, senders)?,
+        lefts,
+        actors: Vec::with_capacity(alloc, actors)?,
+        senders: Vec::with_capacity(alloc, senders)?,
+    })
+}
+
+// How many envelopes wait for each actor, and room for as many.
+fn make_lefts<H: Resident>(
+    alloc: Global,
+    gates: &Gates<H>,
+    pass: &mut Pass<H>,
+) -> Result<(Vec<u64>, Vec<Vec<Envelope>>), AllocError>
+    requires ours { pass_id pass.old ≡ gates_id gates.now }
+    requires few { actors_of gates.now ≤ 64 }
+    ensures ours { pass_id pass.new ≡ pass_id pass.old }
+    ensures known { IsPart (known_by pass.old).log (known_by pass.new).log }
+    ensures counted { IfOk result (λ made. length made.0.items ≡ actors_of gates.now) }
+    ensures room { IfOk result (λ made. AllZip IsEnough made.0.items made.1.items) }
+{
+    let actors = gates.actors();
+    let mut counts = Vec::with_capacity(alloc, actors)?;
+    let mut lefts = Vec::with_capacity(alloc, actors)?;
+    for number in 0..actors {
+        let waiting = gates.waiting(pass, ActorId(number as u32));
+        let room = Vec::with_capacity(alloc, waiting as usize)?;
+        counts.push_reserved(waiting);
+        lefts.push_reserved(room);
+    }
+    Ok((counts, lefts))
+}
