@@ -193,7 +193,7 @@ home_same a b e = cc
 list_same : {H : Type 0} (a b : MessageList) → (let x : Slot H = Listing a in x ≡ Listing b) → a ≡ b
 list_same a b e = cc
 
-first_same_home : {H : Type 0} (a b : Snapshot H) → (let x : maybe.Option (Slot H) = some (First a) in x ≡ some (First b)) → a ≡ b
+first_same_home : {H : Type 0} (a b : Snapshot (Snapshot H)) → (let x : maybe.Option (Slot H) = some (First a) in x ≡ some (First b)) → a ≡ b
 first_same_home a b e = cc
 
 note_same : {H : Type 0} (a b : SysMsg) → (let x : maybe.Option (Slot H) = some (Note a) in x ≡ some (Note b)) → a ≡ b
@@ -679,10 +679,10 @@ module _ {H : Type 0} (is_of : ℕ → H → Type 0) (journal : H → List Entry
         (takes_over
         is_of journal mailbox rested given_by closed_to n id v other w w.said (inr refl) bare no_list share)
 
-module _ {H : Type 0} (all_of : H → ℕ → H → Type 0) (first : Snapshot H) (journal : H → List Entry) (mailbox : H → Mailbox) (rested : H
+module _ {H : Type 0} (all_of : H → ℕ → H → Type 0) (first : Snapshot (Snapshot H)) (journal : H → List Entry) (mailbox : H → Mailbox) (rested : H
     → Type 0) (given_by : H → ℕ) (closed_to : H → List ℕ) where
   abbrev G : ℕ → ℕ → Spot Word Shelf (Slot H) Ghost → List View → Type 0
-  G n = Fact (all_of first.value) journal mailbox rested given_by closed_to n
+  G n = Fact (all_of first.value.value) journal mailbox rested given_by closed_to n
 
   abbrev N : Type 0
   N = Me (Slot H) View
@@ -700,16 +700,16 @@ module _ {H : Type 0} (all_of : H → ℕ → H → Type 0) (first : Snapshot H)
         (λ x vs f at fits. let tell = Schedules all_of journal mailbox rested given_by closed_to (step slots (word_at actor 0) old new
         (some note)) me (x.row Status) in
         exchanged (x.row Status) old new (λ k. Goes word_offset slot_offset (G n) actor id me Status k tell x vs)
-        (λ hit. let here : x.row Status % 4 ≡ 0 = ap (λ k. k % 4) hit ∙ free in let h = is_home (all_of first.value) journal mailbox rested given_by
+        (λ hit. let here : x.row Status % 4 ≡ 0 = ap (λ k. k % 4) hit ∙ free in let h = is_home (all_of first.value.value) journal mailbox rested given_by
         closed_to n actor x vs f here in
         subst (λ k. Goes word_offset slot_offset (G n) actor id me Status k tell x vs) (sym is_new)
-        (schedules (all_of first.value) journal mailbox rested given_by closed_to n actor id me old tell x vs f at here hit bare share
-        (λ a other w said. subst (λ (b : ℕ × Snapshot H). (let now : N = (
+        (schedules (all_of first.value.value) journal mailbox rested given_by closed_to n actor id me old tell x vs f at here hit bare share
+        (λ a other w said. subst (λ (b : ℕ × Snapshot (Snapshot H)). (let now : N = (
           taking actor x.ghost.journal x.ghost.closed_to old x.ghost.gave
               x.ghost.listed.given me.0,
           (slot_at actor 0, Home h.1.home) ∷ me.1,
         ) in
-        (x.row Status ≡ old → Won (all_of b.1.value) journal mailbox rested given_by closed_to b.0 (x.row Status) me now)
+        (x.row Status ≡ old → Won (all_of b.1.value.value) journal mailbox rested given_by closed_to b.0 (x.row Status) me now)
         × (x.row Status ≢ old → (now ≡ (reading b.0 (x.row Status) me.0, me.1)) × IsTrue (is_valid (x.row Status)) × StaysClosed b.0 (x.row Status)
         me.0))) (λ z. (same_actor actor a 0 w z, first_same_home first other (sym (ap (λ (y : Slot H). some y) is_note) ∙ said) z)) (
           (λ _. record {
@@ -718,7 +718,7 @@ module _ {H : Type 0} (all_of : H → ℕ → H → Type 0) (first : Snapshot H)
             word = h.1.word;
             gave = x.ghost.gave;
             rest = λ no. h.1.rest (inr no);
-            seen = subst (λ j. GoesOn actor j me.0) (sym h.1.fold) (goes_further (all_of first.value) journal mailbox rested given_by closed_to
+            seen = subst (λ j. GoesOn actor j me.0) (sym h.1.fold) (goes_further (all_of first.value.value) journal mailbox rested given_by closed_to
                 actor x me.0 f.ended (λ one. omega arith) (f.seen id me.0 at));
             now = λ z. (
               taking actor (sym h.1.fold z) (sym h.1.shut z) (sym hit z) x.ghost.gave (sym h.1.count z) me.0,
@@ -727,8 +727,8 @@ module _ {H : Type 0} (all_of : H → ℕ → H → Type 0) (first : Snapshot H)
           }),
           (λ miss. absurd (miss hit)),
         ))))
-        (λ miss. reads (all_of first.value) journal mailbox rested given_by closed_to n actor id me tell x vs f at (λ a other w said. (
+        (λ miss. reads (all_of first.value.value) journal mailbox rested given_by closed_to n actor id me tell x vs f at (λ a other w said. (
           (λ hit. absurd (miss hit)),
-          (λ _. told_read (all_of first.value) journal mailbox rested given_by closed_to n slots id me actor i inside x vs f at a
+          (λ _. told_read (all_of first.value.value) journal mailbox rested given_by closed_to n slots id me actor i inside x vs f at a
               w),
         )))))

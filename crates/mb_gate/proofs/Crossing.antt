@@ -33,7 +33,7 @@ gates_send H g home = declared_send (gates.the_type H g) (
   search sendable depth 20,
   (
     search (sendable, std_crosses, heap_send, table.the_field_send, table.the_send, slot_send) depth 20,
-    (search sendable depth 20, (slot_send H home, (search sendable depth 20, tt))),
+    (search sendable depth 20, (search (sendable, std_crosses) depth 20, (search sendable depth 20, tt))),
   ),
 )
 

@@ -12,12 +12,15 @@ use Rattle.std.proofs.Common.{
   ◌≤◌,
   if◌then◌else◌,
   ◌⊎◌,
+  ◌↔◌,
   inl,
   inr,
   ⊎_elim,
   Bool,
   true,
   false,
+  not,
+  IsTrue,
   List,
   [],
   ◌∷◌,
@@ -47,6 +50,7 @@ use native.Mathlib.Decide.{ℕ_discrete}
 use lib.ListN.{get_elem?}
 use Rattle.atomic_table.specs.Table.{State, Final, Seen}
 use Rattle.mb_status.specs.Mailbox.{Mailbox, word_of}
+use Rattle.mb_msg.specs.declared.system.SysMsg.{SysMsg}
 use Rattle.mb_syslist.specs.MessageList.{MessageList}
 use Rattle.mb_journal.specs.Entry.{Entry}
 use Rattle.mb_rule.specs.Layout.{Spot, spot_of, word_at, slot_at}
@@ -72,6 +76,7 @@ use Rattle.mb_gate.specs.Rule.{
   Keeping,
   Shelving,
   Fact,
+  is_some_item,
 }
 use Rattle.mb_gate.specs.Leaves.{IsTakenOut, IsKept, IsLeft, AreLeft}
 use Rattle.mb_gate.proofs.Whole.{is_out, is_back}
@@ -96,6 +101,13 @@ word_there : (ws : List ℕ) (i : ℕ) → i < length ws → get_elem? ws i ≡ 
 word_there [] i l = absurd (omega arith)
 word_there (w ∷ ws) zero l = refl
 word_there (w ∷ ws) (suc i) l = word_there ws i (omega arith)
+
+-- whether something is listed
+pub listed-tells : (messages : List SysMsg) (empty : Bool) → IsTrue empty ↔ (messages ≡ []) → not empty ≡ is_some_item messages
+listed-tells [] true tells = refl
+listed-tells [] false tells = let e = tells.1 refl in absurd (cc)
+listed-tells (m ∷ ms) true tells = let e = tells.0 refl in absurd (cc)
+listed-tells (m ∷ ms) false tells = refl
 
 none_some : {A : Type 0} (y : A) → None ≡ Some y → ⊥
 none_some y e = cc
@@ -185,6 +197,7 @@ module _ {H : Type 0} (is_of : ℕ → H → Type 0) (journal : H → List Entry
                 | Ended a given ↦ (λ h e. f.ended (h e).0)
               ]) (f.seen id v known).seen),
           given,
+          t.2.3 ∙ ap (λ (z : MessageList). is_some_item z.messages) (sym list),
           ap given_by (sym home) ∙ (k.count ∙ sym given),
           (λ why. subst rested home (k.rest why)),
         )

@@ -15,7 +15,7 @@ use Rattle.mb_gate.specs.declared.slot.Slot.TheVariants.{Home, List as Listing}
 use Rattle.mb_gate.specs.declared.left.Left.{Left}
 use Rattle.mb_gate.specs.View.{View, Sight, Read, Saw, Counted, Looked, Sent, Unsent, Took, Pushed, Drained, Ended}
 use Rattle.mb_gate.specs.Turns.{got_by, back_by}
-use Rattle.mb_gate.specs.Rule.{Word, Status, word_offset, Shelf, slot_offset, Ghost, Extends, IsAmong, Fact}
+use Rattle.mb_gate.specs.Rule.{Word, Status, word_offset, Shelf, slot_offset, Ghost, Extends, IsAmong, Fact, is_some_item}
 
 -- by its words, the actor's cell and its list are at home: it is not scheduled, or a closed one's flag tells it; and its gate is not taken
 pub record TellsHome (words : List ℕ) (actor : ℕ) : Type 0 where
@@ -35,7 +35,8 @@ emptied_at actor filled = slice_set (slice_set filled (slot_at actor 0) false) (
 -- what was taken out of the words and slots of the actor
 abbrev pub IsTakenOut : {H : Type 0} → List ℕ → List (Slot H) → ℕ → Option (Left H) → Type 0
 IsTakenOut words slots actor (Some left) = TellsHome words actor × (get_elem? slots (slot_at actor 0) ≡ some (Home left.home))
-    × ((list : MessageList) × (get_elem? slots (slot_at actor 1) ≡ some (Listing list)) × (left.given ≡ list.given))
+    × ((list : MessageList) × (get_elem? slots (slot_at actor 1) ≡ some (Listing list)) × (left.given ≡ list.given)
+    × (left.listed ≡ is_some_item list.messages))
 IsTakenOut {H} words slots actor None = (home : H) (list : MessageList) → TellsHome words actor → get_elem? slots (slot_at actor 0) ≡ some (Home
     home) → get_elem? slots (slot_at actor 1) ≡ some (Listing list) → ⊥
 
@@ -55,11 +56,11 @@ IsKept actor journal word (Drained a given) = Unit {0}
 module _ {H : Type 0} (is_of : ℕ → H → Type 0) (journal : H → List Entry) (mailbox : H → Mailbox) (rested : H → Type 0) (given_by : H
     → ℕ) (closed_to : H → List ℕ) where
   -- What is left of an actor whose words and slots these are: its home, which is its own; its word is the one of its journal, which goes
-  -- on from all that was seen; how many its list gave, which the home knows; and unless the actor is open and its last drain gave something,
+  -- on from all that was seen; how many its list gave, which the home knows, and whether any message is listed still; and unless the actor is open and its last drain gave something,
   -- nothing is left beside its cell. There is none only where a claim has the cell, or a seat the list.
   abbrev pub IsLeft : ℕ → Spot Word Shelf (Slot H) Ghost → View → Option (Left H) → Type 0
   IsLeft actor x v (Some left) = is_of actor left.home × (x.row Status ≡ word_of (mailbox left.home)) × Each (IsKept actor (journal left.home)
-      (x.row Status)) v.log × (left.given ≡ x.ghost.listed.given) × (given_by left.home ≡ left.given)
+      (x.row Status)) v.log × (left.given ≡ x.ghost.listed.given) × (left.listed ≡ is_some_item x.ghost.listed.messages) × (given_by left.home ≡ left.given)
       × ((x.row Status ≡ 1) ⊎ (x.ghost.gave ≡ false) → rested left.home)
   IsLeft actor x v None = (x.ghost.holder ≢ None) ⊎ (x.ghost.keeper ≢ None)
 

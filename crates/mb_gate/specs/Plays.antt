@@ -171,8 +171,8 @@ module _ {H : Type 0} (is_of : H → ℕ → H → Type 0) (journal : H → List
     → ℕ) (closed_to : H → List ℕ) where
   -- a step that knows the first home tried to schedule an actor
   abbrev pub Schedules : Step (Slot H) → Me (Slot H) View → ℕ → Me (Slot H) View → Type 0
-  Schedules st m found m' = (actor : ℕ) (first : Snapshot H) → st.word ≡ word_at actor 0 → st.said ≡ some (First first)
-      → (found ≡ st.first → Won (is_of first.value) journal mailbox rested given_by closed_to actor found m m')
+  Schedules st m found m' = (actor : ℕ) (first : Snapshot (Snapshot H)) → st.word ≡ word_at actor 0 → st.said ≡ some (First first)
+      → (found ≡ st.first → Won (is_of first.value.value) journal mailbox rested given_by closed_to actor found m m')
       × (found ≢ st.first → (m' ≡ (reading actor found m.0, m.1)) × IsTrue (is_valid found) × StaysClosed actor found m.0)
 
 -- the cell was given home

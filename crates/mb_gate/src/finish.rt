@@ -69,6 +69,7 @@ fn take_out<H: Resident>(closed: &mut Closed<Slot<H>, Global>, actor: usize) -> 
         (Slot::Home(home), Slot::List(list)) => Some(Left {
             home,
             given: list.given(),
+            listed: !list.is_empty(),
         }),
         _ => None,
     }

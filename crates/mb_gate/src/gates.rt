@@ -1,5 +1,4 @@
 ghost use Rattle.std.specs.Prelude.{◌≡◌, ◌*◌, ◌<◌, ◌≤◌};
-ghost use Rattle.mb_gate.specs.declared.slot.Slot.TheVariants.{First};
 
 use crate::key::Key;
 use crate::law::Law;
@@ -8,22 +7,24 @@ use crate::slot::Slot;
 use crate::view::Knowledge;
 use atomic_table::Table;
 use std::alloc::Global;
+use std::snapshot::Snapshot;
 
 /// The status words, cells at home, waiting counts and list gates of some actors. Threads share it.
 ///
 /// It has room before and behind: wherever it lies, nothing else lies in one line of a processor's memory with what each
-/// step reads of it, so that no writes beside it slow the steps of other processors.
+/// step reads of it, so that no writes beside it slow the steps of other processors. Of a home it keeps a memory alone, so that
+/// threads may share gates of homes that go from thread to thread and are never shared.
 #[derive(Drop)]
 #[repr(C)]
 pub struct Gates<H: Resident> {
     pub(crate) before: [u64; 8],
     pub(crate) table: Table<Slot<H>, Knowledge, Key<H>, Law<H>, Global>,
     pub(crate) actors: usize,
-    pub(crate) first: Slot<H>,
+    pub(crate) first: Snapshot<H>,
     pub(crate) after: [u64; 8],
     ghost wide: { table.shared.table_id.words ≡ 16 * actors },
     ghost deep: { table.shared.table_id.slots ≡ 2 * actors },
     ghost keyed: { table.shared.key.actors ≡ actors },
-    ghost known: { first ≡ First table.shared.key.first },
+    ghost known: { first ≡ table.shared.key.first },
     ghost some: { (0 < actors) × (actors ≤ 4294967296) },
 }

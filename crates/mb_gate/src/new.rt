@@ -40,7 +40,7 @@ impl<H: Resident> Gates<H> {
             actors,
             first: first_of(&homes),
         };
-        let first = Slot::First(first_of(&homes));
+        let first = first_of(&homes);
         let Ok(words) = rows(alloc, &homes) else {
             return Err(NoGates { homes });
         };

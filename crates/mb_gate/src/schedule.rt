@@ -7,7 +7,8 @@ ghost use Rattle.mb_gate.specs.Claims.{is_busy};
 ghost use Rattle.mb_gate.specs.Tries.{IsFree, IsOf, IsExchanged, IsTried, Taken};
 ghost use Rattle.mb_gate.specs.Names.{gates_id, pass_id, claim_id, actors_of, first_of, known_by, known_of};
 ghost use Rattle.mb_gate.specs.Names.{held_actor, status_of, recorded_by};
-ghost use Rattle.mb_gate.specs.declared.slot.Slot.TheVariants.{Home};
+ghost use Rattle.mb_gate.specs.declared.slot.Slot.TheVariants.{First, Home};
+ghost use Rattle.std.specs.declared.snapshot.Snapshot.{Snapshot};
 
 use crate::claim::Claim;
 use crate::gates::Gates;
@@ -22,6 +23,7 @@ use atomic_table::Seat;
 use mb_msg::ActorId;
 use mb_status::Status;
 use std::mem;
+use std::snapshot::Snapshot;
 
 /// What became of a try to schedule an actor.
 pub enum Tried<H> {
@@ -79,7 +81,7 @@ impl<H: Resident> Gates<H> {
             word_index(id, STATUS),
             old,
             new,
-            &self.first,
+            &self.first_note(),
         );
         if found == old {
             return Tried::Got(self.claim(&mut pass.seat, id, status));
@@ -88,6 +90,13 @@ impl<H: Resident> Gates<H> {
             Some(found) => Tried::Lost(found),
             None => unreachable!(),
         }
+    }
+
+    /// What a step that schedules is told: a memory of the home with which the first actor began.
+    fn first_note(&self) -> Slot<H>
+        ensures { (first : Snapshot (Snapshot H)) × (result ≡ First first) × (first.value ≡ self.now.table.shared.key.first) }
+    {
+        Slot::First(Snapshot::of(&self.first))
     }
 
     /// The claim goes to a seat of its own, with the cell.

@@ -10,6 +10,6 @@ pub enum Slot<H> {
     List(SysList),
     /// A message that found its list ended. It lies in no slot: a step is told of it.
     Note(SysMsg),
-    /// The home with which the gates' first actor began. It lies in no slot either.
-    First(Snapshot<H>),
+    /// What remembers the home with which the gates' first actor began. It lies in no slot either.
+    First(Snapshot<Snapshot<H>>),
 }

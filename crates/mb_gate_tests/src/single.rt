@@ -113,7 +113,15 @@ impl Single {
         let room = Vec::with_capacity(alloc, 1)?;
         let mut left = gates.finish(pass, room);
         match left.pop() {
-            Some(Some(Left { home, given })) => Ok(Some((home.status.word(), given))),
+            Some(
+                Some(
+                    Left {
+                        home,
+                        given,
+                        listed: _,
+                    },
+                ),
+            ) => Ok(Some((home.status.word(), given))),
             Some(None) => Ok(None),
             None => Err(Fail::from("nothing of the actor")),
         }

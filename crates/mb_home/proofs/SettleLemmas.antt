@@ -91,24 +91,32 @@ fit-acts h gives e own lawful room =
 abbrev pub with_more : Contents → Entry → Taking → List (ℕ × SysMsg) → ℕ → Contents
 with_more h e take rest aside_dead = record h { cell = with_entry h.cell e; take = take; rest = rest; aside_dead = aside_dead }
 
-own-more : (h : Contents) (e : Entry) (take : Taking) (rest : List (ℕ × SysMsg)) (aside_dead : ℕ) → take.queue ≡ h.take.queue → IsOwn h →
+-- two take passes of one queue, which take in one order
+abbrev pub SameQueue : Taking → Taking → Type 0
+SameQueue new old = (new.queue ≡ old.queue) × (new.turns ≡ old.turns)
+
+enrolled-same : (h : Contents) (take : Taking) → SameQueue take h.take → IsOwn h →
+    slice_get h.roll h.cell.who.this.0 ≡ Some (record { who = h.cell.who; queue = take.queue; turns = take.turns })
+enrolled-same h take same own = own.enrolled ∙ (λ i. Some (record { who = h.cell.who; queue = sym same.0 i; turns = sym same.1 i }))
+
+own-more : (h : Contents) (e : Entry) (take : Taking) (rest : List (ℕ × SysMsg)) (aside_dead : ℕ) → SameQueue take h.take → IsOwn h →
     IsOwn (with_more h e take rest aside_dead)
 own-more h e take rest aside_dead same own = record {
-  enrolled = own.enrolled ∙ ap (λ (q : Queue). Some (record { who = h.cell.who; queue = q })) (sym same);
+  enrolled = enrolled-same h take same own;
   all_there = own.all_there;
   few = own.few;
   not_zero = own.not_zero;
   queues = own.queues;
   by = own.by;
   receivers = own.receivers;
-  receiver = ap (λ (q : Queue). q.to) same ∙ own.receiver;
-  nobody = λ guardian. ap (λ (q : Queue). q.senders) same ∙ own.nobody guardian;
+  receiver = ap (λ (q : Queue). q.to) same.0 ∙ own.receiver;
+  nobody = λ guardian. ap (λ (q : Queue). q.senders) same.0 ∙ own.nobody guardian;
 }
 
 -- the books with an entry more, whose acts are to be carried out
 pub settled-more : (h : Contents) (gives : Moment → Reply → Type 0) (e : Entry) (take : Taking) (rest : List (ℕ × SysMsg)) (aside_dead : ℕ) →
     IsSettled gives [] h → closed h.cell.who h.cell.journal ≡ false → IsLawful h.cell.who gives (e ∷ h.cell.journal) → most_tells ≤ h.room →
-    take.queue ≡ h.take.queue → take.taken ≡ begun (e ∷ h.cell.journal) → IsCounted (with_more h e take rest aside_dead) →
+    SameQueue take h.take → take.taken ≡ begun (e ∷ h.cell.journal) → IsCounted (with_more h e take rest aside_dead) →
     IsSettled gives (acts h.cell.who h.cell.journal e) (with_more h e take rest aside_dead)
 settled-more h gives e take rest aside_dead s not_ended lawful room same taken counted =
     let none : h.cleaned ≡ [] = s.open_keeps not_ended in
@@ -339,18 +347,18 @@ bounded-to h to place most pass own place_is was capacity = record {
 
 -- a take that gave nothing, or gave what is told elsewhere
 pub settled-take : (h : Contents) (gives : Moment → Reply → Type 0) (pending : List Act) (take : Taking) → IsSettled gives pending h →
-    take.queue ≡ h.take.queue → take.taken ≡ h.take.taken → IsSettled gives pending (record h { take = take })
+    SameQueue take h.take → take.taken ≡ h.take.taken → IsSettled gives pending (record h { take = take })
 settled-take h gives pending take s same taken = record {
   own = record {
-    enrolled = s.own.enrolled ∙ ap (λ (q : Queue). Some (record { who = h.cell.who; queue = q })) (sym same);
+    enrolled = enrolled-same h take same s.own;
     all_there = s.own.all_there;
     few = s.own.few;
     not_zero = s.own.not_zero;
     queues = s.own.queues;
     by = s.own.by;
     receivers = s.own.receivers;
-    receiver = ap (λ (q : Queue). q.to) same ∙ s.own.receiver;
-    nobody = λ guardian. ap (λ (q : Queue). q.senders) same ∙ s.own.nobody guardian;
+    receiver = ap (λ (q : Queue). q.to) same.0 ∙ s.own.receiver;
+    nobody = λ guardian. ap (λ (q : Queue). q.senders) same.0 ∙ s.own.nobody guardian;
   };
   lawful = s.lawful;
   taken = taken ∙ s.taken;
@@ -364,19 +372,19 @@ settled-take h gives pending take s same taken = record {
 -- a take of an actor that ended, whose envelope is cleaned up
 pub settled-clean : (h : Contents) (gives : Moment → Reply → Type 0) (pending : List Act) (take : Taking) (e : Envelope) →
     IsSettled gives pending h →
-    closed h.cell.who h.cell.journal ≡ true → take.queue ≡ h.take.queue → take.taken ≡ h.take.taken ++ e ∷ [] →
+    closed h.cell.who h.cell.journal ≡ true → SameQueue take h.take → take.taken ≡ h.take.taken ++ e ∷ [] →
     IsSettled gives pending (record h { take = take; cleaned = h.cleaned ++ e ∷ [] })
 settled-clean h gives pending take e s ended same taken = record {
   own = record {
-    enrolled = s.own.enrolled ∙ ap (λ (q : Queue). Some (record { who = h.cell.who; queue = q })) (sym same);
+    enrolled = enrolled-same h take same s.own;
     all_there = s.own.all_there;
     few = s.own.few;
     not_zero = s.own.not_zero;
     queues = s.own.queues;
     by = s.own.by;
     receivers = s.own.receivers;
-    receiver = ap (λ (q : Queue). q.to) same ∙ s.own.receiver;
-    nobody = λ guardian. ap (λ (q : Queue). q.senders) same ∙ s.own.nobody guardian;
+    receiver = ap (λ (q : Queue). q.to) same.0 ∙ s.own.receiver;
+    nobody = λ guardian. ap (λ (q : Queue). q.senders) same.0 ∙ s.own.nobody guardian;
   };
   lawful = s.lawful;
   taken = taken ∙ ap (λ l. l ++ e ∷ []) s.taken ∙ append_assoc (begun h.cell.journal) h.cleaned (e ∷ []);

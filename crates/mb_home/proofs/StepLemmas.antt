@@ -32,7 +32,7 @@ use Rattle.mb_home.specs.Roll.{Enrolled}
 use Rattle.mb_home.specs.Settled.{IsOwn, IsReason, IsSettled, messages_of, aside_at_end}
 use Rattle.mb_home.specs.Steps.{most_tells, at_first, AppliesNext, IsDue}
 use Rattle.mb_home.proofs.CountLemmas.{aside-below, few-numbers, front-of, next-new, next-again, rest-first}
-use Rattle.mb_home.proofs.SettleLemmas.{settled-more}
+use Rattle.mb_home.proofs.SettleLemmas.{SameQueue, settled-more}
 
 -- ---- the next number
 
@@ -92,7 +92,7 @@ module _ (h : Contents) (gives : Moment → Reply → Type 0) (s : IsSettled giv
       let e : Entry = System number m took.outcome in
       let lawful' : IsLawful h.cell.who gives (e ∷ h.cell.journal) = subst (λ (c : Seen). IsLawful c.who gives c.journal) took.adds lawful in
       subst (λ (c : Seen). IsSettled gives c.acts (record h { cell = c; rest = left; aside_dead = aside_dead })) (sym took.adds)
-      (settled-more h gives e h.take left aside_dead s not_ended lawful' room refl
+      (settled-more h gives e h.take left aside_dead s not_ended lawful' room (refl, refl)
       (s.taken ∙ ap (λ l. begun h.cell.journal ++ l) (s.open_keeps not_ended) ∙ append-nil (begun h.cell.journal))
       (record {
         rest = goes_on number m took.outcome left due;
@@ -142,7 +142,7 @@ open-aside who (e ∷ before) not_ended = ap (λ b. if b then length (aside who 
 pub settled-begun : (h : Contents) (gives : Moment → Reply → Type 0) (new : Seen) (take : Taking) (envelope : Envelope) (reading : ℕ) →
     IsSettled gives [] h →
     closed h.cell.who h.cell.journal ≡ false → most_tells ≤ h.room → TakesEnvelope h.cell new envelope reading → IsLawful new.who gives new.journal →
-    take.queue ≡ h.take.queue → take.taken ≡ h.take.taken ++ envelope ∷ [] → IsSettled gives new.acts (record h { cell = new; take = take })
+    SameQueue take h.take → take.taken ≡ h.take.taken ++ envelope ∷ [] → IsSettled gives new.acts (record h { cell = new; take = take })
 settled-begun h gives new take envelope reading s not_ended room took lawful same taken =
     let e : Entry = took.entry in
     let lawful' : IsLawful h.cell.who gives (e ∷ h.cell.journal) = subst (λ (c : Seen). IsLawful c.who gives c.journal) took.adds lawful in

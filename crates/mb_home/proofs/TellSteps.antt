@@ -24,7 +24,7 @@ use Rattle.mb_fates.specs.Told.{Telling, tells}
 use Rattle.mb_home.specs.Contents.{Contents}
 use Rattle.mb_home.specs.Settled.{IsReason, IsSettled}
 use Rattle.mb_home.specs.Steps.{most_tells, next_envelope, reason_of, with_pushed, Fits, Delivers, IsRefusedBy, Pushes, PushesInto, Refuses}
-use Rattle.mb_home.proofs.SettleLemmas.{settled-dead, settled-pushed, bounded-to}
+use Rattle.mb_home.proofs.SettleLemmas.{SameQueue, settled-dead, settled-pushed, bounded-to}
 use Rattle.mb_home.proofs.StepLemmas.{an-actor, open-phase, settled-begun}
 
 module _ (h : Contents) (gives : Moment → Reply → Type 0) (to : ActorId) (told : Body) (left : List Act) (s : IsSettled gives
@@ -85,7 +85,7 @@ may-handle h gives e reading s is_open ready none known addressed = record {
 -- and the books are settled but for its acts
 pub settled-taken : (h : Contents) (gives : ℕ → Moment → Reply → Type 0) (new : Seen) (take : Taking) (e : Envelope) (reading : ℕ) →
     IsSettled (gives h.cell.who.this.0) [] h → IsOpen h.cell.who h.cell.journal reading → most_tells ≤ h.room → TakesEnvelope h.cell new e reading →
-    IsLawful new.who (gives new.who.this.0) new.journal → take.queue ≡ h.take.queue → take.taken ≡ h.take.taken ++ e ∷ [] →
+    IsLawful new.who (gives new.who.this.0) new.journal → SameQueue take h.take → take.taken ≡ h.take.taken ++ e ∷ [] →
     IsSettled (gives new.who.this.0) new.acts (record h { cell = new; take = take })
 settled-taken h gives new take e reading s is_open room took lawful same taken =
     let who : new.who ≡ h.cell.who = ap (λ (x : Seen). x.who) took.adds in

@@ -21,10 +21,10 @@ use Rattle.mb_fates.specs.declared.posting.Posting.{Posting}
 use Rattle.mb_home.specs.Contents.{Contents}
 use Rattle.mb_home.specs.Roll.{Enrolled, queues_of, IsBounded}
 
--- The home is of the actor that stands on the roll at the cell's number: the cell has its identity, the take pass is of its queue, and
--- the send passes push for it into the queues of the others, in order. Nobody pushes for the guardian's queue.
+-- The home is of the actor that stands on the roll at the cell's number: the cell has its identity, the take pass is of its queue and
+-- takes by its order, and the send passes push for it into the queues of the others, in order. Nobody pushes for the guardian's queue.
 pub record IsOwn (h : Contents) : Type 0 where
-  pub enrolled : slice_get h.roll h.cell.who.this.0 ≡ Some (record { who = h.cell.who; queue = h.take.queue })
+  pub enrolled : slice_get h.roll h.cell.who.this.0 ≡ Some (record { who = h.cell.who; queue = h.take.queue; turns = h.take.turns })
   pub all_there : h.cell.who.actors ≡ length h.roll
   pub few : h.cell.who.limit < 2 ^ 32
   pub not_zero : is_guardian h.cell.who ≡ false → 0 < h.cell.who.this.0

@@ -53,7 +53,7 @@ impl<A: Actor, K: Behaviours> Model for Home<A, K> {
       aside_dead = h.aside_dead;
       dropped = h.dropped;
       room = vec_capacity h.dead - vec_len h.dead;
-      roll = map (λ n. record { who = n.cell.value.who; queue = n.take.value.queue }) h.roll.value.items;
+      roll = map (λ n. record { who = n.cell.value.who; queue = n.take.value.queue; turns = n.take.value.turns }) h.roll.value.items;
     } };
 
     ghost invariant = { λ h. (h.id ≡ h.cell.who.this) × (h.cell.who.limit < 2 ^ 32) };
@@ -94,9 +94,9 @@ impl<A: Actor, K: Behaviours> Home<A, K> {
         requires none_taken { take.taken ≡ [] }
         requires none_pushed { All (λ (p : Sending). p.pushed ≡ []) sends.items }
         requires own { IsOwn (at_first cell take sends.items 0
-            (map (λ n. record { who = n.cell.value.who; queue = n.take.value.queue }) roll.now.items)) }
+            (map (λ n. record { who = n.cell.value.who; queue = n.take.value.queue; turns = n.take.value.turns }) roll.now.items)) }
         ensures first { result ≡ at_first cell take sends.items result.room
-            (map (λ n. record { who = n.cell.value.who; queue = n.take.value.queue }) roll.now.items) }
+            (map (λ n. record { who = n.cell.value.who; queue = n.take.value.queue; turns = n.take.value.turns }) roll.now.items) }
         ensures settled { IsSettled (K.gives cell.who.this.0) [] result }
         ensures rested { IsRested result }
     {
@@ -116,7 +116,7 @@ impl<A: Actor, K: Behaviours> Home<A, K> {
         requires number { id ≡ cell.who.this }
         requires few { cell.who.limit < 2 ^ 32 }
         ensures { result ≡ at_first cell take sends.items result.room
-            (map (λ n. record { who = n.cell.value.who; queue = n.take.value.queue }) roll.now.items) }
+            (map (λ n. record { who = n.cell.value.who; queue = n.take.value.queue; turns = n.take.value.turns }) roll.now.items) }
     {
         Home {
             id,

@@ -3,6 +3,7 @@ pub mod Distinct
 pub mod Emptied
 pub mod Joins
 pub mod Lends
+pub mod Ours
 pub mod Pairs
 pub mod Refused
 pub mod Taken

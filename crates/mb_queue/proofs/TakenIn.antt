@@ -49,7 +49,7 @@ found_known (Sender scope by pushed) e found = absurd found
 found_known (Taker scope taken accounts) e found = found.0
 found_known Spent e found = absurd found
 
-scope_all : (l : Ledger) (es : List Envelope) → scope_in (taking_all l es) ≡ scope_in l
+pub scope_all : (l : Ledger) (es : List Envelope) → scope_in (taking_all l es) ≡ scope_in l
 scope_all (Sender scope by pushed) es = refl
 scope_all (Taker scope taken accounts) es = refl
 scope_all Spent es = refl

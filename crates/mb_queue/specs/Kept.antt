@@ -14,7 +14,7 @@ use Rattle.mb_rank.specs.declared.waiting.Arrival.{Arrival}
 use Rattle.mb_queue.specs.declared.order.Order.{Order}
 use Rattle.mb_queue.specs.declared.order.Order.TheVariants.{FirstInFirstOut, ControlFirst, ByRank}
 use Rattle.mb_queue.specs.Parts.{accounts_of, controls, others}
-use Rattle.mb_queue.specs.Passes.{Queue, Sending, Taking, Turns, first_in_first_out, control_first, by_rank}
+use Rattle.mb_queue.specs.Passes.{IsOfQueue, Queue, Sending, Taking, Turns, first_in_first_out, control_first, by_rank}
 use Rattle.mb_queue.specs.Takes.{IsSameBag}
 
 -- which envelopes a port's lane has
@@ -108,3 +108,7 @@ IsTaking main (ByRank choice) taken accounts =
     × (choice.next ≡ length (gone_of main.ledger))
     × IsSameBag (gone_of main.ledger) (taken ++ envelopes_of choice.waiting)
     × All (Belongs (scope_in main.ledger)) (envelopes_of choice.waiting)
+
+-- that, and all that it gave is of its queue
+abbrev pub IsTakePass : Known → Order → List Envelope → List Account → Type 0
+IsTakePass main order taken accounts = IsTaking main order taken accounts × All (IsOfQueue (queue_of main (control_of order))) taken

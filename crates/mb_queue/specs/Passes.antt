@@ -1,6 +1,6 @@
 -- What contracts see of the passes of a queue: what was pushed and what was taken. The fates of envelopes are told in these
 -- words. That accounts are kept is this project's own profile.
-use Rattle.std.specs.Prelude.{ℕ, List, Option}
+use Rattle.std.specs.Prelude.{◌≡◌, ℕ, List, Option, Contains}
 use Rattle.mb_msg.specs.declared.envelope.Envelope.{Envelope}
 use Rattle.mb_lane.specs.declared.ledger.Account.{Account}
 use Rattle.mb_lane.specs.Port.{Lane}
@@ -21,6 +21,10 @@ pub record Queue : Type 0 where
   pub control : Option Lane
   pub senders : List ℕ
   pub to : ℕ
+
+-- an envelope of this queue: by one of its senders, and to its actor
+abbrev pub IsOfQueue : Queue → Envelope → Type 0
+IsOfQueue queue e = Contains queue.senders e.by.0 × (e.to.0 ≡ queue.to)
 
 -- a send pass: of which queue it is, its sender, and all that it pushed, in order
 pub record Sending : Type 0 where

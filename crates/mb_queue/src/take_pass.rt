@@ -1,8 +1,8 @@
 //! The mailbox's way into its queue.
-ghost use Rattle.std.specs.Prelude.{◌≡◌, ◌≢◌, ℕ, None, Some, [], ◌∷◌, ◌++◌, Contains, IfNone, IfSome, option_to_list};
+ghost use Rattle.std.specs.Prelude.{◌≡◌, ◌≢◌, ℕ, None, Some, [], ◌∷◌, ◌++◌, All, Contains, IfNone, IfSome, option_to_list};
 ghost use Rattle.mb_lane.specs.Ledger.{home};
 ghost use Rattle.mb_queue.specs.Fates.{AllJoined, InOrder, NothingLeft, pushed_by};
-ghost use Rattle.mb_queue.specs.Passes.{first_in_first_out};
+ghost use Rattle.mb_queue.specs.Passes.{first_in_first_out, IsOfQueue};
 ghost use Rattle.mb_queue.specs.Takes.{EachOnce, IsTake};
 
 use crate::order::{Order, take_next};
@@ -27,11 +27,11 @@ impl Model for TakePass {
 
     ghost Value = { Taking };
 
-    ghost use Rattle.mb_queue.specs.Kept.{taking_of, IsTaking};
+    ghost use Rattle.mb_queue.specs.Kept.{taking_of, IsTakePass};
 
     ghost view = { λ p. taking_of p.main p.order p.taken p.accounts };
 
-    ghost invariant = { λ p. IsTaking p.main p.order p.taken p.accounts };
+    ghost invariant = { λ p. IsTakePass p.main p.order p.taken p.accounts };
 }
 
 impl TakePass {
@@ -39,13 +39,14 @@ impl TakePass {
 
     /// Takes the next envelope by the order of the queue's kind. `None` only if the queue was empty at a moment of the call
     /// (of a control-aware queue each of its parts, not both at one); then all that a joined pass pushed was given, and where
-    /// all passes are joined each later take gives `None` too.
+    /// all passes are joined each later take gives `None` too. All that it ever gave is by senders of the queue and to its actor.
     #[inline(always)]
     pub fn take<R: Wait>(&mut self, rt: &R) -> Option<Envelope>
         ensures taken { self.new.taken ≡ self.old.taken ++ option_to_list result }
         ensures same { (self.new.queue ≡ self.old.queue) × (self.new.turns ≡ self.old.turns) × (self.new.accounts ≡ self.old.accounts) }
         ensures sender { IfSome result (λ e. Contains self.old.queue.senders e.by.0) }
         ensures addressed { IfSome result (λ e. e.to.0 ≡ self.old.queue.to) }
+        ensures known { All (IsOfQueue self.new.queue) self.new.taken }
         ensures turn { IsTake self.old.turns self.old result self.new }
         ensures each_once { IfNone result (EachOnce self.new) }
         ensures in_order { IfNone result (self.old.turns ≡ first_in_first_out → InOrder self.new) }

@@ -2,3 +2,4 @@ pub mod Posting
 pub mod Routes
 pub mod Answering
 pub mod Vouching
+pub mod Bounding

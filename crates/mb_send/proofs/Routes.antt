@@ -6,9 +6,9 @@ use Rattle.mb_msg.specs.declared.envelope.Envelope.{Envelope}
 use Rattle.mb_msg.specs.declared.dead_letter.Why.{Why}
 use Rattle.mb_fates.specs.declared.posting.Posting.{Posting}
 use Rattle.mb_fates.specs.Accepted.{queued, to_actor}
-use Rattle.mb_queue.specs.Passes.{Sending}
+use Rattle.mb_queue.specs.Passes.{Queue, Sending}
 use Rattle.mb_send.specs.Posted.{posting}
-use Rattle.mb_send.specs.Sends.{AreRoutes, IsRoute}
+use Rattle.mb_send.specs.Sends.{AreRoutes, IsRoute, receiving_queues}
 use Rattle.mb_wake.proofs.Bits.{same_or_other}
 use Rattle.mb_send.proofs.Posting.{route-more, route-other, route-dead}
 
@@ -23,6 +23,20 @@ set-other (x ∷ xs) zero zero y ne = absurd (ne refl)
 set-other (x ∷ xs) zero (suc i) y ne = refl
 set-other (x ∷ xs) (suc k) zero y ne = refl
 set-other (x ∷ xs) (suc k) (suc i) y ne = set-other xs k i y (λ e. ne (ap suc e))
+
+-- the queue of a pass
+pub queue-there : (xs : List Sending) (k : ℕ) (old : Sending) → slice_get xs k ≡ Some old → slice_get (receiving_queues xs) k ≡ Some old.queue
+queue-there [] k old there = absurd (none-some old there)
+queue-there (x ∷ xs) zero old there = ap (λ (s : Sending). Some s.queue) (same_Some x old there)
+queue-there (x ∷ xs) (suc k) old there = queue-there xs k old there
+
+-- a pass that is of its queue still leaves the queues as they were
+pub queues-set : (xs : List Sending) (k : ℕ) (old new : Sending) → slice_get xs k ≡ Some old → new.queue ≡ old.queue →
+    receiving_queues (slice_set xs k new) ≡ receiving_queues xs
+queues-set [] k old new there same = refl
+queues-set (x ∷ xs) zero old new there same =
+    ap (λ (q : Queue). q ∷ receiving_queues xs) (same ∙ ap (λ (s : Sending). s.queue) (sym (same_Some x old there)))
+queues-set (x ∷ xs) (suc k) old new there same = ap (λ (qs : List Queue). x.queue ∷ qs) (queues-set xs k old new there same)
 
 module _ (by : ℕ) (ps : List Posting) (sends : List Sending) (routes : AreRoutes by ps sends) (k : ℕ) (old : Sending)
     (there : slice_get sends k ≡ Some old) (e : Envelope) where

@@ -21,7 +21,7 @@ or-true : (b : Bool) → (b || true) ≡ true
 or-true true = refl
 or-true false = refl
 
-and-both : (a b : Bool) → a ≡ true → b ≡ true → (a && b) ≡ true
+pub and-both : (a b : Bool) → a ≡ true → b ≡ true → (a && b) ≡ true
 and-both a b x y = λ i. x i && y i
 
 and-left : (a b : Bool) → (a && b) ≡ true → a ≡ true

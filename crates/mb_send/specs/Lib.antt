@@ -1,4 +1,5 @@
 pub mod Posted
 pub mod Sends
 pub mod Vouched
+pub mod Bounded
 pub mod Answers

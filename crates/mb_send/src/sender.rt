@@ -3,8 +3,9 @@ ghost use Rattle.std.specs.Prelude.{◌≡◌, ◌⊎◌, ◌+◌, ◌<◌, ◌�
 ghost use Rattle.mb_gate.specs.Names.{gates_id, pass_id, actors_of, known_by};
 ghost use Rattle.mb_send.specs.declared.unsent.Unsent.TheVariants as Unsent;
 ghost use Rattle.mb_fates.specs.Accepted.{dead_letters};
-ghost use Rattle.mb_send.specs.Sends.{AreRoutes};
+ghost use Rattle.mb_send.specs.Sends.{AreRoutes, receiving_queues};
 ghost use Rattle.mb_send.specs.Vouched.{are_vouched};
+ghost use Rattle.mb_send.specs.Bounded.{are_of_bounded};
 ghost use Rattle.mb_send.specs.Answers.{IsSeen};
 
 use crate::book::Book;
@@ -29,6 +30,7 @@ pub struct Sender<H, W> {
     pub alloc: Global,
     ghost routes: { AreRoutes book.by.0 book.posted sends.items },
     ghost vouched: { are_vouched (known_by waker.pass).log (dead_letters book.posted) ≡ true },
+    ghost bounded: { are_of_bounded (receiving_queues sends.items) (dead_letters book.posted) ≡ true },
 }
 
 impl<H: Resident, W: Way<H>> Sender<H, W> {

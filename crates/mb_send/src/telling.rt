@@ -6,6 +6,7 @@ ghost use Rattle.mb_gate.specs.Names.{gates_id, pass_id, actors_of, known_by};
 ghost use Rattle.mb_send.specs.declared.unsent.Unsent.TheVariants as Unsent;
 ghost use Rattle.mb_gate.specs.Untouched.{origin_of};
 ghost use Rattle.mb_wake.specs.Owed.{is_owed};
+ghost use Rattle.mb_send.specs.Sends.{receiving_queues};
 ghost use Rattle.mb_send.specs.Answers.{IsSent, IsBuried, IsTold, reason};
 ghost use Rattle.mb_send.specs.Vouched.{has_seen_closed};
 
@@ -43,6 +44,7 @@ impl<H: Resident, W: Way<H>> Sender<H, W> {
             ≡ true)) }
         ensures ours { (pass_id self.new.waker.pass ≡ pass_id self.old.waker.pass) × (W.origin self.new.waker.way ≡ W.origin self.old.waker.way) }
         ensures same { (self.new.book.by ≡ self.old.book.by) × (vec_len self.new.sends ≡ vec_len self.old.sends) }
+        ensures queues { receiving_queues self.new.sends.items ≡ receiving_queues self.old.sends.items }
     {
         self.book.ready()?;
         let to = ticket.to;
@@ -86,6 +88,7 @@ impl<H: Resident, W: Way<H>> Sender<H, W> {
         ensures paid { IfOk result (λ _. (owes to.0 (known_by self.new.waker.pass) ≡ nothing) ⊎ (is_owed self.new.waker.owed to.0 ≡ true)) }
         ensures ours { (pass_id self.new.waker.pass ≡ pass_id self.old.waker.pass) × (W.origin self.new.waker.way ≡ W.origin self.old.waker.way) }
         ensures same { (self.new.book.by ≡ self.old.book.by) × (vec_len self.new.sends ≡ vec_len self.old.sends) }
+        ensures queues { receiving_queues self.new.sends.items ≡ receiving_queues self.old.sends.items }
     {
         let look = self.look(gates, to)?;
         match look {

@@ -67,7 +67,7 @@ module _ {H : Type 0} where
   account-woken id a b false (inr refused) = from-refused id a b refused
 
   pub further-none : (c : Caller H) → GoesFurther c c
-  further-none c = record { more = []; log = refl; account = account-none c.account; debts = λ id. inr refl }
+  further-none c = record { more = []; log = refl; account = account-none c.account; debts = λ id. inr refl; share = refl }
 
   pub further-then : (a b c : Caller H) → GoesFurther a b → GoesFurther b c → GoesFurther a c
   further-then a b c p q = record {
@@ -75,6 +75,7 @@ module _ {H : Type 0} where
     log = q.log ∙ ap (λ l. q.more ++ l) p.log ∙ sym (append_assoc q.more p.more a.view.log);
     account = account-then a.account b.account c.account p.account q.account;
     debts = λ id. by_last id (q.debts id);
+    share = q.share ∙ p.share;
   }
     where
       by_first : (id : ℕ) → owes id c.view ≡ owes id b.view → IsPaid id b ⊎ (owes id b.view ≡ owes id a.view) →
@@ -95,6 +96,7 @@ module _ {H : Type 0} where
     log = does.log;
     account = account;
     debts = λ other. by_actor other (same_or_other other id);
+    share = does.share;
   }
     where
       by_actor : (other : ℕ) → (other ≡ id) ⊎ (other ≢ id) → IsPaid other b ⊎ (owes other b.view ≡ owes other a.view)
@@ -108,4 +110,5 @@ module _ {H : Type 0} where
     log = ap (λ (v : View). v.log) same;
     account = subst (OwesForRefusals a.account) (sym account) (account-none a.account);
     debts = λ id. inr (ap (owes id) same);
+    share = ap (λ (v : View). v.share) same;
   }

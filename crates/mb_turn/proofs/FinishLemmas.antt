@@ -120,13 +120,14 @@ module _ (actor : ℕ) (journal : List Entry) (v w mid : View) (debts : v.debts 
     }
 
 -- the run went on, the claim went home, and the actor was woken
-pub leaves-caller : {H : Type 0} (actor : ℕ) (journal : List Entry) (v mid : View) (a b new : Caller H) → v.debts ≡ [] →
+pub leaves-caller : {H : Type 0} (actor : ℕ) (journal : List Entry) (v mid : View) (a b new : Caller H) → v.debts ≡ [] → v.share ≡ [] →
     mid ≡ idling actor journal (taking_in v b.view) → LooksAfter actor mid new.view → GoesFurther a b → OwesForRefusals b.account new.account →
     IsPaid actor new → LeavesCaller a new
-leaves-caller actor journal v mid a b new debts known looks g account paid = record {
+leaves-caller actor journal v mid a b new debts bare known looks g account paid = record {
   log = known-still actor journal v b.view mid debts known new.view looks g.more a.view.log g.log;
   account = account-then a.account b.account new.account g.account account;
   debts = λ other. by_actor other (same_or_other other actor);
+  share = looks.share ∙ ap (λ (x : View). x.share) known ∙ ap (λ s. b.view.share ++ s) bare ∙ append-nil b.view.share ∙ g.share;
 }
   where
     by_run : (other : ℕ) → owes other new.view ≡ owes other b.view → IsPaid other b ⊎ (owes other b.view ≡ owes other a.view) →

@@ -46,6 +46,7 @@ module _ (gives : ℕ → Moment → Reply → Type 0) (origin : Origin (Box Con
       recorded = [];
       log = [];
       debts = [];
+      share = [];
     }
 
     hold-fresh : hold_of c ≡ fresh_hold
@@ -61,6 +62,7 @@ module _ (gives : ℕ → Moment → Reply → Type 0) (origin : Origin (Box Con
       recorded = u.recorded i;
       log = (u.known i).log;
       debts = (u.known i).debts;
+      share = (u.known i).share;
     }
 
     pub taken-fresh : taken_with c ≡ c.home.value.cell.journal
@@ -87,6 +89,7 @@ module _ (gives : ℕ → Moment → Reply → Type 0) (origin : Origin (Box Con
           sends = tt;
           dry = tt;
           owes_nothing = refl;
+          bare = refl;
         })
 
     pub beside-fresh : IsBeside (hold_of c)

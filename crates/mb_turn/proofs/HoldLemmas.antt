@@ -26,6 +26,7 @@ module _ (c new : Claim (Box Contents)) (ours : (claim_id new ≡ claim_id c) ×
     recorded = same.recorded i;
     log = (known i).log;
     debts = (known i).debts;
+    share = (known i).share;
   }
 
   -- an envelope was counted as taken
@@ -43,6 +44,7 @@ module _ (c new : Claim (Box Contents)) (ours : (claim_id new ≡ claim_id c) ×
     recorded = same.recorded i;
     log = (known i).log;
     debts = (known i).debts;
+    share = (known i).share;
   }
 
   module _ (status : status_of new ≡ status_of c) (taken : (taken_with new ≡ taken_with c) × (closed_with new ≡ closed_with c))
@@ -62,6 +64,7 @@ module _ (c new : Claim (Box Contents)) (ours : (claim_id new ≡ claim_id c) ×
       recorded = recorded i;
       log = (known i).log;
       debts = (known i).debts;
+      share = (known i).share;
     }
 
     -- it was ended
@@ -79,6 +82,7 @@ module _ (c new : Claim (Box Contents)) (ours : (claim_id new ≡ claim_id c) ×
       recorded = recorded i;
       log = (known i).log;
       debts = (known i).debts;
+      share = (known i).share;
     }
 
 -- something was said in the run
@@ -96,4 +100,5 @@ hold-recorded c new said r = λ i. record {
   recorded = r.record_is i;
   log = (r.known i).log;
   debts = (r.known i).debts;
+  share = (r.known i).share;
 }

@@ -60,6 +60,7 @@ module _ (gives : ℕ → Moment → Reply → Type 0) (origin : Origin (Box Con
     sends = subst (λ n. SendsBelow n new.cell.acts) (ap (λ (c : Seen). c.who.actors) adds ∙ r.many) named.1;
     dry = r.dry;
     owes_nothing = r.owes_nothing;
+    bare = r.bare;
   }
 
   pub running-applied : AppliesNext h.home new → LeadsOn h.home new → IsSettled (gives h.actor) new.cell.acts new →

@@ -58,6 +58,7 @@ module _ (gives : ℕ → Moment → Reply → Type 0) (origin : Origin (Box Con
     sends = r.sends;
     dry = r.dry;
     owes_nothing = r.owes_nothing;
+    bare = r.bare;
   }
 
   module _ (seen : List Sight) (h : Hold) where
@@ -84,6 +85,7 @@ module _ (gives : ℕ → Moment → Reply → Type 0) (origin : Origin (Box Con
       sends = sends;
       dry = r.dry;
       owes_nothing = r.owes_nothing;
+      bare = r.bare;
     }
 
     -- the same acts are left, and the same is dead and beside the cell
@@ -147,6 +149,7 @@ module _ (gives : ℕ → Moment → Reply → Type 0) (origin : Origin (Box Con
       sends = sends;
       dry = r.dry;
       owes_nothing = r.owes_nothing;
+      bare = r.bare;
     }
 
     pub running-suspend : (rest : List Act) → IsRunning gives origin (SuspendSelf ∷ rest) seen h →
@@ -197,6 +200,7 @@ module _ (gives : ℕ → Moment → Reply → Type 0) (origin : Origin (Box Con
       sends = sends;
       dry = r.dry;
       owes_nothing = r.owes_nothing;
+      bare = r.bare;
     }
 
     module _ (rest : List Act) (to : ActorId) (message : SysMsg) (r : IsRunning gives origin (Sys to message ∷ rest) seen h) where
@@ -259,6 +263,7 @@ module _ (gives : ℕ → Moment → Reply → Type 0) (origin : Origin (Box Con
       sends = r.sends;
       dry = dry;
       owes_nothing = r.owes_nothing;
+      bare = r.bare;
     }
 
     pub running-drained : (pending : List Act) (gave : Bool) (given : ℕ) (result : List (ℕ × SysMsg)) → IsRunning gives origin pending seen h →

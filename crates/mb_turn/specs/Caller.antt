@@ -40,15 +40,17 @@ module _ {H : Type 0} where
   abbrev pub IsPaid : ℕ → Caller H → Type 0
   IsPaid id caller = (owes id caller.view ≡ nothing) ⊎ (is_owed caller.account.owed id ≡ true)
 
-  -- it saw more; and it owes each actor nothing, or a look, or what it did before
+  -- it saw more, and has the share that it had; and it owes each actor nothing, or a look, or what it did before
   pub record GoesFurther (old new : Caller H) : Type 0 where
     pub more : List Sight
     pub log : new.view.log ≡ more ++ old.view.log
     pub account : OwesForRefusals old.account new.account
     pub debts : (id : ℕ) → IsPaid id new ⊎ (owes id new.view ≡ owes id old.view)
+    pub share : new.view.share ≡ old.view.share
 
-  -- It knows still all that it knew; and it owes each actor nothing, or a look, or what it did before.
+  -- It knows still all that it knew, and has the share that it had; and it owes each actor nothing, or a look, or what it did before.
   pub record LeavesCaller (old new : Caller H) : Type 0 where
     pub log : IsPart old.view.log new.view.log
     pub account : OwesForRefusals old.account new.account
     pub debts : (id : ℕ) → IsPaid id new ⊎ (owes id new.view ≡ owes id old.view)
+    pub share : new.view.share ≡ old.view.share

@@ -12,7 +12,8 @@ use Rattle.mb_home.specs.Contents.{Contents}
 
 -- The gates that it is of; its actor; the status; what lies at the actor's home; the journal with which it was taken, and the actors of
 -- which its home said then that they are closed; whether the last drain gave something, and how many messages the list gave, modulo 2^64;
--- what was said for it, the earliest first; what its own seat saw and did, the newest first; and what that owes.
+-- what was said for it, the earliest first; what its own seat saw and did, the newest first; what that owes;
+-- and its share of the one whole of all passes.
 pub record Hold : Type 0 where
   pub gates : TableId
   pub actor : ℕ
@@ -25,6 +26,7 @@ pub record Hold : Type 0 where
   pub recorded : List Said
   pub log : List Sight
   pub debts : List (ℕ × Debt)
+  pub share : List ℕ
 
 abbrev pub hold_of : Claim (Box Contents) → Hold
 hold_of claim = record {
@@ -39,4 +41,5 @@ hold_of claim = record {
   recorded = recorded_by claim;
   log = (known_of claim).log;
   debts = (known_of claim).debts;
+  share = (known_of claim).share;
 }

@@ -24,7 +24,8 @@ IsShutTo seen hold other = IsAmong other hold.closed_to ⊎ IsAmong (Read other 
 -- The claim is of one of the actors of these gates, and what lies at its home is that actor's own, and says who the actors are as the gates'
 -- first home does. The home agrees with its journal, and the status and what was said in the run are what the journal says, but for these
 -- acts, which are still to be carried out. The home and these acts name actors of these gates alone. Each actor that the home says is closed
--- is known to be. Each envelope was taken when no system message was left to be drained. The claim's seat owes nothing.
+-- is known to be. Each envelope was taken when no system message was left to be drained. The claim's seat owes nothing,
+-- and has no share.
 pub record IsRunning (gives : ℕ → Moment → Reply → Type 0) (origin : Origin (Box Contents)) (pending : List Act) (seen : List Sight) (hold : Hold)
     : Type 0 where
   pub ours : hold.gates ≡ origin.gates
@@ -40,6 +41,7 @@ pub record IsRunning (gives : ℕ → Moment → Reply → Type 0) (origin : Ori
   pub sends : SendsBelow origin.actors pending
   pub dry : TakesDry hold.actor hold.log
   pub owes_nothing : hold.debts ≡ []
+  pub bare : hold.share ≡ []
 
 -- What was drained: the home knows how many messages the list gave. Beside an open one's cell something is left only if the last drain gave
 -- something, beside a closed one's nothing is.

@@ -77,7 +77,7 @@ returns-in-Ok-clause-goes g c =
     let last = run.new.claim in
     let here : c.actor-actor.result.0 ≡ held_actor last = c.actor-actor.ensures ∙ sym run.ensures.turning.1.actor in
     leaves-caller (held_actor last) last.home.value.cell.journal (known_of last) (known_by c.release.new.pass) _ _ _
-    run.ensures.running.owes_nothing c.release.ensures.known
+    run.ensures.running.owes_nothing run.ensures.running.bare c.release.ensures.known
     (subst (λ n. LooksAfter n (known_by c.release.new.pass) (known_by c.register.new.self.pass)) here c.register.ensures.looks)
     run.ensures.goes (account-woken c.actor-actor.result.0 _ _ c.register.result c.register.ensures.woken)
     (subst (λ n. IsPaid n (caller_of g.W.Way.pushed g.W.Way.refused c.register.new.self)) here c.register.ensures.paid)
@@ -88,7 +88,7 @@ returns-in-Err-clause-goes g c =
     let last = run.new.claim in
     let here : c.actor-actor.result.0 ≡ held_actor last = c.actor-actor.ensures ∙ sym run.ensures.turning.1.actor in
     leaves-caller (held_actor last) last.home.value.cell.journal (known_of last) (known_by c.release.new.pass) _ _ _
-    run.ensures.running.owes_nothing c.release.ensures.known
+    run.ensures.running.owes_nothing run.ensures.running.bare c.release.ensures.known
     (subst (λ n. LooksAfter n (known_by c.release.new.pass) (known_by c.register.new.self.pass)) here c.register.ensures.looks)
     run.ensures.goes (account-woken c.actor-actor.result.0 _ _ c.register.result c.register.ensures.woken)
     (subst (λ n. IsPaid n (caller_of g.W.Way.pushed g.W.Way.refused c.register.new.self)) here c.register.ensures.paid)

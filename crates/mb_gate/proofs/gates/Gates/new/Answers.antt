@@ -1,5 +1,4 @@
 use Rattle.std.proofs.Common.{◌≡◌, length, Some, ap, sym, ◌∙◌, arith}
-use Rattle.mb_gate.specs.declared.slot.Slot.TheVariants.{First}
 use Rattle.mb_gate.specs.Starts.{rows_of, homes_in}
 use Rattle.mb_gate.proofs.Rows.{length-rows_of, length-shelves_of, homes_in-shelves_of}
 use Rattle.mb_gate.proofs.Starting.{starts}
@@ -21,7 +20,7 @@ invariant_of-result g c =
     let slots = ap length c.shelve-slots.ensures.slots ∙ length-shelves_of c.args.homes.items in
     let made = c.in-Ok-new.ensures.ok in
     let same = some_same c.first_of-2.result.value c.first_of.result.value (sym c.first_of-2.ensures ∙ c.first_of.ensures) in
-    let known = (λ i. First (record { marker = c.first_of.result.marker; value = same i })) ∙ ap (λ k. First k.first) (sym made.5) in
+    let known = (λ i. record { marker = c.first_of.result.marker; value = same i }) ∙ ap (λ k. k.first) (sym made.5) in
     record {
       wide = made.0 ∙ (words ∙ (omega arith));
       deep = made.1 ∙ (slots ∙ (omega arith));

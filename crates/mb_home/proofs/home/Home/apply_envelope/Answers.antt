@@ -34,7 +34,10 @@ returns-clause-settled g c =
     (sym (ap (λ (x : Contents). record x { cell = new; take = c.take.new.self }) c.self.view_is))
     (settled-taken h g.K.Behaviours.gives new c.take.new.self e (word_of c.args.reading) c.requires.settled c.requires.open c.requires.room
     (subst (λ (x : Contents). TakesEnvelope x.cell new e (word_of c.args.reading)) c.self.view_is c.apply_envelope.ensures.taken)
-    c.apply_envelope.ensures.lawful (c.take.ensures.same.0 ∙ ap (λ (x : Contents). x.take.queue) c.self.view_is)
+    c.apply_envelope.ensures.lawful (
+      c.take.ensures.same.0 ∙ ap (λ (x : Contents). x.take.queue) c.self.view_is,
+      c.take.ensures.same.1 ∙ ap (λ (x : Contents). x.take.turns) c.self.view_is,
+    )
     (c.in-Some.ensures.taken ∙ ap (λ (x : Contents). x.take.taken ++ e ∷ []) c.self.view_is))
 
 pub returns-clause-leads : goal.returns-clause-leads
@@ -56,6 +59,8 @@ returns-in_default-clause-settled g c =
     subst (λ (x : Contents). IsSettled (g.K.Behaviours.gives x.cell.who.this.0) x.cell.acts x)
     (sym (ap (λ (x : Contents). record x { take = c.take.new.self }) c.self.view_is))
     (settled-take h (g.K.Behaviours.gives h.cell.who.this.0) h.cell.acts c.take.new.self
-    (subst (λ (l : List Act). IsSettled (g.K.Behaviours.gives h.cell.who.this.0) l h) (sym c.requires.carried_out) c.requires.settled)
-    (c.take.ensures.same.0 ∙ ap (λ (x : Contents). x.take.queue) c.self.view_is)
+    (subst (λ (l : List Act). IsSettled (g.K.Behaviours.gives h.cell.who.this.0) l h) (sym c.requires.carried_out) c.requires.settled) (
+      c.take.ensures.same.0 ∙ ap (λ (x : Contents). x.take.queue) c.self.view_is,
+      c.take.ensures.same.1 ∙ ap (λ (x : Contents). x.take.turns) c.self.view_is,
+    )
     (c.in_default.ensures.taken ∙ append-nil c.self.inside.take.taken ∙ ap (λ (x : Contents). x.take.taken) c.self.view_is))

@@ -14,8 +14,10 @@ returns-clause-settled g c =
     ∙ ap (λ (l : List Envelope). l ++ e ∷ []) c.reserve.ensures.items
     ∙ ap (λ (x : Contents). x.cleaned ++ e ∷ []) c.self.view_is in
     let done =
-    settled-clean h (g.K.Behaviours.gives h.cell.who.this.0) h.cell.acts c.take.new.self e c.requires.settled c.requires.ended
-    (c.take.ensures.same.0 ∙ ap (λ (x : Contents). x.take.queue) c.self.view_is)
+    settled-clean h (g.K.Behaviours.gives h.cell.who.this.0) h.cell.acts c.take.new.self e c.requires.settled c.requires.ended (
+      c.take.ensures.same.0 ∙ ap (λ (x : Contents). x.take.queue) c.self.view_is,
+      c.take.ensures.same.1 ∙ ap (λ (x : Contents). x.take.turns) c.self.view_is,
+    )
     (c.in-Some.ensures.taken ∙ ap (λ (x : Contents). x.take.taken ++ e ∷ []) c.self.view_is) in
     subst (λ (x : Contents). IsSettled (g.K.Behaviours.gives x.cell.who.this.0) x.cell.acts x)
     (sym (ap (λ (x : Contents). record x { take = c.take.new.self; cleaned = c.push_reserved.new.self.items }) c.self.view_is))

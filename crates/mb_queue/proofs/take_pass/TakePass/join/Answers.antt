@@ -8,8 +8,9 @@ use Rattle.mb_queue.specs.declared.order.Order.{Order}
 use Rattle.mb_queue.specs.declared.order.Order.TheVariants.{ControlFirst, FirstInFirstOut, ByRank}
 use Rattle.mb_queue.specs.declared.take_pass.TakePass.TheInside.{Inside}
 use Rattle.mb_queue.specs.Passes.{Sending, Taking}
-use Rattle.mb_queue.specs.Kept.{IsSending, IsTaking}
+use Rattle.mb_queue.specs.Kept.{IsSending, IsTaking, IsTakePass}
 use Rattle.mb_queue.proofs.Joins.{control_joined, fifo_joined, joined, rank_joined}
+use Rattle.mb_queue.proofs.Ours.{ours-joined}
 use Rattle.mb_queue.proofs.take_pass.TakePass.join.Goals as goal
 use Rattle.mb_queue.proofs.take_pass.TakePass.join.Goals.{in-ControlFirst-Some, in-FirstInFirstOut-None, in-ByRank-None}
 
@@ -18,15 +19,15 @@ invariant_of-self c =
     let i = c.self.inside in let p = c.pass.inside in let by : ℕ = p.by.0 in
     let back : (order : Order) (now : Inside) → now ≡ record { main = c.join.new.self; order = order; taken = i.taken; accounts = i.accounts }
     → c.match-self.self-inside ≡ now → IsTaking (joined i.main p.main) order i.taken (i.accounts ++ home by p.pushed ∷ [])
-    → IsTaking c.match-self.self-inside.main c.match-self.self-inside.order c.match-self.self-inside.taken c.add.new.self
-    = λ order now is here. subst (λ (y : Inside × List Account). IsTaking y.0.main y.0.order y.0.taken y.1) (λ k. (
+    → IsTakePass c.match-self.self-inside.main c.match-self.self-inside.order c.match-self.self-inside.taken c.add.new.self
+    = λ order now is here kept. subst (λ (y : Inside × List Account). IsTakePass y.0.main y.0.order y.0.taken y.1) (λ k. (
       sym (here ∙ is ∙ (λ l. record { main = c.join.ensures l; order = order; taken = i.taken; accounts = i.accounts })) k,
       sym (c.add.ensures ∙ ap (λ (j : Inside). j.accounts ++ home by p.pushed ∷ []) (here ∙ is)) k,
-    )) in
+    )) (kept, ours-joined i.main p.main i.order order i.taken c.self.invariant.1) in
     let sent : (control : Option Known) → p.control ≡ control → IsSending by p.main control p.pushed
     = λ control is. subst (λ o. IsSending by p.main o p.pushed) is c.pass.invariant in
     let kept : (order : Order) → i.order ≡ order → IsTaking i.main order i.taken i.accounts
-    = λ order is. subst (λ o. IsTaking i.main o i.taken i.accounts) is c.self.invariant in
+    = λ order is. subst (λ o. IsTaking i.main o i.taken i.accounts) is c.self.invariant.0 in
     elim c.match-self.branch [
       | in-ControlFirst-Some w ↦
           let own = w.in-ControlFirst-Some.own in let his = w.in-ControlFirst-Some.control in

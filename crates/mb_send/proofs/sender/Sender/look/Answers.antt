@@ -15,4 +15,5 @@ invariant_of-self g c =
       routes = old.routes;
       vouched = subst (λ (v : View). are_vouched v.log dead ≡ true) (sym c.status-status.ensures.known)
           (vouched-seen (Read c.args.to.0 (word_of c.status-status.result)) (known_by old.waker.pass).log dead old.vouched);
+      bounded = old.bounded;
     }

@@ -1,16 +1,19 @@
 use Rattle.std.proofs.Common.{◌≡◌, ◌∙◌, ◌+◌, ◌-◌, ◌<◌, ◌++◌, [], ◌∷◌, ℕ, List}
-use Rattle.std.proofs.Common.{length, true, Some, None, refl, subst, sym, ap, slice_set, arith}
+use Rattle.std.proofs.Common.{length, true, Some, None, refl, subst, sym, ap, slice_get, slice_set, arith}
 use Rattle.mb_msg.specs.declared.id.SenderId.{SenderId}
 use Rattle.std.proofs.lemmas.Option.{slice_get_read}
 use Rattle.mb_msg.specs.declared.envelope.Envelope.{Envelope}
 use Rattle.mb_fates.specs.declared.posting.Posting.{Posting}
 use Rattle.mb_send.specs.Answers.{counts, says}
 use Rattle.mb_send.specs.Posted.{envelope_of, posting}
-use Rattle.mb_send.specs.Sends.{AreRoutes}
+use Rattle.mb_send.specs.Sends.{AreRoutes, receiving_queues}
+use Rattle.mb_send.specs.Bounded.{are_of_bounded, has_bound, may_be_refused}
+use Rattle.mb_send.proofs.Bounding.{bounded-queued, bounded-dead, may-find-full}
 use Rattle.mb_gate.specs.Names.{known_by}
 use Rattle.mb_send.proofs.Answering.{why-told}
 use Rattle.mb_wake.proofs.Views.{does-then, does-sending, does-unsending}
-use Rattle.mb_send.proofs.Routes.{routes-more, routes-dead}
+use Rattle.mb_queue.specs.Passes.{Queue, Sending}
+use Rattle.mb_send.proofs.Routes.{routes-more, routes-dead, queue-there, queues-set}
 use Rattle.mb_send.proofs.Vouching.{vouched-does, vouched-queued, vouched-dead, may-refuse}
 use Rattle.mb_send.specs.Vouched.{has_seen_closed, are_vouched}
 use Rattle.mb_fates.specs.Accepted.{dead_letters}
@@ -57,6 +60,24 @@ returns-in-Err-clause-sent g c =
           c.register-in-Err.ensures.looks;
     }
 
+pub returns-in-Ok-clause-queues : goal.returns-in-Ok-clause-queues
+returns-in-Ok-clause-queues g c =
+    let id = c.args.ticket.to.0 in
+    let items = c.args.self.now.sends.items in
+    let old = c.index_mut.result.now in
+    let lt : id - 1 < length items = omega (arith, c.requires.all, c.requires.there.0, c.requires.there.1) in
+    queues-set items (id - 1) old c.push.new.self (slice_get_read items (length items) (id - 1) old refl lt c.index_mut.ensures.value)
+    (ap (λ (s : Sending). s.queue) c.in-Ok.ensures.pushed)
+
+pub returns-in-Err-clause-queues : goal.returns-in-Err-clause-queues
+returns-in-Err-clause-queues g c =
+    let id = c.args.ticket.to.0 in
+    let items = c.args.self.now.sends.items in
+    let old = c.index_mut.result.now in
+    let lt : id - 1 < length items = omega (arith, c.requires.all, c.requires.there.0, c.requires.there.1) in
+    queues-set items (id - 1) old c.push.new.self (slice_get_read items (length items) (id - 1) old refl lt c.index_mut.ensures.value)
+    (ap (λ (s : Sending). s.queue) c.in-Err.ensures.pushed.1)
+
 pub invariant_of-self-in-Ok : goal.invariant_of-self-in-Ok
 invariant_of-self-in-Ok g c =
     let book = c.args.self.now.book in
@@ -75,6 +96,7 @@ invariant_of-self-in-Ok g c =
     let q = ap (λ (s : SenderId). s.0) (c.post_queued.ensures.by ∙ c.ready.ensures.same.0) in
     let qs = sym q in
     let ps = sym p in
+    let queues = queues-set items k old c.push.new.self there (ap (λ (s : Sending). s.queue) c.in-Ok.ensures.pushed) in
     record {
       routes = subst (λ (y : ℕ × List Posting). AreRoutes y.0 y.1 (slice_set items k c.push.new.self)) (λ i. (qs i, ps i))
           (routes-more book.by.0 book.posted items c.args.self.now.routes k old there e c.push.new.self c.in-Ok.ensures.pushed here);
@@ -84,6 +106,8 @@ invariant_of-self-in-Ok g c =
           (does-then to (counts to None) [] (known_by before) (known_by counted) (known_by after)
           (does-sending to (known_by before) (known_by counted) c.note_sent.ensures.known) c.register.ensures.looks)
           c.args.self.now.vouched));
+      bounded = subst (λ (y : List Queue × List Posting). are_of_bounded y.0 (dead_letters y.1) ≡ true) (λ i. (sym queues i, ps i))
+          (bounded-queued (receiving_queues items) book.posted e c.args.self.now.bounded);
     }
 
 pub invariant_of-self-in-Err : goal.invariant_of-self-in-Err
@@ -105,6 +129,8 @@ invariant_of-self-in-Err g c =
     let q = ap (λ (s : SenderId). s.0) (c.post_dead.ensures.by ∙ c.ready.ensures.same.0) in
     let qs = sym q in
     let ps = sym p in
+    let queues = queues-set items k old c.push.new.self there (ap (λ (s : Sending). s.queue) c.in-Err.ensures.pushed.1) in
+    let its = ap (λ (x : Envelope). x.to.0) c.next-envelope.ensures in
     record {
       routes = subst (λ (y : ℕ × List Posting). AreRoutes y.0 y.1 (slice_set items k c.push.new.self)) (λ i. (qs i, ps i))
           (routes-dead book.by.0 book.posted items c.args.self.now.routes k old there e c.push.new.self why c.in-Err.ensures.pushed.1);
@@ -115,4 +141,9 @@ invariant_of-self-in-Err g c =
           (does-then to (counts to (Some why)) [] (known_by before) (known_by back) (known_by after)
           (does-unsending to (known_by before) (known_by counted) (known_by back) c.note_sent.ensures.known c.note_unsent.ensures.known)
           c.register-in-Err.ensures.looks) c.args.self.now.vouched));
+      bounded = subst (λ (y : List Queue × List Posting). are_of_bounded y.0 (dead_letters y.1) ≡ true) (λ i. (sym queues i, ps i))
+          (bounded-dead (receiving_queues items) book.posted e why
+          (subst (λ (n : ℕ). may_be_refused (has_bound (slice_get (receiving_queues items) (n - 1))) why ≡ true) (sym its)
+          (may-find-full (receiving_queues items) k old c.in-Err.refused why (queue-there items k old there) c.in-Err.ensures.refused
+          c.why_of-why.ensures)) c.args.self.now.bounded);
     }

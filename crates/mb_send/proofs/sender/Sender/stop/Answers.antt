@@ -19,6 +19,7 @@ invariant_of-self g c =
       routes = old.routes;
       vouched = vouched-does c.args.id.0 [] [] (known_by c.sys_enqueue.new.pass) (known_by c.register.new.self.pass) dead
           c.register.ensures.looks said;
+      bounded = old.bounded;
     }
 
 pub invariant_of-self-2 : goal.invariant_of-self-2
@@ -32,4 +33,5 @@ invariant_of-self-2 g c =
       routes = old.routes;
       vouched = vouched-does c.args.id.0 [] [] (known_by c.sys_enqueue.new.pass) (known_by c.register-2.new.self.pass) dead
           c.register-2.ensures.looks listed;
+      bounded = old.bounded;
     }

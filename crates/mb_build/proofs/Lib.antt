@@ -1,0 +1,4 @@
+pub mod HandedLemmas
+pub mod KindLemmas
+pub mod NumberLemmas
+pub mod ReasonLemmas

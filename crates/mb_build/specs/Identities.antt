@@ -1,0 +1,66 @@
+-- Who the actors of a plan are (`akka.actor.ActorContext`: parent and children; that children are planned is this project's own profile).
+use Rattle.std.specs.Prelude.{◌≡◌, ℕ, ◌+◌, ◌<◌, ◌^◌, ◌==◌, if◌then◌else◌, List, [], ◌∷◌, IfSome, Some, None, negsuc, false}
+use Rattle.mb_msg.specs.declared.id.ActorId.{ActorId}
+use Rattle.mb_journal.specs.declared.strategy.Strategy.{Strategy}
+use Rattle.mb_journal.specs.Identity.{Identity, is_guardian}
+use Rattle.mb_rule.specs.Seen.{Each}
+
+abbrev pub id : ℕ → ActorId
+id number = record { 0 = number }
+
+-- of the actors with these parents, which are numbered on from this one, those whose parent has this number
+abbrev pub children_from : ℕ → ℕ → List ActorId → List ActorId
+children_from number parent [] = []
+children_from number parent (p ∷ parents) =
+    if p.0 == parent then id number ∷ children_from (number + 1) parent parents else children_from (number + 1) parent parents
+
+-- the guardian over so many actors, which decides by the default decider alone
+abbrev pub guardian : ℕ → ℕ → List ActorId → Identity
+guardian actors limit parents = record {
+  this = id 0;
+  parent = None;
+  actors = actors;
+  prepared = children_from 1 0 parents;
+  strategy = [];
+  retries = negsuc 0;
+  all_for_one = false;
+  limit = limit;
+}
+
+-- an actor by its number, its parent and its strategy
+abbrev pub planned : ℕ → ℕ → List ActorId → ℕ → ActorId → Strategy → Identity
+planned actors limit parents number parent strategy = record {
+  this = id number;
+  parent = Some parent;
+  actors = actors;
+  prepared = children_from 1 number parents;
+  strategy = strategy.rows.items;
+  retries = strategy.retries;
+  all_for_one = strategy.all_for_one;
+  limit = limit;
+}
+
+-- the actors of these parents and strategies, numbered on from this one
+abbrev pub planned_from : ℕ → ℕ → List ActorId → ℕ → List ActorId → List Strategy → List Identity
+planned_from actors limit all number (p ∷ parents) (s ∷ strategies) =
+    planned actors limit all number p s ∷ planned_from actors limit all (number + 1) parents strategies
+planned_from actors limit all number _ _ = []
+
+-- the guardian and all actors
+abbrev pub identities : ℕ → ℕ → List ActorId → List Strategy → List Identity
+identities actors limit parents strategies = guardian actors limit parents ∷ planned_from actors limit parents 1 parents strategies
+
+-- the actor of this number among so many: the one with the number 0 is the guardian, its parent and its children are among them, and a
+-- journal's limit is a number of 32 bits
+pub record IsPlanned (actors number : ℕ) (who : Identity) : Type 0 where
+  pub this : who.this ≡ id number
+  pub actors_are : who.actors ≡ actors
+  pub guardian_is : is_guardian who ≡ (number == 0)
+  pub parent : IfSome who.parent (λ p. p.0 < actors)
+  pub prepared : Each (λ (x : ActorId). x.0 < actors) who.prepared
+  pub few : who.limit < 2 ^ 32
+
+-- so is each of these, which are numbered on from this one
+abbrev pub ArePlanned : ℕ → ℕ → List Identity → Type 0
+ArePlanned actors number [] = Unit {0}
+ArePlanned actors number (who ∷ all) = IsPlanned actors number who × ArePlanned actors (number + 1) all

@@ -1,0 +1,128 @@
+//! The actors' homes.
+ghost use Rattle.std.specs.Prelude.{◌≡◌, ℕ, ◌+◌, ◌<◌, ◌≤◌, [], ◌∷◌, List, IfOk, drop, length, map};
+ghost use Rattle.mb_queue.specs.declared.kind.Kind.{Kind};
+ghost use Rattle.mb_build.specs.Behaved.{AreBehaved};
+ghost use Rattle.mb_build.specs.Housed.{enrolled, AreAtFirst, AreFresh, IsHoused, unstarted};
+ghost use Rattle.mb_build.specs.Identities.{ArePlanned, identities};
+ghost use Rattle.mb_build.specs.Kinds.{AreQueues};
+ghost use Rattle.mb_build.specs.Made.{AreMade};
+ghost use Rattle.mb_build.specs.Numbers.{sender_numbers};
+ghost use Rattle.mb_build.specs.Reasons.{bad_bounds, bad_parents};
+
+use crate::cells::cells;
+use crate::planned::{Planned, take_apart};
+use crate::queues::{Queues, make_queues};
+use mb_actor::{Actor, Behaviours};
+use mb_cell::Cell;
+use mb_home::{Home, Named};
+use mb_msg::ActorId;
+use mb_plan::ActorPlan;
+use mb_queue::{SendPass, TakePass};
+use std::alloc::{AllocError, Global};
+use std::mem;
+use std::snapshot::Snapshot;
+
+/// The homes of all actors, the guardian's first, and for each sender outside its passes into the queues from actor 1 on.
+pub struct Housed<A: Actor, K: Behaviours> {
+    pub homes: Vec<Box<Home<A, K>>>,
+    pub outside: Vec<Vec<SendPass>>,
+}
+
+/// The homes of the guardian and of these actors, to none of which anything came yet, as they are planned.
+pub fn house<A: Actor, K: Behaviours>(
+    alloc: Global,
+    plans: Vec<ActorPlan>,
+    actors: Vec<A>,
+    senders: u32,
+    journal_limit: u32,
+) -> Result<Housed<A, K>, AllocError>
+    requires few { (length plans.items < 64) × (senders ≤ 16) }
+    requires right { (bad_parents 1 plans.items ≡ []) × (bad_bounds 1 plans.items ≡ []) }
+    requires many { length actors.items ≡ length plans.items }
+    requires behaved { AreBehaved A.content A.after A.gives K.after K.gives 1 actors.items }
+    ensures { IfOk result (λ housed. (kinds : List Kind) × AreQueues plans.items kinds
+        × IsHoused K.gives (identities (length plans.items + 1) journal_limit (map (λ a. a.parent) plans.items) (map (λ a. a.strategy) plans.items))
+        kinds senders housed.homes.items (map (λ row. row.items) housed.outside.items)) }
+{
+    let Planned {
+        parents,
+        kinds,
+        strategies,
+    } = take_apart(alloc, plans)?;
+    let Queues {
+        guardian,
+        takes,
+        senders,
+    } = make_queues(alloc, kinds, senders)?;
+    let cells = cells(alloc, actors, &parents, strategies, journal_limit)?;
+    let roll = enroll(alloc, &cells, &guardian, &takes)?;
+    homes(alloc, cells, guardian, takes, senders, &roll)
+}
+
+/// Who the actors are.
+fn enroll<A: Actor, K: Behaviours>(
+    alloc: Global,
+    cells: &[Cell<A, K>],
+    guardian: &TakePass,
+    takes: &[TakePass],
+) -> Result<Vec<Named<A, K>>, AllocError>
+    requires { length cells.now ≡ length takes.now + 1 }
+    ensures { IfOk result (λ roll. map (λ n. record { who = n.cell.value.who; queue = n.take.value.queue; turns = n.take.value.turns }) roll.items
+        ≡ enrolled (map (λ c. c.who) cells.now) (guardian.now ∷ takes.now)) }
+{
+    let mut roll = Vec::with_capacity(alloc, cells.len())?;
+    for number in 0..cells.len() {
+        let take = if number == 0 {
+            guardian
+        } else {
+            &takes[number - 1]
+        };
+        roll.push(Named {
+            cell: Snapshot::of(&cells[number]),
+            take: Snapshot::of(take),
+        })?;
+    }
+    Ok(roll)
+}
+
+/// Each cell gets its passes.
+fn homes<A: Actor, K: Behaviours>(
+    alloc: Global,
+    cells: Vec<Cell<A, K>>,
+    guardian: TakePass,
+    takes: Vec<TakePass>,
+    senders: Vec<Vec<SendPass>>,
+    roll: &Vec<Named<A, K>>,
+) -> Result<Housed<A, K>, AllocError>
+    requires few { length cells.items ≤ 64 }
+    requires cells { (cells.items ≡ map unstarted (map (λ c. c.who) cells.items)) × ArePlanned (length cells.items) 0 (map (λ c. c.who) cells.items) }
+    requires made { (kinds : List Kind) × (outside : ℕ) × (length cells.items ≡ length kinds + 1) × (outside ≤ 16)
+        × AreMade kinds (sender_numbers (length cells.items) outside) guardian takes.items (map (λ row. row.items) senders.items) }
+    requires roll { map (λ n. record { who = n.cell.value.who; queue = n.take.value.queue; turns = n.take.value.turns }) roll.now.items
+        ≡ enrolled (map (λ c. c.who) cells.items) (guardian ∷ takes.items) }
+    ensures first { IfOk result (λ housed. AreAtFirst (enrolled (map (λ c. c.who) cells.items) (guardian ∷ takes.items)) takes.items 0
+        (map (λ c. c.who) cells.items) (guardian ∷ takes.items) housed.homes.items) }
+    ensures fresh { IfOk result (λ housed. AreFresh K.gives housed.homes.items) }
+    ensures outside { IfOk result (λ housed. map (λ row. row.items) housed.outside.items
+        ≡ drop (length cells.items) (map (λ row. row.items) senders.items)) }
+{
+    let mut homes = Vec::with_capacity(alloc, cells.len())?;
+    let mut next = Some(guardian);
+    let mut takes = takes.into_iter();
+    let mut senders = senders.into_iter();
+    for cell in cells {
+        let Some(take) = mem::replace(&mut next, takes.next()) else {
+            unreachable!();
+        };
+        let Some(sends) = senders.next() else {
+            unreachable!();
+        };
+        let home = Home::new(alloc, ActorId(homes.len() as u32), cell, take, sends, roll);
+        homes.push(Box::new(alloc, home)?)?;
+    }
+    let mut outside = Vec::with_capacity(alloc, senders.len())?;
+    for sends in senders {
+        outside.push(sends)?;
+    }
+    Ok(Housed { homes, outside })
+}

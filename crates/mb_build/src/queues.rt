@@ -1,0 +1,94 @@
+//! The queues of all actors, and for each sender its passes into them.
+ghost use Rattle.std.specs.Prelude.{◌≡◌, ◌+◌, ◌≤◌, ◌<◌, [], ◌++◌, All, IfOk, length, map, replicate};
+ghost use Rattle.mb_queue.specs.Made.{IsMakeable, numbers_of};
+ghost use Rattle.mb_build.specs.Handed.{handed};
+ghost use Rattle.mb_build.specs.Made.{AreMade};
+ghost use Rattle.mb_build.specs.Numbers.{numbers, sender_numbers};
+
+use mb_msg::limits::ACTORS;
+use mb_msg::{ActorId, SenderId};
+use mb_queue::{Kind, MailQueue, SendPass, TakePass};
+use std::alloc::{AllocError, Global};
+
+/// The take pass of each actor's queue, the guardian's apart; and for each sender, the actors first and then those outside,
+/// its passes into the queues from actor 1 on.
+pub(crate) struct Queues {
+    pub(crate) guardian: TakePass,
+    pub(crate) takes: Vec<TakePass>,
+    pub(crate) senders: Vec<Vec<SendPass>>,
+}
+
+/// Empty queues of these kinds, and one for the guardian, into which nobody has a pass.
+pub(crate) fn make_queues(
+    alloc: Global,
+    kinds: Vec<Kind>,
+    outside: u32,
+) -> Result<Queues, AllocError>
+    requires few { (length kinds.items < 64) × (outside ≤ 16) }
+    requires kinds { All IsMakeable kinds.items }
+    ensures { IfOk result (λ queues. AreMade kinds.items (sender_numbers (length kinds.items + 1) outside) queues.guardian queues.takes.items
+        (map (λ row. row.items) queues.senders.items)) }
+{
+    let actors = kinds.len() as u32 + 1;
+    let senders = senders(alloc, actors, outside)?;
+    let mut rows = rows(alloc, senders.len())?;
+    let mut takes = Vec::with_capacity(alloc, kinds.len())?;
+    let (guardian, _) = MailQueue::new(alloc, Kind::Unbounded, ActorId(0), &[])?;
+    for kind in kinds {
+        let to = ActorId(takes.len() as u32 + 1);
+        let (take, sends) = MailQueue::new(alloc, kind, to, &senders)?;
+        takes.push(take)?;
+        hand_out(&mut rows, sends)?;
+    }
+    Ok(Queues {
+        guardian,
+        takes,
+        senders: rows,
+    })
+}
+
+/// Who sends: as many actors, and as many senders outside.
+fn senders(alloc: Global, actors: u32, outside: u32) -> Result<Vec<SenderId>, AllocError>
+    requires { (actors ≤ 64) × (outside ≤ 16) }
+    ensures { IfOk result (λ all. numbers_of all.items ≡ sender_numbers actors outside) }
+{
+    let mut senders = Vec::new(alloc);
+    push_numbers(&mut senders, 0, actors)?;
+    push_numbers(&mut senders, ACTORS, outside)?;
+    Ok(senders)
+}
+
+/// So many numbers more, from the first on.
+fn push_numbers(senders: &mut Vec<SenderId>, first: u32, count: u32) -> Result<(), AllocError>
+    requires { first + count < 4294967296 }
+    ensures { IfOk result (λ _. numbers_of senders.new.items ≡ numbers_of senders.old.items ++ numbers first count) }
+{
+    for number in first..first + count {
+        senders.push(SenderId(number))?;
+    }
+    Ok(())
+}
+
+/// So many senders, which have no passes yet.
+fn rows(alloc: Global, count: usize) -> Result<Vec<Vec<SendPass>>, AllocError>
+    ensures { IfOk result (λ rows. map (λ row. row.items) rows.items ≡ replicate count []) }
+{
+    let mut rows = Vec::with_capacity(alloc, count)?;
+    for _row in 0..count {
+        rows.push(Vec::new(alloc))?;
+    }
+    Ok(rows)
+}
+
+/// Gives each sender its pass into one more queue.
+fn hand_out(rows: &mut [Vec<SendPass>], sends: Vec<SendPass>) -> Result<(), AllocError>
+    requires many { length sends.items ≡ length rows.old }
+    ensures handed { IfOk result (λ _. map (λ row. row.items) rows.new ≡ handed (map (λ row. row.items) rows.old) sends.items) }
+    ensures many { length rows.new ≡ length rows.old }
+{
+    let mut sends = sends;
+    while let Some(send) = sends.pop() {
+        rows[sends.len()].push(send)?;
+    }
+    Ok(())
+}

@@ -1,0 +1,86 @@
+-- What a report says of a whole system: each accepted envelope has one fate, and each actor is what its journal says.
+use Rattle.std.specs.Prelude.{◌≡◌, ◌≢◌, ◌⊎◌, ℕ, ◌+◌, ◌-◌, ◌<◌, ◌%◌, ◌^◌, ℤ, if◌then◌else◌, List, [], All, Contains, length, map, slice_get, Option, Some, None, nat_lt}
+use Rattle.mb_msg.specs.Limits.{most_actors}
+use Rattle.mb_msg.specs.declared.dead_letter.DeadLetter.{DeadLetter}
+use Rattle.mb_msg.specs.declared.dead_letter.Why.TheVariants as why
+use Rattle.mb_msg.specs.declared.envelope.Envelope.{Envelope}
+use Rattle.mb_actor.specs.Behaviour.{Moment, Reply}
+use Rattle.mb_actor.specs.declared.message.Message.{Message}
+use Rattle.mb_actor.specs.declared.phase.Phase.TheVariants.{Ended}
+use Rattle.mb_journal.specs.Aside.{aside, ever_aside, next_number}
+use Rattle.mb_journal.specs.Identity.{Identity, is_guardian}
+use Rattle.mb_journal.specs.Incarnation.{messages}
+use Rattle.mb_journal.specs.Lawful.{IsLawful}
+use Rattle.mb_journal.specs.Life.{closed, phase}
+use Rattle.mb_journal.specs.Suspension.{count}
+use Rattle.mb_fates.specs.Accepted.{IsNumbered, accepted, dead_letters}
+use Rattle.mb_fates.specs.Fates.{fates}
+use Rattle.mb_fates.specs.Pair.{IsInOrder, StandsAsOften, StandsOnce}
+use Rattle.mb_fates.specs.Told.{told}
+use Rattle.mb_fates.specs.declared.posting.Posting.{Posting}
+use Rattle.mb_home.specs.Numbers.{applied_numbers, numbers_in, times}
+use Rattle.mb_home.specs.Roll.{Enrolled, IsBounded}
+use Rattle.mb_queue.specs.Passes.{Turns, first_in_first_out}
+use Rattle.mb_report.specs.declared.report.ActorReport.{ActorReport}
+use Rattle.mb_report.specs.declared.report.Report.{Report}
+use Rattle.mb_report.specs.declared.report.SenderReport.{SenderReport}
+
+-- what became of the envelopes that came to an actor: begun, cleaned up when it ended, and left
+abbrev pub fates_in : ActorReport → List Envelope
+fates_in actor = fates actor.journal.entries actor.cleaned.items actor.left.items
+
+-- the number of the sender at this place of a report on so many actors: these come first, each with its own number; those outside are
+-- numbered on from as many as there can be actors
+abbrev pub sender_number : ℕ → ℕ → ℕ
+sender_number actors place = if nat_lt place actors then place else most_actors + (place - actors)
+
+-- What is reported of an actor is what its journal says, which is one that it can have, and it shows the content that the very actor handed
+-- in has after the messages since its last start. The guardian shows none.
+pub record IsReportOf (after : ℕ → List Message → ℤ) (gives : ℕ → Moment → Reply → Type 0) (who : Identity) (actor : ActorReport) : Type 0 where
+  pub lawful : IsLawful who (gives who.this.0) actor.journal.entries
+  pub phase_is : actor.phase ≡ phase who actor.journal.entries
+  pub count_is : actor.count ≡ count who actor.journal.entries
+  pub aside_is : actor.aside.items ≡ aside who actor.journal.entries
+  pub state_is : actor.state ≡ (if is_guardian who then None else Some (after who.this.0 (messages who actor.journal.entries)))
+
+-- each of the numbers below this one is of a system message that was applied once, or that is set aside or dead once; and all that are dead
+-- are counted: those that were set aside when the actor ended, and those that came after
+pub record CountsSystems (who : Identity) (actor : ActorReport) : Type 0 where
+  pub once : (n : ℕ) → n < next_number actor.journal.entries
+      → times n (applied_numbers actor.journal.entries) + times n (numbers_in (ever_aside actor.journal.entries)) ≡ 1
+  pub later : ℕ
+  pub dead : actor.dead_system ≡ ((if closed who actor.journal.entries then length (ever_aside actor.journal.entries) else 0) + later) % 2 ^ 64
+
+-- a dead letter says that its receiver is closed only of an actor that ended, and that it is full only of one with a bound
+abbrev pub IsRightReason : List Enrolled → List ActorReport → DeadLetter → Type 0
+IsRightReason roll actors d = (d.why ≡ why.Closed → (a : ActorReport) × (slice_get actors d.envelope.to.0 ≡ Some a) × (a.phase ≡ Ended))
+    × (d.why ≡ why.Full → IsBounded roll d.envelope.to.0)
+
+-- What a report says of all actors on a roll and of senders outside who were answered this, each for all that it sent.
+module _ (after : ℕ → List Message → ℤ) (gives : ℕ → Moment → Reply → Type 0) (roll : List Enrolled) (outside : List (List Posting)) where
+  pub record IsWhole (report : Report) : Type 0 where
+    pub many : (length report.actors.items ≡ length roll) × (length report.senders.items ≡ length roll + length outside)
+    pub actors : (id : ℕ) (e : Enrolled) (a : ActorReport) → slice_get roll id ≡ Some e → slice_get report.actors.items id ≡ Some a
+        → IsReportOf after gives e.who a × CountsSystems e.who a
+    -- what each sender was answered, by its place: an actor for all that its journal tells, one outside for all that it sent
+    pub answers : ℕ → List Posting
+    pub told_all : (id : ℕ) (e : Enrolled) (a : ActorReport) → slice_get roll id ≡ Some e → slice_get report.actors.items id ≡ Some a
+        → accepted (answers id) ≡ told e.who a.journal.entries
+    pub sent_all : (place : ℕ) (postings : List Posting) → slice_get outside place ≡ Some postings → answers (length roll + place) ≡ postings
+    pub sent : (place : ℕ) (s : SenderReport) → slice_get report.senders.items place ≡ Some s
+        → (s.sent ≡ length (answers place) % 2 ^ 64) × (s.dead.items ≡ dead_letters (answers place))
+        × IsNumbered (sender_number (length roll) place) 0 (accepted (answers place))
+        × All (IsRightReason roll report.actors.items) (dead_letters (answers place))
+    -- each accepted envelope has one fate, or is a dead letter; nothing else has a fate
+    pub once : (place id : ℕ) (a : ActorReport) → place < length report.senders.items → 0 < id → slice_get report.actors.items id ≡ Some a
+        → StandsOnce id (answers place) (fates_in a)
+        × StandsAsOften (sender_number (length roll) place) id (answers place) (fates_in a)
+    pub nothing_else : (id : ℕ) (a : ActorReport) → slice_get report.actors.items id ≡ Some a
+        → All (λ (e : Envelope). (place : ℕ) × (place < length report.senders.items) × (e.by.0 ≡ sender_number (length roll) place)) (fates_in a)
+    -- in the sender's order where the receiver's mailbox is first in, first out
+    pub in_order : (place id : ℕ) (e : Enrolled) (a : ActorReport) → place < length report.senders.items → 0 < id → slice_get roll id ≡ Some e
+        → slice_get report.actors.items id ≡ Some a → e.turns ≡ first_in_first_out
+        → IsInOrder (sender_number (length roll) place) id (answers place) (fates_in a)
+    -- only an actor that ended is cleaned up, and only to one that ended or is suspended envelopes are left
+    pub cleaned : (id : ℕ) (a : ActorReport) → slice_get report.actors.items id ≡ Some a → a.cleaned.items ≢ [] → a.phase ≡ Ended
+    pub left : (id : ℕ) (a : ActorReport) → slice_get report.actors.items id ≡ Some a → a.left.items ≢ [] → (a.phase ≡ Ended) ⊎ (0 < a.count)

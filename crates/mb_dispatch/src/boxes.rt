@@ -1,0 +1,109 @@
+//! A whole run on one thread, also of boxed actors of mixed kinds.
+use crate::build::BuildError;
+use crate::built::Built;
+use crate::failure::{RunError, of_sending};
+use crate::finish::{FinishError, Mismatch};
+use crate::job::{Order, What};
+use crate::sender::Sender;
+use crate::system::System;
+use mb_actor::{Actor, Behaviours};
+use mb_build::PlanError;
+use mb_msg::ActorId;
+use mb_plan::Plan;
+use mb_report::Report;
+use std::alloc::Global;
+use std::marker::Brand;
+use std::sync::Wait;
+
+/// Why a whole run gave no report.
+#[derive(Clone, Copy, Debug, PartialEq, Eq)]
+pub enum WholeError {
+    /// No system can be built from the plan.
+    BadPlan(PlanError),
+    /// Memory was refused.
+    NoMemory,
+    /// The run was broken off.
+    Run(RunError),
+    /// This actor has something to run still.
+    NotQuiet(ActorId),
+    /// What came apart at the end does not agree.
+    Mismatch(Mismatch),
+}
+
+/// Builds a system from a plan and boxed actors of any kinds, sends by each sender outside what stands at its place, runs it on
+/// this thread alone until nothing is left to run, and ends it: the report.
+pub fn run_boxed<R: Wait>(
+    rt: &R,
+    alloc: Global,
+    plan: Plan,
+    actors: Vec<Box<dyn Actor + Send>>,
+    sends: &[Vec<Order>],
+) -> Result<Report, WholeError> {
+    run_whole::<Box<dyn Actor + Send>, Brand, R>(rt, alloc, plan, actors, sends)
+}
+
+/// The same of actors of one type.
+pub fn run_whole<A: Actor, K: Behaviours, R: Wait>(
+    rt: &R,
+    alloc: Global,
+    plan: Plan,
+    actors: Vec<A>,
+    sends: &[Vec<Order>],
+) -> Result<Report, WholeError> {
+    let mut built = match System::<A, K>::build(rt, alloc, plan, actors) {
+        Ok(built) => built,
+        Err(BuildError::BadPlan(reason, _, _)) => return Err(WholeError::BadPlan(reason)),
+        Err(BuildError::NoMemory) => return Err(WholeError::NoMemory),
+    };
+    if let Err(error) = send_and_run(rt, &mut built, sends) {
+        return Err(WholeError::Run(error));
+    }
+    match built.finish(rt) {
+        Ok(report) => Ok(report),
+        Err(FinishError::NotQuiet(id, _)) => Err(WholeError::NotQuiet(id)),
+        Err(FinishError::Mismatch(mismatch)) => Err(WholeError::Mismatch(mismatch)),
+        Err(FinishError::NoMemory(_)) => Err(WholeError::NoMemory),
+        Err(FinishError::MissingEnd(_, _)) | Err(FinishError::MissingSender(_, _)) => {
+            unreachable!()
+        }
+    }
+}
+
+// Sends all, and runs what there is to run.
+fn send_and_run<A: Actor, K: Behaviours, R: Wait>(
+    rt: &R,
+    built: &mut Built<A, K>,
+    sends: &[Vec<Order>],
+) -> Result<(), RunError> {
+    let Built {
+        system,
+        ends,
+        senders,
+    } = built;
+    for (sender, orders) in senders.iter_mut().zip(sends) {
+        send_each(rt, system, sender, orders)?;
+    }
+    if let Some(first) = ends.first_mut() {
+        let _turns = first.run_quietly(rt, system)?;
+    }
+    Ok(())
+}
+
+// Sends what one sender has to send.
+fn send_each<A: Actor, K: Behaviours, R: Wait>(
+    rt: &R,
+    system: &System<A, K>,
+    sender: &mut Sender<A, K>,
+    orders: &[Order],
+) -> Result<(), RunError> {
+    for order in orders {
+        let sent = match order.what {
+            What::Tell(body) => sender.tell(rt, system, order.to, body).err(),
+            What::Stop => sender.stop(rt, system, order.to).err(),
+        };
+        if let Some(error) = sent {
+            return Err(of_sending(error));
+        }
+    }
+    Ok(())
+}

@@ -1,0 +1,136 @@
+//! How a system ends.
+ghost use Rattle.std.specs.Prelude.{All, List, IfErr, IfOk};
+ghost use Rattle.mb_fates.specs.declared.posting.Posting.{Posting};
+ghost use Rattle.mb_gate.specs.Names.{first_of, known_by};
+ghost use Rattle.mb_dispatch.specs.Belonging.{AreAnswers, BelongsTogether};
+ghost use Rattle.mb_dispatch.specs.Refused.{IsComplete, IsRefusal};
+ghost use Rattle.mb_dispatch.specs.Seen.{GoesOnFromAll};
+ghost use Rattle.mb_dispatch.specs.Whole.{IsWhole};
+
+use crate::built::Built;
+use crate::leaving::gather;
+use crate::missing::{arrange, missing_end, missing_sender};
+use crate::reckoning::{add_outside, report_on, take_apart};
+use crate::room::{Room, make_room};
+use crate::settled::first_unsettled;
+use mb_actor::{Actor, Behaviours};
+use mb_finish::{TooMany, settle};
+use mb_msg::ActorId;
+use mb_report::Report;
+use std::sync::Wait;
+
+/// Why there is no report.
+#[derive(Drop)]
+pub enum FinishError<A: Actor, K: Behaviours> {
+    /// The end of this worker is missing. All comes back.
+    MissingEnd(u32, Built<A, K>),
+    /// This sender is missing, counted from 0. All comes back.
+    MissingSender(u32, Built<A, K>),
+    /// This actor is scheduled, or has something to run. All comes back.
+    NotQuiet(ActorId, Built<A, K>),
+    /// Memory was refused. All comes back.
+    NoMemory(Built<A, K>),
+    /// What came apart does not agree. Nothing comes back.
+    Mismatch(Mismatch),
+}
+
+/// What does not agree at the end of a system.
+#[derive(Clone, Copy, Debug, PartialEq, Eq)]
+pub enum Mismatch {
+    /// A claim of this actor is still out.
+    Held(ActorId),
+    /// System messages to this actor are left.
+    List(ActorId),
+    /// Not as many envelopes are left for this actor as are counted as waiting.
+    Waiting(ActorId),
+}
+
+impl<A: Actor, K: Behaviours> Built<A, K> {
+    /// Ends the system: what became of each actor and each envelope.
+    ///
+    /// It answers the least number of a worker whose end is missing; else of a sender that is; else the least actor that is
+    /// scheduled or has something to run; else `NoMemory`. All comes back then, and the same call may be made again.
+    pub fn finish<R: Wait>(self, rt: &R) -> Result<Report, FinishError<A, K>>
+        requires together { BelongsTogether self }
+        ensures whole { IfOk result (λ report. (answers : List (List Posting)) × AreAnswers self.system.senders self.senders.items answers
+            × IsWhole K.after K.gives (first_of self.system.gates).value.roll answers report) }
+        ensures quiet { IfOk result (λ _. IsComplete self) }
+        ensures seen { IfOk result (λ report. All (λ e. GoesOnFromAll report (known_by e.waker.pass)) self.ends.items
+            × All (λ s. GoesOnFromAll report (known_by s.inner.waker.pass)) self.senders.items) }
+        ensures refused { IfErr result (IsRefusal self) }
+    {
+        if let Some(number) = missing_end(&self) {
+            return Err(FinishError::MissingEnd(number, self));
+        }
+        if let Some(number) = missing_sender(&self) {
+            return Err(FinishError::MissingSender(number, self));
+        }
+        let mut built = self;
+        if let Some(id) = unsettled(&mut built) {
+            return Err(FinishError::NotQuiet(id, built));
+        }
+        let Some(room) = room_of(&mut built) else {
+            return Err(FinishError::NoMemory(built));
+        };
+        arrange(&mut built.senders);
+        match reckon(rt, built, room) {
+            Ok(report) => Ok(report),
+            Err(mismatch) => Err(FinishError::Mismatch(mismatch)),
+        }
+    }
+}
+
+// The least actor that is scheduled or has something to run.
+fn unsettled<A: Actor, K: Behaviours>(built: &mut Built<A, K>) -> Option<ActorId> {
+    let Built {
+        system,
+        ends,
+        senders: _,
+    } = built;
+    let first = ends.first_mut()?;
+    first_unsettled(&system.gates, &mut first.waker.pass)
+}
+
+// All the room that is needed.
+fn room_of<A: Actor, K: Behaviours>(built: &mut Built<A, K>) -> Option<Room<A, K>> {
+    let Built {
+        system,
+        ends,
+        senders,
+    } = built;
+    let first = ends.first_mut()?;
+    make_room(
+        system.alloc,
+        &system.gates,
+        &mut first.waker.pass,
+        senders.len(),
+    )
+    .ok()
+}
+
+// Takes all apart.
+fn reckon<A: Actor, K: Behaviours, R: Wait>(
+    rt: &R,
+    built: Built<A, K>,
+    room: Room<A, K>,
+) -> Result<Report, Mismatch> {
+    let Room {
+        waiting,
+        homes,
+        mut ended,
+        mut takes,
+        mut rows,
+        mut lefts,
+        mut outside,
+        actors,
+        mut senders,
+    } = room;
+    let (gates, pass) = gather(built, &mut outside);
+    let all = gates.finish(pass, homes);
+    take_apart(all, &mut ended, &mut takes, &mut rows, &mut senders)?;
+    add_outside(outside, &mut rows, &mut senders);
+    if let Err(TooMany(place)) = settle(rt, takes, rows, &mut lefts[1..]) {
+        return Err(Mismatch::Waiting(ActorId(place as u32 + 1)));
+    }
+    report_on(ended, lefts, &waiting, actors, senders)
+}

@@ -1,0 +1,15 @@
+use Rattle.std.proofs.Common.{refl}
+use Rattle.mb_gate.specs.Untouched.{IsUntouched}
+use Rattle.mb_ways.proofs.WayLemmas.{none-tells, same-gates, taken-same}
+use Rattle.mb_ways.proofs.end_way.EndWay.take.Goals as goal
+
+pub returns-clause-none : goal.returns-clause-none
+returns-clause-none g c = none-tells _ _ _ c.take.result c.take.ensures.taken
+
+pub returns-clause-same : goal.returns-clause-same
+returns-clause-same g c = (
+  same-gates c.args.self.now.end c.take.new.self c.take.ensures.same,
+  taken-same (IsUntouched g.H.Resident.is_of g.H.Resident.journal g.H.Resident.mailbox g.H.Resident.rested g.H.Resident.given
+      g.H.Resident.closed_to) _ c.take.result c.args.self.now.end c.take.new.self c.take.ensures.taken,
+  refl,
+)

@@ -1,0 +1,64 @@
+//! A sender's feed of the pool as a way into it.
+ghost use Rattle.std.specs.Prelude.{◌≡◌};
+
+use crate::back::back;
+use mb_gate::{Claim, Resident};
+use mb_lane::Log;
+use mb_pool::Feed;
+use mb_wake::{Refused, Way};
+use std::snapshot::Snapshot;
+use std::sync::Wait;
+
+/// A feed of the pool, with what the pool refused of it, which takes no bytes.
+#[derive(Drop)]
+pub struct FeedWay<H: Resident> {
+    /// The feed.
+    pub feed: Feed<H>,
+    /// The claims that the pool refused, in order.
+    pub refused: Log<Snapshot<Claim<H>>>,
+}
+
+impl<H: Resident> FeedWay<H> {
+    /// The way by this feed, of which nothing was refused yet.
+    pub fn new(feed: Feed<H>) -> FeedWay<H>
+        ensures { result.feed ≡ feed }
+    {
+        FeedWay {
+            feed,
+            refused: Log::new(),
+        }
+    }
+}
+
+impl<H: Resident> Way<H> for FeedWay<H> {
+    ghost use Rattle.std.specs.Prelude.{[], ◌∷◌, ◌++◌, map, IfErr, MatchResult};
+    ghost use Rattle.mb_gate.specs.Untouched.{IsUntouched};
+    ghost use Rattle.mb_pool.specs.Places.{gates_of, looks};
+    ghost use Rattle.mb_ways.specs.Ways.{IsAsked, pushed_first};
+
+    ghost origin = { λ way. gates_of way.feed };
+
+    ghost pushed = { λ way. pushed_first (looks way.feed) };
+
+    ghost refused = { λ way. map (λ claim. claim.value) way.refused };
+
+    fn push<R: Wait>(&mut self, rt: &R, claim: Claim<H>) -> Result<(), Refused<H>>
+        requires untouched { IsUntouched H.is_of H.journal H.mailbox H.rested H.given H.closed_to (gates_of self.old.feed) claim }
+        ensures same { gates_of self.new.feed ≡ gates_of self.old.feed }
+        ensures pushed { MatchResult result
+            (λ _. (pushed_first (looks self.new.feed) ≡ pushed_first (looks self.old.feed) ++ claim ∷ [])
+            × (map (λ c. c.value) self.new.refused ≡ map (λ c. c.value) self.old.refused))
+            (λ back. (back.claim ≡ claim) × (pushed_first (looks self.new.feed) ≡ pushed_first (looks self.old.feed))
+            × (map (λ c. c.value) self.new.refused ≡ map (λ c. c.value) self.old.refused ++ claim ∷ [])) }
+        ensures asked { IfErr result (λ _. IsAsked (IsUntouched H.is_of H.journal H.mailbox H.rested H.given H.closed_to) self.old.feed claim) }
+    {
+        match self.feed.push(rt, claim) {
+            Ok(()) => Ok(()),
+            Err(refused) => {
+                let claim = back(refused);
+                self.refused.add(Snapshot::of(&claim));
+                Err(Refused { claim })
+            }
+        }
+    }
+}
