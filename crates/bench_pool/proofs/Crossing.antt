@@ -1,0 +1,13 @@
+-- A worker goes to a thread of its own.
+use denote.Param.Send.{IsSend, sendable}
+use denote.Param.SendFields.{declared_send}
+use Rattle.mb_msg.proofs.id.ActorId.TheSendSync as actor
+use Rattle.mb_desk.proofs.desk.Desk.TheSendSync as desk
+use Rattle.mb_desk.specs.contracts.desk.DeskResident.TheImpl as resident
+use Rattle.mb_gate.proofs.Crossing.{pass_send}
+use Rattle.mb_pool.proofs.Crossing.{end_send}
+use Rattle.bench_pool.specs.contracts.worker.Worker as worker
+
+pub worker_crosses : IsSend worker.the_row
+worker_crosses = declared_send worker.the_type
+    (end_send _ resident.ghosts desk.the_send, (pass_send _ desk.the_send, (search (sendable, actor.the_field_send, actor.the_send) depth 20, tt)))
