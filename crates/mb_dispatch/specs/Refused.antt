@@ -2,12 +2,14 @@
 use Rattle.std.specs.Prelude.{◌≡◌, ℕ, ◌<◌}
 use Rattle.mb_gate.specs.Names.{actors_of}
 use Rattle.mb_gate.specs.View.{View}
-use Rattle.mb_dispatch.specs.Belonging.{AreSettledBy, AreThere, IsBack, IsLeastMissing, IsUnsettled, ends_numbers, senders_numbers}
-use Rattle.mb_dispatch.specs.declared.built.Built.{Built}
-use Rattle.mb_dispatch.specs.declared.finish.FinishError.{FinishError}
-use Rattle.mb_dispatch.specs.declared.finish.FinishError.TheVariants.{MissingEnd, MissingSender, NotQuiet, NoMemory, Mismatch}
-use Rattle.mb_dispatch.specs.declared.finish.Mismatch.{Mismatch as What}
-use Rattle.mb_dispatch.specs.declared.finish.Mismatch.TheVariants.{Held, List as Listed, Waiting}
+use Rattle.mb_dispatch.specs.Belonging.{AreSettledBy, AreThere, IsBack, IsLeastMissing, IsUnsettled}
+use Rattle.mb_system.specs.Belonging.{senders_numbers}
+use Rattle.mb_system.specs.Members.{ends_numbers}
+use Rattle.mb_system.specs.declared.built.Built.{Built}
+use Rattle.mb_dispatch.specs.declared.ending.FinishError.{FinishError}
+use Rattle.mb_dispatch.specs.declared.ending.FinishError.TheVariants.{MissingEnd, MissingSender, NotQuiet, NoMemory, Mismatch}
+use Rattle.mb_dispatch.specs.declared.ending.Mismatch.{Mismatch as What}
+use Rattle.mb_dispatch.specs.declared.ending.Mismatch.TheVariants.{Held, List as Listed, Waiting}
 
 -- all ends and senders are there
 abbrev pub IsComplete : Built → Type 0

@@ -2,14 +2,13 @@
 ghost use Rattle.std.specs.Prelude.{◌≡◌, ◌≢◌, ◌≤◌, [], All, length, map, vec_capacity};
 ghost use Rattle.mb_gate.specs.Names.{gates_id, known_by, pass_id};
 ghost use Rattle.mb_gate.specs.Rule.{IsPart};
-ghost use Rattle.mb_dispatch.specs.Belonging.{BelongsTogether};
+ghost use Rattle.mb_system.specs.Belonging.{BelongsTogether};
 
-use crate::built::Built;
-use crate::system::System;
 use mb_actor::{Actor, Behaviours};
 use mb_gate::{Gates, Pass};
 use mb_queue::SendPass;
 use mb_send::Book;
+use mb_system::{Built, System};
 use mb_turn::Place;
 
 /// The gates, and the first end's pass, which took over what all others knew; and of each sender its passes and its book. What is
@@ -34,7 +33,7 @@ pub(crate) fn gather<A: Actor, K: Behaviours>(
     let System {
         gates,
         pool: _,
-        open: _,
+        going: _,
         workers: _,
         senders: _,
         throughput: _,

@@ -3,7 +3,7 @@ ghost use Rattle.std.specs.Prelude.{◌≡◌, ◌+◌, ◌<◌, ◌≤◌, [], 
 ghost use Rattle.mb_dispatch.specs.Apart.{AreApart, ShowsAll, ShowsCell, ended_of, sent_of};
 ghost use Rattle.mb_dispatch.specs.Refused.{of_whom};
 
-use crate::finish::Mismatch;
+use crate::ending::Mismatch;
 use crate::room::Ended;
 use mb_actor::{Actor, Behaviours};
 use mb_gate::Left;

@@ -2,12 +2,12 @@
 ghost use Rattle.std.specs.Prelude.{All, List, IfErr, IfOk};
 ghost use Rattle.mb_fates.specs.declared.posting.Posting.{Posting};
 ghost use Rattle.mb_gate.specs.Names.{first_of, known_by};
-ghost use Rattle.mb_dispatch.specs.Belonging.{AreAnswers, BelongsTogether};
+ghost use Rattle.mb_system.specs.Belonging.{BelongsTogether};
+ghost use Rattle.mb_dispatch.specs.Belonging.{AreAnswers};
 ghost use Rattle.mb_dispatch.specs.Refused.{IsComplete, IsRefusal};
 ghost use Rattle.mb_dispatch.specs.Seen.{GoesOnFromAll};
 ghost use Rattle.mb_dispatch.specs.Whole.{IsWhole};
 
-use crate::built::Built;
 use crate::leaving::gather;
 use crate::missing::{arrange, missing_end, missing_sender};
 use crate::reckoning::{add_outside, report_on, take_apart};
@@ -17,6 +17,7 @@ use mb_actor::{Actor, Behaviours};
 use mb_finish::{TooMany, settle};
 use mb_msg::ActorId;
 use mb_report::Report;
+use mb_system::Built;
 use std::sync::Wait;
 
 /// Why there is no report.
@@ -45,38 +46,39 @@ pub enum Mismatch {
     Waiting(ActorId),
 }
 
-impl<A: Actor, K: Behaviours> Built<A, K> {
-    /// Ends the system: what became of each actor and each envelope.
-    ///
-    /// It answers the least number of a worker whose end is missing; else of a sender that is; else the least actor that is
-    /// scheduled or has something to run; else `NoMemory`. All comes back then, and the same call may be made again.
-    pub fn finish<R: Wait>(self, rt: &R) -> Result<Report, FinishError<A, K>>
-        requires together { BelongsTogether self }
-        ensures whole { IfOk result (λ report. (answers : List (List Posting)) × AreAnswers self.system.senders self.senders.items answers
-            × IsWhole K.after K.gives (first_of self.system.gates).value.roll answers report) }
-        ensures quiet { IfOk result (λ _. IsComplete self) }
-        ensures seen { IfOk result (λ report. All (λ e. GoesOnFromAll report (known_by e.waker.pass)) self.ends.items
-            × All (λ s. GoesOnFromAll report (known_by s.inner.waker.pass)) self.senders.items) }
-        ensures refused { IfErr result (IsRefusal self) }
-    {
-        if let Some(number) = missing_end(&self) {
-            return Err(FinishError::MissingEnd(number, self));
-        }
-        if let Some(number) = missing_sender(&self) {
-            return Err(FinishError::MissingSender(number, self));
-        }
-        let mut built = self;
-        if let Some(id) = unsettled(&mut built) {
-            return Err(FinishError::NotQuiet(id, built));
-        }
-        let Some(room) = room_of(&mut built) else {
-            return Err(FinishError::NoMemory(built));
-        };
-        arrange(&mut built.senders);
-        match reckon(rt, built, room) {
-            Ok(report) => Ok(report),
-            Err(mismatch) => Err(FinishError::Mismatch(mismatch)),
-        }
+/// Ends the system: what became of each actor and each envelope.
+///
+/// It answers the least number of a worker whose end is missing; else of a sender that is; else the least actor that is scheduled
+/// or has something to run; else `NoMemory`. All comes back then, and the same call may be made again.
+pub fn finish<A: Actor, K: Behaviours, R: Wait>(
+    rt: &R,
+    built: Built<A, K>,
+) -> Result<Report, FinishError<A, K>>
+    requires together { BelongsTogether built }
+    ensures whole { IfOk result (λ report. (answers : List (List Posting)) × AreAnswers built.system.senders built.senders.items answers
+        × IsWhole K.after K.gives (first_of built.system.gates).value.roll answers report) }
+    ensures quiet { IfOk result (λ _. IsComplete built) }
+    ensures seen { IfOk result (λ report. All (λ e. GoesOnFromAll report (known_by e.waker.pass)) built.ends.items
+        × All (λ s. GoesOnFromAll report (known_by s.inner.waker.pass)) built.senders.items) }
+    ensures refused { IfErr result (IsRefusal built) }
+{
+    if let Some(number) = missing_end(&built) {
+        return Err(FinishError::MissingEnd(number, built));
+    }
+    if let Some(number) = missing_sender(&built) {
+        return Err(FinishError::MissingSender(number, built));
+    }
+    let mut built = built;
+    if let Some(id) = unsettled(&mut built) {
+        return Err(FinishError::NotQuiet(id, built));
+    }
+    let Some(room) = room_of(&mut built) else {
+        return Err(FinishError::NoMemory(built));
+    };
+    arrange(&mut built.senders);
+    match reckon(rt, built, room) {
+        Ok(report) => Ok(report),
+        Err(mismatch) => Err(FinishError::Mismatch(mismatch)),
     }
 }
 

@@ -1,0 +1,5 @@
+pub mod Members
+pub mod Belonging
+pub mod Begun
+pub mod Unbuilt
+pub mod Orders
