@@ -2,7 +2,7 @@
 use crate::build::BuildError;
 use crate::built::Built;
 use crate::failure::{RunError, of_sending};
-use crate::finish::{FinishError, Mismatch};
+use crate::finish::FinishError;
 use crate::job::{Order, What};
 use crate::sender::Sender;
 use crate::system::System;
@@ -10,6 +10,7 @@ use mb_actor::{Actor, Behaviours};
 use mb_build::PlanError;
 use mb_msg::ActorId;
 use mb_plan::Plan;
+use mb_reckon::Mismatch;
 use mb_report::Report;
 use std::alloc::Global;
 use std::marker::Brand;

@@ -16,11 +16,8 @@ mod leaving;
 mod missing;
 mod open;
 mod quiet;
-mod reckoning;
-mod room;
 mod run;
 mod sender;
-mod settled;
 mod system;
 mod work;
 
@@ -29,8 +26,9 @@ pub use build::BuildError;
 pub use built::Built;
 pub use end::WorkerEnd;
 pub use failure::RunError;
-pub use finish::{FinishError, Mismatch};
+pub use finish::FinishError;
 pub use job::{Job, Order, What};
+pub use mb_reckon::Mismatch;
 pub use sender::Sender;
 pub use system::System;
 
