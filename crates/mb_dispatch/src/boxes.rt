@@ -1,9 +1,10 @@
 //! A whole run on one thread, also of boxed actors of mixed kinds.
-use crate::ending::{FinishError, Mismatch, finish};
+use crate::ending::{FinishError, finish};
 use mb_actor::{Actor, Behaviours};
 use mb_build::PlanError;
 use mb_msg::ActorId;
 use mb_plan::Plan;
+use mb_reckon::Mismatch;
 use mb_report::Report;
 use mb_system::{BuildError, Built, Order, RunError, System};
 use std::alloc::Global;

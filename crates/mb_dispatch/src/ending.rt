@@ -5,17 +5,14 @@ ghost use Rattle.mb_gate.specs.Names.{first_of, known_by};
 ghost use Rattle.mb_system.specs.Belonging.{BelongsTogether};
 ghost use Rattle.mb_dispatch.specs.Belonging.{AreAnswers};
 ghost use Rattle.mb_dispatch.specs.Refused.{IsComplete, IsRefusal};
-ghost use Rattle.mb_dispatch.specs.Seen.{GoesOnFromAll};
-ghost use Rattle.mb_dispatch.specs.Whole.{IsWhole};
+ghost use Rattle.mb_reckon.specs.Seen.{GoesOnFromAll};
+ghost use Rattle.mb_reckon.specs.Whole.{IsWhole};
 
 use crate::leaving::gather;
 use crate::missing::{arrange, missing_end, missing_sender};
-use crate::reckoning::{add_outside, report_on, take_apart};
-use crate::room::{Room, make_room};
-use crate::settled::first_unsettled;
 use mb_actor::{Actor, Behaviours};
-use mb_finish::{TooMany, settle};
 use mb_msg::ActorId;
+use mb_reckon::{Mismatch, Outsider, Room, first_unsettled, make_room, reckon};
 use mb_report::Report;
 use mb_system::Built;
 use std::sync::Wait;
@@ -33,17 +30,6 @@ pub enum FinishError<A: Actor, K: Behaviours> {
     NoMemory(Built<A, K>),
     /// What came apart does not agree. Nothing comes back.
     Mismatch(Mismatch),
-}
-
-/// What does not agree at the end of a system.
-#[derive(Clone, Copy, Debug, PartialEq, Eq)]
-pub enum Mismatch {
-    /// A claim of this actor is still out.
-    Held(ActorId),
-    /// System messages to this actor are left.
-    List(ActorId),
-    /// Not as many envelopes are left for this actor as are counted as waiting.
-    Waiting(ActorId),
 }
 
 /// Ends the system: what became of each actor and each envelope.
@@ -72,11 +58,12 @@ pub fn finish<A: Actor, K: Behaviours, R: Wait>(
     if let Some(id) = unsettled(&mut built) {
         return Err(FinishError::NotQuiet(id, built));
     }
-    let Some(room) = room_of(&mut built) else {
+    let Some((room, mut outside)) = room_of(&mut built) else {
         return Err(FinishError::NoMemory(built));
     };
     arrange(&mut built.senders);
-    match reckon(rt, built, room) {
+    let (gates, pass) = gather(built, &mut outside);
+    match reckon(rt, gates, pass, outside, room) {
         Ok(report) => Ok(report),
         Err(mismatch) => Err(FinishError::Mismatch(mismatch)),
     }
@@ -94,45 +81,17 @@ fn unsettled<A: Actor, K: Behaviours>(built: &mut Built<A, K>) -> Option<ActorId
 }
 
 // All the room that is needed.
-fn room_of<A: Actor, K: Behaviours>(built: &mut Built<A, K>) -> Option<Room<A, K>> {
+fn room_of<A: Actor, K: Behaviours>(
+    built: &mut Built<A, K>,
+) -> Option<(Room<A, K>, Vec<Outsider>)> {
     let Built {
         system,
         ends,
         senders,
     } = built;
     let first = ends.first_mut()?;
-    make_room(
-        system.alloc,
-        &system.gates,
-        &mut first.waker.pass,
-        senders.len(),
-    )
-    .ok()
-}
-
-// Takes all apart.
-fn reckon<A: Actor, K: Behaviours, R: Wait>(
-    rt: &R,
-    built: Built<A, K>,
-    room: Room<A, K>,
-) -> Result<Report, Mismatch> {
-    let Room {
-        waiting,
-        homes,
-        mut ended,
-        mut takes,
-        mut rows,
-        mut lefts,
-        mut outside,
-        actors,
-        mut senders,
-    } = room;
-    let (gates, pass) = gather(built, &mut outside);
-    let all = gates.finish(pass, homes);
-    take_apart(all, &mut ended, &mut takes, &mut rows, &mut senders)?;
-    add_outside(outside, &mut rows, &mut senders);
-    if let Err(TooMany(place)) = settle(rt, takes, rows, &mut lefts[1..]) {
-        return Err(Mismatch::Waiting(ActorId(place as u32 + 1)));
-    }
-    report_on(ended, lefts, &waiting, actors, senders)
+    let pass = &mut first.waker.pass;
+    let room = make_room(system.alloc, &system.gates, pass, senders.len()).ok()?;
+    let outside = Vec::with_capacity(system.alloc, senders.len()).ok()?;
+    Some((room, outside))
 }

@@ -6,8 +6,7 @@ ghost use Rattle.mb_system.specs.Belonging.{BelongsTogether};
 
 use mb_actor::{Actor, Behaviours};
 use mb_gate::{Gates, Pass};
-use mb_queue::SendPass;
-use mb_send::Book;
+use mb_reckon::Outsider;
 use mb_system::{Built, System};
 use mb_turn::Place;
 
@@ -15,7 +14,7 @@ use mb_turn::Place;
 /// in the pool is let go: of each claim that were there the actor would be scheduled.
 pub(crate) fn gather<A: Actor, K: Behaviours>(
     built: Built<A, K>,
-    outside: &mut Vec<(Vec<SendPass>, Book)>,
+    outside: &mut Vec<Outsider>,
 ) -> (Gates<Place<A, K>>, Pass<Place<A, K>>)
     requires together { BelongsTogether built }
     requires some { built.ends.items ≢ [] }
@@ -23,7 +22,7 @@ pub(crate) fn gather<A: Actor, K: Behaviours>(
     ensures gates { (result.0 ≡ built.system.gates) × (pass_id result.1 ≡ gates_id result.0) }
     ensures ends { All (λ e. IsPart (known_by e.waker.pass).log (known_by result.1).log) built.ends.items }
     ensures senders { All (λ s. IsPart (known_by s.inner.waker.pass).log (known_by result.1).log) built.senders.items }
-    ensures outside { map (λ o. (o.0.items, o.1)) outside.new.items ≡ map (λ s. (s.inner.sends.items, s.inner.book)) built.senders.items }
+    ensures outside { map (λ o. (o.sends.items, o.book)) outside.new.items ≡ map (λ s. (s.inner.sends.items, s.inner.book)) built.senders.items }
 {
     let Built {
         system,
@@ -50,7 +49,7 @@ pub(crate) fn gather<A: Actor, K: Behaviours>(
     for sender in senders {
         let (other, sends, book) = sender.into_parts();
         gates.absorb(&mut pass, other);
-        outside.push_reserved((sends, book));
+        outside.push_reserved(Outsider { sends, book });
     }
     (gates, pass)
 }

@@ -9,13 +9,11 @@ mod boxes;
 mod ending;
 mod leaving;
 mod missing;
-mod reckoning;
-mod room;
-mod settled;
 
 pub use boxes::{WholeError, run_boxed, run_whole};
-pub use ending::{FinishError, Mismatch, finish};
+pub use ending::{FinishError, finish};
 pub use mb_build::PlanError;
+pub use mb_reckon::Mismatch;
 pub use mb_send::{Look, Put, Ticket, Unsent};
 pub use mb_system::{BuildError, Built, Job, Order, RunError, Sender, System, What, WorkerEnd};
 pub use mb_turn::Turn;

@@ -13,6 +13,7 @@ ghost use Rattle.mb_turn.specs.Ran.{HadRoom, LeavesRun};
 ghost use Rattle.mb_turn.specs.declared.turn.Turn.{Turn as TurnType};
 ghost use Rattle.mb_wake.specs.Owed.{is_owed};
 ghost use Rattle.mb_wake.specs.Views.{LooksAfter};
+ghost use Rattle.mb_wake.specs.Waking.{IsWoken};
 ghost use Rattle.mb_system.specs.Members.{end_caller, IsEndOf};
 
 use crate::failure::{RunError, of_debts};
@@ -46,7 +47,9 @@ impl<A: Actor, K: Behaviours> Drop for WorkerEnd<A, K> {
 
 impl<A: Actor, K: Behaviours> WorkerEnd<A, K> {
     /// What the end knows; its way into the pool is let go.
-    pub fn into_pass(self) -> Pass<Place<A, K>> {
+    pub fn into_pass(self) -> Pass<Place<A, K>>
+        ensures { result ≡ self.waker.pass }
+    {
         let WorkerEnd { number: _, waker } = self;
         let Waker {
             pass,
@@ -71,6 +74,7 @@ impl<A: Actor, K: Behaviours> WorkerEnd<A, K> {
         ensures ours { IsEndOf system.now.gates self.new.waker }
         ensures looks { LooksAfter id.0 (known_by self.old.waker.pass) (known_by self.new.waker.pass) }
         ensures paid { IsPaid id.0 (end_caller self.new.waker) }
+        ensures woken { IsWoken id.0 (end_caller self.old.waker).account (end_caller self.new.waker).account result }
         ensures leaves { LeavesCaller (end_caller self.old.waker) (end_caller self.new.waker) }
         ensures number { self.new.number ≡ self.old.number }
     {

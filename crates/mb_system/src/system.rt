@@ -1,6 +1,7 @@
 //! A system of actors.
 ghost use Rattle.std.specs.Prelude.{◌≡◌, ◌≤◌, length};
 ghost use Rattle.mb_gate.specs.Names.{actors_of, first_of};
+ghost use Rattle.mb_system.specs.Enrolled.{AreKnown};
 
 use crate::going::Going;
 use mb_actor::{Actor, Behaviours};
@@ -21,4 +22,5 @@ pub struct System<A: Actor, K: Behaviours> {
     pub alloc: Global,
     ghost few: { (actors_of gates ≤ 64) × (senders ≤ 16) },
     ghost roll: { length (first_of gates).value.roll ≡ actors_of gates },
+    ghost known: { AreKnown (first_of gates).value.roll senders },
 }
