@@ -21,11 +21,7 @@ pub struct Job<A: Actor, K: Behaviours> {
 
 impl<A: Actor, K: Behaviours> Job<A, K> {
     /// Sends all, in order, and then looks again after each actor that the sender owes a look: the job is closed then.
-    pub(crate) fn do_all<R: Wait>(
-        &mut self,
-        rt: &R,
-        system: &System<A, K>,
-    ) -> Result<(), RunError>
+    pub(crate) fn do_all<R: Wait>(&mut self, rt: &R, system: &System<A, K>) -> Result<(), RunError>
         requires ours { IsSenderOf system.now.gates self.old.sender.inner }
         ensures ours { IsSenderOf system.now.gates self.new.sender.inner }
         ensures sends { self.new.sends ≡ self.old.sends }

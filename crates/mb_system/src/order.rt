@@ -47,12 +47,7 @@ impl<A: Actor, K: Behaviours> Sender<A, K> {
     }
 
     // Sends one thing.
-    fn send<R: Wait>(
-        &mut self,
-        rt: &R,
-        system: &System<A, K>,
-        order: Order,
-    ) -> Result<(), RunError>
+    fn send<R: Wait>(&mut self, rt: &R, system: &System<A, K>, order: Order) -> Result<(), RunError>
         requires ours { IsSenderOf system.now.gates self.old.inner }
         ensures ours { IsSenderOf system.now.gates self.new.inner }
         ensures sent { OnOk result (HasSent (order ∷ []) self.old self.new) }
