@@ -17,20 +17,21 @@ pub record IsLeastMissing (many : ℕ) (there : List ℕ) (number : ℕ) : Type 
   pub missing : Contains there number → ⊥
   pub least : AreThere number there
 
--- what the senders were answered, in the order of their numbers, each for all that it sent
-pub record AreAnswers (many : ℕ) (senders : List Sender) (answers : List (List Posting)) : Type 0 where
-  pub length_is : length answers ≡ many
-  pub each : All (λ (s : Sender). slice_get answers (s.inner.book.by.0 - most_actors) ≡ Some s.inner.book.posted) senders
+module _ {A K : Type 0} where
+  -- what the senders were answered, in the order of their numbers, each for all that it sent
+  pub record AreAnswers (many : ℕ) (senders : List (Sender A K)) (answers : List (List Posting)) : Type 0 where
+    pub length_is : length answers ≡ many
+    pub each : All (λ (s : Sender A K). slice_get answers (s.inner.book.by.0 - most_actors) ≡ Some s.inner.book.posted) senders
 
--- all is as it was, but that the first end has read more
-pub record IsBack (old new : Built) (before after : View) : Type 0 where
-  pub system : new.system ≡ old.system
-  pub senders : new.senders.items ≡ old.senders.items
-  pub first : WorkerEnd
-  pub first' : WorkerEnd
-  pub rest : List WorkerEnd
-  pub was : old.ends.items ≡ (first ∷ rest)
-  pub is : new.ends.items ≡ (first' ∷ rest)
-  pub others : (first'.number ≡ first.number) × (first'.waker.way ≡ first.waker.way) × (first'.waker.owed ≡ first.waker.owed)
-  pub knew : known_by first.waker.pass ≡ before
-  pub knows : known_by first'.waker.pass ≡ after
+  -- all is as it was, but that the first end has read more
+  pub record IsBack (old new : Built A K) (before after : View) : Type 0 where
+    pub system : new.system ≡ old.system
+    pub senders : new.senders.items ≡ old.senders.items
+    pub first : WorkerEnd A K
+    pub first' : WorkerEnd A K
+    pub rest : List (WorkerEnd A K)
+    pub was : old.ends.items ≡ (first ∷ rest)
+    pub is : new.ends.items ≡ (first' ∷ rest)
+    pub others : (first'.number ≡ first.number) × (first'.waker.way ≡ first.waker.way) × (first'.waker.owed ≡ first.waker.owed)
+    pub knew : known_by first.waker.pass ≡ before
+    pub knows : known_by first'.waker.pass ≡ after

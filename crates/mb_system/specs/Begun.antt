@@ -39,9 +39,9 @@ abbrev pub AreUnused : List Queue → ℕ → ℕ → List (List Sending) → Ty
 AreUnused queues actors number [] = Unit {0}
 AreUnused queues actors number (sends ∷ rows) = IsUnused queues actors number sends × AreUnused queues actors (number + 1) rows
 
-module _ (gates : Gates (Box Contents)) where
+module _ {A K : Type 0} (gates : Gates (Box Contents)) where
   -- a sender of this number: it sent nothing, was answered nothing, saw nothing, owes nobody a look, and pushes by these passes
-  pub record IsNewSender (number : ℕ) (sends : List Sending) (s : Sender) : Type 0 where
+  pub record IsNewSender (number : ℕ) (sends : List Sending) (s : Sender A K) : Type 0 where
     pub ours : IsSenderOf gates s.inner
     pub by : s.inner.book.by ≡ record { 0 = number }
     pub posted : s.inner.book.posted ≡ []
@@ -50,20 +50,20 @@ module _ (gates : Gates (Box Contents)) where
     pub blank : (known_by s.inner.waker.pass).log ≡ []
 
   -- so are these, which are numbered on from this one
-  abbrev pub AreNewSenders : ℕ → List (List Sending) → List Sender → Type 0
+  abbrev pub AreNewSenders : ℕ → List (List Sending) → List (Sender A K) → Type 0
   AreNewSenders number [] [] = Unit {0}
   AreNewSenders number (sends ∷ rows) (s ∷ senders) = IsNewSender number sends s × AreNewSenders (number + 1) rows senders
   AreNewSenders number _ _ = ⊥
 
   -- an end of this number, which saw nothing and owes nobody a look
-  pub record IsNewEnd (number : ℕ) (e : WorkerEnd) : Type 0 where
+  pub record IsNewEnd (number : ℕ) (e : WorkerEnd A K) : Type 0 where
     pub ours : IsEndOf gates e.waker
     pub number_is : e.number ≡ number
     pub nobody : IsNobody e.waker.owed
     pub blank : (known_by e.waker.pass).log ≡ []
 
   -- so are these, which are numbered on from this one
-  abbrev pub AreNewEnds : ℕ → List WorkerEnd → Type 0
+  abbrev pub AreNewEnds : ℕ → List (WorkerEnd A K) → Type 0
   AreNewEnds number [] = Unit {0}
   AreNewEnds number (e ∷ ends) = IsNewEnd number e × AreNewEnds (number + 1) ends
 
@@ -73,7 +73,7 @@ IsCreated view = (number : ℕ) × (view.log ≡ Pushed 0 number Create ∷ [])
 
 -- A system of this plan, as it begins: the actors' homes are as the plan says, its queues of the plan's kinds and empty; there are its ends and
 -- its senders, unused; and one Create, to the guardian, is all that anybody put into a list: the first end put it there.
-pub record IsBegun (gives : ℕ → Moment → Reply → Type 0) (plan : Plan) (built : Built) : Type 0 where
+pub record IsBegun {A K : Type 0} (gives : ℕ → Moment → Reply → Type 0) (plan : Plan) (built : Built A K) : Type 0 where
   pub together : BelongsTogether built
   pub kinds : List Kind
   pub kinds_are : AreQueues plan.actors.items kinds
@@ -85,8 +85,8 @@ pub record IsBegun (gives : ℕ → Moment → Reply → Type 0) (plan : Plan) (
   pub senders : AreNewSenders built.system.gates most_actors outside built.senders.items
   pub numbers : (built.system.workers ≡ plan.workers) × (built.system.senders ≡ plan.senders) × (built.system.throughput ≡ plan.throughput)
   pub many : length built.ends.items ≡ plan.workers
-  pub end : WorkerEnd
-  pub others : List WorkerEnd
+  pub end : WorkerEnd A K
+  pub others : List (WorkerEnd A K)
   pub ends_are : built.ends.items ≡ (end ∷ others)
   pub others_are : AreNewEnds built.system.gates 1 others
   pub first_end : (end.number ≡ 0) × IsNobody end.waker.owed

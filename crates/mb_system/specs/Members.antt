@@ -36,17 +36,18 @@ abbrev pub sender_caller : Waker (Box Contents) (FeedWay (Box Contents)) → Cal
 sender_caller waker = caller_of (λ (way : FeedWay (Box Contents)). pushed_first (looks way.feed))
     (λ (way : FeedWay (Box Contents)). map (λ claim. claim.value) way.refused) waker
 
--- the numbers of these ends
-abbrev pub ends_numbers : List WorkerEnd → List ℕ
-ends_numbers = map (λ (e : WorkerEnd). e.number)
+module _ {A K : Type 0} where
+  -- the numbers of these ends
+  abbrev pub ends_numbers : List (WorkerEnd A K) → List ℕ
+  ends_numbers = map (λ (e : WorkerEnd A K). e.number)
 
--- all these ends are of the gates; and so are the senders of these jobs
-abbrev pub AreEndsOf : Gates (Box Contents) → List WorkerEnd → Type 0
-AreEndsOf gates = All (λ (e : WorkerEnd). IsEndOf gates e.waker)
+  -- all these ends are of the gates; and so are the senders of these jobs
+  abbrev pub AreEndsOf : Gates (Box Contents) → List (WorkerEnd A K) → Type 0
+  AreEndsOf gates = All (λ (e : WorkerEnd A K). IsEndOf gates e.waker)
 
-abbrev pub AreJobsOf : Gates (Box Contents) → List Job → Type 0
-AreJobsOf gates = All (λ (j : Job). IsSenderOf gates j.sender.inner)
+  abbrev pub AreJobsOf : Gates (Box Contents) → List (Job A K) → Type 0
+  AreJobsOf gates = All (λ (j : Job A K). IsSenderOf gates j.sender.inner)
 
--- none of these ends owes anybody a look
-abbrev pub ArePaid : Gates (Box Contents) → List WorkerEnd → Type 0
-ArePaid gates = All (λ (e : WorkerEnd). (id : ℕ) → id < actors_of gates → is_owed e.waker.owed id ≡ false)
+  -- none of these ends owes anybody a look
+  abbrev pub ArePaid : Gates (Box Contents) → List (WorkerEnd A K) → Type 0
+  ArePaid gates = All (λ (e : WorkerEnd A K). (id : ℕ) → id < actors_of gates → is_owed e.waker.owed id ≡ false)

@@ -45,21 +45,22 @@ addressed = map (λ (e : Envelope). (e.to, e.body))
 abbrev pub said_to : List Said → List (ℕ × SysMsg)
 said_to = map (λ (s : Said). (s.to, s.message))
 
--- The sender was answered for these envelopes, in order, after all that it was answered for before, and for nothing else; and it put, or found
--- the list ended, these Terminates, in order, and said nothing else: what was said stands with the newest first.
-pub record HasSent (orders : List Order) (old new : Sender) : Type 0 where
-  pub by : new.inner.book.by ≡ old.inner.book.by
-  pub more : List Posting
-  pub posted : new.inner.book.posted ≡ old.inner.book.posted ++ more
-  pub accepted_are : addressed (accepted more) ≡ told_by orders
-  pub said : said_to (known_by new.inner.waker.pass).said ≡ reverse (stopped_by orders) ++ said_to (known_by old.inner.waker.pass).said
+module _ {A K : Type 0} where
+  -- The sender was answered for these envelopes, in order, after all that it was answered for before, and for nothing else; and it put, or found
+  -- the list ended, these Terminates, in order, and said nothing else: what was said stands with the newest first.
+  pub record HasSent (orders : List Order) (old new : Sender A K) : Type 0 where
+    pub by : new.inner.book.by ≡ old.inner.book.by
+    pub more : List Posting
+    pub posted : new.inner.book.posted ≡ old.inner.book.posted ++ more
+    pub accepted_are : addressed (accepted more) ≡ told_by orders
+    pub said : said_to (known_by new.inner.waker.pass).said ≡ reverse (stopped_by orders) ++ said_to (known_by old.inner.waker.pass).said
 
--- nobody is owed a look by it
-abbrev pub OwesNobody : Gates (Box Contents) → Sender → Type 0
-OwesNobody gates s = (id : ℕ) → id < actors_of gates → is_owed s.inner.waker.owed id ≡ false
+  -- nobody is owed a look by it
+  abbrev pub OwesNobody : Gates (Box Contents) → Sender A K → Type 0
+  OwesNobody gates s = (id : ℕ) → id < actors_of gates → is_owed s.inner.waker.owed id ≡ false
 
--- each of these jobs was done, by the sender that it had
-pub record AreDone (gates : Gates (Box Contents)) (old new : List Job) : Type 0 where
-  pub many : length new ≡ length old
-  pub each : (place : ℕ) (before after : Job) → slice_get old place ≡ Some before → slice_get new place ≡ Some after
-      → HasSent before.sends.items before.sender after.sender × OwesNobody gates after.sender × (after.sends ≡ before.sends)
+  -- each of these jobs was done, by the sender that it had
+  pub record AreDone (gates : Gates (Box Contents)) (old new : List (Job A K)) : Type 0 where
+    pub many : length new ≡ length old
+    pub each : (place : ℕ) (before after : Job A K) → slice_get old place ≡ Some before → slice_get new place ≡ Some after
+        → HasSent before.sends.items before.sender after.sender × OwesNobody gates after.sender × (after.sends ≡ before.sends)
