@@ -1,5 +1,5 @@
 -- What a sender did of its orders, one after another.
-use Rattle.std.proofs.Common.{◌≡◌, List, [], ◌∷◌, ◌++◌, Bool, true, false, ℕ, map, ap, sym, refl, ◌∙◌, append_assoc, Option}
+use Rattle.std.proofs.Common.{◌≡◌, List, [], ◌∷◌, ◌++◌, Bool, true, false, ℕ, ap, sym, refl, ◌∙◌, append_assoc, Option}
 use Rattle.std.specs.Prelude.{reverse}
 use Rattle.std.proofs.lemmas.List.{append-nil, map-append, reverse-append}
 use Rattle.mb_msg.specs.declared.dead_letter.Why.{Why}
@@ -11,7 +11,7 @@ use Rattle.mb_msg.specs.declared.system.SysMsg.TheVariants.{Terminate}
 use Rattle.mb_fates.specs.declared.posting.Posting.{Posting}
 use Rattle.mb_fates.specs.Accepted.{accepted}
 use Rattle.mb_gate.specs.Names.{known_by}
-use Rattle.mb_gate.specs.View.{Said, View}
+use Rattle.mb_gate.specs.View.{View}
 use Rattle.mb_queue.specs.Passes.{Sending}
 use Rattle.mb_send.specs.Answers.{FollowsLook, IsTold, Stops}
 use Rattle.mb_send.specs.Posted.{envelope_of, posting}

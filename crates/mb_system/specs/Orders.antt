@@ -1,5 +1,5 @@
 -- What a sender did of what it was to send.
-use Rattle.std.specs.Prelude.{◌≡◌, ℕ, ◌<◌, false, List, [], ◌∷◌, ◌++◌, length, map, reverse, slice_get, Some}
+use Rattle.std.specs.Prelude.{◌≡◌, ℕ, ◌<◌, false, List, [], ◌∷◌, ◌++◌, map, reverse}
 use Rattle.std.specs.Global.{Box}
 use Rattle.mb_msg.specs.declared.envelope.Body.{Body}
 use Rattle.mb_msg.specs.declared.envelope.Envelope.{Envelope}
@@ -59,8 +59,14 @@ module _ {A K : Type 0} where
   abbrev pub OwesNobody : Gates (Box Contents) → Sender A K → Type 0
   OwesNobody gates s = (id : ℕ) → id < actors_of gates → is_owed s.inner.waker.owed id ≡ false
 
-  -- each of these jobs was done, by the sender that it had
-  pub record AreDone (gates : Gates (Box Contents)) (old new : List (Job A K)) : Type 0 where
-    pub many : length new ≡ length old
-    pub each : (place : ℕ) (before after : Job A K) → slice_get old place ≡ Some before → slice_get new place ≡ Some after
-        → HasSent before.sends.items before.sender after.sender × OwesNobody gates after.sender × (after.sends ≡ before.sends)
+  -- the job was done, by the sender that it had
+  pub record IsDone (gates : Gates (Box Contents)) (old new : Job A K) : Type 0 where
+    pub sent : HasSent old.sends.items old.sender new.sender
+    pub nobody : OwesNobody gates new.sender
+    pub sends : new.sends ≡ old.sends
+
+  -- so was each of these
+  abbrev pub AreDone : Gates (Box Contents) → List (Job A K) → List (Job A K) → Type 0
+  AreDone gates [] [] = Unit {0}
+  AreDone gates (old ∷ before) (new ∷ after) = IsDone gates old new × AreDone gates before after
+  AreDone gates _ _ = ⊥

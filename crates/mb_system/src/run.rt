@@ -74,16 +74,16 @@ fn send_and_work<A: Actor + Send, K: Behaviours + Send, R: Threads + Wait + Sync
         rt,
         &mut || -> Outcome
             requires { IsSync R.row × AreEndsOf system.now.gates ends.now × AreJobsOf system.now.gates others.now }
-            ensures { AreEndsOf system.now.gates ends.exit.now × (ends_numbers ends.exit.now ≡ ends_numbers ends.entry.now)
-                × OnOk result.ends (ArePaid system.now.gates ends.exit.now)
-                × AreJobsOf system.now.gates others.exit.now × (length others.exit.now ≡ length others.entry.now)
-                × OnOk result.jobs (AreDone system.now.gates others.entry.now others.exit.now) }
+            ensures { AreEndsOf system.entry.now.gates ends.exit.now × (ends_numbers ends.exit.now ≡ ends_numbers ends.entry.now)
+                × OnOk result.ends (ArePaid system.entry.now.gates ends.exit.now)
+                × AreJobsOf system.entry.now.gates others.exit.now × (length others.exit.now ≡ length others.entry.now)
+                × OnOk result.jobs (AreDone system.entry.now.gates others.entry.now others.exit.now) }
         { send_and_work(rt, system, ends, others) },
         &mut || -> Result<(), RunError>
             requires { IsSync R.row × IsSenderOf system.now.gates job.now.sender.inner }
-            ensures { IsSenderOf system.now.gates job.exit.now.sender.inner × (job.exit.now.sends ≡ job.entry.now.sends)
+            ensures { IsSenderOf system.entry.now.gates job.exit.now.sender.inner × (job.exit.now.sends ≡ job.entry.now.sends)
                 × OnOk result (HasSent job.entry.now.sends.items job.entry.now.sender job.exit.now.sender
-                × OwesNobody system.now.gates job.exit.now.sender) }
+                × OwesNobody system.entry.now.gates job.exit.now.sender) }
         { job.do_all(rt, system) },
     );
     Outcome {
@@ -109,13 +109,13 @@ fn work_all<A: Actor + Send, K: Behaviours + Send, R: Threads + Wait + Sync>(
         rt,
         &mut || -> Result<(), RunError>
             requires { IsSync R.row × AreEndsOf system.now.gates others.now }
-            ensures { AreEndsOf system.now.gates others.exit.now × (ends_numbers others.exit.now ≡ ends_numbers others.entry.now)
-                × OnOk result (ArePaid system.now.gates others.exit.now) }
+            ensures { AreEndsOf system.entry.now.gates others.exit.now × (ends_numbers others.exit.now ≡ ends_numbers others.entry.now)
+                × OnOk result (ArePaid system.entry.now.gates others.exit.now) }
         { work_all(rt, system, others) },
         &mut || -> Result<(), RunError>
             requires { IsSync R.row × IsEndOf system.now.gates end.now.waker }
-            ensures { IsEndOf system.now.gates end.exit.now.waker × (end.exit.now.number ≡ end.entry.now.number)
-                × OnOk result ((id : ℕ) → id < actors_of system.now.gates → is_owed end.exit.now.waker.owed id ≡ false) }
+            ensures { IsEndOf system.entry.now.gates end.exit.now.waker × (end.exit.now.number ≡ end.entry.now.number)
+                × OnOk result ((id : ℕ) → id < actors_of system.entry.now.gates → is_owed end.exit.now.waker.owed id ≡ false) }
         { end.work(rt, system) },
     );
     first_of(first, rest)

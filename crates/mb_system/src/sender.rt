@@ -94,7 +94,8 @@ impl<A: Actor, K: Behaviours> Sender<A, K> {
             × (self.new.inner.waker ≡ self.old.inner.waker)) }
         ensures sent { IfOk result (IsSent self.old.inner.book.by self.old.inner.book.sent ticket.to body self.old.inner.book.posted
             self.new.inner.book.posted self.old.inner.sends.items (known_by self.old.inner.waker.pass) (known_by self.new.inner.waker.pass)) }
-        ensures paid { IfOk result (λ _. (owes ticket.to.0 (known_by self.new.inner.waker.pass) ≡ nothing) ⊎ (is_owed self.new.inner.waker.owed ticket.to.0 ≡ true)) }
+        ensures paid { IfOk result (λ _. (owes ticket.to.0 (known_by self.new.inner.waker.pass) ≡ nothing)
+            ⊎ (is_owed self.new.inner.waker.owed ticket.to.0 ≡ true)) }
     {
         self.inner.put(rt, &system.gates, ticket, body)
     }
@@ -115,7 +116,8 @@ impl<A: Actor, K: Behaviours> Sender<A, K> {
             ⊎ (IsErrOf result Refusal.NoMemory × (0 < to.0) × (to.0 < actors_of system.now.gates)))) }
         ensures told { IfOk result (IsTold self.old.inner.book.by self.old.inner.book.sent to body self.old.inner.book.posted
             self.new.inner.book.posted self.old.inner.sends.items (known_by self.old.inner.waker.pass) (known_by self.new.inner.waker.pass)) }
-        ensures paid { IfOk result (λ _. (owes to.0 (known_by self.new.inner.waker.pass) ≡ nothing) ⊎ (is_owed self.new.inner.waker.owed to.0 ≡ true)) }
+        ensures paid { IfOk result (λ _. (owes to.0 (known_by self.new.inner.waker.pass) ≡ nothing)
+            ⊎ (is_owed self.new.inner.waker.owed to.0 ≡ true)) }
     {
         self.inner.tell(rt, &system.gates, to, body)
     }
@@ -134,7 +136,8 @@ impl<A: Actor, K: Behaviours> Sender<A, K> {
             ⊎ (IsErrOf result Refusal.NoMemory × (id.0 < actors_of system.now.gates)))) }
         ensures stopped { IfOk result (Stops id.0 (known_by self.old.inner.waker.pass) (known_by self.new.inner.waker.pass)) }
         ensures same { (self.new.inner.book ≡ self.old.inner.book) × (self.new.inner.sends ≡ self.old.inner.sends) }
-        ensures paid { IfOk result (λ _. (owes id.0 (known_by self.new.inner.waker.pass) ≡ nothing) ⊎ (is_owed self.new.inner.waker.owed id.0 ≡ true)) }
+        ensures paid { IfOk result (λ _. (owes id.0 (known_by self.new.inner.waker.pass) ≡ nothing)
+            ⊎ (is_owed self.new.inner.waker.owed id.0 ≡ true)) }
     {
         self.inner.stop(rt, &system.gates, id)
     }
