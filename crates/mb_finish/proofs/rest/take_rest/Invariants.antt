@@ -5,3 +5,4 @@ abbrev pub invariant-loop : goal.invariant-loop
 invariant-loop g l =
     (l.take.taken ≡ l.initial.take.taken ++ l.room.items)
     × (l.take.turns ≡ l.initial.take.turns) × (l.take.accounts ≡ l.initial.take.accounts)
+    × (l.take.queue ≡ l.initial.take.queue)
