@@ -1,20 +1,14 @@
 -- What comes apart at the end of a system.
-use Rattle.std.specs.Prelude.{◌≡◌, ℕ, ◌+◌, ◌%◌, ◌^◌, ℤ, false, if◌then◌else◌, List, All, drop, length, map, Option, Some, None, slice_get}
+use Rattle.std.specs.Prelude.{◌≡◌, ℕ, ◌+◌, ◌%◌, ◌^◌, false, List, All, map, Option, Some}
 use Rattle.std.specs.Global.{Box}
 use Rattle.mb_msg.specs.declared.dead_letter.DeadLetter.{DeadLetter}
 use Rattle.mb_msg.specs.declared.envelope.Envelope.{Envelope}
-use Rattle.mb_actor.specs.declared.message.Message.{Message}
-use Rattle.mb_journal.specs.Aside.{aside}
-use Rattle.mb_journal.specs.Identity.{is_guardian}
-use Rattle.mb_journal.specs.Incarnation.{messages}
-use Rattle.mb_journal.specs.Life.{phase}
-use Rattle.mb_journal.specs.Suspension.{count}
 use Rattle.mb_cell.specs.Seen.{Seen}
 use Rattle.mb_queue.specs.Passes.{Sending, Taking}
 use Rattle.mb_gate.specs.declared.left.Left.{Left}
 use Rattle.mb_home.specs.Contents.{Contents}
-use Rattle.mb_home.specs.Steps.{HasNext}
-use Rattle.mb_report.specs.declared.report.ActorReport.{ActorReport}
+use Rattle.mb_home.specs.Steps.{IsRested}
+use Rattle.mb_home.specs.declared.home.Parts.{Parts}
 use Rattle.mb_report.specs.declared.report.SenderReport.{SenderReport}
 use Rattle.mb_reckon.specs.declared.room.Ended.{Ended}
 
@@ -29,32 +23,31 @@ end_of h = (h.cell, h.cleaned, (h.aside_dead + h.dropped) % 2 ^ 64)
 abbrev pub sent_of : SenderReport → ℕ × List DeadLetter
 sent_of s = (s.sent, s.dead.items)
 
--- The homes were taken apart, each with nothing left beside its cell and nothing listed: their cells; the passes of the queues of all but the
--- first; the passes that they sent by; and what each sent.
+abbrev pub sent_in : Contents → ℕ × List DeadLetter
+sent_in h = (h.sent, h.dead)
+
+-- no system message is left for the actor: none beside its cell that is to be applied, and none in its list
+abbrev pub IsDone : Left (Box Contents) → Type 0
+IsDone l = IsRested l.home.value × (l.listed ≡ false)
+
+-- the home was there, no system message was left for its actor, and these are its parts
+pub record IsOpened (left : Option (Left (Box Contents))) (parts : Parts) : Type 0 where
+  pub one : Left (Box Contents)
+  pub is : left ≡ Some one
+  pub done : IsDone one
+  pub end : ended_of (record { cell = parts.cell; cleaned = parts.cleaned; dead_system = parts.dead_system }) ≡ end_of one.home.value
+  pub take : parts.take ≡ one.home.value.take
+  pub sends : parts.sends.items ≡ one.home.value.sends
+  pub sent : sent_of (record { sent = parts.sent; dead = parts.dead }) ≡ sent_in one.home.value
+
+-- The homes were taken apart, with no system message left for any actor: their cells; the passes of the queues; the passes that they sent
+-- by; and what each sent.
 pub record AreApart (all : List (Option (Left (Box Contents)))) (ended : List Ended) (takes : List Taking) (rows : List (List Sending))
     (senders : List SenderReport) : Type 0 where
   pub lefts : List (Left (Box Contents))
   pub are : all ≡ map (λ (l : Left (Box Contents)). Some l) lefts
-  pub none_next : All (λ (l : Left (Box Contents)). (HasNext l.home.value → ⊥) × (l.listed ≡ false)) lefts
+  pub done : All IsDone lefts
   pub ended_are : map ended_of ended ≡ map (λ (l : Left (Box Contents)). end_of l.home.value) lefts
-  pub takes_are : takes ≡ map (λ (l : Left (Box Contents)). l.home.value.take) (drop 1 lefts)
+  pub takes_are : takes ≡ map (λ (l : Left (Box Contents)). l.home.value.take) lefts
   pub rows_are : rows ≡ map (λ (l : Left (Box Contents)). l.home.value.sends) lefts
-  pub senders_are : map sent_of senders ≡ map (λ (l : Left (Box Contents)). (l.home.value.sent, l.home.value.dead)) lefts
-
--- The report shows this cell, and what was cleaned up, left and dead.
-pub record ShowsCell (after : ℕ → List Message → ℤ) (end : Seen × List Envelope × ℕ) (left : List Envelope) (a : ActorReport) : Type 0 where
-  pub phase_is : a.phase ≡ phase end.0.who end.0.journal
-  pub count_is : a.count ≡ count end.0.who end.0.journal
-  pub state_is : a.state ≡ (if is_guardian end.0.who then None else Some (after end.0.who.this.0 (messages end.0.who end.0.journal)))
-  pub journal_is : a.journal.entries ≡ end.0.journal
-  pub aside_is : a.aside.items ≡ aside end.0.who end.0.journal
-  pub cleaned_is : a.cleaned.items ≡ end.1
-  pub left_is : a.left.items ≡ left
-  pub dead_is : a.dead_system ≡ end.2
-
--- the report on each actor shows its cell and what is left of it, and as many envelopes are left as were counted
-pub record ShowsAll (after : ℕ → List Message → ℤ) (ended : List Ended) (lefts : List (List Envelope)) (waiting : List ℕ) (actors : List
-    ActorReport) : Type 0 where
-  pub many : length actors ≡ length ended
-  pub each : (place : ℕ) (e : Ended) (left : List Envelope) (a : ActorReport) → slice_get ended place ≡ Some e → slice_get lefts place ≡ Some left
-      → slice_get actors place ≡ Some a → ShowsCell after (ended_of e) left a × (slice_get waiting place ≡ Some (length left))
+  pub senders_are : map sent_of senders ≡ map (λ (l : Left (Box Contents)). sent_in l.home.value) lefts

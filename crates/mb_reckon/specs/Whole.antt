@@ -1,23 +1,28 @@
 -- What a report says of a whole system: each accepted envelope has one fate, and each actor is what its journal says.
-use Rattle.std.specs.Prelude.{◌≡◌, ◌≢◌, ◌⊎◌, ℕ, ◌+◌, ◌-◌, ◌<◌, ◌%◌, ◌^◌, ℤ, if◌then◌else◌, List, [], All, Contains, length, map, slice_get, Option, Some, None, nat_lt}
+use Rattle.std.specs.Prelude.{◌≡◌, ◌≢◌, ◌⊎◌, ℕ, ◌+◌, ◌-◌, ◌<◌, ◌%◌, ◌^◌, ℤ, false, if◌then◌else◌, List, [], All, Contains, length, map, slice_get, Option, Some, None, nat_lt}
 use Rattle.mb_msg.specs.Limits.{most_actors}
 use Rattle.mb_msg.specs.declared.dead_letter.DeadLetter.{DeadLetter}
 use Rattle.mb_msg.specs.declared.dead_letter.Why.TheVariants as why
 use Rattle.mb_msg.specs.declared.envelope.Envelope.{Envelope}
+use Rattle.mb_msg.specs.declared.system.SysMsg.{SysMsg}
 use Rattle.mb_actor.specs.Behaviour.{Moment, Reply}
 use Rattle.mb_actor.specs.declared.message.Message.{Message}
-use Rattle.mb_actor.specs.declared.phase.Phase.TheVariants.{Ended}
+use Rattle.mb_actor.specs.declared.phase.Phase.TheVariants.{Ended as EndedPhase}
 use Rattle.mb_journal.specs.Aside.{aside, ever_aside, next_number}
 use Rattle.mb_journal.specs.Identity.{Identity, is_guardian}
 use Rattle.mb_journal.specs.Incarnation.{messages}
 use Rattle.mb_journal.specs.Lawful.{IsLawful}
 use Rattle.mb_journal.specs.Life.{closed, phase}
 use Rattle.mb_journal.specs.Suspension.{count}
+use Rattle.mb_syslist.specs.MessageList.{numbered}
 use Rattle.mb_fates.specs.Accepted.{IsNumbered, accepted, dead_letters}
 use Rattle.mb_fates.specs.Fates.{fates}
 use Rattle.mb_fates.specs.Pair.{IsInOrder, StandsAsOften, StandsOnce}
 use Rattle.mb_fates.specs.Told.{told}
 use Rattle.mb_fates.specs.declared.posting.Posting.{Posting}
+use Rattle.mb_gate.specs.Rule.{IsAmong}
+use Rattle.mb_gate.specs.View.{Sight, Read, Saw, Counted, Looked, Sent, Unsent, Took, Pushed, Drained, Ended}
+use Rattle.mb_rule.specs.Seen.{Each}
 use Rattle.mb_home.specs.Numbers.{applied_numbers, numbers_in, times}
 use Rattle.mb_home.specs.Roll.{Enrolled, IsBounded}
 use Rattle.mb_queue.specs.Passes.{Turns, first_in_first_out}
@@ -43,25 +48,44 @@ pub record IsReportOf (after : ℕ → List Message → ℤ) (gives : ℕ → Mo
   pub aside_is : actor.aside.items ≡ aside who actor.journal.entries
   pub state_is : actor.state ≡ (if is_guardian who then None else Some (after who.this.0 (messages who actor.journal.entries)))
 
--- each of the numbers below this one is of a system message that was applied once, or that is set aside or dead once; and all that are dead
--- are counted: those that were set aside when the actor ended, and those that came after
-pub record CountsSystems (who : Identity) (actor : ActorReport) : Type 0 where
+-- that the message was put into this actor's list is so: it is among these, each of which has the number of its place, modulo 2^64
+abbrev pub IsPutAmong : ℕ → List SysMsg → Sight → Type 0
+IsPutAmong actor pushed (Pushed a number message) = a ≡ actor → IsAmong (number, message) (numbered 0 pushed)
+IsPutAmong actor pushed (Read a word) = Unit {0}
+IsPutAmong actor pushed (Saw a journal) = Unit {0}
+IsPutAmong actor pushed (Counted a waiting) = Unit {0}
+IsPutAmong actor pushed (Looked a has_work) = Unit {0}
+IsPutAmong actor pushed (Sent a n) = Unit {0}
+IsPutAmong actor pushed (Unsent a n) = Unit {0}
+IsPutAmong actor pushed (Took a n) = Unit {0}
+IsPutAmong actor pushed (Drained a given) = Unit {0}
+IsPutAmong actor pushed (Ended a given) = Unit {0}
+
+-- Of all system messages that were ever put into the actor's list, in order, each was applied once, or is set aside or dead once: each of
+-- those that have an entry was applied or is set aside still; an actor that ended has some more, and it counts as dead what was set aside,
+-- and these.
+pub record CountsSystems (log : List Sight) (who : Identity) (actor : ActorReport) : Type 0 where
+  pub pushed : List SysMsg
+  pub known : Each (IsPutAmong who.this.0 pushed) log
   pub once : (n : ℕ) → n < next_number actor.journal.entries
       → times n (applied_numbers actor.journal.entries) + times n (numbers_in (ever_aside actor.journal.entries)) ≡ 1
   pub later : ℕ
+  pub all : length pushed % 2 ^ 64 ≡ (next_number actor.journal.entries + later) % 2 ^ 64
+  pub open_has_none : closed who actor.journal.entries ≡ false → later ≡ 0
   pub dead : actor.dead_system ≡ ((if closed who actor.journal.entries then length (ever_aside actor.journal.entries) else 0) + later) % 2 ^ 64
 
 -- a dead letter says that its receiver is closed only of an actor that ended, and that it is full only of one with a bound
 abbrev pub IsRightReason : List Enrolled → List ActorReport → DeadLetter → Type 0
-IsRightReason roll actors d = (d.why ≡ why.Closed → (a : ActorReport) × (slice_get actors d.envelope.to.0 ≡ Some a) × (a.phase ≡ Ended))
+IsRightReason roll actors d = (d.why ≡ why.Closed → (a : ActorReport) × (slice_get actors d.envelope.to.0 ≡ Some a) × (a.phase ≡ EndedPhase))
     × (d.why ≡ why.Full → IsBounded roll d.envelope.to.0)
 
--- What a report says of all actors on a roll and of senders outside who were answered this, each for all that it sent.
-module _ (after : ℕ → List Message → ℤ) (gives : ℕ → Moment → Reply → Type 0) (roll : List Enrolled) (outside : List (List Posting)) where
+-- What a report says of all actors on a roll, of whom all this was seen, and of senders outside who were answered this, each for all that it sent.
+module _ (after : ℕ → List Message → ℤ) (gives : ℕ → Moment → Reply → Type 0) (roll : List Enrolled) (log : List Sight) (outside : List (List
+    Posting)) where
   pub record IsWhole (report : Report) : Type 0 where
     pub many : (length report.actors.items ≡ length roll) × (length report.senders.items ≡ length roll + length outside)
     pub actors : (id : ℕ) (e : Enrolled) (a : ActorReport) → slice_get roll id ≡ Some e → slice_get report.actors.items id ≡ Some a
-        → IsReportOf after gives e.who a × CountsSystems e.who a
+        → IsReportOf after gives e.who a × CountsSystems log e.who a
     -- what each sender was answered, by its place: an actor for all that its journal tells, one outside for all that it sent
     pub answers : ℕ → List Posting
     pub told_all : (id : ℕ) (e : Enrolled) (a : ActorReport) → slice_get roll id ≡ Some e → slice_get report.actors.items id ≡ Some a
@@ -82,5 +106,5 @@ module _ (after : ℕ → List Message → ℤ) (gives : ℕ → Moment → Repl
         → slice_get report.actors.items id ≡ Some a → e.turns ≡ first_in_first_out
         → IsInOrder (sender_number (length roll) place) id (answers place) (fates_in a)
     -- only an actor that ended is cleaned up, and only to one that ended or is suspended envelopes are left
-    pub cleaned : (id : ℕ) (a : ActorReport) → slice_get report.actors.items id ≡ Some a → a.cleaned.items ≢ [] → a.phase ≡ Ended
-    pub left : (id : ℕ) (a : ActorReport) → slice_get report.actors.items id ≡ Some a → a.left.items ≢ [] → (a.phase ≡ Ended) ⊎ (0 < a.count)
+    pub cleaned : (id : ℕ) (a : ActorReport) → slice_get report.actors.items id ≡ Some a → a.cleaned.items ≢ [] → a.phase ≡ EndedPhase
+    pub left : (id : ℕ) (a : ActorReport) → slice_get report.actors.items id ≡ Some a → a.left.items ≢ [] → (a.phase ≡ EndedPhase) ⊎ (0 < a.count)

@@ -4,13 +4,15 @@
 //! envelope one fate, and of each actor what its journal says.
 #![tactic(auto)]
 
+mod apart;
 mod mismatch;
 mod outsider;
 mod place;
 mod reckon;
-mod reckoning;
+mod rest;
 mod room;
 mod settled;
+mod showing;
 
 pub use mismatch::Mismatch;
 pub use outsider::Outsider;

@@ -7,15 +7,15 @@ ghost use Rattle.mb_reckon.specs.Rooms.{IsRoom};
 ghost use Rattle.mb_reckon.specs.Seen.{GoesOnFromAll};
 ghost use Rattle.mb_reckon.specs.Whole.{IsWhole};
 
+use crate::apart::{add_outside, take_apart};
 use crate::mismatch::Mismatch;
 use crate::outsider::Outsider;
 use crate::place::Place;
-use crate::reckoning::{add_outside, report_on, take_apart};
+use crate::rest::take_rests;
 use crate::room::Room;
+use crate::showing::report_on;
 use mb_actor::{Actor, Behaviours};
-use mb_finish::{TooMany, settle};
 use mb_gate::{Gates, Pass};
-use mb_msg::ActorId;
 use mb_report::Report;
 use std::sync::Wait;
 
@@ -37,7 +37,7 @@ pub fn reckon<A: Actor, K: Behaviours, R: Wait>(
     requires outside { AreOutsiders (first_of gates).value.roll (known_by pass).log 64 outside.items }
     requires room { IsRoom (actors_of gates) (length outside.items) room }
     ensures whole { IfOk result (λ report.
-        IsWhole K.after K.gives (first_of gates).value.roll (map (λ o. o.book.posted) outside.items) report) }
+        IsWhole K.after K.gives (first_of gates).value.roll (known_by pass).log (map (λ o. o.book.posted) outside.items) report) }
     ensures seen { IfOk result (λ report. GoesOnFromAll report (known_by pass)) }
     ensures whom { IfErr result (λ mismatch. of_whom mismatch < actors_of gates) }
 {
@@ -54,8 +54,6 @@ pub fn reckon<A: Actor, K: Behaviours, R: Wait>(
     let all = gates.finish(pass, homes);
     take_apart(all, &mut ended, &mut takes, &mut rows, &mut senders)?;
     add_outside(outside, &mut rows, &mut senders);
-    if let Err(TooMany(place)) = settle(rt, takes, rows, &mut lefts[1..]) {
-        return Err(Mismatch::Waiting(ActorId(place as u32 + 1)));
-    }
+    take_rests(rt, takes, rows, &mut lefts)?;
     report_on(ended, lefts, &waiting, actors, senders)
 }
