@@ -19,7 +19,7 @@ never-both b a c = let e : true ≡ false = sym a ∙ c in absurd (cc)
 
 module _ (among : ℕ → Bool) where
   pub among-none : (v : View) → LooksAmong among v v
-  among-none v = record { looks = []; only = tt; log = refl; said = refl; others = λ other out. refl }
+  among-none v = record { looks = []; only = tt; log = refl; said = refl; others = λ other out. refl; share = refl }
 
   -- one more actor of the set
   among-then : (id : ℕ) (u v w : View) → among id ≡ true → LooksAmong among u v → LooksAfter id v w → LooksAmong among u w
@@ -31,6 +31,7 @@ module _ (among : ℕ → Bool) where
         ∙ sym (append_assoc b.looks a.looks u.log);
     said = b.said ∙ a.said;
     others = λ other out. b.others other (λ same. never-both (among other) (ap among same ∙ in_set) out) ∙ a.others other out;
+    share = b.share ∙ a.share;
   }
 
   -- an actor that is looked at only if it is in the set

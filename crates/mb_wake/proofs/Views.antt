@@ -22,7 +22,7 @@ module _ (id : ℕ) where
   owes-other d v other ne = let apart : (id == other) ≡ false = grind (arith, nat_tests) in ap (λ b. if b then d else owes other v) apart
 
   pub looks-none : (v : View) → LooksAfter id v v
-  looks-none v = record { looks = []; only = tt; log = refl; said = refl; others = λ other ne. refl }
+  looks-none v = record { looks = []; only = tt; log = refl; said = refl; others = λ other ne. refl; share = refl }
 
   -- something done, and then looks
   pub does-then : (did : List Sight) (told : List Said) (u v w : View) → Does id did told u v → LooksAfter id v w → Does id did told u w
@@ -32,6 +32,7 @@ module _ (id : ℕ) where
     log = b.log ∙ ap (λ l. (b.looks ++ []) ++ l) a.log ∙ joined;
     said = b.said ∙ a.said;
     others = λ other ne. b.others other ne ∙ a.others other ne;
+    share = b.share ∙ a.share;
   }
     where
       joined : (b.looks ++ []) ++ ((a.looks ++ did) ++ u.log) ≡ ((b.looks ++ a.looks) ++ did) ++ u.log
@@ -43,7 +44,7 @@ module _ (id : ℕ) where
   looks-then = does-then [] []
 
   pub looks-seeing : (s : Sight) (v : View) → IsLook id s → LooksAfter id v (seeing s v)
-  looks-seeing s v is = record { looks = s ∷ []; only = (is, tt); log = refl; said = refl; others = λ other ne. refl }
+  looks-seeing s v is = record { looks = s ∷ []; only = (is, tt); log = refl; said = refl; others = λ other ne. refl; share = refl }
 
   pub looks-reading : (word : ℕ) (v : View) → LooksAfter id v (reading id word v)
   looks-reading word v = record {
@@ -52,6 +53,7 @@ module _ (id : ℕ) where
     log = refl;
     said = refl;
     others = owes-other (after_reading (mailbox_of word) (owes id v)) v;
+    share = refl;
   }
 
   looks-if : (b : Bool) (u v w : View) → LooksAfter id u v → LooksAfter id u w → LooksAfter id u (if b then v else w)
@@ -66,6 +68,7 @@ module _ (id : ℕ) where
         log = refl;
         said = refl;
         others = owes-other (record (owes id v) { message = false }) v;
+        share = refl;
       })
       (looks-seeing _ v refl)
 
@@ -77,10 +80,11 @@ module _ (id : ℕ) where
     log = refl;
     said = refl;
     others = owes-other (record (owes id v) { system = false }) v;
+    share = refl;
   }
 
   looks-winning : (v : View) → LooksAfter id v (winning id v)
-  looks-winning v = record { looks = []; only = tt; log = refl; said = refl; others = owes-other nothing (record v { got = id ∷ v.got }) }
+  looks-winning v = record { looks = []; only = tt; log = refl; said = refl; others = owes-other nothing (record v { got = id ∷ v.got }); share = refl }
 
   -- after a reading; after one and another; after one that was followed by a won exchange
   pub looks-read : (a : ℕ) (v w : View) → w ≡ reading id a v → LooksAfter id v w
@@ -104,6 +108,7 @@ module _ (id : ℕ) where
     log = refl;
     said = refl;
     others = owes-other (record (owes id v) { sending = true }) v;
+    share = refl;
   })
 
   pub does-unsending : (u v w : View) → v ≡ sending id 1 u → w ≡ unsending id 1 v → Does id (Unsent id 1 ∷ Sent id 1 ∷ []) [] u w
@@ -113,6 +118,7 @@ module _ (id : ℕ) where
     log = ap (λ (x : View). Unsent id 1 ∷ x.log) sent;
     said = a.said;
     others = λ other ne. owes-other (record (owes id v) { message = true; sending = false }) v other ne ∙ a.others other ne;
+    share = a.share;
   })
 
   -- a message was put into the list, or found it ended
@@ -125,13 +131,14 @@ module _ (id : ℕ) where
         log = refl;
         said = refl;
         others = owes-other (record (owes id v) { system = true }) v;
+        share = refl;
       })
 
   pub does-refusing : (message : SysMsg) (v w : View) → w ≡ refusing id message v →
       Does id [] (record { to = id; message = message; was_ended = true } ∷ []) v w
   does-refusing message v w is =
       subst (Does id [] (record { to = id; message = message; was_ended = true } ∷ []) v) (sym is)
-      (record { looks = []; only = tt; log = refl; said = refl; others = λ other ne. refl })
+      (record { looks = []; only = tt; log = refl; said = refl; others = λ other ne. refl; share = refl })
 
 -- what is owed by a pass is as it was once a claim that owed nothing was put into its place
 or-false : (b : Bool) → (b || false) ≡ b
@@ -154,6 +161,7 @@ module _ (id : ℕ) (j before : List Entry) (shut : List ℕ) (word : ℕ) (gave
     log = ap (λ l. Saw id j ∷ l) (append-nil v.log);
     said = refl;
     others = λ other ne. owes-other id _ (taking_in (claimed id before shut word gave given) v) other ne ∙ added-none other v.debts;
+    share = append-nil v.share;
   }
 
   pub looks-back : (actor : ℕ) (v c w : View) → actor ≡ id → c ≡ claimed actor before shut word gave given → w ≡ idling actor j (taking_in c v) →

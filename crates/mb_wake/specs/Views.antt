@@ -17,23 +17,26 @@ IsLook id (Pushed a number message) = ⊥
 IsLook id (Drained a given) = ⊥
 IsLook id (Ended a given) = ⊥
 
--- It did this at the actor, and said this, the newest first; then it looked there, as often as it liked; and it owes every other actor
--- what it owed before.
+-- It did this at the actor, and said this, the newest first; then it looked there, as often as it liked; it owes every other actor what
+-- it owed before, and has the share that it had.
 pub record Does (id : ℕ) (did : List Sight) (told : List Said) (old new : View) : Type 0 where
   pub looks : List Sight
   pub only : Each (IsLook id) looks
   pub log : new.log ≡ looks ++ did ++ old.log
   pub said : new.said ≡ told ++ old.said
   pub others : (other : ℕ) → other ≢ id → owes other new ≡ owes other old
+  pub share : new.share ≡ old.share
 
 -- it looked, and did nothing
 abbrev pub LooksAfter : ℕ → View → View → Type 0
 LooksAfter id = Does id [] []
 
--- It looked at actors of a set, as often as it liked, and did nothing; and it owes every actor outside of the set what it owed before.
+-- It looked at actors of a set, as often as it liked, and did nothing; it owes every actor outside of the set what it owed
+-- before, and has the share that it had.
 pub record LooksAmong (among : ℕ → Bool) (old new : View) : Type 0 where
   pub looks : List Sight
   pub only : Each (λ (s : Sight). (id : ℕ) × (among id ≡ true) × IsLook id s) looks
   pub log : new.log ≡ looks ++ old.log
   pub said : new.said ≡ old.said
   pub others : (other : ℕ) → among other ≡ false → owes other new ≡ owes other old
+  pub share : new.share ≡ old.share
