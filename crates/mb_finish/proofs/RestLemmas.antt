@@ -12,12 +12,16 @@ use Rattle.mb_finish.specs.Joined.{AreOfDifferent, joined_by}
 use Rattle.mb_finish.specs.Rest.{AreRests, IsRest}
 use Rattle.mb_finish.proofs.CameLemmas.{IsKnownBy, all-came, all-known, same-taken, same-turns}
 
+-- the receiver takes from the same queue, and in the same order
+abbrev pub SameQueue : Taking → Taking → Type 0
+SameQueue first last = (last.queue ≡ first.queue) × (last.turns ≡ first.turns)
+
 -- the receiver took this besides, and then found nothing
-came-then : (first last : Taking) (left : List Envelope) → last.taken ≡ first.taken ++ left → last.turns ≡ first.turns
+came-first : (first last : Taking) (left : List Envelope) → last.taken ≡ first.taken ++ left → last.turns ≡ first.turns
     → last.accounts ≡ first.accounts → EachOnce last → (last.turns ≡ first_in_first_out → InOrder last)
     → (before : Taking) (passes : List Sending) → first ≡ joined_by before passes → AreOfDifferent passes
     → All (Came before.turns (before.taken ++ left)) passes
-came-then first last left taken turns accounts once in_order before passes is different =
+came-first first last left taken turns accounts once in_order before passes is different =
     let kind : last.turns ≡ before.turns = turns ∙ ap (λ (t : Taking). t.turns) is ∙ same-turns before passes in
     let all : last.taken ≡ before.taken ++ left
     = taken ∙ ap (λ (t : Taking). t.taken ++ left) is ∙ ap (λ l. l ++ left) (same-taken before passes) in
@@ -26,12 +30,12 @@ came-then first last left taken turns accounts once in_order before passes is di
     (sym (accounts ∙ ap (λ (t : Taking). t.accounts) is)) (all-known before passes different) in
     subst (λ (x : Turns × List Envelope). All (Came x.0 x.1) passes) (λ i. (kind i, all i)) (all-came last passes once in_order known)
 
-pub is-rest : (first last : Taking) (left : List Envelope) → last.taken ≡ first.taken ++ left → last.queue ≡ first.queue → last.turns ≡ first.turns
-    → last.accounts ≡ first.accounts → All (IsOfQueue last.queue) last.taken → EachOnce last → (last.turns ≡ first_in_first_out → InOrder last)
-    → IsRest first left
-is-rest first last left taken queue turns accounts known once in_order = record {
-  known = subst (λ (x : Queue × List Envelope). All (IsOfQueue x.0) x.1) (λ i. (queue i, taken i)) known;
-  came = came-then first last left taken turns accounts once in_order;
+pub is-rest : (first last : Taking) (left : List Envelope) → last.taken ≡ first.taken ++ left → SameQueue first last
+    → last.accounts ≡ first.accounts → EachOnce last → (last.turns ≡ first_in_first_out → InOrder last)
+    → All (IsOfQueue last.queue) last.taken → IsRest first left
+is-rest first last left taken same accounts once in_order known = record {
+  known = subst (λ (x : Queue × List Envelope). All (IsOfQueue x.0) x.1) (λ i. (same.0 i, taken i)) known;
+  came = came-first first last left taken same.1 accounts once in_order;
 }
 
 module _ {R : Type 0} where

@@ -5,8 +5,8 @@ use Rattle.mb_queue.specs.Passes.{IsOfQueue, Sending, Taking}
 use Rattle.mb_finish.specs.Came.{Came}
 use Rattle.mb_finish.specs.Joined.{AreOfDifferent, joined_by}
 
--- It is all that was left of what the receiver was to take: with what it took before, it is of its queue alone; and whichever passes it had
--- taken in, of different senders, all that they pushed is among what it took before and what was left.
+-- It is all that was left of what the receiver was to take, and of its queue, as all is that it took before. Whichever passes it had taken
+-- in, of different senders, all that they pushed is among what it took before and what was left.
 pub record IsRest (take : Taking) (left : List Envelope) : Type 0 where
   pub known : All (IsOfQueue take.queue) (take.taken ++ left)
   pub came : (before : Taking) (passes : List Sending) → take ≡ joined_by before passes → AreOfDifferent passes
