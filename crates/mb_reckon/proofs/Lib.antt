@@ -3,3 +3,10 @@ pub mod Columns
 pub mod Standing
 pub mod Reaching
 pub mod Parties
+pub mod Outsiders
+pub mod Gathering
+pub mod WholeLaw
+pub mod EndLaw
+pub mod Steps
+pub mod Answered
+pub mod Rests

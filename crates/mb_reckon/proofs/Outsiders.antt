@@ -2,7 +2,7 @@
 use Rattle.std.proofs.Common.{◌≡◌, ◌⊎◌, inl, inr, ⊎_elim, ℕ, zero, suc, ◌+◌, ◌-◌, ◌%◌, ◌^◌, ◌<◌, ◌==◌, ◌&&◌, ◌||◌, Bool, true, false, List, [], ◌∷◌}
 use Rattle.std.proofs.Common.{length, map, drop, refl, sym, ap, ◌∙◌, subst, arith, Option, Some, None}
 use Rattle.std.proofs.Math.Nat.{mod-eq_of_lt}
-use Rattle.std.specs.Prelude.{All, IsSome, is_some, slice_get}
+use Rattle.std.specs.Prelude.{All, is_some, slice_get}
 use Rattle.std.specs.List.{list_all, list_any}
 use Rattle.std.proofs.lemmas.Bool.{eqb-true}
 use Rattle.std.proofs.lemmas.List.Elements.{All-nil, All-cons, All-weaker}
@@ -70,7 +70,7 @@ seen-shut id journal word (s ∷ log) t kept =
 names-numbered : (by n : ℕ) (es : List Envelope) → names_of es ≡ names_from by n es → IsNumbered by n es
 names-numbered by n [] names = tt
 names-numbered by n (e ∷ es) names =
-    let first : (e.by.0, e.number) ≡ (by, n) = cc names in
+    let first : ◌≡◌ {A = ℕ × ℕ} (e.by.0, e.number) (by, n) = cc names in
     let rest : names_of es ≡ names_from by (n + 1) es = cc names in
     (ap (λ (x : ℕ × ℕ). x.0) first, ap (λ (x : ℕ × ℕ). x.1) first, names-numbered by (n + 1) es rest)
 
@@ -88,10 +88,6 @@ but-first all zero q is = absurd (none-some q is)
 but-first [] (suc to) q is = absurd (none-some q is)
 but-first (x ∷ all) (suc to) q is = is
 
-some-is : {A : Type 0} (o : Option A) → is_some o ≡ true → IsSome o
-some-is None t = absurd (cc t)
-some-is (Some x) t = tt
-
 module _ (roll : List Enrolled) (Shut : ℕ → Type 0) (log : List Sight) (number : ℕ) (o : Outsider) (is : IsOutsider roll log number o)
     (shut : (to : ℕ) → to < length roll → has_seen_closed log to ≡ true → Shut to) where
   reason-at : (i : ℕ) (d : DeadLetter) → slice_get (dead_letters o.book.posted) i ≡ Some d → HasReason roll Shut d
@@ -106,7 +102,7 @@ module _ (roll : List Enrolled) (Shut : ℕ → Type 0) (log : List Sight) (numb
       let lt : to < length roll
       = let a = within (queues_of roll) to one.0 found in let b = length-mapped (λ (n : Enrolled). n.queue) roll in omega (arith, a, b) in (
         λ closed. shut to lt (sym (ap (may_be_dead (has_seen_closed log to)) closed) ∙ seen),
-        λ full. record { queue = one.0; there = found; bounded = some-is one.0.main.capacity (one.2 full) },
+        λ full. record { queue = one.0; there = found; bounded = one.2 full },
       )
 
   pub outside-party : o.book.sent < 2 ^ 64

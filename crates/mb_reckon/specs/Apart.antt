@@ -13,7 +13,7 @@ use Rattle.mb_report.specs.declared.report.SenderReport.{SenderReport}
 use Rattle.mb_reckon.specs.declared.room.Ended.{Ended}
 
 -- the cell of a home, with what was cleaned up and how many system messages are dead
-abbrev pub ended_of : Ended → Seen × List Envelope × ℕ
+abbrev pub ended_of : {A K : Type 0} → Ended A K → Seen × List Envelope × ℕ
 ended_of e = (e.cell, e.cleaned.items, e.dead_system)
 
 abbrev pub end_of : Contents → Seen × List Envelope × ℕ
@@ -31,18 +31,18 @@ abbrev pub IsDone : Left (Box Contents) → Type 0
 IsDone l = IsRested l.home.value × (l.listed ≡ false)
 
 -- the home was there, no system message was left for its actor, and these are its parts
-pub record IsOpened (left : Option (Left (Box Contents))) (parts : Parts) : Type 0 where
+pub record IsOpened {A K : Type 0} (left : Option (Left (Box Contents))) (parts : Parts A K) : Type 0 where
   pub one : Left (Box Contents)
   pub is : left ≡ Some one
   pub done : IsDone one
-  pub end : ended_of (record { cell = parts.cell; cleaned = parts.cleaned; dead_system = parts.dead_system }) ≡ end_of one.home.value
+  pub end : ◌≡◌ {A = Seen × List Envelope × ℕ} (parts.cell, parts.cleaned.items, parts.dead_system) (end_of one.home.value)
   pub take : parts.take ≡ one.home.value.take
   pub sends : parts.sends.items ≡ one.home.value.sends
-  pub sent : sent_of (record { sent = parts.sent; dead = parts.dead }) ≡ sent_in one.home.value
+  pub sent : ◌≡◌ {A = ℕ × List DeadLetter} (parts.sent, parts.dead.items) (sent_in one.home.value)
 
 -- The homes were taken apart, with no system message left for any actor: their cells; the passes of the queues; the passes that they sent
 -- by; and what each sent.
-pub record AreApart (all : List (Option (Left (Box Contents)))) (ended : List Ended) (takes : List Taking) (rows : List (List Sending))
+pub record AreApart {A K : Type 0} (all : List (Option (Left (Box Contents)))) (ended : List (Ended A K)) (takes : List Taking) (rows : List (List Sending))
     (senders : List SenderReport) : Type 0 where
   pub lefts : List (Left (Box Contents))
   pub are : all ≡ map (λ (l : Left (Box Contents)). Some l) lefts

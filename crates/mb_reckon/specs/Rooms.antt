@@ -1,12 +1,18 @@
 -- The room that the end of a system takes.
-use Rattle.std.specs.Prelude.{◌≡◌, ℕ, ◌+◌, ◌≤◌, IfSome, [], length, map, slice_get, Some, vec_capacity}
+use Rattle.std.specs.Prelude.{◌≡◌, ℕ, ◌+◌, ◌≤◌, [], Vec, length, vec_capacity}
+use Rattle.std.specs.List.{AllZip}
+use Rattle.std.specs.Global.{Global}
+use Rattle.mb_msg.specs.declared.envelope.Envelope.{Envelope}
 use Rattle.mb_reckon.specs.declared.room.Room.{Room}
 
+-- it is unused, and there is room for so many
+abbrev pub IsEnough : ℕ → Vec Envelope Global → Type 0
+IsEnough waiting room = (room.items ≡ []) × (waiting ≤ vec_capacity room)
+
 -- There is room for what is left of so many actors and of so many senders outside, and for as many envelopes of each actor as are counted.
-pub record IsRoom (actors outside : ℕ) (room : Room) : Type 0 where
+pub record IsRoom {A K : Type 0} (actors outside : ℕ) (room : Room A K) : Type 0 where
   pub counted : length room.waiting.items ≡ actors
-  pub lefts : map (λ l. l.items) room.lefts.items ≡ map (λ w. []) room.waiting.items
-  pub enough : (place : ℕ) (n : ℕ) → slice_get room.waiting.items place ≡ Some n → IfSome (slice_get room.lefts.items place) (λ l. n ≤ vec_capacity l)
+  pub lefts : AllZip IsEnough room.waiting.items room.lefts.items
   pub homes : (room.homes.items ≡ []) × (actors ≤ vec_capacity room.homes)
   pub ended : (room.ended.items ≡ []) × (actors ≤ vec_capacity room.ended)
   pub takes : (room.takes.items ≡ []) × (actors ≤ vec_capacity room.takes)

@@ -25,14 +25,14 @@ pub record ShowsCell (after : ℕ → List Message → ℤ) (end : Seen × List 
   pub dead_is : a.dead_system ≡ end.2
 
 -- it does; as many envelopes are left as were counted; and if any is left, the actor ended or is suspended
-pub record ShowsOne (after : ℕ → List Message → ℤ) (e : Ended) (left : List Envelope) (waiting : ℕ) (a : ActorReport) : Type 0 where
+pub record ShowsOne {A K : Type 0} (after : ℕ → List Message → ℤ) (e : Ended A K) (left : List Envelope) (waiting : ℕ) (a : ActorReport) : Type 0 where
   pub shows : ShowsCell after (ended_of e) left a
   pub counted : length left ≡ waiting
   pub kept : left ≢ [] → (a.phase ≡ EndedPhase) ⊎ (0 < a.count)
 
 -- so does the report on each actor, of whom this is left and so many envelopes were counted
-pub record ShowsAll (after : ℕ → List Message → ℤ) (ended : List Ended) (lefts : List (List Envelope)) (waiting : List ℕ) (actors : List
+pub record ShowsAll {A K : Type 0} (after : ℕ → List Message → ℤ) (ended : List (Ended A K)) (lefts : List (List Envelope)) (waiting : List ℕ) (actors : List
     ActorReport) : Type 0 where
   pub many : length actors ≡ length ended
-  pub each : (place : ℕ) (e : Ended) (left : List Envelope) (n : ℕ) (a : ActorReport) → slice_get ended place ≡ Some e
+  pub each : (place : ℕ) (e : Ended A K) (left : List Envelope) (n : ℕ) (a : ActorReport) → slice_get ended place ≡ Some e
       → slice_get lefts place ≡ Some left → slice_get waiting place ≡ Some n → slice_get actors place ≡ Some a → ShowsOne after e left n a

@@ -1,5 +1,5 @@
 //! The homes are taken apart.
-ghost use Rattle.std.specs.Prelude.{◌≡◌, ◌+◌, ◌<◌, ◌≤◌, [], ◌++◌, IfErr, IfOk, OnOk, length, map, vec_capacity};
+ghost use Rattle.std.specs.Prelude.{◌≡◌, ◌+◌, ◌<◌, ◌≤◌, ◌^◌, [], ◌++◌, All, IfErr, IfOk, OnOk, length, map, vec_capacity};
 ghost use Rattle.mb_reckon.specs.Apart.{AreApart, IsOpened, sent_of};
 ghost use Rattle.mb_reckon.specs.Mismatched.{of_whom};
 
@@ -10,7 +10,7 @@ use crate::room::Ended;
 use mb_actor::{Actor, Behaviours};
 use mb_gate::Left;
 use mb_home::Parts;
-use mb_msg::ActorId;
+use mb_msg::{ActorId, DeadLetter};
 use mb_queue::{SendPass, TakePass};
 use mb_report::SenderReport;
 use mb_send::Book;
@@ -88,8 +88,10 @@ pub(crate) fn add_outside(
     ensures rows { map (λ r. r.items) rows.new.items ≡ map (λ r. r.items) rows.old.items ++ map (λ o. o.sends.items) outside.items }
     ensures senders { map sent_of senders.new.items ≡ map sent_of senders.old.items
         ++ map (λ o. (o.book.sent, o.book.dead.items)) outside.items }
+    ensures small { All (λ o. o.book.sent < 2 ^ 64) outside.items }
 {
-    for Outsider { sends, book } in outside {
+    for outsider in outside {
+        let Outsider { sends, book } = outsider;
         let Book {
             by: _,
             sent,
@@ -97,6 +99,14 @@ pub(crate) fn add_outside(
             posted: _,
         } = book;
         rows.push_reserved(sends);
-        senders.push_reserved(SenderReport { sent, dead });
+        senders.push_reserved(sender_report(sent, dead));
     }
+}
+
+// The report of a sender.
+fn sender_report(sent: u64, dead: Vec<DeadLetter>) -> SenderReport
+    ensures report { sent_of result ≡ (sent, dead.items) }
+    ensures small { sent < 2 ^ 64 }
+{
+    SenderReport { sent, dead }
 }

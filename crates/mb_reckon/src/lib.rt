@@ -5,17 +5,17 @@
 #![tactic(auto)]
 
 mod apart;
+mod ending;
 mod mismatch;
 mod outsider;
 mod place;
-mod reckon;
 mod rest;
 mod room;
 mod settled;
 mod showing;
 
+pub use ending::reckon;
 pub use mismatch::Mismatch;
 pub use outsider::Outsider;
-pub use reckon::reckon;
 pub use room::{Room, make_room};
 pub use settled::first_unsettled;

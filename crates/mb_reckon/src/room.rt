@@ -1,13 +1,14 @@
 //! The room that the end of a system takes: after it no memory is asked for.
-ghost use Rattle.std.specs.Prelude.{◌≡◌, ◌≤◌, IfOk};
+ghost use Rattle.std.specs.Prelude.{◌≡◌, ◌≤◌, IfOk, length};
+ghost use Rattle.std.specs.List.{AllZip};
 ghost use Rattle.mb_gate.specs.Names.{actors_of, gates_id, known_by, pass_id};
 ghost use Rattle.mb_gate.specs.Rule.{IsPart};
-ghost use Rattle.mb_reckon.specs.Rooms.{IsRoom};
+ghost use Rattle.mb_reckon.specs.Rooms.{IsEnough, IsRoom};
 
 use crate::place::Place;
 use mb_actor::{Actor, Behaviours};
 use mb_cell::Cell;
-use mb_gate::{Gates, Left, Pass};
+use mb_gate::{Gates, Left, Pass, Resident};
 use mb_msg::{ActorId, Envelope};
 use mb_queue::{SendPass, TakePass};
 use mb_report::{ActorReport, SenderReport};
@@ -34,7 +35,7 @@ pub struct Room<A: Actor, K: Behaviours> {
     pub(crate) senders: Vec<SenderReport>,
 }
 
-/// Makes room for so many senders, and for all that waits.
+/// Makes room for so many senders outside, and for all that waits.
 pub fn make_room<A: Actor, K: Behaviours>(
     alloc: Global,
     gates: &Gates<Place<A, K>>,
@@ -48,22 +49,41 @@ pub fn make_room<A: Actor, K: Behaviours>(
     ensures room { IfOk result (IsRoom (actors_of gates.now) outside) }
 {
     let actors = gates.actors();
-    let senders = actors.checked_add(outside).ok_or(AllocError)?;
-    let mut room = Room {
-        waiting: Vec::with_capacity(alloc, actors)?,
+    let senders = actors + outside;
+    let (waiting, lefts) = make_lefts(alloc, gates, pass)?;
+    Ok(Room {
+        waiting,
         homes: Vec::with_capacity(alloc, actors)?,
         ended: Vec::with_capacity(alloc, actors)?,
         takes: Vec::with_capacity(alloc, actors)?,
         rows: Vec::with_capacity(alloc, senders)?,
-        lefts: Vec::with_capacity(alloc, actors)?,
+        lefts,
         actors: Vec::with_capacity(alloc, actors)?,
         senders: Vec::with_capacity(alloc, senders)?,
-    };
+    })
+}
+
+// How many envelopes wait for each actor, and room for as many.
+fn make_lefts<H: Resident>(
+    alloc: Global,
+    gates: &Gates<H>,
+    pass: &mut Pass<H>,
+) -> Result<(Vec<u64>, Vec<Vec<Envelope>>), AllocError>
+    requires ours { pass_id pass.old ≡ gates_id gates.now }
+    requires few { actors_of gates.now ≤ 64 }
+    ensures ours { pass_id pass.new ≡ pass_id pass.old }
+    ensures known { IsPart (known_by pass.old).log (known_by pass.new).log }
+    ensures counted { IfOk result (λ made. length made.0.items ≡ actors_of gates.now) }
+    ensures room { IfOk result (λ made. AllZip IsEnough made.0.items made.1.items) }
+{
+    let actors = gates.actors();
+    let mut counts = Vec::with_capacity(alloc, actors)?;
+    let mut lefts = Vec::with_capacity(alloc, actors)?;
     for number in 0..actors {
         let waiting = gates.waiting(pass, ActorId(number as u32));
-        room.waiting.push(waiting)?;
-        room.lefts
-            .push(Vec::with_capacity(alloc, waiting as usize)?)?;
+        let room = Vec::with_capacity(alloc, waiting as usize)?;
+        counts.push_reserved(waiting);
+        lefts.push_reserved(room);
     }
-    Ok(room)
+    Ok((counts, lefts))
 }

@@ -1,5 +1,5 @@
 //! Whether there is anything left to run.
-ghost use Rattle.std.specs.Prelude.{◌≡◌, ◌<◌, ◌≤◌, MatchOption, if◌then◌else◌};
+ghost use Rattle.std.specs.Prelude.{◌≡◌, ◌<◌, ◌≤◌, MatchBool, MatchOption};
 ghost use Rattle.mb_gate.specs.Names.{actors_of, gates_id, known_by, pass_id};
 ghost use Rattle.mb_gate.specs.View.{View};
 ghost use Rattle.mb_reckon.specs.Settled.{AreSettledBy, IsSettledBy, IsUnsettled};
@@ -30,8 +30,8 @@ fn is_settled<H: Resident>(gates: &Gates<H>, pass: &mut Pass<H>, id: ActorId) ->
     requires ours { pass_id pass.old ≡ gates_id gates.now }
     requires there { id.0 < actors_of gates.now }
     ensures ours { pass_id pass.new ≡ pass_id pass.old }
-    ensures settled { if result then IsSettledBy id.0 (known_by pass.old) (known_by pass.new)
-        else IsUnsettled id.0 (known_by pass.old) (known_by pass.new) }
+    ensures settled { MatchBool result (IsSettledBy id.0 (known_by pass.old) (known_by pass.new))
+        (IsUnsettled id.0 (known_by pass.old) (known_by pass.new)) }
 {
     let status = gates.status(pass, id);
     if status.closed() {

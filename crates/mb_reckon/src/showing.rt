@@ -38,12 +38,23 @@ pub(crate) fn report_on<A: Actor, K: Behaviours>(
         let Some(left) = lefts.next() else {
             unreachable!()
         };
-        if left.len() as u64 != waiting[place] || !left.is_empty() && may_handle(&one.cell) {
+        if !agrees(&one.cell, &left, waiting[place]) {
             return Err(Mismatch::Waiting(ActorId(place as u32)));
         }
         actors.push_reserved(actor_report(one, left));
     }
     Ok(Report { actors, senders })
+}
+
+// Whether as many envelopes are left as were counted, and none that the actor could handle.
+fn agrees<A: Actor, K: Behaviours>(cell: &Cell<A, K>, left: &[Envelope], waiting: u64) -> bool
+    ensures { result ≡ true → (length left.now ≡ waiting) × (left.now ≢ []
+        → (phase cell.now.who cell.now.journal ≡ EndedPhase) ⊎ (0 < count cell.now.who cell.now.journal)) }
+{
+    if left.len() as u64 != waiting {
+        return false;
+    }
+    left.is_empty() || !may_handle(cell)
 }
 
 // Whether the actor could handle an envelope: it has not ended, and is not suspended.

@@ -1,0 +1,160 @@
+-- From what the gates left to the report.
+use Rattle.std.proofs.Common.{◌≡◌, ◌≢◌, ◌⊎◌, ℕ, ◌+◌, ◌%◌, ◌^◌, ◌<◌, ◌≤◌, ℤ, Bool, true, false, List, [], ◌∷◌, ◌++◌, length, map, drop, refl, sym, ap, ◌∙◌}
+use Rattle.std.proofs.Common.{subst, arith, Option, Some, None}
+use Rattle.std.specs.Prelude.{All, slice_get}
+use Rattle.std.proofs.lemmas.Option.{same_Some}
+use Rattle.mb_msg.specs.declared.envelope.Envelope.{Envelope}
+use Rattle.mb_actor.specs.Behaviour.{Moment, Reply}
+use Rattle.mb_actor.specs.declared.message.Message.{Message}
+use Rattle.mb_actor.specs.declared.phase.Phase.TheVariants.{Ended as EndedPhase}
+use Rattle.mb_journal.specs.Entry.{Entry}
+use Rattle.mb_journal.specs.Life.{closed}
+use Rattle.mb_fates.specs.declared.posting.Posting.{Posting}
+use Rattle.mb_queue.specs.Passes.{Queue, Sending, Taking}
+use Rattle.mb_finish.specs.Joined.{AreOfDifferent, column, queues_of, ways_of}
+use Rattle.mb_gate.specs.Leaves.{IsKept}
+use Rattle.mb_gate.specs.Rule.{Extends, IsAmong}
+use Rattle.mb_gate.specs.View.{View, Sight, Read, Saw, Counted, Looked, Sent, Unsent, Took, Pushed, Drained, Ended as EndedSight}
+use Rattle.mb_rule.specs.Seen.{Each}
+use Rattle.mb_home.specs.AtHome.{closed_receivers}
+use Rattle.mb_home.specs.Contents.{Contents}
+use Rattle.mb_home.specs.Roll.{Enrolled, queues_of as roll_queues}
+use Rattle.mb_report.specs.declared.report.ActorReport.{ActorReport}
+use Rattle.mb_report.specs.declared.report.Report.{Report}
+use Rattle.mb_report.specs.declared.report.SenderReport.{SenderReport}
+use Rattle.mb_reckon.specs.Apart.{AreApart, IsDone, end_of, ended_of, sent_of}
+use Rattle.mb_reckon.specs.Outside.{AreOutsiders, HasKnownSenders}
+use Rattle.mb_reckon.specs.Seen.{GoesOnFrom, GoesOnFromAll}
+use Rattle.mb_reckon.specs.Shown.{ShowsAll, ShowsCell}
+use Rattle.mb_reckon.specs.Taken.{AreTaken}
+use Rattle.mb_reckon.specs.Whole.{IsWhole, sender_number}
+use Rattle.mb_reckon.specs.declared.outsider.Outsider.{Outsider}
+use Rattle.mb_reckon.specs.declared.room.Ended.{Ended}
+use Rattle.mb_reckon.proofs.Columns.{different}
+use Rattle.mb_reckon.proofs.Gathering.{Gathered, gathered, numbers-rise}
+use Rattle.mb_reckon.proofs.Lists.{alike, at-place, each-place, from-mapped, length-mapped, mapped, same-maps, there, within}
+use Rattle.mb_reckon.proofs.Parties.{Party}
+use Rattle.mb_reckon.proofs.Standing.{AreHomes, Place, Stands, many-left, own_word, shut, stands}
+use Rattle.mb_reckon.proofs.WholeLaw.{whole}
+
+module _ {A K : Type 0} (gives : ℕ → Moment → Reply → Type 0) (first : Contents) (n : ℕ) (v : View) (all : List (Option Place))
+    (left : AreHomes gives first n v all) (ended : List (Ended A K)) (takes : List Taking) (rows : List (List Sending))
+    (senders : List SenderReport) (apart : AreApart all ended takes rows senders) (outs : List Outsider) (few : n ≤ 64)
+    (rolled : length first.roll ≡ n) (are : AreOutsiders first.roll v.log 64 outs) (small : All (λ (o : Outsider). o.book.sent < 2 ^ 64) outs) where
+  abbrev lefts : List Place
+  lefts = apart.lefts
+
+  done-at : (i : ℕ) (l : Place) → slice_get lefts i ≡ Some l → IsDone l
+  done-at i l found = at-place IsDone lefts i l apart.done found
+
+  stands-at : (i : ℕ) (l : Place) → slice_get lefts i ≡ Some l → Stands gives first v.log i l.home.value
+  stands-at i l found = stands gives first n v all lefts left apart.are i l found (done-at i l found).1
+
+  pub many-lefts : length lefts ≡ n
+  many-lefts = many-left gives first n v all lefts left apart.are
+
+  many-enrolled : length lefts ≡ length first.roll
+  many-enrolled = many-lefts ∙ sym rolled
+
+  pub all-gathered : Gathered first.roll lefts outs
+  all-gathered = gathered gives first v.log lefts outs stands-at (shut gives first n v all lefts left apart.are) many-enrolled are small
+
+  -- the passes are into the queues on the roll
+  same-queues : queues_of takes ≡ roll_queues first.roll
+  same-queues =
+      ap queues_of apart.takes_are
+      ∙ twice lefts
+      ∙ same-maps (λ (l : Place). l.home.value.take.queue) (λ (e : Enrolled). e.queue) lefts first.roll many-enrolled
+      (λ i l e found is.
+      let own = (stands-at i l found).own in
+      ap (λ (x : Enrolled). x.queue)
+      (same_Some (record { who = l.home.value.cell.who; queue = l.home.value.take.queue; turns = l.home.value.take.turns }) e
+      (sym own.settled.own.enrolled ∙ (λ k. slice_get (own.roll k) (own.number k)) ∙ is)))
+    where
+      twice : (ls : List Place)
+          → queues_of (map (λ (l : Place). l.home.value.take) ls) ≡ map (λ (l : Place). l.home.value.take.queue) ls
+      twice [] = refl
+      twice (l ∷ ls) = ap (λ qs. l.home.value.take.queue ∷ qs) (twice ls)
+
+  module _ {R : Type 0} (items : R → List Sending) (joined : List R)
+      (same : map items joined ≡ rows ++ map (λ (o : Outsider). o.sends.items) outs) where
+    abbrev g : Gathered first.roll lefts outs
+    g = all-gathered
+
+    pub rows-same : map items joined ≡ map (λ (p : Party). p.row) g.parties
+    rows-same = same ∙ ap (λ l. l ++ map (λ (o : Outsider). o.sends.items) outs) apart.rows_are ∙ sym g.rows
+
+    many-rows : length joined ≡ length g.parties
+    many-rows = sym (length-mapped items joined) ∙ ap length rows-same ∙ length-mapped (λ (p : Party). p.row) g.parties
+
+    pub rows-queues : All (λ row. ways_of (items row) ≡ drop 1 (queues_of takes)) joined
+    rows-queues = each-place (λ row. ways_of (items row) ≡ drop 1 (queues_of takes)) joined (λ i row found.
+        let p = there g.parties i (let lt = within joined i row found in let m = many-rows in omega (arith, lt, m)) in
+        ap ways_of (alike items (λ (p : Party). p.row) joined g.parties i row p.0 rows-same found p.1)
+        ∙ (g.each i p.0 p.1).ways ∙ ap (drop 1) (sym same-queues))
+
+    pub rows-different : (place : ℕ) → AreOfDifferent (column place (map items joined))
+    rows-different place =
+        subst (λ l. AreOfDifferent (column place l)) (sym rows-same)
+        (different (sender_number (length lefts)) (numbers-rise (length lefts) (let m = many-lefts in omega (arith, m, few))) place
+        (map (λ (p : Party). p.row) g.parties)
+        (λ i row found.
+        let p = from-mapped (λ (p : Party). p.row) g.parties i row found in
+        subst (λ r. All (λ (s : Sending). s.by ≡ sender_number (length lefts) i) r) p.2 (g.each i p.0 p.1).by))
+
+    -- the report
+    module _ (after : ℕ → List Message → ℤ) (known : HasKnownSenders first.roll (length outs)) (envelopes : List (List Envelope))
+        (taken : AreTaken takes (map items joined) envelopes) (waiting : List ℕ) (counted : length waiting ≡ n) (report : Report)
+        (shows : ShowsAll after ended envelopes waiting report.actors.items)
+        (sents : map sent_of report.senders.items ≡ map sent_of senders ++ map (λ (o : Outsider). (o.book.sent, o.book.dead.items)) outs) where
+      many-ended : length ended ≡ n
+      many-ended =
+          sym (length-mapped ended_of ended) ∙ ap length apart.ended_are ∙ length-mapped (λ (l : Place). end_of l.home.value) lefts ∙ many-lefts
+
+      shown : (i : ℕ) (l : Place) (es : List Envelope) (a : ActorReport) → slice_get lefts i ≡ Some l → slice_get envelopes i ≡ Some es
+          → slice_get report.actors.items i ≡ Some a
+          → ShowsCell after (end_of l.home.value) es a × (es ≢ [] → (a.phase ≡ EndedPhase) ⊎ (0 < a.count))
+      shown i l es a found es_are is =
+          let lt : i < n = let b = within lefts i l found in let m = many-lefts in omega (arith, b, m) in
+          let e = there ended i (let m = many-ended in omega (arith, lt, m)) in
+          let w = there waiting i (omega (arith, lt, counted)) in
+          let one = shows.each i e.0 es w.0 a e.1 es_are w.1 is in
+          let same = alike ended_of (λ (l : Place). end_of l.home.value) ended lefts i e.0 l apart.ended_are e.1 found in
+          (subst (λ x. ShowsCell after x es a) same one.shows, one.kept)
+
+      pub report-whole : IsWhole after gives first.roll v.log (map (λ (o : Outsider). o.book.posted) outs) report
+      report-whole =
+          whole after gives first v.log lefts outs g stands-at done-at many-enrolled known envelopes
+          (subst (λ (x : List Taking × List (List Sending)). AreTaken x.0 x.1 envelopes) (λ i. (apart.takes_are i, rows-same i)) taken) report
+          (shows.many ∙ many-ended ∙ sym many-lefts) shown
+          (sents ∙ ap (λ l. l ++ map (λ (o : Outsider). (o.book.sent, o.book.dead.items)) outs) apart.senders_are ∙ sym g.sents)
+
+      -- the journals go on from all that was seen
+      goes-on : (s : Sight) → ((i : ℕ) (l : Place) → slice_get lefts i ≡ Some l → IsKept i l.home.value.cell.journal (own_word l.home.value) s)
+          → GoesOnFrom report s
+      goes-on (Saw actor journal) kept a found =
+          let lt : actor < length lefts
+          = let b = within report.actors.items actor a found in let c = shows.many in let d = many-ended in let m = many-lefts in
+          omega (arith, b, c, d, m) in
+          let l = there lefts actor lt in
+          let m = taken.many in let t = ap length apart.takes_are in let q = length-mapped (λ (l : Place). l.home.value.take) lefts in
+          let es = there envelopes actor (omega (arith, lt, m, t, q)) in
+          subst (λ j. Extends j journal) (sym (shown actor l.0 es.0 a l.1 es.1 found).0.journal_is) (kept actor l.0 l.1 refl)
+      goes-on (Read actor word) kept = tt
+      goes-on (Counted actor waiting) kept = tt
+      goes-on (Looked actor has_work) kept = tt
+      goes-on (Sent actor n) kept = tt
+      goes-on (Unsent actor n) kept = tt
+      goes-on (Took actor n) kept = tt
+      goes-on (Pushed actor number message) kept = tt
+      goes-on (Drained actor given) kept = tt
+      goes-on (EndedSight actor given) kept = tt
+
+      all-go-on : (log : List Sight)
+          → ((i : ℕ) (l : Place) → slice_get lefts i ≡ Some l → Each (IsKept i l.home.value.cell.journal (own_word l.home.value)) log)
+          → Each (GoesOnFrom report) log
+      all-go-on [] kept = tt
+      all-go-on (s ∷ log) kept = (goes-on s (λ i l found. (kept i l found).0), all-go-on log (λ i l found. (kept i l found).1))
+
+      pub report-seen : GoesOnFromAll report v
+      report-seen = all-go-on v.log (λ i l found. (stands-at i l found).kept)

@@ -1,0 +1,31 @@
+use Rattle.std.proofs.Common.{rules, ◌≡◌, ◌+◌, ◌∷◌, [], ◌++◌, List, length, map, take, refl, sym, ap, ◌∙◌, subst, append-nil, arith}
+use Rattle.std.specs.Prelude.{All}
+use Rattle.mb_queue.specs.Passes.{Taking}
+use Rattle.mb_reckon.specs.Taken.{AreTaken}
+use Rattle.mb_reckon.proofs.Lists.{length-mapped}
+use Rattle.mb_reckon.proofs.Rests.{are-taken, first-removed, lent, none-listed, rooms-of}
+use Rattle.mb_reckon.proofs.rest.take_rests.Goals as goal
+
+pub returns-clause-taken : goal.returns-clause-taken
+returns-clause-taken g c =
+    let now = c.deref_mut.result.now in let rooms = c.settle.new.rooms in let rows = map (λ row. row.items) c.args.rows.items in
+    let guardian = c.remove-guardian.result in let rest = c.remove-guardian.new.self.items in let last = c.take.new.self in
+    let base : now ≡ c.args.lefts.now.items = search rules in
+    let takes_are : c.args.takes.items ≡ guardian ∷ rest
+    = first-removed c.args.takes.items guardian c.requires.some.0 c.remove-guardian.ensures.value
+    ∙ ap (λ l. guardian ∷ l) (sym c.remove-guardian.ensures.items) in
+    let many_now : length now ≡ length c.args.takes.items = ap length base ∙ c.requires.many in
+    let many_takes = ap length takes_are in
+    let many_rooms : length rooms + 1 ≡ length now = search (rules, many_now, many_takes) in
+    let some = c.requires.some.0 in
+    let none : last.taken ≡ guardian.taken
+    = c.take.ensures.taken ∙ ap (λ l. guardian.taken ++ l) (none-listed c.take.result (search rules)) ∙ append-nil guardian.taken in
+    let many_lefts = c.requires.many in
+    subst (λ l. AreTaken c.args.takes.items rows (map (λ room. room.items) l))
+    (sym (lent now c.args.lefts.now.items rooms c.args.lefts.now.len base (omega (arith, some, many_now)) (search rules) many_rooms
+    ∙ ap (λ l. take 1 l ++ rooms) base))
+    (are-taken c.args.takes.items rest guardian last rows (map (λ room. room.items) (take 1 c.args.lefts.now.items ++ rooms))
+    (map (λ room. room.items) rooms) [] takes_are c.take.ensures.same.0 none c.take.ensures.known
+    (rooms-of (λ room. room.items) c.args.lefts.now.items rooms (omega (arith, some, many_lefts)) c.requires.empty) refl
+    (length-mapped (λ room. room.items) rooms ∙ omega (arith, many_rooms, many_now, many_takes)) c.in_default.ensures.came
+    c.in_default.ensures.known)
