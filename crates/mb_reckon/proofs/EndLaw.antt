@@ -132,7 +132,7 @@ module _ {A K : Type 0} (gives : ℕ → Moment → Reply → Type 0) (first : C
       -- the journals go on from all that was seen
       goes-on : (s : Sight) → ((i : ℕ) (l : Place) → slice_get lefts i ≡ Some l → IsKept i l.home.value.cell.journal (own_word l.home.value) s)
           → GoesOnFrom report s
-      goes-on (Saw actor journal) kept a found =
+      goes-on (Saw actor journal) kept = λ a found.
           let lt : actor < length lefts
           = let b = within report.actors.items actor a found in let c = shows.many in let d = many-ended in let m = many-lefts in
           omega (arith, b, c, d, m) in

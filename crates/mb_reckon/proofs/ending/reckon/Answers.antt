@@ -1,11 +1,12 @@
-use Rattle.std.proofs.Common.{rules, ◌≡◌, ◌+◌, ◌<◌, ◌≤◌, ◌^◌, ◌++◌, [], ℕ, List, length, map, drop, refl, subst, sym, ap, ◌∙◌, arith}
-use Rattle.std.specs.Prelude.{All, Vec}
+use Rattle.std.proofs.Common.{rules, ◌≡◌, ◌+◌, ◌<◌, ◌≤◌, ◌^◌, ◌++◌, [], ℕ, List, length, map, drop, refl, subst, sym, ap, ◌∙◌, arith, length-append}
+use Rattle.std.specs.Prelude.{All, IfErr, Vec}
 use Rattle.std.specs.Global.{Global}
 use Rattle.mb_gate.specs.Names.{actors_of, first_of, known_by}
 use Rattle.mb_queue.specs.Passes.{Sending}
 use Rattle.mb_report.specs.declared.report.Report.{Report}
 use Rattle.mb_report.specs.declared.report.SenderReport.{SenderReport}
 use Rattle.mb_reckon.specs.Apart.{sent_of}
+use Rattle.mb_reckon.specs.Mismatched.{of_whom}
 use Rattle.mb_reckon.specs.Rooms.{IsEnough}
 use Rattle.mb_reckon.specs.Seen.{GoesOnFromAll}
 use Rattle.mb_reckon.specs.Shown.{ShowsAll}
@@ -38,14 +39,16 @@ returns-clause-whole g c =
     let takes = c.take_apart.new.takes.items in let before = map (λ r. r.items) c.take_apart.new.rows.items in
     let lefts = map (λ l. l.items) c.take_rests.new.lefts.items in
     let first = (first_of c.args.gates).value in let v = known_by c.args.pass in
+    let same : c.deref.result.now ≡ c.args.room.waiting.items = search rules in
+    let waits : length c.deref.result.now ≡ actors_of c.args.gates = ap length same ∙ c.requires.room.counted in
     ok-each c.report_on.result
-    (λ report. ShowsAll g.K.Behaviours.after ended lefts c.args.room.waiting.items report.actors.items × (report.senders ≡ c.add_outside.new.senders))
+    (λ report. ShowsAll g.K.Behaviours.after ended lefts c.deref.result.now report.actors.items × (report.senders ≡ c.add_outside.new.senders))
     (λ report. IsWhole g.K.Behaviours.after g.K.Behaviours.gives first.roll v.log (map (λ o. o.book.posted) c.args.outside.items) report)
     (λ report s.
     report-whole g.K.Behaviours.gives first (actors_of c.args.gates) v c.finish-all.result.items
     c.finish-all.ensures.left ended takes before c.take_apart.new.senders.items apart c.args.outside.items c.requires.few.0 c.requires.roll
     c.requires.outside c.add_outside.ensures.small (λ r. r.items) c.add_outside.new.rows.items c.add_outside.ensures.rows g.K.Behaviours.after
-    c.requires.senders lefts c.in_ok-take_rests.ensures.taken c.args.room.waiting.items c.requires.room.counted report s.0
+    c.requires.senders lefts c.in_ok-take_rests.ensures.taken c.deref.result.now waits report s.0
     (ap (λ (w : Vec SenderReport Global). map sent_of w.items) s.1 ∙ c.add_outside.ensures.senders)) c.report_on.ensures.shows
 
 pub returns-clause-seen : goal.returns-clause-seen
@@ -54,12 +57,85 @@ returns-clause-seen g c =
     let takes = c.take_apart.new.takes.items in let before = map (λ r. r.items) c.take_apart.new.rows.items in
     let lefts = map (λ l. l.items) c.take_rests.new.lefts.items in
     let first = (first_of c.args.gates).value in let v = known_by c.args.pass in
+    let same : c.deref.result.now ≡ c.args.room.waiting.items = search rules in
+    let waits : length c.deref.result.now ≡ actors_of c.args.gates = ap length same ∙ c.requires.room.counted in
     ok-each c.report_on.result
-    (λ report. ShowsAll g.K.Behaviours.after ended lefts c.args.room.waiting.items report.actors.items × (report.senders ≡ c.add_outside.new.senders))
+    (λ report. ShowsAll g.K.Behaviours.after ended lefts c.deref.result.now report.actors.items × (report.senders ≡ c.add_outside.new.senders))
     (λ report. GoesOnFromAll report v)
     (λ report s.
     report-seen g.K.Behaviours.gives first (actors_of c.args.gates) v c.finish-all.result.items
     c.finish-all.ensures.left ended takes before c.take_apart.new.senders.items apart c.args.outside.items c.requires.few.0 c.requires.roll
     c.requires.outside c.add_outside.ensures.small (λ r. r.items) c.add_outside.new.rows.items c.add_outside.ensures.rows g.K.Behaviours.after
-    c.requires.senders lefts c.in_ok-take_rests.ensures.taken c.args.room.waiting.items c.requires.room.counted report s.0
+    c.requires.senders lefts c.in_ok-take_rests.ensures.taken c.deref.result.now waits report s.0
     (ap (λ (w : Vec SenderReport Global). map sent_of w.items) s.1 ∙ c.add_outside.ensures.senders)) c.report_on.ensures.shows
+
+pub add_outside-requires : goal.add_outside-requires
+add_outside-requires g c =
+    let apart = c.in_ok-take_apart.ensures.apart in
+    let n = c.finish-all.ensures.left.many in
+    let many = as-many c.finish-all.result.items c.take_apart.new.ended.items c.take_apart.new.takes.items
+    (map (λ r. r.items) c.take_apart.new.rows.items) c.take_apart.new.senders.items apart in
+    let rows = many.of_rows in let of = length-mapped (λ r. r.items) c.take_apart.new.rows.items in let senders = many.of_senders in
+    let more = c.take_apart.ensures.room.0 in let more' = c.take_apart.ensures.room.1 in let a = c.requires.room.rows.1 in
+    let b = c.requires.room.senders.1 in
+    record { room = ((omega (arith, rows, of, n, more, a)), (omega (arith, senders, n, more', b))) }
+
+pub take_rests-requires-clause-many : goal.take_rests-requires-clause-many
+take_rests-requires-clause-many g c =
+    let apart = c.in_ok-take_apart.ensures.apart in
+    let n = c.finish-all.ensures.left.many in
+    let many = as-many c.finish-all.result.items c.take_apart.new.ended.items c.take_apart.new.takes.items
+    (map (λ r. r.items) c.take_apart.new.rows.items) c.take_apart.new.senders.items apart in
+    zip-many IsEnough c.args.room.waiting.items c.args.room.lefts.items c.requires.room.lefts ∙ c.requires.room.counted
+    ∙ sym (many.of_takes ∙ n)
+
+pub take_rests-requires-clause-empty : goal.take_rests-requires-clause-empty
+take_rests-requires-clause-empty g c = zip-empty c.args.room.waiting.items c.args.room.lefts.items c.requires.room.lefts
+
+pub returns-in_err-take_rests-clause-whom : goal.returns-in_err-take_rests-clause-whom
+returns-in_err-take_rests-clause-whom g c =
+    let apart = c.in_ok-take_apart.ensures.apart in
+    let n = c.finish-all.ensures.left.many in
+    let many = as-many c.finish-all.result.items c.take_apart.new.ended.items c.take_apart.new.takes.items
+    (map (λ r. r.items) c.take_apart.new.rows.items) c.take_apart.new.senders.items apart in
+    let whom = c.in_err-take_rests.ensures.whom in let takes = many.of_takes in omega (arith, whom, takes, n)
+
+pub report_on-requires-clause-many : goal.report_on-requires-clause-many
+report_on-requires-clause-many g c =
+    let apart = c.in_ok-take_apart.ensures.apart in
+    let n = c.finish-all.ensures.left.many in
+    let many = as-many c.finish-all.result.items c.take_apart.new.ended.items c.take_apart.new.takes.items
+    (map (λ r. r.items) c.take_apart.new.rows.items) c.take_apart.new.senders.items apart in
+    let taken = c.in_ok-take_rests.ensures.taken.many in let of = length-mapped (λ l. l.items) c.take_rests.new.lefts.items in
+    let ended = many.of_ended in let takes = many.of_takes in let same : c.deref.result.now ≡ c.args.room.waiting.items = search rules in
+    let waits = ap length same ∙ c.requires.room.counted in let few = c.requires.few.0 in
+    ((omega (arith, taken, of, ended, takes)), (omega (arith, waits, ended, n)), (omega (arith, ended, n, few)))
+
+pub report_on-requires-clause-room : goal.report_on-requires-clause-room
+report_on-requires-clause-room g c =
+    let apart = c.in_ok-take_apart.ensures.apart in
+    let n = c.finish-all.ensures.left.many in
+    let many = as-many c.finish-all.result.items c.take_apart.new.ended.items c.take_apart.new.takes.items
+    (map (λ r. r.items) c.take_apart.new.rows.items) c.take_apart.new.senders.items apart in
+    let ended = many.of_ended in let room = c.requires.room.reports.1 in (c.requires.room.reports.0, (omega (arith, ended, n, room)))
+
+pub report_on-requires-clause-senders : goal.report_on-requires-clause-senders
+report_on-requires-clause-senders g c =
+    let apart = c.in_ok-take_apart.ensures.apart in
+    let n = c.finish-all.ensures.left.many in
+    let many = as-many c.finish-all.result.items c.take_apart.new.ended.items c.take_apart.new.takes.items
+    (map (λ r. r.items) c.take_apart.new.rows.items) c.take_apart.new.senders.items apart in
+    let senders = many.of_senders in let of = length-mapped sent_of c.add_outside.new.senders.items in
+    let before = length-mapped sent_of c.take_apart.new.senders.items in
+    let outs = length-mapped (λ o. (o.book.sent, o.book.dead.items)) c.args.outside.items in
+    let all = ap length c.add_outside.ensures.senders
+    ∙ length-append (map sent_of c.take_apart.new.senders.items) (map (λ o. (o.book.sent, o.book.dead.items)) c.args.outside.items) in
+    let few = c.requires.few in let a = few.0 in let b = few.1 in omega (arith, senders, of, before, outs, all, n, a, b)
+
+pub returns-clause-whom : goal.returns-clause-whom
+returns-clause-whom g c =
+    let apart = c.in_ok-take_apart.ensures.apart in
+    let n = c.finish-all.ensures.left.many in
+    let many = as-many c.finish-all.result.items c.take_apart.new.ended.items c.take_apart.new.takes.items
+    (map (λ r. r.items) c.take_apart.new.rows.items) c.take_apart.new.senders.items apart in
+    subst (λ k. IfErr c.report_on.result (λ m. of_whom m < k)) (many.of_ended ∙ n) c.report_on.ensures.whom
