@@ -54,6 +54,8 @@ pub fn reckon<A: Actor, K: Behaviours, R: Wait>(
     let all = gates.finish(pass, homes);
     take_apart(all, &mut ended, &mut takes, &mut rows, &mut senders)?;
     add_outside(outside, &mut rows, &mut senders);
-    take_rests(rt, takes, rows, &mut lefts)?;
-    report_on(ended, lefts, &waiting, actors, senders)
+    match take_rests(rt, takes, rows, &mut lefts) {
+        Ok(()) => report_on(ended, lefts, &waiting, actors, senders),
+        Err(mismatch) => Err(mismatch),
+    }
 }

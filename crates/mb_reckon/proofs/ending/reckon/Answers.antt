@@ -3,6 +3,8 @@ use Rattle.std.specs.Prelude.{All, IfErr, Vec}
 use Rattle.std.specs.Global.{Global}
 use Rattle.mb_gate.specs.Names.{actors_of, first_of, known_by}
 use Rattle.mb_queue.specs.Passes.{Sending}
+use Rattle.mb_msg.specs.declared.dead_letter.DeadLetter.{DeadLetter}
+use Rattle.mb_reckon.specs.declared.outsider.Outsider.{Outsider}
 use Rattle.mb_report.specs.declared.report.Report.{Report}
 use Rattle.mb_report.specs.declared.report.SenderReport.{SenderReport}
 use Rattle.mb_reckon.specs.Apart.{sent_of}
@@ -33,8 +35,8 @@ take_rests-requires-clause-different g c =
     c.finish-all.ensures.left ended takes before c.take_apart.new.senders.items apart c.args.outside.items c.requires.few.0 c.requires.roll
     c.requires.outside c.add_outside.ensures.small (λ r. r.items) c.add_outside.new.rows.items c.add_outside.ensures.rows
 
-pub returns-clause-whole : goal.returns-clause-whole
-returns-clause-whole g c =
+pub returns-in-Ok-clause-whole : goal.returns-in-Ok-clause-whole
+returns-in-Ok-clause-whole g c =
     let apart = c.in_ok-take_apart.ensures.apart in let ended = c.take_apart.new.ended.items in
     let takes = c.take_apart.new.takes.items in let before = map (λ r. r.items) c.take_apart.new.rows.items in
     let lefts = map (λ l. l.items) c.take_rests.new.lefts.items in
@@ -48,11 +50,11 @@ returns-clause-whole g c =
     report-whole g.K.Behaviours.gives first (actors_of c.args.gates) v c.finish-all.result.items
     c.finish-all.ensures.left ended takes before c.take_apart.new.senders.items apart c.args.outside.items c.requires.few.0 c.requires.roll
     c.requires.outside c.add_outside.ensures.small (λ r. r.items) c.add_outside.new.rows.items c.add_outside.ensures.rows g.K.Behaviours.after
-    c.requires.senders lefts c.in_ok-take_rests.ensures.taken c.deref.result.now waits report s.0
+    c.requires.senders lefts c.in-Ok.ensures.taken c.deref.result.now waits report s.0
     (ap (λ (w : Vec SenderReport Global). map sent_of w.items) s.1 ∙ c.add_outside.ensures.senders)) c.report_on.ensures.shows
 
-pub returns-clause-seen : goal.returns-clause-seen
-returns-clause-seen g c =
+pub returns-in-Ok-clause-seen : goal.returns-in-Ok-clause-seen
+returns-in-Ok-clause-seen g c =
     let apart = c.in_ok-take_apart.ensures.apart in let ended = c.take_apart.new.ended.items in
     let takes = c.take_apart.new.takes.items in let before = map (λ r. r.items) c.take_apart.new.rows.items in
     let lefts = map (λ l. l.items) c.take_rests.new.lefts.items in
@@ -66,7 +68,7 @@ returns-clause-seen g c =
     report-seen g.K.Behaviours.gives first (actors_of c.args.gates) v c.finish-all.result.items
     c.finish-all.ensures.left ended takes before c.take_apart.new.senders.items apart c.args.outside.items c.requires.few.0 c.requires.roll
     c.requires.outside c.add_outside.ensures.small (λ r. r.items) c.add_outside.new.rows.items c.add_outside.ensures.rows g.K.Behaviours.after
-    c.requires.senders lefts c.in_ok-take_rests.ensures.taken c.deref.result.now waits report s.0
+    c.requires.senders lefts c.in-Ok.ensures.taken c.deref.result.now waits report s.0
     (ap (λ (w : Vec SenderReport Global). map sent_of w.items) s.1 ∙ c.add_outside.ensures.senders)) c.report_on.ensures.shows
 
 pub add_outside-requires : goal.add_outside-requires
@@ -92,21 +94,13 @@ take_rests-requires-clause-many g c =
 pub take_rests-requires-clause-empty : goal.take_rests-requires-clause-empty
 take_rests-requires-clause-empty g c = zip-empty c.args.room.waiting.items c.args.room.lefts.items c.requires.room.lefts
 
-pub returns-in_err-take_rests-clause-whom : goal.returns-in_err-take_rests-clause-whom
-returns-in_err-take_rests-clause-whom g c =
-    let apart = c.in_ok-take_apart.ensures.apart in
-    let n = c.finish-all.ensures.left.many in
-    let many = as-many c.finish-all.result.items c.take_apart.new.ended.items c.take_apart.new.takes.items
-    (map (λ r. r.items) c.take_apart.new.rows.items) c.take_apart.new.senders.items apart in
-    let whom = c.in_err-take_rests.ensures.whom in let takes = many.of_takes in omega (arith, whom, takes, n)
-
 pub report_on-requires-clause-many : goal.report_on-requires-clause-many
 report_on-requires-clause-many g c =
     let apart = c.in_ok-take_apart.ensures.apart in
     let n = c.finish-all.ensures.left.many in
     let many = as-many c.finish-all.result.items c.take_apart.new.ended.items c.take_apart.new.takes.items
     (map (λ r. r.items) c.take_apart.new.rows.items) c.take_apart.new.senders.items apart in
-    let taken = c.in_ok-take_rests.ensures.taken.many in let of = length-mapped (λ l. l.items) c.take_rests.new.lefts.items in
+    let taken = c.in-Ok.ensures.taken.many in let of = length-mapped (λ l. l.items) c.take_rests.new.lefts.items in
     let ended = many.of_ended in let takes = many.of_takes in let same : c.deref.result.now ≡ c.args.room.waiting.items = search rules in
     let waits = ap length same ∙ c.requires.room.counted in let few = c.requires.few.0 in
     ((omega (arith, taken, of, ended, takes)), (omega (arith, waits, ended, n)), (omega (arith, ended, n, few)))
@@ -127,13 +121,13 @@ report_on-requires-clause-senders g c =
     (map (λ r. r.items) c.take_apart.new.rows.items) c.take_apart.new.senders.items apart in
     let senders = many.of_senders in let of = length-mapped sent_of c.add_outside.new.senders.items in
     let before = length-mapped sent_of c.take_apart.new.senders.items in
-    let outs = length-mapped (λ o. (o.book.sent, o.book.dead.items)) c.args.outside.items in
+    let outs = length-mapped {X = Outsider} {Y = ℕ × List DeadLetter} (λ o. (o.book.sent, o.book.dead.items)) c.args.outside.items in
     let all = ap length c.add_outside.ensures.senders
-    ∙ length-append (map sent_of c.take_apart.new.senders.items) (map (λ o. (o.book.sent, o.book.dead.items)) c.args.outside.items) in
+    ∙ length-append (map sent_of c.take_apart.new.senders.items) (map {A = Outsider} {B = ℕ × List DeadLetter} (λ o. (o.book.sent, o.book.dead.items)) c.args.outside.items) in
     let few = c.requires.few in let a = few.0 in let b = few.1 in omega (arith, senders, of, before, outs, all, n, a, b)
 
-pub returns-clause-whom : goal.returns-clause-whom
-returns-clause-whom g c =
+pub returns-in-Ok-clause-whom : goal.returns-in-Ok-clause-whom
+returns-in-Ok-clause-whom g c =
     let apart = c.in_ok-take_apart.ensures.apart in
     let n = c.finish-all.ensures.left.many in
     let many = as-many c.finish-all.result.items c.take_apart.new.ended.items c.take_apart.new.takes.items
