@@ -1,22 +1,18 @@
 -- From what the gates left to the report.
-use Rattle.std.proofs.Common.{◌≡◌, ◌≢◌, ◌⊎◌, ℕ, ◌+◌, ◌%◌, ◌^◌, ◌<◌, ◌≤◌, ℤ, Bool, true, false, List, [], ◌∷◌, ◌++◌, length, map, drop, refl, sym, ap, ◌∙◌}
-use Rattle.std.proofs.Common.{subst, arith, Option, Some, None}
+use Rattle.std.proofs.Common.{◌≡◌, ◌≢◌, ◌⊎◌, ℕ, ◌^◌, ◌<◌, ◌≤◌, ℤ, List, [], ◌∷◌, ◌++◌, length, map, drop, refl, sym, ap, ◌∙◌}
+use Rattle.std.proofs.Common.{subst, arith, Option, Some}
 use Rattle.std.specs.Prelude.{All, slice_get}
 use Rattle.std.proofs.lemmas.Option.{same_Some}
 use Rattle.mb_msg.specs.declared.envelope.Envelope.{Envelope}
 use Rattle.mb_actor.specs.Behaviour.{Moment, Reply}
 use Rattle.mb_actor.specs.declared.message.Message.{Message}
 use Rattle.mb_actor.specs.declared.phase.Phase.TheVariants.{Ended as EndedPhase}
-use Rattle.mb_journal.specs.Entry.{Entry}
-use Rattle.mb_journal.specs.Life.{closed}
-use Rattle.mb_fates.specs.declared.posting.Posting.{Posting}
-use Rattle.mb_queue.specs.Passes.{Queue, Sending, Taking}
+use Rattle.mb_queue.specs.Passes.{Sending, Taking}
 use Rattle.mb_finish.specs.Joined.{AreOfDifferent, column, queues_of, ways_of}
 use Rattle.mb_gate.specs.Leaves.{IsKept}
-use Rattle.mb_gate.specs.Rule.{Extends, IsAmong}
+use Rattle.mb_gate.specs.Rule.{Extends}
 use Rattle.mb_gate.specs.View.{View, Sight, Read, Saw, Counted, Looked, Sent, Unsent, Took, Pushed, Drained, Ended as EndedSight}
 use Rattle.mb_rule.specs.Seen.{Each}
-use Rattle.mb_home.specs.AtHome.{closed_receivers}
 use Rattle.mb_home.specs.Contents.{Contents}
 use Rattle.mb_home.specs.Roll.{Enrolled, queues_of as roll_queues}
 use Rattle.mb_report.specs.declared.report.ActorReport.{ActorReport}
@@ -32,7 +28,7 @@ use Rattle.mb_reckon.specs.declared.outsider.Outsider.{Outsider}
 use Rattle.mb_reckon.specs.declared.room.Ended.{Ended}
 use Rattle.mb_reckon.proofs.Columns.{different}
 use Rattle.mb_reckon.proofs.Gathering.{Gathered, gathered, numbers-rise}
-use Rattle.mb_reckon.proofs.Lists.{alike, at-place, each-place, from-mapped, length-mapped, mapped, same-maps, there, within}
+use Rattle.mb_reckon.proofs.Lists.{alike, at-place, each-place, from-mapped, length-mapped, same-maps, there, within}
 use Rattle.mb_reckon.proofs.Parties.{Party}
 use Rattle.mb_reckon.proofs.Standing.{AreHomes, Place, Stands, many-left, own_word, shut, stands}
 use Rattle.mb_reckon.proofs.WholeLaw.{whole}

@@ -1,11 +1,10 @@
 -- A sender outside is a party too.
-use Rattle.std.proofs.Common.{◌≡◌, ◌⊎◌, inl, inr, ⊎_elim, ℕ, zero, suc, ◌+◌, ◌-◌, ◌%◌, ◌^◌, ◌<◌, ◌==◌, ◌&&◌, ◌||◌, Bool, true, false, List, [], ◌∷◌}
-use Rattle.std.proofs.Common.{length, map, drop, refl, sym, ap, ◌∙◌, subst, arith, Option, Some, None}
+use Rattle.std.proofs.Common.{◌≡◌, ◌⊎◌, inl, inr, ⊎_elim, ℕ, zero, suc, ◌+◌, ◌^◌, ◌<◌, ◌==◌, ◌&&◌, ◌||◌, Bool, true, false, List, [], ◌∷◌}
+use Rattle.std.proofs.Common.{length, drop, refl, sym, ap, ◌∙◌, subst, arith, Option, Some, None}
 use Rattle.std.proofs.Math.Nat.{mod-eq_of_lt}
-use Rattle.std.specs.Prelude.{All, is_some, slice_get}
-use Rattle.std.specs.List.{list_all, list_any}
+use Rattle.std.specs.Prelude.{is_some, slice_get}
+use Rattle.std.specs.List.{list_all}
 use Rattle.std.proofs.lemmas.Bool.{eqb-true}
-use Rattle.std.proofs.lemmas.List.Elements.{All-nil, All-cons, All-weaker}
 use Rattle.std.proofs.lemmas.Option.{none-some, same_Some}
 use Rattle.mb_msg.specs.declared.dead_letter.DeadLetter.{DeadLetter}
 use Rattle.mb_msg.specs.declared.dead_letter.Why.{Why}
@@ -17,7 +16,7 @@ use Rattle.mb_queue.specs.Passes.{Queue, Sending}
 use Rattle.mb_gate.specs.Leaves.{IsKept}
 use Rattle.mb_gate.specs.View.{Sight, Read, Saw, Counted, Looked, Sent, Unsent, Took, Pushed, Drained, Ended}
 use Rattle.mb_rule.specs.Seen.{Each}
-use Rattle.mb_home.specs.Roll.{Enrolled, IsBounded, queues_of}
+use Rattle.mb_home.specs.Roll.{Enrolled, queues_of}
 use Rattle.mb_send.specs.Bounded.{may_be_refused, queue_to}
 use Rattle.mb_send.specs.Posted.{names_from, names_of}
 use Rattle.mb_send.specs.Sends.{receiving_queues}
@@ -25,7 +24,7 @@ use Rattle.mb_send.specs.Vouched.{finds_closed, has_seen_closed, may_be_dead}
 use Rattle.mb_reckon.specs.Outside.{IsOutsider}
 use Rattle.mb_reckon.specs.declared.outsider.Outsider.{Outsider}
 use Rattle.mb_reckon.proofs.Lists.{each-place, length-mapped, within}
-use Rattle.mb_reckon.proofs.Parties.{HasReason, IsParty, Party}
+use Rattle.mb_reckon.proofs.Parties.{HasReason, IsParty}
 
 and-left : (a b : Bool) → (a && b) ≡ true → a ≡ true
 and-left true b t = refl

@@ -1,6 +1,6 @@
 -- A sender at the end: its passes, what it was answered, and what is reported of it.
-use Rattle.std.proofs.Common.{◌≡◌, ℕ, zero, suc, ◌+◌, ◌%◌, ◌^◌, ◌<◌, Bool, true, false, List, [], ◌∷◌, ◌++◌, length, map, drop, refl, sym, ap, ◌∙◌}
-use Rattle.std.proofs.Common.{subst, arith, append-nil, Option, Some, None}
+use Rattle.std.proofs.Common.{◌≡◌, ℕ, suc, ◌+◌, ◌%◌, ◌^◌, ◌<◌, List, [], length, drop, sym, ap, ◌∙◌}
+use Rattle.std.proofs.Common.{subst, arith, append-nil, Some}
 use Rattle.std.specs.Prelude.{All, slice_get}
 use Rattle.std.proofs.lemmas.List.Elements.{All-weaker}
 use Rattle.mb_msg.specs.declared.dead_letter.DeadLetter.{DeadLetter}
@@ -10,7 +10,7 @@ use Rattle.mb_actor.specs.Behaviour.{Moment, Reply}
 use Rattle.mb_fates.specs.Accepted.{IsNumbered, accepted, dead_letters, queued, to_actor}
 use Rattle.mb_fates.specs.Told.{told}
 use Rattle.mb_fates.specs.declared.posting.Posting.{Posting}
-use Rattle.mb_queue.specs.Passes.{Queue, Sending}
+use Rattle.mb_queue.specs.Passes.{Sending}
 use Rattle.mb_finish.specs.Joined.{ways_of}
 use Rattle.mb_home.specs.AtHome.{IsHomeOf, closed_receivers}
 use Rattle.mb_home.specs.Contents.{Contents}

@@ -1,6 +1,6 @@
 -- What is known of each actor once the gates ended, by its home.
-use Rattle.std.proofs.Common.{◌≡◌, ◌⊎◌, ℕ, ◌+◌, ◌*◌, ◌%◌, ◌^◌, ◌<◌, Bool, true, false, List, [], ◌∷◌, ◌++◌, length, map, refl, sym, ap, ◌∙◌, subst}
-use Rattle.std.proofs.Common.{arith, append-nil, Option, Some, None}
+use Rattle.std.proofs.Common.{◌≡◌, ℕ, ◌+◌, ◌*◌, ◌%◌, ◌^◌, ◌<◌, Bool, true, false, List, [], ◌∷◌, ◌++◌, length, map, refl, sym, ap, ◌∙◌, subst}
+use Rattle.std.proofs.Common.{arith, append-nil, Option, Some}
 use Rattle.std.specs.Prelude.{if◌then◌else◌, slice_get}
 use Rattle.std.specs.Global.{Box}
 use Rattle.mb_status.specs.Mailbox.{word_of}
@@ -16,7 +16,7 @@ use Rattle.mb_rule.proofs.SeenLemmas.{each_weaker}
 use Rattle.mb_gate.specs.declared.left.Left.{Left}
 use Rattle.mb_gate.specs.declared.slot.Slot.{Slot}
 use Rattle.mb_gate.specs.Leaves.{AreLeft, IsKept}
-use Rattle.mb_gate.specs.Rule.{Ghost, IsAmong, IsSo, Shelf, Status, Word, is_some_item, slot_offset, word_offset}
+use Rattle.mb_gate.specs.Rule.{Ghost, IsAmong, IsSo, Shelf, Word, is_some_item, slot_offset, word_offset}
 use Rattle.mb_gate.specs.View.{View, Sight, Read, Saw, Counted, Looked, Sent, Unsent, Took, Pushed, Drained, Ended}
 use Rattle.mb_home.specs.AtHome.{IsHomeOf, closed_receivers, given_of, mailbox_at}
 use Rattle.mb_home.specs.Contents.{Contents}

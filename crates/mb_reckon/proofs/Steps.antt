@@ -1,7 +1,7 @@
 -- One more of each in a loop.
 use Rattle.std.proofs.Common.{◌≡◌, ◌≢◌, ◌⊎◌, inl, inr, ⊎_elim, ℕ, zero, suc, ◌+◌, ◌<◌, ◌≤◌, ◌==◌, ℤ, Bool, true, false, List, [], ◌∷◌, ◌++◌, length, map, drop}
-use Rattle.std.proofs.Common.{refl, sym, ap, ◌∙◌, subst, arith, append-nil, append_assoc, length-drop, Option, Some, None}
-use Rattle.std.specs.Prelude.{All, Vec, if◌then◌else◌, slice_get, vec_capacity}
+use Rattle.std.proofs.Common.{refl, sym, ap, ◌∙◌, subst, arith, append-nil, append_assoc, length-drop, Option, Some}
+use Rattle.std.specs.Prelude.{All, Vec, if◌then◌else◌, slice_get}
 use Rattle.std.specs.List.{AllZip}
 use Rattle.std.specs.Global.{Box, Global}
 use Rattle.std.proofs.lemmas.List.{map-append}
@@ -21,7 +21,7 @@ use Rattle.mb_report.specs.declared.report.ActorReport.{ActorReport}
 use Rattle.mb_report.specs.declared.report.SenderReport.{SenderReport}
 use Rattle.mb_reckon.specs.Apart.{AreApart, IsDone, IsOpened, end_of, ended_of, sent_in, sent_of}
 use Rattle.mb_reckon.specs.Rooms.{IsEnough}
-use Rattle.mb_reckon.specs.Settled.{AreSettledBy, IsSettledBy, none_read, one_more}
+use Rattle.mb_reckon.specs.Settled.{AreSettledBy, IsSettledBy, one_more}
 use Rattle.mb_reckon.specs.Shown.{ShowsCell, ShowsOne}
 use Rattle.mb_journal.specs.Life.{phase}
 use Rattle.mb_journal.specs.Suspension.{count as count_of}

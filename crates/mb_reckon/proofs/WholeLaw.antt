@@ -1,11 +1,10 @@
 -- What the report says of all.
-use Rattle.std.proofs.Common.{◌≡◌, ◌≢◌, ◌⊎◌, inl, inr, ℕ, zero, suc, ◌+◌, ◌-◌, ◌%◌, ◌^◌, ◌<◌, ◌≤◌, ℤ, Bool, true, false, List, [], ◌∷◌, ◌++◌}
-use Rattle.std.proofs.Common.{length, map, drop, get_or, refl, sym, ap, ◌∙◌, subst, arith, length-drop, Option, Some, None}
+use Rattle.std.proofs.Common.{◌≡◌, ◌≢◌, ◌⊎◌, ℕ, zero, suc, ◌+◌, ◌%◌, ◌^◌, ◌<◌, ℤ, Bool, true, false, List, [], ◌∷◌, ◌++◌}
+use Rattle.std.proofs.Common.{length, map, get_or, refl, sym, ap, ◌∙◌, subst, arith, length-drop, Some, None}
 use Rattle.std.specs.Prelude.{All, if◌then◌else◌, slice_get}
 use Rattle.std.proofs.lemmas.List.Elements.{All-contains, All-weaker}
 use Rattle.std.proofs.lemmas.Option.{get_or_from_slice_get, same_Some}
 use Rattle.mb_msg.specs.declared.dead_letter.DeadLetter.{DeadLetter}
-use Rattle.mb_msg.specs.declared.dead_letter.Why.TheVariants as why
 use Rattle.mb_msg.specs.declared.envelope.Envelope.{Envelope}
 use Rattle.mb_actor.specs.Behaviour.{Moment, Reply}
 use Rattle.mb_actor.specs.declared.message.Message.{Message}
@@ -25,15 +24,14 @@ use Rattle.mb_fates.specs.Fates.{begun}
 use Rattle.mb_fates.specs.Pair.{IsInOrder, StandsAsOften, StandsOnce}
 use Rattle.mb_fates.specs.Told.{told}
 use Rattle.mb_fates.specs.declared.posting.Posting.{Posting}
-use Rattle.mb_queue.specs.Passes.{IsOfQueue, Sending, Taking, Turns, first_in_first_out}
+use Rattle.mb_queue.specs.Passes.{IsOfQueue, Sending, first_in_first_out}
 use Rattle.mb_finish.specs.Came.{Came}
-use Rattle.mb_finish.specs.Joined.{column, ways_of}
 use Rattle.mb_finish.proofs.SettleLemmas.{in_order, often, once}
 use Rattle.mb_gate.specs.View.{Sight}
 use Rattle.mb_rule.specs.Seen.{Each}
 use Rattle.mb_home.specs.Contents.{Contents}
 use Rattle.mb_home.specs.Numbers.{applied_numbers, numbers_in, times}
-use Rattle.mb_home.specs.Roll.{Enrolled, IsBounded, queues_of}
+use Rattle.mb_home.specs.Roll.{Enrolled, queues_of}
 use Rattle.mb_home.specs.Settled.{aside_at_end}
 use Rattle.mb_home.proofs.EndLaw.{dead-at-end}
 use Rattle.mb_home.proofs.OnceLaw.{stands-once}

@@ -1,5 +1,5 @@
 -- What a report says of a whole system: each accepted envelope has one fate, and each actor is what its journal says.
-use Rattle.std.specs.Prelude.{◌≡◌, ◌≢◌, ◌⊎◌, ℕ, ◌+◌, ◌-◌, ◌<◌, ◌%◌, ◌^◌, ℤ, false, if◌then◌else◌, List, [], All, Contains, length, map, slice_get, Option, Some, None, nat_lt}
+use Rattle.std.specs.Prelude.{◌≡◌, ◌≢◌, ◌⊎◌, ℕ, ◌+◌, ◌-◌, ◌<◌, ◌%◌, ◌^◌, ℤ, false, if◌then◌else◌, List, [], All, length, slice_get, Some, None, nat_lt}
 use Rattle.mb_msg.specs.Limits.{most_actors}
 use Rattle.mb_msg.specs.declared.dead_letter.DeadLetter.{DeadLetter}
 use Rattle.mb_msg.specs.declared.dead_letter.Why.TheVariants as why
@@ -25,7 +25,7 @@ use Rattle.mb_gate.specs.View.{Sight, Read, Saw, Counted, Looked, Sent, Unsent, 
 use Rattle.mb_rule.specs.Seen.{Each}
 use Rattle.mb_home.specs.Numbers.{applied_numbers, numbers_in, times}
 use Rattle.mb_home.specs.Roll.{Enrolled, IsBounded}
-use Rattle.mb_queue.specs.Passes.{Turns, first_in_first_out}
+use Rattle.mb_queue.specs.Passes.{first_in_first_out}
 use Rattle.mb_report.specs.declared.report.ActorReport.{ActorReport}
 use Rattle.mb_report.specs.declared.report.Report.{Report}
 use Rattle.mb_report.specs.declared.report.SenderReport.{SenderReport}

@@ -1,11 +1,6 @@
-use Rattle.std.proofs.Common.{◌≡◌, ◌+◌, ◌<◌, ◌++◌, ◌∷◌, [], length, map, refl, subst, sym, ap, ◌∙◌, append_assoc, length-append, arith}
+use Rattle.std.proofs.Common.{◌++◌, ◌∷◌, [], length, map, refl, sym, ap, ◌∙◌, append_assoc, length-append, arith}
 use Rattle.std.specs.Vec.Iter.{into_iter_items}
-use Rattle.mb_queue.specs.Passes.{Sending, Taking}
-use Rattle.mb_report.specs.declared.report.SenderReport.{SenderReport}
-use Rattle.std.proofs.Common.{List}
 use Rattle.std.proofs.lemmas.List.{map-append}
-use Rattle.mb_reckon.specs.Apart.{AreApart}
-use Rattle.mb_reckon.specs.declared.room.Ended.{Ended}
 use Rattle.mb_reckon.proofs.Lists.{length-mapped}
 use Rattle.mb_reckon.proofs.Steps.{apart-more, apart-same, as-many}
 use Rattle.mb_reckon.proofs.apart.take_apart.Goals as goal

@@ -1,11 +1,9 @@
-use Rattle.std.proofs.Common.{rules, ◌≡◌, ◌+◌, ◌<◌, ◌≤◌, ◌^◌, ◌++◌, [], ℕ, List, length, map, drop, refl, subst, sym, ap, ◌∙◌, arith, length-append}
-use Rattle.std.specs.Prelude.{All, IfErr, Vec}
+use Rattle.std.proofs.Common.{rules, ◌≡◌, ◌<◌, ℕ, List, length, map, subst, sym, ap, ◌∙◌, arith, length-append}
+use Rattle.std.specs.Prelude.{IfErr, Vec}
 use Rattle.std.specs.Global.{Global}
 use Rattle.mb_gate.specs.Names.{actors_of, first_of, known_by}
-use Rattle.mb_queue.specs.Passes.{Sending}
 use Rattle.mb_msg.specs.declared.dead_letter.DeadLetter.{DeadLetter}
 use Rattle.mb_reckon.specs.declared.outsider.Outsider.{Outsider}
-use Rattle.mb_report.specs.declared.report.Report.{Report}
 use Rattle.mb_report.specs.declared.report.SenderReport.{SenderReport}
 use Rattle.mb_reckon.specs.Apart.{sent_of}
 use Rattle.mb_reckon.specs.Mismatched.{of_whom}

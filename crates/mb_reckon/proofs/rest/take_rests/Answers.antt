@@ -1,6 +1,4 @@
-use Rattle.std.proofs.Common.{rules, ◌≡◌, ◌+◌, ◌∷◌, [], ◌++◌, List, length, map, take, refl, sym, ap, ◌∙◌, subst, append-nil, arith}
-use Rattle.std.specs.Prelude.{All}
-use Rattle.mb_queue.specs.Passes.{Taking}
+use Rattle.std.proofs.Common.{rules, ◌≡◌, ◌+◌, ◌∷◌, [], ◌++◌, length, map, take, refl, sym, ap, ◌∙◌, subst, append-nil, arith}
 use Rattle.mb_reckon.specs.Taken.{AreTaken}
 use Rattle.mb_reckon.proofs.Lists.{length-mapped}
 use Rattle.mb_reckon.proofs.Rests.{are-taken, first-removed, lent, none-listed, rooms-of}

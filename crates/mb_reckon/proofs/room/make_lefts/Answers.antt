@@ -1,5 +1,4 @@
-use Rattle.std.proofs.Common.{◌≡◌, ◌+◌, ◌∷◌, [], length, refl, subst, sym, ap, ◌∙◌, length-append, arith}
-use Rattle.std.specs.List.{AllZip}
+use Rattle.std.proofs.Common.{◌+◌, ◌∷◌, [], length, refl, ap, ◌∙◌, length-append, arith}
 use Rattle.mb_gate.specs.Names.{known_by}
 use Rattle.mb_gate.specs.View.{View, Counted}
 use Rattle.mb_reckon.specs.Rooms.{IsEnough}

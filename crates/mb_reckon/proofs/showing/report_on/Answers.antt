@@ -1,11 +1,7 @@
-use Rattle.std.proofs.Common.{rules, ◌≡◌, ◌+◌, ◌<◌, ◌∷◌, [], ℕ, suc, List, Some, length, map, drop, refl, subst, sym, ap, ◌∙◌, length-append, arith}
-use Rattle.std.specs.Prelude.{get_or, slice_get}
+use Rattle.std.proofs.Common.{rules, ◌≡◌, ◌<◌, ◌∷◌, [], ℕ, suc, length, drop, refl, sym, ap, ◌∙◌, length-append, arith}
+use Rattle.std.specs.Prelude.{get_or}
 use Rattle.std.specs.Vec.Iter.{into_iter_items}
-use Rattle.std.proofs.lemmas.Option.{same_Some, slice_get-get_or}
-use Rattle.mb_msg.specs.declared.envelope.Envelope.{Envelope}
-use Rattle.mb_report.specs.declared.report.ActorReport.{ActorReport}
-use Rattle.mb_reckon.specs.Shown.{ShowsOne}
-use Rattle.mb_reckon.specs.declared.room.Ended.{Ended}
+use Rattle.std.proofs.lemmas.Option.{slice_get-get_or}
 use Rattle.mb_reckon.proofs.Lists.{within}
 use Rattle.mb_reckon.proofs.Steps.{drop-first, drop-rest, each-shown, every-one, nothing-left}
 use Rattle.mb_reckon.proofs.showing.report_on.Goals as goal
