@@ -1,10 +1,9 @@
 -- What a system begins with: the homes of its actors, and the passes of the senders outside.
-use Rattle.std.specs.Prelude.{◌≡◌, ℕ, ◌+◌, List, [], ◌∷◌, false, length, map, slice_get, Some}
+use Rattle.std.specs.Prelude.{◌≡◌, ℕ, ◌+◌, List, [], ◌∷◌, length, map, slice_get, Some}
 use Rattle.std.specs.Global.{Box}
 use Rattle.mb_msg.specs.Limits.{most_actors}
 use Rattle.mb_actor.specs.Behaviour.{Moment, Reply}
 use Rattle.mb_journal.specs.Identity.{Identity}
-use Rattle.mb_cell.specs.Seen.{Seen}
 use Rattle.mb_queue.specs.declared.kind.Kind.{Kind}
 use Rattle.mb_queue.specs.Passes.{Sending, Taking}
 use Rattle.mb_gate.specs.Starts.{IsFresh}
@@ -15,10 +14,7 @@ use Rattle.mb_home.specs.Steps.{IsRested, at_first}
 use Rattle.mb_build.specs.Handed.{passes_of}
 use Rattle.mb_build.specs.Made.{AreMade}
 use Rattle.mb_build.specs.Numbers.{numbers, sender_numbers}
-
--- the cell of an actor that nothing came to yet
-abbrev pub unstarted : Identity → Seen
-unstarted who = record { who = who; journal = []; acts = []; is_ready = false }
+use Rattle.mb_build.specs.Unstarted.{unstarted}
 
 -- the roll of these actors, whose queues these take from, with whose turn it is there, in order
 abbrev pub enrolled : List Identity → List Taking → List Enrolled

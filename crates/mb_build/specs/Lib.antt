@@ -5,4 +5,5 @@ pub mod Identities
 pub mod Handed
 pub mod Made
 pub mod Behaved
+pub mod Unstarted
 pub mod Housed

@@ -1,8 +1,8 @@
 //! The actors' cells.
 ghost use Rattle.std.specs.Prelude.{◌≡◌, ◌+◌, ◌<◌, IfOk, length, map};
 ghost use Rattle.mb_build.specs.Behaved.{AreBehaved};
-ghost use Rattle.mb_build.specs.Housed.{unstarted};
 ghost use Rattle.mb_build.specs.Identities.{children_from, guardian as guardian_of, identities};
+ghost use Rattle.mb_build.specs.Unstarted.{unstarted};
 
 use mb_actor::{Actor, Behaviours};
 use mb_cell::Cell;

@@ -2,12 +2,13 @@
 ghost use Rattle.std.specs.Prelude.{◌≡◌, ℕ, ◌+◌, ◌<◌, ◌≤◌, [], ◌∷◌, List, IfOk, drop, length, map};
 ghost use Rattle.mb_queue.specs.declared.kind.Kind.{Kind};
 ghost use Rattle.mb_build.specs.Behaved.{AreBehaved};
-ghost use Rattle.mb_build.specs.Housed.{enrolled, AreAtFirst, AreFresh, IsHoused, unstarted};
+ghost use Rattle.mb_build.specs.Housed.{enrolled, AreAtFirst, AreFresh, IsHoused};
 ghost use Rattle.mb_build.specs.Identities.{ArePlanned, identities};
 ghost use Rattle.mb_build.specs.Kinds.{AreQueues};
 ghost use Rattle.mb_build.specs.Made.{AreMade};
 ghost use Rattle.mb_build.specs.Numbers.{sender_numbers};
 ghost use Rattle.mb_build.specs.Reasons.{bad_bounds, bad_parents};
+ghost use Rattle.mb_build.specs.Unstarted.{unstarted};
 
 use crate::cells::cells;
 use crate::planned::{Planned, take_apart};
