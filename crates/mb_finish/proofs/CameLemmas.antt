@@ -33,6 +33,10 @@ pub same-turns : (t : Taking) (passes : List Sending) → (joined_by t passes).t
 same-turns t [] = refl
 same-turns t (p ∷ passes) = same-turns (joined t p) passes
 
+pub same-queue : (t : Taking) (passes : List Sending) → (joined_by t passes).queue ≡ t.queue
+same-queue t [] = refl
+same-queue t (p ∷ passes) = same-queue (joined t p) passes
+
 pub same-taken : (t : Taking) (passes : List Sending) → (joined_by t passes).taken ≡ t.taken
 same-taken t [] = refl
 same-taken t (p ∷ passes) = same-taken (joined t p) passes

@@ -1,10 +1,10 @@
 -- All receivers at once.
-use Rattle.std.proofs.Common.{◌≡◌, ℕ, zero, suc, List, [], ◌∷◌, ◌++◌, refl, sym, ap, ◌∙◌, subst, count_by, Some}
+use Rattle.std.proofs.Common.{◌≡◌, ℕ, zero, suc, List, [], ◌∷◌, ◌++◌, length, take, drop, refl, sym, ap, ◌∙◌, subst, count_by, Some}
 use Rattle.std.specs.List.{All}
 use Rattle.std.specs.Prelude.{option_map, slice_get, Result, Ok, Err, IfOk}
 use Rattle.std.proofs.lemmas.Option.{none-some, same_Some}
 use Rattle.mb_msg.specs.declared.envelope.Envelope.{Envelope}
-use Rattle.mb_queue.specs.Passes.{Sending, Taking, Turns, first_in_first_out}
+use Rattle.mb_queue.specs.Passes.{IsOfQueue, Queue, Sending, Taking, Turns, first_in_first_out}
 use Rattle.mb_fates.specs.Accepted.{IsNumbered, accepted, queued, to_actor}
 use Rattle.mb_fates.specs.Pair.{IsInOrder, StandsAsOften, StandsOnce}
 use Rattle.mb_fates.specs.declared.posting.Posting.{Posting}
@@ -13,7 +13,8 @@ use Rattle.mb_fates.proofs.Naming.{kept-in-order, stands-once}
 use Rattle.mb_finish.specs.Came.{Came}
 use Rattle.mb_finish.specs.Joined.{AreOfDifferent, column, joined_by, joins_all}
 use Rattle.mb_finish.specs.Rest.{AreRests, IsRest}
-use Rattle.mb_finish.proofs.JoinLemmas.{place-joins_all}
+use Rattle.mb_finish.proofs.CameLemmas.{same-queue, same-taken}
+use Rattle.mb_finish.proofs.JoinLemmas.{length-joins_all, place-joins_all, refilled}
 
 -- what an answer tells tells more
 pub ok-then : {T E A B : Type 0} (r : Result T E) → (A → B) → IfOk r (λ _. A) → IfOk r (λ _. B)
@@ -30,13 +31,30 @@ rest-at (t ∷ takes) (l ∷ lefts) zero take left rests there is =
     subst (λ (x : Taking × List Envelope). IsRest x.0 x.1) (λ i. (same_Some t take there i, same_Some l left is i)) rests.0
 rest-at (t ∷ takes) (l ∷ lefts) (suc place) take left rests there is = rest-at takes lefts place take left rests.1 there is
 
-pub came-at : (takes : List Taking) (rows : List (List Sending)) (lefts : List (List Envelope)) (place : ℕ) (take : Taking) (left : List Envelope)
-    → AreRests (joins_all takes rows) lefts → AreOfDifferent (column place rows) → slice_get takes place ≡ Some take
-    → slice_get lefts place ≡ Some left → All (Came take.turns (take.taken ++ left)) (column place rows)
-came-at takes rows lefts place take left rests different there is =
-    let now : slice_get (joins_all takes rows) place ≡ Some (joined_by take (column place rows))
-    = place-joins_all takes rows place ∙ ap (option_map (λ t. joined_by t (column place rows))) there in
-    rest-at (joins_all takes rows) lefts place (joined_by take (column place rows)) left rests now is take (column place rows) refl different
+-- the rests of receivers that were lent as a slice, and came back with all passes taken in
+pub rests-refilled : (rows : List (List Sending)) (lefts : List (List Envelope)) (takes now new : List Taking) (count : ℕ) → now ≡ takes
+    → new ≡ joins_all now rows → length takes ≡ count → AreRests (take count (new ++ drop (length new) takes)) lefts
+    → AreRests (joins_all takes rows) lefts
+rests-refilled rows lefts takes now new count base came many =
+    let is : new ≡ joins_all takes rows = came ∙ ap (λ l. joins_all l rows) base in
+    subst (λ l. AreRests l lefts) (refilled count takes new (ap length is ∙ length-joins_all takes rows ∙ many) ∙ is)
+
+-- the rest of one receiver that took in the passes to it
+module _ (takes : List Taking) (rows : List (List Sending)) (lefts : List (List Envelope)) (place : ℕ) (take : Taking) (left : List Envelope)
+    (rests : AreRests (joins_all takes rows) lefts) (there : slice_get takes place ≡ Some take) (is : slice_get lefts place ≡ Some left) where
+  rest-joined : IsRest (joined_by take (column place rows)) left
+  rest-joined =
+      let now : slice_get (joins_all takes rows) place ≡ Some (joined_by take (column place rows))
+      = place-joins_all takes rows place ∙ ap (option_map (λ t. joined_by t (column place rows))) there in
+      rest-at (joins_all takes rows) lefts place (joined_by take (column place rows)) left rests now is
+
+  pub came-at : AreOfDifferent (column place rows) → All (Came take.turns (take.taken ++ left)) (column place rows)
+  came-at different = rest-joined.came take (column place rows) refl different
+
+  pub known-at : All (IsOfQueue take.queue) (take.taken ++ left)
+  known-at =
+      subst (λ (x : Queue × List Envelope). All (IsOfQueue x.0) (x.1 ++ left))
+      (λ i. (same-queue take (column place rows) i, same-taken take (column place rows) i)) rest-joined.known
 
 module _ (to : ℕ) (postings : List Posting) (turns : Turns) (fates : List Envelope) (pass : Sending)
     (pushed : pass.pushed ≡ to_actor to (queued postings)) (came : Came turns fates pass) where

@@ -1,15 +1,16 @@
 -- What is left in the queues of receivers.
 use Rattle.std.specs.Prelude.{◌≡◌, List, [], ◌∷◌, ◌++◌, All}
 use Rattle.mb_msg.specs.declared.envelope.Envelope.{Envelope}
-use Rattle.mb_queue.specs.Passes.{Sending, Taking}
+use Rattle.mb_queue.specs.Passes.{IsOfQueue, Sending, Taking}
 use Rattle.mb_finish.specs.Came.{Came}
 use Rattle.mb_finish.specs.Joined.{AreOfDifferent, joined_by}
 
--- It is all that was left of what the receiver was to take: whichever passes it had taken in, of different senders, all that they pushed is
--- among what it took before and what was left.
-abbrev pub IsRest : Taking → List Envelope → Type 0
-IsRest take left = (before : Taking) (passes : List Sending) → take ≡ joined_by before passes → AreOfDifferent passes
-    → All (Came before.turns (before.taken ++ left)) passes
+-- It is all that was left of what the receiver was to take, and of its queue, as all is that it took before. Whichever passes it had taken
+-- in, of different senders, all that they pushed is among what it took before and what was left.
+pub record IsRest (take : Taking) (left : List Envelope) : Type 0 where
+  pub known : All (IsOfQueue take.queue) (take.taken ++ left)
+  pub came : (before : Taking) (passes : List Sending) → take ≡ joined_by before passes → AreOfDifferent passes
+      → All (Came before.turns (before.taken ++ left)) passes
 
 -- and so of each of these receivers
 abbrev pub AreRests : List Taking → List (List Envelope) → Type 0

@@ -1,7 +1,7 @@
 //! All receivers and all senders come together.
 ghost use Rattle.std.specs.Prelude.{◌≡◌, ◌<◌, ℕ, [], ◌++◌, All, List, length, map, slice_get, Some, IfErr, IfOk};
 ghost use Rattle.mb_msg.specs.declared.envelope.Envelope.{Envelope};
-ghost use Rattle.mb_queue.specs.Passes.{Taking};
+ghost use Rattle.mb_queue.specs.Passes.{IsOfQueue, Taking};
 ghost use Rattle.mb_finish.specs.Came.{Came};
 ghost use Rattle.mb_finish.specs.Joined.{AreOfDifferent, column, queues_of, ways_of};
 
@@ -13,7 +13,8 @@ use std::sync::Wait;
 
 /// Each of these receivers takes in the passes that push to it, one of each sender, and then all that is left in its queue, into
 /// a room of its own. Of each sender and each receiver all that the one pushed is then among what the other took before and what
-/// was left: each envelope once, and in the sender's order where the mailbox is first in, first out.
+/// was left: each envelope once, and in the sender's order where the mailbox is first in, first out. Nothing else is among it but
+/// envelopes by senders of the receiver's queue and to its actor.
 ///
 /// It answers `TooMany` if more is left in a queue than there is room for.
 pub fn settle<R: Wait>(
@@ -29,6 +30,8 @@ pub fn settle<R: Wait>(
     ensures came { IfOk result (λ _. (place : ℕ) (take : Taking) (left : List Envelope) → slice_get takes.items place ≡ Some take
         → slice_get (map (λ room. room.items) rooms.new) place ≡ Some left
         → All (Came take.turns (take.taken ++ left)) (column place (map (λ row. row.items) senders.items))) }
+    ensures known { IfOk result (λ _. (place : ℕ) (take : Taking) (left : List Envelope) → slice_get takes.items place ≡ Some take
+        → slice_get (map (λ room. room.items) rooms.new) place ≡ Some left → All (IsOfQueue take.queue) (take.taken ++ left)) }
     ensures place { IfErr result (λ many. many.0 < length takes.items) }
 {
     let mut takes = takes;

@@ -1,7 +1,8 @@
 use Rattle.std.proofs.Common.{◌≡◌, ◌++◌}
+use Rattle.mb_finish.proofs.RestLemmas.{SameQueue}
 use Rattle.mb_finish.proofs.rest.take_rest.Given as goal
 
 abbrev pub invariant-loop : goal.invariant-loop
 invariant-loop g l =
     (l.take.taken ≡ l.initial.take.taken ++ l.room.items)
-    × (l.take.turns ≡ l.initial.take.turns) × (l.take.accounts ≡ l.initial.take.accounts)
+    × (SameQueue l.initial.take l.take) × (l.take.accounts ≡ l.initial.take.accounts)
