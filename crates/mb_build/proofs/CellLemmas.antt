@@ -1,6 +1,7 @@
 -- Cells that are made one by one.
-use Rattle.std.proofs.Common.{◌≡◌, ◌≤◌, ◌<◌, ◌==◌, ℕ, suc, ◌+◌, Bool, true, false, if◌then◌else◌, List, [], ◌∷◌, ◌++◌, length, map, refl, sym, ap, ◌∙◌, append_assoc, arith}
+use Rattle.std.proofs.Common.{◌≡◌, ◌≤◌, ◌<◌, ◌==◌, ℕ, suc, ◌+◌, ◌-◌, Bool, true, false, if◌then◌else◌, List, [], ◌∷◌, ◌++◌, length, map, drop, get_or, refl, sym, ap, ◌∙◌, append_assoc, arith}
 use Rattle.std.specs.Prelude.{All}
+use Rattle.std.proofs.lemmas.List.{drop_more}
 use Rattle.std.proofs.lemmas.List.Elements.{All-cons, All-nil}
 use Rattle.mb_msg.specs.declared.id.ActorId.{ActorId}
 use Rattle.mb_journal.specs.declared.strategy.Strategy.{Strategy}
@@ -32,6 +33,21 @@ children-below most number parent [] le = All-nil (λ (x : ActorId). x.0 < most)
 children-below most number parent (p ∷ parents) le =
     below-if most (p.0 == parent) number (children_from (number + 1) parent parents) (omega (arith, le))
     (children-below most (number + 1) parent parents (omega (arith, le)))
+
+-- the parent in this place, and those after it
+pub parent-there : (all : List ActorId) (number place next : ℕ) (p d : ActorId) → p ≡ get_or all (number - 1) d → number ≡ place + 1 → next ≡ place + 1
+    → place < length all → drop place all ≡ p ∷ drop next all
+parent-there all number place next p d is at after lt =
+    let here : place ≡ number - 1 = omega (arith, at) in
+    drop_more all place d lt ∙ ap (λ x. x ∷ drop (place + 1) all) (ap (λ n. get_or all n d) here ∙ sym is) ∙ ap (λ n. p ∷ drop n all) (sym after)
+
+-- a cell with its children
+pub cell-is : (actors limit : ℕ) (all : List ActorId) (number place : ℕ) (p : ActorId) (s : Strategy) (prepared : List ActorId) (c : Seen)
+    → c ≡ unstarted (record (planned actors limit all number p s) { prepared = prepared }) → prepared ≡ children_from 1 number all → number ≡ place
+    → c ≡ unstarted (planned actors limit all place p s)
+cell-is actors limit all number place p s prepared c fresh are at =
+    fresh ∙ ap (λ l. unstarted (record (planned actors limit all number p s) { prepared = l })) are
+    ∙ ap (λ n. unstarted (planned actors limit all n p s)) at
 
 -- one cell more
 pub cell-more : (actors limit : ℕ) (all here there : List ActorId) (number number' : ℕ) (p : ActorId) (s : Strategy) (before after : List Strategy)

@@ -1,7 +1,11 @@
 pub mod CellLemmas
+pub mod FreshLemmas
 pub mod HandedLemmas
+pub mod HomeLemmas
 pub mod KindLemmas
 pub mod NumberLemmas
+pub mod OwnLemmas
 pub mod PlannedLemmas
 pub mod QueueLemmas
 pub mod ReasonLemmas
+pub mod RollLemmas
