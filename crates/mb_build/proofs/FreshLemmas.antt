@@ -1,5 +1,5 @@
 -- The gates may begin with homes to which nothing came.
-use Rattle.std.proofs.Common.{◌≡◌, ℕ, zero, suc, ◌+◌, true, false, List, [], ◌∷◌, ◌++◌, length, refl, sym, ap, ◌∙◌, subst, arith}
+use Rattle.std.proofs.Common.{◌≡◌, ℕ, zero, suc, ◌+◌, ◌%◌, ◌^◌, List, [], ◌∷◌, ◌++◌, length, refl, sym, ap, ◌∙◌, subst, arith}
 use Rattle.std.specs.Prelude.{All, IsTrue, slice_get, Some}
 use Rattle.std.specs.Global.{Box}
 use Rattle.std.proofs.lemmas.List.Elements.{All-nil}
@@ -12,6 +12,7 @@ use Rattle.mb_journal.specs.Aside.{next_number}
 use Rattle.mb_journal.specs.Identity.{Identity}
 use Rattle.mb_journal.specs.Life.{phase}
 use Rattle.mb_journal.specs.Suspension.{count, greatest_net, marks, minuses, pluses}
+use Rattle.mb_cell.specs.Seen.{Seen}
 use Rattle.mb_queue.specs.Passes.{Sending, Taking}
 use Rattle.mb_gate.specs.Named.{NamesBelow}
 use Rattle.mb_gate.specs.Starts.{IsFresh}
@@ -128,6 +129,15 @@ module _ (gives : ℕ → Moment → Reply → Type 0) where
   all-fresh roll others actors whos takes homes are planned settled = λ first zeroth actor home there.
       let same = roll-of-first roll others 0 whos takes homes first are zeroth in let at : actor ≡ 0 + actor = omega arith in
       found roll others first.value actors 0 whos takes homes actor actor home same at are planned settled there
+
+-- a home as it was made
+pub as-made : (value home : Contents) (cell : Seen) (t : Taking) (row passes : List Sending) (roll all : List Enrolled) (who : Identity)
+    → value ≡ home → home ≡ at_first cell t row home.room roll → cell ≡ unstarted who → row ≡ passes → roll ≡ all
+    → value ≡ at_first (unstarted who) t passes value.room all
+as-made value home cell t row passes roll all who same made is these whole =
+    same ∙ made ∙ ap (λ x. at_first x t row home.room roll) is ∙ ap (λ l. at_first (unstarted who) t l home.room roll) these
+    ∙ ap (λ l. at_first (unstarted who) t passes home.room l) whole
+    ∙ ap (λ (c : Contents). at_first (unstarted who) t passes c.room all) (sym same)
 
 -- one home more, as it begins
 pub first-more : (roll : List Enrolled) (others : List Taking) (number : ℕ) (whos : List Identity) (who : Identity) (takes : List Taking) (t : Taking)

@@ -53,19 +53,20 @@ module _ (cells : List Seen) (kinds : List Kind) (outside : ℕ) (guardian : Tak
         subst (λ n. IsPlanned (length cells) n cell.who) sum
         (planned-there (length cells) 0 (whose cells) place cell.who (whose rest) planned who-there)
 
-    place-in : place < length cells
+    pub place-in : place < length cells
     place-in =
         let sum = length-append done (cell ∷ rest) in let whole = ap length all in omega (arith, sum, whole, at)
 
-    -- its row are its passes
-    pub row-there : (row : List Sending) (more : List (List Sending)) → drop place rows ≡ row ∷ more → row ≡ passes_of takes place
-    row-there row more here =
+    -- its passes stand in its place
+    pub rows-from : drop place rows ≡ passes_of takes place ∷ map (passes_of takes) (drop (suc place) (sender_numbers (length cells) outside))
+    rows-from =
         let sum : 0 + place ≡ place = omega arith in
-        let these : row ∷ more ≡ passes_of takes (0 + place) ∷ map (passes_of takes) (drop (suc place) (sender_numbers (length cells) outside))
-        = sym here ∙ ap (drop place) made.passes ∙ drop-map (passes_of takes) place (sender_numbers (length cells) outside)
-        ∙ ap (map (passes_of takes)) (number-there 0 (length cells) place (numbers 64 outside) place-in) in
-        let first : row ≡ passes_of takes (0 + place) = cc these in
-        first ∙ ap (passes_of takes) sum
+        ap (drop place) made.passes ∙ drop-map (passes_of takes) place (sender_numbers (length cells) outside)
+        ∙ ap (map (passes_of takes)) (number-there 0 (length cells) place (numbers 64 outside) place-in)
+        ∙ ap (λ n. passes_of takes n ∷ map (passes_of takes) (drop (suc place) (sender_numbers (length cells) outside))) sum
+
+    pub row-there : (row : List Sending) (more : List (List Sending)) → drop place rows ≡ row ∷ more → row ≡ passes_of takes place
+    row-there row more here = let both = sym here ∙ rows-from in cc
 
     module _ (t : Taking) (takes' : List Taking) (this : drop place (guardian ∷ takes) ≡ t ∷ takes') where
       pub pass-there : IsPassOf place t

@@ -2,6 +2,7 @@ pub mod CellLemmas
 pub mod FreshLemmas
 pub mod HandedLemmas
 pub mod HomeLemmas
+pub mod HouseLemmas
 pub mod KindLemmas
 pub mod NumberLemmas
 pub mod OwnLemmas

@@ -1,7 +1,9 @@
 -- The roll, and what stands in one place of it.
 use Rattle.std.proofs.Common.{◌≡◌, ◌≢◌, ◌<◌, ℕ, zero, suc, ◌+◌, ◌-◌, List, [], ◌∷◌, ◌++◌, length, map, take, drop, get_or, refl, sym, ap, ◌∙◌}
 use Rattle.std.proofs.Common.{subst, append_assoc, arith, drop-cons}
-use Rattle.std.specs.Prelude.{slice_get, Some}
+use Rattle.std.specs.Prelude.{slice_get, MatchOption, Option, Some, None}
+use Rattle.std.proofs.lemmas.List.{map_push, nil_from_length}
+use Rattle.std.proofs.lemmas.Option.{none-some}
 use Rattle.mb_journal.specs.Identity.{Identity}
 use Rattle.mb_queue.specs.Passes.{Queue, Taking}
 use Rattle.mb_home.specs.Roll.{Enrolled, queues_of}
@@ -21,6 +23,40 @@ take-next zero [] x rest here = absurd (cc)
 take-next zero (y ∷ xs) x rest here = let is : y ≡ x = cc in ap (λ z. z ∷ []) is
 take-next (suc place) [] x rest here = absurd (cc)
 take-next (suc place) (y ∷ xs) x rest here = ap (λ l. y ∷ l) (take-next place xs x rest here)
+
+pub drop-there : {X : Type 0} (place : ℕ) (xs : List X) (x : X) → slice_get xs place ≡ Some x → drop place xs ≡ x ∷ drop (suc place) xs
+drop-there place [] x there = absurd (none-some x there)
+drop-there zero (y ∷ xs) x there = let is : y ≡ x = cc in ap (λ z. z ∷ xs) is
+drop-there (suc place) (y ∷ xs) x there = drop-there place xs x there
+
+get-there : {X : Type 0} (place : ℕ) (xs : List X) (x : X) (rest : List X) → drop place xs ≡ x ∷ rest → slice_get xs place ≡ Some x
+get-there zero [] x rest here = absurd (cc)
+get-there zero (y ∷ xs) x rest here = let is : y ≡ x = cc in ap (λ z. Some z) is
+get-there (suc place) [] x rest here = absurd (cc)
+get-there (suc place) (y ∷ xs) x rest here = get-there place xs x rest here
+
+past : {X : Type 0} (place : ℕ) (xs : List X) → drop place xs ≡ [] → (slice_get xs place ≡ None) × (drop (suc place) xs ≡ [])
+past zero [] none = (refl, refl)
+past zero (y ∷ xs) none = absurd (cc)
+past (suc place) [] none = (refl, refl)
+past (suc place) (y ∷ xs) none = past place xs none
+
+-- an iterator over what comes from this place on gives what stands there, and goes on after it
+pub next-taken : {X : Type 0} (xs : List X) (place : ℕ) (old new : List X) (len len' : ℕ) (r : Option X) → old ≡ drop place xs → len ≡ length old
+    → len' ≡ length new → MatchOption r ((len ≡ 0) × (len' ≡ 0)) (λ x. (old ≡ x ∷ new) × (len' + 1 ≡ len))
+    → (r ≡ slice_get xs place) × (new ≡ drop (suc place) xs)
+next-taken xs place old new len len' None from count count' gave =
+    let none : old ≡ [] = nil_from_length old (sym count ∙ gave.0) in let after : new ≡ [] = nil_from_length new (sym count' ∙ gave.1) in
+    let both = past place xs (sym from ∙ none) in
+    (sym both.0, after ∙ sym both.1)
+next-taken xs place old new len len' (Some x) from count count' gave =
+    let here : drop place xs ≡ x ∷ new = sym from ∙ gave.0 in
+    (sym (get-there place xs x new here), sym (drop-next place xs x new here))
+
+-- one actor more on the roll
+pub roll-push : {X : Type 0} (view : X → Enrolled) (old new : List X) (x : X) (e : Enrolled) → new ≡ old ++ x ∷ [] → view x ≡ e
+    → map view new ≡ map view old ++ e ∷ []
+roll-push view old new x e pushed is = ap (map view) pushed ∙ map_push view old x ∙ ap (λ y. map view old ++ y ∷ []) is
 
 abbrev pub the_enrolled : Identity → Taking → Enrolled
 the_enrolled who t = record { who = who; queue = t.queue; turns = t.turns }

@@ -57,7 +57,8 @@ pub fn house<A: Actor, K: Behaviours>(
     } = make_queues(alloc, kinds, senders)?;
     let cells = cells(alloc, actors, &parents, strategies, journal_limit)?;
     let roll = enroll(alloc, &cells, &guardian, &takes)?;
-    homes(alloc, cells, guardian, takes, senders, &roll)
+    let housed = homes(alloc, cells, guardian, takes, senders, &roll)?;
+    Ok(housed)
 }
 
 /// Who the actors are.

@@ -1,5 +1,5 @@
 use Rattle.std.proofs.Common.{◌≡◌, ◌++◌, ◌∷◌, drop, length, map, take}
-use Rattle.std.specs.Prelude.{option_to_list}
+use Rattle.std.specs.Prelude.{slice_get}
 use Rattle.std.specs.Vec.Iter.{into_iter_items}
 use Rattle.mb_build.specs.Housed.{AreAtFirst, enrolled}
 use Rattle.mb_build.proofs.FreshLemmas.{AreSettled}
@@ -10,7 +10,8 @@ abbrev pub invariant-loop-cell : goal.invariant-loop-cell
 invariant-loop-cell g l = record {
   cells : l.yielded ++ into_iter_items l.cell-iterator ≡ l.fn.cells.items;
   count : length l.homes.items ≡ length l.yielded;
-  takes : option_to_list l.next ++ into_iter_items l.takes ≡ drop (length l.homes.items) (l.fn.guardian ∷ l.fn.takes.items);
+  next : l.next ≡ slice_get (l.fn.guardian ∷ l.fn.takes.items) (length l.homes.items);
+  takes : into_iter_items l.takes ≡ drop (length l.homes.items) l.fn.takes.items;
   senders : into_iter_items l.senders ≡ drop (length l.homes.items) l.fn.senders.items;
   first : AreAtFirst (enrolled (whose l.fn.cells.items) (l.fn.guardian ∷ l.fn.takes.items)) l.fn.takes.items 0 (whose l.yielded)
       (take (length l.homes.items) (l.fn.guardian ∷ l.fn.takes.items)) l.homes.items;
