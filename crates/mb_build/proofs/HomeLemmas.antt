@@ -65,6 +65,9 @@ module _ (cells : List Seen) (kinds : List Kind) (outside : ℕ) (guardian : Tak
         ∙ ap (map (passes_of takes)) (number-there 0 (length cells) place (numbers 64 outside) place-in)
         ∙ ap (λ n. passes_of takes n ∷ map (passes_of takes) (drop (suc place) (sender_numbers (length cells) outside))) sum
 
+    pub rows-left : drop place rows ≡ [] → ⊥
+    rows-left none = let both = sym none ∙ rows-from in absurd (cc)
+
     pub row-there : (row : List Sending) (more : List (List Sending)) → drop place rows ≡ row ∷ more → row ≡ passes_of takes place
     row-there row more here = let both = sym here ∙ rows-from in cc
 
