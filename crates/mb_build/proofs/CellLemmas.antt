@@ -1,5 +1,6 @@
 -- Cells that are made one by one.
-use Rattle.std.proofs.Common.{◌≡◌, ◌≤◌, ◌<◌, ◌==◌, ℕ, suc, ◌+◌, ◌-◌, Bool, true, false, if◌then◌else◌, List, [], ◌∷◌, ◌++◌, length, map, drop, get_or, refl, sym, ap, ◌∙◌, append_assoc, arith}
+use Rattle.std.proofs.Common.{◌≡◌, ◌≤◌, ◌<◌, ◌==◌, ℕ, suc, ◌+◌, ◌-◌, Bool, true, false, if◌then◌else◌, List, [], ◌∷◌, ◌++◌}
+use Rattle.std.proofs.Common.{length, map, drop, get_or, refl, sym, ap, ◌∙◌, append_assoc, arith}
 use Rattle.std.specs.Prelude.{All}
 use Rattle.std.proofs.lemmas.List.{drop_more}
 use Rattle.std.proofs.lemmas.List.Elements.{All-cons, All-nil}
@@ -35,8 +36,8 @@ children-below most number parent (p ∷ parents) le =
     (children-below most (number + 1) parent parents (omega (arith, le)))
 
 -- the parent in this place, and those after it
-pub parent-there : (all : List ActorId) (number place next : ℕ) (p d : ActorId) → p ≡ get_or all (number - 1) d → number ≡ place + 1 → next ≡ place + 1
-    → place < length all → drop place all ≡ p ∷ drop next all
+pub parent-there : (all : List ActorId) (number place next : ℕ) (p d : ActorId) → p ≡ get_or all (number - 1) d → number ≡ place + 1
+    → next ≡ place + 1 → place < length all → drop place all ≡ p ∷ drop next all
 parent-there all number place next p d is at after lt =
     let here : place ≡ number - 1 = omega (arith, at) in
     drop_more all place d lt ∙ ap (λ x. x ∷ drop (place + 1) all) (ap (λ n. get_or all n d) here ∙ sym is) ∙ ap (λ n. p ∷ drop n all) (sym after)

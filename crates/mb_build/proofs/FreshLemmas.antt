@@ -1,12 +1,12 @@
 -- The gates may begin with homes to which nothing came.
 use Rattle.std.proofs.Common.{◌≡◌, ℕ, zero, suc, ◌+◌, ◌%◌, ◌^◌, List, [], ◌∷◌, ◌++◌, length, refl, sym, ap, ◌∙◌, subst, arith}
-use Rattle.std.specs.Prelude.{All, IsTrue, slice_get, Some}
+use Rattle.std.specs.Prelude.{IsTrue, slice_get, Some}
 use Rattle.std.specs.Global.{Box}
 use Rattle.std.proofs.lemmas.List.Elements.{All-nil}
 use Rattle.std.proofs.lemmas.Option.{none-some}
 use Rattle.mb_msg.specs.declared.id.ActorId.{ActorId}
 use Rattle.mb_msg.specs.declared.system.SysMsg.{SysMsg}
-use Rattle.mb_status.specs.Mailbox.{Mailbox, is_possible}
+use Rattle.mb_status.specs.Mailbox.{is_possible}
 use Rattle.mb_actor.specs.Behaviour.{Moment, Reply}
 use Rattle.mb_journal.specs.Aside.{next_number}
 use Rattle.mb_journal.specs.Identity.{Identity}
@@ -41,8 +41,8 @@ unfolding phase
 open-first who = record { open_yet = refl; free = refl }
 
 -- a home as it begins names actors that there are
-names-first : (actors number : ℕ) (who : Identity) (t : Taking) (sends : List Sending) (room : ℕ) (roll : List Enrolled) → IsPlanned actors number who
-    → NamesActors (at_first (unstarted who) t sends room roll)
+names-first : (actors number : ℕ) (who : Identity) (t : Taking) (sends : List Sending) (room : ℕ) (roll : List Enrolled)
+    → IsPlanned actors number who → NamesActors (at_first (unstarted who) t sends room roll)
 names-first actors number who t sends room roll planned =
     subst (λ n. NamesActors (at_first (unstarted (record who { actors = n })) t sends room roll)) (sym planned.actors_are) (record {
       parent = planned.parent;
@@ -140,8 +140,8 @@ as-made value home cell t row passes roll all who same made is these whole =
     ∙ ap (λ (c : Contents). at_first (unstarted who) t passes c.room all) (sym same)
 
 -- one home more, as it begins
-pub first-more : (roll : List Enrolled) (others : List Taking) (number : ℕ) (whos : List Identity) (who : Identity) (takes : List Taking) (t : Taking)
-    (homes : List (Box Contents)) (h : Box Contents) → AreAtFirst roll others number whos takes homes
+pub first-more : (roll : List Enrolled) (others : List Taking) (number : ℕ) (whos : List Identity) (who : Identity) (takes : List Taking)
+    (t : Taking) (homes : List (Box Contents)) (h : Box Contents) → AreAtFirst roll others number whos takes homes
     → h.value ≡ at_first (unstarted who) t (passes_of others (number + length homes)) h.value.room roll
     → AreAtFirst roll others number (whos ++ who ∷ []) (takes ++ t ∷ []) (homes ++ h ∷ [])
 first-more roll others number [] who [] t [] h are is =
@@ -152,6 +152,8 @@ first-more roll others number [] who (y ∷ takes) t homes h are is = absurd are
 first-more roll others number (w ∷ whos) who [] t homes h are is = absurd are
 first-more roll others number (w ∷ whos) who (y ∷ takes) t [] h are is = absurd are
 first-more roll others number (w ∷ whos) who (y ∷ takes) t (x ∷ homes) h are is =
-    let sum : number + suc (length homes) ≡ (number + 1) + length homes = omega arith in
-    (are.0, first-more roll others (number + 1) whos who takes t homes h are.1
-    (subst (λ n. h.value ≡ at_first (unstarted who) t (passes_of others n) h.value.room roll) sum is))
+    let sum : number + suc (length homes) ≡ (number + 1) + length homes = omega arith in (
+      are.0,
+      first-more roll others (number + 1) whos who takes t homes h are.1
+          (subst (λ n. h.value ≡ at_first (unstarted who) t (passes_of others n) h.value.room roll) sum is),
+    )

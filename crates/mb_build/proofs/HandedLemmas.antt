@@ -1,9 +1,9 @@
 -- Passes that are handed out.
-use Rattle.std.proofs.Common.{◌≡◌, ◌<◌, ℕ, zero, suc, List, [], ◌∷◌, ◌++◌, length, map, get_or, refl, sym, ap, ◌∙◌, arith}
+use Rattle.std.proofs.Common.{◌≡◌, ◌<◌, ℕ, List, [], ◌∷◌, ◌++◌, length, map, get_or, refl, sym, ap, ◌∙◌, arith}
 use Rattle.std.specs.Prelude.{slice_set}
-use Rattle.std.proofs.lemmas.List.{append-nil, map-append}
+use Rattle.std.proofs.lemmas.List.{map-append}
 use Rattle.mb_queue.specs.Made.{unused}
-use Rattle.mb_queue.specs.Passes.{Queue, Sending, Taking}
+use Rattle.mb_queue.specs.Passes.{Sending, Taking}
 use Rattle.mb_build.specs.Handed.{handed, passes_of}
 
 pub handed-none : (rows : List (List Sending)) → handed rows [] ≡ rows
@@ -15,7 +15,8 @@ pub handed-last : {R : Type 0} (items : R → List Sending) (rows : List R) (sen
     → length sends < length rows → items row ≡ items (get_or rows (length sends) d) ++ p ∷ []
     → handed (map items (slice_set rows (length sends) row)) sends ≡ handed (map items rows) (sends ++ p ∷ [])
 handed-last items [] sends p row d lt is = absurd (omega (arith, lt))
-handed-last items (r ∷ rows) [] p row d lt is = ap (λ l. l ∷ map items rows) is ∙ ap (λ l. (items r ++ p ∷ []) ∷ l) (sym (handed-none (map items rows)))
+handed-last items (r ∷ rows) [] p row d lt is =
+    ap (λ l. l ∷ map items rows) is ∙ ap (λ l. (items r ++ p ∷ []) ∷ l) (sym (handed-none (map items rows)))
 handed-last items (r ∷ rows) (q ∷ sends) p row d lt is =
     ap (λ l. (items r ++ q ∷ []) ∷ l) (handed-last items rows sends p row d (omega (arith, lt)) is)
 

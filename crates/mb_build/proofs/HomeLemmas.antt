@@ -1,8 +1,6 @@
 -- Homes that are made one by one.
-use Rattle.std.proofs.Common.{◌≡◌, ◌<◌, ◌≤◌, ℕ, zero, suc, ◌+◌, List, [], ◌∷◌, ◌++◌, length, map, drop, refl, sym, ap, ◌∙◌, subst, append_assoc, arith}
-use Rattle.std.specs.Prelude.{All}
+use Rattle.std.proofs.Common.{◌≡◌, ◌<◌, ℕ, suc, ◌+◌, List, [], ◌∷◌, ◌++◌, length, map, drop, sym, ap, ◌∙◌, subst, arith}
 use Rattle.std.proofs.lemmas.List.{drop-map, drop_at, length-append, length-map, map-append}
-use Rattle.mb_msg.specs.declared.id.ActorId.{ActorId}
 use Rattle.mb_journal.specs.Identity.{Identity}
 use Rattle.mb_cell.specs.Seen.{Seen}
 use Rattle.mb_queue.specs.declared.kind.Kind.{Kind}
@@ -11,12 +9,12 @@ use Rattle.mb_home.specs.Settled.{IsOwn}
 use Rattle.mb_home.specs.Steps.{at_first}
 use Rattle.mb_build.specs.Handed.{passes_of}
 use Rattle.mb_build.specs.Housed.{enrolled}
-use Rattle.mb_build.specs.Identities.{ArePlanned, IsPlanned, id}
+use Rattle.mb_build.specs.Identities.{ArePlanned, IsPlanned}
 use Rattle.mb_build.specs.Made.{AreMade}
 use Rattle.mb_build.specs.Numbers.{numbers, sender_numbers}
 use Rattle.mb_build.specs.Unstarted.{unstarted}
 use Rattle.mb_build.proofs.NumberLemmas.{number-there}
-use Rattle.mb_build.proofs.OwnLemmas.{IsPassOf, all-unused, own-first, pass-of}
+use Rattle.mb_build.proofs.OwnLemmas.{IsPassOf, own-first, pass-of}
 use Rattle.mb_build.proofs.QueueLemmas.{as-many}
 use Rattle.mb_build.proofs.RollLemmas.{planned-there}
 

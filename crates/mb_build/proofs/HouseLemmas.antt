@@ -1,8 +1,7 @@
 -- What a plan's homes are made of.
-use Rattle.std.proofs.Common.{◌≡◌, ◌<◌, ◌^◌, ℕ, suc, ◌+◌, List, [], ◌∷◌, ◌++◌, length, map, drop, refl, sym, ap, ◌∙◌, subst, arith}
+use Rattle.std.proofs.Common.{◌≡◌, ◌<◌, ◌^◌, ℕ, ◌+◌, List, [], ◌∷◌, length, map, drop, refl, sym, ap, ◌∙◌, subst, arith}
 use Rattle.std.proofs.lemmas.List.{drop-map, length-map}
 use Rattle.mb_msg.specs.declared.id.ActorId.{ActorId}
-use Rattle.mb_actor.specs.Behaviour.{Moment, Reply}
 use Rattle.mb_journal.specs.declared.strategy.Strategy.{Strategy}
 use Rattle.mb_journal.specs.Identity.{Identity}
 use Rattle.mb_cell.specs.Seen.{Seen}
@@ -28,7 +27,7 @@ pub length-who : (limit : ℕ) (plans : List ActorPlan) → length (who_of limit
 length-who limit plans =
     let parents = length-map plans (λ (a : ActorPlan). a.parent) in let strategies = length-map plans (λ (a : ActorPlan). a.strategy) in
     let others = length-planned (length plans + 1) limit (map (λ a. a.parent) plans) 1 (map (λ a. a.parent) plans) (map (λ a. a.strategy) plans)
-        (strategies ∙ sym parents) in
+    (strategies ∙ sym parents) in
     omega (arith, others, parents)
 
 whose-unstarted : (whos : List Identity) → whose (map unstarted whos) ≡ whos

@@ -1,22 +1,18 @@
 -- A home is its own actor's.
-use Rattle.std.proofs.Common.{◌≡◌, ◌<◌, ◌==◌, ℕ, zero, suc, ◌+◌, Bool, true, false, List, [], ◌∷◌, ◌++◌, length, map, drop, refl, sym, ap, ◌∙◌, subst, arith}
+use Rattle.std.proofs.Common.{◌≡◌, ◌<◌, ◌==◌, ℕ, zero, suc, ◌+◌, true, false, List, [], ◌∷◌, length, map, drop, refl, sym, ap, ◌∙◌, subst, arith}
 use Rattle.std.specs.Prelude.{All, slice_get, Some}
 use Rattle.std.proofs.lemmas.Bool.Decides.{nat_tests}
-use Rattle.std.proofs.lemmas.List.{length-map, map-append}
 use Rattle.std.proofs.lemmas.List.Elements.{All-cons, All-nil}
 use Rattle.std.proofs.lemmas.Option.{none-some}
 use Rattle.mb_journal.specs.Identity.{Identity, is_guardian}
-use Rattle.mb_cell.specs.Seen.{Seen}
 use Rattle.mb_queue.specs.declared.kind.Kind.{Kind}
-use Rattle.mb_queue.specs.Passes.{Queue, Sending, Taking}
-use Rattle.mb_home.specs.Roll.{Enrolled, queues_of}
+use Rattle.mb_queue.specs.Passes.{Sending, Taking}
 use Rattle.mb_home.specs.Settled.{IsOwn}
 use Rattle.mb_home.specs.Steps.{at_first}
 use Rattle.mb_build.specs.Handed.{passes_of}
 use Rattle.mb_build.specs.Housed.{enrolled}
-use Rattle.mb_build.specs.Identities.{ArePlanned, IsPlanned}
+use Rattle.mb_build.specs.Identities.{IsPlanned}
 use Rattle.mb_build.specs.Made.{AreEmpty, AreMade}
-use Rattle.mb_build.specs.Numbers.{sender_numbers}
 use Rattle.mb_build.specs.Unstarted.{unstarted}
 use Rattle.mb_build.proofs.RollLemmas.{enrolled-there, length-enrolled, queues-enrolled}
 
@@ -96,7 +92,8 @@ pub own-first : (kinds : List Kind) (senders : List ℕ) (guardian : Taking) (ta
 own-first kinds senders guardian takes rows whos place who t whos' takes' made many planned here this =
     let number : who.this.0 ≡ place = ap (λ x. x.0) planned.this in
     let pass = pass-of kinds senders guardian takes rows place t takes' made this in record {
-      enrolled = ap (slice_get (enrolled whos (guardian ∷ takes))) number ∙ enrolled-there whos (guardian ∷ takes) place who t whos' takes' here this;
+      enrolled = ap (slice_get (enrolled whos (guardian ∷ takes))) number
+          ∙ enrolled-there whos (guardian ∷ takes) place who t whos' takes' here this;
       all_there = planned.actors_are ∙ sym (length-enrolled whos (guardian ∷ takes) many);
       few = planned.few;
       not_zero = λ plain. subst (λ n. 0 < n) (sym number) (others-later who place planned.guardian_is plain);

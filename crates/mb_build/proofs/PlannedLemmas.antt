@@ -1,16 +1,15 @@
 -- Plans that were found right.
-use Rattle.std.proofs.Common.{◌≡◌, ◌≤◌, ◌<◌, ◌^◌, ◌==◌, ℕ, suc, ◌+◌, Bool, true, false, if◌then◌else◌, List, [], ◌∷◌, ◌++◌, length, map, refl, arith}
+use Rattle.std.proofs.Common.{◌≡◌, ◌≤◌, ◌<◌, ◌^◌, ◌==◌, ℕ, ◌+◌, Bool, true, false, if◌then◌else◌, List, [], ◌∷◌, ◌++◌, length, map, refl, arith}
 use Rattle.std.specs.Prelude.{All, nat_lt}
 use Rattle.std.proofs.lemmas.Bool.Decides.{nat_tests}
 use Rattle.std.proofs.lemmas.List.{length-map}
 use Rattle.std.proofs.lemmas.List.Elements.{All-cons, All-nil}
 use Rattle.mb_msg.specs.declared.id.ActorId.{ActorId}
-use Rattle.mb_journal.specs.Identity.{Identity}
 use Rattle.mb_plan.specs.declared.actor_plan.ActorPlan.{ActorPlan}
 use Rattle.mb_queue.specs.declared.kind.Kind.{Kind}
 use Rattle.mb_queue.specs.Made.{IsMakeable}
 use Rattle.mb_rule.specs.Seen.{Each}
-use Rattle.mb_build.specs.Identities.{ArePlanned, IsPlanned, children_from, guardian, id, identities, planned, planned_from}
+use Rattle.mb_build.specs.Identities.{ArePlanned, children_from, id, identities, planned_from}
 use Rattle.mb_build.specs.Kinds.{AreQueues}
 use Rattle.mb_build.specs.Reasons.{bad_bounds, bad_parents, may_be_bound, unless}
 use Rattle.mb_build.specs.declared.check.PlanError.{PlanError}

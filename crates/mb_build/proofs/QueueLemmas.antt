@@ -1,8 +1,8 @@
 -- Queues that are made one by one.
-use Rattle.std.proofs.Common.{◌≡◌, ℕ, zero, suc, ◌+◌, List, [], ◌∷◌, ◌++◌, length, map, take, drop, replicate, refl, sym, ap, ◌∙◌, subst, arith}
+use Rattle.std.proofs.Common.{◌≡◌, ℕ, suc, ◌+◌, List, [], ◌∷◌, ◌++◌, length, map, take, drop, replicate, refl, sym, ap, ◌∙◌, subst, arith}
 use Rattle.mb_lane.specs.Ledger.{lent}
 use Rattle.mb_queue.specs.declared.kind.Kind.{Kind}
-use Rattle.mb_queue.specs.Made.{IsEmpty, IsNew, unused}
+use Rattle.mb_queue.specs.Made.{IsEmpty, unused}
 use Rattle.mb_queue.specs.Passes.{Sending, Taking}
 use Rattle.mb_build.specs.Handed.{handed, passes_of}
 use Rattle.mb_build.specs.Made.{AreEmpty}

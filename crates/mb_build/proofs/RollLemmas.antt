@@ -5,7 +5,7 @@ use Rattle.std.specs.Prelude.{slice_get, MatchOption, Option, Some, None}
 use Rattle.std.proofs.lemmas.List.{map_push, nil_from_length}
 use Rattle.std.proofs.lemmas.Option.{none-some}
 use Rattle.mb_journal.specs.Identity.{Identity}
-use Rattle.mb_queue.specs.Passes.{Queue, Taking}
+use Rattle.mb_queue.specs.Passes.{Taking}
 use Rattle.mb_home.specs.Roll.{Enrolled, queues_of}
 use Rattle.mb_build.specs.Housed.{enrolled}
 use Rattle.mb_build.specs.Identities.{ArePlanned, IsPlanned}

@@ -97,7 +97,8 @@ fn homes<A: Actor, K: Behaviours>(
     roll: &Vec<Named<A, K>>,
 ) -> Result<Housed<A, K>, AllocError>
     requires few { length cells.items ≤ 64 }
-    requires cells { (cells.items ≡ map unstarted (map (λ c. c.who) cells.items)) × ArePlanned (length cells.items) 0 (map (λ c. c.who) cells.items) }
+    requires cells { (cells.items ≡ map unstarted (map (λ c. c.who) cells.items))
+        × ArePlanned (length cells.items) 0 (map (λ c. c.who) cells.items) }
     requires made { (kinds : List Kind) × (outside : ℕ) × (length cells.items ≡ length kinds + 1) × (outside ≤ 16)
         × AreMade kinds (sender_numbers (length cells.items) outside) guardian takes.items (map (λ row. row.items) senders.items) }
     requires roll { map (λ n. record { who = n.cell.value.who; queue = n.take.value.queue; turns = n.take.value.turns }) roll.now.items

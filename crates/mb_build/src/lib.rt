@@ -14,9 +14,3 @@ mod queues;
 
 pub use check::{PlanError, check_plan};
 pub use homes::{Housed, house};
-
-#[cfg(test)]
-mod tests {
-    #[test]
-    fn nothing() {}
-}

@@ -1,4 +1,4 @@
-use Rattle.std.proofs.Common.{rules, ◌≡◌, ◌<◌, ◌+◌, ◌++◌, ◌∷◌, [], ℕ, List, length, drop, refl, sym, ap, ◌∙◌, subst, arith}
+use Rattle.std.proofs.Common.{rules, ◌≡◌, ◌<◌, ◌+◌, ◌++◌, ◌∷◌, [], length, drop, refl, sym, ap, ◌∙◌, subst, arith}
 use Rattle.std.specs.Prelude.{All}
 use Rattle.std.specs.Vec.Iter.{into_iter_items}
 use Rattle.std.proofs.lemmas.List.{length_push}
@@ -23,9 +23,9 @@ new-requires-clause-allows g c =
     let at = c.loop-actor in let place : c.len-number.result ≡ length at.cells.items = search rules in
     let steps : into_iter_items at.actor-iterator ≡ c.in-Some.actor ∷ into_iter_items c.next.new.self = c.in-Some.ensures.steps.0 in
     let behaved = subst (AreBehaved g.A.Actor.content g.A.Actor.after g.A.Actor.gives g.K.Behaviours.after g.K.Behaviours.gives
-        (length at.cells.items)) steps at.invariant.behaved in
+    (length at.cells.items)) steps at.invariant.behaved in
     let this = subst (λ n. AreBehaved g.A.Actor.content g.A.Actor.after g.A.Actor.gives g.K.Behaviours.after g.K.Behaviours.gives n
-        (c.in-Some.actor ∷ into_iter_items c.next.new.self)) (sym place) behaved in
+    (c.in-Some.actor ∷ into_iter_items c.next.new.self)) (sym place) behaved in
     this.0.allows
 
 pub loop-actor-preserved : goal.loop-actor-preserved
@@ -33,7 +33,8 @@ loop-actor-preserved g c =
     let at = c.loop-actor in let actor = c.in-Some.actor in let rest = into_iter_items c.next.new.self in
     let parents = c.args.parents.now in let new = c.push-in-loop-actor.new.self.items in
     let steps : into_iter_items at.actor-iterator ≡ actor ∷ rest = c.in-Some.ensures.steps.0 in
-    let lines : into_iter_items at.strategies ≡ c.in-Some-next.strategy ∷ into_iter_items c.next-in-loop-actor.new.self = c.in-Some-next.ensures.items in
+    let lines : into_iter_items at.strategies ≡ c.in-Some-next.strategy ∷ into_iter_items c.next-in-loop-actor.new.self
+    = c.in-Some-next.ensures.items in
     let pushed : new ≡ at.cells.items ++ c.new.result ∷ [] = c.in_ok-push-2.ensures.items in
     let place : c.len-number.result ≡ length at.cells.items = search rules in
     let count = at.invariant.count in let as_many = at.invariant.as_many in let left = at.invariant.left in
@@ -43,7 +44,7 @@ loop-actor-preserved g c =
     let within : length at.yielded < length parents = omega (arith, left, one) in
     let number : c.len-number.result ≡ length at.yielded + 1 = omega (arith, place, count) in
     let behaved = subst (AreBehaved g.A.Actor.content g.A.Actor.after g.A.Actor.gives g.K.Behaviours.after g.K.Behaviours.gives
-        (length at.cells.items)) steps at.invariant.behaved in record {
+    (length at.cells.items)) steps at.invariant.behaved in record {
       whole = cell-more (length parents + 1) c.args.journal_limit parents (drop (length at.yielded) parents)
           (drop (length (at.yielded ++ actor ∷ [])) parents) (length at.cells.items) (length new) _ c.in-Some-next.strategy
           (into_iter_items at.strategies) (into_iter_items c.next-in-loop-actor.new.self) at.cells.items new c.new.result _

@@ -1,8 +1,7 @@
-use Rattle.std.proofs.Common.{rules, ◌≡◌, ◌==◌, ◌++◌, ◌∷◌, [], ◌∙◌, true, false, List, length, sym, ap, arith}
+use Rattle.std.proofs.Common.{rules, ◌≡◌, ◌==◌, ◌++◌, ◌∙◌, true, false, length, sym, ap, arith}
 use Rattle.std.specs.Prelude.{nat_lt}
 use Rattle.std.proofs.lemmas.Bool.Decides.{nat_tests}
-use Rattle.mb_build.specs.Reasons.{bad_bounds, bad_numbers, bad_parents, unless}
-use Rattle.mb_build.specs.declared.check.PlanError.{PlanError}
+use Rattle.mb_build.specs.Reasons.{bad_bounds, bad_numbers, bad_parents}
 use Rattle.mb_build.specs.declared.check.PlanError.TheVariants.{Actors, Boxes}
 use Rattle.mb_build.proofs.ReasonLemmas.{is_first, is_none_here}
 use Rattle.mb_build.proofs.check.check_plan.Goals as goal

@@ -1,5 +1,5 @@
-use Rattle.std.proofs.Common.{rules, ◌≡◌, ◌<◌, ◌+◌, ◌++◌, ◌∷◌, [], ℕ, suc, List, length, map, take, drop, refl, sym, ap, ◌∙◌, subst, append_assoc, arith}
-use Rattle.std.specs.Prelude.{All, slice_get, Option, Some, None}
+use Rattle.std.proofs.Common.{rules, ◌≡◌, ◌+◌, ◌++◌, ◌∷◌, [], suc, List, length, map, take, drop, sym, ap, ◌∙◌, subst, append_assoc, arith}
+use Rattle.std.specs.Prelude.{All, slice_get, None}
 use Rattle.std.specs.Global.{Box}
 use Rattle.std.specs.Vec.Iter.{into_iter_items}
 use Rattle.std.proofs.lemmas.List.{append-nil, drop-map, length_push, map_push, nil_from_length, take_all}
@@ -40,7 +40,7 @@ unreachable-requires g c =
     let rows = map (λ row. row.items) c.args.senders.items in let rest = into_iter_items c.next.new.self in
     let steps : into_iter_items at.cell-iterator ≡ c.in-Some.cell ∷ rest = c.in-Some.ensures.steps.0 in
     let lt = here.place-in cells made.0 made.1 c.args.guardian c.args.takes.items rows c.requires.cells.0 c.requires.cells.1 made.2 made.4
-        at.yielded c.in-Some.cell rest (length at.homes.items) (ap (λ l. at.yielded ++ l) (sym steps) ∙ at.invariant.cells) at.invariant.count in
+    at.yielded c.in-Some.cell rest (length at.homes.items) (ap (λ l. at.yielded ++ l) (sym steps) ∙ at.invariant.cells) at.invariant.count in
     let count = here.passes-count cells made.0 made.1 c.args.guardian c.args.takes.items rows c.requires.cells.0 c.requires.cells.1 made.2 made.4 in
     let none : slice_get ways (length at.homes.items) ≡ None = sym at.invariant.next ∙ sym c.replace.ensures.value ∙ c.in_default.is in
     none-some _ (sym none ∙ slice_get-get_or ways (length at.homes.items) c.args.guardian (omega (arith, lt, count)))
@@ -57,7 +57,7 @@ unreachable-requires-in_default-next g c =
     let empty : drop place rows ≡ [] =
     drop-map (λ r. r.items) place c.args.senders.items ∙ ap (map (λ r. r.items)) (sym at.invariant.senders ∙ none) in
     here.rows-left cells made.0 made.1 guardian takes rows c.requires.cells.0 c.requires.cells.1 made.2 made.4
-        at.yielded cell rest place all at.invariant.count empty
+    at.yielded cell rest place all at.invariant.count empty
 
 pub new-home-requires-clause-number : goal.new-home-requires-clause-number
 new-home-requires-clause-number g c =
@@ -68,7 +68,7 @@ new-home-requires-clause-number g c =
     let all = ap (λ l. at.yielded ++ l) (sym steps) ∙ at.invariant.cells in
     let number : c.len-in-loop-cell.result ≡ place = search rules in
     let planned = here.planned-here cells made.0 made.1 guardian takes rows c.requires.cells.0 c.requires.cells.1 made.2 made.4
-        at.yielded cell rest place all at.invariant.count in
+    at.yielded cell rest place all at.invariant.count in
     ap id number ∙ sym planned.this
 
 pub new-home-requires-clause-untouched : goal.new-home-requires-clause-untouched
@@ -79,7 +79,7 @@ new-home-requires-clause-untouched g c =
     let steps : into_iter_items at.cell-iterator ≡ cell ∷ rest = c.in-Some.ensures.steps.0 in
     let all = ap (λ l. at.yielded ++ l) (sym steps) ∙ at.invariant.cells in
     let is = here.unstarted-there cells made.0 made.1 guardian takes rows c.requires.cells.0 c.requires.cells.1 made.2 made.4
-        at.yielded cell rest place all at.invariant.count in
+    at.yielded cell rest place all at.invariant.count in
     (ap (λ (x : Seen). x.journal) is, ap (λ (x : Seen). x.acts) is)
 
 pub new-home-requires-clause-none_taken : goal.new-home-requires-clause-none_taken
@@ -92,7 +92,7 @@ new-home-requires-clause-none_taken g c =
     let take' = c.in-Some-replace.take in
     let this = drop-there place ways take' (sym at.invariant.next ∙ sym c.replace.ensures.value ∙ c.in-Some-replace.is) in
     let pass = here.pass-there cells made.0 made.1 guardian takes rows c.requires.cells.0 c.requires.cells.1 made.2 made.4
-        at.yielded cell rest place all at.invariant.count take' (drop (suc place) ways) this in
+    at.yielded cell rest place all at.invariant.count take' (drop (suc place) ways) this in
     pass.taken
 
 pub new-home-requires-clause-none_pushed : goal.new-home-requires-clause-none_pushed
@@ -107,7 +107,7 @@ new-home-requires-clause-none_pushed g c =
     let row : drop place rows ≡ sends.items ∷ map (λ r. r.items) (into_iter_items c.next-in-loop-cell-2.new.self) =
     drop-map (λ r. r.items) place c.args.senders.items ∙ ap (map (λ r. r.items)) (sym at.invariant.senders ∙ lines) in
     let is = here.row-there cells made.0 made.1 guardian takes rows c.requires.cells.0 c.requires.cells.1 made.2 made.4
-        at.yielded cell rest place all at.invariant.count sends.items _ row in
+    at.yielded cell rest place all at.invariant.count sends.items _ row in
     subst (All (λ (p : Sending). p.pushed ≡ [])) (sym is) (all-unused takes place)
 
 pub new-home-requires-clause-own : goal.new-home-requires-clause-own
@@ -125,7 +125,7 @@ new-home-requires-clause-own g c =
     drop-map (λ r. r.items) place c.args.senders.items ∙ ap (map (λ r. r.items)) (sym at.invariant.senders ∙ lines) in
     subst (λ l. IsOwn (at_first cell take' sends.items 0 l)) (sym c.requires.roll)
     (here.own-there cells made.0 made.1 guardian takes rows c.requires.cells.0 c.requires.cells.1 made.2 made.4
-        at.yielded cell rest place all at.invariant.count take' (drop (suc place) ways) this sends.items _ row)
+    at.yielded cell rest place all at.invariant.count take' (drop (suc place) ways) this sends.items _ row)
 
 pub loop-cell-preserved : goal.loop-cell-preserved
 loop-cell-preserved g c =
@@ -148,20 +148,21 @@ loop-cell-preserved g c =
     let count = at.invariant.count in
     let next : suc place ≡ length new = omega (arith, longer) in
     let taken = next-taken takes place (into_iter_items at.takes) (into_iter_items c.next-in-loop-cell.new.self) at.takes.rest.len
-        c.next-in-loop-cell.new.self.rest.len c.next-in-loop-cell.result at.invariant.takes at.takes.rest.ok.0
-        c.next-in-loop-cell.new.self.rest.ok.0 c.next-in-loop-cell.ensures.cases in
+    c.next-in-loop-cell.new.self.rest.len c.next-in-loop-cell.result at.invariant.takes at.takes.rest.ok.0
+    c.next-in-loop-cell.new.self.rest.ok.0 c.next-in-loop-cell.ensures.cases in
     let is = here.unstarted-there cells made.0 made.1 guardian takes rows c.requires.cells.0 c.requires.cells.1 made.2 made.4
-        at.yielded cell rest place all at.invariant.count in
+    at.yielded cell rest place all at.invariant.count in
     let passes = here.row-there cells made.0 made.1 guardian takes rows c.requires.cells.0 c.requires.cells.1 made.2 made.4
-        at.yielded cell rest place all at.invariant.count sends.items _ row in
+    at.yielded cell rest place all at.invariant.count sends.items _ row in
     let planned = here.planned-here cells made.0 made.1 guardian takes rows c.requires.cells.0 c.requires.cells.1 made.2 made.4
-        at.yielded cell rest place all at.invariant.count in
+    at.yielded cell rest place all at.invariant.count in
     let sum : place ≡ 0 + place = omega arith in
     let same : box.value ≡ home = c.in_ok-new.ensures.ok in
-    let settled = subst (λ n. IsSettled (g.K.Behaviours.gives n) [] home) (ap (λ (x : ActorId). x.0) planned.this ∙ sum) c.new-home.ensures.settled in
+    let settled = subst (λ n. IsSettled (g.K.Behaviours.gives n) [] home) (ap (λ (x : ActorId). x.0) planned.this ∙ sum)
+    c.new-home.ensures.settled in
     let homes_first = first-more roll takes 0 (whose at.yielded) cell.who (take place ways) take' at.homes.items box at.invariant.first
-        (as-made box.value home cell take' sends.items (passes_of takes (0 + place)) _ roll cell.who same c.new-home.ensures.first is
-        (passes ∙ ap (passes_of takes) sum) c.requires.roll) in record {
+    (as-made box.value home cell take' sends.items (passes_of takes (0 + place)) _ roll cell.who same c.new-home.ensures.first is
+    (passes ∙ ap (passes_of takes) sum) c.requires.roll) in record {
       cells = append_assoc at.yielded (cell ∷ []) rest ∙ all;
       count = omega (arith, longer, further, count);
       next = c.replace.ensures.after ∙ taken.0 ∙ ap (slice_get ways) next;
