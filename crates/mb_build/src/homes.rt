@@ -23,13 +23,16 @@ use std::alloc::{AllocError, Global};
 use std::mem;
 use std::snapshot::Snapshot;
 
-/// The homes of all actors, the guardian's first, and for each sender outside its passes into the queues from actor 1 on.
+/// What a system begins with.
 pub struct Housed<A: Actor, K: Behaviours> {
+    /// The homes of all actors by number, the guardian's first.
     pub homes: Vec<Box<Home<A, K>>>,
+    /// For each sender outside, in order, its passes into the queues from actor 1 on.
     pub outside: Vec<Vec<SendPass>>,
 }
 
-/// The homes of the guardian and of these actors, to none of which anything came yet, as they are planned.
+/// The homes of the guardian and of these actors, to none of which anything came yet, as they are planned (Akka has a cell with
+/// a mailbox for each actor; that all are made at once is this project's own profile). `AllocError` where memory was refused.
 pub fn house<A: Actor, K: Behaviours>(
     alloc: Global,
     plans: Vec<ActorPlan>,

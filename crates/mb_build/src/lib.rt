@@ -1,8 +1,8 @@
 //! What a system of actors begins with: the plan is checked, and each actor gets its queue, its cell and its home.
 //!
 //! The first reason for which a plan is refused is the answer. The homes are the plan's: each of its actor's number, parent,
-//! strategy and limit, over the very actor that was handed in, with an empty queue of its kind and a pass into the queue of
-//! every other.
+//! children, strategy and limit, over an actor handed in that does what is said of that number, with an empty queue of its kind
+//! and a pass into the queue of each actor. Nobody has a pass into the guardian's.
 #![tactic(auto)]
 
 mod cells;
