@@ -1,16 +1,16 @@
 //! A whole run on one thread, also of boxed actors of mixed kinds.
-use crate::build::BuildError;
-use crate::built::Built;
-use crate::failure::{RunError, of_sending};
-use crate::finish::{FinishError, Mismatch};
-use crate::job::{Order, What};
-use crate::sender::Sender;
-use crate::system::System;
+ghost use Rattle.std.specs.Prelude.{◌≡◌, [], All, IfOk, map};
+ghost use Rattle.mb_build.specs.Behaved.{AreBehaved};
+ghost use Rattle.mb_dispatch.specs.Story.{IsStory, after_at, gives_at};
+
+use crate::ending::{FinishError, finish};
 use mb_actor::{Actor, Behaviours};
 use mb_build::PlanError;
 use mb_msg::ActorId;
 use mb_plan::Plan;
+use mb_reckon::Mismatch;
 use mb_report::Report;
+use mb_system::{BuildError, Built, Order, RunError, System};
 use std::alloc::Global;
 use std::marker::Brand;
 use std::sync::Wait;
@@ -31,25 +31,47 @@ pub enum WholeError {
 }
 
 /// Builds a system from a plan and boxed actors of any kinds, sends by each sender outside what stands at its place, runs it on
-/// this thread alone until nothing is left to run, and ends it: the report.
+/// this thread alone until nothing is left to run, and ends it: the report. No message came to any of the actors yet.
 pub fn run_boxed<R: Wait>(
     rt: &R,
     alloc: Global,
     plan: Plan,
     actors: Vec<Box<dyn Actor + Send>>,
     sends: &[Vec<Order>],
-) -> Result<Report, WholeError> {
-    run_whole::<Box<dyn Actor + Send>, Brand, R>(rt, alloc, plan, actors, sends)
+) -> Result<Report, WholeError>
+    requires unused { All (λ actor. content actor ≡ after actor []) actors.items }
+    ensures story { IfOk result (IsStory (after_at actors.items after) (gives_at actors.items gives) plan
+        (map (λ orders. orders.items) sends.now)) }
+{
+    run_whole::<Box<dyn Actor + Send>, R>(rt, alloc, plan, actors, sends)
 }
 
 /// The same of actors of one type.
-pub fn run_whole<A: Actor, K: Behaviours, R: Wait>(
+pub fn run_whole<A: Actor, R: Wait>(
     rt: &R,
     alloc: Global,
     plan: Plan,
     actors: Vec<A>,
     sends: &[Vec<Order>],
-) -> Result<Report, WholeError> {
+) -> Result<Report, WholeError>
+    requires unused { All (λ actor. A.content actor ≡ A.after actor []) actors.items }
+    ensures story { IfOk result (IsStory (after_at actors.items A.after) (gives_at actors.items A.gives) plan
+        (map (λ orders. orders.items) sends.now)) }
+{
+    run_planned::<A, Brand, R>(rt, alloc, plan, actors, sends)
+}
+
+// The same where it is known what the actor of each number does.
+fn run_planned<A: Actor, K: Behaviours, R: Wait>(
+    rt: &R,
+    alloc: Global,
+    plan: Plan,
+    actors: Vec<A>,
+    sends: &[Vec<Order>],
+) -> Result<Report, WholeError>
+    requires behaved { AreBehaved A.content A.after A.gives K.after K.gives 1 actors.items }
+    ensures story { IfOk result (IsStory K.after K.gives plan (map (λ orders. orders.items) sends.now)) }
+{
     let mut built = match System::<A, K>::build(rt, alloc, plan, actors) {
         Ok(built) => built,
         Err(BuildError::BadPlan(reason, _, _)) => return Err(WholeError::BadPlan(reason)),
@@ -58,7 +80,7 @@ pub fn run_whole<A: Actor, K: Behaviours, R: Wait>(
     if let Err(error) = send_and_run(rt, &mut built, sends) {
         return Err(WholeError::Run(error));
     }
-    match built.finish(rt) {
+    match finish(rt, built) {
         Ok(report) => Ok(report),
         Err(FinishError::NotQuiet(id, _)) => Err(WholeError::NotQuiet(id)),
         Err(FinishError::Mismatch(mismatch)) => Err(WholeError::Mismatch(mismatch)),
@@ -81,29 +103,10 @@ fn send_and_run<A: Actor, K: Behaviours, R: Wait>(
         senders,
     } = built;
     for (sender, orders) in senders.iter_mut().zip(sends) {
-        send_each(rt, system, sender, orders)?;
+        sender.send_all(rt, system, orders)?;
     }
     if let Some(first) = ends.first_mut() {
         let _turns = first.run_quietly(rt, system)?;
-    }
-    Ok(())
-}
-
-// Sends what one sender has to send.
-fn send_each<A: Actor, K: Behaviours, R: Wait>(
-    rt: &R,
-    system: &System<A, K>,
-    sender: &mut Sender<A, K>,
-    orders: &[Order],
-) -> Result<(), RunError> {
-    for order in orders {
-        let sent = match order.what {
-            What::Tell(body) => sender.tell(rt, system, order.to, body).err(),
-            What::Stop => sender.stop(rt, system, order.to).err(),
-        };
-        if let Some(error) = sent {
-            return Err(of_sending(error));
-        }
     }
     Ok(())
 }

@@ -1,0 +1,140 @@
+//! A worker's end of a system.
+ghost use Rattle.std.specs.Prelude.{◌≡◌, ◌<◌, ◌≤◌, ℕ, false, List, All, IfNone, IfSome, IsErrOf, MatchResult, OnOk, Some, length};
+ghost use Rattle.mb_journal.specs.Entry.{Entry};
+ghost use Rattle.mb_journal.specs.Run.{Stopped};
+ghost use Rattle.mb_journal.specs.Run.Stopped.{NoRoom};
+ghost use Rattle.mb_gate.specs.Names.{actors_of, held_actor, known_by};
+ghost use Rattle.mb_gate.specs.Untouched.{origin_of};
+ghost use Rattle.mb_pool.specs.Places.{gates_of, looks};
+ghost use Rattle.mb_pool.specs.Moves.{WasEmpty};
+ghost use Rattle.mb_turn.specs.Caller.{IsPaid, LeavesCaller};
+ghost use Rattle.mb_turn.specs.Fresh.{IsFreshClaim};
+ghost use Rattle.mb_turn.specs.Ran.{HadRoom, LeavesRun};
+ghost use Rattle.mb_turn.specs.declared.turn.Turn.{Turn as TurnType};
+ghost use Rattle.mb_wake.specs.Owed.{is_owed};
+ghost use Rattle.mb_wake.specs.Views.{LooksAfter};
+ghost use Rattle.mb_wake.specs.Waking.{IsWoken};
+ghost use Rattle.mb_system.specs.Members.{end_caller, IsEndOf};
+
+use crate::failure::{RunError, of_debts};
+use crate::system::System;
+use mb_actor::{Actor, Behaviours};
+use mb_gate::{Claim, Pass};
+use mb_journal::ReadyError;
+use mb_msg::ActorId;
+use mb_turn::{Place, Turn, run_mailbox};
+use mb_wake::Waker;
+use mb_ways::EndWay;
+use std::sync::Wait;
+
+/// A worker's end of a system: with its way into the pool of claims, what it knows of the actors, and whom it owes a look. A
+/// thread of its own may have it.
+pub struct WorkerEnd<A: Actor, K: Behaviours> {
+    pub number: u32,
+    pub waker: Waker<Place<A, K>, EndWay<Place<A, K>>>,
+}
+
+impl<A: Actor, K: Behaviours> Drop for WorkerEnd<A, K> {
+    fn drop(self) {
+        let WorkerEnd { number: _, waker } = self;
+        let Waker {
+            pass: _,
+            way: _,
+            owed: _,
+        } = waker;
+    }
+}
+
+impl<A: Actor, K: Behaviours> WorkerEnd<A, K> {
+    /// What the end knows; its way into the pool is let go.
+    pub fn into_pass(self) -> Pass<Place<A, K>>
+        ensures { result ≡ self.waker.pass }
+    {
+        let WorkerEnd { number: _, waker } = self;
+        let Waker {
+            pass,
+            way: _,
+            owed: _,
+        } = waker;
+        pass
+    }
+
+    /// Gives the claim of the actor to the pool, where the actor has to be given to a worker
+    /// (`Dispatcher.registerForExecution`), and answers whether it did.
+    pub fn register<R: Wait>(
+        &mut self,
+        rt: &R,
+        system: &System<A, K>,
+        id: ActorId,
+        messages: bool,
+        systems: bool,
+    ) -> bool
+        requires ours { IsEndOf system.now.gates self.old.waker }
+        requires there { id.0 < actors_of system.now.gates }
+        ensures ours { IsEndOf system.now.gates self.new.waker }
+        ensures looks { LooksAfter id.0 (known_by self.old.waker.pass) (known_by self.new.waker.pass) }
+        ensures paid { IsPaid id.0 (end_caller self.new.waker) }
+        ensures woken { IsWoken id.0 (end_caller self.old.waker).account (end_caller self.new.waker).account result }
+        ensures leaves { LeavesCaller (end_caller self.old.waker) (end_caller self.new.waker) }
+        ensures number { self.new.number ≡ self.old.number }
+    {
+        self.waker
+            .register(rt, &system.gates, id, messages, systems)
+    }
+
+    /// Does so for all actors, in the order of their numbers.
+    pub fn register_all<R: Wait>(&mut self, rt: &R, system: &System<A, K>)
+        requires ours { IsEndOf system.now.gates self.old.waker }
+        ensures ours { IsEndOf system.now.gates self.new.waker }
+        ensures number { self.new.number ≡ self.old.number }
+    {
+        for number in 0..system.gates.actors() {
+            self.register(rt, system, ActorId(number as u32), false, false);
+        }
+    }
+
+    /// Takes a claim out of the pool; `None` only if each place in which it looks was empty at a moment.
+    pub fn take<R: Wait>(&mut self, rt: &R) -> Option<Claim<Place<A, K>>>
+        ensures fit { IfSome result (IsFreshClaim K.gives (gates_of self.old.waker.way.end)) }
+        ensures none { IfNone result (All (WasEmpty (IsFreshClaim K.gives)) (looks self.old.waker.way.end)) }
+        ensures same { (self.new.waker.pass ≡ self.old.waker.pass) × (self.new.waker.owed ≡ self.old.waker.owed)
+            × (gates_of self.new.waker.way.end ≡ gates_of self.old.waker.way.end) × (self.new.number ≡ self.old.number) }
+    {
+        self.waker.way.take(rt)
+    }
+
+    /// Runs the mailbox of the claim's actor (`Mailbox.run`).
+    pub fn run_mailbox<R: Wait>(
+        &mut self,
+        rt: &R,
+        system: &System<A, K>,
+        claim: Claim<Place<A, K>>,
+    ) -> Result<Turn, ReadyError>
+        requires ours { IsEndOf system.now.gates self.old.waker }
+        requires untouched { IsFreshClaim K.gives (Some (origin_of system.now.gates)) claim }
+        ensures ours { IsEndOf system.now.gates self.new.waker }
+        ensures leaves { LeavesCaller (end_caller self.old.waker) (end_caller self.new.waker) }
+        ensures paid { IsPaid (held_actor claim) (end_caller self.new.waker) }
+        ensures ran { (journal : List Entry) × MatchResult result
+            (λ turn. (stopped : Stopped) × HadRoom stopped × LeavesRun system.now.throughput claim (known_by self.new.waker.pass) journal turn
+            stopped)
+            (λ _. (turn : TurnType) × LeavesRun system.now.throughput claim (known_by self.new.waker.pass) journal turn NoRoom
+            × (IsErrOf result ReadyError.JournalFull → claim.home.value.cell.who.limit ≤ length journal)) }
+        ensures number { self.new.number ≡ self.old.number }
+    {
+        run_mailbox(rt, &system.gates, &mut self.waker, system.throughput, claim)
+    }
+
+    /// Looks again after each actor that it owes a look.
+    pub fn pay<R: Wait>(&mut self, rt: &R, system: &System<A, K>) -> Result<(), RunError>
+        requires ours { IsEndOf system.now.gates self.old.waker }
+        ensures ours { IsEndOf system.now.gates self.new.waker }
+        ensures done { OnOk result ((id : ℕ) → id < actors_of system.now.gates → is_owed self.new.waker.owed id ≡ false) }
+        ensures number { self.new.number ≡ self.old.number }
+    {
+        match self.waker.pay(rt, &system.gates) {
+            Ok(()) => Ok(()),
+            Err(error) => Err(of_debts(error)),
+        }
+    }
+}

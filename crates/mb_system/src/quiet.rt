@@ -1,0 +1,56 @@
+//! Running on one thread alone.
+ghost use Rattle.std.specs.Prelude.{◌≡◌, All, OnOk};
+ghost use Rattle.std.specs.Global.{Box};
+ghost use Rattle.mb_home.specs.Contents.{Contents};
+ghost use Rattle.mb_pool.specs.Moves.{WasEmpty};
+ghost use Rattle.mb_pool.specs.Places.{Way, gates_of, looks};
+ghost use Rattle.mb_turn.specs.Fresh.{IsFreshClaim};
+ghost use Rattle.mb_wake.specs.Owed.{IsNobody};
+ghost use Rattle.mb_system.specs.Members.{IsEndOf};
+
+use crate::end::WorkerEnd;
+use crate::failure::{RunError, of_turn};
+use crate::system::System;
+use mb_actor::{Actor, Behaviours};
+use mb_turn::Turn;
+use std::sync::Wait;
+
+impl<A: Actor, K: Behaviours> WorkerEnd<A, K> {
+    /// Runs claims on this thread alone, until none is there: the turns, in order. All actors are registered first.
+    ///
+    /// It answers `JournalFull` or `NoMemory` as a turn does, and `NoMemory` also if there was no room for one more turn, or the
+    /// pool refused a claim again. What was done stays done, and the same call goes on.
+    pub fn run_quietly<R: Wait>(
+        &mut self,
+        rt: &R,
+        system: &System<A, K>,
+    ) -> Result<Vec<Turn>, RunError>
+        requires ours { IsEndOf system.now.gates self.old.waker }
+        ensures ours { IsEndOf system.now.gates self.new.waker }
+        ensures paid { OnOk result (IsNobody self.new.waker.owed) }
+        ensures empty { OnOk result ((end : Way (Box Contents)) × (gates_of end ≡ gates_of self.new.waker.way.end)
+            × All (WasEmpty (IsFreshClaim K.gives)) (looks end)) }
+        ensures number { self.new.number ≡ self.old.number }
+    {
+        self.register_all(rt, system);
+        let mut turns = Vec::new(system.alloc);
+        for _ in rt.forever() {
+            if turns.reserve(1).is_err() {
+                return Err(RunError::NoMemory);
+            }
+            match self.take(rt) {
+                Some(claim) => match self.run_mailbox(rt, system, claim) {
+                    Ok(turn) => turns.push_reserved(turn),
+                    Err(error) => return Err(of_turn(error)),
+                },
+                None => {
+                    if self.waker.owed.is_empty() {
+                        return Ok(turns);
+                    }
+                    self.pay(rt, system)?;
+                }
+            }
+        }
+        unreachable!()
+    }
+}

@@ -1,0 +1,159 @@
+//! A sender outside the actors.
+ghost use Rattle.std.specs.Prelude.{◌≡◌, ◌⊎◌, ◌<◌, ◌≤◌, true, false, IfOk, IsErrOf, OnErr, OnOk};
+ghost use Rattle.mb_core.specs.Actor.{nothing};
+ghost use Rattle.mb_gate.specs.Names.{actors_of, known_by};
+ghost use Rattle.mb_gate.specs.View.{owes};
+ghost use Rattle.mb_send.specs.Answers.{IsSeen, IsSent, IsTold, Stops};
+ghost use Rattle.mb_send.specs.declared.unsent.Unsent.TheVariants as Refusal;
+ghost use Rattle.mb_wake.specs.Owed.{is_owed};
+ghost use Rattle.mb_system.specs.Members.{IsSenderOf};
+ghost use Rattle.mb_system.specs.Orders.{OwesNobody};
+
+use crate::failure::{RunError, of_debts};
+use crate::system::System;
+use mb_actor::{Actor, Behaviours};
+use mb_gate::Pass;
+use mb_msg::{ActorId, Body};
+use mb_queue::SendPass;
+use mb_send::{Book, Look, Put, Ticket, Unsent};
+use mb_turn::Place;
+use mb_wake::Waker;
+use mb_ways::FeedWay;
+use std::sync::Wait;
+
+/// A sender outside the actors of a system. A thread of its own may have it.
+pub struct Sender<A: Actor, K: Behaviours> {
+    pub inner: mb_send::Sender<Place<A, K>, FeedWay<Place<A, K>>>,
+}
+
+impl<A: Actor, K: Behaviours> Drop for Sender<A, K> {
+    fn drop(self) {
+        let Sender { inner } = self;
+        let mb_send::Sender {
+            waker,
+            sends: _,
+            book: _,
+            alloc: _,
+        } = inner;
+        let Waker {
+            pass: _,
+            way: _,
+            owed: _,
+        } = waker;
+    }
+}
+
+impl<A: Actor, K: Behaviours> Sender<A, K> {
+    /// What the sender knows, its passes into the queues, and what it was answered; its way into the pool is let go.
+    pub fn into_parts(self) -> (Pass<Place<A, K>>, Vec<SendPass>, Book)
+        ensures { (result.0 ≡ self.inner.waker.pass) × (result.1 ≡ self.inner.sends) × (result.2 ≡ self.inner.book) }
+    {
+        let Sender { inner } = self;
+        let mb_send::Sender {
+            waker,
+            sends,
+            book,
+            alloc: _,
+        } = inner;
+        let Waker {
+            pass,
+            way: _,
+            owed: _,
+        } = waker;
+        (pass, sends, book)
+    }
+
+    /// Looks whether the receiver is open, by one reading of its status.
+    pub fn look(&mut self, system: &System<A, K>, to: ActorId) -> Result<Look, Unsent>
+        requires ours { IsSenderOf system.now.gates self.old.inner }
+        ensures ours { IsSenderOf system.now.gates self.new.inner }
+        ensures by { self.new.inner.book.by ≡ self.old.inner.book.by }
+        ensures refused { OnErr result ((self.new ≡ self.old) × IsErrOf result Refusal.NoSuchActor
+            × ((to.0 ≡ 0) ⊎ (actors_of system.now.gates ≤ to.0))) }
+        ensures seen { IfOk result (λ look. (0 < to.0) × (to.0 < actors_of system.now.gates)
+            × IsSeen to look (known_by self.old.inner.waker.pass) (known_by self.new.inner.waker.pass)) }
+        ensures same { (self.new.inner.book ≡ self.old.inner.book) × (self.new.inner.sends ≡ self.old.inner.sends)
+            × (self.new.inner.waker.owed ≡ self.old.inner.waker.owed) }
+    {
+        self.inner.look(&system.gates, to)
+    }
+
+    /// Sends this body to the receiver of the ticket.
+    pub fn put<R: Wait>(
+        &mut self,
+        rt: &R,
+        system: &System<A, K>,
+        ticket: Ticket,
+        body: Body,
+    ) -> Result<Put, Unsent>
+        requires ours { IsSenderOf system.now.gates self.old.inner }
+        requires there { (0 < ticket.to.0) × (ticket.to.0 < actors_of system.now.gates) }
+        ensures ours { IsSenderOf system.now.gates self.new.inner }
+        ensures by { self.new.inner.book.by ≡ self.old.inner.book.by }
+        ensures refused { OnErr result (IsErrOf result Refusal.NoMemory × (self.new.inner.book.posted ≡ self.old.inner.book.posted)
+            × (self.new.inner.waker ≡ self.old.inner.waker)) }
+        ensures sent { IfOk result (IsSent self.old.inner.book.by self.old.inner.book.sent ticket.to body self.old.inner.book.posted
+            self.new.inner.book.posted self.old.inner.sends.items (known_by self.old.inner.waker.pass) (known_by self.new.inner.waker.pass)) }
+        ensures paid { IfOk result (λ _. (owes ticket.to.0 (known_by self.new.inner.waker.pass) ≡ nothing)
+            ⊎ (is_owed self.new.inner.waker.owed ticket.to.0 ≡ true)) }
+    {
+        self.inner.put(rt, &system.gates, ticket, body)
+    }
+
+    /// Looks, and puts where the receiver was seen open (`ActorRef.tell`).
+    pub fn tell<R: Wait>(
+        &mut self,
+        rt: &R,
+        system: &System<A, K>,
+        to: ActorId,
+        body: Body,
+    ) -> Result<Put, Unsent>
+        requires ours { IsSenderOf system.now.gates self.old.inner }
+        ensures ours { IsSenderOf system.now.gates self.new.inner }
+        ensures by { self.new.inner.book.by ≡ self.old.inner.book.by }
+        ensures refused { OnErr result ((self.new.inner.book.posted ≡ self.old.inner.book.posted)
+            × ((IsErrOf result Refusal.NoSuchActor × ((to.0 ≡ 0) ⊎ (actors_of system.now.gates ≤ to.0)))
+            ⊎ (IsErrOf result Refusal.NoMemory × (0 < to.0) × (to.0 < actors_of system.now.gates)))) }
+        ensures told { IfOk result (IsTold self.old.inner.book.by self.old.inner.book.sent to body self.old.inner.book.posted
+            self.new.inner.book.posted self.old.inner.sends.items (known_by self.old.inner.waker.pass) (known_by self.new.inner.waker.pass)) }
+        ensures paid { IfOk result (λ _. (owes to.0 (known_by self.new.inner.waker.pass) ≡ nothing)
+            ⊎ (is_owed self.new.inner.waker.owed to.0 ≡ true)) }
+    {
+        self.inner.tell(rt, &system.gates, to, body)
+    }
+
+    /// Sends a Terminate to the actor, which may be the guardian (`ActorSystem.stop`); `false` if its list is ended.
+    pub fn stop<R: Wait>(
+        &mut self,
+        rt: &R,
+        system: &System<A, K>,
+        id: ActorId,
+    ) -> Result<bool, Unsent>
+        requires ours { IsSenderOf system.now.gates self.old.inner }
+        ensures ours { IsSenderOf system.now.gates self.new.inner }
+        ensures by { self.new.inner.book.by ≡ self.old.inner.book.by }
+        ensures refused { OnErr result ((self.new ≡ self.old) × ((IsErrOf result Refusal.NoSuchActor × (actors_of system.now.gates ≤ id.0))
+            ⊎ (IsErrOf result Refusal.NoMemory × (id.0 < actors_of system.now.gates)))) }
+        ensures stopped { IfOk result (Stops id.0 (known_by self.old.inner.waker.pass) (known_by self.new.inner.waker.pass)) }
+        ensures same { (self.new.inner.book ≡ self.old.inner.book) × (self.new.inner.sends ≡ self.old.inner.sends) }
+        ensures paid { IfOk result (λ _. (owes id.0 (known_by self.new.inner.waker.pass) ≡ nothing)
+            ⊎ (is_owed self.new.inner.waker.owed id.0 ≡ true)) }
+    {
+        self.inner.stop(rt, &system.gates, id)
+    }
+
+    /// Looks again after each actor that it owes a look.
+    pub fn pay<R: Wait>(&mut self, rt: &R, system: &System<A, K>) -> Result<(), RunError>
+        requires ours { IsSenderOf system.now.gates self.old.inner }
+        ensures ours { IsSenderOf system.now.gates self.new.inner }
+        ensures by { self.new.inner.book.by ≡ self.old.inner.book.by }
+        ensures done { OnOk result (OwesNobody system.now.gates self.new) }
+        ensures same { ((known_by self.new.inner.waker.pass).said ≡ (known_by self.old.inner.waker.pass).said)
+            × (self.new.inner.book ≡ self.old.inner.book) × (self.new.inner.sends ≡ self.old.inner.sends) }
+    {
+        match self.inner.waker.pay(rt, &system.gates) {
+            Ok(()) => Ok(()),
+            Err(error) => Err(of_debts(error)),
+        }
+    }
+}
