@@ -1,3 +1,8 @@
 pub mod Looking
 pub mod Sending
 pub mod Captured
+pub mod Right
+pub mod Building
+pub mod Opened
+pub mod Founded
+pub mod Started

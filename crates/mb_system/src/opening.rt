@@ -99,11 +99,13 @@ pub(crate) fn start<A: Actor, K: Behaviours, R: Wait>(
     ensures created { IfOk result (λ _. IsCreated (known_by pass.new)) }
 {
     let node = Node::new(alloc, SysMsg::Create)?;
-    if gates.sys_enqueue(rt, pass, ActorId(0), node).is_err() {
-        for _ in rt.forever() {}
-        unreachable!()
+    match gates.sys_enqueue(rt, pass, ActorId(0), node) {
+        Ok(_) => Ok(()),
+        Err(_) => {
+            for _ in rt.forever() {}
+            unreachable!()
+        }
     }
-    Ok(())
 }
 
 /// The first end takes over the pass that put it there, and with it what is owed to the guardian.
