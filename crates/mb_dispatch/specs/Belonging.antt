@@ -1,9 +1,10 @@
 -- What belongs to a system, and is there at its end.
-use Rattle.std.specs.Prelude.{◌≡◌, ◌≢◌, ℕ, ◌+◌, ◌-◌, ◌<◌, ◌≤◌, ◌∷◌, List, All, AllPairs, Contains, length, map, slice_get, Some}
+use Rattle.std.specs.Prelude.{◌≡◌, ◌⊎◌, ℕ, ◌-◌, ◌<◌, [], ◌∷◌, List, All, Contains, length, slice_get, Some}
 use Rattle.mb_msg.specs.Limits.{most_actors}
 use Rattle.mb_fates.specs.declared.posting.Posting.{Posting}
-use Rattle.mb_gate.specs.Names.{known_by}
-use Rattle.mb_gate.specs.View.{View}
+use Rattle.mb_gate.specs.Names.{known_by, pass_id}
+use Rattle.mb_gate.specs.Rule.{IsPart}
+use Rattle.mb_gate.specs.View.{Sight, View}
 use Rattle.mb_system.specs.declared.built.Built.{Built}
 use Rattle.mb_system.specs.declared.end.WorkerEnd.{WorkerEnd}
 use Rattle.mb_system.specs.declared.sender.Sender.{Sender}
@@ -23,6 +24,11 @@ module _ {A K : Type 0} where
     pub length_is : length answers ≡ many
     pub each : All (λ (s : Sender A K). slice_get answers (s.inner.book.by.0 - most_actors) ≡ Some s.inner.book.posted) senders
 
+  -- all that ends and senders saw is among this
+  abbrev pub HasAllSeen : Built A K → List Sight → Type 0
+  HasAllSeen built log = All (λ (e : WorkerEnd A K). IsPart (known_by e.waker.pass).log log) built.ends.items
+      × All (λ (s : Sender A K). IsPart (known_by s.inner.waker.pass).log log) built.senders.items
+
   -- all is as it was, but that the first end has read more
   pub record IsBack (old new : Built A K) (before after : View) : Type 0 where
     pub system : new.system ≡ old.system
@@ -33,5 +39,13 @@ module _ {A K : Type 0} where
     pub was : old.ends.items ≡ (first ∷ rest)
     pub is : new.ends.items ≡ (first' ∷ rest)
     pub others : (first'.number ≡ first.number) × (first'.waker.way ≡ first.waker.way) × (first'.waker.owed ≡ first.waker.owed)
+    pub ours : pass_id first'.waker.pass ≡ pass_id first.waker.pass
     pub knew : known_by first.waker.pass ≡ before
     pub knows : known_by first'.waker.pass ≡ after
+
+  -- it has, in this way; or there is no end that could have
+  abbrev pub HasRead : (View → View → Type 0) → Built A K → Built A K → Type 0
+  HasRead way old new = (before : View) × (after : View) × IsBack old new before after × way before after
+
+  abbrev pub HasReadIfAny : (View → View → Type 0) → Built A K → Built A K → Type 0
+  HasReadIfAny way old new = ((old.ends.items ≡ []) × (new ≡ old)) ⊎ HasRead way old new

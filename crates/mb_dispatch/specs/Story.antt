@@ -4,6 +4,7 @@ use Rattle.mb_actor.specs.Behaviour.{Moment, Reply}
 use Rattle.mb_actor.specs.declared.message.Message.{Message}
 use Rattle.mb_fates.specs.Accepted.{accepted}
 use Rattle.mb_fates.specs.declared.posting.Posting.{Posting}
+use Rattle.mb_gate.specs.View.{Sight}
 use Rattle.mb_home.specs.Roll.{Enrolled}
 use Rattle.mb_plan.specs.declared.plan.Plan.{Plan}
 use Rattle.mb_reckon.specs.Whole.{IsWhole}
@@ -34,8 +35,9 @@ pub record IsStory (after : ℕ → List Message → ℤ) (gives : ℕ → Momen
     : Type 0 where
   pub roll : List Enrolled
   pub who : map (λ (e : Enrolled). e.who) roll ≡ actors_in plan
+  pub log : List Sight
   pub outside : List (List Posting)
   pub many : length outside ≡ plan.senders
-  pub whole : IsWhole after gives roll outside report
+  pub whole : IsWhole after gives roll log outside report
   pub sent : (place : ℕ) (postings : List Posting) (of : List Order) → slice_get outside place ≡ Some postings → slice_get orders place ≡ Some of
       → addressed (accepted postings) ≡ told_by of

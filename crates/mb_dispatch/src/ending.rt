@@ -1,10 +1,15 @@
 //! How a system ends.
-ghost use Rattle.std.specs.Prelude.{All, List, IfErr, IfOk};
+ghost use Rattle.std.specs.Prelude.{◌≡◌, ◌<◌, ◌≤◌, [], All, List, IfErr, IfOk, MatchOption, length, vec_capacity};
 ghost use Rattle.mb_fates.specs.declared.posting.Posting.{Posting};
-ghost use Rattle.mb_gate.specs.Names.{first_of, known_by};
+ghost use Rattle.mb_gate.specs.Names.{actors_of, first_of, known_by};
+ghost use Rattle.mb_gate.specs.Rule.{IsPart};
+ghost use Rattle.mb_gate.specs.View.{Sight};
+ghost use Rattle.mb_reckon.specs.Rooms.{IsRoom};
+ghost use Rattle.mb_reckon.specs.Settled.{AreSettledBy};
 ghost use Rattle.mb_system.specs.Belonging.{BelongsTogether};
-ghost use Rattle.mb_dispatch.specs.Belonging.{AreAnswers};
-ghost use Rattle.mb_dispatch.specs.Refused.{IsComplete, IsRefusal};
+ghost use Rattle.mb_system.specs.Members.{IsEndOf};
+ghost use Rattle.mb_dispatch.specs.Belonging.{AreAnswers, HasAllSeen, HasRead, HasReadIfAny};
+ghost use Rattle.mb_dispatch.specs.Refused.{FindsUnsettled, IsComplete, IsRefusal};
 ghost use Rattle.mb_reckon.specs.Seen.{GoesOnFromAll};
 ghost use Rattle.mb_reckon.specs.Whole.{IsWhole};
 
@@ -41,8 +46,9 @@ pub fn finish<A: Actor, K: Behaviours, R: Wait>(
     built: Built<A, K>,
 ) -> Result<Report, FinishError<A, K>>
     requires together { BelongsTogether built }
-    ensures whole { IfOk result (λ report. (answers : List (List Posting)) × AreAnswers built.system.senders built.senders.items answers
-        × IsWhole K.after K.gives (first_of built.system.gates).value.roll answers report) }
+    ensures whole { IfOk result (λ report. (log : List Sight) × HasAllSeen built log
+        × ((answers : List (List Posting)) × AreAnswers built.system.senders built.senders.items answers
+        × IsWhole K.after K.gives (first_of built.system.gates).value.roll log answers report)) }
     ensures quiet { IfOk result (λ _. IsComplete built) }
     ensures seen { IfOk result (λ report. All (λ e. GoesOnFromAll report (known_by e.waker.pass)) built.ends.items
         × All (λ s. GoesOnFromAll report (known_by s.inner.waker.pass)) built.senders.items) }
@@ -70,28 +76,39 @@ pub fn finish<A: Actor, K: Behaviours, R: Wait>(
 }
 
 // The least actor that is scheduled or has something to run.
-fn unsettled<A: Actor, K: Behaviours>(built: &mut Built<A, K>) -> Option<ActorId> {
-    let Built {
-        system,
-        ends,
-        senders: _,
-    } = built;
-    let first = ends.first_mut()?;
-    first_unsettled(&system.gates, &mut first.waker.pass)
+fn unsettled<A: Actor, K: Behaviours>(built: &mut Built<A, K>) -> Option<ActorId>
+    requires ours { All (λ e. IsEndOf built.old.system.gates e.waker) built.old.ends.items }
+    ensures { MatchOption result (HasReadIfAny (AreSettledBy 0 (actors_of built.old.system.gates)) built.old built.new)
+        (λ id. (id.0 < actors_of built.old.system.gates) × HasRead (FindsUnsettled id.0) built.old built.new) }
+{
+    if built.ends.is_empty() {
+        return None;
+    }
+    first_unsettled(&built.system.gates, &mut built.ends[0].waker.pass)
 }
 
 // All the room that is needed.
-fn room_of<A: Actor, K: Behaviours>(
-    built: &mut Built<A, K>,
-) -> Option<(Room<A, K>, Vec<Outsider>)> {
-    let Built {
-        system,
-        ends,
+fn room_of<A: Actor, K: Behaviours>(built: &mut Built<A, K>) -> Option<(Room<A, K>, Vec<Outsider>)>
+    requires ours { All (λ e. IsEndOf built.old.system.gates e.waker) built.old.ends.items }
+    requires few { length built.old.senders.items ≤ 16 }
+    ensures { MatchOption result (HasReadIfAny (λ before after. IsPart before.log after.log) built.old built.new)
+        (λ made. HasRead (λ before after. IsPart before.log after.log) built.old built.new
+        × IsRoom (actors_of built.old.system.gates) (length built.old.senders.items) made.0
+        × (made.1.items ≡ []) × (length built.old.senders.items ≤ vec_capacity made.1)) }
+{
+    if built.ends.is_empty() {
+        return None;
+    }
+    let alloc = built.system.alloc;
+    let senders = built.senders.len();
+    let room = make_room(
+        alloc,
+        &built.system.gates,
+        &mut built.ends[0].waker.pass,
         senders,
-    } = built;
-    let first = ends.first_mut()?;
-    let pass = &mut first.waker.pass;
-    let room = make_room(system.alloc, &system.gates, pass, senders.len()).ok()?;
-    let outside = Vec::with_capacity(system.alloc, senders.len()).ok()?;
+    );
+    let (Ok(room), Ok(outside)) = (room, Vec::with_capacity(alloc, senders)) else {
+        return None;
+    };
     Some((room, outside))
 }
