@@ -34,7 +34,7 @@ use Rattle.mb_system.specs.Belonging.{senders_numbers}
 use Rattle.mb_system.specs.Enrolled.{AreKnown, IsKnown}
 use Rattle.mb_system.specs.Members.{IsSenderOf}
 use Rattle.mb_system.specs.declared.sender.Sender.{Sender}
-use Rattle.mb_dispatch.specs.Belonging.{AreAnswers}
+use Rattle.mb_dispatch.specs.Belonging.{AreAnswers, brings, brought}
 use Rattle.mb_dispatch.proofs.Gathered.{seen_by_sender}
 use Rattle.mb_dispatch.proofs.Parts.{AllSeen}
 
@@ -83,26 +83,26 @@ module _ {A K : Type 0} where
   -- what came of each sender, in their order, is what it brought
   abbrev pub AreBrought : List (Sender A K) → List Outsider → Type 0
   AreBrought senders outside =
-      map (λ (o : Outsider). (o.sends.items, o.book)) outside ≡ map (λ (s : Sender A K). (s.inner.sends.items, s.inner.book)) senders
+      map brought outside ≡ map brings senders
 
   pub outsiders : (gates : Gates (Box Contents)) (log : List Sight) (place : ℕ) (senders : List (Sender A K)) (outside : List Outsider)
       → All (λ (s : Sender A K). IsSenderOf gates s.inner) senders → AllSeen seen_by_sender senders log
       → All (λ (s : Sender A K). 64 ≤ s.inner.book.by.0) senders → senders_numbers senders ≡ numbers place (length senders)
       → AreBrought senders outside → AreOutsiders (first_of gates).value.roll log (64 + place) outside
-  outsiders gates log place [] [] ours seen least numbered brought = tt
-  outsiders gates log place [] (o ∷ outside) ours seen least numbered brought = absurd (let e = ap length brought in omega (arith, e))
-  outsiders gates log place (s ∷ senders) [] ours seen least numbered brought = tt
-  outsiders gates log place (s ∷ senders) (o ∷ outside) ours seen least numbered brought =
+  outsiders gates log place [] [] ours seen least numbered same_all = tt
+  outsiders gates log place [] (o ∷ outside) ours seen least numbered same_all = absurd (let e = ap length same_all in omega (arith, e))
+  outsiders gates log place (s ∷ senders) [] ours seen least numbered same_all = tt
+  outsiders gates log place (s ∷ senders) (o ∷ outside) ours seen least numbered same_all =
       let one = All-head (λ (s : Sender A K). IsSenderOf gates s.inner) s senders ours in
       let low = All-head (λ (s : Sender A K). 64 ≤ s.inner.book.by.0) s senders least in
       let part = All-head (λ (s : Sender A K). IsPart (seen_by_sender s) log) s senders seen in
       let number : s.inner.book.by.0 - 64 ≡ place = same_Some (s.inner.book.by.0 - 64) place (ap (λ l. slice_get l 0) numbered) in
-      let same = alike (λ (o : Outsider). (o.sends.items, o.book)) (λ (s : Sender A K). (s.inner.sends.items, s.inner.book)) (o ∷ outside)
-      (s ∷ senders) 0 o s brought refl refl in
+      let same = alike brought brings (o ∷ outside)
+      (s ∷ senders) 0 o s same_all refl refl in
       let by : o.book.by.0 ≡ s.inner.book.by.0 = ap (λ (p : List Sending × Book). p.1.by.0) same in
       let rest = outsiders gates log (place + 1) senders outside (All-tail (λ (s : Sender A K). IsSenderOf gates s.inner) s senders ours)
       (All-tail (λ (s : Sender A K). IsPart (seen_by_sender s) log) s senders seen)
-      (All-tail (λ (s : Sender A K). 64 ≤ s.inner.book.by.0) s senders least) (ap (drop 1) numbered) (ap (drop 1) brought) in (
+      (All-tail (λ (s : Sender A K). 64 ≤ s.inner.book.by.0) s senders least) (ap (drop 1) numbered) (ap (drop 1) same_all) in (
         record {
           number_is = omega (arith, by, number, low);
           queues = ap (λ (p : List Sending × Book). receiving_queues p.0) same ∙ one.queues;
@@ -124,21 +124,19 @@ module _ {A K : Type 0} where
   pub answers : (many : ℕ) (was now : List (Sender A K)) (outside : List Outsider) → length now ≡ many → IsPermutation now was
       → senders_numbers now ≡ numbers 0 (length now) → AreBrought now outside
       → AreAnswers many was (map (λ (o : Outsider). o.book.posted) outside)
-  answers many was now outside count same numbered brought =
+  answers many was now outside count same numbered same_all =
       let posted = λ (o : Outsider). o.book.posted in
       let IsAnswered = λ (s : Sender A K). slice_get (map posted outside) (s.inner.book.by.0 - 64) ≡ Some s.inner.book.posted in
       let number = λ (s : Sender A K). s.inner.book.by.0 - 64 in
-      let brought_by = λ (o : Outsider). (o.sends.items, o.book) in
-      let brings = λ (s : Sender A K). (s.inner.sends.items, s.inner.book) in
       let as_many : length outside ≡ length now =
-      sym (length-mapped brought_by outside) ∙ ap length brought ∙ length-mapped brings now in record {
+      sym (length-mapped brought outside) ∙ ap length same_all ∙ length-mapped brings now in record {
         length_is = length-mapped posted outside ∙ as_many ∙ count;
         each = All-permutation IsAnswered now was same (each-place IsAnswered now (λ i s is.
             (let lt = slice_get_within now i s is in
             let place : s.inner.book.by.0 - 64 ≡ i = same_Some (s.inner.book.by.0 - 64) i
             (sym (mapped number now i s is) ∙ ap (λ l. slice_get l i) numbered ∙ number-at 0 (length now) i lt) in
             let one = there outside i (omega (arith, lt, as_many)) in
-            let e = alike brought_by brings outside now i one.0 s brought one.1 is in
+            let e = alike brought brings outside now i one.0 s same_all one.1 is in
             ap (slice_get (map posted outside)) place ∙ mapped posted outside i one.0 one.1
             ∙ ap (λ (p : List Sending × Book). Some p.1.posted) e)));
       }

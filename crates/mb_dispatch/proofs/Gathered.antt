@@ -15,6 +15,7 @@ use Rattle.mb_reckon.specs.declared.outsider.Outsider.{Outsider}
 use Rattle.mb_system.specs.Members.{IsEndOf, IsSenderOf}
 use Rattle.mb_system.specs.declared.end.WorkerEnd.{WorkerEnd}
 use Rattle.mb_system.specs.declared.sender.Sender.{Sender}
+use Rattle.mb_dispatch.specs.Belonging.{brings, brought}
 use Rattle.mb_dispatch.proofs.Parts.{AllSeen, part-back, part-front, part-same, seen-by, seen-more}
 
 -- the rest of a list, after those that came and the next
@@ -84,7 +85,7 @@ module _ {A K : Type 0} where
     pub ends_seen : AllSeen seen_by_end ends (known_by pass).log
     pub are : came ++ rest ≡ senders
     pub seen : AllSeen seen_by_sender came (known_by pass).log
-    pub brought : map (λ (o : Outsider). (o.sends.items, o.book)) outside ≡ map (λ (s : Sender A K). (s.inner.sends.items, s.inner.book)) came
+    pub shown : map brought outside ≡ map brings came
 
   pub sender-ours : (gates : Gates (Box Contents)) (ends : List (WorkerEnd A K)) (senders came rest : List (Sender A K)) (s : Sender A K)
       (pass : Pass (Box Contents)) (outside : List Outsider) → HasSenders gates ends senders came (s ∷ rest) pass outside
@@ -98,13 +99,12 @@ module _ {A K : Type 0} where
       → o.sends.items ≡ s.inner.sends.items → o.book ≡ s.inner.book → HasSenders gates ends senders (came ++ s ∷ []) rest new outside'
   senders-more gates ends senders came rest s old new outside outside' o has same knows more sends book =
       let log = ap (λ (v : View). v.log) knows in
-      let brought = λ (x : Outsider). (x.sends.items, x.book) in
-      let brings = λ (x : Sender A K). (x.inner.sends.items, x.inner.book) in record {
+      record {
         ours = same ∙ has.ours;
         ends_seen = seen-by seen_by_end ends (known_by old).log (known_by new).log
             (subst (IsPart (known_by old).log) (sym log) (part-back (seen_by_sender s) (known_by old).log)) has.ends_seen;
         are = next-came came s rest senders has.are;
         seen = seen-more seen_by_sender came s (known_by old).log (known_by new).log log has.seen;
-        brought = ap (map brought) more ∙ map-append brought outside (o ∷ []) ∙ (λ i. has.brought i ++ (sends i, book i) ∷ [])
+        shown = ap (map brought) more ∙ map-append brought outside (o ∷ []) ∙ (λ i. has.shown i ++ (sends i, book i) ∷ [])
             ∙ sym (map-append brings came (s ∷ []));
       }

@@ -5,6 +5,9 @@ use Rattle.mb_fates.specs.declared.posting.Posting.{Posting}
 use Rattle.mb_gate.specs.Names.{known_by, pass_id}
 use Rattle.mb_gate.specs.Rule.{IsPart}
 use Rattle.mb_gate.specs.View.{Sight, View}
+use Rattle.mb_queue.specs.Passes.{Sending}
+use Rattle.mb_send.specs.declared.book.Book.{Book}
+use Rattle.mb_reckon.specs.declared.outsider.Outsider.{Outsider}
 use Rattle.mb_system.specs.declared.built.Built.{Built}
 use Rattle.mb_system.specs.declared.end.WorkerEnd.{WorkerEnd}
 use Rattle.mb_system.specs.declared.sender.Sender.{Sender}
@@ -18,7 +21,14 @@ pub record IsLeastMissing (many : ℕ) (there : List ℕ) (number : ℕ) : Type 
   pub missing : Contains there number → ⊥
   pub least : AreThere number there
 
+-- what came of a sender, and below what the sender has: its passes and its book
+abbrev pub brought : Outsider → List Sending × Book
+brought o = (o.sends.items, o.book)
+
 module _ {A K : Type 0} where
+  abbrev pub brings : Sender A K → List Sending × Book
+  brings s = (s.inner.sends.items, s.inner.book)
+
   -- what the senders were answered, in the order of their numbers, each for all that it sent
   pub record AreAnswers (many : ℕ) (senders : List (Sender A K)) (answers : List (List Posting)) : Type 0 where
     pub length_is : length answers ≡ many

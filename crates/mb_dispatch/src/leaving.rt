@@ -2,6 +2,7 @@
 ghost use Rattle.std.specs.Prelude.{◌≡◌, ◌≢◌, ◌≤◌, [], All, length, map, vec_capacity};
 ghost use Rattle.mb_gate.specs.Names.{gates_id, known_by, pass_id};
 ghost use Rattle.mb_gate.specs.Rule.{IsPart};
+ghost use Rattle.mb_dispatch.specs.Belonging.{brings, brought};
 ghost use Rattle.mb_system.specs.Belonging.{BelongsTogether};
 
 use mb_actor::{Actor, Behaviours};
@@ -22,7 +23,7 @@ pub(crate) fn gather<A: Actor, K: Behaviours>(
     ensures gates { (result.0 ≡ built.system.gates) × (pass_id result.1 ≡ gates_id result.0) }
     ensures ends { All (λ e. IsPart (known_by e.waker.pass).log (known_by result.1).log) built.ends.items }
     ensures senders { All (λ s. IsPart (known_by s.inner.waker.pass).log (known_by result.1).log) built.senders.items }
-    ensures outside { map (λ o. (o.sends.items, o.book)) outside.new.items ≡ map (λ s. (s.inner.sends.items, s.inner.book)) built.senders.items }
+    ensures outside { map brought outside.new.items ≡ map brings built.senders.items }
 {
     let Built {
         system,
