@@ -1,3 +1,4 @@
 pub mod Looking
 pub mod Sending
 pub mod Captured
+pub mod Crossing
