@@ -2,23 +2,19 @@
 use Rattle.std.specs.Prelude.{◌≡◌, ℕ, ◌<◌}
 use Rattle.mb_gate.specs.Names.{actors_of}
 use Rattle.mb_gate.specs.View.{View}
-use Rattle.mb_dispatch.specs.Belonging.{AreSettledBy, AreThere, IsBack, IsLeastMissing, IsUnsettled, ends_numbers, senders_numbers}
-use Rattle.mb_dispatch.specs.declared.built.Built.{Built}
-use Rattle.mb_dispatch.specs.declared.finish.FinishError.{FinishError}
-use Rattle.mb_dispatch.specs.declared.finish.FinishError.TheVariants.{MissingEnd, MissingSender, NotQuiet, NoMemory, Mismatch}
-use Rattle.mb_dispatch.specs.declared.finish.Mismatch.{Mismatch as What}
-use Rattle.mb_dispatch.specs.declared.finish.Mismatch.TheVariants.{Held, List as Listed, Waiting}
+use Rattle.mb_reckon.specs.Mismatched.{of_whom}
+use Rattle.mb_reckon.specs.Settled.{AreSettledBy, IsUnsettled}
+use Rattle.mb_system.specs.Belonging.{senders_numbers}
+use Rattle.mb_system.specs.Members.{ends_numbers}
+use Rattle.mb_system.specs.declared.built.Built.{Built}
+use Rattle.mb_dispatch.specs.Belonging.{AreThere, IsBack, IsLeastMissing}
+use Rattle.mb_dispatch.specs.declared.ending.FinishError.{FinishError}
+use Rattle.mb_dispatch.specs.declared.ending.FinishError.TheVariants.{MissingEnd, MissingSender, NotQuiet, NoMemory, Mismatch}
 
 -- all ends and senders are there
 abbrev pub IsComplete : Built → Type 0
 IsComplete built = AreThere built.system.workers (ends_numbers built.ends.items) × AreThere built.system.senders (senders_numbers
     built.senders.items)
-
--- the actor of whom something does not agree
-abbrev pub of_whom : What → ℕ
-of_whom (Held id) = id.0
-of_whom (Listed id) = id.0
-of_whom (Waiting id) = id.0
 
 -- The least end that is missing; or the least sender, where all ends are there; or the least actor that had something to run as it was read,
 -- where all are there; or no memory was there, or something does not agree, where none had. All comes back but in the last case.

@@ -1,16 +1,12 @@
 //! A whole run on one thread, also of boxed actors of mixed kinds.
-use crate::build::BuildError;
-use crate::built::Built;
-use crate::failure::{RunError, of_sending};
-use crate::finish::{FinishError, Mismatch};
-use crate::job::{Order, What};
-use crate::sender::Sender;
-use crate::system::System;
+use crate::ending::{FinishError, finish};
 use mb_actor::{Actor, Behaviours};
 use mb_build::PlanError;
 use mb_msg::ActorId;
 use mb_plan::Plan;
+use mb_reckon::Mismatch;
 use mb_report::Report;
+use mb_system::{BuildError, Built, Order, RunError, System};
 use std::alloc::Global;
 use std::marker::Brand;
 use std::sync::Wait;
@@ -58,7 +54,7 @@ pub fn run_whole<A: Actor, K: Behaviours, R: Wait>(
     if let Err(error) = send_and_run(rt, &mut built, sends) {
         return Err(WholeError::Run(error));
     }
-    match built.finish(rt) {
+    match finish(rt, built) {
         Ok(report) => Ok(report),
         Err(FinishError::NotQuiet(id, _)) => Err(WholeError::NotQuiet(id)),
         Err(FinishError::Mismatch(mismatch)) => Err(WholeError::Mismatch(mismatch)),
@@ -81,29 +77,10 @@ fn send_and_run<A: Actor, K: Behaviours, R: Wait>(
         senders,
     } = built;
     for (sender, orders) in senders.iter_mut().zip(sends) {
-        send_each(rt, system, sender, orders)?;
+        sender.send_all(rt, system, orders)?;
     }
     if let Some(first) = ends.first_mut() {
         let _turns = first.run_quietly(rt, system)?;
-    }
-    Ok(())
-}
-
-// Sends what one sender has to send.
-fn send_each<A: Actor, K: Behaviours, R: Wait>(
-    rt: &R,
-    system: &System<A, K>,
-    sender: &mut Sender<A, K>,
-    orders: &[Order],
-) -> Result<(), RunError> {
-    for order in orders {
-        let sent = match order.what {
-            What::Tell(body) => sender.tell(rt, system, order.to, body).err(),
-            What::Stop => sender.stop(rt, system, order.to).err(),
-        };
-        if let Some(error) = sent {
-            return Err(of_sending(error));
-        }
     }
     Ok(())
 }

@@ -2,21 +2,19 @@
 ghost use Rattle.std.specs.Prelude.{◌≡◌, ◌≢◌, ◌≤◌, [], All, length, map, vec_capacity};
 ghost use Rattle.mb_gate.specs.Names.{gates_id, known_by, pass_id};
 ghost use Rattle.mb_gate.specs.Rule.{IsPart};
-ghost use Rattle.mb_dispatch.specs.Belonging.{BelongsTogether};
+ghost use Rattle.mb_system.specs.Belonging.{BelongsTogether};
 
-use crate::built::Built;
-use crate::system::System;
 use mb_actor::{Actor, Behaviours};
 use mb_gate::{Gates, Pass};
-use mb_queue::SendPass;
-use mb_send::Book;
+use mb_reckon::Outsider;
+use mb_system::{Built, System};
 use mb_turn::Place;
 
 /// The gates, and the first end's pass, which took over what all others knew; and of each sender its passes and its book. What is
 /// in the pool is let go: of each claim that were there the actor would be scheduled.
 pub(crate) fn gather<A: Actor, K: Behaviours>(
     built: Built<A, K>,
-    outside: &mut Vec<(Vec<SendPass>, Book)>,
+    outside: &mut Vec<Outsider>,
 ) -> (Gates<Place<A, K>>, Pass<Place<A, K>>)
     requires together { BelongsTogether built }
     requires some { built.ends.items ≢ [] }
@@ -24,7 +22,7 @@ pub(crate) fn gather<A: Actor, K: Behaviours>(
     ensures gates { (result.0 ≡ built.system.gates) × (pass_id result.1 ≡ gates_id result.0) }
     ensures ends { All (λ e. IsPart (known_by e.waker.pass).log (known_by result.1).log) built.ends.items }
     ensures senders { All (λ s. IsPart (known_by s.inner.waker.pass).log (known_by result.1).log) built.senders.items }
-    ensures outside { map (λ o. (o.0.items, o.1)) outside.new.items ≡ map (λ s. (s.inner.sends.items, s.inner.book)) built.senders.items }
+    ensures outside { map (λ o. (o.sends.items, o.book)) outside.new.items ≡ map (λ s. (s.inner.sends.items, s.inner.book)) built.senders.items }
 {
     let Built {
         system,
@@ -34,7 +32,7 @@ pub(crate) fn gather<A: Actor, K: Behaviours>(
     let System {
         gates,
         pool: _,
-        open: _,
+        going: _,
         workers: _,
         senders: _,
         throughput: _,
@@ -51,7 +49,7 @@ pub(crate) fn gather<A: Actor, K: Behaviours>(
     for sender in senders {
         let (other, sends, book) = sender.into_parts();
         gates.absorb(&mut pass, other);
-        outside.push_reserved((sends, book));
+        outside.push_reserved(Outsider { sends, book });
     }
     (gates, pass)
 }

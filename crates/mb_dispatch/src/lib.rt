@@ -6,33 +6,17 @@
 #![tactic(auto)]
 
 mod boxes;
-mod build;
-mod built;
-mod end;
-mod failure;
-mod finish;
-mod job;
+mod ending;
 mod leaving;
 mod missing;
-mod open;
-mod quiet;
-mod reckoning;
-mod room;
-mod run;
-mod sender;
-mod settled;
-mod system;
-mod work;
 
 pub use boxes::{WholeError, run_boxed, run_whole};
-pub use build::BuildError;
-pub use built::Built;
-pub use end::WorkerEnd;
-pub use failure::RunError;
-pub use finish::{FinishError, Mismatch};
-pub use job::{Job, Order, What};
-pub use sender::Sender;
-pub use system::System;
+pub use ending::{FinishError, finish};
+pub use mb_build::PlanError;
+pub use mb_reckon::Mismatch;
+pub use mb_send::{Look, Put, Ticket, Unsent};
+pub use mb_system::{BuildError, Built, Job, Order, RunError, Sender, System, What, WorkerEnd};
+pub use mb_turn::Turn;
 
 #[cfg(test)]
 mod tests {

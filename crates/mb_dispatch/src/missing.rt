@@ -2,13 +2,13 @@
 ghost use Rattle.std.specs.Prelude.{◌≡◌, ◌↔◌, ◌<◌, ◌≤◌, All, Contains, IsPermutation, IsTrue, MatchOption, length};
 ghost use Rattle.mb_msg.specs.Limits.{most_actors};
 ghost use Rattle.mb_build.specs.Numbers.{numbers};
-ghost use Rattle.mb_dispatch.specs.Belonging.{AreThere, IsLeastMissing, ends_numbers, senders_numbers};
+ghost use Rattle.mb_system.specs.Members.{ends_numbers};
+ghost use Rattle.mb_dispatch.specs.Belonging.{AreThere, IsLeastMissing};
+ghost use Rattle.mb_system.specs.Belonging.{senders_numbers};
 
-use crate::built::Built;
-use crate::end::WorkerEnd;
-use crate::sender::Sender;
 use mb_actor::{Actor, Behaviours};
 use mb_msg::limits::ACTORS;
+use mb_system::{Built, Sender, WorkerEnd};
 
 /// The least number of a worker whose end is missing.
 pub(crate) fn missing_end<A: Actor, K: Behaviours>(built: &Built<A, K>) -> Option<u32>

@@ -2,13 +2,13 @@
 ghost use Rattle.std.specs.Prelude.{◌≡◌, ◌<◌, ◌≤◌, MatchOption, if◌then◌else◌};
 ghost use Rattle.mb_gate.specs.Names.{actors_of, gates_id, known_by, pass_id};
 ghost use Rattle.mb_gate.specs.View.{View};
-ghost use Rattle.mb_dispatch.specs.Belonging.{AreSettledBy, IsSettledBy, IsUnsettled};
+ghost use Rattle.mb_reckon.specs.Settled.{AreSettledBy, IsSettledBy, IsUnsettled};
 
 use mb_gate::{Gates, Pass, Resident};
 use mb_msg::ActorId;
 
 /// The actor of the least number that is scheduled or has to be.
-pub(crate) fn first_unsettled<H: Resident>(gates: &Gates<H>, pass: &mut Pass<H>) -> Option<ActorId>
+pub fn first_unsettled<H: Resident>(gates: &Gates<H>, pass: &mut Pass<H>) -> Option<ActorId>
     requires ours { pass_id pass.old ≡ gates_id gates.now }
     requires few { actors_of gates.now ≤ 64 }
     ensures ours { pass_id pass.new ≡ pass_id pass.old }

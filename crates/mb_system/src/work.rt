@@ -2,7 +2,7 @@
 ghost use Rattle.std.specs.Prelude.{◌≡◌, ◌<◌, ℕ, false, true, Ok, OnOk};
 ghost use Rattle.mb_gate.specs.Names.{actors_of};
 ghost use Rattle.mb_wake.specs.Owed.{is_owed};
-ghost use Rattle.mb_dispatch.specs.Members.{IsEndOf};
+ghost use Rattle.mb_system.specs.Members.{IsEndOf};
 
 use crate::end::WorkerEnd;
 use crate::failure::{RunError, of_turn};
@@ -22,9 +22,9 @@ impl<A: Actor, K: Behaviours> WorkerEnd<A, K> {
         ensures paid { OnOk result ((id : ℕ) → id < actors_of system.now.gates → is_owed self.new.waker.owed id ≡ false) }
         ensures number { self.new.number ≡ self.old.number }
     {
-        system.open.enter();
+        system.going.enter();
         let outcome = self.work_on(rt, system);
-        system.open.leave();
+        system.going.leave();
         outcome
     }
 
@@ -70,19 +70,19 @@ impl<A: Actor, K: Behaviours> WorkerEnd<A, K> {
         ensures paid { OnOk result (result ≡ Ok true → (id : ℕ) → id < actors_of system.now.gates → is_owed self.new.waker.owed id ≡ false) }
         ensures number { self.new.number ≡ self.old.number }
     {
-        system.open.leave();
+        system.going.leave();
         let backoff = Backoff::new();
         for _ in rt.forever() {
-            let is_over = system.open.is_over();
+            let is_over = system.going.is_over();
             if let Some(claim) = self.take(rt) {
-                system.open.enter();
+                system.going.enter();
                 return match self.run_mailbox(rt, system, claim) {
                     Ok(_) => Ok(false),
                     Err(error) => Err(of_turn(error)),
                 };
             }
             if is_over {
-                system.open.enter();
+                system.going.enter();
                 return Ok(true);
             }
             backoff.snooze();

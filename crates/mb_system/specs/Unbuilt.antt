@@ -3,8 +3,8 @@ use Rattle.std.specs.Prelude.{◌≡◌, List, [], ◌∷◌, length}
 use Rattle.mb_plan.specs.declared.plan.Plan.{Plan}
 use Rattle.mb_build.specs.declared.check.PlanError.{PlanError}
 use Rattle.mb_build.specs.Reasons.{reasons}
-use Rattle.mb_dispatch.specs.declared.build.BuildError.{BuildError}
-use Rattle.mb_dispatch.specs.declared.build.BuildError.TheVariants.{BadPlan, NoMemory}
+use Rattle.mb_system.specs.declared.build.BuildError.{BuildError}
+use Rattle.mb_system.specs.declared.build.BuildError.TheVariants.{BadPlan, NoMemory}
 
 -- the plan is refused for the first reason of all, and comes back with the actors; or it is not refused, and memory was
 abbrev pub IsNoSystem : {A : Type 0} → Plan → List A → BuildError A → Type 0

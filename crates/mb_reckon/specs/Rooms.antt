@@ -1,6 +1,6 @@
 -- The room that the end of a system takes.
 use Rattle.std.specs.Prelude.{◌≡◌, ℕ, ◌+◌, ◌≤◌, IfSome, [], length, map, slice_get, Some, vec_capacity}
-use Rattle.mb_dispatch.specs.declared.room.Room.{Room}
+use Rattle.mb_reckon.specs.declared.room.Room.{Room}
 
 -- There is room for what is left of so many actors and of so many senders outside, and for as many envelopes of each actor as are counted.
 pub record IsRoom (actors outside : ℕ) (room : Room) : Type 0 where
@@ -11,6 +11,5 @@ pub record IsRoom (actors outside : ℕ) (room : Room) : Type 0 where
   pub ended : (room.ended.items ≡ []) × (actors ≤ vec_capacity room.ended)
   pub takes : (room.takes.items ≡ []) × (actors ≤ vec_capacity room.takes)
   pub rows : (room.rows.items ≡ []) × (actors + outside ≤ vec_capacity room.rows)
-  pub outside_is : (room.outside.items ≡ []) × (outside ≤ vec_capacity room.outside)
   pub reports : (room.actors.items ≡ []) × (actors ≤ vec_capacity room.actors)
   pub senders : (room.senders.items ≡ []) × (actors + outside ≤ vec_capacity room.senders)

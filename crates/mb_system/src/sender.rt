@@ -6,8 +6,8 @@ ghost use Rattle.mb_gate.specs.View.{owes};
 ghost use Rattle.mb_send.specs.Answers.{IsSeen, IsSent, IsTold, Stops};
 ghost use Rattle.mb_send.specs.declared.unsent.Unsent.TheVariants as Refusal;
 ghost use Rattle.mb_wake.specs.Owed.{is_owed};
-ghost use Rattle.mb_dispatch.specs.Members.{IsSenderOf};
-ghost use Rattle.mb_dispatch.specs.Orders.{OwesNobody};
+ghost use Rattle.mb_system.specs.Members.{IsSenderOf};
+ghost use Rattle.mb_system.specs.Orders.{OwesNobody};
 
 use crate::failure::{RunError, of_debts};
 use crate::system::System;
@@ -23,7 +23,7 @@ use std::sync::Wait;
 
 /// A sender outside the actors of a system. A thread of its own may have it.
 pub struct Sender<A: Actor, K: Behaviours> {
-    pub(crate) inner: mb_send::Sender<Place<A, K>, FeedWay<Place<A, K>>>,
+    pub inner: mb_send::Sender<Place<A, K>, FeedWay<Place<A, K>>>,
 }
 
 impl<A: Actor, K: Behaviours> Drop for Sender<A, K> {
@@ -45,7 +45,7 @@ impl<A: Actor, K: Behaviours> Drop for Sender<A, K> {
 
 impl<A: Actor, K: Behaviours> Sender<A, K> {
     /// What the sender knows, its passes into the queues, and what it was answered; its way into the pool is let go.
-    pub(crate) fn into_parts(self) -> (Pass<Place<A, K>>, Vec<SendPass>, Book)
+    pub fn into_parts(self) -> (Pass<Place<A, K>>, Vec<SendPass>, Book)
         ensures { (result.0 ≡ self.inner.waker.pass) × (result.1 ≡ self.inner.sends) × (result.2 ≡ self.inner.book) }
     {
         let Sender { inner } = self;
@@ -140,7 +140,7 @@ impl<A: Actor, K: Behaviours> Sender<A, K> {
     }
 
     /// Looks again after each actor that it owes a look.
-    pub(crate) fn pay<R: Wait>(&mut self, rt: &R, system: &System<A, K>) -> Result<(), RunError>
+    pub fn pay<R: Wait>(&mut self, rt: &R, system: &System<A, K>) -> Result<(), RunError>
         requires ours { IsSenderOf system.now.gates self.old.inner }
         ensures ours { IsSenderOf system.now.gates self.new.inner }
         ensures by { self.new.inner.book.by ≡ self.old.inner.book.by }

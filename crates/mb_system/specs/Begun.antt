@@ -15,10 +15,10 @@ use Rattle.mb_build.specs.Housed.{IsHoused}
 use Rattle.mb_build.specs.Identities.{identities}
 use Rattle.mb_build.specs.Kinds.{AreQueues}
 use Rattle.mb_wake.specs.Owed.{IsNobody}
-use Rattle.mb_dispatch.specs.Belonging.{BelongsTogether, ends_numbers}
-use Rattle.mb_dispatch.specs.declared.built.Built.{Built}
-use Rattle.mb_dispatch.specs.declared.end.WorkerEnd.{WorkerEnd}
-use Rattle.mb_dispatch.specs.declared.sender.Sender.{Sender}
+use Rattle.mb_system.specs.Belonging.{BelongsTogether}
+use Rattle.mb_system.specs.declared.built.Built.{Built}
+use Rattle.mb_system.specs.declared.end.WorkerEnd.{WorkerEnd}
+use Rattle.mb_system.specs.declared.sender.Sender.{Sender}
 
 -- who the actors of this plan are, the guardian first
 abbrev pub actors_in : Plan → List Identity

@@ -6,7 +6,7 @@ ghost use Rattle.mb_pool.specs.Moves.{WasEmpty};
 ghost use Rattle.mb_pool.specs.Places.{Way, gates_of, looks};
 ghost use Rattle.mb_turn.specs.Fresh.{IsFreshClaim};
 ghost use Rattle.mb_wake.specs.Owed.{IsNobody};
-ghost use Rattle.mb_dispatch.specs.Members.{IsEndOf};
+ghost use Rattle.mb_system.specs.Members.{IsEndOf};
 
 use crate::end::WorkerEnd;
 use crate::failure::{RunError, of_turn};

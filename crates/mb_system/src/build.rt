@@ -3,12 +3,12 @@ ghost use Rattle.std.specs.Prelude.{◌≡◌, ◌+◌, ◌<◌, ◌≤◌, [], 
 ghost use Rattle.mb_gate.specs.Names.{actors_of, first_of, gates_id, known_by, pass_id};
 ghost use Rattle.mb_build.specs.Behaved.{AreBehaved};
 ghost use Rattle.mb_build.specs.Reasons.{reasons};
-ghost use Rattle.mb_dispatch.specs.Begun.{IsBegun};
-ghost use Rattle.mb_dispatch.specs.Unbuilt.{IsNoSystem};
+ghost use Rattle.mb_system.specs.Begun.{IsBegun};
+ghost use Rattle.mb_system.specs.Unbuilt.{IsNoSystem};
 
 use crate::built::Built;
 use crate::end::WorkerEnd;
-use crate::open::Open;
+use crate::going::Going;
 use crate::sender::Sender;
 use crate::system::System;
 use mb_actor::{Actor, Behaviours};
@@ -101,7 +101,7 @@ fn assemble<A: Actor, K: Behaviours, R: Wait>(
             senders: senders.len() as u32,
             gates,
             pool,
-            open: Open::new(),
+            going: Going::new(),
             throughput,
             alloc,
         },

@@ -16,7 +16,7 @@ use Rattle.mb_home.specs.Contents.{Contents}
 use Rattle.mb_home.specs.Steps.{HasNext}
 use Rattle.mb_report.specs.declared.report.ActorReport.{ActorReport}
 use Rattle.mb_report.specs.declared.report.SenderReport.{SenderReport}
-use Rattle.mb_dispatch.specs.declared.room.Ended.{Ended}
+use Rattle.mb_reckon.specs.declared.room.Ended.{Ended}
 
 -- the cell of a home, with what was cleaned up and how many system messages are dead
 abbrev pub ended_of : Ended → Seen × List Envelope × ℕ

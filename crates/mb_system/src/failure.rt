@@ -15,7 +15,7 @@ pub enum RunError {
 }
 
 /// Why a turn was broken off.
-pub(crate) fn of_turn(error: ReadyError) -> RunError {
+pub fn of_turn(error: ReadyError) -> RunError {
     match error {
         ReadyError::NoMemory => RunError::NoMemory,
         ReadyError::JournalFull => RunError::JournalFull,
@@ -23,7 +23,7 @@ pub(crate) fn of_turn(error: ReadyError) -> RunError {
 }
 
 /// Why a job was.
-pub(crate) fn of_sending(error: Unsent) -> RunError {
+pub fn of_sending(error: Unsent) -> RunError {
     match error {
         Unsent::NoMemory => RunError::NoMemory,
         Unsent::NoSuchActor => RunError::NoSuchActor,
@@ -31,6 +31,6 @@ pub(crate) fn of_sending(error: Unsent) -> RunError {
 }
 
 /// What is owed still could not be paid.
-pub(crate) fn of_debts(_error: Unpaid) -> RunError {
+pub fn of_debts(_error: Unpaid) -> RunError {
     RunError::NoMemory
 }

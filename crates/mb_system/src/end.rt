@@ -13,7 +13,8 @@ ghost use Rattle.mb_turn.specs.Ran.{HadRoom, LeavesRun};
 ghost use Rattle.mb_turn.specs.declared.turn.Turn.{Turn as TurnType};
 ghost use Rattle.mb_wake.specs.Owed.{is_owed};
 ghost use Rattle.mb_wake.specs.Views.{LooksAfter};
-ghost use Rattle.mb_dispatch.specs.Members.{end_caller, IsEndOf};
+ghost use Rattle.mb_wake.specs.Waking.{IsWoken};
+ghost use Rattle.mb_system.specs.Members.{end_caller, IsEndOf};
 
 use crate::failure::{RunError, of_debts};
 use crate::system::System;
@@ -29,8 +30,8 @@ use std::sync::Wait;
 /// A worker's end of a system: with its way into the pool of claims, what it knows of the actors, and whom it owes a look. A
 /// thread of its own may have it.
 pub struct WorkerEnd<A: Actor, K: Behaviours> {
-    pub(crate) number: u32,
-    pub(crate) waker: Waker<Place<A, K>, EndWay<Place<A, K>>>,
+    pub number: u32,
+    pub waker: Waker<Place<A, K>, EndWay<Place<A, K>>>,
 }
 
 impl<A: Actor, K: Behaviours> Drop for WorkerEnd<A, K> {
@@ -46,7 +47,9 @@ impl<A: Actor, K: Behaviours> Drop for WorkerEnd<A, K> {
 
 impl<A: Actor, K: Behaviours> WorkerEnd<A, K> {
     /// What the end knows; its way into the pool is let go.
-    pub(crate) fn into_pass(self) -> Pass<Place<A, K>> {
+    pub fn into_pass(self) -> Pass<Place<A, K>>
+        ensures { result ≡ self.waker.pass }
+    {
         let WorkerEnd { number: _, waker } = self;
         let Waker {
             pass,
@@ -71,6 +74,7 @@ impl<A: Actor, K: Behaviours> WorkerEnd<A, K> {
         ensures ours { IsEndOf system.now.gates self.new.waker }
         ensures looks { LooksAfter id.0 (known_by self.old.waker.pass) (known_by self.new.waker.pass) }
         ensures paid { IsPaid id.0 (end_caller self.new.waker) }
+        ensures woken { IsWoken id.0 (end_caller self.old.waker).account (end_caller self.new.waker).account result }
         ensures leaves { LeavesCaller (end_caller self.old.waker) (end_caller self.new.waker) }
         ensures number { self.new.number ≡ self.old.number }
     {
@@ -79,7 +83,7 @@ impl<A: Actor, K: Behaviours> WorkerEnd<A, K> {
     }
 
     /// Does so for all actors, in the order of their numbers.
-    pub(crate) fn register_all<R: Wait>(&mut self, rt: &R, system: &System<A, K>)
+    pub fn register_all<R: Wait>(&mut self, rt: &R, system: &System<A, K>)
         requires ours { IsEndOf system.now.gates self.old.waker }
         ensures ours { IsEndOf system.now.gates self.new.waker }
         ensures number { self.new.number ≡ self.old.number }
@@ -122,7 +126,7 @@ impl<A: Actor, K: Behaviours> WorkerEnd<A, K> {
     }
 
     /// Looks again after each actor that it owes a look.
-    pub(crate) fn pay<R: Wait>(&mut self, rt: &R, system: &System<A, K>) -> Result<(), RunError>
+    pub fn pay<R: Wait>(&mut self, rt: &R, system: &System<A, K>) -> Result<(), RunError>
         requires ours { IsEndOf system.now.gates self.old.waker }
         ensures ours { IsEndOf system.now.gates self.new.waker }
         ensures done { OnOk result ((id : ℕ) → id < actors_of system.now.gates → is_owed self.new.waker.owed id ≡ false) }

@@ -1,9 +1,11 @@
 //! What is left of the actors.
 ghost use Rattle.std.specs.Prelude.{◌≡◌, ◌+◌, ◌<◌, ◌≤◌, [], ◌++◌, IfErr, IfOk, OnOk, length, map, vec_capacity};
-ghost use Rattle.mb_dispatch.specs.Apart.{AreApart, ShowsAll, ShowsCell, ended_of, sent_of};
-ghost use Rattle.mb_dispatch.specs.Refused.{of_whom};
+ghost use Rattle.mb_reckon.specs.Apart.{AreApart, ShowsAll, ShowsCell, ended_of, sent_of};
+ghost use Rattle.mb_reckon.specs.Mismatched.{of_whom};
 
-use crate::finish::Mismatch;
+use crate::mismatch::Mismatch;
+use crate::outsider::Outsider;
+use crate::place::Place;
 use crate::room::Ended;
 use mb_actor::{Actor, Behaviours};
 use mb_gate::Left;
@@ -12,7 +14,6 @@ use mb_msg::{ActorId, Envelope};
 use mb_queue::{SendPass, TakePass};
 use mb_report::{ActorReport, Report, SenderReport};
 use mb_send::Book;
-use mb_turn::Place;
 
 /// Takes the homes apart: the cells, the passes of the queues from actor 1 on, and of each actor its passes and its report as a
 /// sender.
@@ -70,16 +71,16 @@ pub(crate) fn take_apart<A: Actor, K: Behaviours>(
 
 /// The passes and the report of each sender outside.
 pub(crate) fn add_outside(
-    outside: Vec<(Vec<SendPass>, Book)>,
+    outside: Vec<Outsider>,
     rows: &mut Vec<Vec<SendPass>>,
     senders: &mut Vec<SenderReport>,
 )
     requires room { (length rows.old.items + length outside.items ≤ vec_capacity rows.old)
         × (length senders.old.items + length outside.items ≤ vec_capacity senders.old) }
-    ensures rows { map (λ r. r.items) rows.new.items ≡ map (λ r. r.items) rows.old.items ++ map (λ o. o.0.items) outside.items }
-    ensures senders { map sent_of senders.new.items ≡ map sent_of senders.old.items ++ map (λ o. (o.1.sent, o.1.dead.items)) outside.items }
+    ensures rows { map (λ r. r.items) rows.new.items ≡ map (λ r. r.items) rows.old.items ++ map (λ o. o.sends.items) outside.items }
+    ensures senders { map sent_of senders.new.items ≡ map sent_of senders.old.items ++ map (λ o. (o.book.sent, o.book.dead.items)) outside.items }
 {
-    for (sends, book) in outside {
+    for Outsider { sends, book } in outside {
         let Book {
             by: _,
             sent,

@@ -2,16 +2,15 @@
 ghost use Rattle.std.specs.Prelude.{◌≡◌, ◌≤◌, IfOk};
 ghost use Rattle.mb_gate.specs.Names.{actors_of, gates_id, known_by, pass_id};
 ghost use Rattle.mb_gate.specs.Rule.{IsPart};
-ghost use Rattle.mb_dispatch.specs.Rooms.{IsRoom};
+ghost use Rattle.mb_reckon.specs.Rooms.{IsRoom};
 
+use crate::place::Place;
 use mb_actor::{Actor, Behaviours};
 use mb_cell::Cell;
 use mb_gate::{Gates, Left, Pass};
 use mb_msg::{ActorId, Envelope};
 use mb_queue::{SendPass, TakePass};
 use mb_report::{ActorReport, SenderReport};
-use mb_send::Book;
-use mb_turn::Place;
 use std::alloc::{AllocError, Global};
 
 /// What a home leaves but for its passes.
@@ -24,20 +23,19 @@ pub(crate) struct Ended<A: Actor, K: Behaviours> {
 
 /// Room for what is left of each actor and of each sender, and how many envelopes wait for each actor.
 #[derive(Drop)]
-pub(crate) struct Room<A: Actor, K: Behaviours> {
+pub struct Room<A: Actor, K: Behaviours> {
     pub(crate) waiting: Vec<u64>,
     pub(crate) homes: Vec<Option<Left<Place<A, K>>>>,
     pub(crate) ended: Vec<Ended<A, K>>,
     pub(crate) takes: Vec<TakePass>,
     pub(crate) rows: Vec<Vec<SendPass>>,
     pub(crate) lefts: Vec<Vec<Envelope>>,
-    pub(crate) outside: Vec<(Vec<SendPass>, Book)>,
     pub(crate) actors: Vec<ActorReport>,
     pub(crate) senders: Vec<SenderReport>,
 }
 
 /// Makes room for so many senders, and for all that waits.
-pub(crate) fn make_room<A: Actor, K: Behaviours>(
+pub fn make_room<A: Actor, K: Behaviours>(
     alloc: Global,
     gates: &Gates<Place<A, K>>,
     pass: &mut Pass<Place<A, K>>,
@@ -58,7 +56,6 @@ pub(crate) fn make_room<A: Actor, K: Behaviours>(
         takes: Vec::with_capacity(alloc, actors)?,
         rows: Vec::with_capacity(alloc, senders)?,
         lefts: Vec::with_capacity(alloc, actors)?,
-        outside: Vec::with_capacity(alloc, outside)?,
         actors: Vec::with_capacity(alloc, actors)?,
         senders: Vec::with_capacity(alloc, senders)?,
     };

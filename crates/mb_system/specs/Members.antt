@@ -14,8 +14,8 @@ use Rattle.mb_wake.specs.declared.waker.Waker.{Waker}
 use Rattle.mb_ways.specs.Ways.{pushed_first}
 use Rattle.mb_ways.specs.declared.end_way.EndWay.{EndWay}
 use Rattle.mb_ways.specs.declared.feed_way.FeedWay.{FeedWay}
-use Rattle.mb_dispatch.specs.declared.end.WorkerEnd.{WorkerEnd}
-use Rattle.mb_dispatch.specs.declared.job.Job.{Job}
+use Rattle.mb_system.specs.declared.end.WorkerEnd.{WorkerEnd}
+use Rattle.mb_system.specs.declared.job.Job.{Job}
 
 -- the end's pass and its way into the pool are of these gates
 abbrev pub IsEndOf : Gates (Box Contents) → Waker (Box Contents) (EndWay (Box Contents)) → Type 0
@@ -35,6 +35,10 @@ end_caller waker = caller_of (λ (way : EndWay (Box Contents)). pushed_first (lo
 abbrev pub sender_caller : Waker (Box Contents) (FeedWay (Box Contents)) → Caller (Box Contents)
 sender_caller waker = caller_of (λ (way : FeedWay (Box Contents)). pushed_first (looks way.feed))
     (λ (way : FeedWay (Box Contents)). map (λ claim. claim.value) way.refused) waker
+
+-- the numbers of these ends
+abbrev pub ends_numbers : List WorkerEnd → List ℕ
+ends_numbers = map (λ (e : WorkerEnd). e.number)
 
 -- all these ends are of the gates; and so are the senders of these jobs
 abbrev pub AreEndsOf : Gates (Box Contents) → List WorkerEnd → Type 0

@@ -13,12 +13,12 @@ use Rattle.mb_gate.specs.View.{Said, View}
 use Rattle.mb_gate.specs.declared.gates.Gates.{Gates}
 use Rattle.mb_home.specs.Contents.{Contents}
 use Rattle.mb_wake.specs.Owed.{is_owed}
-use Rattle.mb_dispatch.specs.Members.{IsSenderOf}
-use Rattle.mb_dispatch.specs.declared.job.Job.{Job}
-use Rattle.mb_dispatch.specs.declared.job.Order.{Order}
-use Rattle.mb_dispatch.specs.declared.job.What.{What}
-use Rattle.mb_dispatch.specs.declared.job.What.TheVariants.{Tell, Stop}
-use Rattle.mb_dispatch.specs.declared.sender.Sender.{Sender}
+use Rattle.mb_system.specs.Members.{IsSenderOf}
+use Rattle.mb_system.specs.declared.job.Job.{Job}
+use Rattle.mb_system.specs.declared.order.Order.{Order}
+use Rattle.mb_system.specs.declared.order.What.{What}
+use Rattle.mb_system.specs.declared.order.What.TheVariants.{Tell, Stop}
+use Rattle.mb_system.specs.declared.sender.Sender.{Sender}
 
 -- the envelopes that are to be told, each by its receiver and its body, in order
 abbrev pub told_by_one : ActorId → What → List (ActorId × Body)

@@ -3,9 +3,8 @@ ghost use Rattle.std.specs.Prelude.{◌≡◌, ◌<◌, ℕ, false, IsOk, OnOk, 
 ghost use Rattle.std.specs.Thread.{IsSync};
 ghost use Rattle.mb_gate.specs.Names.{actors_of};
 ghost use Rattle.mb_wake.specs.Owed.{is_owed};
-ghost use Rattle.mb_dispatch.specs.Belonging.{ends_numbers};
-ghost use Rattle.mb_dispatch.specs.Members.{AreEndsOf, AreJobsOf, ArePaid, IsEndOf, IsSenderOf};
-ghost use Rattle.mb_dispatch.specs.Orders.{AreDone, HasSent, OwesNobody};
+ghost use Rattle.mb_system.specs.Members.{AreEndsOf, AreJobsOf, ArePaid, IsEndOf, IsSenderOf, ends_numbers};
+ghost use Rattle.mb_system.specs.Orders.{AreDone, HasSent, OwesNobody};
 
 use crate::end::WorkerEnd;
 use crate::failure::RunError;
@@ -36,7 +35,7 @@ impl<A: Actor + Send, K: Behaviours + Send> System<A, K> {
         if let Some(first) = ends.first_mut() {
             first.register_all(rt, self);
         }
-        self.open.open_jobs(jobs.len());
+        self.going.open_jobs(jobs.len());
         let outcome = send_and_work(rt, self, ends, jobs);
         outcome.ends?;
         outcome.jobs
@@ -85,7 +84,7 @@ fn send_and_work<A: Actor + Send, K: Behaviours + Send, R: Threads + Wait + Sync
             ensures { IsSenderOf system.now.gates job.exit.now.sender.inner × (job.exit.now.sends ≡ job.entry.now.sends)
                 × OnOk result (HasSent job.entry.now.sends.items job.entry.now.sender job.exit.now.sender
                 × OwesNobody system.now.gates job.exit.now.sender) }
-        { job.send_all(rt, system) },
+        { job.do_all(rt, system) },
     );
     Outcome {
         ends: rest.ends,

@@ -1,0 +1,61 @@
+//! What became of all.
+ghost use Rattle.std.specs.Prelude.{◌≡◌, ◌<◌, ◌≤◌, IfErr, IfOk, length, map};
+ghost use Rattle.mb_gate.specs.Names.{actors_of, first_of, gates_id, known_by, pass_id};
+ghost use Rattle.mb_reckon.specs.Mismatched.{of_whom};
+ghost use Rattle.mb_reckon.specs.Outside.{AreOutsiders, HasKnownSenders};
+ghost use Rattle.mb_reckon.specs.Rooms.{IsRoom};
+ghost use Rattle.mb_reckon.specs.Seen.{GoesOnFromAll};
+ghost use Rattle.mb_reckon.specs.Whole.{IsWhole};
+
+use crate::mismatch::Mismatch;
+use crate::outsider::Outsider;
+use crate::place::Place;
+use crate::reckoning::{add_outside, report_on, take_apart};
+use crate::room::Room;
+use mb_actor::{Actor, Behaviours};
+use mb_finish::{TooMany, settle};
+use mb_gate::{Gates, Pass};
+use mb_msg::ActorId;
+use mb_report::Report;
+use std::sync::Wait;
+
+/// Takes all apart, and reports what became of each actor and of each envelope. The pass took over what all others knew; the
+/// senders outside come in the order of their numbers. No memory is asked for.
+///
+/// It answers what does not agree.
+pub fn reckon<A: Actor, K: Behaviours, R: Wait>(
+    rt: &R,
+    gates: Gates<Place<A, K>>,
+    pass: Pass<Place<A, K>>,
+    outside: Vec<Outsider>,
+    room: Room<A, K>,
+) -> Result<Report, Mismatch>
+    requires ours { pass_id pass ≡ gates_id gates }
+    requires few { (actors_of gates ≤ 64) × (length outside.items ≤ 16) }
+    requires roll { length (first_of gates).value.roll ≡ actors_of gates }
+    requires senders { HasKnownSenders (first_of gates).value.roll (length outside.items) }
+    requires outside { AreOutsiders (first_of gates).value.roll (known_by pass).log 64 outside.items }
+    requires room { IsRoom (actors_of gates) (length outside.items) room }
+    ensures whole { IfOk result (λ report.
+        IsWhole K.after K.gives (first_of gates).value.roll (map (λ o. o.book.posted) outside.items) report) }
+    ensures seen { IfOk result (λ report. GoesOnFromAll report (known_by pass)) }
+    ensures whom { IfErr result (λ mismatch. of_whom mismatch < actors_of gates) }
+{
+    let Room {
+        waiting,
+        homes,
+        mut ended,
+        mut takes,
+        mut rows,
+        mut lefts,
+        actors,
+        mut senders,
+    } = room;
+    let all = gates.finish(pass, homes);
+    take_apart(all, &mut ended, &mut takes, &mut rows, &mut senders)?;
+    add_outside(outside, &mut rows, &mut senders);
+    if let Err(TooMany(place)) = settle(rt, takes, rows, &mut lefts[1..]) {
+        return Err(Mismatch::Waiting(ActorId(place as u32 + 1)));
+    }
+    report_on(ended, lefts, &waiting, actors, senders)
+}

@@ -1,0 +1,113 @@
+-- What a sender did of its orders, one after another.
+use Rattle.std.proofs.Common.{◌≡◌, List, [], ◌∷◌, ◌++◌, Bool, true, false, ℕ, map, ap, sym, refl, ◌∙◌, append_assoc, Option}
+use Rattle.std.specs.Prelude.{reverse}
+use Rattle.std.proofs.lemmas.List.{append-nil, map-append, reverse-append}
+use Rattle.mb_msg.specs.declared.dead_letter.Why.{Why}
+use Rattle.mb_msg.specs.declared.envelope.Body.{Body}
+use Rattle.mb_msg.specs.declared.envelope.Envelope.{Envelope}
+use Rattle.mb_msg.specs.declared.id.ActorId.{ActorId}
+use Rattle.mb_msg.specs.declared.id.SenderId.{SenderId}
+use Rattle.mb_msg.specs.declared.system.SysMsg.TheVariants.{Terminate}
+use Rattle.mb_fates.specs.declared.posting.Posting.{Posting}
+use Rattle.mb_fates.specs.Accepted.{accepted}
+use Rattle.mb_gate.specs.Names.{known_by}
+use Rattle.mb_gate.specs.View.{Said, View}
+use Rattle.mb_queue.specs.Passes.{Sending}
+use Rattle.mb_send.specs.Answers.{FollowsLook, IsTold, Stops}
+use Rattle.mb_send.specs.Posted.{envelope_of, posting}
+use Rattle.mb_send.specs.declared.put.Put.{Put}
+use Rattle.mb_send.specs.declared.ticket.Look.{Look}
+use Rattle.mb_send.specs.declared.ticket.Look.TheVariants.{Open, Closed}
+use Rattle.mb_system.specs.Orders.{HasSent, addressed, said_to, stopped_by, stopped_by_one, told_by, told_by_one}
+use Rattle.mb_system.specs.declared.order.Order.{Order}
+use Rattle.mb_system.specs.declared.order.What.TheVariants.{Tell, Stop}
+use Rattle.mb_system.specs.declared.sender.Sender.{Sender}
+
+accepted-append : (ps qs : List Posting) → addressed (accepted (ps ++ qs)) ≡ addressed (accepted ps) ++ addressed (accepted qs)
+accepted-append ps qs =
+    ap addressed (map-append (λ (p : Posting). p.envelope) ps qs) ∙ map-append (λ (e : Envelope). (e.to, e.body)) (accepted ps) (accepted qs)
+
+told-append : (xs ys : List Order) → told_by (xs ++ ys) ≡ told_by xs ++ told_by ys
+told-append [] ys = refl
+told-append (o ∷ xs) ys =
+    ap (λ l. told_by_one o.to o.what ++ l) (told-append xs ys) ∙ sym (append_assoc (told_by_one o.to o.what) (told_by xs) (told_by ys))
+
+stopped-append : (xs ys : List Order) → stopped_by (xs ++ ys) ≡ stopped_by xs ++ stopped_by ys
+stopped-append [] ys = refl
+stopped-append (o ∷ xs) ys =
+    ap (λ l. stopped_by_one o.to o.what ++ l) (stopped-append xs ys)
+    ∙ sym (append_assoc (stopped_by_one o.to o.what) (stopped_by xs) (stopped_by ys))
+
+-- nothing was to be sent
+pub sent-none : (s : Sender) → HasSent [] s s
+sent-none s = record { by = refl; more = []; posted = sym (append-nil s.inner.book.posted); accepted_are = refl; said = refl }
+
+-- first this was sent, and then that
+pub sent-then : (xs ys : List Order) (a b c : Sender) → HasSent xs a b → HasSent ys b c → HasSent (xs ++ ys) a c
+sent-then xs ys a b c p q = record {
+  by = q.by ∙ p.by;
+  more = p.more ++ q.more;
+  posted = q.posted ∙ ap (λ l. l ++ q.more) p.posted ∙ append_assoc a.inner.book.posted p.more q.more;
+  accepted_are = accepted-append p.more q.more ∙ (λ i. p.accepted_are i ++ q.accepted_are i) ∙ sym (told-append xs ys);
+  said =
+      q.said ∙ ap (λ l. reverse (stopped_by ys) ++ l) p.said ∙ sym (append_assoc (reverse (stopped_by ys)) (reverse (stopped_by xs)) _)
+      ∙ ap (λ l. l ++ said_to (known_by a.inner.waker.pass).said)
+      (sym (reverse-append (stopped_by xs) (stopped_by ys)) ∙ ap reverse (sym (stopped-append xs ys)));
+}
+
+-- it sent and said nothing since
+pub sent-still : (xs : List Order) (a b c : Sender) → c.inner.book ≡ b.inner.book
+    → (known_by c.inner.waker.pass).said ≡ (known_by b.inner.waker.pass).said → HasSent xs a b → HasSent xs a c
+sent-still xs a b c book said p = record {
+  by = ap (λ k. k.by) book ∙ p.by;
+  more = p.more;
+  posted = ap (λ k. k.posted) book ∙ p.posted;
+  accepted_are = p.accepted_are;
+  said = ap said_to said ∙ p.said;
+}
+
+-- an envelope was told
+module _ (by : SenderId) (number : ℕ) (to : ActorId) (body : Body) (posted posted' : List Posting) where
+  abbrev pub IsOnePosted : Type 0
+  IsOnePosted = (refused : Option Why) × (posted' ≡ posted ++ posting (envelope_of by to number body) refused ∷ [])
+
+  pub one-posted : (sends : List Sending) (old new : View) (put : Put) → IsTold by number to body posted posted' sends old new put
+      → IsOnePosted × (new.said ≡ old.said)
+  one-posted sends old new put told = by_look told.look told.follows
+    where
+      same : told.between.said ≡ old.said
+      same = ap (λ (v : View). v.said) told.seen.read
+
+      by_look : (look : Look) → FollowsLook by number to body posted posted' sends told.between new put look
+          → IsOnePosted × (new.said ≡ old.said)
+      by_look (Open ticket) sent = ((sent.refused, sent.posted_is), sent.counted.said ∙ same)
+      by_look Closed buried = ((_, buried.0.posted_is), ap (λ (v : View). v.said) buried.1 ∙ same)
+
+pub sent-told : (to : ActorId) (body : Body) (put : Put) (a b : Sender) → b.inner.book.by ≡ a.inner.book.by
+    → IsTold a.inner.book.by a.inner.book.sent to body a.inner.book.posted b.inner.book.posted a.inner.sends.items (known_by a.inner.waker.pass)
+    (known_by b.inner.waker.pass) put → HasSent (record { to = to; what = Tell body } ∷ []) a b
+sent-told to body put a b by told =
+    let one = one-posted a.inner.book.by a.inner.book.sent to body a.inner.book.posted b.inner.book.posted a.inner.sends.items
+    (known_by a.inner.waker.pass) (known_by b.inner.waker.pass) put told in
+    record {
+      by = by;
+      more = posting (envelope_of a.inner.book.by to a.inner.book.sent body) one.0.0 ∷ [];
+      posted = one.0.1;
+      accepted_are = refl;
+      said = ap said_to one.1;
+    }
+
+-- a Terminate was said
+said-stopped : (id : ℕ) (old new : View) (stopped : Bool) → Stops id old new stopped → said_to new.said ≡ (id, Terminate) ∷ said_to old.said
+said-stopped id old new true s = ap said_to s.1.said
+said-stopped id old new false s = ap said_to s.said
+
+pub sent-stopped : (to : ActorId) (stopped : Bool) (a b : Sender) → b.inner.book ≡ a.inner.book
+    → Stops to.0 (known_by a.inner.waker.pass) (known_by b.inner.waker.pass) stopped → HasSent (record { to = to; what = Stop } ∷ []) a b
+sent-stopped to stopped a b book s = record {
+  by = ap (λ k. k.by) book;
+  more = [];
+  posted = ap (λ k. k.posted) book ∙ sym (append-nil a.inner.book.posted);
+  accepted_are = refl;
+  said = said-stopped to.0 (known_by a.inner.waker.pass) (known_by b.inner.waker.pass) stopped s;
+}

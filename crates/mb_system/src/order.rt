@@ -1,0 +1,66 @@
+//! What a sender outside the actors is to send.
+ghost use Rattle.std.specs.Prelude.{◌≡◌, [], ◌∷◌, OnOk};
+ghost use Rattle.mb_system.specs.Members.{IsSenderOf};
+ghost use Rattle.mb_system.specs.Orders.{HasSent};
+
+use crate::failure::{RunError, of_sending};
+use crate::sender::Sender;
+use crate::system::System;
+use mb_actor::{Actor, Behaviours};
+use mb_msg::{ActorId, Body};
+use std::sync::Wait;
+
+/// What is to be sent.
+#[derive(Clone, Copy, Debug, PartialEq, Eq)]
+pub enum What {
+    /// An envelope with this body.
+    Tell(Body),
+    /// A Terminate.
+    Stop,
+}
+
+/// One thing that is to be sent.
+#[derive(Clone, Copy, Debug, PartialEq, Eq)]
+pub struct Order {
+    /// To whom.
+    pub to: ActorId,
+    /// What.
+    pub what: What,
+}
+
+impl<A: Actor, K: Behaviours> Sender<A, K> {
+    /// Sends all this, in order. It stops at the first fault: `NoSuchActor` or `NoMemory` as a tell or a stop answers it.
+    pub fn send_all<R: Wait>(
+        &mut self,
+        rt: &R,
+        system: &System<A, K>,
+        orders: &[Order],
+    ) -> Result<(), RunError>
+        requires ours { IsSenderOf system.now.gates self.old.inner }
+        ensures ours { IsSenderOf system.now.gates self.new.inner }
+        ensures sent { OnOk result (HasSent orders.now self.old self.new) }
+    {
+        for order in orders {
+            self.send(rt, system, *order)?;
+        }
+        Ok(())
+    }
+
+    // Sends one thing.
+    fn send<R: Wait>(&mut self, rt: &R, system: &System<A, K>, order: Order) -> Result<(), RunError>
+        requires ours { IsSenderOf system.now.gates self.old.inner }
+        ensures ours { IsSenderOf system.now.gates self.new.inner }
+        ensures sent { OnOk result (HasSent (order ∷ []) self.old self.new) }
+    {
+        match order.what {
+            What::Tell(body) => match self.tell(rt, system, order.to, body) {
+                Ok(_) => Ok(()),
+                Err(error) => Err(of_sending(error)),
+            },
+            What::Stop => match self.stop(rt, system, order.to) {
+                Ok(_) => Ok(()),
+                Err(error) => Err(of_sending(error)),
+            },
+        }
+    }
+}
