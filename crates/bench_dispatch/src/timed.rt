@@ -1,7 +1,7 @@
 //! A run that is timed.
 use crate::jobs::{jobs_of, senders_of};
 use mb_actor::{Actor, Behaviours};
-use mb_dispatch::{Built, System};
+use mb_dispatch::{Built, System, finish};
 use mb_plan::Plan;
 use mb_reader::Sending;
 use mb_report::Report;
@@ -43,7 +43,7 @@ pub fn run_timed<A: Actor + Send, K: Behaviours + Send, R: Clock + Threads + Wai
         ends,
         senders,
     };
-    let Ok(report) = built.finish(rt) else {
+    let Ok(report) = finish(rt, built) else {
         return None;
     };
     Some(Timed { report, time })

@@ -1,11 +1,8 @@
 //! Answers in words, as the stories write them.
-use mb_dispatch::{FinishError, Mismatch, RunError};
-use mb_msg::Why;
-use mb_send::{Look, Put, Unsent};
-use mb_turn::Turn;
-use std::alloc::{AllocError, Global};
-
 use crate::player::{Adding, Player};
+use mb_dispatch::{FinishError, Look, Mismatch, Put, RunError, Turn, Unsent};
+use mb_msg::Why;
+use std::alloc::{AllocError, Global};
 
 /// The step and the answer of a line; a line without them is none.
 pub fn line_of(line: &str) -> Option<(&str, &str)> {
@@ -18,20 +15,8 @@ pub fn truth(is_so: bool) -> &'static str {
     if is_so { "yes" } else { "no" }
 }
 
-/// The turns, each as its actor, its system messages and its envelopes.
-pub fn turns(alloc: Global, turns: &[Turn]) -> Result<String, AllocError> {
-    let mut text = String::new(alloc);
-    for turn in turns {
-        if !text.is_empty() {
-            text.push_str(" ")?;
-        }
-        let turn = turn_in_words(alloc, turn)?;
-        text.push_str(turn.as_str())?;
-    }
-    Ok(text)
-}
-
-fn turn_in_words(alloc: Global, turn: &Turn) -> Result<String, AllocError> {
+/// A turn, as its actor, its system messages and its envelopes.
+pub fn turned(alloc: Global, turn: &Turn) -> Result<String, AllocError> {
     let Turn {
         actor,
         system,
@@ -39,6 +24,31 @@ fn turn_in_words(alloc: Global, turn: &Turn) -> Result<String, AllocError> {
     } = *turn;
     let number = actor.0;
     format!(in alloc; "({number};{system},{envelopes})")
+}
+
+/// The turns, one after another.
+pub fn turns(alloc: Global, turns: &[Turn]) -> Result<String, AllocError> {
+    let mut text = String::new(alloc);
+    for turn in turns {
+        add(&mut text, " ", turned(alloc, turn)?.as_str())?;
+    }
+    Ok(text)
+}
+
+/// One more at the end, apart from what is there.
+pub fn add(text: &mut String, between: &str, more: &str) -> Result<(), AllocError> {
+    if !text.is_empty() {
+        text.push_str(between)?;
+    }
+    text.push_str(more)
+}
+
+/// What came of a run.
+pub fn ran(run: Result<(), RunError>) -> &'static str {
+    match run {
+        Ok(()) => "done",
+        Err(error) => broken_off(error),
+    }
 }
 
 /// Why a run was broken off.
@@ -51,7 +61,7 @@ pub fn broken_off(error: RunError) -> &'static str {
 }
 
 /// Why nothing was sent.
-pub fn unsent(why: Unsent) -> &'static str {
+fn unsent(why: Unsent) -> &'static str {
     match why {
         Unsent::NoMemory => "no memory",
         Unsent::NoSuchActor => "nobody",
