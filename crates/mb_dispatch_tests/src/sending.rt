@@ -45,7 +45,7 @@ pub fn send<R: Wait>(
 }
 
 /// What is sent once by this line of a scenario.
-fn order_of(sending: &Sending) -> Order {
+pub fn order_of(sending: &Sending) -> Order {
     let what = match sending.what {
         Said::Envelope(body) => What::Tell(body),
         Said::Stop => What::Stop,

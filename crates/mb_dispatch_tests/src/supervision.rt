@@ -226,10 +226,11 @@ actor = [
 ]
 send = [{ to = "c", kind = 2 }]
 ---
+The parent's journal has no place before its next take, though none comes: the child is to be restarted once more.
 send = queued 0
 run = journal full
 ---
-1 not quiet
+2 not quiet
 "#;
 
 const KILLED_AND_ESCALATED: &str = r#"
