@@ -66,7 +66,7 @@ pub fn guests(alloc: Global, hall: &Arc<Hall>, count: u32) -> Result<Vec<Guest>,
     let mut guests = Vec::new(alloc);
     for number in 0..count {
         guests.push(Guest {
-            hall: hall.clone(),
+            hall: hall.clone()?,
             is_first: number == 0,
         })?;
     }

@@ -1,10 +1,9 @@
 //! Systems of scenarios.
 use crate::player::{Adding, Player};
-use mb_dispatch::{BuildError, Built, System};
-use mb_plan::Plan;
+use mb_dispatch::{Built, System};
 use mb_reader::{Scenario, Sending, read};
 use mb_script::Script;
-use std::alloc::Global;
+use std::alloc::{AllocError, Global};
 use std::sync::Wait;
 use std::test::Fail;
 
@@ -18,20 +17,22 @@ pub struct Begun {
 
 /// The system of this scenario, with one sender at least.
 pub fn begun<R: Wait>(rt: &R, alloc: Global, text: &str) -> Result<Begun, Fail> {
-    let Ok(scenario) = read(alloc, text.as_bytes()) else {
-        return Err(Fail::from("no scenario"));
-    };
+    Ok(begun_once(rt, alloc, text).ok_or("no system")?)
+}
+
+/// The same; nothing where it is no scenario, or memory was refused.
+pub fn begun_once<R: Wait>(rt: &R, alloc: Global, text: &str) -> Option<Begun> {
     let Scenario {
         mut plan,
         names,
         scripts,
         sends,
         quiet: _,
-    } = scenario;
+    } = read(alloc, text.as_bytes()).ok()?;
     plan.senders = plan.senders.max(1);
-    let players = players_of(alloc, scripts)?;
-    let built = built(rt, alloc, plan, players)?;
-    Ok(Begun {
+    let players = players_of(alloc, scripts).ok()?;
+    let built = System::build(rt, alloc, plan, players).ok()?;
+    Some(Begun {
         built,
         names,
         sends,
@@ -39,23 +40,10 @@ pub fn begun<R: Wait>(rt: &R, alloc: Global, text: &str) -> Result<Begun, Fail> 
 }
 
 /// The players of these scripts.
-fn players_of(alloc: Global, scripts: Vec<Script>) -> Result<Vec<Player>, Fail> {
+fn players_of(alloc: Global, scripts: Vec<Script>) -> Result<Vec<Player>, AllocError> {
     let mut players = Vec::with_capacity(alloc, scripts.len())?;
     for script in scripts {
         players.push(Player::new(script))?;
     }
     Ok(players)
-}
-
-fn built<R: Wait>(
-    rt: &R,
-    alloc: Global,
-    plan: Plan,
-    players: Vec<Player>,
-) -> Result<Built<Player, Adding>, Fail> {
-    match System::build(rt, alloc, plan, players) {
-        Ok(built) => Ok(built),
-        Err(BuildError::BadPlan(_, _, _)) => Err(Fail::from("a bad plan")),
-        Err(BuildError::NoMemory) => Err(Fail::from("no memory")),
-    }
 }

@@ -1,6 +1,6 @@
 //! A whole run whose calls are made again where memory is refused (`tools/refuse_each_allocation_of_a_system`).
 use crate::player::{Adding, Player};
-use crate::reading::{Begun, begun};
+use crate::reading::{Begun, begun, begun_once};
 use crate::sending::order_of;
 use mb_dispatch::{Built, FinishError, Put, RunError, Sender, System, Unsent, What, finish};
 use mb_msg::Why;
@@ -148,9 +148,9 @@ fn run_at_last<R: Abort + Wait>(rt: &R, alloc: Global, scenario: &str) -> Result
         mut built,
         names,
         sends,
-    } = match begun(rt, alloc, scenario) {
-        Ok(begun) => begun,
-        Err(_) => begun(rt, alloc, scenario)?,
+    } = match begun_once(rt, alloc, scenario) {
+        Some(begun) => begun,
+        None => begun(rt, alloc, scenario)?,
     };
     let due = send_and_run(rt, &mut built, &sends)?;
     let report = finish_at_last(rt, built)?;

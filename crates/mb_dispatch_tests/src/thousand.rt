@@ -7,7 +7,6 @@ use mb_dispatch::{Built, Job, Order, Sender, System, finish};
 use mb_plan::{ActorPlan, Kind, Pool};
 use mb_report::Report;
 use std::alloc::{AllocError, Global};
-use std::process::Abort;
 use std::sync::Wait;
 use std::test::Fail;
 use std::thread::Threads;
@@ -92,19 +91,27 @@ fn try_one<R: Threads + Wait + Sync>(
     hold_actors(alloc, &report)
 }
 
-fn try_five_hundred<R: Abort + Threads + Wait + Sync>(rt: &R, alloc: Global, pool: Pool) {
+/// Runs five hundred plans; of one that fails the seed is said.
+fn try_five_hundred<R: Eprint + Threads + Wait + Sync>(
+    rt: &R,
+    alloc: Global,
+    pool: Pool,
+) -> Result<(), Fail> {
     for seed in 0..500 {
-        let found = try_one(rt, alloc, seed, pool);
-        assert!(rt; found.is_ok(), "{seed}: {found:?}");
+        if let Err(fail) = try_one(rt, alloc, seed, pool) {
+            let _ = eprintln!(rt; "the plan of seed {seed}");
+            return Err(fail);
+        }
     }
+    Ok(())
 }
 
 #[test]
-fn five_hundred_plans_by_a_shared_pool_keep_what_must_be_true(rt: HostRuntime) {
-    try_five_hundred(&rt, rt.alloc(), Pool::Shared);
+fn five_hundred_plans_by_a_shared_pool_keep_what_must_be_true(rt: HostRuntime) -> Result<(), Fail> {
+    try_five_hundred(&rt, rt.alloc(), Pool::Shared)
 }
 
 #[test]
-fn five_hundred_plans_by_a_stealing_pool_keep_what_must_be_true(rt: HostRuntime) {
-    try_five_hundred(&rt, rt.alloc(), Pool::Stealing);
+fn five_hundred_plans_by_a_stealing_pool_keep_what_must_be_true(rt: HostRuntime) -> Result<(), Fail> {
+    try_five_hundred(&rt, rt.alloc(), Pool::Stealing)
 }
