@@ -41,12 +41,39 @@ fn empty_maps(alloc: Global, count: usize) -> Result<Index, AllocError>
     Ok(index)
 }
 
+/// How many rows are sooner looked through than found by an index.
+const FEW: usize = 8;
+
 /// The first row for messages of the kind.
 pub(crate) fn first_of_kind<'a>(
     rows: &'a [Row],
     index: &[BTreeMap<u32, usize>],
     kind: u32,
 ) -> Option<&'a Row>
+    requires { IsIndexFrom 0 rows.now index.now }
+    ensures { option_map (λ row. row_data row.now) result ≡ row_for kind (map row_data rows.now) }
+{
+    if rows.len() <= FEW {
+        first_in_order(rows, kind)
+    } else {
+        first_by_index(rows, index, kind)
+    }
+}
+
+/// The same, found by looking at one row after another.
+fn first_in_order(rows: &[Row], kind: u32) -> Option<&Row>
+    ensures { option_map (λ row. row_data row.now) result ≡ row_for kind (map row_data rows.now) }
+{
+    for row in rows {
+        if row.kind == kind {
+            return Some(row);
+        }
+    }
+    None
+}
+
+/// The same, found by the index.
+fn first_by_index<'a>(rows: &'a [Row], index: &[BTreeMap<u32, usize>], kind: u32) -> Option<&'a Row>
     requires { IsIndexFrom 0 rows.now index.now }
     ensures { option_map (λ row. row_data row.now) result ≡ row_for kind (map row_data rows.now) }
 {

@@ -2,7 +2,7 @@ use Rattle.std.proofs.Common.{rules, ◌≡◌, [], ◌<◌, length, Some}
 use Rattle.mb_script.proofs.Indexing.{index_finds, index_misses}
 use Rattle.mb_script.proofs.Placing.{placed_in, placed_nowhere}
 use Rattle.mb_script.specs.Index.{place_in}
-use Rattle.mb_script.proofs.index.first_of_kind.Goals as goal
+use Rattle.mb_script.proofs.index.first_by_index.Goals as goal
 
 pub returns-then-is_empty : goal.returns-then-is_empty
 returns-then-is_empty c = index_misses c.args.rows.now c.args.index.now c.args.kind (record { kind = 0; operations = [] }) c.requires
