@@ -52,7 +52,9 @@ fn report(alloc: Global) -> Result<String, AllocError> {
 }
 
 fn line(alloc: Global, number: u32, count: u32) -> Result<String, AllocError> {
-    format!(in alloc; "a{number} live state {count} suspended 0 handled {count} left 0 dead 0 restarts 0\n")
+    format!(in alloc;
+        "a{number} live state {count} suspended 0 handled {count} left 0 dead 0 restarts 0\n"
+    )
 }
 
 fn count_in_a_crowd<R: Abort + Threads + Wait + Sync>(

@@ -38,7 +38,11 @@ pub fn hold_envelopes(
     for actor in &report.actors {
         fates.push(fates_of(alloc, actor)?)?;
     }
-    for (sender, told) in report.senders.iter().zip(all_told(alloc, report, sends)?.iter()) {
+    for (sender, told) in report
+        .senders
+        .iter()
+        .zip(all_told(alloc, report, sends)?.iter())
+    {
         let by = number_of(actors, report.actors.len());
         hold_sender(alloc, report, mails, &fates, SenderId(by), sender, told)?;
         actors += 1;

@@ -39,7 +39,8 @@ fn sum_of(journal: &Journal) -> i64 {
         match journal.get(place).arrival {
             Arrival::Handled { envelope, .. } => sum = sum.saturating_add(value_of(envelope.body)),
             Arrival::System {
-                answer: Some(_), ..
+                answer: Some(_),
+                ..
             } => sum = 0,
             _ => {}
         }
@@ -62,7 +63,9 @@ fn hold_phase(actor: &ActorReport, is_guardian: bool) -> Result<(), Fail> {
     let mut is_terminated = false;
     for place in 0..actor.journal.len() {
         if let Arrival::System {
-            answer, message, ..
+            answer,
+            message,
+            ..
         } = actor.journal.get(place).arrival
         {
             if message == SysMsg::Terminate {
@@ -98,7 +101,10 @@ fn hold_rest(actor: &ActorReport) -> Result<(), Fail> {
         actor.cleaned.is_empty() || has_ended,
         "an envelope of an open actor is cleaned up",
     )?;
-    must(!has_ended || actor.count == 0, "an ended actor is suspended")?;
+    must(
+        !has_ended || actor.count == 0,
+        "an ended actor is suspended",
+    )?;
     must(
         actor.aside.is_empty() || (actor.count > 0 && !has_ended),
         "a message is set aside at an open actor",
@@ -113,7 +119,9 @@ fn hold_numbers(alloc: Global, actor: &ActorReport) -> Result<(), Fail> {
         match actor.journal.get(place).arrival {
             Arrival::System { number, .. } => {
                 arrive(&mut applied, number)?;
-                let once = applied.get_mut(number as usize).ok_or("a number is missing")?;
+                let once = applied
+                    .get_mut(number as usize)
+                    .ok_or("a number is missing")?;
                 must(!*once, "a system message is applied twice")?;
                 *once = true;
                 count = count.saturating_add(1);

@@ -166,11 +166,15 @@ fn run_at_last<R: Abort + Wait>(rt: &R, alloc: Global, scenario: &str) -> Result
 }
 
 #[test]
-fn a_refused_call_of_a_system_with_a_shared_pool_can_be_made_again(rt: HostRuntime) -> Result<(), Fail> {
+fn a_refused_call_of_a_system_with_a_shared_pool_can_be_made_again(
+    rt: HostRuntime,
+) -> Result<(), Fail> {
     run_at_last(&rt, rt.alloc(), SHARED)
 }
 
 #[test]
-fn a_refused_call_of_a_system_with_a_stealing_pool_can_be_made_again(rt: HostRuntime) -> Result<(), Fail> {
+fn a_refused_call_of_a_system_with_a_stealing_pool_can_be_made_again(
+    rt: HostRuntime,
+) -> Result<(), Fail> {
     run_at_last(&rt, rt.alloc(), STEALING)
 }

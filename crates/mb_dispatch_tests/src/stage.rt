@@ -131,9 +131,7 @@ impl Stage {
         } = self.built.as_mut().ok_or(OVER)?;
         let first = ends.first_mut().ok_or("no end")?;
         let claim = first.take(rt).ok_or("no claim")?;
-        let turn = first
-            .run_mailbox(rt, system, claim)
-            .map_err(|_| "no turn")?;
+        let turn = first.run_mailbox(rt, system, claim).map_err(|_| "no turn")?;
         Ok(turned(self.alloc, &turn)?)
     }
 

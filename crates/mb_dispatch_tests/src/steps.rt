@@ -50,11 +50,7 @@ fn play_each<R: Abort + Threads + Wait + Sync>(
 }
 
 /// What the step answers.
-fn answer<R: Threads + Wait + Sync>(
-    rt: &R,
-    stage: &mut Stage,
-    step: &str,
-) -> Result<String, Fail> {
+fn answer<R: Threads + Wait + Sync>(rt: &R, stage: &mut Stage, step: &str) -> Result<String, Fail> {
     match step {
         "send" => stage.send(rt),
         "run" => stage.run(rt),

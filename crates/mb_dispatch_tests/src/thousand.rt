@@ -112,6 +112,8 @@ fn five_hundred_plans_by_a_shared_pool_keep_what_must_be_true(rt: HostRuntime) -
 }
 
 #[test]
-fn five_hundred_plans_by_a_stealing_pool_keep_what_must_be_true(rt: HostRuntime) -> Result<(), Fail> {
+fn five_hundred_plans_by_a_stealing_pool_keep_what_must_be_true(
+    rt: HostRuntime,
+) -> Result<(), Fail> {
     try_five_hundred(&rt, rt.alloc(), Pool::Stealing)
 }

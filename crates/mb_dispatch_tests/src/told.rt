@@ -1,8 +1,8 @@
 //! What each sender told: of a sender outside its orders say it, of an actor its journal.
+use mb_actor::Effect;
 use mb_dispatch::{Order, What};
 use mb_journal::{Arrival, Journal};
 use mb_msg::{ActorId, Body, SysMsg};
-use mb_actor::Effect;
 use std::alloc::{AllocError, Global};
 
 /// Envelopes, each by its receiver and its body, in order.
