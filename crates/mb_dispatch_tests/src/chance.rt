@@ -86,7 +86,11 @@ fn strategy(alloc: Global, dice: &mut Dice) -> Result<Strategy, AllocError> {
     }
     Ok(Strategy {
         rows,
-        retries: i64::from(dice.roll(4)) - 1,
+        retries: if dice.is_one_of(3) {
+            i64::from(dice.roll(4))
+        } else {
+            -1
+        },
         all_for_one: dice.is_one_of(3),
     })
 }
@@ -102,10 +106,10 @@ fn pattern(dice: &mut Dice) -> Pattern {
 }
 
 fn directive(dice: &mut Dice) -> Directive {
-    match dice.roll(4) {
-        0 => Directive::Resume,
-        1 => Directive::Restart,
-        2 => Directive::Stop,
+    match dice.roll(7) {
+        0..=2 => Directive::Resume,
+        3..=4 => Directive::Restart,
+        5 => Directive::Stop,
         _ => Directive::Escalate,
     }
 }
@@ -138,14 +142,14 @@ fn script(alloc: Global, dice: &mut Dice, count: u32) -> Result<Script, AllocErr
 fn start(alloc: Global, dice: &mut Dice, count: u32) -> Result<Vec<Operation>, AllocError> {
     let mut operations = some_tells(alloc, dice, count)?;
     for number in 1..=count {
-        if !dice.is_one_of(6) {
+        if !dice.is_one_of(20) {
             operations.push(Operation::Spawn(ActorId(number)))?;
         }
     }
     if dice.is_one_of(3) {
         operations.push(Operation::Watch(somebody(dice, count)))?;
     }
-    if dice.is_one_of(9) {
+    if dice.is_one_of(20) {
         operations.push(Operation::Fail(4))?;
     }
     Ok(operations)
@@ -201,21 +205,19 @@ fn orders(alloc: Global, dice: &mut Dice, count: u32) -> Result<Vec<Order>, Allo
 }
 
 fn what(dice: &mut Dice) -> What {
-    match dice.roll(30) {
+    let value = i64::from(dice.roll(100));
+    match dice.roll(100) {
         0 => What::Stop,
         1 => What::Tell(Body::Kill),
         2 => What::Tell(Body::PoisonPill),
-        3..=7 => What::Tell(Body::Control {
-            kind: 1 + dice.roll(8),
-            value: i64::from(dice.roll(100)),
+        3..=20 => What::Tell(Body::Control {
+            kind: 1 + dice.roll(3),
+            value,
         }),
-        8..=19 => What::Tell(Body::User {
-            kind: 1,
-            value: i64::from(dice.roll(100)),
-        }),
-        _ => What::Tell(Body::User {
+        21..=40 => What::Tell(Body::User {
             kind: 1 + dice.roll(9),
-            value: i64::from(dice.roll(100)),
+            value,
         }),
+        _ => What::Tell(Body::User { kind: 1, value }),
     }
 }
