@@ -1,0 +1,32 @@
+//! Why a run gave no report.
+use mb_dispatch::RunError;
+use mb_msg::ActorId;
+use std::alloc::AllocError;
+
+/// Why a run gave no report.
+#[derive(Clone, Copy, Debug, PartialEq, Eq)]
+pub enum RunFault {
+    /// Memory was refused.
+    NoMemory,
+    /// The journal of an actor has as many entries as it may have.
+    JournalFull,
+    /// This actor has something to run still.
+    NotQuiet(ActorId),
+    /// What came apart at the end does not agree.
+    Mismatch,
+}
+
+impl From<AllocError> for RunFault {
+    fn from(_refused: AllocError) -> RunFault {
+        RunFault::NoMemory
+    }
+}
+
+/// Why a run was broken off whose orders name actors that there are.
+pub(crate) fn of_run(error: RunError) -> RunFault {
+    match error {
+        RunError::NoMemory => RunFault::NoMemory,
+        RunError::JournalFull => RunFault::JournalFull,
+        RunError::NoSuchActor => unreachable!(),
+    }
+}
