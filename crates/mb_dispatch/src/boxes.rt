@@ -1,4 +1,8 @@
 //! A whole run on one thread, also of boxed actors of mixed kinds.
+ghost use Rattle.std.specs.Prelude.{◌≡◌, [], All, IfOk, map};
+ghost use Rattle.mb_build.specs.Behaved.{AreBehaved};
+ghost use Rattle.mb_dispatch.specs.Story.{IsStory, after_at, gives_at};
+
 use crate::ending::{FinishError, finish};
 use mb_actor::{Actor, Behaviours};
 use mb_build::PlanError;
@@ -27,25 +31,47 @@ pub enum WholeError {
 }
 
 /// Builds a system from a plan and boxed actors of any kinds, sends by each sender outside what stands at its place, runs it on
-/// this thread alone until nothing is left to run, and ends it: the report.
+/// this thread alone until nothing is left to run, and ends it: the report. No message came to any of the actors yet.
 pub fn run_boxed<R: Wait>(
     rt: &R,
     alloc: Global,
     plan: Plan,
     actors: Vec<Box<dyn Actor + Send>>,
     sends: &[Vec<Order>],
-) -> Result<Report, WholeError> {
-    run_whole::<Box<dyn Actor + Send>, Brand, R>(rt, alloc, plan, actors, sends)
+) -> Result<Report, WholeError>
+    requires unused { All (λ actor. content actor ≡ after actor []) actors.items }
+    ensures story { IfOk result (IsStory (after_at actors.items after) (gives_at actors.items gives) plan
+        (map (λ orders. orders.items) sends.now)) }
+{
+    run_whole::<Box<dyn Actor + Send>, R>(rt, alloc, plan, actors, sends)
 }
 
 /// The same of actors of one type.
-pub fn run_whole<A: Actor, K: Behaviours, R: Wait>(
+pub fn run_whole<A: Actor, R: Wait>(
     rt: &R,
     alloc: Global,
     plan: Plan,
     actors: Vec<A>,
     sends: &[Vec<Order>],
-) -> Result<Report, WholeError> {
+) -> Result<Report, WholeError>
+    requires unused { All (λ actor. A.content actor ≡ A.after actor []) actors.items }
+    ensures story { IfOk result (IsStory (after_at actors.items A.after) (gives_at actors.items A.gives) plan
+        (map (λ orders. orders.items) sends.now)) }
+{
+    run_planned::<A, Brand, R>(rt, alloc, plan, actors, sends)
+}
+
+// The same where it is known what the actor of each number does.
+fn run_planned<A: Actor, K: Behaviours, R: Wait>(
+    rt: &R,
+    alloc: Global,
+    plan: Plan,
+    actors: Vec<A>,
+    sends: &[Vec<Order>],
+) -> Result<Report, WholeError>
+    requires behaved { AreBehaved A.content A.after A.gives K.after K.gives 1 actors.items }
+    ensures story { IfOk result (IsStory K.after K.gives plan (map (λ orders. orders.items) sends.now)) }
+{
     let mut built = match System::<A, K>::build(rt, alloc, plan, actors) {
         Ok(built) => built,
         Err(BuildError::BadPlan(reason, _, _)) => return Err(WholeError::BadPlan(reason)),

@@ -7,22 +7,14 @@ ghost use Rattle.mb_system.specs.Begun.{IsBegun};
 ghost use Rattle.mb_system.specs.Unbuilt.{IsNoSystem};
 
 use crate::built::Built;
-use crate::end::WorkerEnd;
 use crate::going::Going;
-use crate::sender::Sender;
+use crate::opening::{give_first, open_ends, open_senders, start};
 use crate::system::System;
 use mb_actor::{Actor, Behaviours};
 use mb_build::{Housed, PlanError, check_plan, house};
-use mb_gate::{Gates, Pass};
-use mb_msg::limits::ACTORS;
-use mb_msg::{ActorId, SenderId, SysMsg};
+use mb_gate::Gates;
 use mb_plan::Plan;
-use mb_pool::{Feed, Kind, Pool};
-use mb_queue::SendPass;
-use mb_syslist::Node;
-use mb_turn::Place;
-use mb_wake::{Owed, Waker};
-use mb_ways::{EndWay, FeedWay};
+use mb_pool::{Kind, Pool};
 use std::alloc::{AllocError, Global};
 use std::sync::Wait;
 
@@ -94,7 +86,7 @@ fn assemble<A: Actor, K: Behaviours, R: Wait>(
     let senders = open_senders(alloc, &gates, &mut pass, feeds, outside)?;
     let mut ends = open_ends(alloc, &gates, &mut pass, ends)?;
     start(rt, alloc, &gates, &mut pass)?;
-    give_first(&gates, &mut ends, pass);
+    give_first(&gates, &mut ends[0], pass);
     Ok(Built {
         system: System {
             workers,
@@ -115,77 +107,5 @@ fn kind_of(pool: mb_plan::Pool) -> Kind {
     match pool {
         mb_plan::Pool::Shared => Kind::Shared,
         mb_plan::Pool::Stealing => Kind::Stealing,
-    }
-}
-
-// The senders outside, each with a pass of its own.
-fn open_senders<A: Actor, K: Behaviours>(
-    alloc: Global,
-    gates: &Gates<Place<A, K>>,
-    pass: &mut Pass<Place<A, K>>,
-    feeds: Vec<Feed<Place<A, K>>>,
-    outside: Vec<Vec<SendPass>>,
-) -> Result<Vec<Sender<A, K>>, AllocError> {
-    let mut senders = Vec::with_capacity(alloc, feeds.len())?;
-    let mut outside = outside.into_iter();
-    for feed in feeds {
-        let Some(sends) = outside.next() else {
-            unreachable!();
-        };
-        let waker = Waker {
-            pass: gates.another(pass),
-            way: FeedWay::new(feed),
-            owed: Owed::none(),
-        };
-        let by = SenderId(ACTORS + senders.len() as u32);
-        let inner = mb_send::Sender::new(alloc, by, waker, sends);
-        senders.push(Sender { inner })?;
-    }
-    Ok(senders)
-}
-
-// The workers' ends, each with a pass of its own.
-fn open_ends<A: Actor, K: Behaviours>(
-    alloc: Global,
-    gates: &Gates<Place<A, K>>,
-    pass: &mut Pass<Place<A, K>>,
-    ends: Vec<mb_pool::WorkerEnd<Place<A, K>>>,
-) -> Result<Vec<WorkerEnd<A, K>>, AllocError> {
-    let mut opened = Vec::with_capacity(alloc, ends.len())?;
-    for end in ends {
-        let waker = Waker {
-            pass: gates.another(pass),
-            way: EndWay::new(end),
-            owed: Owed::none(),
-        };
-        let number = opened.len() as u32;
-        opened.push(WorkerEnd { number, waker })?;
-    }
-    Ok(opened)
-}
-
-// Puts a Create into the guardian's list. That the list of new gates is not ended is their rule, which is not known here.
-fn start<A: Actor, K: Behaviours, R: Wait>(
-    rt: &R,
-    alloc: Global,
-    gates: &Gates<Place<A, K>>,
-    pass: &mut Pass<Place<A, K>>,
-) -> Result<(), AllocError> {
-    let node = Node::new(alloc, SysMsg::Create)?;
-    if gates.sys_enqueue(rt, pass, ActorId(0), node).is_err() {
-        for _ in rt.forever() {}
-        unreachable!()
-    }
-    Ok(())
-}
-
-// The first end takes over the pass that put it there, and with it what is owed to the guardian.
-fn give_first<A: Actor, K: Behaviours>(
-    gates: &Gates<Place<A, K>>,
-    ends: &mut [WorkerEnd<A, K>],
-    pass: Pass<Place<A, K>>,
-) {
-    if let Some(first) = ends.first_mut() {
-        gates.absorb(&mut first.waker.pass, pass);
     }
 }

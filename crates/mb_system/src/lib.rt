@@ -11,6 +11,7 @@ mod end;
 mod failure;
 mod going;
 mod job;
+mod opening;
 mod order;
 mod quiet;
 mod run;
