@@ -1,24 +1,24 @@
 -- Whose queue a sender may have found full (this project's own profile: Akka's dead letters do not say why).
-use Rattle.std.specs.Prelude.{◌-◌, Bool, true, false, List, Option, None, Some, is_some, slice_get}
+use Rattle.std.specs.Prelude.{ℕ, zero, suc, Bool, true, false, List, Option, None, Some, is_some, slice_get}
 use Rattle.std.specs.List.{list_all}
 use Rattle.mb_msg.specs.declared.dead_letter.DeadLetter.{DeadLetter}
 use Rattle.mb_msg.specs.declared.dead_letter.Why.{Why}
 use Rattle.mb_msg.specs.declared.dead_letter.Why.TheVariants as why
 use Rattle.mb_queue.specs.Passes.{Queue}
 
--- there is such a queue, and it has a bound
-abbrev pub has_bound : Option Queue → Bool
-has_bound None = false
-has_bound (Some queue) = is_some queue.main.capacity
+-- the queue of the receiver of this number, where these are those of all receivers in the order of their numbers, from 1 on
+abbrev pub queue_to : List Queue → ℕ → Option Queue
+queue_to queues zero = None
+queue_to queues (suc place) = slice_get queues place
 
--- an envelope may be refused for this reason: as its receiver's queue was full only where that has a bound
-abbrev pub may_be_refused : Bool → Why → Bool
-may_be_refused bounded why.Full = bounded
-may_be_refused bounded why.Closed = true
-may_be_refused bounded why.NoMemory = true
-may_be_refused bounded why.Cleaned = true
+-- an envelope may be refused on its way to this queue, if there is one, for this reason: as the queue was full only where it has a bound
+abbrev pub may_be_refused : Option Queue → Why → Bool
+may_be_refused None w = false
+may_be_refused (Some queue) why.Full = is_some queue.main.capacity
+may_be_refused (Some queue) why.Closed = true
+may_be_refused (Some queue) why.NoMemory = true
+may_be_refused (Some queue) why.Cleaned = true
 
--- Each of these dead letters that says that its receiver's queue was full is to a receiver whose queue has a bound. The queues
--- are those of all receivers in the order of their numbers, from 1 on.
+-- Each of these dead letters is to a receiver that there is; and if it says that its receiver's queue was full, that has a bound.
 abbrev pub are_of_bounded : List Queue → List DeadLetter → Bool
-are_of_bounded queues dead = list_all (λ (d : DeadLetter). may_be_refused (has_bound (slice_get queues (d.envelope.to.0 - 1))) d.why) dead
+are_of_bounded queues dead = list_all (λ (d : DeadLetter). may_be_refused (queue_to queues d.envelope.to.0) d.why) dead

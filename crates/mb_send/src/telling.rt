@@ -100,6 +100,7 @@ impl<H: Resident, W: Way<H>> Sender<H, W> {
     // The next envelope is a dead letter, since its receiver was seen closed.
     fn bury(&mut self, to: ActorId, body: Body) -> Result<Put, Unsent>
         requires closed { has_seen_closed (known_by self.old.waker.pass).log to.0 ≡ true }
+        requires there { (0 < to.0) × (to.0 ≤ vec_len self.old.sends) }
         ensures refused { OnErr result (IsErrOf result Unsent.NoMemory × (self.new.book.posted ≡ self.old.book.posted)) }
         ensures buried { IfOk result (IsBuried self.old.book.by self.old.book.sent to body self.old.book.posted self.new.book.posted) }
         ensures same { (self.new.waker ≡ self.old.waker) × (self.new.sends ≡ self.old.sends) × (self.new.book.by ≡ self.old.book.by) }

@@ -1,4 +1,4 @@
-use Rattle.std.proofs.Common.{◌≡◌, ◌∙◌, ◌+◌, ◌-◌, ◌<◌, ◌++◌, [], ◌∷◌, ℕ, List}
+use Rattle.std.proofs.Common.{◌≡◌, ◌∙◌, ◌+◌, ◌-◌, ◌<◌, ◌++◌, [], ◌∷◌, ℕ, suc, List}
 use Rattle.std.proofs.Common.{length, true, Some, None, refl, subst, sym, ap, slice_get, slice_set, arith}
 use Rattle.mb_msg.specs.declared.id.SenderId.{SenderId}
 use Rattle.std.proofs.lemmas.Option.{slice_get_read}
@@ -7,7 +7,7 @@ use Rattle.mb_fates.specs.declared.posting.Posting.{Posting}
 use Rattle.mb_send.specs.Answers.{counts, says}
 use Rattle.mb_send.specs.Posted.{envelope_of, posting}
 use Rattle.mb_send.specs.Sends.{AreRoutes, receiving_queues}
-use Rattle.mb_send.specs.Bounded.{are_of_bounded, has_bound, may_be_refused}
+use Rattle.mb_send.specs.Bounded.{are_of_bounded, may_be_refused, queue_to}
 use Rattle.mb_send.proofs.Bounding.{bounded-queued, bounded-dead, may-find-full}
 use Rattle.mb_gate.specs.Names.{known_by}
 use Rattle.mb_send.proofs.Answering.{why-told}
@@ -130,7 +130,8 @@ invariant_of-self-in-Err g c =
     let qs = sym q in
     let ps = sym p in
     let queues = queues-set items k old c.push.new.self there (ap (λ (s : Sending). s.queue) c.in-Err.ensures.pushed.1) in
-    let its = ap (λ (x : Envelope). x.to.0) c.next-envelope.ensures in
+    let its : e.to.0 ≡ to = ap (λ (x : Envelope). x.to.0) c.next-envelope.ensures in
+    let above : suc k ≡ e.to.0 = omega (arith, its, c.requires.there.0) in
     record {
       routes = subst (λ (y : ℕ × List Posting). AreRoutes y.0 y.1 (slice_set items k c.push.new.self)) (λ i. (qs i, ps i))
           (routes-dead book.by.0 book.posted items c.args.self.now.routes k old there e c.push.new.self why c.in-Err.ensures.pushed.1);
@@ -143,7 +144,7 @@ invariant_of-self-in-Err g c =
           c.register-in-Err.ensures.looks) c.args.self.now.vouched));
       bounded = subst (λ (y : List Queue × List Posting). are_of_bounded y.0 (dead_letters y.1) ≡ true) (λ i. (sym queues i, ps i))
           (bounded-dead (receiving_queues items) book.posted e why
-          (subst (λ (n : ℕ). may_be_refused (has_bound (slice_get (receiving_queues items) (n - 1))) why ≡ true) (sym its)
+          (subst (λ (n : ℕ). may_be_refused (queue_to (receiving_queues items) n) why ≡ true) above
           (may-find-full (receiving_queues items) k old c.in-Err.refused why (queue-there items k old there) c.in-Err.ensures.refused
           c.why_of-why.ensures)) c.args.self.now.bounded);
     }
