@@ -1,7 +1,8 @@
 -- What is left, once a take found nothing.
 use Rattle.std.proofs.Common.{◌≡◌, ◌<◌, ℕ, zero, suc, List, [], ◌∷◌, ◌++◌, length}
-use Rattle.std.proofs.Common.{map, take, drop, set, refl, sym, ap, ◌∙◌, subst, arith}
+use Rattle.std.proofs.Common.{map, take, drop, set, refl, sym, ap, ◌∙◌, subst, arith, slice_get, Some}
 use Rattle.std.specs.List.{All}
+use Rattle.std.proofs.lemmas.List.{length-append}
 use Rattle.std.proofs.lemmas.List.Elements.{All-nil, All-cons, All-head, All-tail}
 use Rattle.mb_msg.specs.declared.envelope.Envelope.{Envelope}
 use Rattle.mb_queue.specs.Fates.{InOrder}
@@ -49,6 +50,19 @@ module _ {R : Type 0} where
   drop-set [] n x lt = absurd (omega (arith, lt))
   drop-set (y ∷ xs) zero x lt = refl
   drop-set (y ∷ xs) (suc n) x lt = drop-set xs n x (omega (arith, lt))
+
+  -- the last of some receivers has its place among the rooms of all
+  pub place-there : (rooms : List R) (all takes items done : List Taking) (one : Taking) → length rooms ≡ length all → all ≡ takes ++ done
+      → takes ≡ items ++ one ∷ [] → length items < length rooms
+  place-there rooms all takes items done one many is last =
+      let a = ap length is ∙ length-append takes done in let b = ap length last ∙ length-append items (one ∷ []) in omega (arith, many, a, b)
+
+  -- what is told of the one that was set, is told of the one in its place
+  pub same-set : (f g : R → ℕ) (xs : List R) (n : ℕ) (x : R) → f x ≡ g x → n < length xs
+      → slice_get (map f (set xs n x)) n ≡ slice_get (map g (set xs n x)) n
+  same-set f g [] n x same lt = absurd (omega (arith, lt))
+  same-set f g (y ∷ xs) zero x same lt = ap Some same
+  same-set f g (y ∷ xs) (suc n) x same lt = same-set f g xs n x same (omega (arith, lt))
 
   -- what holds of each of the first, holds of each of fewer
   pub all-fewer : (P : R → Type 0) (xs : List R) (n : ℕ) → All P (take (suc n) xs) → All P (take n xs)

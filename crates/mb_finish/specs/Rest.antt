@@ -1,5 +1,6 @@
 -- What is left in the queues of receivers.
-use Rattle.std.specs.Prelude.{◌≡◌, List, [], ◌∷◌, ◌++◌, All}
+use Rattle.std.specs.Prelude.{◌≡◌, ℕ, List, [], ◌∷◌, ◌++◌, All, map, slice_get, vec_capacity, vec_len}
+use Rattle.std.specs.Global.{Vec}
 use Rattle.mb_msg.specs.declared.envelope.Envelope.{Envelope}
 use Rattle.mb_queue.specs.Passes.{IsOfQueue, Sending, Taking}
 use Rattle.mb_finish.specs.Came.{Came}
@@ -18,3 +19,8 @@ AreRests [] [] = Unit {0}
 AreRests (take ∷ takes) (left ∷ lefts) = IsRest take left × AreRests takes lefts
 AreRests [] (left ∷ lefts) = ⊥
 AreRests (take ∷ takes) [] = ⊥
+
+-- there is no place left in the room of this receiver
+abbrev pub IsFullAt : ℕ → List (Vec Envelope) → Type 0
+IsFullAt place rooms =
+    slice_get (map (λ (room : Vec Envelope). vec_len room) rooms) place ≡ slice_get (map (λ (room : Vec Envelope). vec_capacity room) rooms) place

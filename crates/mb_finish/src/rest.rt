@@ -1,6 +1,6 @@
 //! What is left in the queues.
-ghost use Rattle.std.specs.Prelude.{◌≡◌, ◌<◌, [], All, length, map, IfErr, IfOk, true};
-ghost use Rattle.mb_finish.specs.Rest.{AreRests, IsRest};
+ghost use Rattle.std.specs.Prelude.{◌≡◌, ◌<◌, [], All, length, map, vec_capacity, vec_len, IfErr, IfOk, false, true};
+ghost use Rattle.mb_finish.specs.Rest.{AreRests, IsFullAt, IsRest};
 
 use mb_msg::Envelope;
 use mb_queue::TakePass;
@@ -13,7 +13,7 @@ pub struct TooMany(pub usize);
 /// Takes out all that is left in each of these queues, into a room of its own. Then all came to its receiver that the passes
 /// pushed which it had taken in.
 ///
-/// It answers `TooMany` if more is left in a queue than there is room for.
+/// It answers `TooMany` if more is left in a queue than there is room for: then that room is full.
 pub(crate) fn take_rests<R: Wait>(
     rt: &R,
     takes: Vec<TakePass>,
@@ -23,6 +23,7 @@ pub(crate) fn take_rests<R: Wait>(
     requires empty { All (λ room. room.items ≡ []) rooms.old }
     ensures rests { IfOk result (λ _. AreRests takes.items (map (λ room. room.items) rooms.new)) }
     ensures place { IfErr result (λ many. many.0 < length takes.items) }
+    ensures full { IfErr result (λ many. IsFullAt many.0 rooms.new) }
 {
     let mut takes = takes;
     while let Some(take) = takes.pop() {
@@ -35,10 +36,11 @@ pub(crate) fn take_rests<R: Wait>(
 }
 
 /// Takes out all that is left in a queue, until a take finds nothing. It answers `false` if there is one more than there is
-/// room for.
+/// room for: then the room is full.
 fn take_rest<R: Wait>(rt: &R, take: TakePass, room: &mut Vec<Envelope>) -> bool
     requires empty { room.old.items ≡ [] }
-    ensures { result ≡ true → IsRest take room.new.items }
+    ensures rest { result ≡ true → IsRest take room.new.items }
+    ensures full { result ≡ false → vec_len room.new ≡ vec_capacity room.new }
 {
     let mut take = take;
     for _ in rt.forever() {

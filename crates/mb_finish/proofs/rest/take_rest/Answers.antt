@@ -3,8 +3,8 @@ use Rattle.std.proofs.lemmas.List.{append-nil}
 use Rattle.mb_finish.proofs.RestLemmas.{is-rest}
 use Rattle.mb_finish.proofs.rest.take_rest.Goals as goal
 
-pub returns-in_default : goal.returns-in_default
-returns-in_default g c = λ _.
+pub returns-in_default-clause-rest : goal.returns-in_default-clause-rest
+returns-in_default-clause-rest g c = λ _.
     let e = c.in_default.ensures in let at = c.loop.invariant in
     is-rest c.args.take c.take.new.self c.loop.room.items (e.taken ∙ append-nil c.loop.take.taken ∙ at.0)
     (e.same.0 ∙ at.1.0, e.same.1 ∙ at.1.1) (e.same.2 ∙ at.2) e.each_once (λ turns. e.in_order (sym e.same.1 ∙ turns)) e.known

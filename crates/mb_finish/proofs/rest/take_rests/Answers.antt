@@ -1,9 +1,9 @@
 use Rattle.std.proofs.Common.{rules, ◌≡◌, ◌<◌, ◌++◌, ◌∷◌, [], ℕ, suc, length}
 use Rattle.std.proofs.Common.{map, take, drop, set, sym, ap, ◌∙◌, subst, append_assoc, arith}
-use Rattle.std.specs.Prelude.{All}
+use Rattle.std.specs.Prelude.{All, vec_capacity, vec_len}
 use Rattle.std.proofs.lemmas.List.{length-append, length-set}
 use Rattle.mb_finish.specs.Rest.{AreRests}
-use Rattle.mb_finish.proofs.RestLemmas.{all-fewer, rests-more, take-set}
+use Rattle.mb_finish.proofs.RestLemmas.{all-fewer, place-there, rests-more, same-set, take-set}
 use Rattle.mb_finish.proofs.rest.take_rests.Goals as goal
 
 pub loop-take-preserved : goal.loop-take-preserved
@@ -14,8 +14,9 @@ loop-take-preserved g c =
     let longer : length at.takes.items ≡ suc n = ap length c.in-Some.ensures.items ∙ length-append items (one ∷ []) ∙ (omega arith) in
     let all : c.args.takes.items ≡ items ++ one ∷ done
     = at.invariant.2.1 ∙ ap (λ l. l ++ done) c.in-Some.ensures.items ∙ append_assoc items (one ∷ []) done in
-    let lt : n < length at.rooms = let a = at.invariant.0 in let b = ap length all ∙ length-append items (one ∷ done) in omega (arith, a, b) in
-    let rest = c.take_rest.ensures (search rules) in (
+    let lt : n < length at.rooms =
+    place-there at.rooms c.args.takes.items at.takes.items items done one at.invariant.0 at.invariant.2.1 c.in-Some.ensures.items in
+    let rest = c.take_rest.ensures.rest (search rules) in (
       length-set at.rooms c.len-place.result room ∙ at.invariant.0,
       subst (λ l. All (λ r. r.items ≡ []) l) (sym (ap (λ m. take n (set at.rooms m room)) place ∙ take-set at.rooms n room))
           (all-fewer (λ r. r.items ≡ []) at.rooms n (subst (λ m. All (λ r. r.items ≡ []) (take m at.rooms)) longer at.invariant.1)),
@@ -27,3 +28,12 @@ loop-take-preserved g c =
             (subst (λ m. AreRests done (map (λ r. r.items) (drop m at.rooms))) longer at.invariant.2.2)),
       ),
     )
+
+pub returns-then-not-take_rest-clause-full : goal.returns-then-not-take_rest-clause-full
+returns-then-not-take_rest-clause-full g c =
+    let at = c.loop-take in let items = c.pop.new.self.items in
+    let place : c.len-place.result ≡ length items = search rules in
+    same-set (λ r. vec_len r) (λ r. vec_capacity r) at.rooms c.len-place.result c.take_rest.new.room (c.take_rest.ensures.full (search rules))
+    (subst (λ n. n < length at.rooms) (sym place)
+    (place-there at.rooms c.args.takes.items at.takes.items items at.invariant.2.0 c.in-Some.take at.invariant.0 at.invariant.2.1
+    c.in-Some.ensures.items))
