@@ -1,5 +1,5 @@
 -- The acts of an actor whose home names actors that there are alone go to such, and name such alone.
-use Rattle.std.proofs.Common.{◌≡◌, ◌⊎◌, inl, inr, ℕ, ◌<◌, Bool, true, false, List, [], ◌∷◌, ◌++◌, length}
+use Rattle.std.proofs.Common.{◌≡◌, ℕ, ◌<◌, Bool, true, false, List, [], ◌∷◌, ◌++◌, length}
 use Rattle.std.proofs.Common.{refl, sym, ap, ◌∙◌, subst, arith, map}
 use Rattle.std.specs.Prelude.{filter, not, ◌==◌, ◌&&◌, ◌||◌, IsTrue, if◌then◌else◌, IfSome, Option, Some, None}
 use Rattle.std.specs.List.{flat_map, list_all}
@@ -22,15 +22,15 @@ use Rattle.mb_actor.specs.declared.call.Call.{Call}
 use Rattle.mb_actor.specs.declared.effect.Effect.{Effect}
 use Rattle.mb_actor.specs.declared.effect.Effect.TheVariants as effect
 use Rattle.mb_actor.specs.declared.phase.Phase.TheVariants.{Fresh, Live, Broken, Ending}
-use Rattle.mb_actor.specs.Tray.{Tray, actor_of, is_actor, spawns_of}
+use Rattle.mb_actor.specs.Tray.{actor_of, is_actor, spawns_of}
 use Rattle.mb_journal.specs.ActorList.{without, joined}
-use Rattle.mb_journal.specs.Acts.{Act, acts, to_each, effect_acts, stop_acts, report, fail_acts, create_acts, suspend_acts, resume_acts}
+use Rattle.mb_journal.specs.Acts.{Act, acts, to_each, effect_acts, stop_acts, report, fail_acts, create_acts, resume_acts}
 use Rattle.mb_journal.specs.Acts.{restart_acts, restart_for, supervision_acts, end_acts, terminate_acts, died_acts, system_acts, fresh_acts}
 use Rattle.mb_journal.specs.Acts.{failure_acts, envelope_acts}
 use Rattle.mb_journal.specs.Acts.Act.{Tell, Sys, SuspendSelf, ResumeSelf, CloseSelf}
 use Rattle.mb_journal.specs.Aside.{ever_aside, next_front}
 use Rattle.mb_journal.specs.Effects.{lasting_effects}
-use Rattle.mb_journal.specs.Entry.{Entry, Outcome, is_failed}
+use Rattle.mb_journal.specs.Entry.{Entry, is_failed}
 use Rattle.mb_journal.specs.Entry.Entry.{Handled, System, Dropped}
 use Rattle.mb_journal.specs.Entry.Outcome.{Applied, SetAside}
 use Rattle.mb_journal.specs.Failure.{is_child, is_nobody, failed, failure_of}
@@ -48,7 +48,7 @@ use Rattle.mb_gate.specs.Named.{NamesBelow, EachNamesBelow}
 use Rattle.mb_cell.specs.Seen.{Seen, IsOf, with_entry}
 use Rattle.mb_home.specs.Contents.{Contents}
 use Rattle.mb_home.specs.Named.{JournalNamesBelow, NamesActors, SendsBelow}
-use Rattle.mb_home.specs.Settled.{IsOwn, IsSettled}
+use Rattle.mb_home.specs.Settled.{IsSettled}
 use Rattle.mb_home.specs.Steps.{AppliesNext, Begins, IsDue}
 use Rattle.mb_home.proofs.CountLemmas.{front-of}
 

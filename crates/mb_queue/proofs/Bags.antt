@@ -1,7 +1,6 @@
 -- Counting envelopes that pass a test.
-use Rattle.std.proofs.Common.{◌≡◌, ◌==◌, ℕ, ◌+◌, Bool, true, false, cond, not, ◌&&◌, List, [], ◌∷◌, ◌++◌, map, filter, refl, sym, ap, ◌∙◌, subst}
-use Rattle.std.proofs.Common.{arith, Option, Some, None, count_by, sum_by, IsPermutation}
-use Rattle.std.proofs.lemmas.List.{append-nil}
+use Rattle.std.proofs.Common.{◌≡◌, ◌==◌, ℕ, ◌+◌, Bool, true, false, cond, not, ◌&&◌, List, [], ◌∷◌, ◌++◌, filter, refl, sym, ap, ◌∙◌, subst}
+use Rattle.std.proofs.Common.{arith, Some, None, count_by, IsPermutation}
 use Rattle.std.proofs.lemmas.List.Filters.{sum_by-filter_both}
 use Rattle.std.proofs.lemmas.List.Sums.{sum_by-append, sum_by-cons}
 use Rattle.std.proofs.lemmas.List.{map-append}
@@ -9,13 +8,12 @@ use Rattle.std.proofs.lemmas.List.Elements.{All-append, All-head, All-tail}
 use Rattle.std.proofs.lemmas.List.Sorted.{All-permutation, sum_by-IsPermutation, IsPermutation-map}
 use Rattle.std.specs.List.{All}
 use Rattle.mb_msg.specs.declared.envelope.Envelope.{Envelope}
-use Rattle.mb_lane.specs.declared.ledger.Account.{Account}
-use Rattle.mb_lane.specs.Ledger.{account, is_control, sent_by}
+use Rattle.mb_lane.specs.Ledger.{is_control, sent_by}
 use Rattle.mb_rank.specs.declared.ranks.RankRow.{RankRow}
 use Rattle.mb_rank.specs.declared.waiting.Arrival.{Arrival}
 use Rattle.mb_queue.specs.Kept.{envelopes_of}
-use Rattle.mb_queue.specs.Parts.{controls, others, whole}
-use Rattle.mb_queue.specs.Takes.{AllOut, IsSameBag, arrivals_from, Chooses}
+use Rattle.mb_queue.specs.Parts.{controls, others}
+use Rattle.mb_queue.specs.Takes.{IsSameBag, arrivals_from, Chooses}
 
 filter-cond : (f : Envelope → Bool) (b : Bool) (x : Envelope) (l : List Envelope)
     → filter f (cond b (x ∷ l) l) ≡ cond b (cond (f x) (x ∷ filter f l) (filter f l)) (filter f l)

@@ -16,7 +16,7 @@ use Rattle.mb_queue.specs.declared.order.Order.{Order}
 use Rattle.mb_queue.specs.declared.order.Order.TheVariants.{FirstInFirstOut, ControlFirst, ByRank}
 use Rattle.mb_queue.specs.Fates.{NothingLeft}
 use Rattle.mb_queue.specs.Kept.{IsTaking, envelopes_of, gone_of, taking_of, waiting_of}
-use Rattle.mb_queue.specs.Parts.{controls, others, whole}
+use Rattle.mb_queue.specs.Parts.{controls, others}
 use Rattle.mb_queue.specs.Steps.{Begins, IsStep, RankTakes}
 use Rattle.mb_queue.specs.Takes.{AllBegin, AllOut, IsSameBag}
 use Rattle.mb_queue.proofs.Bags.{count-filter, filter-swap}

@@ -1,11 +1,10 @@
 -- Lending the account of a sender to a pass of its own.
-use Rattle.std.proofs.Common.{◌≡◌, ℕ, List, [], ◌∷◌, ◌++◌, refl, sym, ap, ◌∙◌, subst, Option, Some, None, option_map, length}
+use Rattle.std.proofs.Common.{◌≡◌, ℕ, List, [], ◌∷◌, ◌++◌, refl, sym, ap, ◌∙◌, subst, Some, None, option_map, length}
 use Rattle.std.specs.List.{All, Contains}
 use Rattle.std.proofs.lemmas.List.{map-append}
 use Rattle.mb_msg.specs.declared.envelope.Envelope.{Envelope}
 use Rattle.mb_lane.specs.declared.ledger.Account.{Account}
-use Rattle.mb_lane.specs.declared.ledger.Ledger.{Ledger}
-use Rattle.mb_lane.specs.declared.ledger.Ledger.TheVariants.{Sender, Taker, Spent}
+use Rattle.mb_lane.specs.declared.ledger.Ledger.TheVariants.{Sender}
 use Rattle.mb_lane.specs.declared.ledger.Part.{Part}
 use Rattle.mb_lane.specs.declared.ledger.Scope.{Scope}
 use Rattle.mb_lane.specs.declared.ledger.Part.TheVariants.{Whole, Controls, Others}
@@ -18,7 +17,6 @@ use Rattle.mb_queue.specs.Kept.{IsSending, IsTaking, Took, control_of, envelopes
 use Rattle.mb_queue.specs.Lent.{MayLendControl, order_lent, port_lent}
 use Rattle.mb_queue.specs.Made.{unused}
 use Rattle.mb_queue.specs.Parts.{accounts_of, controls, others}
-use Rattle.mb_queue.specs.Passes.{Sending, Taking}
 use Rattle.mb_queue.specs.Takes.{IsSameBag}
 use Rattle.mb_queue.proofs.Taken.{part_of_account}
 

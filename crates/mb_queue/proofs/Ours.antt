@@ -1,5 +1,5 @@
 -- All that a take pass gave is of its queue, through each of its steps.
-use Rattle.std.proofs.Common.{◌≡◌, ⊎_elim, ℕ, List, [], ◌∷◌, ◌++◌, refl, sym, ap, ◌∙◌, subst, Option, Some, None}
+use Rattle.std.proofs.Common.{◌≡◌, ⊎_elim, ℕ, List, [], ◌∷◌, ◌++◌, refl, sym, ap, ◌∙◌, subst, Some, None}
 use Rattle.std.specs.List.{All, Contains}
 use Rattle.std.proofs.lemmas.List.Elements.{All-nil, All-push}
 use Rattle.mb_msg.specs.declared.envelope.Envelope.{Envelope}
@@ -9,7 +9,6 @@ use Rattle.mb_lane.specs.declared.ledger.Ledger.TheVariants.{Sender, Taker, Spen
 use Rattle.mb_lane.specs.declared.ledger.Scope.{Scope}
 use Rattle.mb_lane.specs.Ledger.{joining, lending, taking}
 use Rattle.mb_lane.specs.Port.{Known}
-use Rattle.mb_queue.specs.declared.choice.Choice.{Choice}
 use Rattle.mb_queue.specs.declared.order.Order.{Order}
 use Rattle.mb_queue.specs.declared.order.Order.TheVariants.{FirstInFirstOut, ControlFirst, ByRank}
 use Rattle.mb_queue.specs.Kept.{IsTaking, IsTakePass, control_of, queue_of, scope_in}

@@ -1,14 +1,11 @@
 -- A refusal of the lane is one of the queue.
-use Rattle.std.proofs.Common.{◌≡◌, ℕ, List, ◌++◌, Option, Some, None, subst, sym, ◌∙◌}
+use Rattle.std.proofs.Common.{◌≡◌, ℕ, List, Option, Some, None, subst, sym, ◌∙◌}
 use Rattle.mb_msg.specs.declared.envelope.Envelope.{Envelope}
-use Rattle.mb_lane.specs.declared.ledger.Ledger.{Ledger}
-use Rattle.mb_lane.specs.declared.ledger.Ledger.TheVariants.{Sender}
-use Rattle.mb_lane.specs.declared.ledger.Part.TheVariants.{Whole}
 use Rattle.mb_lane.specs.declared.refused.PushError.{PushError}
 use Rattle.mb_lane.specs.declared.refused.PushError.TheVariants.{Full, NoMemory}
 use Rattle.mb_lane.specs.Port.{Known}
 use Rattle.mb_lane.specs.Rule as lane
-use Rattle.mb_queue.specs.Kept.{sending, parted, scope_in, IsSending}
+use Rattle.mb_queue.specs.Kept.{sending, IsSending}
 use Rattle.mb_queue.specs.Pushes.{IsRefusal, WasFull}
 
 was_full : (most by : ℕ) (main : Known) (pushed : List Envelope) → IsSending by main None pushed → lane.FoundFull most main.ledger

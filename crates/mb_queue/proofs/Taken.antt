@@ -1,18 +1,17 @@
 -- What a take of a lane says of the pass: of one lane, and of an account's part.
-use Rattle.std.proofs.Common.{◌≡◌, ◌==◌, ℕ, Bool, true, false, cond, not, List, [], ◌∷◌, ◌++◌, map, filter, refl, sym, ap, ◌∙◌, subst, Option, Some}
+use Rattle.std.proofs.Common.{◌≡◌, ◌==◌, ℕ, Bool, true, false, cond, List, [], ◌∷◌, ◌++◌, filter, refl, sym, ap, ◌∙◌, subst, Option, Some}
 use Rattle.std.proofs.Common.{None, option_map}
 use Rattle.std.proofs.lemmas.List.{append-nil}
 use Rattle.std.proofs.lemmas.List.Elements.{filter-append}
 use Rattle.mb_msg.specs.declared.envelope.Envelope.{Envelope}
 use Rattle.mb_lane.specs.declared.ledger.Account.{Account}
-use Rattle.mb_lane.specs.declared.ledger.Ledger.{Ledger}
 use Rattle.mb_lane.specs.declared.ledger.Ledger.TheVariants.{Taker}
 use Rattle.mb_lane.specs.declared.ledger.Part.{Part}
 use Rattle.mb_lane.specs.declared.ledger.Scope.{Scope}
-use Rattle.mb_lane.specs.Ledger.{account, account_after, sent_by, taking}
+use Rattle.mb_lane.specs.Ledger.{account, account_after, taking}
 use Rattle.mb_lane.specs.Port.{Known}
 use Rattle.mb_lane.specs.Rule as lane
-use Rattle.mb_queue.specs.Kept.{Took, parted, scope_in, gone_of}
+use Rattle.mb_queue.specs.Kept.{Took, parted, scope_in}
 use Rattle.mb_queue.specs.Parts.{accounts_of}
 use Rattle.mb_queue.specs.Steps.{TakesOf}
 use Rattle.mb_queue.specs.Takes.{AllBegin, AllOut}

@@ -1,26 +1,23 @@
 -- A take of the lanes is a take of the queue, of each kind.
-use Rattle.std.proofs.Common.{◌≡◌, ◌⊎◌, ⊎_elim, inl, inr, ℕ, ◌+◌, Bool, true, false, not, List, [], ◌∷◌, ◌++◌, length, refl, sym, ap, ◌∙◌, subst}
+use Rattle.std.proofs.Common.{◌≡◌, ⊎_elim, inl, inr, Bool, true, false, not, List, [], ◌∷◌, ◌++◌, length, refl, sym, ap, ◌∙◌, subst}
 use Rattle.std.proofs.Common.{arith, length-append, Option, Some, None, MatchBool, IsPermutation}
 use Rattle.std.proofs.lemmas.List.{append-nil}
 use Rattle.std.proofs.lemmas.List.Elements.{All-nil}
 use Rattle.std.specs.List.{All, Contains}
 use Rattle.mb_msg.specs.declared.envelope.Envelope.{Envelope}
 use Rattle.mb_lane.specs.declared.ledger.Account.{Account}
-use Rattle.mb_lane.specs.declared.ledger.Ledger.{Ledger}
 use Rattle.mb_lane.specs.declared.ledger.Ledger.TheVariants.{Taker}
 use Rattle.mb_lane.specs.declared.ledger.Scope.{Scope}
 use Rattle.mb_lane.specs.declared.ledger.Part.TheVariants.{Whole, Controls, Others}
-use Rattle.mb_lane.specs.Ledger.{account, is_control, sent_by}
+use Rattle.mb_lane.specs.Ledger.{is_control}
 use Rattle.mb_lane.specs.Port.{Known}
 use Rattle.mb_lane.specs.Rule as lane
-use Rattle.mb_rank.specs.declared.waiting.Arrival.{Arrival}
 use Rattle.mb_queue.specs.declared.choice.Choice.{Choice}
 use Rattle.mb_queue.specs.declared.order.Order.{Order}
 use Rattle.mb_queue.specs.declared.order.Order.TheVariants.{FirstInFirstOut, ControlFirst, ByRank}
 use Rattle.mb_queue.specs.Kept.{IsTaking, Took, envelopes_of, gone_of, parted, scope_in, taking_of, turns_of}
 use Rattle.mb_queue.specs.Parts.{accounts_of, controls, others, whole}
-use Rattle.mb_queue.specs.Passes.{Taking}
-use Rattle.mb_queue.specs.Steps.{Begins, IsStep, RankTakes, TakesOf, TakesOfTwo, taking_all}
+use Rattle.mb_queue.specs.Steps.{Begins, IsStep, RankTakes, TakesOf, taking_all}
 use Rattle.mb_queue.specs.Takes.{AllBegin, AllOut, EachOnce, IsSameBag, IsTake, TakesByRank, arrivals_from}
 use Rattle.mb_queue.proofs.Bags.{all_chosen, all_held, bag_given, bag_none, once_by_rank, once_of_parts, once_of_whole}
 use Rattle.mb_queue.proofs.Taken.{all_begin, all_out, filter-more, filter-same, found_empty, found_next, settled, took_next, took_none}

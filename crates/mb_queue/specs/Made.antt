@@ -1,5 +1,5 @@
 -- What a new queue is.
-use Rattle.std.specs.Prelude.{◌≡◌, ℕ, ◌<◌, List, [], map, Option, Some, None, IsSome}
+use Rattle.std.specs.Prelude.{◌≡◌, ℕ, ◌<◌, List, [], map, Option, Some, None}
 use Rattle.mb_msg.specs.declared.id.SenderId.{SenderId}
 use Rattle.mb_lane.specs.Ledger.{lent}
 use Rattle.mb_queue.specs.declared.kind.Kind.{Kind}

@@ -1,4 +1,4 @@
-use Rattle.std.proofs.Common.{◌≡◌, ℕ, ◌<◌, ◌-◌, length, arith, subst, sym, true, false}
+use Rattle.std.proofs.Common.{◌≡◌, length, arith, subst, sym, true, false}
 use Rattle.std.proofs.lemmas.List.Sorted.{length_permutation}
 use Rattle.mb_lane.specs.Port.{Known}
 use Rattle.mb_lane.specs.Ledger.{IsTaker}

@@ -1,4 +1,4 @@
-use Rattle.std.proofs.Common.{◌≡◌, ◌≤◌, ◌-◌, length}
+use Rattle.std.proofs.Common.{◌-◌, length}
 use Rattle.mb_lane.specs.Ledger.{IsTaker}
 use Rattle.mb_queue.specs.Steps.{TakesMore}
 use Rattle.mb_queue.proofs.choice.take_in.Given as goal

@@ -1,11 +1,10 @@
-use Rattle.std.proofs.Common.{◌≡◌, [], ◌∷◌, ◌++◌, ℕ, ◌≤◌, List, map, take, length, Some, subst, sym, ap, ◌∙◌, refl, arith}
+use Rattle.std.proofs.Common.{◌≡◌, [], ◌∷◌, ◌++◌, map, take, Some, subst, sym, ap, ◌∙◌, arith}
 use Rattle.std.specs.List.{Contains}
 use Rattle.std.proofs.lemmas.List.{length-map, take_all}
-use Rattle.mb_lane.specs.declared.ledger.Account.{Account}
 use Rattle.mb_lane.specs.Ledger.{account, lent}
 use Rattle.mb_msg.specs.declared.id.SenderId.{SenderId}
-use Rattle.mb_queue.specs.Made.{IsEmpty, IsNew, numbers_of, unused}
-use Rattle.mb_queue.specs.Passes.{Sending, Taking}
+use Rattle.mb_queue.specs.Made.{IsEmpty, numbers_of, unused}
+use Rattle.mb_queue.specs.Passes.{Taking}
 use Rattle.mb_queue.proofs.Distinct.{map_more, this, this_home, this_known}
 use Rattle.mb_queue.proofs.make.MailQueue.new.Goals as goal
 

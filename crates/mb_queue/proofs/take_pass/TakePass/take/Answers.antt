@@ -1,9 +1,9 @@
-use Rattle.std.proofs.Common.{◌≡◌, subst, sym, Some, None, ◌++◌, ◌∷◌, []}
+use Rattle.std.proofs.Common.{◌≡◌, subst, sym, Some, None}
 use Rattle.std.specs.List.{Contains}
 use Rattle.mb_queue.specs.Fates.{NothingLeft}
 use Rattle.mb_queue.specs.Kept.{IsTakePass, taking_of}
 use Rattle.mb_queue.specs.Passes.{Taking}
-use Rattle.mb_queue.specs.Takes.{EachOnce, IsTake}
+use Rattle.mb_queue.specs.Takes.{IsTake}
 use Rattle.mb_queue.proofs.Emptied.{emptied, none_held}
 use Rattle.mb_queue.proofs.Ours.{pass-none, pass-some}
 use Rattle.mb_queue.proofs.Takings.{each_once, given_known, turn_none, turn_some}
