@@ -56,12 +56,13 @@ IsKept actor journal word (Drained a given) = Unit {0}
 module _ {H : Type 0} (is_of : ℕ → H → Type 0) (journal : H → List Entry) (mailbox : H → Mailbox) (rested : H → Type 0) (given_by : H
     → ℕ) (closed_to : H → List ℕ) where
   -- What is left of an actor whose words and slots these are: its home, which is its own; its word is the one of its journal, which goes
-  -- on from all that was seen; how many its list gave, which the home knows, and whether any message is listed still; and unless the actor is open and its last drain gave something,
-  -- nothing is left beside its cell. There is none only where a claim has the cell, or a seat the list.
+  -- on from all that was seen; how many its list gave, which the home knows, and whether any message is listed still; and unless the actor
+  -- is open and its last drain gave something, nothing is left beside its cell. There is none only where a claim has the cell, or a seat
+  -- the list.
   abbrev pub IsLeft : ℕ → Spot Word Shelf (Slot H) Ghost → View → Option (Left H) → Type 0
   IsLeft actor x v (Some left) = is_of actor left.home × (x.row Status ≡ word_of (mailbox left.home)) × Each (IsKept actor (journal left.home)
-      (x.row Status)) v.log × (left.given ≡ x.ghost.listed.given) × (left.listed ≡ is_some_item x.ghost.listed.messages) × (given_by left.home ≡ left.given)
-      × ((x.row Status ≡ 1) ⊎ (x.ghost.gave ≡ false) → rested left.home)
+      (x.row Status)) v.log × (left.given ≡ x.ghost.listed.given) × (left.listed ≡ is_some_item x.ghost.listed.messages)
+      × (given_by left.home ≡ left.given) × ((x.row Status ≡ 1) ⊎ (x.ghost.gave ≡ false) → rested left.home)
   IsLeft actor x v None = (x.ghost.holder ≢ None) ⊎ (x.ghost.keeper ≢ None)
 
   -- of each actor, in a last state of the table that meets the rule, in which the pass has this view; and each actor of which a home that

@@ -19,7 +19,7 @@ invariant_of-result g c =
     length-rows_of g.H.Resident.mailbox c.args.homes.items in
     let slots = ap length c.shelve-slots.ensures.slots ∙ length-shelves_of c.args.homes.items in
     let made = c.in-Ok-new.ensures.ok in
-    let same = some_same c.first_of-2.result.value c.first_of.result.value (sym c.first_of-2.ensures ∙ c.first_of.ensures) in
+    let same = some_same c.first_of-first.result.value c.first_of.result.value (sym c.first_of-first.ensures ∙ c.first_of.ensures) in
     let known = (λ i. record { marker = c.first_of.result.marker; value = same i }) ∙ ap (λ k. k.first) (sym made.5) in
     record {
       wide = made.0 ∙ (words ∙ (omega arith));
