@@ -84,7 +84,14 @@ module _ (id : ℕ) where
   }
 
   looks-winning : (v : View) → LooksAfter id v (winning id v)
-  looks-winning v = record { looks = []; only = tt; log = refl; said = refl; others = owes-other nothing (record v { got = id ∷ v.got }); share = refl }
+  looks-winning v = record {
+    looks = [];
+    only = tt;
+    log = refl;
+    said = refl;
+    others = owes-other nothing (record v { got = id ∷ v.got });
+    share = refl;
+  }
 
   -- after a reading; after one and another; after one that was followed by a won exchange
   pub looks-read : (a : ℕ) (v w : View) → w ≡ reading id a v → LooksAfter id v w
