@@ -1,5 +1,5 @@
 -- What a system message that was applied makes of a run, with the acts that it asks for carried out.
-use Rattle.std.proofs.Common.{◌≡◌, ℕ, ◌<◌, ◌^◌, Bool, List, [], refl, sym, ap, ◌∙◌, subst, arith}
+use Rattle.std.proofs.Common.{◌≡◌, ℕ, ◌+◌, ◌<◌, ◌^◌, Bool, List, [], length, refl, sym, ap, ◌∙◌, subst, arith}
 use Rattle.std.specs.Prelude.{Result, Ok, Err, OnErr, IsErrOf}
 use Rattle.std.specs.Global.{Box}
 use Rattle.mb_actor.specs.Behaviour.{Moment, Reply}
@@ -13,14 +13,14 @@ use Rattle.mb_home.specs.Settled.{IsSettled}
 use Rattle.mb_turn.specs.declared.turn.Turn.{Turn}
 use Rattle.mb_turn.specs.Hold.{Hold}
 use Rattle.mb_turn.specs.Ran.{IsTurning}
-use Rattle.mb_turn.specs.Running.{IsRunning, IsBeside, KeepsJournal, SameRun}
-use Rattle.mb_turn.proofs.BesideLemmas.{beside-home}
+use Rattle.mb_turn.specs.Running.{IsRunning, IsBeside, KeepsJournal, SameRun, counted_by}
+use Rattle.mb_turn.proofs.BesideLemmas.{beside-home, same-run-then}
 use Rattle.mb_turn.proofs.RunningSteps.{running-same}
 use Rattle.mb_turn.proofs.TurningLemmas.{systems-few, turns-few}
 
 -- a run that keeps the journal is the same run
 pub same-keeps : (a b c : Hold) → SameRun a b → KeepsJournal b c → SameRun a c
-same-keeps a b c p q = record { actor = q.same.actor ∙ p.actor; who = q.same.who ∙ p.who; before = q.same.before ∙ p.before }
+same-keeps a b c p q = same-run-then a b c p q.same
 
 -- what answers that there is no memory does not answer that the journal is full
 pub not-full : {T : Type 0} (r : Result T ReadyError) → OnErr r (IsErrOf r NoMemory) → IsErrOf r JournalFull → ⊥
@@ -44,7 +44,15 @@ module _ (h : Hold) (new : Contents) (ready : Bool) (room : ℕ)
   acts-ready = ap (λ (x : Contents). x.cell.acts) same
 
   pub keeps-ready : KeepsJournal h (record h { home = new })
-  keeps-ready = record { same = record { actor = refl; who = who; before = refl }; journal = journal }
+  keeps-ready = record {
+    same = record {
+      actor = refl;
+      who = who;
+      before = refl;
+      counted = ap (λ (x : Contents). length x.take.taken + counted_by h) same;
+    };
+    journal = journal;
+  }
 
   pub beside-ready : IsBeside h → IsBeside (record h { home = new })
   beside-ready s = beside-home h s new who journal (ap (λ (x : Contents). x.rest) same) (ap (λ (x : Contents). x.dropped) same)

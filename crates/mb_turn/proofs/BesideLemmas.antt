@@ -1,5 +1,5 @@
 -- What lies beside a cell stays right where neither it nor the journal changes.
-use Rattle.std.proofs.Common.{◌≡◌, ◌+◌, ◌%◌, ◌^◌, Bool, true, false, List, [], length, refl, sym, ◌∙◌, subst}
+use Rattle.std.proofs.Common.{◌≡◌, ℕ, ◌+◌, ◌%◌, ◌^◌, Bool, true, false, List, [], length, refl, sym, ◌∙◌, subst, arith}
 use Rattle.std.specs.Prelude.{MatchBool}
 use Rattle.mb_status.specs.Mailbox.{Mailbox}
 use Rattle.mb_journal.specs.Aside.{next_front, next_number}
@@ -8,7 +8,7 @@ use Rattle.mb_home.specs.AtHome.{given_of}
 use Rattle.mb_home.specs.Contents.{Contents}
 use Rattle.mb_home.specs.Steps.{IsRested}
 use Rattle.mb_turn.specs.Hold.{Hold}
-use Rattle.mb_turn.specs.Running.{IsBeside, KeepsJournal, SameRun}
+use Rattle.mb_turn.specs.Running.{IsBeside, KeepsJournal, SameRun, counted_by}
 
 pub match-both : (b : Bool) (P Q P' Q' : Type 0) → (P → P') → (Q → Q') → MatchBool b P Q → MatchBool b P' Q'
 match-both true P Q P' Q' f g p = f p
@@ -54,7 +54,11 @@ beside-closed h shut count none = record {
 
 -- a run that keeps the journal, step after step
 pub keeps-same : (h : Hold) → KeepsJournal h h
-keeps-same h = record { same = record { actor = refl; who = refl; before = refl }; journal = refl }
+keeps-same h = record { same = record { actor = refl; who = refl; before = refl; counted = refl }; journal = refl }
+
+-- as many were counted as came out, first and then
+pub counted-then : (a b c x y z : ℕ) → b + x ≡ a + y → c + y ≡ b + z → c + x ≡ a + z
+counted-then a b c x y z first then' = omega (arith, first, then')
 
 pub keeps-then : (a b c : Hold) → KeepsJournal a b → KeepsJournal b c → KeepsJournal a c
 keeps-then a b c p q = record {
@@ -62,9 +66,15 @@ keeps-then a b c p q = record {
     actor = q.same.actor ∙ p.same.actor;
     who = q.same.who ∙ p.same.who;
     before = q.same.before ∙ p.same.before;
+    counted = counted-then _ _ _ (counted_by a) (counted_by b) (counted_by c) p.same.counted q.same.counted;
   };
   journal = q.journal ∙ p.journal;
 }
 
 pub same-run-then : (a b c : Hold) → SameRun a b → SameRun b c → SameRun a c
-same-run-then a b c p q = record { actor = q.actor ∙ p.actor; who = q.who ∙ p.who; before = q.before ∙ p.before }
+same-run-then a b c p q = record {
+  actor = q.actor ∙ p.actor;
+  who = q.who ∙ p.who;
+  before = q.before ∙ p.before;
+  counted = counted-then _ _ _ (counted_by a) (counted_by b) (counted_by c) p.counted q.counted;
+}

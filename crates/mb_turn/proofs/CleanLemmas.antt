@@ -10,12 +10,14 @@ use Rattle.mb_journal.specs.Acts.{Act}
 use Rattle.mb_journal.specs.Aside.{next_number}
 use Rattle.mb_journal.specs.Life.{closed}
 use Rattle.mb_cell.specs.Seen.{Seen}
+use Rattle.mb_rule.specs.Summed.{total}
 use Rattle.mb_gate.specs.declared.claim.Claim.{Claim}
 use Rattle.mb_gate.specs.Names.{claim_id, known_of, held_actor, status_of, taken_with, closed_with, gave_last, given_to, recorded_by}
 use Rattle.mb_gate.specs.Names.{IsRecorded, SameTaken}
 use Rattle.mb_gate.specs.Record.{notice}
 use Rattle.mb_gate.specs.Untouched.{Origin}
 use Rattle.mb_gate.specs.View.{Sight, Said, Took, Ended, counting_off, ending, given_after}
+use Rattle.mb_gate.specs.Waiting.{counted_off}
 use Rattle.mb_gate.proofs.Numbers.{among_first, among_more}
 use Rattle.mb_home.specs.AtHome.{given_of, mailbox_at}
 use Rattle.mb_home.specs.Contents.{Contents}
@@ -23,7 +25,10 @@ use Rattle.mb_home.specs.Settled.{IsSettled}
 use Rattle.mb_turn.specs.Dry.{DrainedLast, WasEnded}
 use Rattle.mb_turn.specs.Hold.{Hold, hold_of}
 use Rattle.mb_turn.specs.Notice.{IsAnswered}
-use Rattle.mb_turn.specs.Running.{IsRunning, KeepsJournal}
+use Rattle.mb_turn.specs.Ran.{IsTurning}
+use Rattle.mb_turn.specs.Running.{IsRunning, KeepsJournal, SameRun}
+use Rattle.mb_turn.specs.declared.turn.Turn.{Turn}
+use Rattle.mb_turn.proofs.CountLemmas.{counted-still, counted-more, counts-one}
 use Rattle.mb_turn.proofs.HoldLemmas.{hold-taken, hold-ended, hold-recorded}
 use Rattle.mb_turn.proofs.LeadLemmas.{leads-closed}
 use Rattle.mb_turn.proofs.RunningSteps.{running-same, running-dropped_first, running-parting, running-taken, running-ended}
@@ -104,9 +109,29 @@ module _ (c new : Claim (Box Contents)) (ours : (claim_id new ≡ claim_id c) ×
   pub hold-one : hold_of new ≡ record (hold_of c) { log = Took (held_actor c) 1 ∷ (known_of c).log }
   hold-one = hold-taken c new ours home (held_actor c) 1 status known taken
 
-  pub keeps-taken : KeepsJournal (hold_of c) (hold_of new)
-  keeps-taken =
-      subst (KeepsJournal (hold_of c)) (sym hold-one) (record { same = record { actor = refl; who = refl; before = refl }; journal = refl })
+  -- it came out of the queue just before
+  module _ (before : Contents) (who : c.home.value.cell.who ≡ before.cell.who)
+      (more : length c.home.value.take.taken ≡ length before.take.taken + 1) where
+    pub same-taken : SameRun (record (hold_of c) { home = before }) (hold_of new)
+    same-taken =
+        subst (SameRun (record (hold_of c) { home = before })) (sym hold-one)
+        (record {
+          actor = refl;
+          who = who;
+          before = refl;
+          counted = counted-more _ _ (total (counted_off (held_actor c)) (known_of c).log) _ more (counts-one (held_actor c));
+        })
+
+    pub keeps-taken : c.home.value.cell.journal ≡ before.cell.journal → KeepsJournal (record (hold_of c) { home = before }) (hold_of new)
+    keeps-taken journal = record {
+      same = same-taken;
+      journal = ap (λ (x : Hold). x.home.cell.journal) hold-one ∙ journal;
+    }
+
+  -- the turn counts what it did
+  pub turning-taken : (turn : Turn) → IsTurning (hold_of c) turn → IsTurning (hold_of new) turn
+  turning-taken turn t =
+      subst (λ (x : Hold). IsTurning x turn) (sym hold-one) (record { turns = t.turns; system = t.system; actor = t.actor })
 
   pub ended-taken : WasEnded (held_actor c) (known_of c).log → WasEnded (held_actor new) (known_of new).log
   ended-taken w =
@@ -131,7 +156,16 @@ module _ (c new : Claim (Box Contents)) (ours : (claim_id new ≡ claim_id c) ×
 
   pub keeps-ended : KeepsJournal (hold_of c) (hold_of new)
   keeps-ended =
-      subst (KeepsJournal (hold_of c)) (sym hold-end) (record { same = record { actor = refl; who = refl; before = refl }; journal = refl })
+      subst (KeepsJournal (hold_of c)) (sym hold-end)
+      (record {
+        same = record {
+          actor = refl;
+          who = refl;
+          before = refl;
+          counted = counted-still _ _ (total (counted_off (held_actor c)) (known_of c).log) refl;
+        };
+        journal = refl;
+      })
 
   pub was-ended : WasEnded (held_actor new) (known_of new).log
   was-ended =

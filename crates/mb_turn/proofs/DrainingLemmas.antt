@@ -1,11 +1,12 @@
 -- What a drain makes of a run.
-use Rattle.std.proofs.Common.{◌≡◌, ℕ, Bool, true, false, List, [], ◌∷◌, refl, sym, ap, ◌∙◌, subst}
+use Rattle.std.proofs.Common.{◌≡◌, ℕ, Bool, true, false, List, [], ◌∷◌, length, refl, sym, ap, ◌∙◌, subst}
 use Rattle.std.specs.Prelude.{not, IsTrue, MatchBool}
 use Rattle.std.specs.Global.{Box}
 use Rattle.mb_msg.specs.declared.system.SysMsg.{SysMsg}
 use Rattle.mb_actor.specs.Behaviour.{Moment, Reply}
 use Rattle.mb_journal.specs.Aside.{next_front}
 use Rattle.mb_cell.specs.Seen.{Seen}
+use Rattle.mb_rule.specs.Summed.{total}
 use Rattle.mb_gate.specs.declared.claim.Claim.{Claim}
 use Rattle.mb_gate.specs.Lists.{IsNumberedFrom}
 use Rattle.mb_gate.specs.Named.{EachNamesBelow}
@@ -13,6 +14,7 @@ use Rattle.mb_gate.specs.Names.{claim_id, known_of, held_actor, status_of, taken
 use Rattle.mb_gate.specs.Rule.{is_some_item}
 use Rattle.mb_gate.specs.Untouched.{Origin}
 use Rattle.mb_gate.specs.View.{Sight, Drained, draining, given_after}
+use Rattle.mb_gate.specs.Waiting.{counted_off}
 use Rattle.mb_home.specs.AtHome.{given_of}
 use Rattle.mb_home.specs.Contents.{Contents}
 use Rattle.mb_home.specs.Settled.{IsSettled}
@@ -21,6 +23,7 @@ use Rattle.mb_home.proofs.GivenLemmas.{given-kept}
 use Rattle.mb_turn.specs.Hold.{Hold, hold_of}
 use Rattle.mb_turn.specs.Ran.{IsDrained}
 use Rattle.mb_turn.specs.Running.{IsRunning, IsBeside, KeepsJournal}
+use Rattle.mb_turn.proofs.CountLemmas.{counted-still}
 use Rattle.mb_turn.proofs.HoldLemmas.{hold-drained}
 use Rattle.mb_turn.proofs.RunningSteps.{running-drained, running-kept}
 use Rattle.mb_turn.proofs.TellingLemmas.{settled-here}
@@ -59,7 +62,12 @@ module _ (c mid : Claim (Box Contents)) (ours : (claim_id mid ≡ claim_id c) ×
   keeps-drained =
       subst (λ (x : Hold). KeepsJournal (hold_of c) (record x { home = new })) (sym hold-drain)
       (record {
-        same = record { actor = refl; who = ap (λ (x : Seen). x.who) cell; before = refl };
+        same = record {
+          actor = refl;
+          who = ap (λ (x : Seen). x.who) cell;
+          before = refl;
+          counted = counted-still _ _ (total (counted_off (held_actor c)) (known_of c).log) (ap (λ (x : Contents). length x.take.taken) kept_here);
+        };
         journal = ap (λ (x : Seen). x.journal) cell;
       })
 

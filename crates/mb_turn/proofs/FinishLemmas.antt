@@ -1,20 +1,25 @@
 -- What the last step of a run needs, and what it leaves.
 use Rattle.std.proofs.Common.{◌≡◌, ◌≢◌, ◌⊎◌, inl, inr, ℕ, ◌+◌, ◌≤◌, ◌==◌, Bool, true, false, ◌||◌, List, [], ◌∷◌, ◌++◌}
-use Rattle.std.proofs.Common.{refl, sym, ap, ◌∙◌, subst, append_assoc, append-nil}
+use Rattle.std.proofs.Common.{refl, sym, ap, ◌∙◌, subst, append_assoc, append-nil, length}
 use Rattle.std.specs.Prelude.{MatchBool, if◌then◌else◌}
 use Rattle.std.specs.Global.{Box}
 use Rattle.mb_status.specs.Mailbox.{word_of, idle}
+use Rattle.mb_msg.specs.declared.envelope.Envelope.{Envelope}
 use Rattle.mb_actor.specs.Behaviour.{Moment, Reply}
 use Rattle.mb_core.specs.declared.debt.Debt.{Debt}
 use Rattle.mb_journal.specs.Entry.{Entry}
 use Rattle.mb_journal.specs.Identity.{Identity}
+use Rattle.mb_journal.specs.Life.{closed}
 use Rattle.mb_journal.specs.Run.{IsReason, IsTurns, Stopped, most_envelopes}
+use Rattle.mb_rule.specs.Summed.{total}
+use Rattle.mb_fates.specs.Fates.{begun}
 use Rattle.mb_gate.specs.declared.claim.Claim.{Claim}
 use Rattle.mb_gate.specs.Names.{held_actor, known_of, recorded_by, status_of, taken_with, gave_last}
 use Rattle.mb_gate.specs.Record.{IsSaidSince}
 use Rattle.mb_gate.specs.Rule.{Extends, IsAmong, IsPart}
 use Rattle.mb_gate.specs.Untouched.{Origin}
 use Rattle.mb_gate.specs.View.{View, Sight, Saw, owes, debt_of, added_debts, either_owes, idling, taking_in}
+use Rattle.mb_gate.specs.Waiting.{counted_off}
 use Rattle.mb_core.specs.Actor.{nothing}
 use Rattle.mb_gate.proofs.Numbers.{among_first, among_right}
 use Rattle.mb_home.specs.AtHome.{IsHomeOf, mailbox_at}
@@ -31,6 +36,7 @@ use Rattle.mb_turn.specs.Ran.{EndsDrained, IsTurning, LeavesRun, systems_in}
 use Rattle.mb_turn.specs.Running.{IsRunning, IsBeside, SameRun}
 use Rattle.mb_turn.proofs.CallerLemmas.{account-then}
 use Rattle.mb_turn.proofs.CleanLemmas.{ended-closed}
+use Rattle.mb_turn.proofs.CountLemmas.{begun-turns, counted-all}
 use Rattle.mb_turn.proofs.RestLemmas.{closed-front}
 use Rattle.mb_turn.proofs.RunningMoves.{status-at}
 use Rattle.mb_turn.proofs.ToldLemmas.{told-all}
@@ -148,16 +154,21 @@ pub leaves-run : (throughput : ℕ) (first last : Claim (Box Contents)) (pass : 
     turn.envelopes ≤ most_envelopes throughput →
     IsReason last.home.value.cell.who throughput turn.envelopes last.home.value.cell.journal stopped →
     EndsDrained (held_actor last) (known_of last).log stopped → TakesDry (held_actor last) (known_of last).log →
-    IsAmong (Saw (held_actor last) last.home.value.cell.journal) pass.log → IsPart (known_of last).log pass.log →
+    IsAmong (Saw (held_actor last) last.home.value.cell.journal) pass.log → IsPart (known_of last).log pass.log → (known_of first).log ≡ [] →
+    length first.home.value.take.taken ≡ length (begun first.home.value.cell.journal) →
+    last.home.value.take.taken ≡ begun last.home.value.cell.journal ++ last.home.value.cleaned →
+    (closed last.home.value.cell.who last.home.value.cell.journal ≡ false → last.home.value.cleaned ≡ []) →
     LeavesRun throughput first pass last.home.value.cell.journal turn stopped
-leaves-run throughput first last pass turn stopped taken same t few reason ends dry saw part =
+leaves-run throughput first last pass turn stopped taken same t few reason ends dry saw part fresh at_first at_last keeps =
     let before : (hold_of last).before ≡ first.home.value.cell.journal = same.before ∙ taken in
     let journal = last.home.value.cell.journal in
+    let turns : IsTurns first.home.value.cell.who first.home.value.cell.journal turn.envelopes journal =
+    subst (λ (x : Identity × List Entry). IsTurns x.0 x.1 turn.envelopes journal) (λ i. (same.who i, before i)) t.turns in
+    let steps = (known_of last).log in
     record {
       run = record {
         envelopes = turn.envelopes;
-        turns =
-            subst (λ (x : Identity × List Entry). IsTurns x.0 x.1 turn.envelopes journal) (λ i. (same.who i, before i)) t.turns;
+        turns = turns;
         at_most = few;
         reason = subst (λ (w : Identity). IsReason w throughput turn.envelopes journal stopped) same.who reason;
       };
@@ -169,4 +180,12 @@ leaves-run throughput first last pass turn stopped taken same t few reason ends 
       taken_over = part;
       dry = subst (λ n. TakesDry n (known_of last).log) same.actor dry;
       last = subst (λ n. EndsDrained n (known_of last).log stopped) same.actor ends;
+      cleaned = length last.home.value.cleaned;
+      none_cleaned = λ open_yet. ap (λ (l : List Envelope). length l)
+          (keeps (ap (λ (w : Identity). closed w journal) same.who ∙ open_yet));
+      counted = ap (λ n. total (counted_off n) steps) (sym same.actor)
+          ∙ counted-all journal first.home.value.cell.journal last.home.value.take.taken last.home.value.cleaned first.home.value.take.taken
+          (total (counted_off (held_actor first)) (known_of first).log) (total (counted_off (held_actor last)) steps) turn.envelopes same.counted
+          (ap (total (counted_off (held_actor first))) fresh) at_first at_last
+          (begun-turns first.home.value.cell.who first.home.value.cell.journal journal turn.envelopes turns);
     }

@@ -1,15 +1,19 @@
 -- A claim that was just taken is a run's to begin with.
-use Rattle.std.proofs.Common.{◌≡◌, inl, ℕ, false, List, [], ◌∷◌, length, Some, refl, sym, ap, ◌∙◌, subst, arith}
+use Rattle.std.proofs.Common.{◌≡◌, inl, ℕ, false, List, [], ◌∷◌, ◌++◌, length, Some, refl, sym, ap, ◌∙◌, subst, append-nil, arith}
 use Rattle.std.specs.Prelude.{MatchBool}
 use Rattle.std.specs.Global.{Box}
+use Rattle.mb_status.specs.Mailbox.{Mailbox}
+use Rattle.mb_msg.specs.declared.envelope.Envelope.{Envelope}
 use Rattle.mb_actor.specs.Behaviour.{Moment, Reply}
+use Rattle.mb_journal.specs.Life.{closed}
 use Rattle.mb_journal.specs.Run.{IsTurns}
 use Rattle.mb_journal.specs.Run.IsBlock.{no_more}
 use Rattle.mb_journal.specs.Run.IsTurns.{a_block}
 use Rattle.mb_rule.specs.Seen.{Each}
+use Rattle.mb_fates.specs.Fates.{begun}
 use Rattle.mb_gate.specs.Claims.{held_in}
 use Rattle.mb_gate.specs.declared.claim.Claim.{Claim}
-use Rattle.mb_gate.specs.Names.{claim_id, held_actor, status_of, gave_last, taken_with}
+use Rattle.mb_gate.specs.Names.{claim_id, held_actor, known_of, status_of, gave_last, taken_with}
 use Rattle.mb_gate.specs.Rule.{IsAmong}
 use Rattle.mb_gate.specs.Untouched.{Origin}
 use Rattle.mb_gate.specs.View.{View, Sight}
@@ -67,6 +71,20 @@ module _ (gives : ℕ → Moment → Reply → Type 0) (origin : Origin (Box Con
 
     pub taken-fresh : taken_with c ≡ c.home.value.cell.journal
     taken-fresh = ap (λ (v : View). (held_in v).journal) u.known
+
+    -- nothing was done with it
+    pub log-fresh : (known_of c).log ≡ []
+    log-fresh = ap (λ (v : View). v.log) u.known
+
+    -- and all that came out of the queue was begun
+    pub taken-begun : length c.home.value.take.taken ≡ length (begun c.home.value.cell.journal)
+    taken-begun =
+        let h = c.home.value in
+        let same = same-word (mailbox_at h.cell.who h.cell.journal) (status_of c) refl u.open_yet u.word in
+        let open_yet : closed h.cell.who h.cell.journal ≡ false = sym (ap (λ (m : Mailbox). m.closed) same) ∙ u.open_yet in
+        ap (λ (l : List Envelope). length l)
+        (u.ours.own.settled.taken ∙ ap (λ l. begun h.cell.journal ++ l) (u.ours.own.settled.open_keeps open_yet)
+        ∙ append-nil (begun h.cell.journal))
 
     pub running-fresh : (seen : List Sight) → length origin.first.value.roll ≡ origin.actors → IsRunning gives origin [] seen (hold_of c)
     running-fresh seen many =

@@ -7,6 +7,7 @@ pub mod RestLemmas
 pub mod SettledLemmas
 pub mod RunningSteps
 pub mod BesideLemmas
+pub mod CountLemmas
 pub mod RunningMoves
 pub mod AnswerLemmas
 pub mod NamedLemmas

@@ -1,11 +1,12 @@
 -- What a tell makes of a run.
-use Rattle.std.proofs.Common.{◌≡◌, ℕ, ◌<◌, ◌*◌, ◌+◌, true, List, [], ◌∷◌, refl, sym, ap, ◌∙◌, subst, arith}
+use Rattle.std.proofs.Common.{◌≡◌, ℕ, ◌<◌, ◌*◌, ◌+◌, true, List, [], ◌∷◌, length, refl, sym, ap, ◌∙◌, subst, arith}
 use Rattle.std.specs.Prelude.{if◌then◌else◌}
 use Rattle.std.specs.Global.{Box}
 use Rattle.mb_status.specs.Mailbox.{Mailbox, word_of, mailbox_of}
 use Rattle.mb_msg.specs.declared.dead_letter.Why.{Why}
 use Rattle.mb_msg.specs.declared.dead_letter.Why.TheVariants.{Closed}
 use Rattle.mb_msg.specs.declared.envelope.Body.{Body}
+use Rattle.mb_msg.specs.declared.envelope.Envelope.{Envelope}
 use Rattle.mb_msg.specs.declared.id.ActorId.{ActorId}
 use Rattle.mb_actor.specs.Behaviour.{Moment, Reply}
 use Rattle.mb_core.specs.Actor.{nothing}
@@ -26,7 +27,7 @@ use Rattle.mb_home.proofs.SettleLemmas.{many-sends}
 use Rattle.mb_home.proofs.TellSteps.{told-there}
 use Rattle.mb_wake.proofs.Views.{owes-same}
 use Rattle.mb_turn.specs.Hold.{Hold}
-use Rattle.mb_turn.specs.Running.{IsRunning, IsBeside, KeepsJournal, IsShutTo}
+use Rattle.mb_turn.specs.Running.{IsRunning, IsBeside, KeepsJournal, IsShutTo, counted_by}
 use Rattle.mb_turn.proofs.BesideLemmas.{beside-home}
 use Rattle.mb_turn.proofs.RunningSteps.{running-seen, running-same, running-told}
 use Rattle.mb_turn.proofs.ShutLemmas.{shut-buried, shut-read}
@@ -61,9 +62,14 @@ paid-closed id m a b shut known =
 -- ---- a home whose cell and whose drained messages stay
 
 module _ (h : Hold) (new : Contents) (cell : new.cell ≡ h.home.cell) where
-  pub keeps-home : KeepsJournal h (record h { home = new })
-  keeps-home = record {
-    same = record { actor = refl; who = ap (λ (c : Seen). c.who) cell; before = refl };
+  pub keeps-home : new.take.taken ≡ h.home.take.taken → KeepsJournal h (record h { home = new })
+  keeps-home taken = record {
+    same = record {
+      actor = refl;
+      who = ap (λ (c : Seen). c.who) cell;
+      before = refl;
+      counted = ap (λ (l : List Envelope). length l + counted_by h) taken;
+    };
     journal = ap (λ (c : Seen). c.journal) cell;
   }
 
@@ -75,7 +81,12 @@ module _ (h : Hold) (new : Contents) (cell : new.cell ≡ h.home.cell) where
 module _ (h : Hold) (new : Contents) (same : new ≡ record h.home { cell = record h.home.cell { acts = new.cell.acts } }) where
   pub keeps-next : KeepsJournal h (record h { home = new })
   keeps-next = record {
-    same = record { actor = refl; who = ap (λ (x : Contents). x.cell.who) same; before = refl };
+    same = record {
+      actor = refl;
+      who = ap (λ (x : Contents). x.cell.who) same;
+      before = refl;
+      counted = ap (λ (x : Contents). length x.take.taken + counted_by h) same;
+    };
     journal = ap (λ (x : Contents). x.cell.journal) same;
   }
 

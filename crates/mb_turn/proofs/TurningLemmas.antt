@@ -15,7 +15,7 @@ use Rattle.mb_home.proofs.RunForms.{applied-turns, begun-turns}
 use Rattle.mb_turn.specs.declared.turn.Turn.{Turn}
 use Rattle.mb_turn.specs.Hold.{Hold}
 use Rattle.mb_turn.specs.Ran.{IsTurning, systems_in}
-use Rattle.mb_turn.specs.Running.{KeepsJournal, SameRun}
+use Rattle.mb_turn.specs.Running.{KeepsJournal, SameRun, counted_by}
 
 -- no more than there are entries
 pub systems-few : (journal : List Entry) → systems_in journal ≤ length journal
@@ -81,7 +81,9 @@ module _ (h : Hold) (new : Contents) (turn : Turn) (t : IsTurning h turn) where
 
   -- and the run is the same
   pub same-applied : AppliesNext h.home new → SameRun h (record h { home = new })
-  same-applied a = record { actor = refl; who = ap (λ (c : Seen). c.who) a.taken.adds; before = refl }
-
-  pub same-begun : (reading : ℕ) → Begins h.home new reading → SameRun h (record h { home = new })
-  same-begun reading b = record { actor = refl; who = ap (λ (c : Seen). c.who) b.taken.adds; before = refl }
+  same-applied a = record {
+    actor = refl;
+    who = ap (λ (c : Seen). c.who) a.taken.adds;
+    before = refl;
+    counted = ap (λ (x : Contents). length x.take.taken + counted_by h) a.same;
+  }

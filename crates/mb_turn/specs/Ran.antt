@@ -1,5 +1,5 @@
 -- What a run tells.
-use Rattle.std.specs.Prelude.{◌≡◌, ℕ, ◌+◌, true, List, [], ◌∷◌, None}
+use Rattle.std.specs.Prelude.{◌≡◌, ℕ, ◌+◌, true, false, List, [], ◌∷◌, None}
 use Rattle.std.specs.Global.{Box}
 use Rattle.mb_journal.specs.Aside.{next_front}
 use Rattle.mb_journal.specs.Entry.{Entry}
@@ -9,10 +9,12 @@ use Rattle.mb_journal.specs.Life.{closed}
 use Rattle.mb_journal.specs.Reading.{IsOpen}
 use Rattle.mb_journal.specs.Run.{IsRun, IsShut, IsTurns, Stopped}
 use Rattle.mb_journal.specs.Run.Stopped.{UsedUp, NotOpen, NoEnvelope, AtClosing, NoRoom}
+use Rattle.mb_rule.specs.Summed.{total}
 use Rattle.mb_gate.specs.declared.claim.Claim.{Claim}
 use Rattle.mb_gate.specs.Names.{held_actor}
 use Rattle.mb_gate.specs.Rule.{IsAmong, IsPart}
 use Rattle.mb_gate.specs.View.{View, Sight, Saw}
+use Rattle.mb_gate.specs.Waiting.{counted_off}
 use Rattle.mb_home.specs.Contents.{Contents}
 use Rattle.mb_turn.specs.declared.turn.Turn.{Turn}
 use Rattle.mb_turn.specs.Dry.{DrainedLast, TakesDry}
@@ -62,7 +64,7 @@ EndsDrained actor log NoRoom = Unit {0}
 
 -- The claim's actor ran from the journal with which the claim was taken to this one, which the pass has seen; the turn names the actor and
 -- counts the entries of either kind. Of its own steps, which the pass has taken over, each that took an envelope came when no system message
--- was left to be drained.
+-- was left to be drained, and they count as many envelopes as taken as were begun and cleaned up: none is cleaned up unless the actor ended.
 pub record LeavesRun (throughput : ℕ) (claim : Claim (Box Contents)) (pass : View) (journal : List Entry) (turn : Turn) (stopped : Stopped)
     : Type 0 where
   pub run : IsRun claim.home.value.cell.who throughput claim.home.value.cell.journal journal stopped
@@ -74,3 +76,6 @@ pub record LeavesRun (throughput : ℕ) (claim : Claim (Box Contents)) (pass : V
   pub taken_over : IsPart steps pass.log
   pub dry : TakesDry (held_actor claim) steps
   pub last : EndsDrained (held_actor claim) steps stopped
+  pub cleaned : ℕ
+  pub none_cleaned : closed claim.home.value.cell.who journal ≡ false → cleaned ≡ 0
+  pub counted : total (counted_off (held_actor claim)) steps ≡ turn.envelopes + cleaned

@@ -1,11 +1,13 @@
 -- What holds of a claim between two steps of its run (`akka.dispatch.Mailbox.run`; the books are this project's own profile).
-use Rattle.std.specs.Prelude.{◌≡◌, ◌<◌, ℕ, false, MatchBool, List, [], ◌++◌, ◌⊎◌}
+use Rattle.std.specs.Prelude.{◌≡◌, ◌<◌, ◌+◌, ℕ, false, MatchBool, List, [], ◌++◌, ◌⊎◌, length}
 use Rattle.std.specs.Global.{Box}
 use Rattle.mb_actor.specs.Behaviour.{Moment, Reply}
 use Rattle.mb_journal.specs.Acts.{Act}
 use Rattle.mb_rule.specs.Seen.{Each}
+use Rattle.mb_rule.specs.Summed.{total}
 use Rattle.mb_gate.specs.Rule.{IsAmong}
 use Rattle.mb_gate.specs.View.{Sight, Read}
+use Rattle.mb_gate.specs.Waiting.{counted_off}
 use Rattle.mb_home.specs.AtHome.{closed_receivers, given_of, mailbox_at}
 use Rattle.mb_home.specs.Carried.{Leads}
 use Rattle.mb_home.specs.Contents.{Contents}
@@ -49,11 +51,16 @@ pub record IsBeside (hold : Hold) : Type 0 where
   pub count : given_of hold.home ≡ hold.given
   pub rest : MatchBool hold.status.closed (hold.home.rest ≡ []) (hold.gave ≡ false → IsRested hold.home)
 
--- the run is of the same actor, and goes on from the same journal
+-- how many envelopes of its actor the claim's own seat counted as taken
+abbrev pub counted_by : Hold → ℕ
+counted_by hold = total (counted_off hold.actor) hold.log
+
+-- The run is of the same actor, and goes on from the same journal; as many envelopes were counted as taken as came out of the queue.
 pub record SameRun (old new : Hold) : Type 0 where
   pub actor : new.actor ≡ old.actor
   pub who : new.home.cell.who ≡ old.home.cell.who
   pub before : new.before ≡ old.before
+  pub counted : length new.home.take.taken + counted_by old ≡ length old.home.take.taken + counted_by new
 
 -- carrying out changes no journal
 pub record KeepsJournal (old new : Hold) : Type 0 where

@@ -12,6 +12,8 @@ use Rattle.mb_home.specs.Steps.{Cleans, FindsNone}
 use Rattle.mb_turn.specs.Hold.{hold_of}
 use Rattle.mb_turn.specs.Running.{IsRunning}
 use Rattle.mb_turn.proofs.BesideLemmas.{keeps-same, keeps-then}
+use Rattle.mb_cell.specs.Seen.{Seen}
+use Rattle.mb_turn.proofs.CountLemmas.{one-more}
 use Rattle.mb_turn.proofs.CleanLemmas.{running-within, ended-closed, running-counted, ended-taken, keeps-taken}
 use Rattle.mb_turn.proofs.TellingLemmas.{running-own, keeps-home}
 use Rattle.mb_turn.proofs.clean_up.clean_envelopes.Goals as goal
@@ -70,7 +72,8 @@ pub returns-in_err-clean_next-clause-same : goal.returns-in_err-clean_next-claus
 returns-in_err-clean_next-clause-same g c =
     keeps-then _ _ _ c.loop.invariant.9
     (keeps-home (hold_of c.loop.claim) c.clean_next.new.self
-    (ap (λ (x : Contents). x.cell) (c.in_err-clean_next.ensures.refused ∙ c.deref_mut.ensures.value)))
+    (ap (λ (x : Contents). x.cell) (c.in_err-clean_next.ensures.refused ∙ c.deref_mut.ensures.value))
+    (ap (λ (x : Contents). x.take.taken) (c.in_err-clean_next.ensures.refused ∙ c.deref_mut.ensures.value)))
 
 -- ---- none was there
 
@@ -83,6 +86,15 @@ returns-then-not-branch-clause-running g c =
     λ seen r. running-within g.K.Behaviours.gives (origin_of c.args.gates.now) seen (hold_of c.loop.claim) (c.loop.invariant.4 seen r)
     c.clean_next.new.self (ap (λ (x : Contents). x.cell) found.same) (ap (λ (x : Contents). x.roll) found.same)
     (ap (λ (x : Contents). x.dead) found.same) c.clean_next.ensures.settled (ap (λ (x : Contents). x.rest) found.same)
+
+pub returns-then-not-branch-clause-same : goal.returns-then-not-branch-clause-same
+returns-then-not-branch-clause-same g c =
+    let at_home = subst (λ (x : Contents). MatchBool c.in_ok-clean_next.field-0 (Cleans x c.clean_next.new.self) (FindsNone x
+    c.clean_next.new.self)) c.deref_mut.ensures.value c.in_ok-clean_next.ensures.cleaned in
+    let found = subst (λ b. MatchBool b (Cleans c.loop.claim.home.value c.clean_next.new.self) (FindsNone c.loop.claim.home.value
+    c.clean_next.new.self)) c.if-not-branch.true at_home in
+    keeps-then _ _ _ c.loop.invariant.9
+    (keeps-home (hold_of c.loop.claim) c.clean_next.new.self (ap (λ (x : Contents). x.cell) found.same) found.took)
 
 -- ---- one was cleaned up
 
@@ -112,5 +124,6 @@ loop-preserved g c =
       did.taken.given ∙ inv.7,
       ap (λ (b : Box Contents). b.value.cell) did.same.1 ∙ cell ∙ inv.8,
       keeps-then _ _ _ inv.9
-          (keeps-then _ _ _ (keeps-home (hold_of l) mid cell) (keeps-taken _ new ours did.same.1 did.same.0 did.known did.taken)),
+          (keeps-taken _ new ours did.same.1 did.same.0 did.known did.taken l.home.value (ap (λ (x : Seen). x.who) cell)
+          (one-more mid.take.taken l.home.value.take.taken found.envelope found.took) (ap (λ (x : Seen). x.journal) cell)),
     )

@@ -106,10 +106,11 @@ returns-clause-same g c =
     let first = c.sys_close-listed.new.claim in
     let mid = c.drop_systems.new.claim in
     let cell = ap (λ (x : Contents). x.cell) c.keep.ensures.kept ∙ ap (λ (x : Contents). x.cell) c.deref_mut.ensures.value in
+    let taken = ap (λ (x : Contents). x.take.taken) c.keep.ensures.kept ∙ ap (λ (x : Contents). x.take.taken) c.deref_mut.ensures.value in
     keeps-then _ _ _
     (keeps-ended c.args.claim.now first did.ours did.same did.taken did.recorded c.sys_close-listed.result did.given did.known did.gave)
     (keeps-then _ _ _ c.drop_systems.ensures.same
-    (keeps-then _ _ _ (keeps-home (hold_of mid) c.keep.new.self cell)
+    (keeps-then _ _ _ (keeps-home (hold_of mid) c.keep.new.self cell taken)
     (keeps-then _ _ _ c.drop_systems-2.ensures.same c.clean_envelopes.ensures.same)))
 
 pub returns-clause-goes : goal.returns-clause-goes

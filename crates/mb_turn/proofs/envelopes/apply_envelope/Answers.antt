@@ -16,12 +16,13 @@ use Rattle.mb_turn.specs.Running.{IsRunning}
 use Rattle.mb_turn.proofs.AppliedLemmas.{same-keeps, same-fault, not-full, acts-ready, keeps-ready, beside-ready, running-ready, envelopes-fit}
 use Rattle.mb_turn.proofs.BesideLemmas.{keeps-same, keeps-then, same-run-then}
 use Rattle.mb_turn.proofs.CallerLemmas.{further-none}
-use Rattle.mb_turn.proofs.CleanLemmas.{running-counted, keeps-taken}
+use Rattle.mb_turn.proofs.CleanLemmas.{running-counted, same-taken, turning-taken}
+use Rattle.mb_turn.proofs.CountLemmas.{one-more}
 use Rattle.mb_turn.proofs.EnvelopeLemmas.{why-not-open, why-none, why-same, is-open, drained-open, drained-home, running-found, beside-counted}
 use Rattle.mb_turn.proofs.ReadingLemmas.{open-reading, count-none}
 use Rattle.mb_turn.proofs.RunningMoves.{status-at, running-begun, beside-begun}
 use Rattle.mb_turn.proofs.TellingLemmas.{keeps-home, beside-cell}
-use Rattle.mb_turn.proofs.TurningLemmas.{turning-keeps, turning-begun, same-begun}
+use Rattle.mb_turn.proofs.TurningLemmas.{turning-keeps, turning-begun}
 use Rattle.mb_turn.proofs.envelopes.apply_envelope.Goals as goal
 
 -- ---- the status was not open
@@ -178,7 +179,7 @@ returns-then-not-apply_envelope-clause-turning g c =
     let found = subst (λ b. MatchBool b (Begins mid new (word_of c.status-status.result)) (FindsNone mid new)) c.if-not-apply_envelope.true
     at_home in
     let keeps = keeps-then old (record old { home = mid }) (record old { home = new }) (keeps-ready old mid _ _ same)
-    (keeps-home (record old { home = mid }) new (ap (λ (x : Contents). x.cell) found.same)) in
+    (keeps-home (record old { home = mid }) new (ap (λ (x : Contents). x.cell) found.same) found.took) in
     (turning-keeps old (record old { home = new }) c.args.turn.now keeps c.requires.turning, keeps.same)
 
 pub returns-then-not-apply_envelope-clause-goes : goal.returns-then-not-apply_envelope-clause-goes
@@ -300,11 +301,13 @@ returns-in-Ok-clause-turning g c =
     (ap (λ (x : Contents). x.cell.journal) same) (drained-open gives origin seen old c.requires.running c.requires.whole t) in
     let before = keeps-ready old mid _ _ same in
     let at = turning-keeps old h c.args.turn.now before c.requires.turning in
-    let after = keeps-then _ _ _ (keeps-taken _ c.note_taken.new.claim (did.ours, did.actor) did.same.1 did.same.0 did.known did.taken)
-    c.carry_out.ensures.same in
-    let word = word_of c.status-status.result in (
-      turning-keeps _ _ _ after (turning-begun h new c.args.turn.now at word begun drained.none),
-      same-keeps _ _ _ (same-run-then _ _ _ before.same (same-begun h new c.args.turn.now at word begun)) after,
+    let last = c.note_taken.new.claim in
+    let took = same-taken _ last (did.ours, did.actor) did.same.1 did.same.0 did.known did.taken mid (ap (λ (x : Seen). x.who) begun.taken.adds)
+    (one-more new.take.taken mid.take.taken begun.envelope begun.took) in
+    let turned = turning-taken _ last (did.ours, did.actor) did.same.1 did.same.0 did.known did.taken _
+    (turning-begun h new c.args.turn.now at (word_of c.status-status.result) begun drained.none) in (
+      turning-keeps _ _ _ c.carry_out.ensures.same turned,
+      same-keeps _ _ _ (same-run-then _ _ _ before.same took) c.carry_out.ensures.same,
     )
 
 pub returns-in-Err-clause-turning : goal.returns-in-Err-clause-turning
@@ -329,11 +332,13 @@ returns-in-Err-clause-turning g c =
     (ap (λ (x : Contents). x.cell.journal) same) (drained-open gives origin seen old c.requires.running c.requires.whole t) in
     let before = keeps-ready old mid _ _ same in
     let at = turning-keeps old h c.args.turn.now before c.requires.turning in
-    let after = keeps-then _ _ _ (keeps-taken _ c.note_taken.new.claim (did.ours, did.actor) did.same.1 did.same.0 did.known did.taken)
-    c.carry_out.ensures.same in
-    let word = word_of c.status-status.result in (
-      turning-keeps _ _ _ after (turning-begun h new c.args.turn.now at word begun drained.none),
-      same-keeps _ _ _ (same-run-then _ _ _ before.same (same-begun h new c.args.turn.now at word begun)) after,
+    let last = c.note_taken.new.claim in
+    let took = same-taken _ last (did.ours, did.actor) did.same.1 did.same.0 did.known did.taken mid (ap (λ (x : Seen). x.who) begun.taken.adds)
+    (one-more new.take.taken mid.take.taken begun.envelope begun.took) in
+    let turned = turning-taken _ last (did.ours, did.actor) did.same.1 did.same.0 did.known did.taken _
+    (turning-begun h new c.args.turn.now at (word_of c.status-status.result) begun drained.none) in (
+      turning-keeps _ _ _ c.carry_out.ensures.same turned,
+      same-keeps _ _ _ (same-run-then _ _ _ before.same took) c.carry_out.ensures.same,
     )
 
 pub returns-in-Err-clause-full : goal.returns-in-Err-clause-full

@@ -12,7 +12,7 @@ use Rattle.mb_turn.specs.Ran.{EndsDrained, HadRoom}
 use Rattle.mb_turn.proofs.AppliedLemmas.{same-fault}
 use Rattle.mb_turn.proofs.CallerLemmas.{account-woken}
 use Rattle.mb_turn.proofs.FinishLemmas.{home-own, home-longer, home-fold, home-told, home-rest, saw-journal, steps-taken, leaves-caller, leaves-run}
-use Rattle.mb_turn.proofs.FreshLemmas.{taken-fresh, running-fresh, beside-fresh, turning-fresh}
+use Rattle.mb_turn.proofs.FreshLemmas.{taken-fresh, log-fresh, taken-begun, running-fresh, beside-fresh, turning-fresh}
 use Rattle.mb_turn.proofs.run.run_mailbox.Goals as goal
 
 -- ---- the claim as it was taken
@@ -115,6 +115,8 @@ returns-in-Ok-clause-ran g c =
     let part = steps-taken (held_actor last) journal (known_of last) (known_by run.new.waker.pass) (known_by c.release.new.pass)
     run.ensures.running.owes_nothing c.release.ensures.known (known_by c.register.new.self.pass) looks in
     let taken = taken-fresh g.K.Behaviours.gives (origin_of c.args.gates.now) c.args.claim c.requires.untouched in
+    let fresh = log-fresh g.K.Behaviours.gives (origin_of c.args.gates.now) c.args.claim c.requires.untouched in
+    let at_first = taken-begun g.K.Behaviours.gives (origin_of c.args.gates.now) c.args.claim c.requires.untouched in
     let ended = subst (λ (o : Result (Unit {0}) ReadyError). IfOk o (λ _. (stopped : Stopped) × HadRoom stopped × EndsDrained (held_actor last)
     (known_of last).log stopped × IsReason last.home.value.cell.who c.args.throughput turn.envelopes journal stopped)) c.in-Ok.is
     run.ensures.ended in (
@@ -123,7 +125,8 @@ returns-in-Ok-clause-ran g c =
         ended.0,
         ended.1,
         leaves-run c.args.throughput c.args.claim last (known_by c.register.new.self.pass) turn ended.0 taken run.ensures.turning.1
-            run.ensures.turning.0 run.ensures.few ended.3 ended.2 run.ensures.running.dry saw part,
+            run.ensures.turning.0 run.ensures.few ended.3 ended.2 run.ensures.running.dry saw part fresh at_first
+            run.ensures.running.settled.taken run.ensures.running.settled.open_keeps,
       ),
     )
 
@@ -140,12 +143,15 @@ returns-in-Err-clause-ran g c =
     run.ensures.running.owes_nothing c.release.ensures.known (known_by c.register.new.self.pass) looks in
     let part = steps-taken (held_actor last) journal (known_of last) (known_by run.new.waker.pass) (known_by c.release.new.pass)
     run.ensures.running.owes_nothing c.release.ensures.known (known_by c.register.new.self.pass) looks in
-    let taken = taken-fresh g.K.Behaviours.gives (origin_of c.args.gates.now) c.args.claim c.requires.untouched in (
+    let taken = taken-fresh g.K.Behaviours.gives (origin_of c.args.gates.now) c.args.claim c.requires.untouched in
+    let fresh = log-fresh g.K.Behaviours.gives (origin_of c.args.gates.now) c.args.claim c.requires.untouched in
+    let at_first = taken-begun g.K.Behaviours.gives (origin_of c.args.gates.now) c.args.claim c.requires.untouched in (
       journal,
       (
         turn,
         leaves-run c.args.throughput c.args.claim last (known_by c.register.new.self.pass) turn NoRoom taken run.ensures.turning.1
-            run.ensures.turning.0 run.ensures.few tt tt run.ensures.running.dry saw part,
+            run.ensures.turning.0 run.ensures.few tt tt run.ensures.running.dry saw part fresh at_first
+            run.ensures.running.settled.taken run.ensures.running.settled.open_keeps,
         λ full. subst (λ (w : Identity). w.limit ≤ length journal) run.ensures.turning.1.who
             (run.ensures.full (c.in-Err.is ∙ ap (λ (f : ReadyError). Err f) (same-fault c.in-Err.fault full))),
       ),

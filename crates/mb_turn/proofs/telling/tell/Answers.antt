@@ -83,6 +83,7 @@ returns-then-closed-clause-same g c =
     let buried = subst (λ (x : Contents). Buries x c.bury_closed.new.self c.args.to c.args.body Closed) c.deref_mut.ensures.value
     c.bury_closed.ensures.buried in
     keeps-home (hold_of c.args.claim.now) c.bury_closed.new.self (ap (λ (x : Contents). x.cell) buried.same)
+    (ap (λ (x : Contents). x.take.taken) buried.same)
 
 pub returns-then-closed-clause-goes : goal.returns-then-closed-clause-goes
 returns-then-closed-clause-goes g c =
@@ -132,6 +133,7 @@ pub returns-in-Ok-clause-same : goal.returns-in-Ok-clause-same
 returns-in-Ok-clause-same g c =
     let pushed = subst (λ (x : Contents). Pushes x c.push.new.self c.args.to c.args.body) c.deref_mut-2.ensures.value c.in-Ok.ensures.pushed in
     keeps-home (hold_of c.args.claim.now) c.push.new.self (ap (λ (x : Contents). x.cell) pushed.same)
+    (ap (λ (x : Contents). x.take.taken) pushed.same)
 
 -- ---- it was refused
 
@@ -178,3 +180,4 @@ returns-in-Err-clause-same g c =
     let buried = subst (λ (x : Contents). Buries x c.push.new.self c.args.to c.args.body (reason_of c.in-Err.field-0)) c.deref_mut-2.ensures.value
     c.in-Err.ensures.pushed.1 in
     keeps-home (hold_of c.args.claim.now) c.push.new.self (ap (λ (x : Contents). x.cell) buried.same)
+    (ap (λ (x : Contents). x.take.taken) buried.same)

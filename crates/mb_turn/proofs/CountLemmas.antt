@@ -1,0 +1,55 @@
+-- How many envelopes a run's steps count as taken.
+use Rattle.std.proofs.Common.{◌≡◌, ℕ, suc, ◌+◌, ◌==◌, true, false, if◌then◌else◌, List, [], ◌∷◌, ◌++◌, length, refl, sym, ap, ◌∙◌, arith}
+use Rattle.std.proofs.Common.{length-append}
+use Rattle.std.proofs.lemmas.Bool.Decides.{nat_tests}
+use Rattle.mb_msg.specs.declared.envelope.Envelope.{Envelope}
+use Rattle.mb_fates.specs.Fates.{begun}
+use Rattle.mb_gate.specs.View.{Took}
+use Rattle.mb_gate.specs.Waiting.{counted_off}
+use Rattle.mb_journal.specs.Entry.{Entry}
+use Rattle.mb_journal.specs.Entry.Entry.{Handled, System, Dropped}
+use Rattle.mb_journal.specs.Identity.{Identity}
+use Rattle.mb_journal.specs.Run.{IsBlock, IsTurns, IsOfEnvelope}
+use Rattle.mb_journal.specs.Run.IsBlock.{no_more, one_more}
+use Rattle.mb_journal.specs.Run.IsTurns.{a_block, a_turn}
+
+-- a step that counts nothing
+pub counted-still : (n m k : ℕ) → n ≡ m → n + k ≡ m + (0 + k)
+counted-still n m k same = omega (arith, same)
+
+-- one that counts an envelope
+pub counts-one : (actor : ℕ) → counted_off actor (Took actor 1) ≡ 1
+counts-one actor = let same : (actor == actor) ≡ true = grind (arith, nat_tests) in ap (λ b. if b then 1 else 0) same
+
+pub counted-more : (n m k one : ℕ) → n ≡ m + 1 → one ≡ 1 → n + k ≡ m + (one + k)
+counted-more n m k one more is = omega (arith, more, is)
+
+-- an envelope more came out
+pub one-more : (new old : List Envelope) (e : Envelope) → new ≡ old ++ e ∷ [] → length new ≡ length old + 1
+one-more new old e is = ap (λ (l : List Envelope). length l) is ∙ length-append old (e ∷ [])
+
+-- as many envelopes were begun as the turns of a run say
+begun-one : (e : Entry) (before : List Entry) → IsOfEnvelope e → length (begun (e ∷ before)) ≡ length (begun before) + 1
+begun-one (Handled envelope reading outcome) before of_it = length-append (begun before) (envelope ∷ [])
+begun-one (System number m outcome) before of_it = absurd of_it
+begun-one (Dropped envelope) before of_it = length-append (begun before) (envelope ∷ [])
+
+begun-block : (who : Identity) (from to : List Entry) → IsBlock who from to → length (begun to) ≡ length (begun from)
+begun-block who from to no_more = refl
+begun-block who from to (one_more there number m outcome block front) = begun-block who from there block
+
+pub begun-turns : (who : Identity) (from to : List Entry) (n : ℕ) → IsTurns who from n to → length (begun to) ≡ length (begun from) + n
+begun-turns who from to n (a_block there block) = begun-block who from to block ∙ sym (let none : length (begun from) + 0 ≡ length (begun from) = omega arith in none)
+begun-turns who from to n (a_turn before middle there e turns none of_envelope block) =
+    let last = begun-block who (e ∷ middle) to block in
+    let one = begun-one e middle of_envelope in
+    let rest = begun-turns who from middle before turns in
+    omega (arith, last, one, rest)
+
+-- of a run: all that came out of the queue was begun or cleaned up, so that its steps count what was begun in it and what was cleaned up
+pub counted-all : (journal before : List Entry) (taken cleaned first : List Envelope) (none steps n : ℕ)
+    → length taken + none ≡ length first + steps → none ≡ 0 → length first ≡ length (begun before) → taken ≡ begun journal ++ cleaned
+    → length (begun journal) ≡ length (begun before) + n → steps ≡ n + length cleaned
+counted-all journal before taken cleaned first none steps n counted is first_is taken_is turns =
+    let all : length taken ≡ length (begun journal) + length cleaned = ap (λ (l : List Envelope). length l) taken_is ∙ length-append (begun journal) cleaned in
+    omega (arith, counted, is, first_is, all, turns)
