@@ -1,5 +1,5 @@
 -- How many envelopes a run's steps count as taken.
-use Rattle.std.proofs.Common.{◌≡◌, ℕ, suc, ◌+◌, ◌==◌, true, false, if◌then◌else◌, List, [], ◌∷◌, ◌++◌, length, refl, sym, ap, ◌∙◌, arith}
+use Rattle.std.proofs.Common.{◌≡◌, ℕ, ◌+◌, ◌==◌, true, if◌then◌else◌, List, [], ◌∷◌, ◌++◌, length, refl, ap, ◌∙◌, arith}
 use Rattle.std.proofs.Common.{length-append}
 use Rattle.std.proofs.lemmas.Bool.Decides.{nat_tests}
 use Rattle.mb_msg.specs.declared.envelope.Envelope.{Envelope}
@@ -39,7 +39,7 @@ begun-block who from to no_more = refl
 begun-block who from to (one_more there number m outcome block front) = begun-block who from there block
 
 pub begun-turns : (who : Identity) (from to : List Entry) (n : ℕ) → IsTurns who from n to → length (begun to) ≡ length (begun from) + n
-begun-turns who from to n (a_block there block) = begun-block who from to block ∙ sym (let none : length (begun from) + 0 ≡ length (begun from) = omega arith in none)
+begun-turns who from to n (a_block there block) = let same = begun-block who from to block in omega (arith, same)
 begun-turns who from to n (a_turn before middle there e turns none of_envelope block) =
     let last = begun-block who (e ∷ middle) to block in
     let one = begun-one e middle of_envelope in
@@ -51,5 +51,6 @@ pub counted-all : (journal before : List Entry) (taken cleaned first : List Enve
     → length taken + none ≡ length first + steps → none ≡ 0 → length first ≡ length (begun before) → taken ≡ begun journal ++ cleaned
     → length (begun journal) ≡ length (begun before) + n → steps ≡ n + length cleaned
 counted-all journal before taken cleaned first none steps n counted is first_is taken_is turns =
-    let all : length taken ≡ length (begun journal) + length cleaned = ap (λ (l : List Envelope). length l) taken_is ∙ length-append (begun journal) cleaned in
+    let all : length taken ≡ length (begun journal) + length cleaned =
+    ap (λ (l : List Envelope). length l) taken_is ∙ length-append (begun journal) cleaned in
     omega (arith, counted, is, first_is, all, turns)

@@ -6,3 +6,4 @@ pub mod Caller
 pub mod Ran
 pub mod Fresh
 pub mod Notice
+pub mod Emptied

@@ -96,7 +96,9 @@ loop-node-preserved g c =
       ap (λ (v : View). (held_in v).given) known ∙ inv.4,
       ap (λ (b : Box Contents). b.value.cell) home ∙ cell ∙ inv.5,
       ap (λ (v : View). v.log) known ∙ inv.6,
-      keeps-then _ _ _ inv.7 (keeps-then _ _ _ (keeps-home (hold_of l) mid cell (ap (λ (x : Contents). x.take.taken) same)) (keeps-answered c.actor-actor.result.0 _ new asked told)),
+      keeps-then _ _ _ inv.7
+          (keeps-then _ _ _ (keeps-home (hold_of l) mid cell (ap (λ (x : Contents). x.take.taken) same))
+          (keeps-answered c.actor-actor.result.0 _ new asked told)),
       further-then _ _ _ inv.8 c.answer.ensures.goes,
     )
 
