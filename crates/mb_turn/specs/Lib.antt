@@ -6,4 +6,3 @@ pub mod Caller
 pub mod Ran
 pub mod Fresh
 pub mod Notice
-pub mod Emptied

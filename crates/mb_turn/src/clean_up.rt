@@ -1,12 +1,11 @@
 //! What is done with what is left when an actor ends (`Mailbox.cleanUp`).
-ghost use Rattle.std.specs.Prelude.{◌≡◌, [], true, List, IfOk};
+ghost use Rattle.std.specs.Prelude.{◌≡◌, [], true, List};
 ghost use Rattle.mb_gate.specs.Names.{known_by, known_of, held_actor, status_of, given_to};
 ghost use Rattle.mb_gate.specs.View.{Sight};
 ghost use Rattle.mb_home.specs.AtHome.{given_of};
 ghost use Rattle.mb_gate.specs.Untouched.{origin_of};
 ghost use Rattle.mb_turn.specs.Caller.{IsWakerOf, caller_of, GoesFurther};
 ghost use Rattle.mb_turn.specs.Dry.{WasEnded};
-ghost use Rattle.mb_turn.specs.Emptied.{FoundNone};
 ghost use Rattle.mb_turn.specs.Hold.{hold_of};
 ghost use Rattle.mb_turn.specs.Running.{IsRunning, IsBeside, KeepsJournal};
 
@@ -34,7 +33,6 @@ pub(crate) fn clean_up<A: Actor, K: Behaviours, W: Way<Place<A, K>>, R: Wait>(
     ensures ours { IsWakerOf W.origin gates.now waker.new }
     ensures running { IsRunning K.gives (origin_of gates.now) (claim.new.home.value.cell.acts) (known_by waker.new.pass).log (hold_of claim.new) }
     ensures beside { IsBeside (hold_of claim.new) }
-    ensures emptied { IfOk result (λ _. FoundNone claim.new.home.value.take) }
     ensures left { claim.new.home.value.cell ≡ claim.old.home.value.cell }
     ensures same { KeepsJournal (hold_of claim.old) (hold_of claim.new) }
     ensures goes { GoesFurther (caller_of W.pushed W.refused waker.old) (caller_of W.pushed W.refused waker.new) }
@@ -85,7 +83,6 @@ fn clean_envelopes<A: Actor, K: Behaviours, R: Wait>(
     requires none { claim.old.home.value.rest ≡ [] }
     ensures running { (seen : List Sight) → IsRunning K.gives (origin_of gates.now) claim.old.home.value.cell.acts seen (hold_of claim.old)
         → IsRunning K.gives (origin_of gates.now) claim.new.home.value.cell.acts seen (hold_of claim.new) }
-    ensures emptied { IfOk result (λ _. FoundNone claim.new.home.value.take) }
     ensures none { claim.new.home.value.rest ≡ [] }
     ensures closed { (status_of claim.new).closed ≡ true }
     ensures given { (given_of claim.new.home.value ≡ given_of claim.old.home.value) × (given_to claim.new ≡ given_to claim.old) }

@@ -87,14 +87,6 @@ returns-then-not-branch-clause-running g c =
     c.clean_next.new.self (ap (λ (x : Contents). x.cell) found.same) (ap (λ (x : Contents). x.roll) found.same)
     (ap (λ (x : Contents). x.dead) found.same) c.clean_next.ensures.settled (ap (λ (x : Contents). x.rest) found.same)
 
-pub returns-then-not-branch-clause-emptied : goal.returns-then-not-branch-clause-emptied
-returns-then-not-branch-clause-emptied g c =
-    let at_home = subst (λ (x : Contents). MatchBool c.in_ok-clean_next.field-0 (Cleans x c.clean_next.new.self) (FindsNone x
-    c.clean_next.new.self)) c.deref_mut.ensures.value c.in_ok-clean_next.ensures.cleaned in
-    let found = subst (λ b. MatchBool b (Cleans c.loop.claim.home.value c.clean_next.new.self) (FindsNone c.loop.claim.home.value
-    c.clean_next.new.self)) c.if-not-branch.true at_home in
-    (c.loop.claim.home.value.take, found.turn)
-
 pub returns-then-not-branch-clause-same : goal.returns-then-not-branch-clause-same
 returns-then-not-branch-clause-same g c =
     let at_home = subst (λ (x : Contents). MatchBool c.in_ok-clean_next.field-0 (Cleans x c.clean_next.new.self) (FindsNone x
