@@ -8,13 +8,11 @@ use Rattle.atomic_table.proofs.shared.Seat.TheSendSync as seat
 use Rattle.atomic_blocks.proofs.rows.shared.Seat.TheSendSync as rows_seat
 use Rattle.atomic_blocks.proofs.web.Seat.TheSendSync as web_seat
 use Rattle.crossbeam_queue.proofs.array_queue.Slotted.TheSendSync as slotted
-use Rattle.crossbeam_queue.proofs.array_queue.Doing.TheSendSync as doing
 use Rattle.crossbeam_deque.proofs.injector.Injector.TheSendSync as injector
 use Rattle.crossbeam_deque.proofs.handles.Worker.TheSendSync as worker
 use Rattle.crossbeam_deque.proofs.handles.Stealer.TheSendSync as stealer
 use Rattle.mb_gate.specs.declared.resident.Resident as resident
 use Rattle.mb_gate.proofs.Crossing.{claim_send}
-use Rattle.mb_pool.proofs.knowledge.Knowledge.TheSendSync as knowledge
 use Rattle.mb_pool.specs.contracts.parked.Parked as parked
 use Rattle.mb_pool.specs.contracts.slots.Slots as slots
 use Rattle.mb_pool.specs.contracts.slots_port.SlotsPort as slots_port
