@@ -1,3 +1,4 @@
+pub mod Crossing
 pub mod Keeps
 pub mod Ranked
 pub mod Slots
