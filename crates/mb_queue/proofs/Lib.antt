@@ -1,4 +1,5 @@
 pub mod Bags
+pub mod Crossing
 pub mod Distinct
 pub mod Emptied
 pub mod Joins
