@@ -1,3 +1,4 @@
 pub mod ActorSetLemmas
+pub mod Crossing
 pub mod HeldLemmas
 pub mod OutboxLemmas
