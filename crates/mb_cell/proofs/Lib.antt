@@ -2,6 +2,7 @@ pub mod AsideRow
 pub mod CallingRow
 pub mod CellLaws
 pub mod CreateRow
+pub mod Crossing
 pub mod DiedRow
 pub mod DispatchLemmas
 pub mod EndRow
