@@ -1,9 +1,9 @@
--- Gates, passes and claims may go to another thread where the home may. (Said once, since a search would go through the boxes of a list at
--- each slot.)
+-- Gates, passes and claims may go to another thread where the home may, and threads may share the gates then. (Said once, since a
+-- search would go through the boxes of a list at each slot.)
 use denote.RattleType.{RattleType}
-use denote.Param.Send.{IsSend, sendable}
-use denote.Param.SendFields.{declared_send, variants_send}
-use Rattle.std.proofs.Crossing.{crosses as std_crosses, send as heap_send}
+use denote.Param.Send.{IsSend, IsSync, sendable}
+use denote.Param.SendFields.{declared_send, declared_sync, variants_send}
+use Rattle.std.proofs.Crossing.{crosses as std_crosses, send as heap_send, sync as heap_sync}
 use Rattle.atomic_table.proofs.owned.Table.TheSendSync as table
 use Rattle.atomic_table.proofs.shared.Seat.TheSendSync as seat
 use Rattle.mb_msg.proofs.system.SysMsg.TheSendSync as message
@@ -33,6 +33,15 @@ gates_send H g home = declared_send (gates.the_type H g) (
   search sendable depth 20,
   (
     search (sendable, std_crosses, heap_send, table.the_field_send, table.the_send, slot_send) depth 20,
+    (search sendable depth 20, (search (sendable, std_crosses) depth 20, (search sendable depth 20, tt))),
+  ),
+)
+
+pub gates_sync : (H : RattleType) (g : resident.Ghosts H.Denot) → IsSend H → IsSync (gates.the_row H g)
+gates_sync H g home = declared_sync (gates.the_type H g) (
+  search sendable depth 20,
+  (
+    search (sendable, std_crosses, heap_send, heap_sync, table.the_field_sync, table.the_sync, slot_send) depth 20,
     (search sendable depth 20, (search (sendable, std_crosses) depth 20, (search sendable depth 20, tt))),
   ),
 )
