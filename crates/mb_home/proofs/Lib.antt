@@ -1,5 +1,6 @@
 pub mod CarryLemmas
 pub mod CountLemmas
+pub mod Crossing
 pub mod DrainLemmas
 pub mod EndLaw
 pub mod FoldLaw
