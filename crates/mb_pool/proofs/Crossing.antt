@@ -1,7 +1,7 @@
--- Ends and feeds may go to another thread where the home may. (Said once, since a search would go through the boxes of a claim's list at
--- each queue.)
+-- Ends and feeds may go to another thread where the home may, and threads may share a pool. (Said once, since a search would go
+-- through the boxes of a claim's list at each queue.)
 use denote.RattleType.{RattleType}
-use denote.Param.Send.{IsSend, IsSync, sendable, view_send}
+use denote.Param.Send.{IsSend, IsSync, sendable, view_send, view_sync}
 use denote.Param.SendFields.{declared_send, declared_sync, variants_send}
 use Rattle.std.proofs.Crossing.{crosses as std_crosses, send as heap_send, sync as heap_sync}
 use Rattle.atomic_table.proofs.shared.Seat.TheSendSync as seat
@@ -14,6 +14,8 @@ use Rattle.crossbeam_deque.proofs.handles.Stealer.TheSendSync as stealer
 use Rattle.mb_gate.specs.declared.resident.Resident as resident
 use Rattle.mb_gate.proofs.Crossing.{claim_send}
 use Rattle.mb_pool.specs.contracts.parked.Parked as parked
+use Rattle.mb_pool.specs.contracts.pool.Pool as pool
+use Rattle.mb_pool.specs.contracts.pool.Pool.TheInside as pool_inside
 use Rattle.mb_pool.specs.contracts.slots.Slots as slots
 use Rattle.mb_pool.specs.contracts.slots_port.SlotsPort as slots_port
 use Rattle.mb_pool.specs.contracts.slots_port.SlotsPort.TheInside as slots_inside
@@ -34,6 +36,18 @@ use Rattle.mb_pool.specs.contracts.feed.Feed.TheInside as feed_inside
 
 pub parked_send : (H : RattleType) → IsSend H → IsSend (parked.the_row H)
 parked_send H home = declared_send (parked.the_type H) (claim_send H home, tt)
+
+pub pool_sync : (H : RattleType) (g : resident.Ghosts H.Denot) → IsSync (pool.the_row H g)
+pool_sync H g = view_sync _ _ _ _ _ (declared_sync (pool_inside.the_type H g) (
+  search sendable,
+  (
+    search sendable,
+    (
+      search sendable,
+      (search (sendable, std_crosses) depth 20, (search (sendable, std_crosses) depth 20, (search (sendable, std_crosses) depth 20, tt))),
+    ),
+  ),
+))
 
 module _ (H : RattleType) (g : resident.Ghosts H.Denot) (home : IsSend H) where
   slots_send : IsSend (slots.the_row H g)
