@@ -3,3 +3,4 @@ pub mod AtHome
 pub mod Debts
 pub mod Bits
 pub mod Pays
+pub mod Crossing
