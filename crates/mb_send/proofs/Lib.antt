@@ -3,3 +3,4 @@ pub mod Routes
 pub mod Answering
 pub mod Vouching
 pub mod Bounding
+pub mod Crossing
