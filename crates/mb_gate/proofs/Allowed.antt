@@ -168,7 +168,7 @@ no_more m k is_none = omega arith
 none_more : (m : ℕ) → 0 + m ≡ m
 none_more m = omega arith
 
-pub words_few : (w : Word) → word_offset w < 8
+pub words_few : (w : Word) → word_offset w < 16
 words_few Status = omega arith
 words_few Flag = omega arith
 words_few Gate = omega arith
@@ -353,7 +353,7 @@ module _ {H : Type 0} (is_of : ℕ → H → Type 0) (journal : H → List Entry
       (sym keeps ∙ list')) (subst (λ (z : MessageList). All (NamesBelow n) z.messages) (sym taken) f.named))
 
   module _ (n slots id : ℕ) (me : M) (actor i : ℕ) (inside : actor < n) where
-    told_read : (x : Place) (vs : List View) → F n actor x vs → get_elem? vs id ≡ some me.0 → (a : ℕ) → word_at actor 0 ≡ word_at a 0
+    told_read : (x : Place) (vs : List View) → F n actor x vs → get_elem? vs id ≡ some me.0 → (a : ℕ) → word_at actor 8 ≡ word_at a 8
         → (let now : M = (reading actor (x.row Status) me.0, me.1) in (now ≡ (reading a (x.row Status) me.0, me.1)) × IsTrue (is_valid (x.row
         Status)) × StaysClosed a (x.row Status) me.0)
     told_read x vs f at a e = subst (λ (b : ℕ). (let now : M = (reading actor (x.row Status) me.0, me.1) in (now ≡ (
@@ -361,25 +361,25 @@ module _ {H : Type 0} (is_of : ℕ → H → Type 0) (journal : H → List Entry
           me.0,
       me.1,
     )) × IsTrue (is_valid (x.row Status)) × StaysClosed b (x.row Status) me.0))
-        (same_actor actor a 0 e) (refl, f.valid, still_closed actor x me.0 f.ended (f.seen id me.0 at))
+        (same_actor actor a 8 e) (refl, f.valid, still_closed actor x me.0 f.ended (f.seen id me.0 at))
 
-    pub reads_allowed : i ≡ word_at actor 0 → Allows (Rule n) slots id me i (λ k. k) (Reads (step slots i 0 0 none) me)
+    pub reads_allowed : i ≡ word_at actor 8 → Allows (Rule n) slots id me i (λ k. k) (Reads (step slots i 0 0 none) me)
     reads_allowed e = subst (λ j. Allows (Rule n) slots id me j (λ k. k) (Reads (step slots j 0 0 none) me)) (sym e)
-        (allows word_offset slot_offset words_few slots_few n (F n) slots id me actor Status (λ k. k) (Reads (step slots (word_at actor 0) 0 0 none)
+        (allows word_offset slot_offset words_few slots_few n (F n) slots id me actor Status (λ k. k) (Reads (step slots (word_at actor 8) 0 0 none)
         me) inside
-        (λ x vs f at fits. reads is_of journal mailbox rested given_by closed_to n actor id me (Reads (step slots (word_at actor 0) 0 0 none) me
+        (λ x vs f at fits. reads is_of journal mailbox rested given_by closed_to n actor id me (Reads (step slots (word_at actor 8) 0 0 none) me
         (x.row Status)) x vs
         f at (told_read x vs f at)))
 
-    pub writes_allowed : (c : Held) (new : ℕ) → i ≡ word_at actor 0 → me.0.claim ≡ Some c → c.actor ≡ actor → IsTrue (is_valid new) → (new % 4 ≡
+    pub writes_allowed : (c : Held) (new : ℕ) → i ≡ word_at actor 8 → me.0.claim ≡ Some c → c.actor ≡ actor → IsTrue (is_valid new) → (new % 4 ≡
         2) ⊎ (new ≡ 1) → (c.word ≡ 1 → new ≡ 1)
         → Allows (Rule n) slots id me i (λ _. new) (λ _. Writes (step slots i new 0 none) me new)
     writes_allowed c new e has of valid busy closed = subst (λ j. Allows (Rule n) slots id me j (λ _. new) (λ _. Writes (step slots j new 0 none)
         me new)) (sym e)
-        (allows word_offset slot_offset words_few slots_few n (F n) slots id me actor Status (λ _. new) (λ _. Writes (step slots (word_at actor 0)
+        (allows word_offset slot_offset words_few slots_few n (F n) slots id me actor Status (λ _. new) (λ _. Writes (step slots (word_at actor 8)
         new 0 none) me new) inside
         (λ x vs f at fits. writes is_of journal mailbox rested given_by closed_to n actor id me c new (Writes (step slots
-        (word_at actor 0) new 0 none) me new) x vs f
+        (word_at actor 8) new 0 none) me new) x vs f
         at has of valid busy closed refl))
 
     told_idle : (home : H) (st : Step (Slot H)) (k : ℕ) → me.1 ≡ (slot_at actor 0, Home home) ∷ [] → Idles journal st me k
@@ -390,7 +390,7 @@ module _ {H : Type 0} (is_of : ℕ → H → Type 0) (journal : H → List Entry
         let what : home ≡ other = home_same home other (ap (λ (z : ℕ × Slot H). z.1) same) in
         let who : actor ≡ a = omega arith in (λ z. (idling (who z) (journal (what z)) me.0, []))
 
-    pub idles_allowed : (c : Held) (home : H) (new : ℕ) → i ≡ word_at actor 0 → me.0.claim ≡ Some c → c.actor ≡ actor → me.1 ≡ (
+    pub idles_allowed : (c : Held) (home : H) (new : ℕ) → i ≡ word_at actor 8 → me.0.claim ≡ Some c → c.actor ≡ actor → me.1 ≡ (
       slot_at actor 0,
       Home home,
     ) ∷ [] → is_of actor home → Extends (journal home) c.journal → given_by home ≡ c.given
@@ -402,12 +402,12 @@ module _ {H : Type 0} (is_of : ℕ → H → Type 0) (journal : H → List Entry
         (λ _. new) (λ _.
         Idles journal (step slots j new 0 none) me new)) (sym e)
         (allows word_offset slot_offset words_few slots_few n (F n) slots id me actor Status (λ _. new) (λ _. Idles journal
-        (step slots (word_at actor 0) new 0 none) me new) inside
+        (step slots (word_at actor 8) new 0 none) me new) inside
         (λ x vs f at fits. idles is_of journal mailbox rested given_by closed_to n actor id me c home new (Idles journal (step slots (word_at
-        actor 0) new 0 none) me new) x vs f at has of carried own longer count known unshut valid free word rest share
-        (told_idle home (step slots (word_at actor 0) new 0 none) new carried)))
+        actor 8) new 0 none) me new) x vs f at has of carried own longer count known unshut valid free word rest share
+        (told_idle home (step slots (word_at actor 8) new 0 none) new carried)))
 
-    pub idles_closed_allowed : (c : Held) (home : H) → i ≡ word_at actor 1 → me.0.claim ≡ Some c → c.actor ≡ actor → me.1 ≡ (
+    pub idles_closed_allowed : (c : Held) (home : H) → i ≡ word_at actor 7 → me.0.claim ≡ Some c → c.actor ≡ actor → me.1 ≡ (
       slot_at actor 0,
       Home home,
     ) ∷ [] → is_of actor home → Extends (journal home) c.journal → given_by home ≡ c.given
@@ -417,71 +417,71 @@ module _ {H : Type 0} (is_of : ℕ → H → Type 0) (journal : H → List Entry
     idles_closed_allowed c home e has of carried own longer count known closed word rest share = subst (λ j. Allows (Rule n) slots id me j (λ _. 1)
         (λ _. Idles journal (step slots j 1 0 none) me 1)) (sym e)
         (allows word_offset slot_offset words_few slots_few n (F n) slots id me actor Flag (λ _. 1) (λ _. Idles journal (step
-        slots (word_at actor 1) 1 0 none) me 1) inside
+        slots (word_at actor 7) 1 0 none) me 1) inside
         (λ x vs f at fits. idles_closed is_of journal mailbox rested given_by closed_to n actor id me c home (Idles journal (step slots (word_at
-        actor 1) 1 0 none) me 1) x vs f at has of carried own longer count known closed word rest share
-        (told_idle home (step slots (word_at actor 1) 1 0 none) 1 carried)))
+        actor 7) 1 0 none) me 1) x vs f at has of carried own longer count known closed word rest share
+        (told_idle home (step slots (word_at actor 7) 1 0 none) 1 carried)))
 
-    pub sends_allowed : (g : ℕ → ℕ) (k : ℕ) → ((w : ℕ) → g w % 2 ^ 64 ≡ (w + k) % 2 ^ 64) → is_some_item me.0.share ≡ true → i ≡ word_at actor 4
+    pub sends_allowed : (g : ℕ → ℕ) (k : ℕ) → ((w : ℕ) → g w % 2 ^ 64 ≡ (w + k) % 2 ^ 64) → is_some_item me.0.share ≡ true → i ≡ word_at actor 0
         → Allows (Rule n) slots id me i g (Sends (step slots i k 0 none) me)
     sends_allowed g k more share e = subst (λ j. Allows (Rule n) slots id me j g (Sends (step slots j k 0 none) me)) (sym e)
-        (allows word_offset slot_offset words_few slots_few n (F n) slots id me actor Waiting g (Sends (step slots (word_at actor 4) k 0 none) me)
+        (allows word_offset slot_offset words_few slots_few n (F n) slots id me actor Waiting g (Sends (step slots (word_at actor 0) k 0 none) me)
         inside
         (λ x vs f at fits. sends is_of journal mailbox rested given_by closed_to n actor id (g (x.row Waiting)) k me (Sends (step slots
-        (word_at actor 4) k 0 none) me
+        (word_at actor 0) k 0 none) me
         (x.row Waiting)) x vs f at share (more (x.row Waiting))
-        (λ a w z. (sending (same_actor actor a 4 w z) k me.0, me.1))))
+        (λ a w z. (sending (same_actor actor a 0 w z) k me.0, me.1))))
 
-    pub unsends_allowed : (g : ℕ → ℕ) (k : ℕ) → ((w : ℕ) → (g w + k) % 2 ^ 64 ≡ w % 2 ^ 64) → is_some_item me.0.share ≡ true → i ≡ word_at actor 4
+    pub unsends_allowed : (g : ℕ → ℕ) (k : ℕ) → ((w : ℕ) → (g w + k) % 2 ^ 64 ≡ w % 2 ^ 64) → is_some_item me.0.share ≡ true → i ≡ word_at actor 0
         → Allows (Rule n) slots id me i g (Unsends (step slots i k 0 none) me)
     unsends_allowed g k less share e = subst (λ j. Allows (Rule n) slots id me j g (Unsends (step slots j k 0 none) me)) (sym e)
-        (allows word_offset slot_offset words_few slots_few n (F n) slots id me actor Waiting g (Unsends (step slots (word_at actor 4) k 0 none) me)
+        (allows word_offset slot_offset words_few slots_few n (F n) slots id me actor Waiting g (Unsends (step slots (word_at actor 0) k 0 none) me)
         inside
         (λ x vs f at fits. unsends is_of journal mailbox rested given_by closed_to n actor id (g (x.row Waiting)) k me (Unsends (step slots
-        (word_at actor 4) k 0 none)
+        (word_at actor 0) k 0 none)
         me (x.row Waiting)) x vs f at share (less (x.row Waiting))
-        (λ a w z. (unsending (same_actor actor a 4 w z) k me.0, me.1))))
+        (λ a w z. (unsending (same_actor actor a 0 w z) k me.0, me.1))))
 
-    pub takes_allowed : (c : Held) (g : ℕ → ℕ) (k : ℕ) → ((w : ℕ) → (g w + k) % 2 ^ 64 ≡ w % 2 ^ 64) → i ≡ word_at actor 4 → me.0.claim ≡ Some c
+    pub takes_allowed : (c : Held) (g : ℕ → ℕ) (k : ℕ) → ((w : ℕ) → (g w + k) % 2 ^ 64 ≡ w % 2 ^ 64) → i ≡ word_at actor 0 → me.0.claim ≡ Some c
         → c.actor ≡ actor → Allows (Rule n) slots id
         me i g (CountsOff (step slots i k 0 none) me)
     takes_allowed c g k less e has of = subst (λ j. Allows (Rule n) slots id me j g (CountsOff (step slots j k 0 none) me)) (sym e)
         (allows word_offset slot_offset words_few slots_few n (F n) slots id me actor Waiting g (CountsOff (step slots
-        (word_at actor 4) k 0 none) me) inside
+        (word_at actor 0) k 0 none) me) inside
         (λ x vs f at fits. takes_some is_of journal mailbox rested given_by closed_to n actor id (g (x.row Waiting)) k me c (CountsOff
-        (step slots (word_at actor 4) k 0
-        none) me (x.row Waiting)) x vs f at has of (less (x.row Waiting)) (λ a w z. (counting_off (same_actor actor a 4 w z) k me.0, me.1))))
+        (step slots (word_at actor 0) k 0
+        none) me (x.row Waiting)) x vs f at has of (less (x.row Waiting)) (λ a w z. (counting_off (same_actor actor a 0 w z) k me.0, me.1))))
 
-    pub counts_allowed : i ≡ word_at actor 4 → Allows (Rule n) slots id me i (λ k. k) (Counts (step slots i 0 0 none) me)
+    pub counts_allowed : i ≡ word_at actor 0 → Allows (Rule n) slots id me i (λ k. k) (Counts (step slots i 0 0 none) me)
     counts_allowed e = subst (λ j. Allows (Rule n) slots id me j (λ k. k) (Counts (step slots j 0 0 none) me)) (sym e)
-        (allows word_offset slot_offset words_few slots_few n (F n) slots id me actor Waiting (λ k. k) (Counts (step slots (word_at actor 4) 0 0
+        (allows word_offset slot_offset words_few slots_few n (F n) slots id me actor Waiting (λ k. k) (Counts (step slots (word_at actor 0) 0 0
         none) me) inside
-        (λ x vs f at fits. counts is_of journal mailbox rested given_by closed_to n actor id me (Counts (step slots (word_at actor 4) 0 0 none) me
+        (λ x vs f at fits. counts is_of journal mailbox rested given_by closed_to n actor id me (Counts (step slots (word_at actor 0) 0 0 none) me
         (x.row Waiting)) x
         vs f at
         (λ a w. (
-          (λ z. (counting (same_actor actor a 4 w z) (x.row Waiting) me.0, me.1)),
-          subst (λ b. IsOwnBalance b (x.row Waiting) me.0) (same_actor actor a 4 w) (λ whole. own_balance is_of journal mailbox rested given_by
+          (λ z. (counting (same_actor actor a 0 w z) (x.row Waiting) me.0, me.1)),
+          subst (λ b. IsOwnBalance b (x.row Waiting) me.0) (same_actor actor a 0 w) (λ whole. own_balance is_of journal mailbox rested given_by
               closed_to n actor x vs id me.0 f at whole whole),
         ))))
 
-    pub looks_allowed : i ≡ word_at actor 2 → Allows (Rule n) slots id me i (λ k. k) (Looks (step slots i 0 0 none) me)
+    pub looks_allowed : i ≡ word_at actor 9 → Allows (Rule n) slots id me i (λ k. k) (Looks (step slots i 0 0 none) me)
     looks_allowed e = subst (λ j. Allows (Rule n) slots id me j (λ k. k) (Looks (step slots j 0 0 none) me)) (sym e)
-        (allows word_offset slot_offset words_few slots_few n (F n) slots id me actor Gate (λ k. k) (Looks (step slots (word_at actor 2) 0 0 none)
+        (allows word_offset slot_offset words_few slots_few n (F n) slots id me actor Gate (λ k. k) (Looks (step slots (word_at actor 9) 0 0 none)
         me) inside
         (λ x vs f at fits. looks is_of journal mailbox rested given_by closed_to n actor id me (shows_work (x.row Gate)) (Looks (step slots
-        (word_at actor 2) 0 0
+        (word_at actor 9) 0 0
         none) me (x.row Gate)) x vs (shown_by x x.ghost.keeper f.shelf) f at
-        (λ a w z. (looking (same_actor actor a 2 w z) (shows_work (x.row Gate)) me.0, me.1))))
+        (λ a w z. (looking (same_actor actor a 9 w z) (shows_work (x.row Gate)) me.0, me.1))))
 
-    pub grips_allowed : (old new : ℕ) → i ≡ word_at actor 2 → old % 2 ≡ 0 → new ≡ old + 1 → me.0.list ≡ None → may_grip actor me.0 ≡ true
+    pub grips_allowed : (old new : ℕ) → i ≡ word_at actor 9 → old % 2 ≡ 0 → new ≡ old + 1 → me.0.list ≡ None → may_grip actor me.0 ≡ true
         → Allows (Rule n) slots id me i (λ
         k. either (k == old) new k) (Grips (step slots i old new none) me)
     grips_allowed old new e even is_new bare may = subst (λ j. Allows (Rule n) slots id me j (λ k. either (k == old) new k) (Grips (step slots j old
         new none) me)) (sym e)
         (allows word_offset slot_offset words_few slots_few n (F n) slots id me actor Gate (λ k. either (k == old) new k) (Grips (step slots (word_at
-        actor 2) old new none) me) inside
-        (λ x vs f at fits. let tell = Grips (step slots (word_at actor 2) old new none) me (x.row Gate) in
+        actor 9) old new none) me) inside
+        (λ x vs f at fits. let tell = Grips (step slots (word_at actor 9) old new none) me (x.row Gate) in
         exchanged (x.row Gate) old new (λ k. Goes word_offset slot_offset (F n) actor id me Gate k tell x vs)
         (λ hit. let here : x.row Gate % 2 ≡ 0 = ap (λ k. k % 2) hit ∙ even in
         subst (λ k. Goes word_offset slot_offset (F n) actor id me Gate k tell x vs) (sym is_new)
@@ -490,7 +490,7 @@ module _ {H : Type 0} (is_of : ℕ → H → Type 0) (journal : H → List Entry
           lending actor x.ghost.listed x.ghost.gave me.0,
           (slot_at actor 1, Listing x.ghost.listed) ∷ me.1,
         ) in
-        (x.row Gate ≡ old → Gripped b (x.row Gate) me now) × (x.row Gate ≢ old → now ≡ me))) (same_actor actor a 2 w) (
+        (x.row Gate ≡ old → Gripped b (x.row Gate) me now) × (x.row Gate ≢ old → now ≡ me))) (same_actor actor a 9 w) (
           (λ _. record {
             listed = x.ghost.listed;
             gave = x.ghost.gave;
@@ -524,7 +524,7 @@ module _ {H : Type 0} (is_of : ℕ → H → Type 0) (journal : H → List Entry
           tail_of me.1,
         ))
 
-    pub enlists_allowed : (l : Lent) (m : SysMsg) (new : ℕ) → i ≡ word_at actor 2 → me.0.list ≡ Some l → l.actor ≡ actor → me.1 ≡ (
+    pub enlists_allowed : (l : Lent) (m : SysMsg) (new : ℕ) → i ≡ word_at actor 9 → me.0.list ≡ Some l → l.actor ≡ actor → me.1 ≡ (
       slot_at actor
           1,
       Listing (with_last l.listed m),
@@ -533,24 +533,24 @@ module _ {H : Type 0} (is_of : ℕ → H → Type 0) (journal : H → List Entry
         new 0 none) me new)
     enlists_allowed l m new e has of carried word names =
         subst (λ j. Allows (Rule n) slots id me j (λ _. new) (λ _. Enlists (step slots j new 0 none) me new)) (sym e)
-        (allows word_offset slot_offset words_few slots_few n (F n) slots id me actor Gate (λ _. new) (λ _. Enlists (step slots (word_at actor 2) new
+        (allows word_offset slot_offset words_few slots_few n (F n) slots id me actor Gate (λ _. new) (λ _. Enlists (step slots (word_at actor 9) new
         0 none) me new) inside
         (λ x vs f at fits. enlists is_of journal mailbox rested given_by closed_to n actor id new me l m (Enlists (step slots
-        (word_at actor 2) new 0 none) me new) x
+        (word_at actor 9) new 0 none) me new) x
         vs f at has of carried word names
-        (told_enlist l m (step slots (word_at actor 2) new 0 none) new has of carried)))
+        (told_enlist l m (step slots (word_at actor 9) new 0 none) new has of carried)))
 
-    pub drains_allowed : (c : Held) (l : Lent) (new : ℕ) → i ≡ word_at actor 2 → slots ≡ 2 * n → me.0.claim ≡ Some c → c.actor ≡ actor
+    pub drains_allowed : (c : Held) (l : Lent) (new : ℕ) → i ≡ word_at actor 9 → slots ≡ 2 * n → me.0.claim ≡ Some c → c.actor ≡ actor
         → me.0.list ≡ Some l → l.actor ≡ actor
         → me.1 ≡ (slot_at actor 1, Listing (drained l.listed)) ∷ tail_of me.1 → new ≡ gate_word false (drained l.listed) (is_some_item
         l.listed.messages)
         → Allows (Rule n) slots id me i (λ _. new) (λ _. Drains (step slots i new 0 none) me new)
     drains_allowed c l new e deep has of keeps of_list carried word = subst (λ j. Allows (Rule n) slots id me j (λ _. new) (λ _. Drains (step slots j
         new 0 none) me new)) (sym e)
-        (allows word_offset slot_offset words_few slots_few n (F n) slots id me actor Gate (λ _. new) (λ _. Drains (step slots (word_at actor 2) new
+        (allows word_offset slot_offset words_few slots_few n (F n) slots id me actor Gate (λ _. new) (λ _. Drains (step slots (word_at actor 9) new
         0 none) me new) inside
         (λ x vs f at fits. unloads is_of journal mailbox rested given_by closed_to n actor id new (Drained actor (listed l.listed)) me c l
-        (drained l.listed) (is_some_item l.listed.messages) (Drains (step slots (word_at actor 2) new 0 none) me new) x vs f at
+        (drained l.listed) (is_some_item l.listed.messages) (Drains (step slots (word_at actor 9) new 0 none) me new) x vs f at
         has of keeps of_list carried word refl (λ e. e) (λ e. inl e) (given_listed l.listed) (λ a. (refl, refl)) (λ a z e w. (e (sym w)).1)
         (λ l' c' has' claim'. (
           (λ z. (
@@ -563,20 +563,20 @@ module _ {H : Type 0} (is_of : ℕ → H → Type 0) (journal : H → List Entry
           same_named n slots actor id me x vs l deep f at keeps of_list l' has',
         ))))
 
-    pub ends_allowed : (c : Held) (l : Lent) (new : ℕ) → i ≡ word_at actor 2 → slots ≡ 2 * n → me.0.claim ≡ Some c → c.actor ≡ actor
+    pub ends_allowed : (c : Held) (l : Lent) (new : ℕ) → i ≡ word_at actor 9 → slots ≡ 2 * n → me.0.claim ≡ Some c → c.actor ≡ actor
         → me.0.list ≡ Some l → l.actor ≡ actor
         → me.1 ≡ (slot_at actor 1, Listing (ended l.listed)) ∷ tail_of me.1 → new ≡ gate_word false (ended l.listed) l.gave → c.word ≡ 1
         → Allows (Rule n) slots id me i (λ _. new) (λ _. Ends (step slots i new 0 none) me new)
     ends_allowed c l new e deep has of keeps of_list carried word closed =
         subst (λ j. Allows (Rule n) slots id me j (λ _. new) (λ _. Ends (step slots j new 0 none) me new)) (sym e)
-        (allows word_offset slot_offset words_few slots_few n (F n) slots id me actor Gate (λ _. new) (λ _. Ends (step slots (word_at actor 2) new 0
+        (allows word_offset slot_offset words_few slots_few n (F n) slots id me actor Gate (λ _. new) (λ _. Ends (step slots (word_at actor 9) new 0
         none) me new) inside
         (λ x vs f at fits.
         let gave : l.gave ≡ c.gave = (is_lent is_of journal mailbox rested given_by closed_to n actor id x vs me.0 l f at keeps of_list).1.gave
         ∙ sym (is_held is_of
         journal mailbox rested given_by closed_to n actor id x vs me.0 c f at has of).1.gave in
         unloads is_of journal mailbox rested given_by closed_to n actor id new (Ended actor (listed l.listed)) me c l (ended l.listed)
-        l.gave (Ends (step slots (word_at actor 2) new 0 none) me new) x vs f at
+        l.gave (Ends (step slots (word_at actor 9) new 0 none) me new) x vs f at
         has of keeps of_list carried word refl (λ e. refl) (λ e. inr closed) (given_listed l.listed) (λ a. (refl, refl))
         (λ a z e w. (ap (λ (m : MessageList). m.closed) (e (sym w)).0, (e (sym w)).1))
         (λ l' c' list' claim'. (
@@ -590,15 +590,15 @@ module _ {H : Type 0} (is_of : ℕ → H → Type 0) (journal : H → List Entry
           same_named n slots actor id me x vs l deep f at keeps of_list l' list',
         ))))
 
-    pub glances_allowed : i ≡ word_at actor 2 → Allows (Rule n) slots id me i (λ k. k) (Glances (step slots i 0 0 none) me)
+    pub glances_allowed : i ≡ word_at actor 9 → Allows (Rule n) slots id me i (λ k. k) (Glances (step slots i 0 0 none) me)
     glances_allowed e = subst (λ j. Allows (Rule n) slots id me j (λ k. k) (Glances (step slots j 0 0 none) me)) (sym e)
-        (allows word_offset slot_offset words_few slots_few n (F n) slots id me actor Gate (λ k. k) (Glances (step slots (word_at actor 2) 0 0 none)
+        (allows word_offset slot_offset words_few slots_few n (F n) slots id me actor Gate (λ k. k) (Glances (step slots (word_at actor 9) 0 0 none)
         me) inside
-        (λ x vs f at fits. let tell = Glances (step slots (word_at actor 2) 0 0 none) me (x.row Gate) in
+        (λ x vs f at fits. let tell = Glances (step slots (word_at actor 9) 0 0 none) me (x.row Gate) in
         dite (ℕ_discrete (x.row Gate % 8) 0)
         (λ hit. sees is_of journal mailbox rested given_by closed_to n actor id Gate (Drained actor []) me tell x vs
         (λ a y e. record { before = []; after = all_numbered y.ghost; joined = refl }) (λ a. (refl, refl)) f at
-        (λ a c w has of bare. let who : actor ≡ a = same_actor actor a 2 w in
+        (λ a c w has of bare. let who : actor ≡ a = same_actor actor a 9 w in
         let gave : c.gave ≡ false = (is_held is_of journal mailbox rested given_by closed_to n actor id x vs me.0 c f at has (of ∙ sym who)).1.gave
         ∙ (gave_by x
         x.ghost.keeper f.shelf hit).1 in
@@ -614,18 +614,18 @@ module _ {H : Type 0} (is_of : ℕ → H → Type 0) (journal : H → List Entry
               refl),
         )))))
 
-    pub refuses_allowed : (old : ℕ) (m : SysMsg) → i ≡ word_at actor 2 → old / 8 % 2 ≡ 1 → Allows (Rule n) slots id me i (λ k. either (k == old)
+    pub refuses_allowed : (old : ℕ) (m : SysMsg) → i ≡ word_at actor 9 → old / 8 % 2 ≡ 1 → Allows (Rule n) slots id me i (λ k. either (k == old)
         old k) (Refuses (step slots i old old (some (Note m))) me)
     refuses_allowed old m e shut = subst (λ j. Allows (Rule n) slots id me j (λ k. either (k == old) old k) (Refuses (step slots j old old (some
         (Note m))) me)) (sym e)
         (allows word_offset slot_offset words_few slots_few n (F n) slots id me actor Gate (λ k. either (k == old) old k) (Refuses (step slots
-        (word_at actor 2) old old (some (Note m))) me) inside
-        (λ x vs f at fits. let tell = Refuses (step slots (word_at actor 2) old old (some (Note m))) me (x.row Gate) in
+        (word_at actor 9) old old (some (Note m))) me) inside
+        (λ x vs f at fits. let tell = Refuses (step slots (word_at actor 9) old old (some (Note m))) me (x.row Gate) in
         exchanged (x.row Gate) old old (λ k. Goes word_offset slot_offset (F n) actor id me Gate k tell x vs)
         (λ hit. subst (λ k. Goes word_offset slot_offset (F n) actor id me Gate k tell x vs) hit
         (refuses is_of journal mailbox rested given_by closed_to n actor id me m tell x vs f at (ends_by x x.ghost.keeper f.shelf (ap
         (λ k. k / 8 % 2) hit ∙ shut))
-        (λ a m' w said. let who : actor ≡ a = same_actor actor a 2 w in let what : m ≡ m' = note_same {H = H} m m' said in
+        (λ a m' w said. let who : actor ≡ a = same_actor actor a 9 w in let what : m ≡ m' = note_same {H = H} m m' said in
         ((λ _ z. (refusing (who z) (what z) me.0, me.1)), (λ miss. absurd (miss hit))))))
         (λ miss. glances is_of journal mailbox rested given_by closed_to n actor id Gate me tell x vs f at (λ a m' w said. (
           (λ hit. absurd
@@ -689,15 +689,15 @@ module _ {H : Type 0} (all_of : H → ℕ → H → Type 0) (first : Snapshot (S
 
   module _ (n slots id : ℕ) (me : N) (actor i : ℕ) (inside : actor < n) where
     -- a seat that knows the first home tries to schedule the actor
-    pub schedules_allowed : (old new : ℕ) (note : Slot H) → note ≡ First first → i ≡ word_at actor 0 → old % 4 ≡ 0 → new ≡ old + 2
+    pub schedules_allowed : (old new : ℕ) (note : Slot H) → note ≡ First first → i ≡ word_at actor 8 → old % 4 ≡ 0 → new ≡ old + 2
         → me.0.claim ≡ None → is_some_item me.0.share ≡ true
         → Allows (Ruled word_offset slot_offset n (G n)) slots id me i (λ k. either (k == old) new k) (Schedules all_of journal mailbox rested
         given_by closed_to (step slots i old new (some note)) me)
     schedules_allowed old new note is_note e free is_new bare share = subst (λ j. Allows (Ruled word_offset slot_offset n (G n)) slots id me j
         (λ k. either (k == old) new k) (Schedules all_of journal mailbox rested given_by closed_to (step slots j old new (some note)) me)) (sym e)
         (allows word_offset slot_offset words_few slots_few n (G n) slots id me actor Status (λ k. either (k == old) new k)
-        (Schedules all_of journal mailbox rested given_by closed_to (step slots (word_at actor 0) old new (some note)) me) inside
-        (λ x vs f at fits. let tell = Schedules all_of journal mailbox rested given_by closed_to (step slots (word_at actor 0) old new
+        (Schedules all_of journal mailbox rested given_by closed_to (step slots (word_at actor 8) old new (some note)) me) inside
+        (λ x vs f at fits. let tell = Schedules all_of journal mailbox rested given_by closed_to (step slots (word_at actor 8) old new
         (some note)) me (x.row Status) in
         exchanged (x.row Status) old new (λ k. Goes word_offset slot_offset (G n) actor id me Status k tell x vs)
         (λ hit. let here : x.row Status % 4 ≡ 0 = ap (λ k. k % 4) hit ∙ free in let h = is_home (all_of first.value.value) journal mailbox rested given_by
@@ -711,7 +711,7 @@ module _ {H : Type 0} (all_of : H → ℕ → H → Type 0) (first : Snapshot (S
         ) in
         (x.row Status ≡ old → Won (all_of b.1.value.value) journal mailbox rested given_by closed_to b.0 (x.row Status) me now)
         × (x.row Status ≢ old → (now ≡ (reading b.0 (x.row Status) me.0, me.1)) × IsTrue (is_valid (x.row Status)) × StaysClosed b.0 (x.row Status)
-        me.0))) (λ z. (same_actor actor a 0 w z, first_same_home first other (sym (ap (λ (y : Slot H). some y) is_note) ∙ said) z)) (
+        me.0))) (λ z. (same_actor actor a 8 w z, first_same_home first other (sym (ap (λ (y : Slot H). some y) is_note) ∙ said) z)) (
           (λ _. record {
             home = h.1.home;
             own = h.1.own;

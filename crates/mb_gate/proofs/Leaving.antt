@@ -171,9 +171,9 @@ module _ {H : Type 0} (is_of : ℕ → H → Type 0) (journal : H → List Entry
         (Some left)
     some_left left t =
         let f = r.each actor inside in
-        let status = found (word_at actor 0) t.0.status t.0.status_is in
-        let flag = found (word_at actor 1) t.0.flag t.0.flag_is in
-        let gate = found (word_at actor 2) t.0.gate t.0.gate_is in
+        let status = found (word_at actor 8) t.0.status t.0.status_is in
+        let flag = found (word_at actor 7) t.0.flag t.0.flag_is in
+        let gate = found (word_at actor 9) t.0.gate t.0.gate_is in
         let k = at_home actor here here.ghost.holder f.cell (⊎_elim (λ z. inl (ap (λ w. w % 4) status ∙ z)) (λ o. inr (flag ∙ o)) t.0.cell) in
         let l = (is_shelved is_of journal mailbox rested given_by closed_to n actor here s.views f (ap (λ w. w % 2) gate ∙ t.0.list)).1 in
         let home : k.home ≡ left.home = home_same k.home left.home (some-injective _ _ (sym (same (slot_at actor 0) (Home k.home) k.there) ∙ t.1)) in
@@ -206,8 +206,8 @@ module _ {H : Type 0} (is_of : ℕ → H → Type 0) (journal : H → List Entry
     none_holds : (left : Left H) → IsTakenOut ws xs actor (Some left) → here.ghost.holder ≡ None
     none_holds left t =
         let f = r.each actor inside in
-        let status = found (word_at actor 0) t.0.status t.0.status_is in
-        let flag = found (word_at actor 1) t.0.flag t.0.flag_is in
+        let status = found (word_at actor 8) t.0.status t.0.status_is in
+        let flag = found (word_at actor 7) t.0.flag t.0.flag_is in
         no_holder actor here here.ghost.holder f.cell (⊎_elim (λ z. inl (ap (λ w. w % 4) status ∙ z)) (λ o. inr (flag ∙ o)) t.0.cell)
 
     -- whom the home that is left says to be closed the rule says so
@@ -215,8 +215,8 @@ module _ {H : Type 0} (is_of : ℕ → H → Type 0) (journal : H → List Entry
         here.ghost.closed_to
     says_closed left t other is =
         let f = r.each actor inside in
-        let status = found (word_at actor 0) t.0.status t.0.status_is in
-        let flag = found (word_at actor 1) t.0.flag t.0.flag_is in
+        let status = found (word_at actor 8) t.0.status t.0.status_is in
+        let flag = found (word_at actor 7) t.0.flag t.0.flag_is in
         let k = at_home actor here here.ghost.holder f.cell (⊎_elim (λ z. inl (ap (λ w. w % 4) status ∙ z)) (λ o. inr (flag ∙ o)) t.0.cell) in
         let home : k.home ≡ left.home = home_same k.home left.home (some-injective _ _ (sym (same (slot_at actor 0) (Home k.home) k.there) ∙ t.1)) in
         subst (IsAmong other) k.shut (subst (λ h. IsAmong other (closed_to h)) (sym home) is)
@@ -236,9 +236,9 @@ module _ {H : Type 0} (is_of : ℕ → H → Type 0) (journal : H → List Entry
           status = here.row Status;
           flag = here.row Flag;
           gate = here.row Gate;
-          status_is = at (word_at actor 0) (omega arith);
-          flag_is = at (word_at actor 1) (omega arith);
-          gate_is = at (word_at actor 2) (omega arith);
+          status_is = at (word_at actor 8) (omega arith);
+          flag_is = at (word_at actor 7) (omega arith);
+          gate_is = at (word_at actor 9) (omega arith);
           cell = home_tells actor here k;
           list = ap (λ w. w % 2) l.word ∙ gate_even here.ghost.listed here.ghost.gave;
         }) (same (slot_at actor 0) (Home k.home) k.there) (same (slot_at actor 1) (Listing here.ghost.listed) l.there))

@@ -65,10 +65,10 @@ module _ {H : Type 0} (journal : H → List Entry) (mailbox : H → Mailbox) whe
   record Begun (hs : List H) (a : ℕ) (h : H) : Type 0 where
     there : slice_get hs a ≡ Some h
     tale : journal_at hs a ≡ journal h
-    status : get_or (rows_of mailbox hs) (word_at a 0) 0 ≡ word_of (mailbox h)
-    flag : get_or (rows_of mailbox hs) (word_at a 1) 0 ≡ 0
-    gate : get_or (rows_of mailbox hs) (word_at a 2) 0 ≡ 0
-    waiting : get_or (rows_of mailbox hs) (word_at a 4) 0 ≡ 0
+    status : get_or (rows_of mailbox hs) (word_at a 8) 0 ≡ word_of (mailbox h)
+    flag : get_or (rows_of mailbox hs) (word_at a 7) 0 ≡ 0
+    gate : get_or (rows_of mailbox hs) (word_at a 9) 0 ≡ 0
+    waiting : get_or (rows_of mailbox hs) (word_at a 0) 0 ≡ 0
     cell : get_elem? (map some (shelves_of hs)) (slot_at a 0) ≡ some (some (Home h))
     list : get_elem? (map some (shelves_of hs)) (slot_at a 1) ≡ some (some (Listing no_messages))
 
@@ -101,10 +101,10 @@ module _ {H : Type 0} (journal : H → List Entry) (mailbox : H → Mailbox) whe
     record {
       there = b.1.there;
       tale = b.1.tale;
-      status = next_row w (rows_of mailbox hs) (word_at (suc a) 0) (word_at a 0) (omega arith) ∙ b.1.status;
-      flag = next_row w (rows_of mailbox hs) (word_at (suc a) 1) (word_at a 1) (omega arith) ∙ b.1.flag;
-      gate = next_row w (rows_of mailbox hs) (word_at (suc a) 2) (word_at a 2) (omega arith) ∙ b.1.gate;
-      waiting = next_row w (rows_of mailbox hs) (word_at (suc a) 4) (word_at a 4) (omega arith) ∙ b.1.waiting;
+      status = next_row w (rows_of mailbox hs) (word_at (suc a) 8) (word_at a 8) (omega arith) ∙ b.1.status;
+      flag = next_row w (rows_of mailbox hs) (word_at (suc a) 7) (word_at a 7) (omega arith) ∙ b.1.flag;
+      gate = next_row w (rows_of mailbox hs) (word_at (suc a) 9) (word_at a 9) (omega arith) ∙ b.1.gate;
+      waiting = next_row w (rows_of mailbox hs) (word_at (suc a) 0) (word_at a 0) (omega arith) ∙ b.1.waiting;
       cell = next_shelves h (map some (shelves_of hs)) (slot_at (suc a) 0) (slot_at a 0) (omega arith) ∙ b.1.cell;
       list = next_shelves h (map some (shelves_of hs)) (slot_at (suc a) 1) (slot_at a 1) (omega arith) ∙ b.1.list;
     },

@@ -86,7 +86,7 @@ shows_work word = not (word / 2 % 4 == 0)
 module _ {H : Type 0} where
   -- a status word was read
   abbrev pub Reads : Step (Slot H) → Me (Slot H) View → ℕ → Me (Slot H) View → Type 0
-  Reads st m found m' = (actor : ℕ) → st.word ≡ word_at actor 0 → (m' ≡ (reading actor found m.0, m.1)) × IsTrue (is_valid found) × StaysClosed
+  Reads st m found m' = (actor : ℕ) → st.word ≡ word_at actor 8 → (m' ≡ (reading actor found m.0, m.1)) × IsTrue (is_valid found) × StaysClosed
       actor found m.0
 
   -- a status word was written
@@ -94,19 +94,19 @@ module _ {H : Type 0} where
   Writes st m n m' = m' ≡ (writing n m.0, m.1)
 
   abbrev pub Sends : Step (Slot H) → Me (Slot H) View → ℕ → Me (Slot H) View → Type 0
-  Sends st m found m' = (actor : ℕ) → st.word ≡ word_at actor 4 → m' ≡ (sending actor st.first m.0, m.1)
+  Sends st m found m' = (actor : ℕ) → st.word ≡ word_at actor 0 → m' ≡ (sending actor st.first m.0, m.1)
 
   abbrev pub Unsends : Step (Slot H) → Me (Slot H) View → ℕ → Me (Slot H) View → Type 0
-  Unsends st m found m' = (actor : ℕ) → st.word ≡ word_at actor 4 → m' ≡ (unsending actor st.first m.0, m.1)
+  Unsends st m found m' = (actor : ℕ) → st.word ≡ word_at actor 0 → m' ≡ (unsending actor st.first m.0, m.1)
 
   abbrev pub CountsOff : Step (Slot H) → Me (Slot H) View → ℕ → Me (Slot H) View → Type 0
-  CountsOff st m found m' = (actor : ℕ) → st.word ≡ word_at actor 4 → m' ≡ (counting_off actor st.first m.0, m.1)
+  CountsOff st m found m' = (actor : ℕ) → st.word ≡ word_at actor 0 → m' ≡ (counting_off actor st.first m.0, m.1)
 
   abbrev pub Counts : Step (Slot H) → Me (Slot H) View → ℕ → Me (Slot H) View → Type 0
-  Counts st m found m' = (actor : ℕ) → st.word ≡ word_at actor 4 → (m' ≡ (counting actor found m.0, m.1)) × IsOwnBalance actor found m.0
+  Counts st m found m' = (actor : ℕ) → st.word ≡ word_at actor 0 → (m' ≡ (counting actor found m.0, m.1)) × IsOwnBalance actor found m.0
 
   abbrev pub Looks : Step (Slot H) → Me (Slot H) View → ℕ → Me (Slot H) View → Type 0
-  Looks st m found m' = (actor : ℕ) → st.word ≡ word_at actor 2 → m' ≡ (looking actor (shows_work found) m.0, m.1)
+  Looks st m found m' = (actor : ℕ) → st.word ≡ word_at actor 9 → m' ≡ (looking actor (shows_work found) m.0, m.1)
 
   -- the list was taken, with what was listed, by an exchange that found its gate's word
   pub record Gripped (actor found : ℕ) (m m' : Me (Slot H) View) : Type 0 where
@@ -116,7 +116,7 @@ module _ {H : Type 0} where
     pub now : m' ≡ (lending actor listed gave m.0, (slot_at actor 1, Listing listed) ∷ m.1)
 
   abbrev pub Grips : Step (Slot H) → Me (Slot H) View → ℕ → Me (Slot H) View → Type 0
-  Grips st m found m' = (actor : ℕ) → st.word ≡ word_at actor 2 → (found ≡ st.first → Gripped actor found m m') × (found ≢ st.first → m' ≡ m)
+  Grips st m found m' = (actor : ℕ) → st.word ≡ word_at actor 9 → (found ≡ st.first → Gripped actor found m m') × (found ≢ st.first → m' ≡ m)
 
   -- the list was given back with a message more, the last that is in it
   abbrev pub Enlists : Step (Slot H) → Me (Slot H) View → ℕ → Me (Slot H) View → Type 0
@@ -129,7 +129,7 @@ module _ {H : Type 0} where
 
   -- the list was found ended
   abbrev pub Refuses : Step (Slot H) → Me (Slot H) View → ℕ → Me (Slot H) View → Type 0
-  Refuses st m found m' = (actor : ℕ) (message : SysMsg) → st.word ≡ word_at actor 2 → st.said ≡ some (Note message)
+  Refuses st m found m' = (actor : ℕ) (message : SysMsg) → st.word ≡ word_at actor 9 → st.said ≡ some (Note message)
       → (found ≡ st.first → m' ≡ (refusing actor message m.0, m.1)) × (found ≢ st.first → m' ≡ m)
 
   -- what was listed names actors alone; a step does not know how many there are, so it is told of it by the number of slots
@@ -150,7 +150,7 @@ module _ {H : Type 0} where
   -- The gate's word was read by the holder: where it shows that nothing is listed and that the last drain gave nothing, this is a drain
   -- that gives nothing.
   abbrev pub Glances : Step (Slot H) → Me (Slot H) View → ℕ → Me (Slot H) View → Type 0
-  Glances st m found m' = (actor : ℕ) (c : Held) → st.word ≡ word_at actor 2 → m.0.claim ≡ Some c → c.actor ≡ actor → m.0.list ≡ None
+  Glances st m found m' = (actor : ℕ) (c : Held) → st.word ≡ word_at actor 9 → m.0.claim ≡ Some c → c.actor ≡ actor → m.0.list ≡ None
       → (found % 8 ≡ 0 → m' ≡ (draining actor [] false m.0, m.1)) × (found % 8 ≢ 0 → m' ≡ m)
 
 module _ {H : Type 0} (is_of : ℕ → H → Type 0) (journal : H → List Entry) (mailbox : H → Mailbox) (rested : H → Type 0) (given_by : H
@@ -171,7 +171,7 @@ module _ {H : Type 0} (is_of : H → ℕ → H → Type 0) (journal : H → List
     → ℕ) (closed_to : H → List ℕ) where
   -- a step that knows the first home tried to schedule an actor
   abbrev pub Schedules : Step (Slot H) → Me (Slot H) View → ℕ → Me (Slot H) View → Type 0
-  Schedules st m found m' = (actor : ℕ) (first : Snapshot (Snapshot H)) → st.word ≡ word_at actor 0 → st.said ≡ some (First first)
+  Schedules st m found m' = (actor : ℕ) (first : Snapshot (Snapshot H)) → st.word ≡ word_at actor 8 → st.said ≡ some (First first)
       → (found ≡ st.first → Won (is_of first.value.value) journal mailbox rested given_by closed_to actor found m m')
       × (found ≢ st.first → (m' ≡ (reading actor found m.0, m.1)) × IsTrue (is_valid found) × StaysClosed actor found m.0)
 

@@ -50,10 +50,10 @@ pub data Word : Type 0 where
   Waiting : Word
 
 abbrev pub word_offset : Word → ℕ
-word_offset Status = 0
-word_offset Flag = 1
-word_offset Gate = 2
-word_offset Waiting = 4
+word_offset Status = 8
+word_offset Flag = 7
+word_offset Gate = 9
+word_offset Waiting = 0
 
 -- an actor's slots: for its cell, and for its list
 pub data Shelf : Type 0 where

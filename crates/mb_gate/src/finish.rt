@@ -56,7 +56,7 @@ fn take_out<H: Resident>(closed: &mut Closed<Slot<H>, Global>, actor: usize) -> 
     ensures filled { slots_filled closed.new.slots ≡ emptied_at actor (slots_filled closed.old.slots) }
     ensures left { IsTakenOut (slots_items closed.old.words) (slots_items closed.old.slots) actor result }
 {
-    let first = 16 * actor + 8;
+    let first = 16 * actor;
     let status = closed.word(first + STATUS);
     let flag = closed.word(first + FLAG);
     let gate = closed.word(first + GATE);

@@ -3,25 +3,26 @@ ghost use Rattle.mb_rule.specs.Layout.{word_at, slot_at};
 
 use mb_msg::ActorId;
 
-pub const STATUS: usize = 0;
+pub const WAITING: usize = 0;
 
-pub const FLAG: usize = 1;
+pub const FLAG: usize = 7;
 
-pub const GATE: usize = 2;
+pub const STATUS: usize = 8;
 
-pub const WAITING: usize = 4;
+pub const GATE: usize = 9;
 
 pub const CELL: usize = 0;
 
 pub const LIST: usize = 1;
 
-/// Where a word of an actor lies: sixteen words for each, of which it has the second eight, so that the words of two
-/// actors lie in different lines of a processor's memory and the first word is nobody's.
+/// Where a word of an actor lies: it has sixteen, two lines of a processor's memory. Wherever the first actor's begin (at an
+/// even word, as memory is given out), an actor's words share no line with another's, nor its status and its gate one with
+/// its waiting count, which each sender writes.
 pub fn word_index(id: ActorId, offset: usize) -> usize
-    requires { offset < 8 }
+    requires { offset < 16 }
     ensures { result ≡ word_at id.0 offset }
 {
-    16 * id.0 as usize + 8 + offset
+    16 * id.0 as usize + offset
 }
 
 /// Where a slot of an actor lies.

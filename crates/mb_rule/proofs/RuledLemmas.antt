@@ -34,7 +34,7 @@ use Rattle.mb_rule.specs.Layout.{word_at, slot_at, Spot, spot_of, write, fill, p
 use Rattle.mb_rule.specs.Ruled.{Ruled, Deed, stays, takes_from, gives_to, act_of, IsAble, slot_after, Goes}
 use Rattle.mb_rule.proofs.LayoutLemmas.{put_here, put_else, words_apart, slots_apart, word_inside, slot_inside, set_word, set_slot, same_spot}
 
-module _ {W P S G V : Type 0} (word_offset : W → ℕ) (slot_offset : P → ℕ) (words_few : (w : W) → word_offset w < 8) (slots_few : (p : P) →
+module _ {W P S G V : Type 0} (word_offset : W → ℕ) (slot_offset : P → ℕ) (words_few : (w : W) → word_offset w < 16) (slots_few : (p : P) →
     slot_offset p < 2) (places : ℕ) (Fact : ℕ → Spot W P S G → List V → Type 0) where
   abbrev Rule : State S V → Type 0
   Rule = Ruled word_offset slot_offset places Fact

@@ -1,13 +1,11 @@
 -- Where the words and slots of a place lie in a table: sixteen words and two slots for each place.
--- Of its sixteen words a place has the second eight at most, so that those of two places lie apart, and the table's
--- first word is nobody's.
 use Rattle.std.specs.Prelude.{◌≡◌, ℕ, ◌+◌, ◌*◌, ◌<◌, ◌==◌, if◌then◌else◌, slice_index}
 use mathlib.Core.Option.{Option, none, some}
 use lib.ListN.{get_elem?}
 use Rattle.atomic_table.specs.Table.{State}
 
 abbrev pub word_at : ℕ → ℕ → ℕ
-word_at place offset = 16 * place + 8 + offset
+word_at place offset = 16 * place + offset
 
 abbrev pub slot_at : ℕ → ℕ → ℕ
 slot_at place offset = 2 * place + offset
