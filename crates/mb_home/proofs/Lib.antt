@@ -18,6 +18,7 @@ pub mod RunForms
 pub mod SettleLemmas
 pub mod StatusLemmas
 pub mod StepLemmas
+pub mod TakenLemmas
 pub mod TellLaw
 pub mod TellLemmas
 pub mod TellSteps

@@ -6,3 +6,4 @@ pub mod Numbers
 pub mod Roll
 pub mod Settled
 pub mod Steps
+pub mod Taken

@@ -25,9 +25,7 @@ use Rattle.mb_home.specs.Settled.{IsSettled}
 use Rattle.mb_turn.specs.Dry.{DrainedLast, WasEnded}
 use Rattle.mb_turn.specs.Hold.{Hold, hold_of}
 use Rattle.mb_turn.specs.Notice.{IsAnswered}
-use Rattle.mb_turn.specs.Ran.{IsTurning}
 use Rattle.mb_turn.specs.Running.{IsRunning, KeepsJournal, SameRun}
-use Rattle.mb_turn.specs.declared.turn.Turn.{Turn}
 use Rattle.mb_turn.proofs.CountLemmas.{counted-still, counted-more, counts-one}
 use Rattle.mb_turn.proofs.HoldLemmas.{hold-taken, hold-ended, hold-recorded}
 use Rattle.mb_turn.proofs.LeadLemmas.{leads-closed}
@@ -127,11 +125,6 @@ module _ (c new : Claim (Box Contents)) (ours : (claim_id new ≡ claim_id c) ×
       same = same-taken;
       journal = ap (λ (x : Hold). x.home.cell.journal) hold-one ∙ journal;
     }
-
-  -- the turn counts what it did
-  pub turning-taken : (turn : Turn) → IsTurning (hold_of c) turn → IsTurning (hold_of new) turn
-  turning-taken turn t =
-      subst (λ (x : Hold). IsTurning x turn) (sym hold-one) (record { turns = t.turns; system = t.system; actor = t.actor })
 
   pub ended-taken : WasEnded (held_actor c) (known_of c).log → WasEnded (held_actor new) (known_of new).log
   ended-taken w =

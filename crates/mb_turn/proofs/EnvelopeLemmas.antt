@@ -1,5 +1,5 @@
 -- Why a run takes no envelope more, and what one that was taken makes of it.
-use Rattle.std.proofs.Common.{◌≡◌, ◌⊎◌, inl, inr, ℕ, ◌*◌, ◌<◌, Bool, true, false, List, [], ◌∷◌, refl, sym, ap, ◌∙◌, subst}
+use Rattle.std.proofs.Common.{◌≡◌, ◌⊎◌, inl, inr, ℕ, ◌*◌, ◌<◌, Bool, true, false, List, [], refl, sym, ap, ◌∙◌, subst}
 use Rattle.std.specs.Prelude.{not, nat_lt, ◌&&◌}
 use Rattle.std.specs.Global.{Box}
 use Rattle.mb_status.specs.Mailbox.{word_of, should_process}
@@ -9,18 +9,15 @@ use Rattle.mb_journal.specs.Run.{Stopped, IsReason, most_envelopes}
 use Rattle.mb_journal.specs.Run.Stopped.{UsedUp, NotOpen, NoEnvelope, AtClosing, NoRoom}
 use Rattle.mb_journal.specs.Suspension.{count}
 use Rattle.mb_cell.specs.Seen.{Seen}
-use Rattle.mb_gate.specs.declared.claim.Claim.{Claim}
-use Rattle.mb_gate.specs.Names.{claim_id, known_of, held_actor, status_of, SameTaken}
 use Rattle.mb_gate.specs.Untouched.{Origin}
-use Rattle.mb_gate.specs.View.{Sight, Took, counting_off}
+use Rattle.mb_gate.specs.View.{Sight}
 use Rattle.mb_home.specs.Contents.{Contents}
 use Rattle.mb_home.specs.Settled.{IsSettled}
 use Rattle.mb_home.specs.Steps.{FindsNone}
-use Rattle.mb_turn.specs.Hold.{Hold, hold_of}
+use Rattle.mb_turn.specs.Hold.{Hold}
 use Rattle.mb_turn.specs.Ran.{IsDrained, IsEnough, EndsDrained, HadRoom}
-use Rattle.mb_turn.specs.Running.{IsRunning, IsBeside}
-use Rattle.mb_turn.proofs.BesideLemmas.{beside-log}
-use Rattle.mb_turn.proofs.CleanLemmas.{hold-one, running-within, ended-closed}
+use Rattle.mb_turn.specs.Running.{IsRunning}
+use Rattle.mb_turn.proofs.CleanLemmas.{running-within, ended-closed}
 use Rattle.mb_turn.proofs.ReadingLemmas.{open-reading, shut-reading}
 use Rattle.mb_turn.proofs.RunningMoves.{status-at}
 
@@ -109,10 +106,3 @@ pub reason-used : (gives : ℕ → Moment → Reply → Type 0) (origin : Origin
     (stopped : Stopped) × HadRoom stopped × EndsDrained h.actor h.log stopped × IsReason h.home.cell.who throughput n h.home.cell.journal stopped
 reason-used gives origin seen h throughput n r all (inl shut) = (AtClosing, tt, tt, ended-closed gives origin seen h [] shut r)
 reason-used gives origin seen h throughput n r all (inr drained) = (UsedUp, tt, drained.last, (all, drained.none))
-
--- an envelope was counted as taken
-pub beside-counted : (c new : Claim (Box Contents)) (ours : (claim_id new ≡ claim_id c) × (held_actor new ≡ held_actor c)) (home : new.home ≡ c.home)
-    (status : status_of new ≡ status_of c) (known : known_of new ≡ counting_off (held_actor c) 1 (known_of c)) (taken : SameTaken c new) →
-    IsBeside (hold_of c) → IsBeside (hold_of new)
-beside-counted c new ours home status known taken s =
-    subst IsBeside (sym (hold-one c new ours home status known taken)) (beside-log (hold_of c) s (Took (held_actor c) 1 ∷ (known_of c).log))

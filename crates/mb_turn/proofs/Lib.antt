@@ -23,3 +23,4 @@ pub mod AppliedLemmas
 pub mod EnvelopeLemmas
 pub mod FreshLemmas
 pub mod FinishLemmas
+pub mod TakenLemmas

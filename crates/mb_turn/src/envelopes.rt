@@ -87,10 +87,12 @@ fn apply_envelope<A: Actor, K: Behaviours, W: Way<Place<A, K>>, R: Wait>(
         return Ok(false);
     }
     claim.home.ready()?;
-    if !claim.home.apply_envelope(rt, status) {
+    let Some(envelope) = claim.home.take_next(rt) else {
         return Ok(false);
-    }
+    };
+    // Counted before the actor is called, since a locked step waits until all that was written before it is out.
     gates.note_taken(claim);
+    claim.home.begin(status, envelope);
     turn.envelopes += 1;
     match carry_out(rt, gates, waker, claim) {
         Ok(()) => Ok(true),

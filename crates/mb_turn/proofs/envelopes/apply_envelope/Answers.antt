@@ -1,5 +1,6 @@
-use Rattle.std.proofs.Common.{◌≡◌, List, [], inl, refl, sym, ap, ◌∙◌, subst, arith}
-use Rattle.std.specs.Prelude.{MatchBool, IsTrue, Err}
+use Rattle.std.proofs.Common.{◌≡◌, ◌≤◌, List, [], refl, sym, ap, ◌∙◌, subst, arith}
+use Rattle.std.specs.Prelude.{IsTrue, Err}
+use Rattle.std.specs.Global.{Box}
 use Rattle.mb_journal.specs.declared.error.ReadyError.{ReadyError}
 use Rattle.mb_status.specs.Mailbox.{Mailbox, word_of, should_process}
 use Rattle.mb_journal.specs.Acts.{Act}
@@ -10,19 +11,20 @@ use Rattle.mb_gate.specs.Untouched.{origin_of}
 use Rattle.mb_home.specs.Carried.{LeadsOn}
 use Rattle.mb_home.specs.Contents.{Contents}
 use Rattle.mb_home.specs.Settled.{IsSettled}
-use Rattle.mb_home.specs.Steps.{Begins, FindsNone}
+use Rattle.mb_home.specs.Steps.{most_tells, Begins, FindsNone}
+use Rattle.mb_home.specs.Taken.{TakesOut}
 use Rattle.mb_turn.specs.Hold.{Hold, hold_of}
 use Rattle.mb_turn.specs.Running.{IsRunning}
 use Rattle.mb_turn.proofs.AppliedLemmas.{same-keeps, same-fault, not-full, acts-ready, keeps-ready, beside-ready, running-ready, envelopes-fit}
 use Rattle.mb_turn.proofs.BesideLemmas.{keeps-same, keeps-then, same-run-then}
 use Rattle.mb_turn.proofs.CallerLemmas.{further-none}
-use Rattle.mb_turn.proofs.CleanLemmas.{running-counted, same-taken, turning-taken}
-use Rattle.mb_turn.proofs.CountLemmas.{one-more}
-use Rattle.mb_turn.proofs.EnvelopeLemmas.{why-not-open, why-none, why-same, is-open, drained-open, drained-home, running-found, beside-counted}
+use Rattle.mb_turn.proofs.CleanLemmas.{hold-one}
+use Rattle.mb_turn.proofs.EnvelopeLemmas.{why-not-open, why-none, why-same, is-open, drained-open, drained-home, running-found}
 use Rattle.mb_turn.proofs.ReadingLemmas.{open-reading, count-none}
-use Rattle.mb_turn.proofs.RunningMoves.{status-at, running-begun, beside-begun}
+use Rattle.mb_turn.proofs.RunningMoves.{status-at}
+use Rattle.mb_turn.proofs.TakenLemmas.{same-begun, turning-counted, running-counted-begun, beside-counted-begun}
 use Rattle.mb_turn.proofs.TellingLemmas.{keeps-home, beside-cell}
-use Rattle.mb_turn.proofs.TurningLemmas.{turning-keeps, turning-begun}
+use Rattle.mb_turn.proofs.TurningLemmas.{turning-keeps}
 use Rattle.mb_turn.proofs.envelopes.apply_envelope.Goals as goal
 
 -- ---- the status was not open
@@ -80,132 +82,103 @@ returns-in_err-ready-clause-goes g c = further-none _
 
 -- ---- there was
 
-pub apply_envelope-requires-clause-carried_out : goal.apply_envelope-requires-clause-carried_out
-apply_envelope-requires-clause-carried_out g c =
+pub take_next-requires : goal.take_next-requires
+take_next-requires g c =
     let same = subst (λ (x : Contents). c.ready.new.self
     ≡ record x { cell = record x.cell { is_ready = c.ready.new.self.cell.is_ready }; room = c.ready.new.self.room }) c.deref_mut.ensures.value
     c.ready.ensures.same in
-    subst (λ (x : Contents). x.cell.acts ≡ []) (sym c.deref_mut-2.ensures.value)
-    (acts-ready (hold_of c.args.claim.now) c.ready.new.self _ _ same ∙ c.requires.carried_out)
-
-pub apply_envelope-requires-clause-open : goal.apply_envelope-requires-clause-open
-apply_envelope-requires-clause-open g c =
-    let same = subst (λ (x : Contents). c.ready.new.self
-    ≡ record x { cell = record x.cell { is_ready = c.ready.new.self.cell.is_ready }; room = c.ready.new.self.room }) c.deref_mut.ensures.value
-    c.ready.ensures.same in
-    let kept = subst (λ (x : Contents). (pending : List Act) → IsSettled (g.K.Behaviours.gives x.cell.who.this.0) pending x →
-    IsSettled (g.K.Behaviours.gives c.ready.new.self.cell.who.this.0) pending c.ready.new.self) c.deref_mut.ensures.value c.ready.ensures.settled in
-    let h : Hold = record (hold_of c.args.claim.now) { home = c.ready.new.self } in
-    let r = running-ready (hold_of c.args.claim.now) c.ready.new.self _ _ same g.K.Behaviours.gives (origin_of c.args.gates.now)
-    (known_by c.args.waker.now.pass).log c.requires.running kept in
-    let t = sym (c.should_process.ensures ∙ ap should_process c.status-status.ensures) ∙ c.if-not-should_process.false in
-    subst (λ (x : Contents). IsOpen x.cell.who x.cell.journal (word_of c.status-status.result)) (sym c.deref_mut-2.ensures.value)
-    (subst (λ (m : Mailbox). IsOpen h.home.cell.who h.home.cell.journal (word_of m)) (sym c.status-status.ensures)
-    (open-reading h.status h.home.cell.who h.home.cell.journal (status-at h r.leads) t))
-
-pub apply_envelope-requires-clause-settled : goal.apply_envelope-requires-clause-settled
-apply_envelope-requires-clause-settled g c =
     let kept = subst (λ (x : Contents). (pending : List Act) → IsSettled (g.K.Behaviours.gives x.cell.who.this.0) pending x →
     IsSettled (g.K.Behaviours.gives c.ready.new.self.cell.who.this.0) pending c.ready.new.self) c.deref_mut.ensures.value c.ready.ensures.settled in
     let h = hold_of c.args.claim.now in
     let own = subst (λ n. IsSettled (g.K.Behaviours.gives n) [] h.home) (sym c.requires.running.number) c.requires.running.settled in
-    subst (λ (x : Contents). IsSettled (g.K.Behaviours.gives x.cell.who.this.0) [] x) (sym c.deref_mut-2.ensures.value)
-    (kept [] own)
+    let mid : Contents = c.ready.new.self in
+    let settled = kept [] own in
+    let none = acts-ready h mid _ _ same ∙ c.requires.carried_out in
+    record {
+      settled =
+          subst (λ (x : Contents). IsSettled (g.K.Behaviours.gives x.cell.who.this.0) x.cell.acts x) (sym c.deref_mut-2.ensures.value)
+          (subst (λ l. IsSettled (g.K.Behaviours.gives mid.cell.who.this.0) l mid) (sym none) settled);
+    }
 
 -- ---- none was there
 
-pub returns-then-not-apply_envelope-clause-running : goal.returns-then-not-apply_envelope-clause-running
-returns-then-not-apply_envelope-clause-running g c =
+pub returns-in_default-clause-running : goal.returns-in_default-clause-running
+returns-in_default-clause-running g c =
     let same = subst (λ (x : Contents). c.ready.new.self
     ≡ record x { cell = record x.cell { is_ready = c.ready.new.self.cell.is_ready }; room = c.ready.new.self.room }) c.deref_mut.ensures.value
     c.ready.ensures.same in
     let kept = subst (λ (x : Contents). (pending : List Act) → IsSettled (g.K.Behaviours.gives x.cell.who.this.0) pending x →
     IsSettled (g.K.Behaviours.gives c.ready.new.self.cell.who.this.0) pending c.ready.new.self) c.deref_mut.ensures.value c.ready.ensures.settled in
-    let at_home = subst (λ (x : Contents). MatchBool c.apply_envelope.result (Begins x c.apply_envelope.new.self (word_of c.status-status.result))
-    (FindsNone x c.apply_envelope.new.self)) c.deref_mut-2.ensures.value c.apply_envelope.ensures.begun in
     let gives = g.K.Behaviours.gives in
     let origin = origin_of c.args.gates.now in
     let seen = (known_by c.args.waker.now.pass).log in
     let old = hold_of c.args.claim.now in
     let mid : Contents = c.ready.new.self in
-    let new : Contents = c.apply_envelope.new.self in
+    let new : Contents = c.take_next.new.self in
     let h : Hold = record old { home = mid } in
     let r : IsRunning gives origin [] seen h = running-ready old mid _ _ same gives origin seen c.requires.running
     kept in
-    let found = subst (λ b. MatchBool b (Begins mid new (word_of c.status-status.result)) (FindsNone mid new)) c.if-not-apply_envelope.true
-    at_home in
+    let found = subst (λ (x : Contents). FindsNone x new) c.deref_mut-2.ensures.value c.in_default.ensures.none in
     running-found gives origin seen h r new found (acts-ready old mid _ _ same ∙ c.requires.carried_out)
-    c.apply_envelope.ensures.settled
+    c.in_default.ensures.settled
 
-pub returns-then-not-apply_envelope-clause-beside : goal.returns-then-not-apply_envelope-clause-beside
-returns-then-not-apply_envelope-clause-beside g c =
+pub returns-in_default-clause-beside : goal.returns-in_default-clause-beside
+returns-in_default-clause-beside g c =
     let same = subst (λ (x : Contents). c.ready.new.self
     ≡ record x { cell = record x.cell { is_ready = c.ready.new.self.cell.is_ready }; room = c.ready.new.self.room }) c.deref_mut.ensures.value
     c.ready.ensures.same in
-    let at_home = subst (λ (x : Contents). MatchBool c.apply_envelope.result (Begins x c.apply_envelope.new.self (word_of c.status-status.result))
-    (FindsNone x c.apply_envelope.new.self)) c.deref_mut-2.ensures.value c.apply_envelope.ensures.begun in
     let old = hold_of c.args.claim.now in
     let mid : Contents = c.ready.new.self in
-    let new : Contents = c.apply_envelope.new.self in
-    let found = subst (λ b. MatchBool b (Begins mid new (word_of c.status-status.result)) (FindsNone mid new)) c.if-not-apply_envelope.true
-    at_home in
+    let new : Contents = c.take_next.new.self in
+    let found = subst (λ (x : Contents). FindsNone x new) c.deref_mut-2.ensures.value c.in_default.ensures.none in
     beside-cell (record old { home = mid }) new (ap (λ (x : Contents). x.cell) found.same) (ap (λ (x : Contents). x.rest) found.same)
     (ap (λ (x : Contents). x.dropped) found.same) (beside-ready old mid _ _ same c.requires.beside)
 
-pub returns-then-not-apply_envelope-clause-carried_out : goal.returns-then-not-apply_envelope-clause-carried_out
-returns-then-not-apply_envelope-clause-carried_out g c =
+pub returns-in_default-clause-carried_out : goal.returns-in_default-clause-carried_out
+returns-in_default-clause-carried_out g c =
     let same = subst (λ (x : Contents). c.ready.new.self
     ≡ record x { cell = record x.cell { is_ready = c.ready.new.self.cell.is_ready }; room = c.ready.new.self.room }) c.deref_mut.ensures.value
     c.ready.ensures.same in
-    let at_home = subst (λ (x : Contents). MatchBool c.apply_envelope.result (Begins x c.apply_envelope.new.self (word_of c.status-status.result))
-    (FindsNone x c.apply_envelope.new.self)) c.deref_mut-2.ensures.value c.apply_envelope.ensures.begun in
     let old = hold_of c.args.claim.now in
     let mid : Contents = c.ready.new.self in
-    let new : Contents = c.apply_envelope.new.self in
-    let found = subst (λ b. MatchBool b (Begins mid new (word_of c.status-status.result)) (FindsNone mid new)) c.if-not-apply_envelope.true
-    at_home in
+    let new : Contents = c.take_next.new.self in
+    let found = subst (λ (x : Contents). FindsNone x new) c.deref_mut-2.ensures.value c.in_default.ensures.none in
     ap (λ (x : Contents). x.cell.acts) found.same ∙ acts-ready old mid _ _ same ∙ c.requires.carried_out
 
-pub returns-then-not-apply_envelope-clause-turning : goal.returns-then-not-apply_envelope-clause-turning
-returns-then-not-apply_envelope-clause-turning g c =
+pub returns-in_default-clause-turning : goal.returns-in_default-clause-turning
+returns-in_default-clause-turning g c =
     let same = subst (λ (x : Contents). c.ready.new.self
     ≡ record x { cell = record x.cell { is_ready = c.ready.new.self.cell.is_ready }; room = c.ready.new.self.room }) c.deref_mut.ensures.value
     c.ready.ensures.same in
-    let at_home = subst (λ (x : Contents). MatchBool c.apply_envelope.result (Begins x c.apply_envelope.new.self (word_of c.status-status.result))
-    (FindsNone x c.apply_envelope.new.self)) c.deref_mut-2.ensures.value c.apply_envelope.ensures.begun in
     let old = hold_of c.args.claim.now in
     let mid : Contents = c.ready.new.self in
-    let new : Contents = c.apply_envelope.new.self in
-    let found = subst (λ b. MatchBool b (Begins mid new (word_of c.status-status.result)) (FindsNone mid new)) c.if-not-apply_envelope.true
-    at_home in
+    let new : Contents = c.take_next.new.self in
+    let found = subst (λ (x : Contents). FindsNone x new) c.deref_mut-2.ensures.value c.in_default.ensures.none in
     let keeps = keeps-then old (record old { home = mid }) (record old { home = new }) (keeps-ready old mid _ _ same)
     (keeps-home (record old { home = mid }) new (ap (λ (x : Contents). x.cell) found.same) found.took) in
     (turning-keeps old (record old { home = new }) c.args.turn.now keeps c.requires.turning, keeps.same)
 
-pub returns-then-not-apply_envelope-clause-goes : goal.returns-then-not-apply_envelope-clause-goes
-returns-then-not-apply_envelope-clause-goes g c = further-none _
+pub returns-in_default-clause-goes : goal.returns-in_default-clause-goes
+returns-in_default-clause-goes g c = further-none _
 
-pub returns-then-not-apply_envelope-clause-took : goal.returns-then-not-apply_envelope-clause-took
-returns-then-not-apply_envelope-clause-took g c =
+pub returns-in_default-clause-took : goal.returns-in_default-clause-took
+returns-in_default-clause-took g c =
     let same = subst (λ (x : Contents). c.ready.new.self
     ≡ record x { cell = record x.cell { is_ready = c.ready.new.self.cell.is_ready }; room = c.ready.new.self.room }) c.deref_mut.ensures.value
     c.ready.ensures.same in
     let kept = subst (λ (x : Contents). (pending : List Act) → IsSettled (g.K.Behaviours.gives x.cell.who.this.0) pending x →
     IsSettled (g.K.Behaviours.gives c.ready.new.self.cell.who.this.0) pending c.ready.new.self) c.deref_mut.ensures.value c.ready.ensures.settled in
-    let at_home = subst (λ (x : Contents). MatchBool c.apply_envelope.result (Begins x c.apply_envelope.new.self (word_of c.status-status.result))
-    (FindsNone x c.apply_envelope.new.self)) c.deref_mut-2.ensures.value c.apply_envelope.ensures.begun in
     let gives = g.K.Behaviours.gives in
     let origin = origin_of c.args.gates.now in
     let seen = (known_by c.args.waker.now.pass).log in
     let old = hold_of c.args.claim.now in
     let mid : Contents = c.ready.new.self in
-    let new : Contents = c.apply_envelope.new.self in
+    let new : Contents = c.take_next.new.self in
     let h : Hold = record old { home = mid } in
     let r : IsRunning gives origin [] seen h = running-ready old mid _ _ same gives origin seen c.requires.running
     kept in
     let t = sym (c.should_process.ensures ∙ ap should_process c.status-status.ensures) ∙ c.if-not-should_process.false in
-    let found = subst (λ b. MatchBool b (Begins mid new (word_of c.status-status.result)) (FindsNone mid new)) c.if-not-apply_envelope.true
-    at_home in
+    let found = subst (λ (x : Contents). FindsNone x new) c.deref_mut-2.ensures.value c.in_default.ensures.none in
     let drained = drained-home old mid (ap (λ (x : Contents). x.cell.who) same)
     (ap (λ (x : Contents). x.cell.journal) same) (drained-open gives origin seen old c.requires.running c.requires.whole t) in
     (refl, why-same gives origin seen h r new (ap (λ (x : Contents). x.cell) found.same) (why-none gives origin seen h r drained t))
@@ -222,6 +195,55 @@ note_taken-requires-clause-ours g c = c.requires.running.ours
 pub note_taken-requires-clause-there : goal.note_taken-requires-clause-there
 note_taken-requires-clause-there g c = c.requires.running.there
 
+pub begin-requires-clause-took : goal.begin-requires-clause-took
+begin-requires-clause-took g c =
+    let kept = subst (λ (x : Contents). (pending : List Act) → IsSettled (g.K.Behaviours.gives x.cell.who.this.0) pending x →
+    IsSettled (g.K.Behaviours.gives c.ready.new.self.cell.who.this.0) pending c.ready.new.self) c.deref_mut.ensures.value c.ready.ensures.settled in
+    let h = hold_of c.args.claim.now in
+    let own = subst (λ n. IsSettled (g.K.Behaviours.gives n) [] h.home) (sym c.requires.running.number) c.requires.running.settled in
+    let out = subst (λ (x : Contents). TakesOut x c.take_next.new.self c.in-Some.envelope) c.deref_mut-2.ensures.value c.in-Some.ensures.took in
+    let here = c.deref_mut-3.ensures.value ∙ ap (λ (x : Box Contents). x.value) c.note_taken.ensures.same.1 in
+    (c.ready.new.self, subst (λ (x : Contents). TakesOut c.ready.new.self x c.in-Some.envelope) (sym here) out, kept [] own)
+
+pub begin-requires-clause-ready : goal.begin-requires-clause-ready
+begin-requires-clause-ready g c =
+    let out = subst (λ (x : Contents). TakesOut x c.take_next.new.self c.in-Some.envelope) c.deref_mut-2.ensures.value c.in-Some.ensures.took in
+    let here = c.deref_mut-3.ensures.value ∙ ap (λ (x : Box Contents). x.value) c.note_taken.ensures.same.1 in
+    subst (λ (x : Contents). IsTrue x.cell.is_ready) (sym (here ∙ out.same)) c.in_ok-ready.ensures.ok.0
+
+pub begin-requires-clause-room : goal.begin-requires-clause-room
+begin-requires-clause-room g c =
+    let out = subst (λ (x : Contents). TakesOut x c.take_next.new.self c.in-Some.envelope) c.deref_mut-2.ensures.value c.in-Some.ensures.took in
+    let here = c.deref_mut-3.ensures.value ∙ ap (λ (x : Box Contents). x.value) c.note_taken.ensures.same.1 in
+    subst (λ (x : Contents). most_tells ≤ x.room) (sym (here ∙ out.same)) c.in_ok-ready.ensures.ok.1
+
+pub begin-requires-clause-carried_out : goal.begin-requires-clause-carried_out
+begin-requires-clause-carried_out g c =
+    let same = subst (λ (x : Contents). c.ready.new.self
+    ≡ record x { cell = record x.cell { is_ready = c.ready.new.self.cell.is_ready }; room = c.ready.new.self.room }) c.deref_mut.ensures.value
+    c.ready.ensures.same in
+    let out = subst (λ (x : Contents). TakesOut x c.take_next.new.self c.in-Some.envelope) c.deref_mut-2.ensures.value c.in-Some.ensures.took in
+    let here = c.deref_mut-3.ensures.value ∙ ap (λ (x : Box Contents). x.value) c.note_taken.ensures.same.1 in
+    subst (λ (x : Contents). x.cell.acts ≡ []) (sym (here ∙ out.same))
+    (acts-ready (hold_of c.args.claim.now) c.ready.new.self _ _ same ∙ c.requires.carried_out)
+
+pub begin-requires-clause-open : goal.begin-requires-clause-open
+begin-requires-clause-open g c =
+    let same = subst (λ (x : Contents). c.ready.new.self
+    ≡ record x { cell = record x.cell { is_ready = c.ready.new.self.cell.is_ready }; room = c.ready.new.self.room }) c.deref_mut.ensures.value
+    c.ready.ensures.same in
+    let kept = subst (λ (x : Contents). (pending : List Act) → IsSettled (g.K.Behaviours.gives x.cell.who.this.0) pending x →
+    IsSettled (g.K.Behaviours.gives c.ready.new.self.cell.who.this.0) pending c.ready.new.self) c.deref_mut.ensures.value c.ready.ensures.settled in
+    let out = subst (λ (x : Contents). TakesOut x c.take_next.new.self c.in-Some.envelope) c.deref_mut-2.ensures.value c.in-Some.ensures.took in
+    let here = c.deref_mut-3.ensures.value ∙ ap (λ (x : Box Contents). x.value) c.note_taken.ensures.same.1 in
+    let h : Hold = record (hold_of c.args.claim.now) { home = c.ready.new.self } in
+    let r = running-ready (hold_of c.args.claim.now) c.ready.new.self _ _ same g.K.Behaviours.gives (origin_of c.args.gates.now)
+    (known_by c.args.waker.now.pass).log c.requires.running kept in
+    let t = sym (c.should_process.ensures ∙ ap should_process c.status-status.ensures) ∙ c.if-not-should_process.false in
+    subst (λ (x : Contents). IsOpen x.cell.who x.cell.journal (word_of c.status-status.result)) (sym (here ∙ out.same))
+    (subst (λ (m : Mailbox). IsOpen h.home.cell.who h.home.cell.journal (word_of m)) (sym c.status-status.ensures)
+    (open-reading h.status h.home.cell.who h.home.cell.journal (status-at h r.leads) t))
+
 pub carry_out-requires-clause-running : goal.carry_out-requires-clause-running
 carry_out-requires-clause-running g c =
     let same = subst (λ (x : Contents). c.ready.new.self
@@ -229,28 +251,26 @@ carry_out-requires-clause-running g c =
     c.ready.ensures.same in
     let kept = subst (λ (x : Contents). (pending : List Act) → IsSettled (g.K.Behaviours.gives x.cell.who.this.0) pending x →
     IsSettled (g.K.Behaviours.gives c.ready.new.self.cell.who.this.0) pending c.ready.new.self) c.deref_mut.ensures.value c.ready.ensures.settled in
-    let at_home = subst (λ (x : Contents). MatchBool c.apply_envelope.result (Begins x c.apply_envelope.new.self (word_of c.status-status.result))
-    (FindsNone x c.apply_envelope.new.self)) c.deref_mut-2.ensures.value c.apply_envelope.ensures.begun in
-    let leads = subst (λ (x : Contents). IsTrue c.apply_envelope.result → LeadsOn x c.apply_envelope.new.self) c.deref_mut-2.ensures.value
-    c.apply_envelope.ensures.leads in
+    let out = subst (λ (x : Contents). TakesOut x c.take_next.new.self c.in-Some.envelope) c.deref_mut-2.ensures.value c.in-Some.ensures.took in
+    let here = c.deref_mut-3.ensures.value ∙ ap (λ (x : Box Contents). x.value) c.note_taken.ensures.same.1 in
     let gives = g.K.Behaviours.gives in
     let origin = origin_of c.args.gates.now in
     let seen = (known_by c.args.waker.now.pass).log in
     let old = hold_of c.args.claim.now in
     let mid : Contents = c.ready.new.self in
-    let new : Contents = c.apply_envelope.new.self in
+    let new : Contents = c.begin.new.self in
     let h : Hold = record old { home = mid } in
     let did = c.note_taken.ensures in
-    let r : IsRunning gives origin [] seen h = running-ready old mid _ _ same gives origin seen c.requires.running
-    kept in
+    let counted = hold-one _ c.note_taken.new.claim (did.ours, did.actor) did.same.1 did.same.0 did.known did.taken in
     let t = sym (c.should_process.ensures ∙ ap should_process c.status-status.ensures) ∙ c.if-not-should_process.false in
-    let begun = subst (λ b. MatchBool b (Begins mid new (word_of c.status-status.result)) (FindsNone mid new)) c.if-not-apply_envelope.false
-    at_home in
-    let here : new.cell.who.this.0 ≡ h.actor = ap (λ (x : Seen). x.who.this.0) begun.taken.adds ∙ r.number in
-    running-counted _ c.note_taken.new.claim (did.ours, did.actor) did.same.1 did.same.0 did.known did.taken gives origin seen
-    (inl (drained-open gives origin seen old c.requires.running c.requires.whole t).last)
-    (running-begun gives origin seen h new r (word_of c.status-status.result) begun (leads c.if-not-apply_envelope.false)
-    (subst (λ n. IsSettled (gives n) new.cell.acts new) here c.apply_envelope.ensures.settled))
+    let begun : Begins mid new (word_of c.status-status.result) =
+    c.begin.ensures.begun mid (subst (λ (x : Contents). TakesOut mid x c.in-Some.envelope) (sym here) out) in
+    let r : IsRunning gives origin [] seen h = running-ready old mid _ _ same gives origin seen c.requires.running kept in
+    let last = (drained-open gives origin seen old c.requires.running c.requires.whole t).last in
+    let leads = subst (λ (x : Contents). LeadsOn x new) (here ∙ out.same) c.begin.ensures.leads in
+    let at : new.cell.who.this.0 ≡ h.actor = ap (λ (x : Seen). x.who.this.0) begun.taken.adds ∙ r.number in
+    running-counted-begun h c.take_next.new.self c.note_taken.new.claim counted new (word_of c.status-status.result) begun gives origin seen r last
+    leads (subst (λ n. IsSettled (gives n) new.cell.acts new) at c.begin.ensures.settled)
 
 pub carry_out-requires-clause-beside : goal.carry_out-requires-clause-beside
 carry_out-requires-clause-beside g c =
@@ -259,53 +279,54 @@ carry_out-requires-clause-beside g c =
     c.ready.ensures.same in
     let kept = subst (λ (x : Contents). (pending : List Act) → IsSettled (g.K.Behaviours.gives x.cell.who.this.0) pending x →
     IsSettled (g.K.Behaviours.gives c.ready.new.self.cell.who.this.0) pending c.ready.new.self) c.deref_mut.ensures.value c.ready.ensures.settled in
-    let at_home = subst (λ (x : Contents). MatchBool c.apply_envelope.result (Begins x c.apply_envelope.new.self (word_of c.status-status.result))
-    (FindsNone x c.apply_envelope.new.self)) c.deref_mut-2.ensures.value c.apply_envelope.ensures.begun in
+    let out = subst (λ (x : Contents). TakesOut x c.take_next.new.self c.in-Some.envelope) c.deref_mut-2.ensures.value c.in-Some.ensures.took in
+    let here = c.deref_mut-3.ensures.value ∙ ap (λ (x : Box Contents). x.value) c.note_taken.ensures.same.1 in
     let gives = g.K.Behaviours.gives in
     let origin = origin_of c.args.gates.now in
     let seen = (known_by c.args.waker.now.pass).log in
     let old = hold_of c.args.claim.now in
     let mid : Contents = c.ready.new.self in
-    let new : Contents = c.apply_envelope.new.self in
+    let new : Contents = c.begin.new.self in
     let h : Hold = record old { home = mid } in
     let did = c.note_taken.ensures in
-    let r : IsRunning gives origin [] seen h = running-ready old mid _ _ same gives origin seen c.requires.running
-    kept in
+    let counted = hold-one _ c.note_taken.new.claim (did.ours, did.actor) did.same.1 did.same.0 did.known did.taken in
     let t = sym (c.should_process.ensures ∙ ap should_process c.status-status.ensures) ∙ c.if-not-should_process.false in
-    let begun = subst (λ b. MatchBool b (Begins mid new (word_of c.status-status.result)) (FindsNone mid new)) c.if-not-apply_envelope.false
-    at_home in
-    let s = beside-ready old mid _ _ same c.requires.beside in
-    beside-counted _ c.note_taken.new.claim (did.ours, did.actor) did.same.1 did.same.0 did.known did.taken
-    (beside-begun gives origin seen h new r s (is-open gives origin seen old c.requires.running t) (word_of c.status-status.result)
-    (count-none h.status h.home.cell.who h.home.cell.journal (status-at h r.leads) t) begun)
+    let begun : Begins mid new (word_of c.status-status.result) =
+    c.begin.ensures.begun mid (subst (λ (x : Contents). TakesOut mid x c.in-Some.envelope) (sym here) out) in
+    let r : IsRunning gives origin [] seen h = running-ready old mid _ _ same gives origin seen c.requires.running kept in
+    let last = (drained-open gives origin seen old c.requires.running c.requires.whole t).last in
+    beside-counted-begun h c.take_next.new.self c.note_taken.new.claim counted new (word_of c.status-status.result) begun gives origin seen r last
+    (beside-ready old mid _ _ same c.requires.beside) (is-open gives origin seen old c.requires.running t)
+    (count-none h.status h.home.cell.who h.home.cell.journal (status-at h r.leads) t)
 
 pub returns-in-Ok-clause-turning : goal.returns-in-Ok-clause-turning
 returns-in-Ok-clause-turning g c =
     let same = subst (λ (x : Contents). c.ready.new.self
     ≡ record x { cell = record x.cell { is_ready = c.ready.new.self.cell.is_ready }; room = c.ready.new.self.room }) c.deref_mut.ensures.value
     c.ready.ensures.same in
-    let at_home = subst (λ (x : Contents). MatchBool c.apply_envelope.result (Begins x c.apply_envelope.new.self (word_of c.status-status.result))
-    (FindsNone x c.apply_envelope.new.self)) c.deref_mut-2.ensures.value c.apply_envelope.ensures.begun in
+    let kept = subst (λ (x : Contents). (pending : List Act) → IsSettled (g.K.Behaviours.gives x.cell.who.this.0) pending x →
+    IsSettled (g.K.Behaviours.gives c.ready.new.self.cell.who.this.0) pending c.ready.new.self) c.deref_mut.ensures.value c.ready.ensures.settled in
+    let out = subst (λ (x : Contents). TakesOut x c.take_next.new.self c.in-Some.envelope) c.deref_mut-2.ensures.value c.in-Some.ensures.took in
+    let here = c.deref_mut-3.ensures.value ∙ ap (λ (x : Box Contents). x.value) c.note_taken.ensures.same.1 in
     let gives = g.K.Behaviours.gives in
     let origin = origin_of c.args.gates.now in
     let seen = (known_by c.args.waker.now.pass).log in
     let old = hold_of c.args.claim.now in
     let mid : Contents = c.ready.new.self in
-    let new : Contents = c.apply_envelope.new.self in
+    let new : Contents = c.begin.new.self in
     let h : Hold = record old { home = mid } in
     let did = c.note_taken.ensures in
+    let counted = hold-one _ c.note_taken.new.claim (did.ours, did.actor) did.same.1 did.same.0 did.known did.taken in
     let t = sym (c.should_process.ensures ∙ ap should_process c.status-status.ensures) ∙ c.if-not-should_process.false in
-    let begun = subst (λ b. MatchBool b (Begins mid new (word_of c.status-status.result)) (FindsNone mid new)) c.if-not-apply_envelope.false
-    at_home in
+    let begun : Begins mid new (word_of c.status-status.result) =
+    c.begin.ensures.begun mid (subst (λ (x : Contents). TakesOut mid x c.in-Some.envelope) (sym here) out) in
     let drained = drained-home old mid (ap (λ (x : Contents). x.cell.who) same)
     (ap (λ (x : Contents). x.cell.journal) same) (drained-open gives origin seen old c.requires.running c.requires.whole t) in
     let before = keeps-ready old mid _ _ same in
     let at = turning-keeps old h c.args.turn.now before c.requires.turning in
-    let last = c.note_taken.new.claim in
-    let took = same-taken _ last (did.ours, did.actor) did.same.1 did.same.0 did.known did.taken mid (ap (λ (x : Seen). x.who) begun.taken.adds)
-    (one-more new.take.taken mid.take.taken begun.envelope begun.took) in
-    let turned = turning-taken _ last (did.ours, did.actor) did.same.1 did.same.0 did.known did.taken _
-    (turning-begun h new c.args.turn.now at (word_of c.status-status.result) begun drained.none) in (
+    let took = same-begun h c.take_next.new.self c.note_taken.new.claim counted new (word_of c.status-status.result) begun in
+    let turned = turning-counted h c.take_next.new.self c.note_taken.new.claim counted new (word_of c.status-status.result) begun c.args.turn.now at
+    drained.none in (
       turning-keeps _ _ _ c.carry_out.ensures.same turned,
       same-keeps _ _ _ (same-run-then _ _ _ before.same took) c.carry_out.ensures.same,
     )
@@ -315,28 +336,29 @@ returns-in-Err-clause-turning g c =
     let same = subst (λ (x : Contents). c.ready.new.self
     ≡ record x { cell = record x.cell { is_ready = c.ready.new.self.cell.is_ready }; room = c.ready.new.self.room }) c.deref_mut.ensures.value
     c.ready.ensures.same in
-    let at_home = subst (λ (x : Contents). MatchBool c.apply_envelope.result (Begins x c.apply_envelope.new.self (word_of c.status-status.result))
-    (FindsNone x c.apply_envelope.new.self)) c.deref_mut-2.ensures.value c.apply_envelope.ensures.begun in
+    let kept = subst (λ (x : Contents). (pending : List Act) → IsSettled (g.K.Behaviours.gives x.cell.who.this.0) pending x →
+    IsSettled (g.K.Behaviours.gives c.ready.new.self.cell.who.this.0) pending c.ready.new.self) c.deref_mut.ensures.value c.ready.ensures.settled in
+    let out = subst (λ (x : Contents). TakesOut x c.take_next.new.self c.in-Some.envelope) c.deref_mut-2.ensures.value c.in-Some.ensures.took in
+    let here = c.deref_mut-3.ensures.value ∙ ap (λ (x : Box Contents). x.value) c.note_taken.ensures.same.1 in
     let gives = g.K.Behaviours.gives in
     let origin = origin_of c.args.gates.now in
     let seen = (known_by c.args.waker.now.pass).log in
     let old = hold_of c.args.claim.now in
     let mid : Contents = c.ready.new.self in
-    let new : Contents = c.apply_envelope.new.self in
+    let new : Contents = c.begin.new.self in
     let h : Hold = record old { home = mid } in
     let did = c.note_taken.ensures in
+    let counted = hold-one _ c.note_taken.new.claim (did.ours, did.actor) did.same.1 did.same.0 did.known did.taken in
     let t = sym (c.should_process.ensures ∙ ap should_process c.status-status.ensures) ∙ c.if-not-should_process.false in
-    let begun = subst (λ b. MatchBool b (Begins mid new (word_of c.status-status.result)) (FindsNone mid new)) c.if-not-apply_envelope.false
-    at_home in
+    let begun : Begins mid new (word_of c.status-status.result) =
+    c.begin.ensures.begun mid (subst (λ (x : Contents). TakesOut mid x c.in-Some.envelope) (sym here) out) in
     let drained = drained-home old mid (ap (λ (x : Contents). x.cell.who) same)
     (ap (λ (x : Contents). x.cell.journal) same) (drained-open gives origin seen old c.requires.running c.requires.whole t) in
     let before = keeps-ready old mid _ _ same in
     let at = turning-keeps old h c.args.turn.now before c.requires.turning in
-    let last = c.note_taken.new.claim in
-    let took = same-taken _ last (did.ours, did.actor) did.same.1 did.same.0 did.known did.taken mid (ap (λ (x : Seen). x.who) begun.taken.adds)
-    (one-more new.take.taken mid.take.taken begun.envelope begun.took) in
-    let turned = turning-taken _ last (did.ours, did.actor) did.same.1 did.same.0 did.known did.taken _
-    (turning-begun h new c.args.turn.now at (word_of c.status-status.result) begun drained.none) in (
+    let took = same-begun h c.take_next.new.self c.note_taken.new.claim counted new (word_of c.status-status.result) begun in
+    let turned = turning-counted h c.take_next.new.self c.note_taken.new.claim counted new (word_of c.status-status.result) begun c.args.turn.now at
+    drained.none in (
       turning-keeps _ _ _ c.carry_out.ensures.same turned,
       same-keeps _ _ _ (same-run-then _ _ _ before.same took) c.carry_out.ensures.same,
     )

@@ -1,0 +1,86 @@
+-- An envelope came out of the queue, and is begun then.
+use Rattle.std.proofs.Common.{◌≡◌, ℕ, ◌≤◌, List, [], ◌∷◌, ◌++◌, append-nil, refl, sym, ap, ◌∙◌, subst}
+use Rattle.std.specs.Prelude.{Contains, IsTrue, Option, Some, None, IfSome, IfNone, option_to_list}
+use Rattle.mb_msg.specs.declared.envelope.Envelope.{Envelope}
+use Rattle.mb_actor.specs.Behaviour.{Moment, Reply}
+use Rattle.mb_journal.specs.Lawful.{IsLawful}
+use Rattle.mb_journal.specs.Reading.{IsOpen}
+use Rattle.mb_cell.specs.MayHandle.{MayHandle}
+use Rattle.mb_cell.specs.Seen.{Seen, TakesEnvelope}
+use Rattle.mb_queue.specs.Passes.{Taking}
+use Rattle.mb_queue.specs.Takes.{IsTake}
+use Rattle.mb_home.specs.Carried.{LeadsOn}
+use Rattle.mb_home.specs.Contents.{Contents}
+use Rattle.mb_home.specs.Settled.{IsSettled}
+use Rattle.mb_home.specs.Steps.{most_tells, Begins, FindsNone}
+use Rattle.mb_home.specs.Taken.{TakesOut}
+use Rattle.mb_home.proofs.LeadLemmas.{begun-leads}
+use Rattle.mb_home.proofs.SettleLemmas.{SameQueue, settled-take}
+use Rattle.mb_home.proofs.TellSteps.{may-handle, settled-taken}
+
+-- by what the take pass says
+pub takes-out : (old : Contents) (take : Taking) (r : Option Envelope) → take.taken ≡ old.take.taken ++ option_to_list r → SameQueue take old.take →
+    IfSome r (λ e. Contains old.take.queue.senders e.by.0) → IfSome r (λ e. e.to.0 ≡ old.take.queue.to) →
+    IsTake old.take.turns old.take r take → IfSome r (λ e. TakesOut old (record old { take = take }) e)
+takes-out old take None taken same sender addressed turn = tt
+takes-out old take (Some e) taken same sender addressed turn = record {
+  took = taken;
+  turn = turn;
+  queue = same;
+  sender = sender;
+  addressed = addressed;
+  same = refl;
+}
+
+-- or none did
+pub finds-none : (old : Contents) (gives : Moment → Reply → Type 0) (take : Taking) (r : Option Envelope) →
+    take.taken ≡ old.take.taken ++ option_to_list r → SameQueue take old.take → IsTake old.take.turns old.take r take →
+    IsSettled gives old.cell.acts old →
+    IfNone r (FindsNone old (record old { take = take })) × IfNone r (IsSettled gives old.cell.acts (record old { take = take }))
+finds-none old gives take None taken same turn s =
+    let none : take.taken ≡ old.take.taken = taken ∙ append-nil old.take.taken in
+    (record { took = none; turn = turn; same = refl }, settled-take old gives old.cell.acts take s same none)
+finds-none old gives take (Some e) taken same turn s = (tt, tt)
+
+-- what is known once it came out
+module _ (b h : Contents) (e : Envelope) (reading : ℕ) (t : TakesOut b h e) where
+  same_cell : h.cell ≡ b.cell
+  same_cell = ap (λ (x : Contents). x.cell) t.same
+
+  -- the cell may be given it
+  pub may-begin : (gives : Moment → Reply → Type 0) → IsSettled gives [] b → IsOpen h.cell.who h.cell.journal reading → IsTrue h.cell.is_ready →
+      h.cell.acts ≡ [] → MayHandle h.cell e reading
+  may-begin gives s is_open ready none =
+      subst (λ (c : Seen). MayHandle c e reading) (sym same_cell)
+      (may-handle b gives e reading s (subst (λ (c : Seen). IsOpen c.who c.journal reading) same_cell is_open)
+      (subst (λ (c : Seen). IsTrue c.is_ready) same_cell ready) (subst (λ (c : Seen). c.acts ≡ []) same_cell none) t.sender t.addressed)
+
+  -- it is begun then
+  pub begins-taken : (new : Contents) → TakesEnvelope h.cell new.cell e reading → new ≡ record h { cell = new.cell } → Begins b new reading
+  begins-taken new took is =
+      let take : new.take ≡ h.take = ap (λ (x : Contents). x.take) is in
+      record {
+        envelope = e;
+        took = ap (λ (k : Taking). k.taken) take ∙ t.took;
+        turn = subst (λ (k : Taking). IsTake b.take.turns b.take (Some e) k) (sym take) t.turn;
+        taken = subst (λ (c : Seen). TakesEnvelope c new.cell e reading) same_cell took;
+        same = is ∙ (ap (λ (x : Contents). record x { cell = new.cell }) t.same ∙ ap (λ (k : Taking). record b { cell = new.cell; take = k })
+            (sym take));
+      }
+
+  -- its acts lead on
+  pub leads-begun : (new : Contents) (own gives : Moment → Reply → Type 0) → IsSettled own [] b → TakesEnvelope h.cell new.cell e reading →
+      IsLawful new.cell.who gives new.cell.journal → LeadsOn h new
+  leads-begun new own gives s took lawful =
+      subst (λ (x : Contents). LeadsOn x new) (sym t.same)
+      (begun-leads b new own gives e reading s (subst (λ (c : Seen). TakesEnvelope c new.cell e reading) same_cell took) lawful)
+
+  -- and the books are settled but for these
+  pub settled-begins : (gives : ℕ → Moment → Reply → Type 0) (new : Seen) → IsSettled (gives b.cell.who.this.0) [] b →
+      IsOpen h.cell.who h.cell.journal reading → most_tells ≤ h.room → TakesEnvelope h.cell new e reading →
+      IsLawful new.who (gives new.who.this.0) new.journal → IsSettled (gives new.who.this.0) new.acts (record h { cell = new })
+  settled-begins gives new s is_open room took lawful =
+      subst (λ (x : Contents). IsSettled (gives new.who.this.0) new.acts (record x { cell = new })) (sym t.same)
+      (settled-taken b gives new h.take e reading s (subst (λ (c : Seen). IsOpen c.who c.journal reading) same_cell is_open)
+      (subst (λ n. most_tells ≤ n) (ap (λ (x : Contents). x.room) t.same) room)
+      (subst (λ (c : Seen). TakesEnvelope c new e reading) same_cell took) lawful t.queue t.took)

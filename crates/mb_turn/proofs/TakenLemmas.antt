@@ -1,0 +1,67 @@
+-- An envelope came out of the queue, was counted as taken, and is begun then.
+use Rattle.std.proofs.Common.{◌≡◌, ℕ, ◌+◌, false, List, [], ◌∷◌, inl, None, refl, sym, ap, subst}
+use Rattle.std.specs.Global.{Box}
+use Rattle.mb_actor.specs.Behaviour.{Moment, Reply}
+use Rattle.mb_journal.specs.Aside.{next_front}
+use Rattle.mb_journal.specs.Suspension.{count}
+use Rattle.mb_cell.specs.Seen.{Seen}
+use Rattle.mb_rule.specs.Summed.{total}
+use Rattle.mb_gate.specs.declared.claim.Claim.{Claim}
+use Rattle.mb_gate.specs.Untouched.{Origin}
+use Rattle.mb_gate.specs.View.{Sight, Took}
+use Rattle.mb_gate.specs.Waiting.{counted_off}
+use Rattle.mb_home.specs.Carried.{LeadsOn}
+use Rattle.mb_home.specs.Contents.{Contents}
+use Rattle.mb_home.specs.Settled.{IsSettled}
+use Rattle.mb_home.specs.Steps.{Begins}
+use Rattle.mb_turn.specs.Dry.{DrainedLast}
+use Rattle.mb_turn.specs.Hold.{Hold, hold_of}
+use Rattle.mb_turn.specs.Ran.{IsTurning}
+use Rattle.mb_turn.specs.Running.{IsRunning, IsBeside, SameRun}
+use Rattle.mb_turn.specs.declared.turn.Turn.{Turn}
+use Rattle.mb_turn.proofs.BesideLemmas.{beside-log}
+use Rattle.mb_turn.proofs.CountLemmas.{counted-more, counts-one, one-more}
+use Rattle.mb_turn.proofs.RunningMoves.{running-begun, beside-begun}
+use Rattle.mb_turn.proofs.RunningSteps.{running-taken}
+use Rattle.mb_turn.proofs.TurningLemmas.{turning-begun}
+
+-- the claim's log goes on by the count alone, and its home is another one in between
+module _ (h : Hold) (after : Contents) (counted : Claim (Box Contents))
+    (one : hold_of counted ≡ record h { home = after; log = Took h.actor 1 ∷ h.log }) (new : Contents) (reading : ℕ)
+    (b : Begins h.home new reading) where
+  abbrev taken_hold : Hold
+  taken_hold = record h { log = Took h.actor 1 ∷ h.log }
+
+  pub same-begun : SameRun h (record (hold_of counted) { home = new })
+  same-begun =
+      subst (λ (x : Hold). SameRun h (record x { home = new })) (sym one)
+      (record {
+        actor = refl;
+        who = ap (λ (x : Seen). x.who) b.taken.adds;
+        before = refl;
+        counted = counted-more _ _ (total (counted_off h.actor) h.log) _ (one-more new.take.taken h.home.take.taken b.envelope b.took)
+            (counts-one h.actor);
+      })
+
+  pub turning-counted : (turn : Turn) → IsTurning h turn → next_front h.home.cell.who h.home.cell.journal ≡ None →
+      IsTurning (record (hold_of counted) { home = new }) (record turn { envelopes = turn.envelopes + 1 })
+  turning-counted turn t none =
+      subst (λ (x : Hold). IsTurning (record x { home = new }) (record turn { envelopes = turn.envelopes + 1 })) (sym one)
+      (turning-begun taken_hold new turn (record { turns = t.turns; system = t.system; actor = t.actor }) reading b none)
+
+  module _ (gives : ℕ → Moment → Reply → Type 0) (origin : Origin (Box Contents)) (seen : List Sight) (r : IsRunning gives origin [] seen h)
+      (last : DrainedLast h.actor h.log) where
+    running_taken : IsRunning gives origin [] seen taken_hold
+    running_taken = running-taken gives origin seen h [] 1 (inl last) r
+
+    pub running-counted-begun : LeadsOn h.home new → IsSettled (gives h.actor) new.cell.acts new →
+        IsRunning gives origin new.cell.acts seen (record (hold_of counted) { home = new })
+    running-counted-begun leads settled =
+        subst (λ (x : Hold). IsRunning gives origin new.cell.acts seen (record x { home = new })) (sym one)
+        (running-begun gives origin seen taken_hold new running_taken reading b leads settled)
+
+    pub beside-counted-begun : IsBeside h → h.status.closed ≡ false → count h.home.cell.who h.home.cell.journal ≡ 0 →
+        IsBeside (record (hold_of counted) { home = new })
+    beside-counted-begun s open_yet none =
+        subst (λ (x : Hold). IsBeside (record x { home = new })) (sym one)
+        (beside-begun gives origin seen taken_hold new running_taken (beside-log h s (Took h.actor 1 ∷ h.log)) open_yet reading none b)
