@@ -1,3 +1,5 @@
 pub mod Enrolled
 pub mod Members
 pub mod Orders
+pub mod Beside
+pub mod Faults

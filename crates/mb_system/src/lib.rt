@@ -5,11 +5,14 @@
 //! were answered after it.
 #![tactic(auto)]
 
+mod beside;
 mod end;
 mod failure;
 mod going;
+mod job;
 mod order;
 mod quiet;
+mod run;
 mod sender;
 mod system;
 mod work;
@@ -17,6 +20,7 @@ mod work;
 pub use end::WorkerEnd;
 pub use failure::RunError;
 pub use going::Going;
+pub use job::Job;
 pub use order::{Order, What};
 pub use sender::Sender;
 pub use system::System;
