@@ -5,3 +5,6 @@ pub mod Building
 pub mod Opened
 pub mod Founded
 pub mod Led
+pub mod Crossing
+pub mod Sides
+pub mod Breaking

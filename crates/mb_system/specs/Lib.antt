@@ -5,3 +5,5 @@ pub mod Begun
 pub mod Founded
 pub mod Unbuilt
 pub mod Orders
+pub mod Beside
+pub mod Faults

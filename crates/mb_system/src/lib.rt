@@ -5,15 +5,18 @@
 //! were answered after it.
 #![tactic(auto)]
 
+mod beside;
 mod build;
 mod built;
 mod end;
 mod failure;
 mod founding;
 mod going;
+mod job;
 mod opening;
 mod order;
 mod quiet;
+mod run;
 mod sender;
 mod system;
 mod work;
@@ -23,6 +26,7 @@ pub use built::Built;
 pub use end::WorkerEnd;
 pub use failure::RunError;
 pub use going::Going;
+pub use job::Job;
 pub use order::{Order, What};
 pub use sender::Sender;
 pub use system::System;
