@@ -1,3 +1,4 @@
 pub mod Enrolled
 pub mod Members
+pub mod Belonging
 pub mod Orders

@@ -1,5 +1,5 @@
 -- Who belongs to a system (this project's own profile: in Akka a dispatcher knows its own threads alone).
-use Rattle.std.specs.Prelude.{◌≡◌, ◌+◌, drop, map, vec_len}
+use Rattle.std.specs.Prelude.{◌≡◌, ℕ, ◌+◌, List, drop, map, vec_len}
 use Rattle.std.specs.Global.{Box}
 use Rattle.mb_gate.specs.declared.gates.Gates.{Gates}
 use Rattle.mb_gate.specs.Names.{actors_of, first_of}
@@ -13,6 +13,7 @@ use Rattle.mb_wake.specs.declared.waker.Waker.{Waker}
 use Rattle.mb_ways.specs.Ways.{pushed_first}
 use Rattle.mb_ways.specs.declared.end_way.EndWay.{EndWay}
 use Rattle.mb_ways.specs.declared.feed_way.FeedWay.{FeedWay}
+use Rattle.mb_system.specs.declared.end.WorkerEnd.{WorkerEnd}
 
 -- the end's pass and its way into the pool are of these gates
 abbrev pub IsEndOf : Gates (Box Contents) → Waker (Box Contents) (EndWay (Box Contents)) → Type 0
@@ -32,3 +33,8 @@ end_caller waker = caller_of (λ (way : EndWay (Box Contents)). pushed_first (lo
 abbrev pub sender_caller : Waker (Box Contents) (FeedWay (Box Contents)) → Caller (Box Contents)
 sender_caller waker = caller_of (λ (way : FeedWay (Box Contents)). pushed_first (looks way.feed))
     (λ (way : FeedWay (Box Contents)). map (λ claim. claim.value) way.refused) waker
+
+module _ {A K : Type 0} where
+  -- the numbers of these ends
+  abbrev pub ends_numbers : List (WorkerEnd A K) → List ℕ
+  ends_numbers = map (λ (e : WorkerEnd A K). e.number)

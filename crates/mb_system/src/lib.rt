@@ -5,6 +5,7 @@
 //! were answered after it.
 #![tactic(auto)]
 
+mod built;
 mod end;
 mod failure;
 mod going;
@@ -14,6 +15,7 @@ mod sender;
 mod system;
 mod work;
 
+pub use built::Built;
 pub use end::WorkerEnd;
 pub use failure::RunError;
 pub use going::Going;
