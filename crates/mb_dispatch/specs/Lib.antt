@@ -1,0 +1,2 @@
+pub mod Belonging
+pub mod Refused
