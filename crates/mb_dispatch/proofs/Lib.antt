@@ -1,3 +1,7 @@
+pub mod Sent
+pub mod Chosen
+pub mod Rolls
+pub mod Story
 pub mod Places
 pub mod Parts
 pub mod Gathered
