@@ -1,2 +1,9 @@
 pub mod Looking
 pub mod Sending
+pub mod Captured
+pub mod Crossing
+pub mod Right
+pub mod Building
+pub mod Opened
+pub mod Founded
+pub mod Started

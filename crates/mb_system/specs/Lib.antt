@@ -1,3 +1,6 @@
 pub mod Enrolled
 pub mod Members
+pub mod Belonging
+pub mod Begun
+pub mod Unbuilt
 pub mod Orders

@@ -1,5 +1,5 @@
 -- Who belongs to a system (this project's own profile: in Akka a dispatcher knows its own threads alone).
-use Rattle.std.specs.Prelude.{◌≡◌, ◌+◌, drop, map, vec_len}
+use Rattle.std.specs.Prelude.{◌≡◌, ℕ, ◌+◌, ◌<◌, false, List, All, drop, map, vec_len}
 use Rattle.std.specs.Global.{Box}
 use Rattle.mb_gate.specs.declared.gates.Gates.{Gates}
 use Rattle.mb_gate.specs.Names.{actors_of, first_of}
@@ -9,10 +9,13 @@ use Rattle.mb_pool.specs.Places.{gates_of, looks}
 use Rattle.mb_send.specs.Sends.{receiving_queues}
 use Rattle.mb_send.specs.declared.sender.Sender.{Sender}
 use Rattle.mb_turn.specs.Caller.{Caller, caller_of, IsWakerOf}
+use Rattle.mb_wake.specs.Owed.{is_owed}
 use Rattle.mb_wake.specs.declared.waker.Waker.{Waker}
 use Rattle.mb_ways.specs.Ways.{pushed_first}
 use Rattle.mb_ways.specs.declared.end_way.EndWay.{EndWay}
 use Rattle.mb_ways.specs.declared.feed_way.FeedWay.{FeedWay}
+use Rattle.mb_system.specs.declared.end.WorkerEnd.{WorkerEnd}
+use Rattle.mb_system.specs.declared.job.Job.{Job}
 
 -- the end's pass and its way into the pool are of these gates
 abbrev pub IsEndOf : Gates (Box Contents) → Waker (Box Contents) (EndWay (Box Contents)) → Type 0
@@ -32,3 +35,19 @@ end_caller waker = caller_of (λ (way : EndWay (Box Contents)). pushed_first (lo
 abbrev pub sender_caller : Waker (Box Contents) (FeedWay (Box Contents)) → Caller (Box Contents)
 sender_caller waker = caller_of (λ (way : FeedWay (Box Contents)). pushed_first (looks way.feed))
     (λ (way : FeedWay (Box Contents)). map (λ claim. claim.value) way.refused) waker
+
+module _ {A K : Type 0} where
+  -- the numbers of these ends
+  abbrev pub ends_numbers : List (WorkerEnd A K) → List ℕ
+  ends_numbers = map (λ (e : WorkerEnd A K). e.number)
+
+  -- all these ends are of the gates; and so are the senders of these jobs
+  abbrev pub AreEndsOf : Gates (Box Contents) → List (WorkerEnd A K) → Type 0
+  AreEndsOf gates = All (λ (e : WorkerEnd A K). IsEndOf gates e.waker)
+
+  abbrev pub AreJobsOf : Gates (Box Contents) → List (Job A K) → Type 0
+  AreJobsOf gates = All (λ (j : Job A K). IsSenderOf gates j.sender.inner)
+
+  -- none of these ends owes anybody a look
+  abbrev pub ArePaid : Gates (Box Contents) → List (WorkerEnd A K) → Type 0
+  ArePaid gates = All (λ (e : WorkerEnd A K). (id : ℕ) → id < actors_of gates → is_owed e.waker.owed id ≡ false)

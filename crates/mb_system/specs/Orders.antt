@@ -9,10 +9,12 @@ use Rattle.mb_msg.specs.declared.system.SysMsg.TheVariants.{Terminate}
 use Rattle.mb_fates.specs.declared.posting.Posting.{Posting}
 use Rattle.mb_fates.specs.Accepted.{accepted}
 use Rattle.mb_gate.specs.Names.{actors_of, known_by}
-use Rattle.mb_gate.specs.View.{Said}
+use Rattle.mb_gate.specs.View.{Said, View}
 use Rattle.mb_gate.specs.declared.gates.Gates.{Gates}
 use Rattle.mb_home.specs.Contents.{Contents}
 use Rattle.mb_wake.specs.Owed.{is_owed}
+use Rattle.mb_system.specs.Members.{IsSenderOf}
+use Rattle.mb_system.specs.declared.job.Job.{Job}
 use Rattle.mb_system.specs.declared.order.Order.{Order}
 use Rattle.mb_system.specs.declared.order.What.{What}
 use Rattle.mb_system.specs.declared.order.What.TheVariants.{Tell, Stop}
@@ -56,3 +58,15 @@ module _ {A K : Type 0} where
   -- nobody is owed a look by it
   abbrev pub OwesNobody : Gates (Box Contents) → Sender A K → Type 0
   OwesNobody gates s = (id : ℕ) → id < actors_of gates → is_owed s.inner.waker.owed id ≡ false
+
+  -- the job was done, by the sender that it had
+  pub record IsDone (gates : Gates (Box Contents)) (old new : Job A K) : Type 0 where
+    pub sent : HasSent old.sends.items old.sender new.sender
+    pub nobody : OwesNobody gates new.sender
+    pub sends : new.sends ≡ old.sends
+
+  -- so was each of these
+  abbrev pub AreDone : Gates (Box Contents) → List (Job A K) → List (Job A K) → Type 0
+  AreDone gates [] [] = Unit {0}
+  AreDone gates (old ∷ before) (new ∷ after) = IsDone gates old new × AreDone gates before after
+  AreDone gates _ _ = ⊥

@@ -1,0 +1,5 @@
+pub mod Places
+pub mod Parts
+pub mod Gathered
+pub mod Settling
+pub mod Bringing

@@ -1,0 +1,52 @@
+-- What was seen is a part of what is known when all that was seen is taken over.
+use Rattle.std.proofs.Common.{◌≡◌, ℕ, List, [], ◌∷◌, ◌++◌, append_assoc, append-nil, refl, sym, ap, ◌∙◌, subst}
+use Rattle.std.specs.Prelude.{All}
+use Rattle.std.proofs.lemmas.List.Elements.{All-push, All-weaker}
+use Rattle.mb_gate.specs.Names.{known_by, gates_id, pass_id}
+use Rattle.mb_gate.specs.Rule.{IsPart}
+use Rattle.mb_gate.specs.View.{Sight, View, taking_over}
+use Rattle.mb_rule.specs.Seen.{Each}
+
+module _ {A : Type 0} where
+  pub part-same : (xs : List A) → IsPart xs xs
+  part-same xs = record { before = []; after = []; joined = sym (append-nil xs) }
+
+  pub part-trans : (xs ys zs : List A) → IsPart xs ys → IsPart ys zs → IsPart xs zs
+  part-trans xs ys zs p q = record {
+    before = q.before ++ p.before;
+    after = p.after ++ q.after;
+    joined = q.joined ∙ ap (λ l. q.before ++ (l ++ q.after)) p.joined
+        ∙ ap (λ l. q.before ++ l) (append_assoc p.before (xs ++ p.after) q.after ∙ ap (λ l. p.before ++ l) (append_assoc xs p.after q.after))
+        ∙ sym (append_assoc q.before p.before (xs ++ (p.after ++ q.after)));
+  }
+
+  pub part-front : (xs ys : List A) → IsPart xs (xs ++ ys)
+  part-front xs ys = record { before = []; after = ys; joined = refl }
+
+  pub part-back : (xs ys : List A) → IsPart ys (xs ++ ys)
+  part-back xs ys = record { before = xs; after = []; joined = ap (λ l. xs ++ l) (sym (append-nil ys)) }
+
+  each-back : (P : A → Type 0) (xs ys : List A) → Each P (xs ++ ys) → Each P ys
+  each-back P [] ys all = all
+  each-back P (x ∷ xs) ys all = each-back P xs ys all.1
+
+  each-front : (P : A → Type 0) (xs ys : List A) → Each P (xs ++ ys) → Each P xs
+  each-front P [] ys all = tt
+  each-front P (x ∷ xs) ys all = (all.0, each-front P xs ys all.1)
+
+  pub each-part : (P : A → Type 0) (xs ys : List A) → IsPart xs ys → Each P ys → Each P xs
+  each-part P xs ys part all = each-front P xs part.after (each-back P part.before (xs ++ part.after) (subst (Each P) part.joined all))
+
+-- what these have seen is a part of this
+module _ {X : Type 0} (log : X → List Sight) where
+  abbrev pub AllSeen : List X → List Sight → Type 0
+  AllSeen xs all = All (λ (x : X). IsPart (log x) all) xs
+
+  pub seen-by : (xs : List X) (old new : List Sight) → IsPart old new → AllSeen xs old → AllSeen xs new
+  seen-by xs old new part all = All-weaker (λ x. IsPart (log x) old) (λ x. IsPart (log x) new) (λ x p. part-trans (log x) old new p part) xs all
+
+  pub seen-more : (xs : List X) (x : X) (old new : List Sight) → new ≡ log x ++ old → AllSeen xs old → AllSeen (xs ++ x ∷ []) new
+  seen-more xs x old new is all =
+      All-push (λ y. IsPart (log y) new) xs x
+      (seen-by xs old new (subst (IsPart old) (sym is) (part-back (log x) old)) all)
+      (subst (IsPart (log x)) (sym is) (part-front (log x) old))

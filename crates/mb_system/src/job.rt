@@ -1,0 +1,49 @@
+//! What a sender is to send in a run.
+ghost use Rattle.std.specs.Prelude.{◌≡◌, OnOk};
+ghost use Rattle.mb_system.specs.Members.{IsSenderOf};
+ghost use Rattle.mb_system.specs.Orders.{HasSent, OwesNobody};
+
+use crate::failure::RunError;
+use crate::order::Order;
+use crate::sender::Sender;
+use crate::system::System;
+use mb_actor::{Actor, Behaviours};
+use std::sync::Wait;
+
+/// What one sender is to send, in order.
+#[derive(Drop)]
+pub struct Job<A: Actor, K: Behaviours> {
+    /// The sender.
+    pub sender: Sender<A, K>,
+    /// What it is to send.
+    pub sends: Vec<Order>,
+}
+
+impl<A: Actor, K: Behaviours> Job<A, K> {
+    /// Sends all, in order, and then looks again after each actor that the sender owes a look: the job is closed then.
+    pub(crate) fn do_all<R: Wait>(&mut self, rt: &R, system: &System<A, K>) -> Result<(), RunError>
+        requires ours { IsSenderOf system.now.gates self.old.sender.inner }
+        ensures ours { IsSenderOf system.now.gates self.new.sender.inner }
+        ensures sends { self.new.sends ≡ self.old.sends }
+        ensures sent { OnOk result (HasSent self.old.sends.items self.old.sender self.new.sender × OwesNobody system.now.gates self.new.sender) }
+    {
+        let outcome = send_and_pay(rt, system, &mut self.sender, &self.sends);
+        system.going.close_job();
+        outcome
+    }
+}
+
+// Sends all, and leaves nobody who is owed a look.
+fn send_and_pay<A: Actor, K: Behaviours, R: Wait>(
+    rt: &R,
+    system: &System<A, K>,
+    sender: &mut Sender<A, K>,
+    orders: &[Order],
+) -> Result<(), RunError>
+    requires ours { IsSenderOf system.now.gates sender.old.inner }
+    ensures ours { IsSenderOf system.now.gates sender.new.inner }
+    ensures sent { OnOk result (HasSent orders.now sender.old sender.new × OwesNobody system.now.gates sender.new) }
+{
+    sender.send_all(rt, system, orders)?;
+    sender.pay(rt, system)
+}
