@@ -1,4 +1,6 @@
 //! What the senders of a scenario are to send.
+ghost use Rattle.std.specs.Prelude.{◌≡◌, IfOk, map};
+
 use mb_actor::{Actor, Behaviours};
 use mb_dispatch::{Job, Order, Sender, What};
 use mb_reader::{Sending, What as Said};
@@ -9,20 +11,22 @@ pub fn jobs_of<A: Actor, K: Behaviours>(
     alloc: Global,
     senders: Vec<Sender<A, K>>,
     sends: &[Sending],
-) -> Result<Vec<Job<A, K>>, AllocError> {
-    let mut jobs = Vec::with_capacity(alloc, senders.len())?;
+) -> Result<Vec<Job<A, K>>, AllocError>
+    ensures { IfOk result (λ jobs. map (λ job. job.sender) jobs.items ≡ senders.items) }
+{
+    let mut jobs = Vec::new(alloc);
     for sender in senders {
-        let sends = orders_of(alloc, jobs.len() as u32, sends)?;
+        let sends = orders_of(alloc, jobs.len(), sends)?;
         jobs.push(Job { sender, sends })?;
     }
     Ok(jobs)
 }
 
 /// All that this sender is to send, in order.
-fn orders_of(alloc: Global, from: u32, sends: &[Sending]) -> Result<Vec<Order>, AllocError> {
+fn orders_of(alloc: Global, from: usize, sends: &[Sending]) -> Result<Vec<Order>, AllocError> {
     let mut orders = Vec::new(alloc);
     for sending in sends {
-        if sending.from == from {
+        if sending.from as usize == from {
             repeat(&mut orders, order_of(sending), sending.times)?;
         }
     }
@@ -51,8 +55,10 @@ fn order_of(sending: &Sending) -> Order {
 pub fn senders_of<A: Actor, K: Behaviours>(
     alloc: Global,
     jobs: Vec<Job<A, K>>,
-) -> Result<Vec<Sender<A, K>>, AllocError> {
-    let mut senders = Vec::with_capacity(alloc, jobs.len())?;
+) -> Result<Vec<Sender<A, K>>, AllocError>
+    ensures { IfOk result (λ senders. senders.items ≡ map (λ job. job.sender) jobs.items) }
+{
+    let mut senders = Vec::new(alloc);
     for job in jobs {
         let Job { sender, sends: _ } = job;
         senders.push(sender)?;

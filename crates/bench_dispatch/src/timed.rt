@@ -1,4 +1,7 @@
 //! A run that is timed.
+ghost use Rattle.mb_build.specs.Behaved.{AreBehaved};
+ghost use Rattle.mb_system.specs.Belonging.{BelongsTogether};
+
 use crate::jobs::{jobs_of, senders_of};
 use mb_actor::{Actor, Behaviours};
 use mb_dispatch::{Built, System, finish};
@@ -24,27 +27,52 @@ pub fn run_timed<A: Actor + Send, K: Behaviours + Send, R: Clock + Threads + Wai
     plan: Plan,
     actors: Vec<A>,
     sends: &[Sending],
-) -> Option<Timed> {
-    let Ok(built) = System::<A, K>::build(rt, alloc, plan, actors) else {
-        return None;
-    };
+) -> Option<Timed>
+    requires behaved { AreBehaved A.content A.after A.gives K.after K.gives 1 actors.items }
+{
+    match System::<A, K>::build(rt, alloc, plan, actors) {
+        Ok(built) => run_built(rt, alloc, built, sends),
+        Err(_) => None,
+    }
+}
+
+fn run_built<A: Actor + Send, K: Behaviours + Send, R: Clock + Threads + Wait + Sync>(
+    rt: &R,
+    alloc: Global,
+    built: Built<A, K>,
+    sends: &[Sending],
+) -> Option<Timed>
+    requires together { BelongsTogether built }
+{
     let Built {
         system,
         mut ends,
         senders,
     } = built;
-    let mut jobs = jobs_of(alloc, senders, sends).ok()?;
+    let Ok(mut jobs) = jobs_of(alloc, senders, sends) else {
+        return None;
+    };
+    let workers = ends.as_mut_slice();
+    let tasks = jobs.as_mut_slice();
     let begin = Instant::now(rt).ok();
-    system.run(rt, &mut ends, &mut jobs).ok()?;
-    let time = begin.and_then(|begin| begin.elapsed(rt).ok());
-    let senders = senders_of(alloc, jobs).ok()?;
+    match system.run(rt, workers, tasks) {
+        Ok(()) => {}
+        Err(_) => return None,
+    }
+    let time = match begin {
+        Some(begin) => begin.elapsed(rt).ok(),
+        None => None,
+    };
+    let Ok(senders) = senders_of(alloc, jobs) else {
+        return None;
+    };
     let built = Built {
         system,
         ends,
         senders,
     };
-    let Ok(report) = finish(rt, built) else {
-        return None;
-    };
-    Some(Timed { report, time })
+    match finish(rt, built) {
+        Ok(report) => Some(Timed { report, time }),
+        Err(_) => None,
+    }
 }

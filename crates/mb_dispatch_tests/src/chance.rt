@@ -1,6 +1,5 @@
 //! Plans, actors and sends by chance. Kind 1 adds; a kind of a greater number may tell one of a less, so that each run ends.
 use crate::dice::Dice;
-use crate::player::Player;
 use mb_dispatch::{Order, What};
 use mb_journal::{Pattern, Strategy};
 use mb_msg::{ActorId, Body, Directive};
@@ -8,11 +7,11 @@ use mb_plan::{ActorPlan, Kind, Plan, Pool, Rank};
 use mb_script::{Hooks, Operation, Row, Script};
 use std::alloc::{AllocError, Global};
 
-/// A small plan with its actors, and what each sender outside is to send.
+/// A small plan, the scripts of its actors, and what each sender outside is to send.
 #[derive(Drop)]
 pub struct Chance {
     pub plan: Plan,
-    pub players: Vec<Player>,
+    pub scripts: Vec<Script>,
     pub sends: Vec<Vec<Order>>,
 }
 
@@ -21,10 +20,10 @@ pub fn plan_by_chance(alloc: Global, seed: u64, pool: Pool) -> Result<Chance, Al
     let mut dice = Dice::new(seed);
     let count = 1 + dice.roll(6);
     let mut actors = Vec::new(alloc);
-    let mut players = Vec::new(alloc);
+    let mut scripts = Vec::new(alloc);
     for number in 1..=count {
         actors.push(actor_plan(alloc, &mut dice, number)?)?;
-        players.push(Player::new(script(alloc, &mut dice, count)?))?;
+        scripts.push(script(alloc, &mut dice, count)?)?;
     }
     let senders = 1 + dice.roll(4);
     let mut sends = Vec::new(alloc);
@@ -41,7 +40,7 @@ pub fn plan_by_chance(alloc: Global, seed: u64, pool: Pool) -> Result<Chance, Al
     };
     Ok(Chance {
         plan,
-        players,
+        scripts,
         sends,
     })
 }

@@ -63,9 +63,11 @@ fn count_in_a_crowd<R: Abort + Threads + Wait + Sync>(
     pool: &str,
 ) -> Result<(), Fail> {
     let scenario = scenario(alloc, pool)?;
-    let mut stage = Stage::new(rt, alloc, scenario.as_str())?;
-    assert_eq!(rt; stage.jobs(rt)?.as_str(), "done");
-    assert_eq!(rt; stage.finish(rt)?.as_str(), report(alloc)?.as_str());
+    let mut stage = Stage::new(rt, alloc, scenario.as_str()).ok_or("no system")?;
+    let run = stage.jobs(rt).ok_or("no run")?;
+    assert_eq!(rt; run.as_str(), "done");
+    let found = stage.finish(rt).ok_or("no end")?;
+    assert_eq!(rt; found.as_str(), report(alloc)?.as_str());
     Ok(())
 }
 

@@ -1,5 +1,5 @@
-//! What must be true of each report, by code that shares nothing with the program's: each envelope stands once, and in its
-//! sender's order; what is dead or left is so for a reason.
+//! What must be true of each report, by code that shares nothing with the program's: each envelope stands once, as it was told,
+//! and in its sender's order; what is dead or left is so for a reason.
 use crate::told::{Told, told_by_an_actor, told_outside};
 use mb_actor::Phase;
 use mb_dispatch::Order;
@@ -7,7 +7,6 @@ use mb_journal::Arrival;
 use mb_msg::{ActorId, Body, DeadLetter, Envelope, SenderId, Why};
 use mb_report::{ActorReport, Report, SenderReport};
 use std::alloc::{AllocError, Global};
-use std::test::Fail;
 
 /// What a mailbox does with the order of envelopes, and whether it has a bound.
 #[derive(Clone, Copy, PartialEq, Eq)]
@@ -18,61 +17,72 @@ pub enum Mail {
     ControlFirst,
 }
 
+/// What a report says of its actors: which have ended, and what became of the envelopes to each. The mailboxes of those from
+/// number 1 on.
+#[derive(Drop)]
+struct Receivers {
+    ended: Vec<bool>,
+    fates: Vec<Vec<Envelope>>,
+    mails: Vec<Mail>,
+}
+
 /// The first number of a sender outside.
 const OUTSIDE: u32 = 64;
 
-/// Goes on where it is so.
-pub fn must(is_so: bool, what: &'static str) -> Result<(), Fail> {
-    if is_so { Ok(()) } else { Err(Fail::from(what)) }
-}
-
-/// Holds each sender's envelopes to what it told, where the mailboxes of the actors from number 1 on are of these kinds.
-pub fn hold_envelopes(
+/// Whether each sender's envelopes stand as they must, where the mailboxes of the actors from number 1 on are of these kinds, and
+/// the senders outside sent this.
+pub fn are_envelopes_right(
     alloc: Global,
     report: &Report,
-    mails: &[Mail],
+    mails: Vec<Mail>,
     sends: &[Vec<Order>],
-) -> Result<(), Fail> {
+) -> Result<bool, AllocError> {
+    let receivers = receivers_of(alloc, report, mails)?;
+    let all = all_told(alloc, report, sends)?;
+    if report.senders.len() != all.len() {
+        return Ok(false);
+    }
+    for place in 0..all.len() {
+        let (by, told) = &all[place];
+        let mut stood = none_of(alloc, told.len())?;
+        if !is_sender_right(&receivers, &report.senders[place], *by, told, &mut stood) {
+            return Ok(false);
+        }
+    }
+    Ok(true)
+}
+
+fn receivers_of(alloc: Global, report: &Report, mails: Vec<Mail>) -> Result<Receivers, AllocError> {
+    let mut ended = Vec::new(alloc);
     let mut fates = Vec::new(alloc);
-    let mut actors = 0;
     for actor in &report.actors {
+        ended.push(actor.phase == Phase::Ended)?;
         fates.push(fates_of(alloc, actor)?)?;
     }
-    for (sender, told) in report
-        .senders
-        .iter()
-        .zip(all_told(alloc, report, sends)?.iter())
-    {
-        let by = number_of(actors, report.actors.len());
-        hold_sender(alloc, report, mails, &fates, SenderId(by), sender, told)?;
-        actors += 1;
-    }
-    must(
-        report.senders.len() == report.actors.len() + sends.len(),
-        "a sender is missing",
-    )
+    Ok(Receivers {
+        ended,
+        fates,
+        mails,
+    })
 }
 
-/// The number of the sender at this place of a report on so many actors.
-fn number_of(place: u32, actors: usize) -> u32 {
-    let actors = actors as u32;
-    if place < actors {
-        place
-    } else {
-        OUTSIDE.wrapping_add(place - actors)
-    }
-}
-
-/// What all told, the actors first.
-fn all_told(alloc: Global, report: &Report, sends: &[Vec<Order>]) -> Result<Vec<Told>, AllocError> {
+/// What each sender told, the actors first.
+fn all_told(
+    alloc: Global,
+    report: &Report,
+    sends: &[Vec<Order>],
+) -> Result<Vec<(SenderId, Told)>, AllocError> {
     let mut all = Vec::new(alloc);
-    let mut number = 0;
+    let mut number: u32 = 0;
     for actor in &report.actors {
-        all.push(told_by_an_actor(alloc, ActorId(number), &actor.journal)?)?;
-        number += 1;
+        let told = told_by_an_actor(alloc, ActorId(number), &actor.journal)?;
+        all.push((SenderId(number), told))?;
+        number = number.wrapping_add(1);
     }
+    let mut number = OUTSIDE;
     for orders in sends {
-        all.push(told_outside(alloc, orders)?)?;
+        all.push((SenderId(number), told_outside(alloc, orders)?))?;
+        number = number.wrapping_add(1);
     }
     Ok(all)
 }
@@ -92,74 +102,90 @@ fn fates_of(alloc: Global, actor: &ActorReport) -> Result<Vec<Envelope>, AllocEr
     Ok(fates)
 }
 
+/// Of so many none has stood yet.
+fn none_of(alloc: Global, many: usize) -> Result<Vec<bool>, AllocError> {
+    let mut none = Vec::new(alloc);
+    for _ in 0..many {
+        none.push(false)?;
+    }
+    Ok(none)
+}
+
 /// Each envelope that the sender told stands once, among the fates of its receiver or the dead letters; where order is kept, in
 /// that of the numbers.
-fn hold_sender(
-    alloc: Global,
-    report: &Report,
-    mails: &[Mail],
-    fates: &[Vec<Envelope>],
-    by: SenderId,
+fn is_sender_right(
+    receivers: &Receivers,
     sender: &SenderReport,
-    told: &Told,
-) -> Result<(), Fail> {
-    must(sender.sent == told.len() as u64, "another count is told")?;
-    let mut stood = Vec::new(alloc);
-    for _ in 0..told.len() {
-        stood.push(false)?;
+    by: SenderId,
+    told: &[(ActorId, Body)],
+    stood: &mut [bool],
+) -> bool {
+    if sender.sent != told.len() as u64 {
+        return false;
     }
-    let mut receiver = 0;
-    for fates in fates {
-        let mail = mail_of(mails, receiver);
-        hold_fates(fates, by, ActorId(receiver), mail, told, &mut stood)?;
-        receiver += 1;
+    for receiver in 0..receivers.fates.len() {
+        let mail = mail_of(&receivers.mails, receiver);
+        if !are_fates_right(&receivers.fates[receiver], by, receiver, mail, told, stood) {
+            return false;
+        }
     }
     for letter in &sender.dead {
-        must(letter.envelope.by == by, "another's letter")?;
-        stand(&letter.envelope, told, &mut stood)?;
-        hold_letter(report, mails, letter)?;
+        if letter.envelope.by != by || !stands(&letter.envelope, told, stood) {
+            return false;
+        }
+        if !is_letter_right(receivers, letter) {
+            return false;
+        }
     }
-    must(stood.iter().all(|stood| *stood), "an envelope is lost")
+    have_all_stood(stood)
+}
+
+fn have_all_stood(stood: &[bool]) -> bool {
+    for has_stood in stood {
+        if !*has_stood {
+            return false;
+        }
+    }
+    true
 }
 
 /// The kind of an actor's mailbox; nobody sends to the guardian.
-fn mail_of(mails: &[Mail], actor: u32) -> Mail {
-    match mails.get((actor as usize).wrapping_sub(1)) {
+fn mail_of(mails: &[Mail], actor: usize) -> Mail {
+    match mails.get(actor.wrapping_sub(1)) {
         Some(mail) => *mail,
         None => Mail::InOrder,
     }
 }
 
 /// The sender's envelopes stand each once among what became of those to this receiver, and in order.
-fn hold_fates(
+fn are_fates_right(
     fates: &[Envelope],
     by: SenderId,
-    receiver: ActorId,
+    receiver: usize,
     mail: Mail,
-    told: &Told,
+    told: &[(ActorId, Body)],
     stood: &mut [bool],
-) -> Result<(), Fail> {
-    let mut next = 0;
-    let mut next_control = 0;
+) -> bool {
+    let mut next = [0, 0];
     for envelope in fates {
         if envelope.by == by {
-            must(envelope.to == receiver, "another's envelope")?;
-            stand(envelope, told, stood)?;
-            let is_apart = mail == Mail::ControlFirst && is_control(envelope.body);
-            let least = if is_apart { next_control } else { next };
-            must(
-                mail == Mail::ByRank || least <= envelope.number,
-                "an envelope out of order",
-            )?;
-            let after = envelope.number.wrapping_add(1);
-            if is_apart {
-                next_control = after;
-            } else {
-                next = after;
+            if envelope.to.0 as usize != receiver || !stands(envelope, told, stood) {
+                return false;
+            }
+            if !comes_next(&mut next, mail, envelope) {
+                return false;
             }
         }
     }
-    Ok(())
+    true
+}
+
+/// Whether the envelope may come now; of control messages that go first the number of the next stands apart.
+fn comes_next(next: &mut [u64; 2], mail: Mail, envelope: &Envelope) -> bool {
+    let lane = usize::from(mail == Mail::ControlFirst && is_control(envelope.body));
+    let least = next[lane];
+    next[lane] = envelope.number.wrapping_add(1);
+    mail == Mail::ByRank || least <= envelope.number
 }
 
 fn is_control(body: Body) -> bool {
@@ -170,30 +196,23 @@ fn is_control(body: Body) -> bool {
 }
 
 /// The envelope is as it was told, and did not stand before.
-fn stand(envelope: &Envelope, told: &Told, stood: &mut [bool]) -> Result<(), Fail> {
+fn stands(envelope: &Envelope, told: &[(ActorId, Body)], stood: &mut [bool]) -> bool {
     let place = envelope.number as usize;
-    let (to, body) = told.get(place).ok_or("an envelope that was not told")?;
-    must(
-        envelope.to == *to && envelope.body == *body,
-        "another envelope than was told",
-    )?;
-    let stood = stood.get_mut(place).ok_or("an envelope that was not told")?;
-    must(!*stood, "an envelope twice")?;
-    *stood = true;
-    Ok(())
+    if place >= told.len() || place >= stood.len() || stood[place] {
+        return false;
+    }
+    stood[place] = true;
+    let (to, body) = told[place];
+    envelope.to == to && envelope.body == body
 }
 
 /// A letter is dead as closed where its receiver has ended, and as full where that has a bound.
-fn hold_letter(report: &Report, mails: &[Mail], letter: &DeadLetter) -> Result<(), Fail> {
-    let receiver = letter.envelope.to.0;
-    let actor = report.actors.get(receiver as usize).ok_or("no receiver")?;
+fn is_letter_right(receivers: &Receivers, letter: &DeadLetter) -> bool {
+    let to = letter.envelope.to.0 as usize;
     match letter.why {
-        Why::Closed => must(actor.phase == Phase::Ended, "an open receiver"),
-        Why::Full => must(
-            mail_of(mails, receiver) == Mail::Bounded,
-            "a receiver without a bound",
-        ),
-        Why::NoMemory => Ok(()),
-        Why::Cleaned => Err(Fail::from("a letter of the clean-up")),
+        Why::Closed => to < receivers.ended.len() && receivers.ended[to],
+        Why::Full => mail_of(&receivers.mails, to) == Mail::Bounded,
+        Why::NoMemory => true,
+        Why::Cleaned => false,
     }
 }

@@ -5,13 +5,19 @@
 #[cfg(test)]
 mod chance;
 #[cfg(test)]
+mod company;
+#[cfg(test)]
 mod crowd;
 #[cfg(test)]
 mod dice;
 #[cfg(test)]
+mod ending;
+#[cfg(test)]
 mod guest;
 #[cfg(test)]
 mod held;
+#[cfg(test)]
+mod joint;
 #[cfg(test)]
 mod lawful;
 #[cfg(test)]
@@ -20,6 +26,8 @@ mod lives;
 mod mailboxes;
 #[cfg(test)]
 mod meeting;
+#[cfg(test)]
+mod outside;
 #[cfg(test)]
 mod plans;
 #[cfg(test)]
@@ -42,5 +50,7 @@ mod thousand;
 mod throughput;
 #[cfg(test)]
 mod told;
+#[cfg(test)]
+mod troupe;
 #[cfg(test)]
 mod words;

@@ -1,7 +1,9 @@
 //! What actors show from inside: two that wait for one another while they are called, and one whose journal is full.
+use crate::company::Company;
+use crate::ending::{Refusal, Unfinished};
 use crate::guest::{Guest, Hall, Silent};
 use crate::plans::{Odd, PLAIN, guests, plan_of};
-use mb_dispatch::{Built, FinishError, Job, Order, RunError, System, What, finish};
+use mb_dispatch::{Order, RunError, What};
 use mb_msg::{ActorId, Body};
 use mb_plan::Pool;
 use std::alloc::{AllocError, Global};
@@ -11,30 +13,29 @@ use std::test::Fail;
 use std::thread::Threads;
 
 /// The system of this plan, whose guests are of this hall.
-fn built<R: Wait>(
+fn invite<R: Wait>(
     rt: &R,
     alloc: Global,
     hall: &Arc<Hall>,
     odd: Odd,
-) -> Result<Built<Guest, Silent>, Fail> {
-    let plan = plan_of(alloc, odd)?;
-    let boxes = guests(alloc, hall, odd.boxes)?;
-    match System::build(rt, alloc, plan, boxes) {
-        Ok(built) => Ok(built),
-        Err(_) => Err(Fail::from("no system")),
-    }
+) -> Option<Company<Guest, Silent>> {
+    let plan = plan_of(alloc, odd).ok()?;
+    let boxes = guests(alloc, hall, odd.boxes).ok()?;
+    Company::new(rt, alloc, plan, boxes)
 }
 
-/// A message to each of so many actors.
-fn one_to_each(alloc: Global, actors: u32) -> Result<Vec<Order>, AllocError> {
+/// By the one sender, a message to each of two actors.
+fn one_to_each(alloc: Global) -> Result<Vec<Vec<Order>>, AllocError> {
     let mut orders = Vec::new(alloc);
-    for number in 1..=actors {
+    for number in 1..=2 {
         orders.push(Order {
             to: ActorId(number),
             what: What::Tell(Body::User { kind: 1, value: 1 }),
         })?;
     }
-    Ok(orders)
+    let mut all = Vec::new(alloc);
+    all.push(orders)?;
+    Ok(all)
 }
 
 /// Two guests are sent a message each, for two workers.
@@ -46,18 +47,9 @@ fn meet<R: Abort + Threads + Wait + Sync>(rt: &R, alloc: Global, pool: Pool) -> 
         pool,
         ..PLAIN
     };
-    let Built {
-        system,
-        mut ends,
-        mut senders,
-    } = built(rt, alloc, &hall, two)?;
-    let sender = senders.pop().ok_or("no sender")?;
-    let mut jobs = Vec::new(alloc);
-    jobs.push(Job {
-        sender,
-        sends: one_to_each(alloc, 2)?,
-    })?;
-    assert_eq!(rt; system.run(rt, &mut ends, &mut jobs), Ok(()));
+    let company = invite(rt, alloc, &hall, two).ok_or("no system")?;
+    let answer = company.run(rt, alloc, &one_to_each(alloc)?)?;
+    assert!(rt; answer.is_ok());
     assert_eq!(rt; (hall.handled(), hall.restarts()), (2, 0));
     Ok(())
 }
@@ -79,24 +71,23 @@ fn what_finds_a_full_journal_is_not_handled(rt: HostRuntime) -> Result<(), Fail>
         journal_limit: 2,
         ..PLAIN
     };
-    let mut built = built(&rt, rt.alloc(), &hall, short)?;
-    let Built {
-        system,
-        ends,
-        senders,
-    } = &mut built;
-    let sender = senders.first_mut().ok_or("no sender")?;
-    let end = ends.first_mut().ok_or("no end")?;
+    let mut company = invite(&rt, rt.alloc(), &hall, short).ok_or("no system")?;
     for value in 1..=2 {
         let body = Body::User { kind: 1, value };
-        assert!(rt; sender.tell(&rt, system, ActorId(1), body).is_ok());
+        let put = company.tell(&rt, 0, ActorId(1), body);
+        assert!(rt; matches!(put, Some(Ok(_))));
     }
-    assert!(rt; matches!(end.run_quietly(&rt, system), Err(RunError::JournalFull)));
-    let back = match finish(&rt, built) {
-        Err(FinishError::NotQuiet(ActorId(1), back)) => back,
+    let answer = company.run_quietly(&rt, 0);
+    assert!(rt; matches!(answer, Some(Err(RunError::JournalFull))));
+    match company.finish(&rt) {
+        Err(
+            Unfinished {
+                why: Refusal::NotQuiet(ActorId(1)),
+                back: Some(_),
+            },
+        ) => {}
         _ => return Err(Fail::from("another answer")),
-    };
-    assert_eq!(rt; (back.ends.len(), back.senders.len()), (2, 1));
+    }
     assert_eq!(rt; hall.handled(), 1);
     Ok(())
 }

@@ -74,7 +74,11 @@ pub fn guests(alloc: Global, hall: &Arc<Hall>, count: u32) -> Result<Vec<Guest>,
 }
 
 /// Why no system is built: the plan and the boxes come back. Nothing where one is.
-fn refusal<R: Abort + Wait>(rt: &R, alloc: Global, odd: Odd) -> Result<Option<PlanError>, Fail> {
+fn refusal<R: Abort + Wait>(
+    rt: &R,
+    alloc: Global,
+    odd: Odd,
+) -> Result<Option<PlanError>, AllocError> {
     let hall = Arc::new(alloc, Hall::new(true))?;
     let plan = plan_of(alloc, odd)?;
     let boxes = guests(alloc, &hall, odd.boxes)?;
@@ -86,7 +90,7 @@ fn refusal<R: Abort + Wait>(rt: &R, alloc: Global, odd: Odd) -> Result<Option<Pl
             assert_eq!(rt; boxes.len(), odd.boxes as usize);
             Ok(Some(reason))
         }
-        Err(BuildError::NoMemory) => Err(Fail::from("no memory")),
+        Err(BuildError::NoMemory) => Err(AllocError),
     }
 }
 

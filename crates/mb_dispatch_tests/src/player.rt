@@ -1,5 +1,6 @@
 //! An actor that does what its script says, and shows the sum of the values of kind 1 that it got.
-ghost use Rattle.std.specs.Prelude.{◌≡◌};
+ghost use Rattle.std.specs.Prelude.{◌≡◌, pos};
+ghost use Rattle.mb_dispatch_tests.specs.Sum.{sum_with, sum_with_value};
 
 use mb_actor::{Actor, Answer, Behaviours, Message, Outbox};
 use mb_msg::Cause;
@@ -11,8 +12,8 @@ pub const ADD: u32 = 1;
 /// It does what the script says.
 #[derive(Drop)]
 pub struct Player {
-    script: Script,
-    sum: i64,
+    pub(crate) script: Script,
+    pub(crate) sum: i64,
 }
 
 /// Actors that add up what they get.
@@ -29,7 +30,9 @@ impl Behaviours for Adding {
 
 impl Player {
     /// It got nothing yet.
-    pub fn new(script: Script) -> Self {
+    pub fn new(script: Script) -> Self
+        ensures { result.sum ≡ pos 0 }
+    {
         Player { script, sum: 0 }
     }
 }
@@ -68,10 +71,22 @@ impl Actor for Player {
 }
 
 /// The sum with one message more.
-fn with(sum: i64, message: &Message) -> i64 {
+fn with(sum: i64, message: &Message) -> i64
+    ensures { result ≡ sum_with sum message.now }
+{
     match *message {
-        Message::User { kind: ADD, value } => sum.saturating_add(value),
-        Message::Control { kind: ADD, value } => sum.saturating_add(value),
-        _ => sum,
+        Message::User { kind, value } => with_value(sum, kind, value),
+        Message::Control { kind, value } => with_value(sum, kind, value),
+        Message::Terminated(_) => sum,
+    }
+}
+
+fn with_value(sum: i64, kind: u32, value: i64) -> i64
+    ensures { result ≡ sum_with_value sum kind value }
+{
+    if kind == ADD {
+        sum.saturating_add(value)
+    } else {
+        sum
     }
 }

@@ -1,11 +1,13 @@
 //! A whole run whose calls are made again where memory is refused (`tools/refuse_each_allocation_of_a_system`).
+use crate::company::Company;
+use crate::ending::{Refusal, Unfinished};
 use crate::player::{Adding, Player};
-use crate::reading::{Begun, begun, begun_once};
+use crate::reading::{Begun, begin, text_of};
 use crate::sending::order_of;
-use mb_dispatch::{Built, FinishError, Put, RunError, Sender, System, Unsent, What, finish};
+use mb_dispatch::{Put, RunError, Unsent, What};
 use mb_msg::Why;
 use mb_reader::Sending;
-use mb_report::{Report, report_text};
+use mb_report::Report;
 use std::alloc::Global;
 use std::process::Abort;
 use std::sync::Wait;
@@ -81,83 +83,85 @@ enum Sent {
 }
 
 /// Sends one body; once more if nothing was sent.
-fn tell<R: Wait>(
-    rt: &R,
-    system: &System<Player, Adding>,
-    sender: &mut Sender<Player, Adding>,
-    sending: &Sending,
-) -> Result<Sent, Fail> {
+fn tell<R: Wait>(rt: &R, company: &mut Company<Player, Adding>, sending: &Sending) -> Option<Sent> {
     let What::Tell(body) = order_of(sending).what else {
-        return Err(Fail::from("a stop"));
+        return None;
     };
-    let put = match sender.tell(rt, system, sending.to, body) {
-        Err(Unsent::NoMemory) => sender.tell(rt, system, sending.to, body),
+    let put = match company.tell(rt, 0, sending.to, body) {
+        Some(Err(Unsent::NoMemory)) => company.tell(rt, 0, sending.to, body),
         put => put,
     };
     match put {
-        Ok(Put::Queued(_)) => Ok(Sent::Queued),
-        Ok(Put::Dead(_, Why::NoMemory)) => Ok(Sent::NoMemory),
-        _ => Err(Fail::from("another answer")),
+        Some(Ok(Put::Queued(_))) => Some(Sent::Queued),
+        Some(Ok(Put::Dead(_, Why::NoMemory))) => Some(Sent::NoMemory),
+        _ => None,
     }
 }
 
-/// Sends all, and runs all; which report is due.
-fn send_and_run<R: Wait>(
+/// Sends all: which report is due.
+fn send_each<R: Wait>(
     rt: &R,
-    built: &mut Built<Player, Adding>,
+    company: &mut Company<Player, Adding>,
     sends: &[Sending],
-) -> Result<usize, Fail> {
-    let Built {
-        system,
-        ends,
-        senders,
-    } = built;
-    let sender = senders.first_mut().ok_or("no sender")?;
-    let end = ends.first_mut().ok_or("no end")?;
+) -> Option<usize> {
     let mut due = 0;
-    for (place, sending) in sends.iter().enumerate() {
-        if tell(rt, system, sender, sending)? == Sent::NoMemory {
-            due = place + 2;
+    for place in 0..sends.len() {
+        if tell(rt, company, &sends[place])? == Sent::NoMemory {
+            due = place.saturating_add(2);
         }
     }
-    match end.run_quietly(rt, system) {
-        Err(RunError::NoMemory) => {
-            end.run_quietly(rt, system).map_err(|_| "no second run")?;
-        }
-        Err(_) => return Err(Fail::from("another fault")),
-        Ok(_) => {}
-    }
-    Ok(due)
+    Some(due)
+}
+
+/// Runs all; once more where memory was refused.
+fn run<R: Wait>(rt: &R, company: &mut Company<Player, Adding>) -> bool {
+    let answer = match company.run_quietly(rt, 0) {
+        Some(Err(RunError::NoMemory)) => company.run_quietly(rt, 0),
+        answer => answer,
+    };
+    matches!(answer, Some(Ok(_)))
 }
 
 /// Ends the system; once more where memory was refused.
-fn finish_at_last<R: Wait>(rt: &R, built: Built<Player, Adding>) -> Result<Report, Fail> {
-    let answer = match finish(rt, built) {
-        Err(FinishError::NoMemory(built)) => finish(rt, built),
+fn finish_at_last<R: Wait>(rt: &R, company: Company<Player, Adding>) -> Option<Report> {
+    let answer = match company.finish(rt) {
+        Err(
+            Unfinished {
+                why: Refusal::NoMemory,
+                back: Some(back),
+            },
+        ) => back.finish(rt),
         answer => answer,
     };
-    match answer {
-        Ok(report) => Ok(report),
-        Err(_) => Err(Fail::from("no report")),
-    }
+    answer.ok()
 }
 
-/// The whole run, each call of which is made again where memory was refused.
-fn run_at_last<R: Abort + Wait>(rt: &R, alloc: Global, scenario: &str) -> Result<(), Fail> {
+/// The text of the report of a whole run, and which is due, where each call that found no memory is made again.
+fn run_at_last<R: Wait>(rt: &R, alloc: Global, scenario: &str) -> Option<(String, usize)> {
+    let begun = match begin(rt, alloc, scenario) {
+        Some(begun) => begun,
+        None => begin(rt, alloc, scenario)?,
+    };
     let Begun {
-        mut built,
+        mut company,
         names,
         sends,
-    } = match begun_once(rt, alloc, scenario) {
-        Some(begun) => begun,
-        None => begun(rt, alloc, scenario)?,
+    } = begun;
+    let due = send_each(rt, &mut company, &sends)?;
+    if !run(rt, &mut company) {
+        return None;
+    }
+    let report = finish_at_last(rt, company)?;
+    let text = match text_of(alloc, &report, &names) {
+        Some(text) => text,
+        None => text_of(alloc, &report, &names)?,
     };
-    let due = send_and_run(rt, &mut built, &sends)?;
-    let report = finish_at_last(rt, built)?;
-    let text = match report_text(alloc, &report, &names) {
-        Ok(text) => text,
-        Err(_) => report_text(alloc, &report, &names)?,
-    };
+    Some((text, due))
+}
+
+/// Sees to it that it is the report that is due.
+fn report_again<R: Abort + Wait>(rt: &R, alloc: Global, scenario: &str) -> Result<(), Fail> {
+    let (text, due) = run_at_last(rt, alloc, scenario).ok_or("no report")?;
     let found = text.as_str();
     let is_due = found == REPORTS[due.min(6)];
     let is_left = due == 0 && found == REPORTS[1];
@@ -169,12 +173,12 @@ fn run_at_last<R: Abort + Wait>(rt: &R, alloc: Global, scenario: &str) -> Result
 fn a_refused_call_of_a_system_with_a_shared_pool_can_be_made_again(
     rt: HostRuntime,
 ) -> Result<(), Fail> {
-    run_at_last(&rt, rt.alloc(), SHARED)
+    report_again(&rt, rt.alloc(), SHARED)
 }
 
 #[test]
 fn a_refused_call_of_a_system_with_a_stealing_pool_can_be_made_again(
     rt: HostRuntime,
 ) -> Result<(), Fail> {
-    run_at_last(&rt, rt.alloc(), STEALING)
+    report_again(&rt, rt.alloc(), STEALING)
 }

@@ -1,45 +1,43 @@
 //! Sending what a scenario sends.
+use crate::company::Company;
 use crate::player::{Adding, Player};
 use crate::words::{add, became, stopped};
-use mb_dispatch::{Built, Job, Order, Sender, System, What};
+use mb_dispatch::{Order, What};
 use mb_reader::{Sending, What as Said};
 use std::alloc::{AllocError, Global};
 use std::sync::Wait;
-use std::test::Fail;
 
-/// Sends all, in order: the answers.
+/// Sends all, in order: the answers. Nothing where memory for their text is refused, or there is no such sender.
 pub fn send_all<R: Wait>(
     rt: &R,
     alloc: Global,
-    built: &mut Built<Player, Adding>,
+    company: &mut Company<Player, Adding>,
     sends: &[Sending],
-) -> Result<String, Fail> {
+) -> Option<String> {
     let mut text = String::new(alloc);
     for sending in sends {
-        let Some(sender) = built.senders.get_mut(sending.from as usize) else {
-            return Err(Fail::from("no such sender"));
-        };
         for _ in 0..sending.times {
-            let answer = send(rt, alloc, &built.system, sender, order_of(sending))?;
-            add(&mut text, ", ", answer.as_str())?;
+            let from = sending.from as usize;
+            let answer = send(rt, alloc, company, from, order_of(sending))?;
+            add(&mut text, ", ", answer.as_str()).ok()?;
         }
     }
-    Ok(text)
+    Some(text)
 }
 
-/// Sends one thing: the answer.
+/// The sender of this place sends one thing: the answer.
 pub fn send<R: Wait>(
     rt: &R,
     alloc: Global,
-    system: &System<Player, Adding>,
-    sender: &mut Sender<Player, Adding>,
+    company: &mut Company<Player, Adding>,
+    from: usize,
     order: Order,
-) -> Result<String, Fail> {
+) -> Option<String> {
     match order.what {
-        What::Tell(body) => Ok(became(alloc, sender.tell(rt, system, order.to, body))?),
+        What::Tell(body) => became(alloc, company.tell(rt, from, order.to, body)?).ok(),
         What::Stop => {
-            let answer = stopped(sender.stop(rt, system, order.to));
-            Ok(String::from_str(alloc, answer)?)
+            let answer = stopped(company.stop(rt, from, order.to)?);
+            String::from_str(alloc, answer).ok()
         }
     }
 }
@@ -56,42 +54,28 @@ pub fn order_of(sending: &Sending) -> Order {
     }
 }
 
-/// A job for each sender, with what the scenario says of the sender of its place.
-pub fn jobs_of(
+/// What each of so many senders is to send.
+pub fn orders_of_all(
     alloc: Global,
-    senders: Vec<Sender<Player, Adding>>,
+    senders: usize,
     sends: &[Sending],
-) -> Result<Vec<Job<Player, Adding>>, AllocError> {
-    let mut jobs = Vec::with_capacity(alloc, senders.len())?;
-    for sender in senders {
-        let sends = orders_of(alloc, jobs.len() as u32, sends)?;
-        jobs.push(Job { sender, sends })?;
+) -> Result<Vec<Vec<Order>>, AllocError> {
+    let mut all = Vec::new(alloc);
+    for sender in 0..senders {
+        all.push(orders_of(alloc, sender, sends)?)?;
     }
-    Ok(jobs)
+    Ok(all)
 }
 
-/// All that this sender is to send, in order.
-fn orders_of(alloc: Global, from: u32, sends: &[Sending]) -> Result<Vec<Order>, AllocError> {
+/// What this sender is to send, in order.
+fn orders_of(alloc: Global, from: usize, sends: &[Sending]) -> Result<Vec<Order>, AllocError> {
     let mut orders = Vec::new(alloc);
     for sending in sends {
-        if sending.from == from {
+        if sending.from as usize == from {
             for _ in 0..sending.times {
                 orders.push(order_of(sending))?;
             }
         }
     }
     Ok(orders)
-}
-
-/// The senders of these jobs.
-pub fn senders_of(
-    alloc: Global,
-    jobs: Vec<Job<Player, Adding>>,
-) -> Result<Vec<Sender<Player, Adding>>, AllocError> {
-    let mut senders = Vec::with_capacity(alloc, jobs.len())?;
-    for job in jobs {
-        let Job { sender, sends: _ } = job;
-        senders.push(sender)?;
-    }
-    Ok(senders)
 }

@@ -1,49 +1,49 @@
 //! A system that is played with, step by step, until it has ended.
+use crate::company::Company;
+use crate::ending::Unfinished;
 use crate::player::{ADD, Adding, Player};
-use crate::reading::{Begun, begun};
-use crate::sending::{jobs_of, send, send_all, senders_of};
+use crate::reading::{Begun, begin, text_of};
+use crate::sending::{orders_of_all, send, send_all};
 use crate::words::{add, became, broken_off, looked, ran, refused, truth, turned, turns};
-use mb_dispatch::{Built, FinishError, Look, Order, Ticket, What, finish};
+use mb_dispatch::{Look, Order, Ticket};
 use mb_journal::{Arrival, Journal};
 use mb_msg::{ActorId, Body};
 use mb_reader::Sending;
-use mb_report::{Report, report_text};
-use std::alloc::Global;
+use mb_report::{ActorReport, Report};
+use std::alloc::{AllocError, Global};
 use std::sync::Wait;
-use std::test::Fail;
 use std::thread::Threads;
 
 /// A system as long as it has not ended, and its report then; the names of its actors, what its scenario sends, and the ticket
-/// that was had last.
+/// that was had last. A step that cannot be taken, or for which memory is refused, has no answer.
 #[derive(Drop)]
 pub struct Stage {
     alloc: Global,
-    built: Option<Built<Player, Adding>>,
+    company: Option<Company<Player, Adding>>,
     report: Option<Report>,
     names: Vec<String>,
     sends: Vec<Sending>,
     ticket: Option<Ticket>,
 }
 
-/// Why there is no system any more.
-const OVER: &str = "the system has ended";
-
-/// A message that adds this value.
-pub fn adding(value: i64) -> Body {
-    Body::User { kind: ADD, value }
+/// Of an envelope's body its value, or its kind.
+#[derive(Clone, Copy)]
+enum Part {
+    Value,
+    Kind,
 }
 
 impl Stage {
     /// The system of this scenario.
-    pub fn new<R: Wait>(rt: &R, alloc: Global, scenario: &str) -> Result<Self, Fail> {
+    pub fn new<R: Wait>(rt: &R, alloc: Global, scenario: &str) -> Option<Self> {
         let Begun {
-            built,
+            company,
             names,
             sends,
-        } = begun(rt, alloc, scenario)?;
-        Ok(Stage {
+        } = begin(rt, alloc, scenario)?;
+        Some(Stage {
             alloc,
-            built: Some(built),
+            company: Some(company),
             report: None,
             names,
             sends,
@@ -52,190 +52,127 @@ impl Stage {
     }
 
     /// Sends all that the scenario sends: the answers.
-    pub fn send<R: Wait>(&mut self, rt: &R) -> Result<String, Fail> {
-        let built = self.built.as_mut().ok_or(OVER)?;
-        send_all(rt, self.alloc, built, &self.sends)
+    pub fn send<R: Wait>(&mut self, rt: &R) -> Option<String> {
+        send_all(rt, self.alloc, self.company.as_mut()?, &self.sends)
     }
 
     /// The first sender sends this: the answer.
-    pub fn send_one<R: Wait>(&mut self, rt: &R, order: Order) -> Result<String, Fail> {
-        let Built {
-            system,
-            ends: _,
-            senders,
-        } = self.built.as_mut().ok_or(OVER)?;
-        let first = senders.first_mut().ok_or("no sender")?;
-        send(rt, self.alloc, system, first, order)
+    pub fn send_one<R: Wait>(&mut self, rt: &R, order: Order) -> Option<String> {
+        send(rt, self.alloc, self.company.as_mut()?, 0, order)
     }
 
     /// The first sender looks at an actor. A ticket is kept.
-    pub fn look(&mut self, to: ActorId) -> Result<String, Fail> {
-        let Built {
-            system,
-            ends: _,
-            senders,
-        } = self.built.as_mut().ok_or(OVER)?;
-        let first = senders.first_mut().ok_or("no sender")?;
-        let look = first.look(system, to);
+    pub fn look(&mut self, to: ActorId) -> Option<String> {
+        let look = self.company.as_mut()?.look(0, to)?;
         if let Ok(Look::Open(ticket)) = look {
             self.ticket = Some(ticket);
         }
-        Ok(String::from_str(self.alloc, looked(look))?)
+        String::from_str(self.alloc, looked(look)).ok()
     }
 
     /// The first sender puts a message that adds this value, by the ticket that was had last.
-    pub fn put<R: Wait>(&mut self, rt: &R, value: i64) -> Result<String, Fail> {
-        let Built {
-            system,
-            ends: _,
-            senders,
-        } = self.built.as_mut().ok_or(OVER)?;
-        let first = senders.first_mut().ok_or("no sender")?;
-        let ticket = self.ticket.ok_or("no ticket")?;
-        let put = first.put(rt, system, ticket, adding(value));
-        Ok(became(self.alloc, put)?)
+    pub fn put<R: Wait>(&mut self, rt: &R, value: i64) -> Option<String> {
+        let ticket = self.ticket?;
+        let body = Body::User { kind: ADD, value };
+        let put = self.company.as_mut()?.put(rt, 0, ticket, body)?;
+        became(self.alloc, put).ok()
     }
 
     /// The first end runs claims on this thread until none is there: the turns.
-    pub fn run<R: Wait>(&mut self, rt: &R) -> Result<String, Fail> {
-        let Built {
-            system,
-            ends,
-            senders: _,
-        } = self.built.as_mut().ok_or(OVER)?;
-        let first = ends.first_mut().ok_or("no end")?;
-        match first.run_quietly(rt, system) {
-            Ok(made) => Ok(turns(self.alloc, &made)?),
-            Err(error) => Ok(String::from_str(self.alloc, broken_off(error))?),
+    pub fn run<R: Wait>(&mut self, rt: &R) -> Option<String> {
+        match self.company.as_mut()?.run_quietly(rt, 0)? {
+            Ok(made) => turns(self.alloc, &made).ok(),
+            Err(error) => String::from_str(self.alloc, broken_off(error)).ok(),
         }
     }
 
     /// The first end registers an actor.
-    pub fn register<R: Wait>(&mut self, rt: &R, id: ActorId) -> Result<String, Fail> {
-        let Built {
-            system,
-            ends,
-            senders: _,
-        } = self.built.as_mut().ok_or(OVER)?;
-        let first = ends.first_mut().ok_or("no end")?;
-        let is_pushed = first.register(rt, system, id, false, false);
-        Ok(String::from_str(self.alloc, truth(is_pushed))?)
+    pub fn register<R: Wait>(&mut self, rt: &R, id: ActorId) -> Option<String> {
+        let is_pushed = self.company.as_mut()?.register(rt, 0, id)?;
+        String::from_str(self.alloc, truth(is_pushed)).ok()
     }
 
     /// The first end takes a claim and runs its mailbox: the turn.
-    pub fn turn<R: Wait>(&mut self, rt: &R) -> Result<String, Fail> {
-        let Built {
-            system,
-            ends,
-            senders: _,
-        } = self.built.as_mut().ok_or(OVER)?;
-        let first = ends.first_mut().ok_or("no end")?;
-        let claim = first.take(rt).ok_or("no claim")?;
-        let turn = first.run_mailbox(rt, system, claim).map_err(|_| "no turn")?;
-        Ok(turned(self.alloc, &turn)?)
+    pub fn turn<R: Wait>(&mut self, rt: &R) -> Option<String> {
+        let turn = self.company.as_mut()?.turn(rt, 0)?;
+        turned(self.alloc, &turn).ok()
     }
 
     /// The first end works until there is no claim.
-    pub fn work<R: Wait>(&mut self, rt: &R) -> Result<String, Fail> {
-        let Built {
-            system,
-            ends,
-            senders: _,
-        } = self.built.as_mut().ok_or(OVER)?;
-        let first = ends.first_mut().ok_or("no end")?;
-        let answer = ran(first.work(rt, system));
-        Ok(String::from_str(self.alloc, answer)?)
+    pub fn work<R: Wait>(&mut self, rt: &R) -> Option<String> {
+        let answer = self.company.as_mut()?.work(rt, 0)?;
+        String::from_str(self.alloc, ran(answer)).ok()
     }
 
-    /// All ends run claims on threads while each sender sends what the scenario says of it.
-    pub fn jobs<R: Threads + Wait + Sync>(&mut self, rt: &R) -> Result<String, Fail> {
-        let Built {
-            system,
-            mut ends,
-            senders,
-        } = self.built.take().ok_or(OVER)?;
-        let mut jobs = jobs_of(self.alloc, senders, &self.sends)?;
-        let answer = ran(system.run(rt, &mut ends, &mut jobs));
-        let senders = senders_of(self.alloc, jobs)?;
-        self.built = Some(Built {
-            system,
-            ends,
-            senders,
-        });
-        Ok(String::from_str(self.alloc, answer)?)
+    /// All ends run claims on threads while each sender sends what the scenario says of it. A system whose run is broken off is
+    /// gone.
+    pub fn jobs<R: Threads + Wait + Sync>(&mut self, rt: &R) -> Option<String> {
+        let company = self.company.take()?;
+        let orders = orders_of_all(self.alloc, company.senders(), &self.sends).ok()?;
+        match company.run(rt, self.alloc, &orders).ok()? {
+            Ok(company) => {
+                self.company = Some(company);
+                String::from_str(self.alloc, ran(Ok(()))).ok()
+            }
+            Err(error) => String::from_str(self.alloc, broken_off(error)).ok(),
+        }
     }
 
-    /// The last end, or the last sender, is lost.
-    pub fn lose(&mut self, what: &str) -> Result<String, Fail> {
-        let built = self.built.as_mut().ok_or(OVER)?;
-        let is_lost = match what {
-            "end" => built.ends.pop().is_some(),
-            _ => built.senders.pop().is_some(),
-        };
-        Ok(String::from_str(self.alloc, truth(is_lost))?)
+    /// The last end is lost.
+    pub fn lose_end(&mut self) -> Option<String> {
+        let is_lost = self.company.as_mut()?.lose_end();
+        String::from_str(self.alloc, truth(is_lost)).ok()
+    }
+
+    /// The last sender is lost.
+    pub fn lose_sender(&mut self) -> Option<String> {
+        let is_lost = self.company.as_mut()?.lose_sender();
+        String::from_str(self.alloc, truth(is_lost)).ok()
     }
 
     /// Ends the system, if that can be: the report's text, or why there is none.
-    pub fn finish<R: Wait>(&mut self, rt: &R) -> Result<String, Fail> {
-        let built = self.built.take().ok_or(OVER)?;
-        match finish(rt, built) {
+    pub fn finish<R: Wait>(&mut self, rt: &R) -> Option<String> {
+        match self.company.take()?.finish(rt) {
             Ok(report) => {
-                let text = report_text(self.alloc, &report, &self.names)?;
+                let text = text_of(self.alloc, &report, &self.names);
                 self.report = Some(report);
-                Ok(text)
+                text
             }
-            Err(error) => {
-                let text = refused(self.alloc, &error)?;
-                self.built = given_back(error);
-                Ok(text)
+            Err(Unfinished { why, back }) => {
+                self.company = back;
+                refused(self.alloc, why).ok()
             }
         }
     }
 
     /// The values that an actor handled, in order, by the report.
-    pub fn values(&self, id: ActorId) -> Result<String, Fail> {
-        let report = self.report.as_ref().ok_or("no report")?;
-        let actor = report.actors.get(id.0 as usize).ok_or("no such actor")?;
-        handled(self.alloc, &actor.journal, value_of)
+    pub fn values(&self, id: ActorId) -> Option<String> {
+        handled(self.alloc, &self.told_of(id)?.journal, Part::Value).ok()
     }
 
     /// The kinds of the messages that an actor handled, in order, by the report.
-    pub fn kinds(&self, id: ActorId) -> Result<String, Fail> {
-        let report = self.report.as_ref().ok_or("no report")?;
-        let actor = report.actors.get(id.0 as usize).ok_or("no such actor")?;
-        handled(self.alloc, &actor.journal, kind_of)
+    pub fn kinds(&self, id: ActorId) -> Option<String> {
+        handled(self.alloc, &self.told_of(id)?.journal, Part::Kind).ok()
     }
 
     /// How many system messages to an actor are dead, by the report.
-    pub fn dead_system(&self, id: ActorId) -> Result<String, Fail> {
-        let report = self.report.as_ref().ok_or("no report")?;
-        let actor = report.actors.get(id.0 as usize).ok_or("no such actor")?;
-        let dead = actor.dead_system;
-        Ok(format!(in self.alloc; "{dead}")?)
+    pub fn dead_system(&self, id: ActorId) -> Option<String> {
+        let dead = self.told_of(id)?.dead_system;
+        format!(in self.alloc; "{dead}").ok()
+    }
+
+    /// What the report tells of an actor.
+    fn told_of(&self, id: ActorId) -> Option<&ActorReport> {
+        self.report.as_ref()?.actors.get(id.0 as usize)
     }
 }
 
-/// What came back of a system that could not end.
-fn given_back(error: FinishError<Player, Adding>) -> Option<Built<Player, Adding>> {
-    match error {
-        FinishError::MissingEnd(_, built) => Some(built),
-        FinishError::MissingSender(_, built) => Some(built),
-        FinishError::NotQuiet(_, built) => Some(built),
-        FinishError::NoMemory(built) => Some(built),
-        FinishError::Mismatch(_) => None,
-    }
-}
-
-/// The numbers of the envelopes that a journal tells were handled, in order.
-fn handled(
-    alloc: Global,
-    journal: &Journal,
-    number_of: fn(Body) -> Option<i64>,
-) -> Result<String, Fail> {
+/// This part of the envelopes that a journal tells were handled, in order.
+fn handled(alloc: Global, journal: &Journal, part: Part) -> Result<String, AllocError> {
     let mut text = String::new(alloc);
     for place in 0..journal.len() {
         if let Arrival::Handled { envelope, .. } = journal.get(place).arrival
-            && let Some(number) = number_of(envelope.body)
+            && let Some(number) = number_of(envelope.body, part)
         {
             let number = format!(in alloc; "{number}")?;
             add(&mut text, " ", number.as_str())?;
@@ -244,20 +181,15 @@ fn handled(
     Ok(text)
 }
 
-/// The value of a body that has one.
-fn value_of(body: Body) -> Option<i64> {
-    match body {
-        Body::User { value, .. } => Some(value),
-        Body::Control { value, .. } => Some(value),
-        _ => None,
-    }
-}
-
-/// Its kind.
-fn kind_of(body: Body) -> Option<i64> {
-    match body {
-        Body::User { kind, .. } => Some(i64::from(kind)),
-        Body::Control { kind, .. } => Some(i64::from(kind)),
-        _ => None,
-    }
+/// This part of a body that has it.
+fn number_of(body: Body, part: Part) -> Option<i64> {
+    let (kind, value) = match body {
+        Body::User { kind, value } => (kind, value),
+        Body::Control { kind, value } => (kind, value),
+        _ => return None,
+    };
+    Some(match part {
+        Part::Value => value,
+        Part::Kind => i64::from(kind),
+    })
 }

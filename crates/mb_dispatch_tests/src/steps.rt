@@ -27,30 +27,30 @@ pub fn play<R: Abort + Threads + Wait + Sync>(
     let (scenario, rest) = story.split_once(DASHES).ok_or("no steps")?;
     let (steps, rest) = rest.split_once(DASHES).ok_or("no report")?;
     let (report, rest) = rest.split_once(DASHES).unwrap_or((rest, ""));
-    let mut stage = Stage::new(rt, alloc, scenario)?;
-    play_each(rt, &mut stage, steps)?;
-    let found = stage.finish(rt)?;
+    let mut stage = Stage::new(rt, alloc, scenario).ok_or("no system")?;
+    play_each(rt, &mut stage, steps);
+    let found = stage.finish(rt).ok_or("no end")?;
     assert_eq!(rt; found.as_str().trim(), report.trim());
-    play_each(rt, &mut stage, rest)
-}
-
-/// Takes each step.
-fn play_each<R: Abort + Threads + Wait + Sync>(
-    rt: &R,
-    stage: &mut Stage,
-    steps: &str,
-) -> Result<(), Fail> {
-    for line in steps.lines() {
-        if let Some((step, expected)) = line_of(line) {
-            let answer = answer(rt, stage, step)?;
-            assert_eq!(rt; answer.as_str(), expected, "{line}");
-        }
-    }
+    play_each(rt, &mut stage, rest);
     Ok(())
 }
 
+/// Takes each step.
+fn play_each<R: Abort + Threads + Wait + Sync>(rt: &R, stage: &mut Stage, steps: &str) {
+    for line in steps.lines() {
+        if let Some((step, expected)) = line_of(line) {
+            let answer = answer(rt, stage, step);
+            let found = match &answer {
+                Some(text) => text.as_str(),
+                None => "no answer",
+            };
+            assert_eq!(rt; found, expected, "{line}");
+        }
+    }
+}
+
 /// What the step answers.
-fn answer<R: Threads + Wait + Sync>(rt: &R, stage: &mut Stage, step: &str) -> Result<String, Fail> {
+fn answer<R: Threads + Wait + Sync>(rt: &R, stage: &mut Stage, step: &str) -> Option<String> {
     match step {
         "send" => stage.send(rt),
         "run" => stage.run(rt),
@@ -58,17 +58,17 @@ fn answer<R: Threads + Wait + Sync>(rt: &R, stage: &mut Stage, step: &str) -> Re
         "work" => stage.work(rt),
         "jobs" => stage.jobs(rt),
         "finish" => stage.finish(rt),
-        "lose end" => stage.lose("end"),
-        "lose sender" => stage.lose("sender"),
+        "lose end" => stage.lose_end(),
+        "lose sender" => stage.lose_sender(),
         _ => answer_at(rt, stage, step),
     }
 }
 
 /// What a step answers that names an actor, or a value.
-fn answer_at<R: Wait>(rt: &R, stage: &mut Stage, step: &str) -> Result<String, Fail> {
-    let (name, rest) = step.split_once(' ').ok_or("no such step")?;
+fn answer_at<R: Wait>(rt: &R, stage: &mut Stage, step: &str) -> Option<String> {
+    let (name, rest) = step.split_once(' ')?;
     if name == "tell" {
-        return tell(rt, stage, rest);
+        return stage.send_one(rt, order_of_tell(rest)?);
     }
     let number = number_of(rest)?;
     let id = ActorId(number);
@@ -86,30 +86,24 @@ fn answer_at<R: Wait>(rt: &R, stage: &mut Stage, step: &str) -> Result<String, F
         "values" => stage.values(id),
         "kinds" => stage.kinds(id),
         "dead" => stage.dead_system(id),
-        _ => Err(Fail::from("no such step")),
+        _ => None,
     }
 }
 
-/// The first sender tells an actor a message, by the numbers of the actor, the kind and the value.
-fn tell<R: Wait>(rt: &R, stage: &mut Stage, numbers: &str) -> Result<String, Fail> {
-    let (to, rest) = numbers.split_once(' ').ok_or("no kind")?;
-    let (kind, value) = rest.split_once(' ').ok_or("no value")?;
+/// To tell an actor a message, by the numbers of the actor, the kind and the value.
+fn order_of_tell(numbers: &str) -> Option<Order> {
+    let (to, rest) = numbers.split_once(' ')?;
+    let (kind, value) = rest.split_once(' ')?;
     let to = ActorId(number_of(to)?);
     let kind = number_of(kind)?;
     let value = i64::from(number_of(value)?);
-    stage.send_one(
-        rt,
-        Order {
-            to,
-            what: What::Tell(Body::User { kind, value }),
-        },
-    )
+    Some(Order {
+        to,
+        what: What::Tell(Body::User { kind, value }),
+    })
 }
 
 /// A number in digits.
-fn number_of(word: &str) -> Result<u32, Fail> {
-    match word.parse::<u32>() {
-        Ok(number) => Ok(number),
-        Err(_) => Err(Fail::from("no number")),
-    }
+fn number_of(word: &str) -> Option<u32> {
+    word.parse::<u32>().ok()
 }

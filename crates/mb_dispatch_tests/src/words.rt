@@ -1,6 +1,6 @@
 //! Answers in words, as the stories write them.
-use crate::player::{Adding, Player};
-use mb_dispatch::{FinishError, Look, Mismatch, Put, RunError, Turn, Unsent};
+use crate::ending::Refusal;
+use mb_dispatch::{Look, Mismatch, Put, RunError, Turn, Unsent};
 use mb_msg::Why;
 use std::alloc::{AllocError, Global};
 
@@ -108,16 +108,16 @@ fn reason(why: Why) -> &'static str {
 }
 
 /// Why there is no report.
-pub fn refused(alloc: Global, error: &FinishError<Player, Adding>) -> Result<String, AllocError> {
-    match error {
-        FinishError::MissingEnd(number, _) => format!(in alloc; "end {number} missing"),
-        FinishError::MissingSender(number, _) => format!(in alloc; "sender {number} missing"),
-        FinishError::NotQuiet(id, _) => {
+pub fn refused(alloc: Global, why: Refusal) -> Result<String, AllocError> {
+    match why {
+        Refusal::MissingEnd(number) => format!(in alloc; "end {number} missing"),
+        Refusal::MissingSender(number) => format!(in alloc; "sender {number} missing"),
+        Refusal::NotQuiet(id) => {
             let number = id.0;
             format!(in alloc; "{number} not quiet")
         }
-        FinishError::NoMemory(_) => String::from_str(alloc, "no memory"),
-        FinishError::Mismatch(mismatch) => mismatched(alloc, *mismatch),
+        Refusal::NoMemory => String::from_str(alloc, "no memory"),
+        Refusal::Mismatch(mismatch) => mismatched(alloc, mismatch),
     }
 }
 

@@ -1,0 +1,58 @@
+//! How a system ends.
+ghost use Rattle.mb_system.specs.Belonging.{BelongsTogether};
+
+use crate::company::Company;
+use mb_actor::{Actor, Behaviours};
+use mb_dispatch::{Built, FinishError, Mismatch, finish};
+use mb_msg::ActorId;
+use mb_report::Report;
+use std::sync::Wait;
+
+/// Why there is no report.
+#[derive(Clone, Copy)]
+pub enum Refusal {
+    MissingEnd(u32),
+    MissingSender(u32),
+    NotQuiet(ActorId),
+    NoMemory,
+    Mismatch(Mismatch),
+}
+
+/// Why there is no report, and what came back.
+#[derive(Drop)]
+pub struct Unfinished<A: Actor, K: Behaviours> {
+    pub why: Refusal,
+    pub back: Option<Company<A, K>>,
+}
+
+impl<A: Actor, K: Behaviours> Company<A, K> {
+    /// Ends the system: the report.
+    pub fn finish<R: Wait>(self, rt: &R) -> Result<Report, Unfinished<A, K>> {
+        let Company { built } = self;
+        match finish(rt, built) {
+            Ok(report) => Ok(report),
+            Err(FinishError::MissingEnd(number, back)) => {
+                Err(come_back(Refusal::MissingEnd(number), back))
+            }
+            Err(FinishError::MissingSender(number, back)) => {
+                Err(come_back(Refusal::MissingSender(number), back))
+            }
+            Err(FinishError::NotQuiet(id, back)) => Err(come_back(Refusal::NotQuiet(id), back)),
+            Err(FinishError::NoMemory(back)) => Err(come_back(Refusal::NoMemory, back)),
+            Err(FinishError::Mismatch(what)) => Err(Unfinished {
+                why: Refusal::Mismatch(what),
+                back: None,
+            }),
+        }
+    }
+}
+
+// All came back.
+fn come_back<A: Actor, K: Behaviours>(why: Refusal, built: Built<A, K>) -> Unfinished<A, K>
+    requires together { BelongsTogether built }
+{
+    Unfinished {
+        why,
+        back: Some(Company { built }),
+    }
+}
