@@ -1,0 +1,1 @@
+use Rattle.mb_run.proofs.together.jobs_of.Goals as goal
