@@ -1,6 +1,6 @@
 //! Why a run gave no report.
 ghost use Rattle.std.specs.Prelude.{◌≡◌, ℕ};
-ghost use Rattle.mb_system.specs.declared.failure.RunError.TheVariants as error;
+ghost use Rattle.mb_system.specs.declared.failure.RunError.TheVariants as Fault;
 ghost use Rattle.mb_run.specs.Faults.{IsFaultOf};
 
 use mb_dispatch::RunError;
@@ -32,7 +32,7 @@ impl From<AllocError> for RunFault {
 
 /// Why a run was broken off whose orders name actors that there are.
 pub(crate) fn of_run(error: RunError) -> RunFault
-    requires there { error ≡ error.NoSuchActor → ⊥ }
+    requires there { error ≡ Fault.NoSuchActor → ⊥ }
     ensures { (actors : ℕ) → IsFaultOf actors result }
 {
     match error {
