@@ -1,6 +1,7 @@
 -- What a run came to, once its system has ended.
 use Rattle.std.proofs.Common.{◌≡◌, ℕ, ◌+◌, ◌-◌, ◌<◌, ℤ, List, [], ◌∷◌, ◌++◌, length, reverse, refl, sym, ap, ◌∙◌, subst, arith, Some}
 use Rattle.std.specs.Prelude.{All, slice_get}
+use Rattle.std.proofs.lemmas.List.{length-map}
 use Rattle.std.proofs.lemmas.Option.{same_Some}
 use Rattle.mb_msg.specs.Limits.{most_actors}
 use Rattle.mb_actor.specs.Behaviour.{Moment, Reply}
@@ -8,6 +9,8 @@ use Rattle.mb_actor.specs.declared.message.Message.{Message}
 use Rattle.mb_fates.specs.Accepted.{accepted}
 use Rattle.mb_fates.specs.declared.posting.Posting.{Posting}
 use Rattle.mb_gate.specs.Names.{first_of, known_by}
+use Rattle.mb_home.specs.Roll.{Enrolled}
+use Rattle.mb_build.proofs.HouseLemmas.{length-who}
 use Rattle.mb_plan.specs.declared.plan.Plan.{Plan}
 use Rattle.mb_reader.specs.declared.scenario.Sending.{Sending}
 use Rattle.mb_reckon.specs.Seen.{GoesOnFromAll}
@@ -20,7 +23,7 @@ use Rattle.mb_run.specs.Orders.{orders_of}
 use Rattle.mb_run.specs.Ran.{HasRun, HasSpoken, IsRollOf}
 use Rattle.mb_run.specs.Ready.{IsEnded, IsReady}
 use Rattle.mb_run.specs.Senders.{HasSentAll}
-use Rattle.mb_run.proofs.SenderLemmas.{sender-at}
+use Rattle.mb_run.proofs.SenderLemmas.{sender-here}
 
 module _ {A K : Type 0} (after : ℕ → List Message → ℤ) (gives : ℕ → Moment → Reply → Type 0) (plan : Plan) (sends : List Sending)
     (built : Built A K) (report : Report) where
@@ -49,7 +52,7 @@ module _ {A K : Type 0} (after : ℕ → List Message → ℤ) (gives : ℕ → 
         let found = there built.senders.items number (omega (arith, lt, count, many)) in
         let s = found.0 in
         let all : HasSentAll built.system.gates number (orders_of number sends) s =
-        sender-at built.system.gates (λ n. orders_of n sends) 0 built.senders.items number s ready.senders found.1 in
+        sender-here built.system.gates (λ n. orders_of n sends) built.senders.items number s ready.senders found.1 in
         let by = all.by in
         let place : s.inner.book.by.0 - most_actors ≡ number = omega (arith, by) in
         let answered = at-place (λ (s : Sender A K). slice_get ended.answers (s.inner.book.by.0 - most_actors) ≡ Some s.inner.book.posted)
@@ -60,3 +63,9 @@ module _ {A K : Type 0} (after : ℕ → List Message → ℤ) (gives : ℕ → 
         (spoken number s all
         (at-place (λ (s : Sender A K). GoesOnFromAll report (known_by s.inner.waker.pass)) built.senders.items number s ended.goes_on found.1)));
   }
+
+  -- the report has a line for each actor of the plan, and the guardian's
+  pub as-many-lines : HasRun after gives plan sends report → length report.actors.items ≡ length plan.actors.items + 1
+  as-many-lines ran =
+      ran.whole.many.0 ∙ sym (length-map ran.roll (λ (e : Enrolled). e.who)) ∙ ap length ran.planned.who
+      ∙ length-who plan.journal_limit plan.actors.items

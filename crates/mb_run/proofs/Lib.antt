@@ -3,4 +3,5 @@ pub mod SenderLemmas
 pub mod JobLemmas
 pub mod MemberLemmas
 pub mod PlanLemmas
+pub mod ReasonLemmas
 pub mod EndLemmas

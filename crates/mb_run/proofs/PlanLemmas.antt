@@ -27,6 +27,8 @@ use Rattle.mb_system.specs.declared.built.Built.{Built}
 use Rattle.mb_system.specs.declared.order.Order.{Order}
 use Rattle.mb_system.specs.declared.sender.Sender.{Sender}
 use Rattle.mb_system.proofs.Sending.{sent-none}
+use Rattle.mb_reader.specs.declared.scenario.Sending.{Sending as Planned}
+use Rattle.mb_run.specs.Given.{AreSendable}
 use Rattle.mb_run.specs.Ran.{HasMailbox, HaveMailboxes, IsRollOf}
 use Rattle.mb_run.specs.Ready.{IsReady}
 use Rattle.mb_run.specs.Senders.{HaveSentAll}
@@ -143,3 +145,9 @@ module _ {A K : Type 0} (gives : ℕ → Moment → Reply → Type 0) (plan : Pl
           ap ends_numbers begun.ends_are
           ∙ (λ i. begun.first_end.0 i ∷ new-ends built.system.gates 1 begun.others begun.others_are i)
           ∙ sym (ap (λ l. numbers 0 (length l)) begun.ends_are)
+
+  -- what can be sent to the plan's actors can be sent to the system's
+  pub sendable-here : (sends : List Planned) → AreSendable plan.senders (length plan.actors.items + 1) sends
+      → AreSendable built.system.senders (actors_of built.system.gates) sends
+  sendable-here sends all =
+      subst (λ (p : ℕ × ℕ). AreSendable p.0 p.1 sends) (λ i. (sym begun.numbers.1 i, sym actors-planned i)) all

@@ -1,11 +1,11 @@
 -- What senders have sent, one after another.
 use Rattle.std.proofs.Common.{◌≡◌, ◌⊎◌, inl, inr, ℕ, zero, suc, ◌+◌, ◌<◌, ◌≤◌, ◌==◌, Bool, true, false, cond, List, [], ◌∷◌, ◌++◌, length, refl, sym, ap, ◌∙◌, subst, arith, Some}
-use Rattle.std.proofs.Common.{replicate, get_or, set}
+use Rattle.std.proofs.Common.{replicate, get_or, set, take, zero-add}
 use Rattle.std.specs.Prelude.{All, slice_get}
 use Rattle.std.specs.Global.{Box}
-use Rattle.std.proofs.lemmas.List.{replicate_more}
+use Rattle.std.proofs.lemmas.List.{append-nil, replicate_more}
 use Rattle.std.proofs.lemmas.List.Elements.{All-cons, All-nil}
-use Rattle.std.proofs.lemmas.Option.{none-some, same_Some}
+use Rattle.std.proofs.lemmas.Option.{none-some, same_Some, slice_get-get_or}
 use Rattle.mb_gate.specs.declared.gates.Gates.{Gates}
 use Rattle.mb_home.specs.Contents.{Contents}
 use Rattle.mb_system.specs.Members.{IsSenderOf}
@@ -13,7 +13,10 @@ use Rattle.mb_system.specs.Orders.{HasSent}
 use Rattle.mb_system.specs.declared.order.Order.{Order}
 use Rattle.mb_system.specs.declared.sender.Sender.{Sender}
 use Rattle.mb_system.proofs.Sending.{sent-none, sent-then}
+use Rattle.mb_reader.specs.declared.scenario.Sending.{Sending as Planned}
+use Rattle.mb_run.specs.Orders.{order_of, orders_of}
 use Rattle.mb_run.specs.Senders.{HasSentAll, HaveSentAll}
+use Rattle.mb_run.proofs.OrderLemmas.{each_time, orders-next, orders-other, orders-own}
 
 module _ {A K : Type 0} where
   -- one more of the same was sent
@@ -76,3 +79,28 @@ module _ {A K : Type 0} where
     all-ours orders number [] all = All-nil (λ (s : Sender A K). IsSenderOf gates s.inner)
     all-ours orders number (s ∷ senders) all =
         All-cons (λ (s : Sender A K). IsSenderOf gates s.inner) s senders all.0.ours (all-ours orders (number + 1) senders all.1)
+
+    -- the same where they are numbered from 0 on
+    pub sender-here : (orders : ℕ → List Order) (senders : List (Sender A K)) (i : ℕ) (s : Sender A K) → HaveSentAll gates orders 0 senders
+        → slice_get senders i ≡ Some s → HasSentAll gates i (orders i) s
+    sender-here orders senders i s all there =
+        subst (λ n. HasSentAll gates n (orders n) s) (zero-add i) (sender-at orders 0 senders i s all there)
+
+    -- a send more, by the sender in its place
+    pub sent-more : (sends : List Planned) (senders : List (Sender A K)) (k : ℕ) (d : Planned) (s t : Sender A K) → k < length sends
+        → (get_or sends k d).from < length senders → s ≡ get_or senders (get_or sends k d).from s
+        → HaveSentAll gates (λ n. orders_of n (take k sends)) 0 senders
+        → HasSent (replicate (get_or sends k d).times (order_of (get_or sends k d))) s t → IsSenderOf gates t.inner
+        → HaveSentAll gates (λ n. orders_of n (take (k + 1) sends)) 0 (set senders (get_or sends k d).from t)
+    sent-more sends senders k d s t in_sends lt is all more ours =
+        let send = get_or sends k d in
+        let first = λ n. orders_of n (take k sends) in
+        let next = λ n. orders_of n (take (k + 1) sends) in
+        let before = sender-here first senders send.from s all (slice_get-get_or senders send.from s lt ∙ ap Some (sym is)) in
+        let after = all-then send.from (first send.from) (each_time send) s t before more ours in
+        let own : first send.from ++ each_time send ≡ next send.from =
+        sym (orders-next send.from sends k d in_sends ∙ ap (λ l. first send.from ++ l) (orders-own send.from send refl)) in
+        one-more first next 0 senders send.from t lt all
+        (subst (λ n. HasSentAll gates n (next n) t) (sym (zero-add send.from)) (subst (λ o. HasSentAll gates send.from o t) own after))
+        (λ n other. sym (orders-next n sends k d in_sends
+        ∙ ap (λ l. first n ++ l) (orders-other n send (λ same. other (sym same ∙ sym (zero-add send.from)))) ∙ append-nil (first n)))
