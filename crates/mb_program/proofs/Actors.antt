@@ -50,8 +50,11 @@ behaved before (s ∷ scripts) new =
       },
       subst (λ (p : List Scripted × ℕ). AreBehaved (λ (s : Scripted). s.state) (λ (s : Scripted). after_of s.script.initial s.script.rows)
           (λ (s : Scripted). gives_of s.script) (after_at p.0) (gives_at p.0) p.1 scripts)
-          (λ i. (pushed before scripts s i, (let e : length (before ++ s ∷ []) + 1 ≡ length before + 1 + 1 =
-          (let f = length-pushed before s in omega (arith, f)) in e) i)) rest,
+          (λ i. (
+            pushed before scripts s i,
+            (let e : length (before ++ s ∷ []) + 1 ≡ length before + 1 + 1 =
+                (let f = length-pushed before s in omega (arith, f)) in e) i,
+          )) rest,
     )
 
 pub all-behaved : (text : List ℕ) (scenario : ScenarioData) → IsReadAs text scenario → AreBehaved (λ (s : Scripted). s.state)

@@ -17,11 +17,7 @@ use std::sync::Wait;
 use std::thread::Threads;
 
 /// Runs the workers while the senders send; all comes back.
-pub(crate) fn run_together<
-    A: Actor + Send,
-    K: Behaviours + Send,
-    R: Threads + Wait + Sync,
->(
+pub(crate) fn run_together<A: Actor + Send, K: Behaviours + Send, R: Threads + Wait + Sync>(
     rt: &R,
     alloc: Global,
     built: Built<A, K>,

@@ -14,13 +14,13 @@ returns-in-Err-fault_line g c = (Input NoMemory, said_no_memory _ _ c.in-Input.i
 pub returns : goal.returns
 returns g c =
     elim c.match-failure.branch [
-      in-Os w ↦ refused-as _ _ _ Os _ _ _ _ _ w.errors-is w.in-Os.is refl c.status.ensures w.say.ensures
-      | in-Arguments w ↦ refused-as _ _ _ Arguments _ _ _ _ _ w.errors-is w.in-Arguments.is refl c.status.ensures w.say-in-Arguments.ensures
-      | in-JournalFull w ↦ refused-as _ _ _ JournalFull _ _ _ _ _ w.errors-is w.in-JournalFull.is refl c.status.ensures
+      | in-Os w ↦ refused-as _ g.E.Write.contents _ Os _ (g.E.Write.contents c.args.errors.now.stream) _ _ _ w.errors-is w.in-Os.is refl c.status.ensures w.say.ensures
+      | in-Arguments w ↦ refused-as _ g.E.Write.contents _ Arguments _ (g.E.Write.contents c.args.errors.now.stream) _ _ _ w.errors-is w.in-Arguments.is refl c.status.ensures w.say-in-Arguments.ensures
+      | in-JournalFull w ↦ refused-as _ g.E.Write.contents _ JournalFull _ (g.E.Write.contents c.args.errors.now.stream) _ _ _ w.errors-is w.in-JournalFull.is refl c.status.ensures
           w.say-in-JournalFull.ensures
-      | in-Mismatch w ↦ refused-as _ _ _ Mismatch _ _ _ _ _ w.errors-is w.in-Mismatch.is refl c.status.ensures w.say-in-Mismatch.ensures
-      | in-NotQuiet+in-Ok w ↦ refused-as _ _ _ _ _ _ _ _ _ w.errors-is w.in-NotQuiet.is (w.as_str.ensures.value ∙ w.in-Ok.ensures)
+      | in-Mismatch w ↦ refused-as _ g.E.Write.contents _ Mismatch _ (g.E.Write.contents c.args.errors.now.stream) _ _ _ w.errors-is w.in-Mismatch.is refl c.status.ensures w.say-in-Mismatch.ensures
+      | in-NotQuiet+in-Ok w ↦ refused-as _ g.E.Write.contents _ _ _ (g.E.Write.contents c.args.errors.now.stream) _ _ _ w.errors-is w.in-NotQuiet.is (w.as_str.ensures.value ∙ w.in-Ok.ensures)
           c.status.ensures w.say-in-Ok.ensures
-      | in-Input+in-Ok-fault_line w ↦ refused-as _ _ _ _ _ _ _ _ _ w.errors-is w.in-Input.is
+      | in-Input+in-Ok-fault_line w ↦ refused-as _ g.E.Write.contents _ _ _ (g.E.Write.contents c.args.errors.now.stream) _ _ _ w.errors-is w.in-Input.is
           (w.as_str-in-Ok-fault_line.ensures.value ∙ w.in-Ok-fault_line.ensures) c.status.ensures w.say-in-Ok-fault_line.ensures
     ]
