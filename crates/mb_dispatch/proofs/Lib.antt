@@ -3,3 +3,7 @@ pub mod Parts
 pub mod Gathered
 pub mod Settling
 pub mod Bringing
+pub mod Sent
+pub mod Chosen
+pub mod Rolls
+pub mod Story

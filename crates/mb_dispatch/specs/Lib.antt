@@ -1,3 +1,5 @@
 pub mod Belonging
 pub mod Refused
+pub mod Sent
 pub mod Story
+pub mod Untold

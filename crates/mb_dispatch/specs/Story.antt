@@ -1,43 +1,76 @@
 -- A whole run, from the plan and the actors to the report.
-use Rattle.std.specs.Prelude.{◌≡◌, ℕ, ◌-◌, ℤ, pos, List, Option, Some, None, length, map, slice_get}
+use Rattle.std.specs.Prelude.{◌≡◌, ℕ, zero, suc, ◌+◌, ℤ, pos, List, ◌++◌, All, Option, Some, None, length, map, reverse, slice_get}
 use Rattle.mb_actor.specs.Behaviour.{Moment, Reply}
 use Rattle.mb_actor.specs.declared.message.Message.{Message}
+use Rattle.mb_build.specs.Kinds.{Queues}
 use Rattle.mb_fates.specs.Accepted.{accepted}
 use Rattle.mb_fates.specs.declared.posting.Posting.{Posting}
-use Rattle.mb_gate.specs.View.{Sight}
+use Rattle.mb_gate.specs.Rule.{IsPart}
+use Rattle.mb_gate.specs.View.{Sight, View}
 use Rattle.mb_home.specs.Roll.{Enrolled}
+use Rattle.mb_msg.specs.declared.system.SysMsg.{SysMsg}
+use Rattle.mb_plan.specs.declared.actor_plan.ActorPlan.{ActorPlan}
 use Rattle.mb_plan.specs.declared.plan.Plan.{Plan}
+use Rattle.mb_queue.specs.Made.{bound_of, turns_in}
+use Rattle.mb_queue.specs.declared.kind.Kind.{Kind}
+use Rattle.mb_reckon.specs.Seen.{GoesOnFromAll}
 use Rattle.mb_reckon.specs.Whole.{IsWhole}
 use Rattle.mb_report.specs.declared.report.Report.{Report}
 use Rattle.mb_system.specs.Begun.{actors_in}
-use Rattle.mb_system.specs.Orders.{addressed, told_by}
+use Rattle.mb_system.specs.Orders.{addressed, said_to, stopped_by, told_by}
 use Rattle.mb_system.specs.declared.order.Order.{Order}
 
--- what the very actor does that was handed in for this number: the first for 1, since 0 is the guardian's
-module _ {A : Type 0} (actors : List A) where
-  abbrev pub after_of : (A → List Message → ℤ) → Option A → List Message → ℤ
-  after_of after None = λ messages. pos 0
-  after_of after (Some actor) = after actor
+-- the actor that was handed in for this number: the first for 1, since 0 is the guardian's
+abbrev pub handed_in : {A : Type 0} → List A → ℕ → Option A
+handed_in actors zero = None
+handed_in actors (suc place) = slice_get actors place
 
-  abbrev pub gives_of : (A → Moment → Reply → Type 0) → Option A → Moment → Reply → Type 0
-  gives_of gives None = λ moment reply. Unit {0}
-  gives_of gives (Some actor) = gives actor
+-- what this very actor does
+abbrev pub after_of : {A : Type 0} → (A → List Message → ℤ) → Option A → List Message → ℤ
+after_of after None messages = pos 0
+after_of after (Some actor) messages = after actor messages
 
-  abbrev pub after_at : (A → List Message → ℤ) → ℕ → List Message → ℤ
-  after_at after number = after_of after (slice_get actors (number - 1))
+abbrev pub gives_of : {A : Type 0} → (A → Moment → Reply → Type 0) → Option A → Moment → Reply → Type 0
+gives_of gives None moment reply = Unit {0}
+gives_of gives (Some actor) moment reply = gives actor moment reply
 
-  abbrev pub gives_at : (A → Moment → Reply → Type 0) → ℕ → Moment → Reply → Type 0
-  gives_at gives number = gives_of gives (slice_get actors (number - 1))
+-- what each of these does, by its number
+abbrev pub after_at : {A : Type 0} → List A → (A → List Message → ℤ) → ℕ → List Message → ℤ
+after_at actors after number messages = after_of after (handed_in actors number) messages
 
--- The report is whole of the actors of this plan and of senders outside each of whom was answered for the envelopes of its orders, in order and
--- for nothing else.
+abbrev pub gives_at : {A : Type 0} → List A → (A → Moment → Reply → Type 0) → ℕ → Moment → Reply → Type 0
+gives_at actors gives number moment reply = gives_of gives (handed_in actors number) moment reply
+
+-- the actor has the mailbox that its plan says: whose turn it is in its queue, and how much that holds at most
+pub record HasMailbox (plan : ActorPlan) (e : Enrolled) : Type 0 where
+  pub kind : Kind
+  pub queues : Queues plan.mailbox kind
+  pub turns : e.turns ≡ turns_in kind
+  pub bound : e.queue.main.capacity ≡ bound_of kind
+
+-- The sender was answered for the envelopes of these orders, in order and for nothing else; and of all that it said their Terminates, in order,
+-- are the last: what was said stands with the newest first.
+pub record DidOrders (orders : List Order) (postings : List Posting) (knew : View) : Type 0 where
+  pub accepted_are : addressed (accepted postings) ≡ told_by orders
+  pub earlier : List (ℕ × SysMsg)
+  pub said : said_to knew.said ≡ reverse (stopped_by orders) ++ earlier
+
+-- The report is whole of the actors of this plan, and of its senders outside, of whom each did the orders of its place: it speaks of all that
+-- the senders and the workers' ends saw, and goes on from that.
 pub record IsStory (after : ℕ → List Message → ℤ) (gives : ℕ → Moment → Reply → Type 0) (plan : Plan) (orders : List (List Order)) (report : Report)
     : Type 0 where
   pub roll : List Enrolled
   pub who : map (λ (e : Enrolled). e.who) roll ≡ actors_in plan
+  pub mailboxes : (place : ℕ) (a : ActorPlan) (e : Enrolled) → slice_get plan.actors.items place ≡ Some a → slice_get roll (place + 1) ≡ Some e
+      → HasMailbox a e
   pub log : List Sight
   pub outside : List (List Posting)
   pub many : length outside ≡ plan.senders
   pub whole : IsWhole after gives roll log outside report
-  pub sent : (place : ℕ) (postings : List Posting) (of : List Order) → slice_get outside place ≡ Some postings → slice_get orders place ≡ Some of
-      → addressed (accepted postings) ≡ told_by of
+  pub knew : List View
+  pub all_knew : length knew ≡ plan.senders
+  pub ends : List View
+  pub all_ends : length ends ≡ plan.workers
+  pub seen : All (λ (v : View). IsPart v.log log × GoesOnFromAll report v) knew × All (λ (v : View). IsPart v.log log × GoesOnFromAll report v) ends
+  pub did : (place : ℕ) (of : List Order) (postings : List Posting) (view : View) → slice_get orders place ≡ Some of
+      → slice_get outside place ≡ Some postings → slice_get knew place ≡ Some view → DidOrders of postings view

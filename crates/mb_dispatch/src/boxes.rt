@@ -1,16 +1,18 @@
 //! A whole run on one thread, also of boxed actors of mixed kinds.
-ghost use Rattle.std.specs.Prelude.{◌≡◌, [], All, IfOk, map};
+ghost use Rattle.std.specs.Prelude.{◌≡◌, [], All, IfErr, IfOk, MatchResult, OnOk, length, map};
 ghost use Rattle.mb_build.specs.Behaved.{AreBehaved};
 ghost use Rattle.mb_dispatch.specs.Story.{IsStory, after_at, gives_at};
+ghost use Rattle.mb_dispatch.specs.Untold.{IsNoStory, IsRight};
 
 use crate::ending::{FinishError, finish};
+use crate::sending::send_and_run;
 use mb_actor::{Actor, Behaviours};
-use mb_build::PlanError;
+use mb_build::{PlanError, check_plan};
 use mb_msg::ActorId;
 use mb_plan::Plan;
 use mb_reckon::Mismatch;
 use mb_report::Report;
-use mb_system::{BuildError, Built, Order, RunError, System};
+use mb_system::{BuildError, Order, RunError, System};
 use std::alloc::Global;
 use std::marker::Brand;
 use std::sync::Wait;
@@ -18,11 +20,13 @@ use std::sync::Wait;
 /// Why a whole run gave no report.
 #[derive(Clone, Copy, Debug, PartialEq, Eq)]
 pub enum WholeError {
-    /// No system can be built from the plan.
+    /// No system can be built from the plan: the first reason of all. Nothing was done.
     BadPlan(PlanError),
-    /// Memory was refused.
+    /// There are fewer lists of orders than the plan has senders, or more. Nothing was done.
+    Sends,
+    /// Memory was refused as the system was built, or as it was to end.
     NoMemory,
-    /// The run was broken off.
+    /// What was to be sent could not be, or the run was broken off.
     Run(RunError),
     /// This actor has something to run still.
     NotQuiet(ActorId),
@@ -32,6 +36,9 @@ pub enum WholeError {
 
 /// Builds a system from a plan and boxed actors of any kinds, sends by each sender outside what stands at its place, runs it on
 /// this thread alone until nothing is left to run, and ends it: the report. No message came to any of the actors yet.
+///
+/// The actors come in the order of their numbers, from 1 on. There is one list of orders for each sender of the plan, an empty one
+/// for a sender that sends nothing. After an error all is let go.
 pub fn run_boxed<R: Wait>(
     rt: &R,
     alloc: Global,
@@ -42,6 +49,8 @@ pub fn run_boxed<R: Wait>(
     requires unused { All (λ actor. content actor ≡ after actor []) actors.items }
     ensures story { IfOk result (IsStory (after_at actors.items after) (gives_at actors.items gives) plan
         (map (λ orders. orders.items) sends.now)) }
+    ensures right { OnOk result (IsRight plan (length actors.items) (length sends.now)) }
+    ensures refused { IfErr result (IsNoStory plan (length actors.items) (length sends.now)) }
 {
     run_whole::<Box<dyn Actor + Send>, R>(rt, alloc, plan, actors, sends)
 }
@@ -57,6 +66,8 @@ pub fn run_whole<A: Actor, R: Wait>(
     requires unused { All (λ actor. A.content actor ≡ A.after actor []) actors.items }
     ensures story { IfOk result (IsStory (after_at actors.items A.after) (gives_at actors.items A.gives) plan
         (map (λ orders. orders.items) sends.now)) }
+    ensures right { OnOk result (IsRight plan (length actors.items) (length sends.now)) }
+    ensures refused { IfErr result (IsNoStory plan (length actors.items) (length sends.now)) }
 {
     run_planned::<A, Brand, R>(rt, alloc, plan, actors, sends)
 }
@@ -71,11 +82,14 @@ fn run_planned<A: Actor, K: Behaviours, R: Wait>(
 ) -> Result<Report, WholeError>
     requires behaved { AreBehaved A.content A.after A.gives K.after K.gives 1 actors.items }
     ensures story { IfOk result (IsStory K.after K.gives plan (map (λ orders. orders.items) sends.now)) }
+    ensures right { OnOk result (IsRight plan (length actors.items) (length sends.now)) }
+    ensures refused { IfErr result (IsNoStory plan (length actors.items) (length sends.now)) }
 {
+    check(&plan, actors.len(), sends.len())?;
     let mut built = match System::<A, K>::build(rt, alloc, plan, actors) {
         Ok(built) => built,
-        Err(BuildError::BadPlan(reason, _, _)) => return Err(WholeError::BadPlan(reason)),
         Err(BuildError::NoMemory) => return Err(WholeError::NoMemory),
+        Err(BuildError::BadPlan(_, _, _)) => unreachable!(),
     };
     if let Err(error) = send_and_run(rt, &mut built, sends) {
         return Err(WholeError::Run(error));
@@ -85,28 +99,21 @@ fn run_planned<A: Actor, K: Behaviours, R: Wait>(
         Err(FinishError::NotQuiet(id, _)) => Err(WholeError::NotQuiet(id)),
         Err(FinishError::Mismatch(mismatch)) => Err(WholeError::Mismatch(mismatch)),
         Err(FinishError::NoMemory(_)) => Err(WholeError::NoMemory),
-        Err(FinishError::MissingEnd(_, _)) | Err(FinishError::MissingSender(_, _)) => {
-            unreachable!()
-        }
+        // The system has all ends and senders that it began with.
+        Err(FinishError::MissingEnd(_, _)) => unreachable!(),
+        Err(FinishError::MissingSender(_, _)) => unreachable!(),
     }
 }
 
-// Sends all, and runs what there is to run.
-fn send_and_run<A: Actor, K: Behaviours, R: Wait>(
-    rt: &R,
-    built: &mut Built<A, K>,
-    sends: &[Vec<Order>],
-) -> Result<(), RunError> {
-    let Built {
-        system,
-        ends,
-        senders,
-    } = built;
-    for (sender, orders) in senders.iter_mut().zip(sends) {
-        sender.send_all(rt, system, orders)?;
+// What is refused before anything is done.
+fn check(plan: &Plan, actors: usize, lists: usize) -> Result<(), WholeError>
+    ensures { MatchResult result (λ _. IsRight plan.now actors lists) (IsNoStory plan.now actors lists) }
+{
+    if let Err(reason) = check_plan(plan, actors) {
+        return Err(WholeError::BadPlan(reason));
     }
-    if let Some(first) = ends.first_mut() {
-        let _turns = first.run_quietly(rt, system)?;
+    if lists != plan.senders as usize {
+        return Err(WholeError::Sends);
     }
     Ok(())
 }

@@ -9,6 +9,7 @@ mod boxes;
 mod ending;
 mod leaving;
 mod missing;
+mod sending;
 
 pub use boxes::{WholeError, run_boxed, run_whole};
 pub use ending::{FinishError, finish};

@@ -1,0 +1,142 @@
+-- Senders that do their orders, one after another.
+use Rattle.std.proofs.Common.{◌≡◌, ◌⊎◌, inl, inr, ℕ, zero, suc, ◌+◌, ◌-◌, ◌<◌, ◌≤◌, List, [], ◌∷◌, length, map, refl, sym, ap, ◌∙◌, subst, Some}
+use Rattle.std.proofs.Common.{arith, get_or, Vec}
+use Rattle.std.specs.Prelude.{◌≢◌, All, AllPairs, slice_get, slice_set}
+use Rattle.std.specs.Global.{Box, Global}
+use Rattle.std.proofs.lemmas.Bool.{cases_eq}
+use Rattle.std.proofs.lemmas.List.{length-set}
+use Rattle.std.proofs.lemmas.Option.{same_Some, slice_get_read, slice_get_within}
+use Rattle.mb_msg.specs.Limits.{most_actors}
+use Rattle.mb_msg.specs.declared.id.SenderId.{SenderId}
+use Rattle.mb_actor.specs.Behaviour.{Moment, Reply}
+use Rattle.mb_gate.specs.declared.gates.Gates.{Gates}
+use Rattle.mb_home.specs.Contents.{Contents}
+use Rattle.mb_pool.specs.Moves.{WasEmpty}
+use Rattle.mb_pool.specs.Places.{Way, gates_of, looks}
+use Rattle.mb_turn.specs.Fresh.{IsFreshClaim}
+use Rattle.mb_wake.specs.Owed.{IsNobody}
+use Rattle.mb_reckon.proofs.Lists.{at-place, each-place, mapped, same-maps, there}
+use Rattle.mb_system.specs.Belonging.{BelongsTogether, senders_numbers}
+use Rattle.mb_system.specs.Members.{IsEndOf, IsSenderOf, ends_numbers}
+use Rattle.mb_system.specs.Orders.{HasSent, OwesNobody}
+use Rattle.mb_system.specs.declared.built.Built.{Built}
+use Rattle.mb_system.specs.declared.end.WorkerEnd.{WorkerEnd}
+use Rattle.mb_system.specs.declared.order.Order.{Order}
+use Rattle.mb_system.specs.declared.sender.Sender.{Sender}
+use Rattle.mb_dispatch.specs.Sent.{FoundNothing, HaveSent}
+
+module _ {X : Type 0} where
+  set-here : (xs : List X) (n : ℕ) (x : X) → n < length xs → slice_get (slice_set xs n x) n ≡ Some x
+  set-here [] n x lt = absurd (omega (arith, lt))
+  set-here (y ∷ xs) zero x lt = refl
+  set-here (y ∷ xs) (suc n) x lt = set-here xs n x (omega (arith, lt))
+
+  set-other : (xs : List X) (n k : ℕ) (x : X) → (k ≡ n → ⊥) → slice_get (slice_set xs n x) k ≡ slice_get xs k
+  set-other [] n k x other = refl
+  set-other (y ∷ xs) zero zero x other = absurd (other refl)
+  set-other (y ∷ xs) zero (suc k) x other = refl
+  set-other (y ∷ xs) (suc n) zero x other = refl
+  set-other (y ∷ xs) (suc n) (suc k) x other = set-other xs n k x (λ e. other (ap suc e))
+
+-- those before this place became what they are to, and the others are as they were
+module _ {X : Type 0} (R : ℕ → X → X → Type 0) where
+  pub record AreUpTo (n : ℕ) (old new : List X) : Type 0 where
+    pub many : length new ≡ length old
+    pub done : (k : ℕ) (a b : X) → k < n → slice_get old k ≡ Some a → slice_get new k ≡ Some b → R k a b
+    pub rest : (k : ℕ) → n ≤ k → slice_get new k ≡ slice_get old k
+
+  pub none-done : (xs : List X) → AreUpTo 0 xs xs
+  none-done xs = record { many = refl; done = λ k a b lt. absurd (omega (arith, lt)); rest = λ k le. refl }
+
+  pub one-done : (n : ℕ) (old now : List X) (a b : X) → AreUpTo n old now → slice_get now n ≡ Some a → R n a b
+      → AreUpTo (n + 1) old (slice_set now n b)
+  one-done n old now a b so here did = record {
+    many = length-set now n b ∙ so.many;
+    done = λ k x y lt was is. at k x y lt was is (cases_eq k n);
+    rest = λ k le. set-other now n k b (λ e. omega (arith, e, le)) ∙ so.rest k (omega (arith, le));
+  }
+    where
+      at : (k : ℕ) (x y : X) → k < n + 1 → slice_get old k ≡ Some x → slice_get (slice_set now n b) k ≡ Some y → (k ≡ n) ⊎ (k ≡ n → ⊥)
+          → R k x y
+      at k x y lt was is (inl same) =
+          let before : a ≡ x = same_Some a x
+          (sym here ∙ so.rest n (omega arith) ∙ ap (slice_get old) (sym same) ∙ was) in
+          let after : b ≡ y = same_Some b y
+          (sym (set-here now n b (slice_get_within now n a here)) ∙ ap (slice_get (slice_set now n b)) (sym same) ∙ is) in
+          subst (λ m. R m x y) (sym same) (subst (λ z. R n z y) before (subst (R n a) after did))
+      at k x y lt was is (inr other) =
+          so.done k x y (omega (arith, lt, other)) was (sym (set-other now n k b other) ∙ is)
+
+-- what is ordered
+abbrev pub orders_of : List (Vec Order Global) → List (List Order)
+orders_of = map (λ (v : Vec Order Global). v.items)
+
+pub orders-at : (sends : List (Vec Order Global)) (place : ℕ) (v : Vec Order Global) (of given : List Order) → place < length sends
+    → v ≡ get_or sends place v → given ≡ v.items → slice_get (orders_of sends) place ≡ Some of → given ≡ of
+orders-at sends place v of given lt is same there =
+    let at : slice_get sends place ≡ Some v = slice_get_read sends (length sends) place v refl lt is in
+    same ∙ same_Some v.items of (sym (mapped (λ (v : Vec Order Global). v.items) sends place v at) ∙ there)
+
+module _ {A K : Type 0} (gates : Gates (Box Contents)) (orders : List (List Order)) where
+  -- the sender of this place did what was ordered
+  abbrev pub Did : ℕ → Sender A K → Sender A K → Type 0
+  Did place old new = (of : List Order) → slice_get orders place ≡ Some of → HasSent of old new × OwesNobody gates new
+
+  pub all-sent : (n : ℕ) (old new : List (Sender A K)) → length old ≤ n → AreUpTo Did n old new → HaveSent gates orders old new
+  all-sent n old new all so = record {
+    many = so.many;
+    each = λ place of a b is was now.
+        (let lt = slice_get_within old place a was in so.done place a b (omega (arith, lt, all)) was now of is);
+  }
+
+  module _ (old new : List (Sender A K)) (as_many : length old ≡ length orders) (sent : HaveSent gates orders old new) where
+    -- each is the sender of the number that it was
+    pub by-kept : (place : ℕ) (a b : Sender A K) → slice_get old place ≡ Some a → slice_get new place ≡ Some b
+        → b.inner.book.by ≡ a.inner.book.by
+    by-kept place a b was is =
+        let lt = slice_get_within old place a was in
+        let of = there orders place (omega (arith, lt, as_many)) in (sent.each place of.0 a b of.1 was is).0.by
+
+    pub numbers-kept : senders_numbers new ≡ senders_numbers old
+    numbers-kept =
+        let number = λ (s : Sender A K). s.inner.book.by.0 - most_actors in
+        same-maps number number new old sent.many (λ i b a is was. ap (λ (n : SenderId). n.0 - most_actors) (by-kept i a b was is))
+
+    pub limits-kept : (limit : ℕ) → All (λ (s : Sender A K). (most_actors ≤ s.inner.book.by.0) × (s.inner.book.by.0 < limit)) old
+        → All (λ (s : Sender A K). (most_actors ≤ s.inner.book.by.0) × (s.inner.book.by.0 < limit)) new
+    limits-kept limit all =
+        let P = λ (s : Sender A K). (most_actors ≤ s.inner.book.by.0) × (s.inner.book.by.0 < limit) in
+        each-place P new (λ i b is.
+        (let lt = slice_get_within new i b is in let many = sent.many in
+        let a = there old i (omega (arith, lt, many)) in
+        subst (λ (n : SenderId). (most_actors ≤ n.0) × (n.0 < limit)) (sym (by-kept i a.0 b a.1 is)) (at-place P old i a.0 all a.1)))
+
+module _ {A K : Type 0} where
+  -- all belongs together after that
+  pub together-kept : (orders : List (List Order)) (old new : Built A K) → length old.senders.items ≡ length orders → new.system ≡ old.system
+      → BelongsTogether old → HaveSent old.system.gates orders old.senders.items new.senders.items
+      → All (λ (e : WorkerEnd A K). IsEndOf old.system.gates e.waker) new.ends.items
+      → All (λ (s : Sender A K). IsSenderOf old.system.gates s.inner) new.senders.items → BelongsTogether new
+  together-kept orders old new as_many same was sent ends senders = record {
+    ends = subst (λ g. All (λ (e : WorkerEnd A K). IsEndOf g e.waker) new.ends.items) (sym (ap (λ s. s.gates) same)) ends;
+    senders = subst (λ g. All (λ (s : Sender A K). IsSenderOf g s.inner) new.senders.items) (sym (ap (λ s. s.gates) same)) senders;
+    once = subst (AllPairs (λ a b. a ≢ b))
+        (sym (numbers-kept old.system.gates orders old.senders.items new.senders.items as_many sent)) was.once;
+    numbered = subst (λ n. All (λ (s : Sender A K). (most_actors ≤ s.inner.book.by.0) × (s.inner.book.by.0 < most_actors + n)) new.senders.items)
+        (sym (ap (λ s. s.senders) same))
+        (limits-kept old.system.gates orders old.senders.items new.senders.items as_many sent (most_actors + old.system.senders) was.numbered);
+  }
+
+  -- an end is put in the place of the first, whose number it has
+  pub first-number : (old new : WorkerEnd A K) (ends : List (WorkerEnd A K)) → ends ≢ [] → old ≡ get_or ends 0 old → new.number ≡ old.number
+      → ends_numbers (slice_set ends 0 new) ≡ ends_numbers ends
+  first-number old new [] some is same = absurd (some refl)
+  first-number old new (x ∷ ends) some is same = ap (λ n. n ∷ ends_numbers ends) (same ∙ ap (λ (w : WorkerEnd A K). w.number) is)
+
+  -- the first of the ends, which ran, found nothing more
+  pub found-nothing : (gives : ℕ → Moment → Reply → Type 0) (ends : List (WorkerEnd A K)) (e : WorkerEnd A K) → ends ≢ []
+      → IsNobody e.waker.owed → (way : Way (Box Contents)) → gates_of way ≡ gates_of e.waker.way.end
+      → All (WasEmpty (IsFreshClaim gives)) (looks way) → FoundNothing gives (slice_set ends 0 e)
+  found-nothing gives [] e some nobody way of empty = absurd (some refl)
+  found-nothing gives (x ∷ ends) e some nobody way of empty =
+      record { first = e; rest = ends; are = refl; nobody = nobody; way = way; of = of; empty = empty }

@@ -1,0 +1,174 @@
+-- A whole run, from the system as it begins to what its end says.
+use Rattle.std.proofs.Common.{◌≡◌, ◌<◌, ◌≤◌, ℤ, ℕ, zero, suc, ◌+◌, ◌-◌, List, [], ◌∷◌, ◌++◌, length, map, refl, sym, ap, ◌∙◌, subst, Some, arith}
+use Rattle.std.specs.Prelude.{◌≢◌, All, slice_get}
+use Rattle.std.specs.Global.{Box}
+use Rattle.std.proofs.lemmas.List.{length-map}
+use Rattle.std.proofs.lemmas.List.Elements.{All-map}
+use Rattle.std.proofs.lemmas.Option.{get_or_from_slice_get, same_Some, slice_get_within}
+use Rattle.mb_msg.specs.Limits.{most_actors}
+use Rattle.mb_actor.specs.Behaviour.{Moment, Reply}
+use Rattle.mb_actor.specs.declared.message.Message.{Message}
+use Rattle.mb_fates.specs.Accepted.{accepted}
+use Rattle.mb_fates.specs.declared.posting.Posting.{Posting}
+use Rattle.mb_gate.specs.Names.{first_of, known_by}
+use Rattle.mb_gate.specs.Rule.{IsPart}
+use Rattle.mb_gate.specs.View.{Sight, View}
+use Rattle.mb_gate.specs.declared.gates.Gates.{Gates}
+use Rattle.mb_home.specs.Contents.{Contents}
+use Rattle.mb_plan.specs.declared.plan.Plan.{Plan}
+use Rattle.mb_queue.specs.Passes.{Sending}
+use Rattle.mb_report.specs.declared.report.Report.{Report}
+use Rattle.mb_build.specs.Handed.{passes_of}
+use Rattle.mb_build.specs.Numbers.{numbers}
+use Rattle.mb_reckon.specs.Seen.{GoesOnFromAll}
+use Rattle.mb_reckon.specs.Whole.{IsWhole}
+use Rattle.mb_reckon.proofs.Lists.{at-place, from-mapped, length-mapped, there}
+use Rattle.mb_system.specs.Begun.{AreNewEnds, AreNewSenders, IsBegun}
+use Rattle.mb_system.specs.Belonging.{senders_numbers}
+use Rattle.mb_system.specs.Members.{ends_numbers}
+use Rattle.mb_system.specs.Orders.{addressed, said_to}
+use Rattle.mb_system.specs.declared.built.Built.{Built}
+use Rattle.mb_system.specs.declared.end.WorkerEnd.{WorkerEnd}
+use Rattle.mb_system.specs.declared.order.Order.{Order}
+use Rattle.mb_system.specs.declared.sender.Sender.{Sender}
+use Rattle.mb_dispatch.specs.Belonging.{AreAnswers, AreThere, HasAllSeen}
+use Rattle.mb_dispatch.specs.Sent.{HaveSent}
+use Rattle.mb_dispatch.specs.Story.{DidOrders, IsStory}
+use Rattle.mb_dispatch.proofs.Rolls.{of-plan}
+use Rattle.mb_dispatch.proofs.Sent.{numbers-kept}
+
+-- numbers in a row
+length-numbers : (first count : ℕ) → length (numbers first count) ≡ count
+length-numbers first zero = refl
+length-numbers first (suc count) = ap suc (length-numbers (first + 1) count)
+
+number-at : (first count i : ℕ) → i < count → slice_get (numbers first count) i ≡ Some (first + i)
+number-at first zero i lt = absurd (omega (arith, lt))
+number-at first (suc count) zero lt = ap Some (omega arith)
+number-at first (suc count) (suc i) lt = number-at (first + 1) count i (omega (arith, lt)) ∙ ap Some (omega arith)
+
+all-there : (many : ℕ) (ns : List ℕ) → ns ≡ numbers 0 many → AreThere many ns
+all-there many ns are n lt =
+    let at : slice_get ns n ≡ Some n = ap (λ l. slice_get l n) are ∙ number-at 0 many n lt ∙ ap Some (omega arith) in
+    (n, slice_get_within ns n n at, get_or_from_slice_get ns n n n at)
+
+module _ {A K : Type 0} (gates : Gates (Box Contents)) where
+  numbers-of-ends : (number : ℕ) (ends : List (WorkerEnd A K)) → AreNewEnds gates number ends → ends_numbers ends ≡ numbers number (length ends)
+  numbers-of-ends number [] are = refl
+  numbers-of-ends number (e ∷ ends) are = λ i. are.0.number_is i ∷ numbers-of-ends (number + 1) ends are.1 i
+
+  numbers-of-senders : (number : ℕ) (rows : List (List Sending)) (senders : List (Sender A K)) → most_actors ≤ number
+      → AreNewSenders gates number rows senders
+      → (senders_numbers senders ≡ numbers (number - most_actors) (length senders)) × (length senders ≡ length rows)
+  numbers-of-senders number [] [] least are = (refl, refl)
+  numbers-of-senders number [] (s ∷ senders) least are = absurd are
+  numbers-of-senders number (row ∷ rows) [] least are = absurd are
+  numbers-of-senders number (row ∷ rows) (s ∷ senders) least are =
+      let rest = numbers-of-senders (number + 1) rows senders (omega (arith, least)) are.1 in
+      let next : (number + 1) - most_actors ≡ (number - most_actors) + 1 = omega (arith, least) in
+      let one : s.inner.book.by.0 - most_actors ≡ number - most_actors = ap (λ n. n.0 - most_actors) are.0.by in
+      ((λ i. one i ∷ (rest.0 ∙ ap (λ n. numbers n (length senders)) next) i), ap suc rest.1)
+
+  -- the sender at this place, as it began
+  new-at : (number : ℕ) (rows : List (List Sending)) (senders : List (Sender A K)) (place : ℕ) (s : Sender A K)
+      → AreNewSenders gates number rows senders → slice_get senders place ≡ Some s
+      → (s.inner.book.by.0 ≡ number + place) × (s.inner.book.posted ≡ [])
+  new-at number [] [] place s are is = absurd (omega (arith, slice_get_within {A = Sender A K} [] place s is))
+  new-at number [] (x ∷ senders) place s are is = absurd are
+  new-at number (row ∷ rows) [] place s are is = absurd are
+  new-at number (row ∷ rows) (x ∷ senders) zero s are is =
+      let same = sym (same_Some x s is) in (
+        ap (λ (y : Sender A K). y.inner.book.by.0) same ∙ ap (λ n. n.0) are.0.by ∙ (omega arith),
+        ap (λ (y : Sender A K). y.inner.book.posted) same ∙ are.0.posted,
+      )
+  new-at number (row ∷ rows) (x ∷ senders) (suc place) s are is =
+      let rest = new-at (number + 1) rows senders place s are.1 is in (rest.0 ∙ (omega arith), rest.1)
+
+module _ {A K : Type 0} (gives : ℕ → Moment → Reply → Type 0) (plan : Plan) (built : Built A K) (begun : IsBegun gives plan built) where
+  -- all senders and ends of the plan are there, in order
+  pub senders-there : (length built.senders.items ≡ plan.senders) × (senders_numbers built.senders.items ≡ numbers 0 plan.senders)
+  senders-there =
+      let are = numbers-of-senders built.system.gates most_actors begun.outside built.senders.items (omega arith) begun.senders in
+      let many : length built.senders.items ≡ plan.senders =
+      are.1 ∙ ap length begun.housed.passes ∙ length-map (numbers most_actors plan.senders) (passes_of begun.housed.takes)
+      ∙ length-numbers most_actors plan.senders in
+      (many, are.0 ∙ ap (numbers 0) many)
+
+  pub ends-there : ends_numbers built.ends.items ≡ numbers 0 plan.workers
+  ends-there =
+      let all : ends_numbers built.ends.items ≡ numbers 0 (length built.ends.items) =
+      ap ends_numbers begun.ends_are
+      ∙ (λ i. begun.first_end.0 i ∷ numbers-of-ends built.system.gates 1 begun.others begun.others_are i)
+      ∙ ap (λ l. numbers 0 (length l)) (sym begun.ends_are) in
+      all ∙ ap (numbers 0) begun.many
+
+  pub some-end : built.ends.items ≢ []
+  some-end none = let e = ap length (sym begun.ends_are ∙ none) in omega (arith, e)
+
+  module _ (orders : List (List Order)) (now : Built A K) (right : length orders ≡ plan.senders) (system : now.system ≡ built.system)
+      (ends : ends_numbers now.ends.items ≡ ends_numbers built.ends.items)
+      (sent : HaveSent built.system.gates orders built.senders.items now.senders.items) where
+    pub no-end-missing : AreThere now.system.workers (ends_numbers now.ends.items)
+    no-end-missing =
+        let workers : now.system.workers ≡ plan.workers = ap (λ s. s.workers) system ∙ begun.numbers.0 in
+        all-there now.system.workers (ends_numbers now.ends.items) (ends ∙ ends-there ∙ ap (numbers 0) (sym workers))
+
+    pub no-sender-missing : AreThere now.system.senders (senders_numbers now.senders.items)
+    no-sender-missing =
+        let senders : now.system.senders ≡ plan.senders = ap (λ s. s.senders) system ∙ begun.numbers.1 in
+        all-there now.system.senders (senders_numbers now.senders.items)
+        (numbers-kept built.system.gates orders built.senders.items now.senders.items (senders-there.0 ∙ sym right) sent
+        ∙ senders-there.1 ∙ ap (numbers 0) (sym senders))
+
+    -- what came of the orders of one sender
+    did-orders : (answers : List (List Posting)) → AreAnswers now.system.senders now.senders.items answers → (place : ℕ) (of : List Order)
+        (postings : List Posting) (view : View) → slice_get orders place ≡ Some of → slice_get answers place ≡ Some postings
+        → slice_get (map (λ (s : Sender A K). known_by s.inner.waker.pass) now.senders.items) place ≡ Some view → DidOrders of postings view
+    did-orders answers answered place of postings view is told knew =
+        let knows = λ (s : Sender A K). known_by s.inner.waker.pass in
+        let after = from-mapped knows now.senders.items place view knew in
+        let lt = slice_get_within now.senders.items place after.0 after.1 in let many = sent.many in
+        let before = there built.senders.items place (omega (arith, lt, many)) in
+        let new = new-at built.system.gates most_actors begun.outside built.senders.items place before.0 begun.senders before.1 in
+        let one = (sent.each place of before.0 after.0 is before.1 after.1).0 in
+        let number : after.0.inner.book.by.0 - most_actors ≡ place =
+        let by = ap (λ n. n.0) one.by ∙ new.0 in omega (arith, by) in
+        let answer = at-place (λ (s : Sender A K). slice_get answers (s.inner.book.by.0 - most_actors) ≡ Some s.inner.book.posted) now.senders.items
+        place after.0 answered.each after.1 in
+        let posted : postings ≡ one.more =
+        same_Some postings after.0.inner.book.posted (sym told ∙ ap (slice_get answers) (sym number) ∙ answer)
+        ∙ one.posted ∙ ap (λ l. l ++ one.more) new.1 in record {
+          accepted_are = ap (λ l. addressed (accepted l)) posted ∙ one.accepted_are;
+          earlier = said_to (known_by before.0.inner.waker.pass).said;
+          said = ap (λ (v : View). said_to v.said) (sym after.2) ∙ one.said;
+        }
+
+    pub story : (after : ℕ → List Message → ℤ) (report : Report) (log : List Sight) (answers : List (List Posting)) → HasAllSeen now log
+        → AreAnswers now.system.senders now.senders.items answers
+        → IsWhole after gives (first_of now.system.gates).value.roll log answers report
+        → All (λ (e : WorkerEnd A K). GoesOnFromAll report (known_by e.waker.pass)) now.ends.items
+        → All (λ (s : Sender A K). GoesOnFromAll report (known_by s.inner.waker.pass)) now.senders.items → IsStory after gives plan orders report
+    story after report log answers seen answered whole ends_seen senders_seen =
+        let plan_is = of-plan gives plan built begun in
+        let knows = λ (s : Sender A K). known_by s.inner.waker.pass in
+        let knew = λ (e : WorkerEnd A K). known_by e.waker.pass in
+        let IsTold = λ (v : View). IsPart v.log log × GoesOnFromAll report v in record {
+          roll = (first_of built.system.gates).value.roll;
+          who = plan_is.who;
+          mailboxes = plan_is.mailboxes;
+          log = log;
+          outside = answers;
+          many = answered.length_is ∙ ap (λ s. s.senders) system ∙ begun.numbers.1;
+          whole = subst (λ (g : Gates (Box Contents)). IsWhole after gives (first_of g).value.roll log answers report)
+              (ap (λ s. s.gates) system) whole;
+          knew = map knows now.senders.items;
+          all_knew = length-mapped knows now.senders.items ∙ sent.many ∙ senders-there.0;
+          ends = map knew now.ends.items;
+          all_ends = length-mapped knew now.ends.items
+              ∙ sym (length-mapped (λ (e : WorkerEnd A K). e.number) now.ends.items) ∙ ap length (ends ∙ ends-there) ∙ length-numbers 0 plan.workers;
+          seen = (
+            All-map IsTold knows now.senders.items (λ k d lt. (seen.1 k d lt, senders_seen k d lt)),
+            All-map IsTold knew now.ends.items (λ k d lt. (seen.0 k d lt, ends_seen k d lt)),
+          );
+          did = did-orders answers answered;
+        }

@@ -1,0 +1,31 @@
+-- All that was to be sent, and a run after it.
+use Rattle.std.specs.Prelude.{◌≡◌, ℕ, List, ◌∷◌, All, Some, length, slice_get}
+use Rattle.std.specs.Global.{Box}
+use Rattle.mb_actor.specs.Behaviour.{Moment, Reply}
+use Rattle.mb_gate.specs.declared.gates.Gates.{Gates}
+use Rattle.mb_home.specs.Contents.{Contents}
+use Rattle.mb_pool.specs.Moves.{WasEmpty}
+use Rattle.mb_pool.specs.Places.{Way, gates_of, looks}
+use Rattle.mb_turn.specs.Fresh.{IsFreshClaim}
+use Rattle.mb_wake.specs.Owed.{IsNobody}
+use Rattle.mb_system.specs.Orders.{HasSent, OwesNobody}
+use Rattle.mb_system.specs.declared.end.WorkerEnd.{WorkerEnd}
+use Rattle.mb_system.specs.declared.order.Order.{Order}
+use Rattle.mb_system.specs.declared.sender.Sender.{Sender}
+
+module _ {A K : Type 0} where
+  -- each of these senders did all that was ordered at its place, and owes nobody a look
+  pub record HaveSent (gates : Gates (Box Contents)) (orders : List (List Order)) (old new : List (Sender A K)) : Type 0 where
+    pub many : length new ≡ length old
+    pub each : (place : ℕ) (of : List Order) (before after : Sender A K) → slice_get orders place ≡ Some of → slice_get old place ≡ Some before
+        → slice_get new place ≡ Some after → HasSent of before after × OwesNobody gates after
+
+  -- the first of these ends owes nobody a look, and found each place of the pool in which it looks empty at a moment
+  pub record FoundNothing (gives : ℕ → Moment → Reply → Type 0) (ends : List (WorkerEnd A K)) : Type 0 where
+    pub first : WorkerEnd A K
+    pub rest : List (WorkerEnd A K)
+    pub are : ends ≡ (first ∷ rest)
+    pub nobody : IsNobody first.waker.owed
+    pub way : Way (Box Contents)
+    pub of : gates_of way ≡ gates_of first.waker.way.end
+    pub empty : All (WasEmpty (IsFreshClaim gives)) (looks way)
