@@ -29,6 +29,7 @@ use Rattle.mb_build.proofs.RollLemmas.{length-enrolled}
 use Rattle.mb_system.specs.Begun.{AreNewEnds, AreNewSenders, AreUnused}
 use Rattle.mb_system.specs.Belonging.{senders_numbers}
 use Rattle.mb_system.specs.Enrolled.{AreKnown}
+use Rattle.mb_system.specs.Founded.{IsFounded}
 use Rattle.mb_system.specs.Members.{IsEndOf, IsSenderOf}
 use Rattle.mb_system.specs.declared.end.WorkerEnd.{WorkerEnd}
 use Rattle.mb_system.specs.declared.sender.Sender.{Sender}
@@ -45,14 +46,15 @@ known-all kinds outside guardian takes rows [] count made many is few = absurd (
 known-all kinds outside guardian takes rows (who ∷ whos) count made many is few =
     known-first kinds outside guardian takes rows who whos made (omega (arith, many)) few
 
--- the gates begin with the homes of a plan for so many senders
-pub record IsFounded (gates : Gates (Box Contents)) (count senders : ℕ) (outside : List (List Sending)) : Type 0 where
-  pub actors : actors_of gates ≡ count + 1
-  pub roll : length (first_of gates).value.roll ≡ actors_of gates
-  pub known : AreKnown (first_of gates).value.roll senders
-  pub unused : AreUnused (drop 1 (queues_of (first_of gates).value.roll)) (actors_of gates) most_actors outside
-  pub rows : length outside ≡ senders
+-- there is a home for the guardian and for each planned actor
+pub housed-many : (gives : ℕ → Moment → Reply → Type 0) (limit : ℕ) (plans : List ActorPlan) (kinds : List Kind) (senders : ℕ)
+    (homes : List (Box Contents)) (outside : List (List Sending)) → IsHoused gives (who_of limit plans) kinds senders homes outside
+    → length homes ≡ length plans + 1
+housed-many gives limit plans kinds senders homes outside housed =
+    let whos = who_of limit plans in let ways = housed.guardian ∷ housed.takes in
+    as-many-homes (enrolled whos ways) housed.takes 0 whos ways homes housed.first ∙ length-who limit plans
 
+-- what the gates are that begin with such homes
 pub founded : (gives : ℕ → Moment → Reply → Type 0) (limit : ℕ) (plans : List ActorPlan) (kinds : List Kind) (senders : ℕ)
     (homes : List (Box Contents)) (outside : List (List Sending)) (gates : Gates (Box Contents)) → length plans < 64 → AreQueues plans kinds
     → IsHoused gives (who_of limit plans) kinds senders homes outside → slice_get homes 0 ≡ Some (first_of gates)

@@ -1,23 +1,22 @@
 -- All that a new system has, put together.
-use Rattle.std.proofs.Common.{◌≡◌, ◌≤◌, ◌<◌, ℕ, ◌+◌, List, [], ◌∷◌, length, map, sym, ap, ◌∙◌, subst, arith}
+use Rattle.std.proofs.Common.{◌≡◌, ◌≤◌, ◌<◌, ℕ, ◌+◌, List, [], ◌∷◌, ◌++◌, length, map, get_or, set, refl, sym, ap, ◌∙◌, subst, append-nil, arith}
 use Rattle.std.specs.Prelude.{All, Some, slice_get}
 use Rattle.std.specs.Global.{Box}
 use Rattle.std.proofs.lemmas.List.Elements.{All-cons}
 use Rattle.mb_msg.specs.Limits.{most_actors}
+use Rattle.mb_msg.specs.declared.system.SysMsg.TheVariants.{Create}
 use Rattle.mb_actor.specs.Behaviour.{Moment, Reply}
 use Rattle.mb_gate.specs.Names.{actors_of, first_of, gates_id, known_by, pass_id}
-use Rattle.mb_gate.specs.Untouched.{Origin}
+use Rattle.mb_gate.specs.View.{Pushed, Sight}
+use Rattle.mb_gate.specs.declared.gates.Gates.{Gates}
+use Rattle.mb_gate.specs.declared.pass.Pass.{Pass}
 use Rattle.mb_home.specs.Contents.{Contents}
 use Rattle.mb_plan.specs.declared.plan.Plan.{Plan}
-use Rattle.mb_pool.specs.Places.{gates_of}
 use Rattle.mb_queue.specs.declared.kind.Kind.{Kind}
 use Rattle.mb_queue.specs.Passes.{Sending}
 use Rattle.mb_build.specs.Housed.{IsHoused}
 use Rattle.mb_build.specs.Kinds.{AreQueues}
-use Rattle.mb_wake.specs.Owed.{IsNobody}
-use Rattle.mb_wake.specs.declared.owed.Owed.{Owed}
-use Rattle.mb_ways.specs.declared.end_way.EndWay.{EndWay}
-use Rattle.mb_system.specs.Begun.{AreNewEnds, AreNewSenders, IsBegun, IsCreated, actors_in}
+use Rattle.mb_system.specs.Begun.{AreLedEnds, AreNewEnds, AreNewSenders, IsBegun, IsNewEnd, actors_in}
 use Rattle.mb_system.specs.Members.{IsEndOf}
 use Rattle.mb_system.specs.declared.built.Built.{Built}
 use Rattle.mb_system.specs.declared.end.WorkerEnd.{WorkerEnd}
@@ -38,27 +37,13 @@ module _ {A K : Type 0} (gives : ℕ → Moment → Reply → Type 0) (plan : Pl
     pub many : length built.senders.items ≡ plan.senders
     pub numbers : (built.system.workers ≡ plan.workers) × (built.system.senders ≡ plan.senders) × (built.system.throughput ≡ plan.throughput)
 
-  -- the first of the ends took over the pass that put a Create into the guardian's list
-  pub record HasFirst (old end : WorkerEnd A K) (others : List (WorkerEnd A K)) : Type 0 where
-    pub opened : AreNewEnds built.system.gates 0 (old ∷ others)
-    pub many : length (old ∷ others) ≡ plan.workers
-    pub ends_are : built.ends.items ≡ end ∷ others
-    pub pass : pass_id end.waker.pass ≡ gates_id built.system.gates
-    pub same : (end.number ≡ old.number) × (end.waker.way ≡ old.waker.way) × (end.waker.owed ≡ old.waker.owed)
-    pub created : IsCreated (known_by end.waker.pass)
-
-  pub begun : (old end : WorkerEnd A K) (others : List (WorkerEnd A K)) → IsMade → HasFirst old end others → IsBegun gives plan built
-  begun old end others made has =
-      let gates = built.system.gates in let first = has.opened.0 in let same = has.same in
-      let count = made.many in let few = made.few in let senders = made.numbers.1.0 in
-      let this : IsEndOf gates end.waker = (
-        has.pass,
-        ap (λ (w : EndWay (Box Contents)). gates_of w.end) same.1.0 ∙ first.ours.1.0,
-        first.ours.1.1,
-      ) in record {
+  pub begun : IsMade → (number : ℕ) → AreLedEnds built.system.gates (Pushed 0 number Create ∷ []) built.ends.items
+      → length built.ends.items ≡ plan.workers → IsBegun gives plan built
+  begun made number led many =
+      let gates = built.system.gates in let count = made.many in let few = made.few in let senders = made.numbers.1.0 in record {
         together = record {
-          ends = subst (All (λ (e : WorkerEnd A K). IsEndOf gates e.waker)) (sym has.ends_are)
-              (All-cons (λ (e : WorkerEnd A K). IsEndOf gates e.waker) end others this (all-ends gates 1 others has.opened.1));
+          ends = subst (All (λ (e : WorkerEnd A K). IsEndOf gates e.waker)) (sym led.ends_are)
+              (All-cons (λ (e : WorkerEnd A K). IsEndOf gates e.waker) led.end led.others led.ours (all-ends gates 1 led.others led.others_are));
           senders = all-senders gates most_actors made.outside built.senders.items made.senders;
           once = all-once gates made.outside built.senders.items made.senders (omega (arith, count, few));
           numbered = all-numbered gates most_actors (most_actors + built.system.senders) made.outside built.senders.items made.senders
@@ -73,11 +58,39 @@ module _ {A K : Type 0} (gives : ℕ → Moment → Reply → Type 0) (plan : Pl
         actors = made.actors;
         senders = made.senders;
         numbers = made.numbers;
-        many = ap length has.ends_are ∙ has.many;
-        end = end;
-        others = others;
-        ends_are = has.ends_are;
-        others_are = has.opened.1;
-        first_end = (same.0 ∙ first.number_is, subst IsNobody (sym same.1.1) first.nobody);
-        created = has.created;
+        many = many;
+        end = led.end;
+        others = led.others;
+        ends_are = led.ends_are;
+        others_are = led.others_are;
+        first_end = led.first_end;
+        created = (number, led.saw);
       }
+
+-- the first of new ends takes over a pass
+module _ {A K : Type 0} (gates : Gates (Box Contents)) where
+  pub first-ours : (ends : List (WorkerEnd A K)) (d e : WorkerEnd A K) → e ≡ get_or ends 0 d → 0 < length ends → AreNewEnds gates 0 ends
+      → pass_id e.waker.pass ≡ gates_id gates
+  first-ours [] d e is some are = absurd (omega (arith, some))
+  first-ours (x ∷ others) d e is some are = ap (λ (w : WorkerEnd A K). pass_id w.waker.pass) is ∙ are.0.ours.0
+
+  led-by : (x e : WorkerEnd A K) (others : List (WorkerEnd A K)) (p : Pass (Box Contents)) (log : List Sight) → e ≡ x → IsNewEnd gates 0 x
+      → AreNewEnds gates 1 others → pass_id p ≡ pass_id e.waker.pass → (known_by p).log ≡ log ++ (known_by e.waker.pass).log
+      → AreLedEnds gates log (record e { waker = record e.waker { pass = p } } ∷ others)
+  led-by x e others p log is new are id saw =
+      let mine : IsNewEnd gates 0 e = subst (IsNewEnd gates 0) (sym is) new in record {
+        end = record e { waker = record e.waker { pass = p } };
+        others = others;
+        ends_are = refl;
+        others_are = are;
+        ours = (id ∙ mine.ours.0, mine.ours.1.0, mine.ours.1.1);
+        first_end = (mine.number_is, mine.nobody);
+        saw = saw ∙ ap (λ l. log ++ l) mine.blank ∙ append-nil log;
+      }
+
+  pub first-led : (ends : List (WorkerEnd A K)) (d e : WorkerEnd A K) (p : Pass (Box Contents)) (log : List Sight) → e ≡ get_or ends 0 d
+      → 0 < length ends → AreNewEnds gates 0 ends → pass_id p ≡ pass_id e.waker.pass
+      → (known_by p).log ≡ log ++ (known_by e.waker.pass).log
+      → AreLedEnds gates log (set ends 0 (record e { waker = record e.waker { pass = p } }))
+  first-led [] d e p log is some are id saw = absurd (omega (arith, some))
+  first-led (x ∷ others) d e p log is some are id saw = led-by x e others p log is are.0 are.1 id saw

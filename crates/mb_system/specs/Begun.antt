@@ -6,7 +6,7 @@ use Rattle.mb_msg.specs.declared.system.SysMsg.TheVariants.{Create}
 use Rattle.mb_actor.specs.Behaviour.{Moment, Reply}
 use Rattle.mb_journal.specs.Identity.{Identity}
 use Rattle.mb_gate.specs.Names.{actors_of, first_of, known_by}
-use Rattle.mb_gate.specs.View.{Pushed, View}
+use Rattle.mb_gate.specs.View.{Pushed, Sight, View}
 use Rattle.mb_gate.specs.declared.gates.Gates.{Gates}
 use Rattle.mb_plan.specs.declared.plan.Plan.{Plan}
 use Rattle.mb_queue.specs.declared.kind.Kind.{Kind}
@@ -66,6 +66,16 @@ module _ {A K : Type 0} (gates : Gates (Box Contents)) where
   abbrev pub AreNewEnds : ℕ → List (WorkerEnd A K) → Type 0
   AreNewEnds number [] = Unit {0}
   AreNewEnds number (e ∷ ends) = IsNewEnd number e × AreNewEnds (number + 1) ends
+
+  -- such ends, numbered on from 0; but the first of them saw just this
+  pub record AreLedEnds (log : List Sight) (ends : List (WorkerEnd A K)) : Type 0 where
+    pub end : WorkerEnd A K
+    pub others : List (WorkerEnd A K)
+    pub ends_are : ends ≡ (end ∷ others)
+    pub others_are : AreNewEnds 1 others
+    pub ours : IsEndOf gates end.waker
+    pub first_end : (end.number ≡ 0) × IsNobody end.waker.owed
+    pub saw : (known_by end.waker.pass).log ≡ log
 
 -- one Create was put into the guardian's list, and nothing else was seen or done
 abbrev pub IsCreated : View → Type 0

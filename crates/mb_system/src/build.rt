@@ -7,12 +7,12 @@ ghost use Rattle.mb_system.specs.Begun.{IsBegun};
 ghost use Rattle.mb_system.specs.Unbuilt.{IsNoSystem};
 
 use crate::built::Built;
+use crate::founding::{Founded, found};
 use crate::going::Going;
-use crate::opening::{give_first, open_ends, open_senders, start};
+use crate::opening::{Opened, open};
 use crate::system::System;
 use mb_actor::{Actor, Behaviours};
-use mb_build::{Housed, PlanError, check_plan, house};
-use mb_gate::Gates;
+use mb_build::{PlanError, check_plan};
 use mb_plan::Plan;
 use mb_pool::{Kind, Pool};
 use std::alloc::{AllocError, Global};
@@ -71,11 +71,11 @@ fn assemble<A: Actor, K: Behaviours, R: Wait>(
         journal_limit,
         actors: plans,
     } = plan;
-    let Housed { homes, outside } = house(alloc, plans, actors, senders, journal_limit)?;
-    let (gates, mut pass) = match Gates::new(alloc, homes) {
-        Ok(made) => made,
-        Err(_) => return Err(AllocError),
-    };
+    let Founded {
+        gates,
+        pass,
+        outside,
+    } = found(alloc, plans, actors, senders, journal_limit)?;
     let (pool, ends, feeds) = Pool::new(
         alloc,
         &gates,
@@ -83,22 +83,23 @@ fn assemble<A: Actor, K: Behaviours, R: Wait>(
         workers as usize,
         senders as usize,
     )?;
-    let senders = open_senders(alloc, &gates, &mut pass, feeds, outside)?;
-    let mut ends = open_ends(alloc, &gates, &mut pass, ends)?;
-    start(rt, alloc, &gates, &mut pass)?;
-    give_first(&gates, &mut ends[0], pass);
-    Ok(Built {
-        system: System {
-            workers,
-            senders: senders.len() as u32,
-            gates,
-            pool,
-            going: Going::new(),
-            throughput,
-            alloc,
-        },
+    let Opened {
         ends,
+        senders: outside,
+    } = open(rt, alloc, &gates, pass, ends, feeds, outside)?;
+    let system = System {
+        workers,
         senders,
+        gates,
+        pool,
+        going: Going::new(),
+        throughput,
+        alloc,
+    };
+    Ok(Built {
+        system,
+        ends,
+        senders: outside,
     })
 }
 

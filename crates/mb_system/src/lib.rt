@@ -9,6 +9,7 @@ mod build;
 mod built;
 mod end;
 mod failure;
+mod founding;
 mod going;
 mod job;
 mod opening;

@@ -1,11 +1,13 @@
 //! The ends and the senders of a new system.
-ghost use Rattle.std.specs.Prelude.{◌≡◌, ◌<◌, ◌≤◌, [], All, IfOk, Some, drop, length, map};
+ghost use Rattle.std.specs.Prelude.{◌≡◌, ℕ, ◌<◌, ◌≤◌, [], ◌∷◌, All, IfOk, Some, drop, length, map};
 ghost use Rattle.mb_msg.specs.Limits.{most_actors};
 ghost use Rattle.mb_gate.specs.Names.{actors_of, first_of, gates_id, known_by, pass_id};
+ghost use Rattle.mb_msg.specs.declared.system.SysMsg.TheVariants.{Create};
 ghost use Rattle.mb_gate.specs.Untouched.{origin_of};
+ghost use Rattle.mb_gate.specs.View.{Pushed};
 ghost use Rattle.mb_home.specs.Roll.{queues_of};
 ghost use Rattle.mb_pool.specs.Places.{gates_of};
-ghost use Rattle.mb_system.specs.Begun.{AreNewEnds, AreNewSenders, AreUnused, IsCreated};
+ghost use Rattle.mb_system.specs.Begun.{AreLedEnds, AreNewEnds, AreNewSenders, AreUnused, IsCreated};
 
 use crate::end::WorkerEnd;
 use crate::sender::Sender;
@@ -22,8 +24,46 @@ use mb_ways::{EndWay, FeedWay};
 use std::alloc::{AllocError, Global};
 use std::sync::Wait;
 
-/// The senders outside, each with a pass of its own.
-pub(crate) fn open_senders<A: Actor, K: Behaviours>(
+/// Who works in a new system and who sends to it, each in the order of their numbers.
+pub(crate) struct Opened<A: Actor, K: Behaviours> {
+    /// The workers' ends.
+    pub(crate) ends: Vec<WorkerEnd<A, K>>,
+    /// The senders outside.
+    pub(crate) senders: Vec<Sender<A, K>>,
+}
+
+/// The ends of a new system and its senders; its first end has put a Create into the guardian's list.
+pub(crate) fn open<A: Actor, K: Behaviours, R: Wait>(
+    rt: &R,
+    alloc: Global,
+    gates: &Gates<Place<A, K>>,
+    mut pass: Pass<Place<A, K>>,
+    ends: Vec<mb_pool::WorkerEnd<Place<A, K>>>,
+    feeds: Vec<Feed<Place<A, K>>>,
+    outside: Vec<Vec<SendPass>>,
+) -> Result<Opened<A, K>, AllocError>
+    requires ours { pass_id pass ≡ gates_id gates.now }
+    requires blank { (known_by pass).log ≡ [] }
+    requires actors { (0 < actors_of gates.now) × (actors_of gates.now ≤ 64) }
+    requires some { (0 < length ends.items) × (length ends.items ≤ 16) }
+    requires ends { All (λ e. gates_of e ≡ Some (origin_of gates.now)) ends.items }
+    requires feeds { All (λ f. gates_of f ≡ Some (origin_of gates.now)) feeds.items }
+    requires many { (length feeds.items ≡ length outside.items) × (length feeds.items ≤ 16) }
+    requires outside { AreUnused (drop 1 (queues_of (first_of gates.now).value.roll)) (actors_of gates.now) most_actors
+        (map (λ row. row.items) outside.items) }
+    ensures many { IfOk result (λ opened. length opened.ends.items ≡ length ends.items) }
+    ensures ends { IfOk result (λ opened. (number : ℕ) × AreLedEnds gates.now (Pushed 0 number Create ∷ []) opened.ends.items) }
+    ensures senders { IfOk result (λ opened. AreNewSenders gates.now most_actors (map (λ row. row.items) outside.items) opened.senders.items) }
+{
+    let senders = open_senders(alloc, gates, &mut pass, feeds, outside)?;
+    let mut ends = open_ends(alloc, gates, &mut pass, ends)?;
+    start(rt, alloc, gates, &mut pass)?;
+    give_first(gates, &mut ends, pass);
+    Ok(Opened { ends, senders })
+}
+
+// The senders outside, each with a pass of its own.
+fn open_senders<A: Actor, K: Behaviours>(
     alloc: Global,
     gates: &Gates<Place<A, K>>,
     pass: &mut Pass<Place<A, K>>,
@@ -58,8 +98,8 @@ pub(crate) fn open_senders<A: Actor, K: Behaviours>(
     Ok(senders)
 }
 
-/// The workers' ends, each with a pass of its own.
-pub(crate) fn open_ends<A: Actor, K: Behaviours>(
+// The workers' ends, each with a pass of its own.
+fn open_ends<A: Actor, K: Behaviours>(
     alloc: Global,
     gates: &Gates<Place<A, K>>,
     pass: &mut Pass<Place<A, K>>,
@@ -86,8 +126,8 @@ pub(crate) fn open_ends<A: Actor, K: Behaviours>(
     Ok(opened)
 }
 
-/// Puts a Create into the guardian's list. That the list of new gates is not ended is their rule, which is not known here.
-pub(crate) fn start<A: Actor, K: Behaviours, R: Wait>(
+// Puts a Create into the guardian's list. That the list of new gates is not ended is their rule, which is not known here.
+fn start<A: Actor, K: Behaviours, R: Wait>(
     rt: &R,
     alloc: Global,
     gates: &Gates<Place<A, K>>,
@@ -108,18 +148,17 @@ pub(crate) fn start<A: Actor, K: Behaviours, R: Wait>(
     }
 }
 
-/// The first end takes over the pass that put it there, and with it what is owed to the guardian.
-pub(crate) fn give_first<A: Actor, K: Behaviours>(
+// The first end takes over the pass that put it there, and with it what is owed to the guardian.
+fn give_first<A: Actor, K: Behaviours>(
     gates: &Gates<Place<A, K>>,
-    first: &mut WorkerEnd<A, K>,
+    ends: &mut [WorkerEnd<A, K>],
     pass: Pass<Place<A, K>>,
 )
-    requires ours { (pass_id first.old.waker.pass ≡ gates_id gates.now) × (pass_id pass ≡ gates_id gates.now) }
-    requires blank { (known_by first.old.waker.pass).log ≡ [] }
-    ensures ours { pass_id first.new.waker.pass ≡ gates_id gates.now }
-    ensures known { (known_by first.new.waker.pass).log ≡ (known_by pass).log }
-    ensures same { (first.new.number ≡ first.old.number) × (first.new.waker.way ≡ first.old.waker.way)
-        × (first.new.waker.owed ≡ first.old.waker.owed) }
+    requires ours { pass_id pass ≡ gates_id gates.now }
+    requires some { 0 < length ends.old }
+    requires ends { AreNewEnds gates.now 0 ends.old }
+    ensures many { length ends.new ≡ length ends.old }
+    ensures first { AreLedEnds gates.now (known_by pass).log ends.new }
 {
-    gates.absorb(&mut first.waker.pass, pass);
+    gates.absorb(&mut ends[0].waker.pass, pass);
 }
