@@ -1,2 +1,7 @@
 pub mod Looking
 pub mod Sending
+pub mod Right
+pub mod Building
+pub mod Opened
+pub mod Founded
+pub mod Started

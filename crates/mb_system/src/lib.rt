@@ -1,19 +1,25 @@
-//! A system of actors at work: its workers' ends, which run the mailboxes of its actors, and those who send to them from outside
-//! (`akka.actor.ActorSystem`, `akka.dispatch.Dispatcher`).
+//! A system of actors at work: how it is built of a plan, those who send to its actors from outside, and the workers that run
+//! their mailboxes (`akka.actor.ActorSystem`, `akka.dispatch.Dispatcher`).
 //!
 //! Ends and senders may go to threads of their own: each call asks that they are of the system, and says what they know, owe and
 //! were answered after it.
 #![tactic(auto)]
 
+mod build;
+mod built;
 mod end;
 mod failure;
+mod founding;
 mod going;
+mod opening;
 mod order;
 mod quiet;
 mod sender;
 mod system;
 mod work;
 
+pub use build::BuildError;
+pub use built::Built;
 pub use end::WorkerEnd;
 pub use failure::RunError;
 pub use going::Going;

@@ -1,0 +1,55 @@
+use Rattle.std.proofs.Common.{rules, ◌≡◌, ◌++◌, ◌∷◌, [], length, refl, sym, ap, ◌∙◌, subst, append_assoc, arith}
+use Rattle.std.specs.Prelude.{All, Some}
+use Rattle.std.specs.Vec.Iter.{into_iter_items}
+use Rattle.std.proofs.lemmas.List.{append-nil, length_push, nil_from_length}
+use Rattle.std.proofs.lemmas.List.Elements.{All-head, All-rest}
+use Rattle.mb_gate.specs.Untouched.{origin_of}
+use Rattle.mb_pool.specs.Places.{gates_of}
+use Rattle.mb_system.specs.Begun.{AreNewEnds}
+use Rattle.mb_system.proofs.Opened.{copied-blank, ends-next, halving-blank}
+use Rattle.mb_system.proofs.opening.open_ends.Goals as goal
+
+pub loop-end-init : goal.loop-end-init
+loop-end-init g c =
+    let none : c.in_ok-opened.opened.items ≡ [] = search rules in
+    let all = c.into_iter-end-iterator.ensures.into_iter_gives.0 in record {
+      whole = all;
+      ends = subst (All (λ e. gates_of e ≡ Some (origin_of c.args.gates.now))) (sym all) c.requires.ends;
+      count = ap length none;
+      ours = refl;
+      blank = c.requires.blank;
+      opened = subst (AreNewEnds c.args.gates.now 0) (sym none) tt;
+    }
+
+pub loop-end-preserved : goal.loop-end-preserved
+loop-end-preserved g c =
+    let at = c.loop-end in let end = c.in-Some.end in let rest = into_iter_items c.next.new.self in let gates = c.args.gates.now in
+    let steps : into_iter_items at.end-iterator ≡ end ∷ rest = c.in-Some.ensures.steps.0 in
+    let these = subst (All (λ e. gates_of e ≡ Some (origin_of gates))) steps at.invariant.ends in
+    let place : c.len-number.result ≡ length at.opened.items = search rules in
+    let pushed = c.in_ok-push.ensures.items in let count = at.invariant.count in
+    let longer = ap length pushed ∙ length_push at.opened.items _ in let further = length_push at.yielded end in record {
+      whole = append_assoc at.yielded (end ∷ []) rest ∙ ap (λ l. at.yielded ++ l) (sym steps) ∙ at.invariant.whole;
+      ends = All-rest (λ e. gates_of e ≡ Some (origin_of gates)) end rest (into_iter_items at.end-iterator) steps at.invariant.ends;
+      count = omega (arith, longer, further, count);
+      ours = c.another.ensures.ours.0 ∙ at.invariant.ours;
+      blank = halving-blank _ _ c.another.ensures.known.0 at.invariant.blank;
+      opened = ends-next gates at.opened.items _ _ pushed at.invariant.opened (record {
+        ours = (
+          c.another.ensures.ours.1 ∙ at.invariant.ours ∙ c.requires.ours.0,
+          ap gates_of c.new.ensures ∙ All-head (λ e. gates_of e ≡ Some (origin_of gates)) end rest these,
+          c.requires.ours.1,
+        );
+        number_is = place;
+        nobody = c.none.ensures;
+        blank = copied-blank _ _ c.another.ensures.known.1 at.invariant.blank;
+      });
+    }
+
+pub returns-clause-opened : goal.returns-clause-opened
+returns-clause-opened g c =
+    let at = c.loop-end in
+    let none : into_iter_items at.end-iterator ≡ [] =
+    nil_from_length (into_iter_items at.end-iterator) (sym at.end-iterator.rest.ok.0 ∙ c.in-None.ensures.steps.0) in
+    let all : at.yielded ≡ c.args.ends.items = sym (append-nil at.yielded) ∙ ap (λ l. at.yielded ++ l) (sym none) ∙ at.invariant.whole in
+    (at.invariant.count ∙ ap length all, at.invariant.opened)

@@ -1,0 +1,16 @@
+//! A system with all that belongs to it.
+use crate::end::WorkerEnd;
+use crate::sender::Sender;
+use crate::system::System;
+use mb_actor::{Actor, Behaviours};
+
+/// A system with its workers' ends and its senders, each in the order of their numbers.
+#[derive(Drop)]
+pub struct Built<A: Actor, K: Behaviours> {
+    /// The system.
+    pub system: System<A, K>,
+    /// The ends of its workers.
+    pub ends: Vec<WorkerEnd<A, K>>,
+    /// Its senders outside the actors.
+    pub senders: Vec<Sender<A, K>>,
+}

@@ -1,0 +1,164 @@
+//! The ends and the senders of a new system.
+ghost use Rattle.std.specs.Prelude.{◌≡◌, ℕ, ◌<◌, ◌≤◌, [], ◌∷◌, All, IfOk, Some, drop, length, map};
+ghost use Rattle.mb_msg.specs.Limits.{most_actors};
+ghost use Rattle.mb_gate.specs.Names.{actors_of, first_of, gates_id, known_by, pass_id};
+ghost use Rattle.mb_msg.specs.declared.system.SysMsg.TheVariants.{Create};
+ghost use Rattle.mb_gate.specs.Untouched.{origin_of};
+ghost use Rattle.mb_gate.specs.View.{Pushed};
+ghost use Rattle.mb_home.specs.Roll.{queues_of};
+ghost use Rattle.mb_pool.specs.Places.{gates_of};
+ghost use Rattle.mb_system.specs.Begun.{AreLedEnds, AreNewEnds, AreNewSenders, AreUnused, IsCreated};
+
+use crate::end::WorkerEnd;
+use crate::sender::Sender;
+use mb_actor::{Actor, Behaviours};
+use mb_gate::{Gates, Pass};
+use mb_msg::limits::ACTORS;
+use mb_msg::{ActorId, SenderId, SysMsg};
+use mb_pool::Feed;
+use mb_queue::SendPass;
+use mb_syslist::Node;
+use mb_turn::Place;
+use mb_wake::{Owed, Waker};
+use mb_ways::{EndWay, FeedWay};
+use std::alloc::{AllocError, Global};
+use std::sync::Wait;
+
+/// Who works in a new system and who sends to it, each in the order of their numbers.
+pub(crate) struct Opened<A: Actor, K: Behaviours> {
+    /// The workers' ends.
+    pub(crate) ends: Vec<WorkerEnd<A, K>>,
+    /// The senders outside.
+    pub(crate) senders: Vec<Sender<A, K>>,
+}
+
+/// The ends of a new system and its senders; its first end has put a Create into the guardian's list.
+pub(crate) fn open<A: Actor, K: Behaviours, R: Wait>(
+    rt: &R,
+    alloc: Global,
+    gates: &Gates<Place<A, K>>,
+    mut pass: Pass<Place<A, K>>,
+    ends: Vec<mb_pool::WorkerEnd<Place<A, K>>>,
+    feeds: Vec<Feed<Place<A, K>>>,
+    outside: Vec<Vec<SendPass>>,
+) -> Result<Opened<A, K>, AllocError>
+    requires ours { pass_id pass ≡ gates_id gates.now }
+    requires blank { (known_by pass).log ≡ [] }
+    requires actors { (0 < actors_of gates.now) × (actors_of gates.now ≤ 64) }
+    requires some { (0 < length ends.items) × (length ends.items ≤ 16) }
+    requires ends { All (λ e. gates_of e ≡ Some (origin_of gates.now)) ends.items }
+    requires feeds { All (λ f. gates_of f ≡ Some (origin_of gates.now)) feeds.items }
+    requires many { (length feeds.items ≡ length outside.items) × (length feeds.items ≤ 16) }
+    requires outside { AreUnused (drop 1 (queues_of (first_of gates.now).value.roll)) (actors_of gates.now) most_actors
+        (map (λ row. row.items) outside.items) }
+    ensures many { IfOk result (λ opened. length opened.ends.items ≡ length ends.items) }
+    ensures ends { IfOk result (λ opened. (number : ℕ) × AreLedEnds gates.now (Pushed 0 number Create ∷ []) opened.ends.items) }
+    ensures senders { IfOk result (λ opened. AreNewSenders gates.now most_actors (map (λ row. row.items) outside.items) opened.senders.items) }
+{
+    let senders = open_senders(alloc, gates, &mut pass, feeds, outside)?;
+    let mut ends = open_ends(alloc, gates, &mut pass, ends)?;
+    start(rt, alloc, gates, &mut pass)?;
+    give_first(gates, &mut ends, pass);
+    Ok(Opened { ends, senders })
+}
+
+// The senders outside, each with a pass of its own.
+fn open_senders<A: Actor, K: Behaviours>(
+    alloc: Global,
+    gates: &Gates<Place<A, K>>,
+    pass: &mut Pass<Place<A, K>>,
+    feeds: Vec<Feed<Place<A, K>>>,
+    outside: Vec<Vec<SendPass>>,
+) -> Result<Vec<Sender<A, K>>, AllocError>
+    requires ours { (pass_id pass.old ≡ gates_id gates.now) × (actors_of gates.now ≤ 64) }
+    requires blank { (known_by pass.old).log ≡ [] }
+    requires feeds { All (λ f. gates_of f ≡ Some (origin_of gates.now)) feeds.items }
+    requires many { (length feeds.items ≡ length outside.items) × (length feeds.items ≤ 16) }
+    requires outside { AreUnused (drop 1 (queues_of (first_of gates.now).value.roll)) (actors_of gates.now) most_actors
+        (map (λ row. row.items) outside.items) }
+    ensures ours { pass_id pass.new ≡ pass_id pass.old }
+    ensures blank { (known_by pass.new).log ≡ [] }
+    ensures opened { IfOk result (λ senders. AreNewSenders gates.now most_actors (map (λ row. row.items) outside.items) senders.items) }
+{
+    let mut senders = Vec::with_capacity(alloc, feeds.len())?;
+    let mut outside = outside.into_iter();
+    for feed in feeds {
+        let Some(sends) = outside.next() else {
+            unreachable!();
+        };
+        let waker = Waker {
+            pass: gates.another(pass),
+            way: FeedWay::new(feed),
+            owed: Owed::none(),
+        };
+        let by = SenderId(ACTORS + senders.len() as u32);
+        let inner = mb_send::Sender::new(alloc, by, waker, sends);
+        senders.push(Sender { inner })?;
+    }
+    Ok(senders)
+}
+
+// The workers' ends, each with a pass of its own.
+fn open_ends<A: Actor, K: Behaviours>(
+    alloc: Global,
+    gates: &Gates<Place<A, K>>,
+    pass: &mut Pass<Place<A, K>>,
+    ends: Vec<mb_pool::WorkerEnd<Place<A, K>>>,
+) -> Result<Vec<WorkerEnd<A, K>>, AllocError>
+    requires ours { (pass_id pass.old ≡ gates_id gates.now) × (actors_of gates.now ≤ 64) }
+    requires blank { (known_by pass.old).log ≡ [] }
+    requires ends { All (λ e. gates_of e ≡ Some (origin_of gates.now)) ends.items }
+    requires few { length ends.items ≤ 16 }
+    ensures ours { pass_id pass.new ≡ pass_id pass.old }
+    ensures blank { (known_by pass.new).log ≡ [] }
+    ensures opened { IfOk result (λ opened. (length opened.items ≡ length ends.items) × AreNewEnds gates.now 0 opened.items) }
+{
+    let mut opened = Vec::with_capacity(alloc, ends.len())?;
+    for end in ends {
+        let waker = Waker {
+            pass: gates.another(pass),
+            way: EndWay::new(end),
+            owed: Owed::none(),
+        };
+        let number = opened.len() as u32;
+        opened.push(WorkerEnd { number, waker })?;
+    }
+    Ok(opened)
+}
+
+// Puts a Create into the guardian's list. That the list of new gates is not ended is their rule, which is not known here.
+fn start<A: Actor, K: Behaviours, R: Wait>(
+    rt: &R,
+    alloc: Global,
+    gates: &Gates<Place<A, K>>,
+    pass: &mut Pass<Place<A, K>>,
+) -> Result<(), AllocError>
+    requires ours { (pass_id pass.old ≡ gates_id gates.now) × (0 < actors_of gates.now) }
+    requires blank { (known_by pass.old).log ≡ [] }
+    ensures ours { pass_id pass.new ≡ pass_id pass.old }
+    ensures created { IfOk result (λ _. IsCreated (known_by pass.new)) }
+{
+    let node = Node::new(alloc, SysMsg::Create)?;
+    match gates.sys_enqueue(rt, pass, ActorId(0), node) {
+        Ok(_) => Ok(()),
+        Err(_) => {
+            for _ in rt.forever() {}
+            unreachable!()
+        }
+    }
+}
+
+// The first end takes over the pass that put it there, and with it what is owed to the guardian.
+fn give_first<A: Actor, K: Behaviours>(
+    gates: &Gates<Place<A, K>>,
+    ends: &mut [WorkerEnd<A, K>],
+    pass: Pass<Place<A, K>>,
+)
+    requires ours { pass_id pass ≡ gates_id gates.now }
+    requires some { 0 < length ends.old }
+    requires ends { AreNewEnds gates.now 0 ends.old }
+    ensures many { length ends.new ≡ length ends.old }
+    ensures first { AreLedEnds gates.now (known_by pass).log ends.new }
+{
+    gates.absorb(&mut ends[0].waker.pass, pass);
+}
