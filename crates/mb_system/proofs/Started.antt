@@ -4,19 +4,19 @@ use Rattle.std.specs.Prelude.{All, Some, slice_get}
 use Rattle.std.specs.Global.{Box}
 use Rattle.std.proofs.lemmas.List.Elements.{All-cons}
 use Rattle.mb_msg.specs.Limits.{most_actors}
-use Rattle.mb_msg.specs.declared.system.SysMsg.TheVariants.{Create}
 use Rattle.mb_actor.specs.Behaviour.{Moment, Reply}
 use Rattle.mb_gate.specs.Names.{actors_of, first_of, gates_id, known_by, pass_id}
-use Rattle.mb_gate.specs.View.{Pushed, Sight}
+use Rattle.mb_gate.specs.View.{View}
 use Rattle.mb_gate.specs.declared.gates.Gates.{Gates}
 use Rattle.mb_gate.specs.declared.pass.Pass.{Pass}
 use Rattle.mb_home.specs.Contents.{Contents}
 use Rattle.mb_plan.specs.declared.plan.Plan.{Plan}
+use Rattle.mb_pool.specs.Made.{IsOfKind}
 use Rattle.mb_queue.specs.declared.kind.Kind.{Kind}
 use Rattle.mb_queue.specs.Passes.{Sending}
 use Rattle.mb_build.specs.Housed.{IsHoused}
 use Rattle.mb_build.specs.Kinds.{AreQueues}
-use Rattle.mb_system.specs.Begun.{AreLedEnds, AreNewEnds, AreNewSenders, IsBegun, IsNewEnd, actors_in}
+use Rattle.mb_system.specs.Begun.{AreLedEnds, AreNewEnds, AreNewSenders, IsBegun, IsCreated, IsNewEnd, actors_in, kind_in}
 use Rattle.mb_system.specs.Members.{IsEndOf}
 use Rattle.mb_system.specs.declared.built.Built.{Built}
 use Rattle.mb_system.specs.declared.end.WorkerEnd.{WorkerEnd}
@@ -35,11 +35,11 @@ module _ {A K : Type 0} (gives : ℕ → Moment → Reply → Type 0) (plan : Pl
     pub senders : AreNewSenders built.system.gates most_actors outside built.senders.items
     pub few : plan.senders ≤ 16
     pub many : length built.senders.items ≡ plan.senders
+    pub pool : IsOfKind (kind_in plan.pool) built.system.pool
     pub numbers : (built.system.workers ≡ plan.workers) × (built.system.senders ≡ plan.senders) × (built.system.throughput ≡ plan.throughput)
 
-  pub begun : IsMade → (number : ℕ) → AreLedEnds built.system.gates (Pushed 0 number Create ∷ []) built.ends.items
-      → length built.ends.items ≡ plan.workers → IsBegun gives plan built
-  begun made number led many =
+  pub begun : IsMade → AreLedEnds built.system.gates built.ends.items → length built.ends.items ≡ plan.workers → IsBegun gives plan built
+  begun made led many =
       let gates = built.system.gates in let count = made.many in let few = made.few in let senders = made.numbers.1.0 in record {
         together = record {
           ends = subst (All (λ (e : WorkerEnd A K). IsEndOf gates e.waker)) (sym led.ends_are)
@@ -58,13 +58,14 @@ module _ {A K : Type 0} (gives : ℕ → Moment → Reply → Type 0) (plan : Pl
         actors = made.actors;
         senders = made.senders;
         numbers = made.numbers;
+        pool = made.pool;
         many = many;
         end = led.end;
         others = led.others;
         ends_are = led.ends_are;
         others_are = led.others_are;
         first_end = led.first_end;
-        created = (number, led.saw);
+        created = led.created;
       }
 
 -- the first of new ends takes over a pass
@@ -74,10 +75,11 @@ module _ {A K : Type 0} (gates : Gates (Box Contents)) where
   first-ours [] d e is some are = absurd (omega (arith, some))
   first-ours (x ∷ others) d e is some are = ap (λ (w : WorkerEnd A K). pass_id w.waker.pass) is ∙ are.0.ours.0
 
-  led-by : (x e : WorkerEnd A K) (others : List (WorkerEnd A K)) (p : Pass (Box Contents)) (log : List Sight) → e ≡ x → IsNewEnd gates 0 x
-      → AreNewEnds gates 1 others → pass_id p ≡ pass_id e.waker.pass → (known_by p).log ≡ log ++ (known_by e.waker.pass).log
-      → AreLedEnds gates log (record e { waker = record e.waker { pass = p } } ∷ others)
-  led-by x e others p log is new are id saw =
+  led-by : (x e : WorkerEnd A K) (others : List (WorkerEnd A K)) (p : Pass (Box Contents)) (v : View) → e ≡ x → IsNewEnd gates 0 x
+      → AreNewEnds gates 1 others → pass_id p ≡ pass_id e.waker.pass → IsCreated v
+      → (known_by p).log ≡ v.log ++ (known_by e.waker.pass).log
+      → AreLedEnds gates (record e { waker = record e.waker { pass = p } } ∷ others)
+  led-by x e others p v is new are id created saw =
       let mine : IsNewEnd gates 0 e = subst (IsNewEnd gates 0) (sym is) new in record {
         end = record e { waker = record e.waker { pass = p } };
         others = others;
@@ -85,12 +87,12 @@ module _ {A K : Type 0} (gates : Gates (Box Contents)) where
         others_are = are;
         ours = (id ∙ mine.ours.0, mine.ours.1.0, mine.ours.1.1);
         first_end = (mine.number_is, mine.nobody);
-        saw = saw ∙ ap (λ l. log ++ l) mine.blank ∙ append-nil log;
+        created = (created.0, saw ∙ ap (λ l. v.log ++ l) mine.blank ∙ append-nil v.log ∙ created.1);
       }
 
-  pub first-led : (ends : List (WorkerEnd A K)) (d e : WorkerEnd A K) (p : Pass (Box Contents)) (log : List Sight) → e ≡ get_or ends 0 d
-      → 0 < length ends → AreNewEnds gates 0 ends → pass_id p ≡ pass_id e.waker.pass
-      → (known_by p).log ≡ log ++ (known_by e.waker.pass).log
-      → AreLedEnds gates log (set ends 0 (record e { waker = record e.waker { pass = p } }))
-  first-led [] d e p log is some are id saw = absurd (omega (arith, some))
-  first-led (x ∷ others) d e p log is some are id saw = led-by x e others p log is are.0 are.1 id saw
+  pub first-led : (ends : List (WorkerEnd A K)) (d e : WorkerEnd A K) (p : Pass (Box Contents)) (v : View) → e ≡ get_or ends 0 d
+      → 0 < length ends → AreNewEnds gates 0 ends → pass_id p ≡ pass_id e.waker.pass → IsCreated v
+      → (known_by p).log ≡ v.log ++ (known_by e.waker.pass).log
+      → AreLedEnds gates (set ends 0 (record e { waker = record e.waker { pass = p } }))
+  first-led [] d e p v is some are id created saw = absurd (omega (arith, some))
+  first-led (x ∷ others) d e p v is some are id created saw = led-by x e others p v is are.0 are.1 id created saw

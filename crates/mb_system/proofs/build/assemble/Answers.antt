@@ -3,6 +3,7 @@ use Rattle.std.specs.Prelude.{All, Some}
 use Rattle.std.proofs.lemmas.List.{length-map}
 use Rattle.mb_gate.specs.Untouched.{origin_of}
 use Rattle.mb_gate.specs.View.{View}
+use Rattle.mb_pool.specs.Made.{IsOfKind}
 use Rattle.mb_pool.specs.Places.{gates_of}
 use Rattle.mb_system.proofs.Founded.{as-many-senders, ends-gates, feeds-gates}
 use Rattle.mb_system.proofs.Right.{right-plan}
@@ -58,5 +59,6 @@ returns g c =
       senders = opened.senders;
       few = right.senders;
       many = as-many-senders _ _ _ _ opened.senders ∙ founded.rows;
+      pool = subst (λ k. IsOfKind k _) c.kind_of.ensures pool.kind_is;
       numbers = (refl, refl, refl);
-    }) opened.ends.0 opened.ends.1 (opened.many ∙ ends.1 ∙ pool.ends_are)
+    }) opened.ends (opened.many ∙ ends.1 ∙ pool.ends_are)

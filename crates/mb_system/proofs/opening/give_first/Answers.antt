@@ -14,5 +14,5 @@ returns-clause-many g c = length-set c.args.ends.old 0 _
 
 pub returns-clause-first : goal.returns-clause-first
 returns-clause-first g c =
-    first-led c.args.gates.now c.args.ends.old _ _ c.absorb.new.pass (known_by c.args.pass).log refl c.requires.some c.requires.ends
-    c.absorb.ensures.ours (ap (λ (v : View). v.log) c.absorb.ensures.known)
+    first-led c.args.gates.now c.args.ends.old _ _ c.absorb.new.pass (known_by c.args.pass) refl c.requires.some c.requires.ends
+    c.absorb.ensures.ours c.requires.created (ap (λ (v : View). v.log) c.absorb.ensures.known)
