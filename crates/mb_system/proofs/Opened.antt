@@ -2,12 +2,14 @@
 use Rattle.std.proofs.Common.{◌≡◌, ◌<◌, ℕ, zero, suc, ◌+◌, List, [], ◌∷◌, ◌++◌, length, map, drop, take, sym, ap, ◌∙◌, subst, arith}
 use Rattle.std.specs.Global.{Box}
 use Rattle.std.proofs.lemmas.List.{length-append, length-drop, length_push, map_push}
-use Rattle.mb_gate.specs.View.{View, copied, halving, without_counts}
+use Rattle.mb_msg.specs.declared.system.SysMsg.{SysMsg}
+use Rattle.mb_msg.specs.declared.system.SysMsg.TheVariants.{Create}
+use Rattle.mb_gate.specs.View.{Pushed, View, copied, enlisting, halving, without_counts}
 use Rattle.mb_gate.specs.declared.gates.Gates.{Gates}
 use Rattle.mb_home.specs.Contents.{Contents}
 use Rattle.mb_queue.specs.Passes.{Queue, Sending}
 use Rattle.mb_build.proofs.RollLemmas.{take-next}
-use Rattle.mb_system.specs.Begun.{AreNewEnds, AreNewSenders, AreUnused, IsNewEnd, IsNewSender, IsUnused}
+use Rattle.mb_system.specs.Begun.{AreNewEnds, AreNewSenders, AreUnused, IsCreated, IsNewEnd, IsNewSender, IsUnused}
 use Rattle.mb_system.specs.declared.end.WorkerEnd.{WorkerEnd}
 use Rattle.mb_system.specs.declared.sender.Sender.{Sender}
 
@@ -56,6 +58,11 @@ module _ {A K : Type 0} (gates : Gates (Box Contents)) where
 pub copied-blank : (v w : View) → w ≡ copied v → v.log ≡ [] → w.log ≡ []
 copied-blank v w is none = ap (λ (x : View). x.log) is ∙ ap without_counts none
 
+-- what was put first into the guardian's list
+pub created : (number : ℕ) (node : SysMsg) (v w : View) → w ≡ enlisting 0 number node v → node ≡ Create → v.log ≡ [] → IsCreated w
+created number node v w is made none =
+    (number, ap (λ (x : View). x.log) is ∙ (λ i. Pushed 0 number (made i) ∷ none i))
+
 pub halving-blank : (v w : View) → w ≡ halving v → v.log ≡ [] → w.log ≡ []
 halving-blank v w is none = ap (λ (x : View). x.log) is ∙ none
 
@@ -67,6 +74,7 @@ module _ {X Y : Type 0} where
       let is = ap length whole in let split : length (before ++ x ∷ rest) ≡ length before + suc (length rest) = length-append before (x ∷ rest) in
       omega (arith, is, split, count, many)
 
+module _ {Y : Type 0} where
   pub none-left : (rows : List Y) (place : ℕ) → drop place rows ≡ [] → place < length rows → ⊥
   none-left rows place none lt = let is = ap length none in let left = length-drop place rows in omega (arith, is, left, lt)
 
