@@ -4,4 +4,4 @@ pub mod Right
 pub mod Building
 pub mod Opened
 pub mod Founded
-pub mod Started
+pub mod Led

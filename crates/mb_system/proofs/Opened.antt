@@ -58,13 +58,13 @@ module _ {A K : Type 0} (gates : Gates (Box Contents)) where
 pub copied-blank : (v w : View) → w ≡ copied v → v.log ≡ [] → w.log ≡ []
 copied-blank v w is none = ap (λ (x : View). x.log) is ∙ ap without_counts none
 
+pub halving-blank : (v w : View) → w ≡ halving v → v.log ≡ [] → w.log ≡ []
+halving-blank v w is none = ap (λ (x : View). x.log) is ∙ none
+
 -- what was put first into the guardian's list
 pub created : (number : ℕ) (node : SysMsg) (v w : View) → w ≡ enlisting 0 number node v → node ≡ Create → v.log ≡ [] → IsCreated w
 created number node v w is made none =
     (number, ap (λ (x : View). x.log) is ∙ (λ i. Pushed 0 number (made i) ∷ none i))
-
-pub halving-blank : (v w : View) → w ≡ halving v → v.log ≡ [] → w.log ≡ []
-halving-blank v w is none = ap (λ (x : View). x.log) is ∙ none
 
 -- there is one in this place for each that came before this one
 module _ {X Y : Type 0} where

@@ -1,4 +1,4 @@
-use Rattle.std.proofs.Common.{◌≡◌, ◌<◌, ◌≤◌, ◌+◌, length, map, refl, sym, ap, ◌∙◌, subst, arith}
+use Rattle.std.proofs.Common.{◌≡◌, ◌+◌, length, map, refl, sym, ap, ◌∙◌, subst, arith}
 use Rattle.std.specs.Prelude.{All, Some}
 use Rattle.std.proofs.lemmas.List.{length-map}
 use Rattle.mb_msg.specs.Limits.{most_actors}
@@ -7,7 +7,7 @@ use Rattle.mb_pool.specs.Made.{IsOfKind}
 use Rattle.mb_pool.specs.Places.{gates_of}
 use Rattle.mb_system.proofs.Founded.{all-numbered, all-once, all-senders, as-many-senders, ends-gates, feeds-gates}
 use Rattle.mb_system.proofs.Right.{right-plan}
-use Rattle.mb_system.proofs.Started.{all-led}
+use Rattle.mb_system.proofs.Led.{all-led}
 use Rattle.mb_system.proofs.build.assemble.Goals as goal
 
 pub found-requires : goal.found-requires

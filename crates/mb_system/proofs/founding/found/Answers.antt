@@ -1,4 +1,4 @@
-use Rattle.std.proofs.Common.{◌≡◌, ◌<◌, ◌≤◌, ◌+◌, length, sym, ap, ◌∙◌, arith}
+use Rattle.std.proofs.Common.{◌∙◌, arith}
 use Rattle.mb_system.proofs.Founded.{founded, housed-many}
 use Rattle.mb_system.proofs.founding.found.Goals as goal
 

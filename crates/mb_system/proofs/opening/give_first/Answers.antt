@@ -1,8 +1,8 @@
-use Rattle.std.proofs.Common.{rules, refl, ap}
+use Rattle.std.proofs.Common.{refl, ap}
 use Rattle.std.proofs.lemmas.List.{length-set}
 use Rattle.mb_gate.specs.Names.{known_by}
 use Rattle.mb_gate.specs.View.{View}
-use Rattle.mb_system.proofs.Started.{first-led, first-ours}
+use Rattle.mb_system.proofs.Led.{first-led, first-ours}
 use Rattle.mb_system.proofs.opening.give_first.Goals as goal
 
 pub absorb-requires : goal.absorb-requires

@@ -1,4 +1,4 @@
-use Rattle.std.proofs.Common.{rules, ◌≡◌, ◌<◌, ◌+◌, ◌++◌, length, drop, take, sym, ap, ◌∙◌, subst, arith}
+use Rattle.std.proofs.Common.{rules, ◌≡◌, length, sym, ap, ◌∙◌, subst, arith}
 use Rattle.mb_build.proofs.QueueLemmas.{refilled}
 use Rattle.mb_system.specs.Begun.{AreLedEnds, AreNewEnds}
 use Rattle.mb_system.proofs.opening.open.Goals as goal
