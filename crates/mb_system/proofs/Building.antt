@@ -1,22 +1,21 @@
 -- What the homes of a plan make of a system: who may send to whom, and the passes of the senders outside.
-use Rattle.std.proofs.Common.{◌≡◌, ◌≤◌, ◌<◌, ℕ, zero, suc, ◌+◌, List, [], ◌∷◌, ◌++◌, length, map, drop, refl, sym, ap, ◌∙◌, subst, arith}
+use Rattle.std.proofs.Common.{◌≡◌, ◌≤◌, ◌<◌, ℕ, zero, suc, ◌+◌, List, [], ◌∷◌, length, map, drop, refl, sym, ap, ◌∙◌, subst, arith}
 use Rattle.std.specs.Prelude.{All, slice_get, Some}
 use Rattle.std.specs.Global.{Box}
 use Rattle.std.proofs.lemmas.List.Elements.{All-append, All-cons, All-head, All-nil, All-tail}
 use Rattle.std.proofs.lemmas.Option.{none-some}
 use Rattle.mb_journal.specs.Identity.{Identity}
-use Rattle.mb_fates.specs.Accepted.{queued, to_actor}
 use Rattle.mb_queue.specs.declared.kind.Kind.{Kind}
-use Rattle.mb_queue.specs.Passes.{Queue, Sending, Taking}
+use Rattle.mb_queue.specs.Passes.{Sending, Taking}
 use Rattle.mb_home.specs.Contents.{Contents}
 use Rattle.mb_home.specs.Roll.{Enrolled, queues_of}
-use Rattle.mb_send.specs.Sends.{AreRoutes, receiving_queues}
+use Rattle.mb_send.specs.Sends.{receiving_queues}
 use Rattle.mb_build.specs.Handed.{passes_of}
 use Rattle.mb_build.specs.Housed.{AreAtFirst, enrolled}
 use Rattle.mb_build.specs.Made.{AreEmpty, AreMade}
 use Rattle.mb_build.specs.Numbers.{numbers, sender_numbers}
 use Rattle.mb_build.proofs.RollLemmas.{length-enrolled, queues-enrolled}
-use Rattle.mb_system.specs.Begun.{AreUnused, IsUnused}
+use Rattle.mb_system.specs.Begun.{AreUnused}
 use Rattle.mb_system.specs.Enrolled.{AreKnown, IsKnown}
 
 -- the actors' numbers, and those of the senders outside

@@ -6,4 +6,4 @@ pub mod Right
 pub mod Building
 pub mod Opened
 pub mod Founded
-pub mod Started
+pub mod Led

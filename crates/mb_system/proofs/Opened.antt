@@ -2,12 +2,14 @@
 use Rattle.std.proofs.Common.{◌≡◌, ◌<◌, ℕ, zero, suc, ◌+◌, List, [], ◌∷◌, ◌++◌, length, map, drop, take, sym, ap, ◌∙◌, subst, arith}
 use Rattle.std.specs.Global.{Box}
 use Rattle.std.proofs.lemmas.List.{length-append, length-drop, length_push, map_push}
-use Rattle.mb_gate.specs.View.{View, copied, halving, without_counts}
+use Rattle.mb_msg.specs.declared.system.SysMsg.{SysMsg}
+use Rattle.mb_msg.specs.declared.system.SysMsg.TheVariants.{Create}
+use Rattle.mb_gate.specs.View.{Pushed, View, copied, enlisting, halving, without_counts}
 use Rattle.mb_gate.specs.declared.gates.Gates.{Gates}
 use Rattle.mb_home.specs.Contents.{Contents}
 use Rattle.mb_queue.specs.Passes.{Queue, Sending}
 use Rattle.mb_build.proofs.RollLemmas.{take-next}
-use Rattle.mb_system.specs.Begun.{AreNewEnds, AreNewSenders, AreUnused, IsNewEnd, IsNewSender, IsUnused}
+use Rattle.mb_system.specs.Begun.{AreNewEnds, AreNewSenders, AreUnused, IsCreated, IsNewEnd, IsNewSender, IsUnused}
 use Rattle.mb_system.specs.declared.end.WorkerEnd.{WorkerEnd}
 use Rattle.mb_system.specs.declared.sender.Sender.{Sender}
 
@@ -59,6 +61,11 @@ copied-blank v w is none = ap (λ (x : View). x.log) is ∙ ap without_counts no
 pub halving-blank : (v w : View) → w ≡ halving v → v.log ≡ [] → w.log ≡ []
 halving-blank v w is none = ap (λ (x : View). x.log) is ∙ none
 
+-- what was put first into the guardian's list
+pub created : (number : ℕ) (node : SysMsg) (v w : View) → w ≡ enlisting 0 number node v → node ≡ Create → v.log ≡ [] → IsCreated w
+created number node v w is made none =
+    (number, ap (λ (x : View). x.log) is ∙ (λ i. Pushed 0 number (made i) ∷ none i))
+
 -- there is one in this place for each that came before this one
 module _ {X Y : Type 0} where
   pub place-left : (before rest all : List X) (x : X) (rows : List Y) (place : ℕ) → before ++ x ∷ rest ≡ all → place ≡ length before
@@ -67,6 +74,7 @@ module _ {X Y : Type 0} where
       let is = ap length whole in let split : length (before ++ x ∷ rest) ≡ length before + suc (length rest) = length-append before (x ∷ rest) in
       omega (arith, is, split, count, many)
 
+module _ {Y : Type 0} where
   pub none-left : (rows : List Y) (place : ℕ) → drop place rows ≡ [] → place < length rows → ⊥
   none-left rows place none lt = let is = ap length none in let left = length-drop place rows in omega (arith, is, left, lt)
 

@@ -6,9 +6,14 @@ use Rattle.mb_msg.specs.declared.system.SysMsg.TheVariants.{Create}
 use Rattle.mb_actor.specs.Behaviour.{Moment, Reply}
 use Rattle.mb_journal.specs.Identity.{Identity}
 use Rattle.mb_gate.specs.Names.{actors_of, first_of, known_by}
-use Rattle.mb_gate.specs.View.{Pushed, Sight, View}
+use Rattle.mb_gate.specs.View.{Pushed, View}
 use Rattle.mb_gate.specs.declared.gates.Gates.{Gates}
 use Rattle.mb_plan.specs.declared.plan.Plan.{Plan}
+use Rattle.mb_plan.specs.declared.plan.Pool.{Pool}
+use Rattle.mb_plan.specs.declared.plan.Pool.TheVariants as planned
+use Rattle.mb_pool.specs.Made.{IsOfKind}
+use Rattle.mb_pool.specs.declared.kind.Kind.{Kind as PoolKind}
+use Rattle.mb_pool.specs.declared.kind.Kind.TheVariants as pooled
 use Rattle.mb_queue.specs.declared.kind.Kind.{Kind}
 use Rattle.mb_queue.specs.Passes.{Queue, Sending}
 use Rattle.mb_home.specs.Contents.{Contents}
@@ -28,6 +33,11 @@ abbrev pub actors_in : Plan → List Identity
 actors_in plan = identities (length plan.actors.items + 1) plan.journal_limit (map (λ a. a.parent) plan.actors.items)
     (map (λ a. a.strategy) plan.actors.items)
 
+-- the pool that a plan asks for
+abbrev pub kind_in : Pool → PoolKind
+kind_in planned.Shared = pooled.Shared
+kind_in planned.Stealing = pooled.Stealing
+
 -- A sender's passes: one into each of these queues, in order, for the sender of this number, by which nothing was pushed
 pub record IsUnused (queues : List Queue) (actors number : ℕ) (sends : List Sending) : Type 0 where
   pub many : length sends + 1 ≡ actors
@@ -38,6 +48,10 @@ pub record IsUnused (queues : List Queue) (actors number : ℕ) (sends : List Se
 abbrev pub AreUnused : List Queue → ℕ → ℕ → List (List Sending) → Type 0
 AreUnused queues actors number [] = Unit {0}
 AreUnused queues actors number (sends ∷ rows) = IsUnused queues actors number sends × AreUnused queues actors (number + 1) rows
+
+-- one Create was put into the guardian's list, and nothing else was seen or done
+abbrev pub IsCreated : View → Type 0
+IsCreated view = (number : ℕ) × (view.log ≡ Pushed 0 number Create ∷ [])
 
 module _ {A K : Type 0} (gates : Gates (Box Contents)) where
   -- a sender of this number: it sent nothing, was answered nothing, saw nothing, owes nobody a look, and pushes by these passes
@@ -67,22 +81,19 @@ module _ {A K : Type 0} (gates : Gates (Box Contents)) where
   AreNewEnds number [] = Unit {0}
   AreNewEnds number (e ∷ ends) = IsNewEnd number e × AreNewEnds (number + 1) ends
 
-  -- such ends, numbered on from 0; but the first of them saw just this
-  pub record AreLedEnds (log : List Sight) (ends : List (WorkerEnd A K)) : Type 0 where
+  -- such ends, numbered on from 0; but the first of them put the Create into the guardian's list
+  pub record AreLedEnds (ends : List (WorkerEnd A K)) : Type 0 where
     pub end : WorkerEnd A K
     pub others : List (WorkerEnd A K)
     pub ends_are : ends ≡ (end ∷ others)
     pub others_are : AreNewEnds 1 others
     pub ours : IsEndOf gates end.waker
     pub first_end : (end.number ≡ 0) × IsNobody end.waker.owed
-    pub saw : (known_by end.waker.pass).log ≡ log
+    pub created : IsCreated (known_by end.waker.pass)
 
--- one Create was put into the guardian's list, and nothing else was seen or done
-abbrev pub IsCreated : View → Type 0
-IsCreated view = (number : ℕ) × (view.log ≡ Pushed 0 number Create ∷ [])
-
--- A system of this plan, as it begins: the actors' homes are as the plan says, its queues of the plan's kinds and empty; there are its ends and
--- its senders, unused; and one Create, to the guardian, is all that anybody put into a list: the first end put it there.
+-- A system of this plan, as it begins: the actors' homes are as the plan says, its queues of the plan's kinds and empty, and its pool of the
+-- plan's kind; there are its ends and its senders, unused; and one Create, to the guardian, is all that anybody put into a list: the first
+-- end put it there.
 pub record IsBegun {A K : Type 0} (gives : ℕ → Moment → Reply → Type 0) (plan : Plan) (built : Built A K) : Type 0 where
   pub together : BelongsTogether built
   pub kinds : List Kind
@@ -94,6 +105,7 @@ pub record IsBegun {A K : Type 0} (gives : ℕ → Moment → Reply → Type 0) 
   pub actors : actors_of built.system.gates ≡ length homes
   pub senders : AreNewSenders built.system.gates most_actors outside built.senders.items
   pub numbers : (built.system.workers ≡ plan.workers) × (built.system.senders ≡ plan.senders) × (built.system.throughput ≡ plan.throughput)
+  pub pool : IsOfKind (kind_in plan.pool) built.system.pool
   pub many : length built.ends.items ≡ plan.workers
   pub end : WorkerEnd A K
   pub others : List (WorkerEnd A K)

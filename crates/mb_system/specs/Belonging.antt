@@ -16,4 +16,5 @@ module _ {A K : Type 0} where
     pub ends : All (λ (e : WorkerEnd A K). IsEndOf built.system.gates e.waker) built.ends.items
     pub senders : All (λ (s : Sender A K). IsSenderOf built.system.gates s.inner) built.senders.items
     pub once : AllPairs (λ a b. a ≢ b) (senders_numbers built.senders.items)
-    pub numbered : All (λ (s : Sender A K). (most_actors ≤ s.inner.book.by.0) × (s.inner.book.by.0 < most_actors + built.system.senders)) built.senders.items
+    pub numbered : All (λ (s : Sender A K). (most_actors ≤ s.inner.book.by.0) × (s.inner.book.by.0 < most_actors + built.system.senders))
+        built.senders.items

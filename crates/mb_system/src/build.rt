@@ -1,9 +1,8 @@
 //! How a system is built.
-ghost use Rattle.std.specs.Prelude.{◌≡◌, ◌+◌, ◌<◌, ◌≤◌, [], ◌∷◌, List, IfErr, IfOk, length, map, vec_len};
-ghost use Rattle.mb_gate.specs.Names.{actors_of, first_of, gates_id, known_by, pass_id};
+ghost use Rattle.std.specs.Prelude.{◌≡◌, [], IfErr, IfOk, length};
 ghost use Rattle.mb_build.specs.Behaved.{AreBehaved};
 ghost use Rattle.mb_build.specs.Reasons.{reasons};
-ghost use Rattle.mb_system.specs.Begun.{IsBegun};
+ghost use Rattle.mb_system.specs.Begun.{IsBegun, kind_in};
 ghost use Rattle.mb_system.specs.Unbuilt.{IsNoSystem};
 
 use crate::built::Built;
@@ -104,7 +103,9 @@ fn assemble<A: Actor, K: Behaviours, R: Wait>(
 }
 
 // How the workers share the claims.
-fn kind_of(pool: mb_plan::Pool) -> Kind {
+fn kind_of(pool: mb_plan::Pool) -> Kind
+    ensures { result ≡ kind_in pool }
+{
     match pool {
         mb_plan::Pool::Shared => Kind::Shared,
         mb_plan::Pool::Stealing => Kind::Stealing,

@@ -1,10 +1,8 @@
 //! The ends and the senders of a new system.
-ghost use Rattle.std.specs.Prelude.{◌≡◌, ℕ, ◌<◌, ◌≤◌, [], ◌∷◌, All, IfOk, Some, drop, length, map};
+ghost use Rattle.std.specs.Prelude.{◌≡◌, ◌<◌, ◌≤◌, [], All, IfOk, Some, drop, length, map};
 ghost use Rattle.mb_msg.specs.Limits.{most_actors};
 ghost use Rattle.mb_gate.specs.Names.{actors_of, first_of, gates_id, known_by, pass_id};
-ghost use Rattle.mb_msg.specs.declared.system.SysMsg.TheVariants.{Create};
 ghost use Rattle.mb_gate.specs.Untouched.{origin_of};
-ghost use Rattle.mb_gate.specs.View.{Pushed};
 ghost use Rattle.mb_home.specs.Roll.{queues_of};
 ghost use Rattle.mb_pool.specs.Places.{gates_of};
 ghost use Rattle.mb_system.specs.Begun.{AreLedEnds, AreNewEnds, AreNewSenders, AreUnused, IsCreated};
@@ -52,7 +50,7 @@ pub(crate) fn open<A: Actor, K: Behaviours, R: Wait>(
     requires outside { AreUnused (drop 1 (queues_of (first_of gates.now).value.roll)) (actors_of gates.now) most_actors
         (map (λ row. row.items) outside.items) }
     ensures many { IfOk result (λ opened. length opened.ends.items ≡ length ends.items) }
-    ensures ends { IfOk result (λ opened. (number : ℕ) × AreLedEnds gates.now (Pushed 0 number Create ∷ []) opened.ends.items) }
+    ensures ends { IfOk result (λ opened. AreLedEnds gates.now opened.ends.items) }
     ensures senders { IfOk result (λ opened. AreNewSenders gates.now most_actors (map (λ row. row.items) outside.items) opened.senders.items) }
 {
     let senders = open_senders(alloc, gates, &mut pass, feeds, outside)?;
@@ -155,10 +153,11 @@ fn give_first<A: Actor, K: Behaviours>(
     pass: Pass<Place<A, K>>,
 )
     requires ours { pass_id pass ≡ gates_id gates.now }
+    requires created { IsCreated (known_by pass) }
     requires some { 0 < length ends.old }
     requires ends { AreNewEnds gates.now 0 ends.old }
     ensures many { length ends.new ≡ length ends.old }
-    ensures first { AreLedEnds gates.now (known_by pass).log ends.new }
+    ensures first { AreLedEnds gates.now ends.new }
 {
     gates.absorb(&mut ends[0].waker.pass, pass);
 }

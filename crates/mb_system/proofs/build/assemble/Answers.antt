@@ -1,12 +1,13 @@
-use Rattle.std.proofs.Common.{◌≡◌, ◌<◌, ◌≤◌, ◌+◌, length, map, refl, sym, ap, ◌∙◌, subst, arith}
+use Rattle.std.proofs.Common.{◌≡◌, ◌+◌, length, map, refl, sym, ap, ◌∙◌, subst, arith}
 use Rattle.std.specs.Prelude.{All, Some}
 use Rattle.std.proofs.lemmas.List.{length-map}
-use Rattle.mb_gate.specs.Untouched.{origin_of}
+use Rattle.mb_msg.specs.Limits.{most_actors}
 use Rattle.mb_gate.specs.View.{View}
+use Rattle.mb_pool.specs.Made.{IsOfKind}
 use Rattle.mb_pool.specs.Places.{gates_of}
-use Rattle.mb_system.proofs.Founded.{as-many-senders, ends-gates, feeds-gates}
+use Rattle.mb_system.proofs.Founded.{all-numbered, all-once, all-senders, as-many-senders, ends-gates, feeds-gates}
 use Rattle.mb_system.proofs.Right.{right-plan}
-use Rattle.mb_system.proofs.Started.{begun}
+use Rattle.mb_system.proofs.Led.{all-led}
 use Rattle.mb_system.proofs.build.assemble.Goals as goal
 
 pub found-requires : goal.found-requires
@@ -25,18 +26,19 @@ new-requires g c =
 pub open-requires : goal.open-requires
 open-requires g c =
     let right = right-plan c.args.plan (length c.args.actors.items) c.requires.right in
-    let founded = c.in_ok-gates.ensures.founded in let begun = c.in_ok-pool.ensures in
-    let gates = c.in_ok-gates.field-0.gates in let outside = c.in_ok-gates.field-0.outside in
-    let ends = ends-gates _ _ begun.are_ends in let feeds = feeds-gates _ _ begun.are_feeds in
-    let few = right.few in let actors = founded.actors in let workers = right.workers.1 in let some = right.workers.0 in
-    let as_many = ends.1 ∙ begun.ends_are in let fed = feeds.1 ∙ begun.feeds_are in
+    let founded = c.in_ok-gates.ensures.founded in let pool = c.in_ok-pool.ensures in let outside = c.in_ok-gates.field-0.outside in
+    let of_pool = c.in_ok-pool.pool in let ends = c.in_ok-pool.ends.items in let feeds = c.in_ok-pool.feeds.items in
+    let ends_are = ends-gates of_pool ends pool.are_ends in let feeds_are = feeds-gates of_pool feeds pool.are_feeds in
+    let few = right.few in let actors = founded.actors in let some = right.workers.0 in let workers = right.workers.1 in
+    let as_many : length ends ≡ c.args.plan.workers = ends_are.1 ∙ pool.ends_are in
+    let fed : length feeds ≡ c.args.plan.senders = feeds_are.1 ∙ pool.feeds_are in
     let rows = sym (length-map outside.items (λ row. row.items)) ∙ founded.rows in let senders = right.senders in record {
       ours = c.in_ok-gates.ensures.pass.0;
       blank = ap (λ (v : View). v.log) c.in_ok-gates.ensures.pass.1;
       actors = (omega (arith, actors), omega (arith, actors, few));
       some = (omega (arith, as_many, some), omega (arith, as_many, workers));
-      ends = subst (λ o. All (λ e. gates_of e ≡ Some o) _) begun.gates ends.0;
-      feeds = subst (λ o. All (λ f. gates_of f ≡ Some o) _) begun.gates feeds.0;
+      ends = subst (λ o. All (λ e. gates_of e ≡ Some o) ends) pool.gates ends_are.0;
+      feeds = subst (λ o. All (λ f. gates_of f ≡ Some o) feeds) pool.gates feeds_are.0;
       many = (fed ∙ sym rows, omega (arith, fed, senders));
       outside = founded.unused;
     }
@@ -45,18 +47,42 @@ pub returns : goal.returns
 returns g c =
     let right = right-plan c.args.plan (length c.args.actors.items) c.requires.right in
     let founded = c.in_ok-gates.ensures.founded in let housed = c.in_ok-gates.ensures.housed in let pool = c.in_ok-pool.ensures in
-    let opened = c.in_ok-ends.ensures in let outside = c.in_ok-gates.field-0.outside in
-    let ends = ends-gates _ _ pool.are_ends in
-    begun _ c.args.plan _ (record {
+    let opened = c.in_ok-ends.ensures in let gates = c.in_ok-gates.field-0.gates in
+    let outside = map (λ row. row.items) c.in_ok-gates.field-0.outside.items in let senders = c.in_ok-ends.field-0.senders.items in
+    let ends_are = ends-gates c.in_ok-pool.pool c.in_ok-pool.ends.items pool.are_ends in let few = right.senders in
+    let count : length senders ≡ c.args.plan.senders = as-many-senders gates most_actors outside senders opened.senders ∙ founded.rows in record {
+      together = record {
+        ends = all-led gates c.in_ok-ends.field-0.ends.items opened.ends;
+        senders = all-senders gates most_actors outside senders opened.senders;
+        once = all-once gates outside senders opened.senders (omega (arith, count, few));
+        numbered = all-numbered gates most_actors (most_actors + c.args.plan.senders) outside senders opened.senders (omega arith)
+            (omega (arith, count));
+      };
       kinds = housed.0;
-      kinds_are = housed.1.1.0;
-      homes = housed.1.0;
-      outside = map (λ row. row.items) outside.items;
-      housed = housed.1.1.1.0;
-      first = housed.1.1.1.1.0;
-      actors = housed.1.1.1.1.1;
+      kinds_are = housed.2;
+      homes = housed.1;
+      outside = outside;
+      housed = housed.3;
+      first = housed.4;
+      actors = housed.5;
       senders = opened.senders;
-      few = right.senders;
-      many = as-many-senders _ _ _ _ opened.senders ∙ founded.rows;
       numbers = (refl, refl, refl);
-    }) opened.ends.0 opened.ends.1 (opened.many ∙ ends.1 ∙ pool.ends_are)
+      pool = subst (λ k. IsOfKind k c.in_ok-pool.pool) c.kind_of.ensures pool.kind_is;
+      many = opened.many ∙ ends_are.1 ∙ pool.ends_are;
+      end = opened.ends.end;
+      others = opened.ends.others;
+      ends_are = opened.ends.ends_are;
+      others_are = opened.ends.others_are;
+      first_end = opened.ends.first_end;
+      created = opened.ends.created;
+    }
+
+pub invariant_of-system : goal.invariant_of-system
+invariant_of-system g c =
+    let right = right-plan c.args.plan (length c.args.actors.items) c.requires.right in let founded = c.in_ok-gates.ensures.founded in
+    let few = right.few in let actors = founded.actors in record {
+      some = right.workers.0;
+      few = (omega (arith, few, actors), right.senders);
+      roll = founded.roll;
+      known = founded.known;
+    }

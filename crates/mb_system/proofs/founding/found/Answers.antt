@@ -1,24 +1,24 @@
-use Rattle.std.proofs.Common.{◌≡◌, ◌<◌, ◌≤◌, ◌+◌, length, sym, ap, ◌∙◌, arith}
+use Rattle.std.proofs.Common.{◌∙◌, arith}
 use Rattle.mb_system.proofs.Founded.{founded, housed-many}
 use Rattle.mb_system.proofs.founding.found.Goals as goal
 
 pub new-requires : goal.new-requires
 new-requires g c =
     let housed = c.in_ok-homes.ensures in let homes = c.in_ok-homes.field-0.homes in let length_is = homes.ok.0 in
-    let many = housed-many _ c.args.journal_limit c.args.plans.items housed.0 c.args.senders homes.items _ housed.1.1 in
+    let many = housed-many _ c.args.journal_limit c.args.plans.items housed.0 c.args.senders homes.items _ housed.2 in
     let few = c.requires.few.0 in record {
       some = omega (arith, many, length_is);
       few = omega (arith, many, length_is, few);
-      fresh = housed.1.1.fresh;
+      fresh = housed.2.fresh;
     }
 
-pub returns-clause-housed : goal.returns-clause-housed
-returns-clause-housed g c =
+pub returns-in-Ok-clause-housed : goal.returns-in-Ok-clause-housed
+returns-in-Ok-clause-housed g c =
     let housed = c.in_ok-homes.ensures in let homes = c.in_ok-homes.field-0.homes in
-    (housed.0, homes.items, housed.1.0, housed.1.1, c.in-Ok.ensures.first, c.in-Ok.ensures.ok.0 ∙ sym homes.ok.0)
+    (housed.0, homes.items, housed.1, housed.2, c.in-Ok.ensures.first, c.in-Ok.ensures.ok.0 ∙ homes.ok.0)
 
-pub returns-clause-founded : goal.returns-clause-founded
-returns-clause-founded g c =
+pub returns-in-Ok-clause-founded : goal.returns-in-Ok-clause-founded
+returns-in-Ok-clause-founded g c =
     let housed = c.in_ok-homes.ensures in let homes = c.in_ok-homes.field-0.homes in
-    founded _ c.args.journal_limit c.args.plans.items housed.0 c.args.senders homes.items _ _ c.requires.few.0 housed.1.0 housed.1.1
-    c.in-Ok.ensures.first (c.in-Ok.ensures.ok.0 ∙ sym homes.ok.0)
+    founded _ c.args.journal_limit c.args.plans.items housed.0 c.args.senders homes.items _ _ c.requires.few.0 housed.1 housed.2
+    c.in-Ok.ensures.first (c.in-Ok.ensures.ok.0 ∙ homes.ok.0)

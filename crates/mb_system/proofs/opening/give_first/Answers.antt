@@ -1,18 +1,18 @@
-use Rattle.std.proofs.Common.{rules, refl, ap}
+use Rattle.std.proofs.Common.{refl, ap}
 use Rattle.std.proofs.lemmas.List.{length-set}
 use Rattle.mb_gate.specs.Names.{known_by}
 use Rattle.mb_gate.specs.View.{View}
-use Rattle.mb_system.proofs.Started.{first-led, first-ours}
+use Rattle.mb_system.proofs.Led.{first-led, first-ours}
 use Rattle.mb_system.proofs.opening.give_first.Goals as goal
 
 pub absorb-requires : goal.absorb-requires
 absorb-requires g c =
-    (first-ours c.args.gates.now c.args.ends.old _ _ refl c.requires.some c.requires.ends, c.requires.ours)
+    record { ours = (first-ours c.args.gates.now c.args.ends.now _ _ refl c.requires.some c.requires.ends, c.requires.ours) }
 
 pub returns-clause-many : goal.returns-clause-many
-returns-clause-many g c = length-set c.args.ends.old 0 _
+returns-clause-many g c = length-set c.args.ends.now 0 _
 
 pub returns-clause-first : goal.returns-clause-first
 returns-clause-first g c =
-    first-led c.args.gates.now c.args.ends.old _ _ c.absorb.new.pass (known_by c.args.pass).log refl c.requires.some c.requires.ends
-    c.absorb.ensures.ours (ap (λ (v : View). v.log) c.absorb.ensures.known)
+    first-led c.args.gates.now c.args.ends.now _ _ c.absorb.new.pass (known_by c.args.pass) refl c.requires.some c.requires.ends
+    c.absorb.ensures.ours c.requires.created (ap (λ (v : View). v.log) c.absorb.ensures.known)

@@ -1,4 +1,4 @@
-use Rattle.std.proofs.Common.{rules, ◌≡◌, ◌<◌, ◌+◌, ◌++◌, length, drop, take, sym, ap, ◌∙◌, subst, arith}
+use Rattle.std.proofs.Common.{rules, ◌≡◌, length, sym, ap, ◌∙◌, subst, arith}
 use Rattle.mb_build.proofs.QueueLemmas.{refilled}
 use Rattle.mb_system.specs.Begun.{AreLedEnds, AreNewEnds}
 use Rattle.mb_system.proofs.opening.open.Goals as goal
@@ -6,25 +6,22 @@ use Rattle.mb_system.proofs.opening.open.Goals as goal
 pub give_first-requires : goal.give_first-requires
 give_first-requires g c =
     let ends = c.in_ok-ends.ends.items in let lent : c.deref_mut.result.now ≡ ends = search rules in
-    let many : length c.deref_mut.result.now ≡ length c.args.ends.items = ap length lent ∙ c.in_ok-ends.ensures.0 in
+    let many : length c.deref_mut.result.now ≡ length c.args.ends.items = ap length lent ∙ c.in_ok-ends.ensures.opened.0 in
     let some = c.requires.some.0 in record {
       ours = c.start.ensures.ours ∙ c.open_ends.ensures.ours ∙ c.open_senders.ensures.ours ∙ c.requires.ours;
+      created = c.in_ok-start.ensures.created;
       some = omega (arith, many, some);
-      ends = subst (AreNewEnds c.args.gates.now 0) (sym lent) c.in_ok-ends.ensures.1;
+      ends = subst (AreNewEnds c.args.gates.now 0) (sym lent) c.in_ok-ends.ensures.opened.1;
     }
 
 pub returns-clause-many : goal.returns-clause-many
 returns-clause-many g c =
     let v = c.in_ok-ends.ends in let lent : c.deref_mut.result.now ≡ v.items = search rules in
-    let new = c.give_first.new.ends in let count : length new ≡ v.len = c.give_first.ensures.many ∙ ap length lent ∙ v.ok.0 in
-    ap length (refilled v.len v.items new count) ∙ c.give_first.ensures.many ∙ ap length lent ∙ c.in_ok-ends.ensures.0
+    let new = c.give_first.new.ends in let count : length new ≡ v.len = c.give_first.ensures.many ∙ ap length lent ∙ sym v.ok.0 in
+    ap length (refilled v.len v.items new count) ∙ c.give_first.ensures.many ∙ ap length lent ∙ c.in_ok-ends.ensures.opened.0
 
 pub returns-clause-ends : goal.returns-clause-ends
 returns-clause-ends g c =
     let v = c.in_ok-ends.ends in let lent : c.deref_mut.result.now ≡ v.items = search rules in
-    let new = c.give_first.new.ends in let count : length new ≡ v.len = c.give_first.ensures.many ∙ ap length lent ∙ v.ok.0 in
-    let created = c.in_ok.ensures in (
-      created.0,
-      subst (AreLedEnds c.args.gates.now _) (sym (refilled v.len v.items new count))
-          (subst (λ l. AreLedEnds c.args.gates.now l new) created.1 c.give_first.ensures.first),
-    )
+    let new = c.give_first.new.ends in let count : length new ≡ v.len = c.give_first.ensures.many ∙ ap length lent ∙ sym v.ok.0 in
+    subst (AreLedEnds c.args.gates.now) (sym (refilled v.len v.items new count)) c.give_first.ensures.first

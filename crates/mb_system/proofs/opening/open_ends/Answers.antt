@@ -3,6 +3,7 @@ use Rattle.std.specs.Prelude.{All, Some}
 use Rattle.std.specs.Vec.Iter.{into_iter_items}
 use Rattle.std.proofs.lemmas.List.{append-nil, length_push, nil_from_length}
 use Rattle.std.proofs.lemmas.List.Elements.{All-head, All-rest}
+use Rattle.mb_gate.specs.Names.{known_by}
 use Rattle.mb_gate.specs.Untouched.{origin_of}
 use Rattle.mb_pool.specs.Places.{gates_of}
 use Rattle.mb_system.specs.Begun.{AreNewEnds}
@@ -33,7 +34,7 @@ loop-end-preserved g c =
       ends = All-rest (λ e. gates_of e ≡ Some (origin_of gates)) end rest (into_iter_items at.end-iterator) steps at.invariant.ends;
       count = omega (arith, longer, further, count);
       ours = c.another.ensures.ours.0 ∙ at.invariant.ours;
-      blank = halving-blank _ _ c.another.ensures.known.0 at.invariant.blank;
+      blank = halving-blank (known_by at.pass) _ c.another.ensures.known.0 at.invariant.blank;
       opened = ends-next gates at.opened.items _ _ pushed at.invariant.opened (record {
         ours = (
           c.another.ensures.ours.1 ∙ at.invariant.ours ∙ c.requires.ours.0,
@@ -42,7 +43,7 @@ loop-end-preserved g c =
         );
         number_is = place;
         nobody = c.none.ensures;
-        blank = copied-blank _ _ c.another.ensures.known.1 at.invariant.blank;
+        blank = copied-blank (known_by at.pass) _ c.another.ensures.known.1 at.invariant.blank;
       });
     }
 

@@ -1,4 +1,4 @@
-use Rattle.std.proofs.Common.{rules, ◌≡◌, ◌++◌, ◌∷◌, [], length, drop, map, take, suc, refl, sym, ap, ◌∙◌, subst, append_assoc, arith}
+use Rattle.std.proofs.Common.{rules, ◌≡◌, ◌+◌, ◌++◌, ◌∷◌, [], length, drop, map, take, suc, refl, sym, ap, ◌∙◌, subst, append_assoc, arith}
 use Rattle.std.specs.Prelude.{All, Some, vec_len}
 use Rattle.std.specs.Vec.Iter.{into_iter_items}
 use Rattle.std.proofs.lemmas.List.{append-nil, drop-map, length_push, nil_from_length, take_all}
@@ -39,8 +39,8 @@ unreachable-requires g c =
     (place-left at.yielded rest c.args.feeds.items feed c.args.outside.items (length at.senders.items)
     (ap (λ l. at.yielded ++ l) (sym steps) ∙ at.invariant.whole) at.invariant.count c.requires.many.0)
 
-pub new-inner-requires-routes : goal.new-inner-requires-routes
-new-inner-requires-routes g c =
+pub new-inner-requires : goal.new-inner-requires
+new-inner-requires g c =
     let at = c.loop-feed in let outside = c.args.outside.items in let sends = c.in-Some-next.sends in
     let rest = into_iter_items c.next-in-loop-feed.new.self in let place = length at.senders.items in
     let gates = c.args.gates.now in let queues = drop 1 (queues_of (first_of gates).value.roll) in
@@ -49,7 +49,7 @@ new-inner-requires-routes g c =
     drop-map (λ r. r.items) place outside ∙ ap (map (λ r. r.items)) (sym at.invariant.rows ∙ lines) in
     let unused = unused-there queues (actors_of gates) most_actors (map (λ r. r.items) outside) place sends.items _ c.requires.outside row in
     let number : c.len-in-loop-feed.result ≡ place = search rules in
-    subst (λ n. AreRoutes n [] sends.items) (sym (ap (λ n. most_actors + n) number)) unused.routes
+    record { routes = subst (λ n. AreRoutes n [] sends.items) (sym (ap (λ n. most_actors + n) number)) unused.routes }
 
 pub loop-feed-preserved : goal.loop-feed-preserved
 loop-feed-preserved g c =
@@ -75,7 +75,7 @@ loop-feed-preserved g c =
       count = omega (arith, longer, further, count);
       rows = sym (drop-next place outside sends left here) ∙ ap (λ n. drop n outside) next;
       ours = c.another.ensures.ours.0 ∙ at.invariant.ours;
-      blank = halving-blank _ _ c.another.ensures.known.0 at.invariant.blank;
+      blank = halving-blank (known_by at.pass) _ c.another.ensures.known.0 at.invariant.blank;
       opened = senders-next (λ r. r.items) gates most_actors at.senders.items _ _ outside sends left pushed here at.invariant.opened (record {
         ours = record {
           ours = (
@@ -90,7 +90,7 @@ loop-feed-preserved g c =
         posted = book.2;
         sends_are = ap (λ v. v.items) parts.1;
         nobody = subst (λ w. IsNobody w.owed) (sym parts.0) c.none.ensures;
-        blank = ap (λ w. (known_by w.pass).log) parts.0 ∙ copied-blank _ _ c.another.ensures.known.1 at.invariant.blank;
+        blank = ap (λ w. (known_by w.pass).log) parts.0 ∙ copied-blank (known_by at.pass) _ c.another.ensures.known.1 at.invariant.blank;
       });
     }
 

@@ -2,7 +2,7 @@ use Rattle.std.proofs.Common.{◌≡◌, ◌++◌, [], drop, length, map, take}
 use Rattle.std.specs.Prelude.{All, Some}
 use Rattle.std.specs.Vec.Iter.{into_iter_items}
 use Rattle.mb_msg.specs.Limits.{most_actors}
-use Rattle.mb_gate.specs.Names.{gates_id, known_by, pass_id}
+use Rattle.mb_gate.specs.Names.{known_by, pass_id}
 use Rattle.mb_gate.specs.Untouched.{origin_of}
 use Rattle.mb_pool.specs.Places.{gates_of}
 use Rattle.mb_system.specs.Begun.{AreNewSenders}

@@ -1,7 +1,6 @@
-use Rattle.std.proofs.Common.{◌∷◌, ap, ◌∙◌}
-use Rattle.mb_gate.specs.View.{Pushed, View}
+use Rattle.mb_gate.specs.Names.{known_by}
+use Rattle.mb_system.proofs.Opened.{created}
 use Rattle.mb_system.proofs.opening.start.Goals as goal
 
 pub returns-clause-created : goal.returns-clause-created
-returns-clause-created g c =
-    (_, ap (λ (v : View). v.log) c.in-Ok.ensures.listed ∙ (λ i. Pushed 0 _ (c.in_ok-node.ensures i) ∷ c.requires.blank i))
+returns-clause-created g c = created _ _ (known_by c.args.pass.now) _ c.in-Ok.ensures.listed c.in_ok-node.ensures c.requires.blank

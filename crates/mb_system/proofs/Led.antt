@@ -1,0 +1,49 @@
+-- The ends of a new system, whose first has put a Create into the guardian's list.
+use Rattle.std.proofs.Common.{◌≡◌, ◌<◌, List, [], ◌∷◌, ◌++◌, length, get_or, set, refl, sym, ap, ◌∙◌, subst, append-nil, arith}
+use Rattle.std.specs.Prelude.{All}
+use Rattle.std.specs.Global.{Box}
+use Rattle.std.proofs.lemmas.List.Elements.{All-cons}
+use Rattle.mb_gate.specs.Names.{gates_id, known_by, pass_id}
+use Rattle.mb_gate.specs.View.{View}
+use Rattle.mb_gate.specs.declared.gates.Gates.{Gates}
+use Rattle.mb_gate.specs.declared.pass.Pass.{Pass}
+use Rattle.mb_home.specs.Contents.{Contents}
+use Rattle.mb_system.specs.Begun.{AreLedEnds, AreNewEnds, IsCreated, IsNewEnd}
+use Rattle.mb_system.specs.Members.{IsEndOf}
+use Rattle.mb_system.specs.declared.end.WorkerEnd.{WorkerEnd}
+use Rattle.mb_system.proofs.Founded.{all-ends}
+
+module _ {A K : Type 0} (gates : Gates (Box Contents)) where
+  -- all ends are of the gates, the first too
+  pub all-led : (ends : List (WorkerEnd A K)) → AreLedEnds gates ends → All (λ (e : WorkerEnd A K). IsEndOf gates e.waker) ends
+  all-led ends led =
+      subst (All (λ (e : WorkerEnd A K). IsEndOf gates e.waker)) (sym led.ends_are)
+      (All-cons (λ (e : WorkerEnd A K). IsEndOf gates e.waker) led.end led.others led.ours (all-ends gates 1 led.others led.others_are))
+
+  -- the first of new ends takes over a pass
+  pub first-ours : (ends : List (WorkerEnd A K)) (d e : WorkerEnd A K) → e ≡ get_or ends 0 d → 0 < length ends → AreNewEnds gates 0 ends
+      → pass_id e.waker.pass ≡ gates_id gates
+  first-ours [] d e is some are = absurd (omega (arith, some))
+  first-ours (x ∷ others) d e is some are = ap (λ (w : WorkerEnd A K). pass_id w.waker.pass) is ∙ are.0.ours.0
+
+  led-by : (x e : WorkerEnd A K) (others : List (WorkerEnd A K)) (p : Pass (Box Contents)) (v : View) → e ≡ x → IsNewEnd gates 0 x
+      → AreNewEnds gates 1 others → pass_id p ≡ pass_id e.waker.pass → IsCreated v
+      → (known_by p).log ≡ v.log ++ (known_by e.waker.pass).log
+      → AreLedEnds gates (record e { waker = record e.waker { pass = p } } ∷ others)
+  led-by x e others p v is new are id created saw =
+      let mine : IsNewEnd gates 0 e = subst (IsNewEnd gates 0) (sym is) new in record {
+        end = record e { waker = record e.waker { pass = p } };
+        others = others;
+        ends_are = refl;
+        others_are = are;
+        ours = (id ∙ mine.ours.0, mine.ours.1, mine.ours.2);
+        first_end = (mine.number_is, mine.nobody);
+        created = (created.0, saw ∙ ap (λ l. v.log ++ l) mine.blank ∙ append-nil v.log ∙ created.1);
+      }
+
+  pub first-led : (ends : List (WorkerEnd A K)) (d e : WorkerEnd A K) (p : Pass (Box Contents)) (v : View) → e ≡ get_or ends 0 d
+      → 0 < length ends → AreNewEnds gates 0 ends → pass_id p ≡ pass_id e.waker.pass → IsCreated v
+      → (known_by p).log ≡ v.log ++ (known_by e.waker.pass).log
+      → AreLedEnds gates (set ends 0 (record e { waker = record e.waker { pass = p } }))
+  first-led [] d e p v is some are id created saw = absurd (omega (arith, some))
+  first-led (x ∷ others) d e p v is some are id created saw = led-by x e others p v is are.0 are.1 id created saw
