@@ -1,6 +1,10 @@
 -- Ends, senders and jobs may go to other threads where actors and their kind of behaviours may, and threads may share the system then.
+use Prim.Native.Nat.{ℕ}
 use denote.RattleType.{RattleType}
-use denote.Param.Send.{IsSend, IsSync, sendable}
+use mir.Syntax.{Ty}
+use denote.Exit.{yes}
+use denote.Param.{arg, param}
+use denote.Param.Send.{IsSend, IsSync, arg_send, arg_sync, param_send, param_sync, sendable}
 use denote.Param.SendFields.{declared_send, declared_sync}
 use Rattle.std.proofs.Crossing.{crosses as std_crosses, sync as heap_sync, Box-send}
 use Rattle.std.specs.contracts.alloc.Global as heap
@@ -26,6 +30,13 @@ use Rattle.mb_system.specs.contracts.end.WorkerEnd as end
 use Rattle.mb_system.specs.contracts.job.Job as job
 use Rattle.mb_system.specs.contracts.sender.Sender as sender
 use Rattle.mb_system.specs.contracts.system.System as system
+
+-- so may what is passed for a type parameter
+pub passed_send : (i : ℕ) (mark : Ty) (T : RattleType) → IsSend T → IsSend (param i (arg mark yes T))
+passed_send i mark T s = param_send i (arg mark yes T) (arg_send mark yes T s)
+
+pub passed_sync : (i : ℕ) (mark : Ty) (T : RattleType) → IsSync T → IsSync (param i (arg mark yes T))
+passed_sync i mark T s = param_sync i (arg mark yes T) (arg_sync mark yes T s)
 
 module _ (A K : RattleType) (gA : actor.Ghosts A.Denot) (gK : behaviours.Ghosts K.Denot) where
   abbrev pub ThePlace : RattleType

@@ -1,7 +1,8 @@
 pub mod Looking
 pub mod Sending
-pub mod Captured
 pub mod Crossing
+pub mod Sides
+pub mod Breaking
 pub mod Right
 pub mod Building
 pub mod Opened

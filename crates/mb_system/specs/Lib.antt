@@ -4,3 +4,5 @@ pub mod Belonging
 pub mod Begun
 pub mod Unbuilt
 pub mod Orders
+pub mod Beside
+pub mod Faults

@@ -13,6 +13,7 @@ use Rattle.mb_gate.specs.View.{Said, View}
 use Rattle.mb_gate.specs.declared.gates.Gates.{Gates}
 use Rattle.mb_home.specs.Contents.{Contents}
 use Rattle.mb_wake.specs.Owed.{is_owed}
+use Rattle.std.specs.List.{AllZip}
 use Rattle.mb_system.specs.Members.{IsSenderOf}
 use Rattle.mb_system.specs.declared.job.Job.{Job}
 use Rattle.mb_system.specs.declared.order.Order.{Order}
@@ -67,6 +68,4 @@ module _ {A K : Type 0} where
 
   -- so was each of these
   abbrev pub AreDone : Gates (Box Contents) → List (Job A K) → List (Job A K) → Type 0
-  AreDone gates [] [] = Unit {0}
-  AreDone gates (old ∷ before) (new ∷ after) = IsDone gates old new × AreDone gates before after
-  AreDone gates _ _ = ⊥
+  AreDone gates = AllZip (IsDone gates)

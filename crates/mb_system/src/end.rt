@@ -1,5 +1,5 @@
 //! A worker's end of a system.
-ghost use Rattle.std.specs.Prelude.{◌≡◌, ◌<◌, ◌≤◌, ℕ, false, List, All, IfNone, IfSome, IsErrOf, MatchResult, OnOk, Some, length};
+ghost use Rattle.std.specs.Prelude.{◌≡◌, ◌<◌, ◌≤◌, ℕ, false, List, All, IfNone, IfSome, IsErrOf, MatchResult, OnErr, OnOk, Some, length};
 ghost use Rattle.mb_journal.specs.Entry.{Entry};
 ghost use Rattle.mb_journal.specs.Run.{Stopped};
 ghost use Rattle.mb_journal.specs.Run.Stopped.{NoRoom};
@@ -130,6 +130,7 @@ impl<A: Actor, K: Behaviours> WorkerEnd<A, K> {
         requires ours { IsEndOf system.now.gates self.old.waker }
         ensures ours { IsEndOf system.now.gates self.new.waker }
         ensures done { OnOk result ((id : ℕ) → id < actors_of system.now.gates → is_owed self.new.waker.owed id ≡ false) }
+        ensures refused { OnErr result (IsErrOf result RunError.NoMemory) }
         ensures number { self.new.number ≡ self.old.number }
     {
         match self.waker.pay(rt, &system.gates) {

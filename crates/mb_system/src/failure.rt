@@ -1,4 +1,7 @@
 //! Why a run was broken off.
+ghost use Rattle.std.specs.Prelude.{◌≡◌, ◌≢◌};
+ghost use Rattle.mb_send.specs.declared.unsent.Unsent.TheVariants as Refusal;
+
 use mb_journal::ReadyError;
 use mb_send::Unsent;
 use mb_wake::Unpaid;
@@ -15,7 +18,10 @@ pub enum RunError {
 }
 
 /// Why a turn was broken off.
-pub fn of_turn(error: ReadyError) -> RunError {
+pub fn of_turn(error: ReadyError) -> RunError
+    ensures full { result ≡ RunError.JournalFull → error ≡ ReadyError.JournalFull }
+    ensures known { result ≢ RunError.NoSuchActor }
+{
     match error {
         ReadyError::NoMemory => RunError::NoMemory,
         ReadyError::JournalFull => RunError::JournalFull,
@@ -23,7 +29,10 @@ pub fn of_turn(error: ReadyError) -> RunError {
 }
 
 /// Why a job was.
-pub fn of_sending(error: Unsent) -> RunError {
+pub fn of_sending(error: Unsent) -> RunError
+    ensures unknown { result ≡ RunError.NoSuchActor → error ≡ Refusal.NoSuchActor }
+    ensures sending { result ≢ RunError.JournalFull }
+{
     match error {
         Unsent::NoMemory => RunError::NoMemory,
         Unsent::NoSuchActor => RunError::NoSuchActor,
@@ -31,6 +40,8 @@ pub fn of_sending(error: Unsent) -> RunError {
 }
 
 /// What is owed still could not be paid.
-pub fn of_debts(_error: Unpaid) -> RunError {
+pub fn of_debts(_error: Unpaid) -> RunError
+    ensures { result ≡ RunError.NoMemory }
+{
     RunError::NoMemory
 }

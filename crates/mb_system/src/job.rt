@@ -1,8 +1,10 @@
 //! What a sender is to send in a run.
-ghost use Rattle.std.specs.Prelude.{◌≡◌, OnOk};
+ghost use Rattle.std.specs.Prelude.{◌≡◌, IfErr, OnOk};
+ghost use Rattle.mb_system.specs.Faults.{BreaksSending};
 ghost use Rattle.mb_system.specs.Members.{IsSenderOf};
 ghost use Rattle.mb_system.specs.Orders.{HasSent, OwesNobody};
 
+use crate::beside::Task;
 use crate::failure::RunError;
 use crate::order::Order;
 use crate::sender::Sender;
@@ -26,10 +28,35 @@ impl<A: Actor, K: Behaviours> Job<A, K> {
         ensures ours { IsSenderOf system.now.gates self.new.sender.inner }
         ensures sends { self.new.sends ≡ self.old.sends }
         ensures sent { OnOk result (HasSent self.old.sends.items self.old.sender self.new.sender × OwesNobody system.now.gates self.new.sender) }
+        ensures fault { IfErr result (BreaksSending system.now.gates self.old.sends.items) }
     {
         let outcome = send_and_pay(rt, system, &mut self.sender, &self.sends);
         system.going.close_job();
         outcome
+    }
+}
+
+impl<A: Actor, K: Behaviours> Task<System<A, K>> for Job<A, K> {
+    ghost use Rattle.std.specs.Prelude.{◌≡◌, IfErr, OnOk};
+    ghost use Rattle.mb_system.specs.Faults.{BreaksSending};
+    ghost use Rattle.mb_system.specs.Members.{IsSenderOf};
+    ghost use Rattle.mb_system.specs.Orders.{IsDone};
+
+    ghost ready = { λ system job. IsSenderOf system.gates job.sender.inner };
+
+    ghost keeps = { λ system old new. IsSenderOf system.gates new.sender.inner };
+
+    ghost done = { λ system old new. IsDone system.gates old new };
+
+    ghost fails = { λ system old new fault. BreaksSending system.gates old.sends.items fault };
+
+    fn perform<R: Wait>(&mut self, rt: &R, shared: &System<A, K>) -> Result<(), RunError>
+        requires ready { IsSenderOf shared.now.gates self.old.sender.inner }
+        ensures keeps { IsSenderOf shared.now.gates self.new.sender.inner }
+        ensures done { OnOk result (IsDone shared.now.gates self.old self.new) }
+        ensures fails { IfErr result (BreaksSending shared.now.gates self.old.sends.items) }
+    {
+        self.do_all(rt, shared)
     }
 }
 
@@ -43,6 +70,7 @@ fn send_and_pay<A: Actor, K: Behaviours, R: Wait>(
     requires ours { IsSenderOf system.now.gates sender.old.inner }
     ensures ours { IsSenderOf system.now.gates sender.new.inner }
     ensures sent { OnOk result (HasSent orders.now sender.old sender.new × OwesNobody system.now.gates sender.new) }
+    ensures fault { IfErr result (BreaksSending system.now.gates orders.now) }
 {
     sender.send_all(rt, system, orders)?;
     sender.pay(rt, system)

@@ -5,6 +5,7 @@
 //! were answered after it.
 #![tactic(auto)]
 
+mod beside;
 mod build;
 mod built;
 mod end;

@@ -1,5 +1,6 @@
 //! What a sender outside the actors is to send.
-ghost use Rattle.std.specs.Prelude.{◌≡◌, [], ◌∷◌, OnOk};
+ghost use Rattle.std.specs.Prelude.{◌≡◌, [], ◌∷◌, IfErr, OnOk};
+ghost use Rattle.mb_system.specs.Faults.{BreaksSending};
 ghost use Rattle.mb_system.specs.Members.{IsSenderOf};
 ghost use Rattle.mb_system.specs.Orders.{HasSent};
 
@@ -39,6 +40,7 @@ impl<A: Actor, K: Behaviours> Sender<A, K> {
         requires ours { IsSenderOf system.now.gates self.old.inner }
         ensures ours { IsSenderOf system.now.gates self.new.inner }
         ensures sent { OnOk result (HasSent orders.now self.old self.new) }
+        ensures fault { IfErr result (BreaksSending system.now.gates orders.now) }
     {
         for order in orders {
             self.send(rt, system, *order)?;
@@ -51,6 +53,7 @@ impl<A: Actor, K: Behaviours> Sender<A, K> {
         requires ours { IsSenderOf system.now.gates self.old.inner }
         ensures ours { IsSenderOf system.now.gates self.new.inner }
         ensures sent { OnOk result (HasSent (order ∷ []) self.old self.new) }
+        ensures fault { IfErr result (BreaksSending system.now.gates (order ∷ [])) }
     {
         match order.what {
             What::Tell(body) => match self.tell(rt, system, order.to, body) {

@@ -1,15 +1,16 @@
 //! Running on one thread alone.
-ghost use Rattle.std.specs.Prelude.{◌≡◌, All, OnOk};
+ghost use Rattle.std.specs.Prelude.{◌≡◌, All, IfErr, OnOk};
 ghost use Rattle.std.specs.Global.{Box};
 ghost use Rattle.mb_home.specs.Contents.{Contents};
 ghost use Rattle.mb_pool.specs.Moves.{WasEmpty};
 ghost use Rattle.mb_pool.specs.Places.{Way, gates_of, looks};
 ghost use Rattle.mb_turn.specs.Fresh.{IsFreshClaim};
 ghost use Rattle.mb_wake.specs.Owed.{IsNobody};
+ghost use Rattle.mb_system.specs.Faults.{BreaksWork};
 ghost use Rattle.mb_system.specs.Members.{IsEndOf};
 
 use crate::end::WorkerEnd;
-use crate::failure::{RunError, of_turn};
+use crate::failure::RunError;
 use crate::system::System;
 use mb_actor::{Actor, Behaviours};
 use mb_turn::Turn;
@@ -31,6 +32,7 @@ impl<A: Actor, K: Behaviours> WorkerEnd<A, K> {
         ensures empty { OnOk result ((end : Way (Box Contents)) × (gates_of end ≡ gates_of self.new.waker.way.end)
             × All (WasEmpty (IsFreshClaim K.gives)) (looks end)) }
         ensures number { self.new.number ≡ self.old.number }
+        ensures fault { IfErr result (BreaksWork K.gives system.now self.new) }
     {
         self.register_all(rt, system);
         let mut turns = Vec::new(system.alloc);
@@ -39,10 +41,7 @@ impl<A: Actor, K: Behaviours> WorkerEnd<A, K> {
                 return Err(RunError::NoMemory);
             }
             match self.take(rt) {
-                Some(claim) => match self.run_mailbox(rt, system, claim) {
-                    Ok(turn) => turns.push_reserved(turn),
-                    Err(error) => return Err(of_turn(error)),
-                },
+                Some(claim) => turns.push_reserved(self.run_one(rt, system, claim)?),
                 None => {
                     if self.waker.owed.is_empty() {
                         return Ok(turns);

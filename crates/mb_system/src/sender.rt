@@ -148,6 +148,7 @@ impl<A: Actor, K: Behaviours> Sender<A, K> {
         ensures ours { IsSenderOf system.now.gates self.new.inner }
         ensures by { self.new.inner.book.by ≡ self.old.inner.book.by }
         ensures done { OnOk result (OwesNobody system.now.gates self.new) }
+        ensures refused { OnErr result (IsErrOf result RunError.NoMemory) }
         ensures same { ((known_by self.new.inner.waker.pass).said ≡ (known_by self.old.inner.waker.pass).said)
             × (self.new.inner.book ≡ self.old.inner.book) × (self.new.inner.sends ≡ self.old.inner.sends) }
     {

@@ -1,14 +1,20 @@
 //! A worker among others.
-ghost use Rattle.std.specs.Prelude.{◌≡◌, ◌<◌, ℕ, false, true, Ok, OnOk};
+ghost use Rattle.std.specs.Prelude.{◌≡◌, ◌<◌, ℕ, false, true, IfErr, Ok, OnOk, Some};
 ghost use Rattle.mb_gate.specs.Names.{actors_of};
+ghost use Rattle.mb_gate.specs.Untouched.{origin_of};
+ghost use Rattle.mb_turn.specs.Fresh.{IsFreshClaim};
 ghost use Rattle.mb_wake.specs.Owed.{is_owed};
+ghost use Rattle.mb_system.specs.Faults.{BreaksWork};
 ghost use Rattle.mb_system.specs.Members.{IsEndOf};
 
+use crate::beside::Task;
 use crate::end::WorkerEnd;
 use crate::failure::{RunError, of_turn};
 use crate::system::System;
 use crossbeam_utils::Backoff;
 use mb_actor::{Actor, Behaviours};
+use mb_gate::Claim;
+use mb_turn::{Place, Turn};
 use std::sync::Wait;
 
 impl<A: Actor, K: Behaviours> WorkerEnd<A, K> {
@@ -21,6 +27,7 @@ impl<A: Actor, K: Behaviours> WorkerEnd<A, K> {
         ensures ours { IsEndOf system.now.gates self.new.waker }
         ensures paid { OnOk result ((id : ℕ) → id < actors_of system.now.gates → is_owed self.new.waker.owed id ≡ false) }
         ensures number { self.new.number ≡ self.old.number }
+        ensures fault { IfErr result (BreaksWork K.gives system.now self.new) }
     {
         system.going.enter();
         let outcome = self.work_on(rt, system);
@@ -34,6 +41,7 @@ impl<A: Actor, K: Behaviours> WorkerEnd<A, K> {
         ensures ours { IsEndOf system.now.gates self.new.waker }
         ensures paid { OnOk result ((id : ℕ) → id < actors_of system.now.gates → is_owed self.new.waker.owed id ≡ false) }
         ensures number { self.new.number ≡ self.old.number }
+        ensures fault { IfErr result (BreaksWork K.gives system.now self.new) }
     {
         for _ in rt.forever() {
             self.run_all(rt, system)?;
@@ -50,16 +58,34 @@ impl<A: Actor, K: Behaviours> WorkerEnd<A, K> {
         ensures ours { IsEndOf system.now.gates self.new.waker }
         ensures paid { OnOk result ((id : ℕ) → id < actors_of system.now.gates → is_owed self.new.waker.owed id ≡ false) }
         ensures number { self.new.number ≡ self.old.number }
+        ensures fault { IfErr result (BreaksWork K.gives system.now self.new) }
     {
         for _ in rt.forever() {
             let Some(claim) = self.take(rt) else {
                 return self.pay(rt, system);
             };
-            if let Err(error) = self.run_mailbox(rt, system, claim) {
-                return Err(of_turn(error));
-            }
+            self.run_one(rt, system, claim)?;
         }
         unreachable!()
+    }
+
+    // Runs the mailbox of this claim.
+    pub(crate) fn run_one<R: Wait>(
+        &mut self,
+        rt: &R,
+        system: &System<A, K>,
+        claim: Claim<Place<A, K>>,
+    ) -> Result<Turn, RunError>
+        requires ours { IsEndOf system.now.gates self.old.waker }
+        requires untouched { IsFreshClaim K.gives (Some (origin_of system.now.gates)) claim }
+        ensures ours { IsEndOf system.now.gates self.new.waker }
+        ensures number { self.new.number ≡ self.old.number }
+        ensures fault { IfErr result (BreaksWork K.gives system.now self.new) }
+    {
+        match self.run_mailbox(rt, system, claim) {
+            Ok(turn) => Ok(turn),
+            Err(error) => Err(of_turn(error)),
+        }
     }
 
     // Waits for a claim, and runs it; or finds that none will come.
@@ -69,6 +95,7 @@ impl<A: Actor, K: Behaviours> WorkerEnd<A, K> {
         ensures ours { IsEndOf system.now.gates self.new.waker }
         ensures paid { OnOk result (result ≡ Ok true → (id : ℕ) → id < actors_of system.now.gates → is_owed self.new.waker.owed id ≡ false) }
         ensures number { self.new.number ≡ self.old.number }
+        ensures fault { IfErr result (BreaksWork K.gives system.now self.new) }
     {
         system.going.leave();
         let backoff = Backoff::new();
@@ -76,10 +103,8 @@ impl<A: Actor, K: Behaviours> WorkerEnd<A, K> {
             let is_over = system.going.is_over();
             if let Some(claim) = self.take(rt) {
                 system.going.enter();
-                return match self.run_mailbox(rt, system, claim) {
-                    Ok(_) => Ok(false),
-                    Err(error) => Err(of_turn(error)),
-                };
+                self.run_one(rt, system, claim)?;
+                return Ok(false);
             }
             if is_over {
                 system.going.enter();
@@ -88,5 +113,30 @@ impl<A: Actor, K: Behaviours> WorkerEnd<A, K> {
             backoff.snooze();
         }
         unreachable!()
+    }
+}
+
+impl<A: Actor, K: Behaviours> Task<System<A, K>> for WorkerEnd<A, K> {
+    ghost use Rattle.std.specs.Prelude.{◌≡◌, ◌<◌, ℕ, false, IfErr, OnOk};
+    ghost use Rattle.mb_gate.specs.Names.{actors_of};
+    ghost use Rattle.mb_wake.specs.Owed.{is_owed};
+    ghost use Rattle.mb_system.specs.Faults.{BreaksWork};
+    ghost use Rattle.mb_system.specs.Members.{IsEndOf};
+
+    ghost ready = { λ system end. IsEndOf system.gates end.waker };
+
+    ghost keeps = { λ system old new. IsEndOf system.gates new.waker × (new.number ≡ old.number) };
+
+    ghost done = { λ system old new. (id : ℕ) → id < actors_of system.gates → is_owed new.waker.owed id ≡ false };
+
+    ghost fails = { λ system old new fault. BreaksWork K.gives system new fault };
+
+    fn perform<R: Wait>(&mut self, rt: &R, shared: &System<A, K>) -> Result<(), RunError>
+        requires ready { IsEndOf shared.now.gates self.old.waker }
+        ensures keeps { IsEndOf shared.now.gates self.new.waker × (self.new.number ≡ self.old.number) }
+        ensures done { OnOk result ((id : ℕ) → id < actors_of shared.now.gates → is_owed self.new.waker.owed id ≡ false) }
+        ensures fails { IfErr result (BreaksWork K.gives shared.now self.new) }
+    {
+        self.work(rt, shared)
     }
 }

@@ -1,0 +1,102 @@
+-- For which faults sending, work and a whole run are broken off.
+use Rattle.std.proofs.Common.{◌≡◌, ◌≤◌, ℕ, List, [], ◌∷◌, length, refl, subst, sym, ◌∙◌, arith, inl, inr}
+use Rattle.std.specs.Prelude.{◌≢◌, ◌⊎◌, ⊤, Contains, Err, IfErr, IsErrOf, MatchResult, Ok, OnErr, Result, Some}
+use Rattle.std.specs.Global.{Box}
+use Rattle.std.specs.List.{AllZip}
+use Rattle.std.proofs.lemmas.List.Elements.{All-cons, All-contains, All-nil}
+use Rattle.mb_actor.specs.Behaviour.{Moment, Reply}
+use Rattle.mb_journal.specs.Entry.{Entry}
+use Rattle.mb_journal.specs.Run.{Stopped}
+use Rattle.mb_journal.specs.Run.Stopped.{NoRoom}
+use Rattle.mb_journal.specs.declared.error.ReadyError.{ReadyError}
+use Rattle.mb_journal.specs.declared.error.ReadyError.TheVariants as Ready
+use Rattle.mb_gate.specs.Names.{known_by}
+use Rattle.mb_gate.specs.Untouched.{origin_of}
+use Rattle.mb_gate.specs.declared.claim.Claim.{Claim}
+use Rattle.mb_gate.specs.declared.gates.Gates.{Gates}
+use Rattle.mb_home.specs.Contents.{Contents}
+use Rattle.mb_send.specs.declared.unsent.Unsent.{Unsent}
+use Rattle.mb_send.specs.declared.unsent.Unsent.TheVariants as Refusal
+use Rattle.mb_turn.specs.Fresh.{IsFreshClaim}
+use Rattle.mb_turn.specs.Ran.{HadRoom, LeavesRun}
+use Rattle.mb_turn.specs.declared.turn.Turn.{Turn}
+use Rattle.mb_system.specs.Beside.{AnyZip}
+use Rattle.mb_system.specs.Faults.{BreaksRun, BreaksSending, BreaksWork, CameToLimit, IsToNobody}
+use Rattle.mb_system.specs.declared.end.WorkerEnd.{WorkerEnd}
+use Rattle.mb_system.specs.declared.failure.RunError.{RunError}
+use Rattle.mb_system.specs.declared.failure.RunError.TheVariants.{JournalFull, NoMemory, NoSuchActor}
+use Rattle.mb_system.specs.declared.job.Job.{Job}
+use Rattle.mb_system.specs.declared.order.Order.{Order}
+use Rattle.mb_system.specs.declared.system.System.{System}
+use Rattle.mb_system.proofs.Sides.{one_after, one_before}
+
+module _ (gates : Gates (Box Contents)) where
+  -- one order was refused for its receiver
+  pub breaks-one : (order : Order) (fault : RunError) → (fault ≡ NoSuchActor → IsToNobody gates order.to order.what) → fault ≢ JournalFull
+      → BreaksSending gates (order ∷ []) fault
+  breaks-one order NoMemory unknown sending = tt
+  breaks-one order JournalFull unknown sending = sending refl
+  breaks-one order NoSuchActor unknown sending = (order, (0, omega arith, refl), unknown refl)
+
+  -- and it is one of these
+  pub breaks-many : (orders : List Order) (order : Order) (fault : RunError) → Contains orders order → BreaksSending gates (order ∷ []) fault
+      → BreaksSending gates orders fault
+  breaks-many orders order NoMemory there breaks = tt
+  breaks-many orders order JournalFull there breaks = breaks
+  breaks-many orders order NoSuchActor there breaks =
+      let P : Order → Type 0 = λ o. Contains orders o in
+      (breaks.0, All-contains P (order ∷ []) breaks.0 (All-cons P order [] there (All-nil P)) breaks.1, breaks.2)
+
+-- a tell, or a stop, was refused
+IsOfMemory : {T : Type 0} → Result T Unsent → Type 0
+IsOfMemory (Err Refusal.NoMemory) = ⊤
+IsOfMemory _ = ⊥
+
+pub to-nobody : {T : Type 0} (P Q M : Type 0) (result : Result T Unsent) → OnErr result (P × ((IsErrOf result Refusal.NoSuchActor × Q) ⊎ M))
+    → (M → IsErrOf result Refusal.NoMemory) → result ≡ Err Refusal.NoSuchActor → Q
+unfolding IsOfMemory
+to-nobody {T} P Q M (Ok x) refused memory e = absurd (subst (λ (r : Result T Unsent). OnErr r ⊥) e tt)
+to-nobody P Q M (Err error) (p, inl q) memory e = q.1
+to-nobody P Q M (Err error) (p, inr m) memory e = absurd (subst IsOfMemory (sym (memory m) ∙ e) tt)
+
+module _ {A K : Type 0} (gives : ℕ → Moment → Reply → Type 0) (system : System A K) where
+  pub came-to-limit : (end : WorkerEnd A K) (claim : Claim (Box Contents)) → IsFreshClaim gives (Some (origin_of system.gates)) claim
+      → (result : Result Turn ReadyError)
+      → (journal : List Entry) × MatchResult result
+      (λ turn. (stopped : Stopped) × HadRoom stopped
+      × LeavesRun system.throughput claim (known_by end.waker.pass) journal turn stopped)
+      (λ _. (turn : Turn) × LeavesRun system.throughput claim (known_by end.waker.pass) journal turn NoRoom
+      × (IsErrOf result Ready.JournalFull → claim.home.value.cell.who.limit ≤ length journal))
+      → result ≡ Err Ready.JournalFull → CameToLimit gives system end
+  came-to-limit end claim fresh (Ok turn) ran e = absurd (subst (λ (r : Result Turn ReadyError). OnErr r ⊥) e tt)
+  came-to-limit end claim fresh (Err error) (journal, ran) e = record {
+    claim = claim;
+    fresh = fresh;
+    journal = journal;
+    turn = ran.0;
+    left = ran.1;
+    full = ran.2 e;
+  }
+
+  -- a run of a mailbox was broken off
+  pub breaks-work : (end : WorkerEnd A K) (fault : RunError) → (fault ≡ JournalFull → CameToLimit gives system end) → fault ≢ NoSuchActor
+      → BreaksWork gives system end fault
+  breaks-work end NoMemory full known = tt
+  breaks-work end JournalFull full known = full refl
+  breaks-work end NoSuchActor full known = known refl
+
+  -- one of the ends was broken off, or one of the jobs
+  pub breaks-by-end : (before ends : List (WorkerEnd A K)) (jobs : List (Job A K)) (fault : RunError)
+      → AnyZip (λ old new. BreaksWork gives system new fault) before ends → BreaksRun gives system ends jobs fault
+  breaks-by-end before ends jobs NoMemory any = tt
+  breaks-by-end before ends jobs JournalFull any =
+      one_after (λ old new. CameToLimit gives system new) (λ new. CameToLimit gives system new) (λ old new is. is) before ends any
+  breaks-by-end before ends jobs NoSuchActor any = absurd (one_after (λ old new. ⊥) (λ new. ⊥) (λ old new is. is) before ends any).2
+
+  pub breaks-by-job : (ends : List (WorkerEnd A K)) (jobs after : List (Job A K)) (fault : RunError)
+      → AnyZip (λ old new. BreaksSending system.gates old.sends.items fault) jobs after → BreaksRun gives system ends jobs fault
+  breaks-by-job ends jobs after NoMemory any = tt
+  breaks-by-job ends jobs after JournalFull any = absurd (one_before (λ old new. ⊥) (λ old. ⊥) (λ old new is. is) jobs after any).2
+  breaks-by-job ends jobs after NoSuchActor any =
+      let P : Job A K → Type 0 = λ job. BreaksSending system.gates job.sends.items NoSuchActor in
+      one_before (λ old new. P old) P (λ old new is. is) jobs after any

@@ -1,0 +1,21 @@
+use Rattle.std.proofs.Common.{◌∙◌, Err, ap, subst, sym}
+use Rattle.mb_system.specs.Faults.{IsToNobody}
+use Rattle.mb_system.proofs.Breaking.{breaks-one, to-nobody}
+use Rattle.mb_system.proofs.sender.Sender.send.Goals as goal
+
+pub returns-in-Err-clause-fault : goal.returns-in-Err-clause-fault
+returns-in-Err-clause-fault g c =
+    let gates = c.args.system.now.gates in
+    breaks-one gates c.args.order c.of_sending.result
+    (λ unknown. subst (λ what. IsToNobody gates c.args.order.to what) (sym c.in-Tell.is)
+    (to-nobody _ _ _ c.tell.result c.tell.ensures.refused (λ memory. memory.0) (c.in-Err.is ∙ ap Err (c.of_sending.ensures.unknown unknown))))
+    c.of_sending.ensures.sending
+
+pub returns-in-Err-stop-clause-fault : goal.returns-in-Err-stop-clause-fault
+returns-in-Err-stop-clause-fault g c =
+    let gates = c.args.system.now.gates in
+    let failed = c.of_sending-in-Err-stop in
+    breaks-one gates c.args.order failed.result
+    (λ unknown. subst (λ what. IsToNobody gates c.args.order.to what) (sym c.in-Stop.is)
+    (to-nobody _ _ _ c.stop.result c.stop.ensures.refused (λ memory. memory.0) (c.in-Err-stop.is ∙ ap Err (failed.ensures.unknown unknown))))
+    failed.ensures.sending

@@ -1,0 +1,43 @@
+use Rattle.std.proofs.Common.{◌≡◌, ◌∙◌}
+use Rattle.std.proofs.lemmas.Result.{IfErr-weaker, on_ok_weaker}
+use Rattle.mb_system.specs.Faults.{BreaksRun}
+use Rattle.mb_system.proofs.Breaking.{breaks-by-end, breaks-by-job}
+use Rattle.mb_system.proofs.Crossing.{end_send, job_send, passed_send, passed_sync, system_sync}
+use Rattle.mb_system.proofs.Sides.{all_after, as_many_after, err_of, ok_first, ok_rest, same_after}
+use Rattle.mb_system.proofs.system.System.run.Goals as goal
+
+pub all_beside-of_jobs-requires-sync-S : goal.all_beside-of_jobs-requires-sync-S
+all_beside-of_jobs-requires-sync-S g c κs within =
+    passed_sync 1 _ _ (system_sync _ _ g.A.Actor g.K.Behaviours c.type_bounds.send-A c.type_bounds.send-K)
+
+pub all_beside-of_jobs-requires-send-T : goal.all_beside-of_jobs-requires-send-T
+all_beside-of_jobs-requires-send-T g c κs within =
+    passed_send 2 _ _ (job_send _ _ g.A.Actor g.K.Behaviours c.type_bounds.send-A c.type_bounds.send-K)
+
+pub all_beside-of_jobs-requires-send-U : goal.all_beside-of_jobs-requires-send-U
+all_beside-of_jobs-requires-send-U g c κs within =
+    passed_send 3 _ _ (end_send _ _ g.A.Actor g.K.Behaviours c.type_bounds.send-A c.type_bounds.send-K)
+
+pub returns-clause-ends : goal.returns-clause-ends
+returns-clause-ends g c =
+    let each = c.all_beside-of_jobs.ensures.keeps.1 in (
+      all_after _ _ (λ old new kept. kept.0) _ _ each,
+      same_after _ _ (λ old new kept. kept.1) _ _ each ∙ c.register_by_first.ensures.1,
+    )
+
+pub returns-clause-jobs : goal.returns-clause-jobs
+returns-clause-jobs g c =
+    let each = c.all_beside-of_jobs.ensures.keeps.0 in (all_after _ _ (λ old new kept. kept) _ _ each, as_many_after _ _ _ each)
+
+pub returns-clause-paid : goal.returns-clause-paid
+returns-clause-paid g c =
+    ok_first _ _ _ _ c.first_of.ensures (on_ok_weaker _ (all_after _ _ (λ old new paid. paid) _ _) c.all_beside-of_jobs.ensures.done.1)
+
+pub returns-clause-done : goal.returns-clause-done
+returns-clause-done g c = ok_rest _ _ _ _ c.first_of.ensures c.all_beside-of_jobs.ensures.done.0
+
+pub returns-clause-fault : goal.returns-clause-fault
+returns-clause-fault g c =
+    let fails = c.all_beside-of_jobs.ensures.fails in
+    err_of _ _ _ _ c.first_of.ensures (IfErr-weaker _ _ _ (λ fault. breaks-by-end _ _ _ _ _ fault) fails.1)
+    (IfErr-weaker _ _ _ (λ fault. breaks-by-job _ _ _ _ _ fault) fails.0)
