@@ -1,8 +1,7 @@
 -- For which faults sending, work and a whole run are broken off.
 use Rattle.std.proofs.Common.{◌≡◌, ◌≤◌, ℕ, List, [], ◌∷◌, length, refl, subst, sym, ◌∙◌, arith, inl, inr}
-use Rattle.std.specs.Prelude.{◌≢◌, ◌⊎◌, ⊤, Contains, Err, IfErr, IsErrOf, MatchResult, Ok, OnErr, Result, Some}
+use Rattle.std.specs.Prelude.{◌≢◌, ◌⊎◌, ⊤, Contains, Err, IsErrOf, MatchResult, Ok, OnErr, Result, Some}
 use Rattle.std.specs.Global.{Box}
-use Rattle.std.specs.List.{AllZip}
 use Rattle.std.proofs.lemmas.List.Elements.{All-cons, All-contains, All-nil}
 use Rattle.mb_actor.specs.Behaviour.{Moment, Reply}
 use Rattle.mb_journal.specs.Entry.{Entry}

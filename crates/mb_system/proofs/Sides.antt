@@ -1,6 +1,6 @@
 -- What holds of each thing that was done beside others, or of one of them, holds of all, or of one that there is; and of the first of two faults.
-use Rattle.std.proofs.Common.{◌≡◌, ◌<◌, ℕ, suc, List, [], ◌∷◌, length, get_or, map, set, refl, sym, ap, ◌∙◌, subst, arith, inl, inr}
-use Rattle.std.specs.Prelude.{◌⊎◌, All, Contains, Err, IfErr, MatchResult, Ok, OnOk, Result}
+use Rattle.std.proofs.Common.{◌≡◌, suc, List, [], ◌∷◌, length, get_or, map, set, refl, sym, ap, ◌∙◌, subst, arith, inl, inr}
+use Rattle.std.specs.Prelude.{All, Contains, Err, IfErr, MatchResult, Ok, OnOk, Result}
 use Rattle.std.specs.Global.{Box}
 use Rattle.std.specs.List.{AllZip}
 use Rattle.std.proofs.lemmas.List.Elements.{All-cons, All-nil, All-set}
@@ -59,8 +59,8 @@ module _ {T : Type 0} where
 
 -- another end stands first, with the same number
 module _ {A K : Type 0} (gates : Gates (Box Contents)) where
-  pub first_changed : (ends : List (WorkerEnd A K)) (old new : WorkerEnd A K) → old ≡ get_or ends 0 old → AreEndsOf gates ends → IsEndOf gates new.waker
-      → new.number ≡ old.number → AreEndsOf gates (set ends 0 new) × (ends_numbers (set ends 0 new) ≡ ends_numbers ends)
+  pub first_changed : (ends : List (WorkerEnd A K)) (old new : WorkerEnd A K) → old ≡ get_or ends 0 old → AreEndsOf gates ends
+      → IsEndOf gates new.waker → new.number ≡ old.number → AreEndsOf gates (set ends 0 new) × (ends_numbers (set ends 0 new) ≡ ends_numbers ends)
   first_changed ends old new there all ours same = (
     All-set (λ (e : WorkerEnd A K). IsEndOf gates e.waker) ends 0 new ours all,
     same_first (λ (e : WorkerEnd A K). e.number) ends old new there same,

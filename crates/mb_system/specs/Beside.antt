@@ -1,5 +1,5 @@
 -- What became of things that were done side by side.
-use Rattle.std.specs.Prelude.{List, [], ◌∷◌, ◌⊎◌}
+use Rattle.std.specs.Prelude.{List, ◌∷◌, ◌⊎◌}
 
 -- R holds of the items of two lists at some place
 abbrev pub AnyZip : {T : Type 0} → (T → T → Type 0) → List T → List T → Type 0

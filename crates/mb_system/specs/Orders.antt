@@ -9,12 +9,11 @@ use Rattle.mb_msg.specs.declared.system.SysMsg.TheVariants.{Terminate}
 use Rattle.mb_fates.specs.declared.posting.Posting.{Posting}
 use Rattle.mb_fates.specs.Accepted.{accepted}
 use Rattle.mb_gate.specs.Names.{actors_of, known_by}
-use Rattle.mb_gate.specs.View.{Said, View}
+use Rattle.mb_gate.specs.View.{Said}
 use Rattle.mb_gate.specs.declared.gates.Gates.{Gates}
 use Rattle.mb_home.specs.Contents.{Contents}
 use Rattle.mb_wake.specs.Owed.{is_owed}
 use Rattle.std.specs.List.{AllZip}
-use Rattle.mb_system.specs.Members.{IsSenderOf}
 use Rattle.mb_system.specs.declared.job.Job.{Job}
 use Rattle.mb_system.specs.declared.order.Order.{Order}
 use Rattle.mb_system.specs.declared.order.What.{What}

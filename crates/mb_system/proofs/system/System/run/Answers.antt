@@ -1,6 +1,5 @@
-use Rattle.std.proofs.Common.{◌≡◌, ◌∙◌}
+use Rattle.std.proofs.Common.{◌∙◌}
 use Rattle.std.proofs.lemmas.Result.{IfErr-weaker, on_ok_weaker}
-use Rattle.mb_system.specs.Faults.{BreaksRun}
 use Rattle.mb_system.proofs.Breaking.{breaks-by-end, breaks-by-job}
 use Rattle.mb_system.proofs.Crossing.{end_send, job_send, passed_send, passed_sync, system_sync}
 use Rattle.mb_system.proofs.Sides.{all_after, as_many_after, err_of, ok_first, ok_rest, same_after}
