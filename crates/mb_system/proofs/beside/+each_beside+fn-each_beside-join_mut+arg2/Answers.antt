@@ -9,3 +9,6 @@ join_mut-rest-requires-after_bounds g t c κs within =
     let rest : All (g.T.Task.ready c.args.shared.now) c.in-Some.others.now = λ k d h. all (suc k) d (omega arith) in
     let shorter : length c.in-Some.others.now < length c.args.tasks.now = omega (arith, c.in-Some.ensures.cases.1) in
     (search rules, first)
+
+pub returns-clause-done : goal.returns-clause-done
+returns-clause-done g t c = search rules

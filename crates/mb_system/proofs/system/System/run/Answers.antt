@@ -30,13 +30,18 @@ returns-clause-jobs g c =
 
 pub returns-clause-paid : goal.returns-clause-paid
 returns-clause-paid g c =
-    ok_first _ _ _ _ c.first_of.ensures (on_ok_weaker _ (all_after _ _ (λ old new paid. paid) _ _) c.all_beside-of_jobs.ensures.done.1)
+    let of = c.all_beside-of_jobs.result in
+    ok_first _ of.1 of.0 c.first_of.result c.first_of.ensures
+    (on_ok_weaker _ (all_after _ _ (λ old new paid. paid) _ _) c.all_beside-of_jobs.ensures.done.1)
 
 pub returns-clause-done : goal.returns-clause-done
-returns-clause-done g c = ok_rest _ _ _ _ c.first_of.ensures c.all_beside-of_jobs.ensures.done.0
+returns-clause-done g c =
+    let of = c.all_beside-of_jobs.result in
+    ok_rest _ of.1 of.0 c.first_of.result c.first_of.ensures c.all_beside-of_jobs.ensures.done.0
 
 pub returns-clause-fault : goal.returns-clause-fault
 returns-clause-fault g c =
+    let of = c.all_beside-of_jobs.result in
     let fails = c.all_beside-of_jobs.ensures.fails in
-    err_of _ _ _ _ c.first_of.ensures (IfErr-weaker _ _ _ (λ fault. breaks-by-end _ _ _ _ _ fault) fails.1)
+    err_of _ of.1 of.0 c.first_of.result c.first_of.ensures (IfErr-weaker _ _ _ (λ fault. breaks-by-end _ _ _ _ _ fault) fails.1)
     (IfErr-weaker _ _ _ (λ fault. breaks-by-job _ _ _ _ _ fault) fails.0)
