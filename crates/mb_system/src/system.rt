@@ -1,5 +1,5 @@
 //! A system of actors.
-ghost use Rattle.std.specs.Prelude.{◌≡◌, ◌≤◌, length};
+ghost use Rattle.std.specs.Prelude.{◌≡◌, ◌<◌, ◌≤◌, length};
 ghost use Rattle.mb_gate.specs.Names.{actors_of, first_of};
 ghost use Rattle.mb_system.specs.Enrolled.{AreKnown};
 
@@ -20,6 +20,7 @@ pub struct System<A: Actor, K: Behaviours> {
     pub senders: u32,
     pub throughput: u32,
     pub alloc: Global,
+    ghost some: { 0 < workers },
     ghost few: { (actors_of gates ≤ 64) × (senders ≤ 16) },
     ghost roll: { length (first_of gates).value.roll ≡ actors_of gates },
     ghost known: { AreKnown (first_of gates).value.roll senders },
