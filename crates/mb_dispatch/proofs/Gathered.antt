@@ -1,5 +1,5 @@
 -- What is taken over, one after another.
-use Rattle.std.proofs.Common.{◌≡◌, ℕ, List, [], ◌∷◌, ◌++◌, append_assoc, refl, sym, ap, ◌∙◌, subst, map}
+use Rattle.std.proofs.Common.{◌≡◌, ℕ, List, [], ◌∷◌, ◌++◌, append-nil, append_assoc, refl, sym, ap, ◌∙◌, subst, map}
 use Rattle.std.specs.Prelude.{All, length, ◌≤◌, ◌+◌, vec_capacity, Vec}
 use Rattle.std.specs.Global.{Box, Global}
 use Rattle.std.proofs.Common.{arith, length-append}
@@ -54,29 +54,32 @@ module _ {A K : Type 0} where
             (All-nil (λ (w : WorkerEnd A K). IsPart (seen_by_end w) (known_by pass).log));
       }
 
-  pub end-ours : (gates : Gates (Box Contents)) (ends came rest : List (WorkerEnd A K)) (e : WorkerEnd A K) (pass : Pass (Box Contents))
-      → HasEnds gates ends came (e ∷ rest) pass → All (λ (w : WorkerEnd A K). IsEndOf gates w.waker) ends → pass_id e.waker.pass ≡ gates_id gates
-  end-ours gates ends came rest e pass has all =
-      (of-next (λ (w : WorkerEnd A K). IsEndOf gates w.waker) (has.first ∷ came) e rest ends has.are all).0
+  pub end-ours : (gates : Gates (Box Contents)) (ends came left rest : List (WorkerEnd A K)) (e : WorkerEnd A K) (pass other : Pass (Box Contents))
+      → HasEnds gates ends came left pass → left ≡ e ∷ rest → other ≡ e.waker.pass → All (λ (w : WorkerEnd A K). IsEndOf gates w.waker) ends
+      → pass_id other ≡ gates_id gates
+  end-ours gates ends came left rest e pass other has next is all =
+      ap pass_id is
+      ∙ (of-next (λ (w : WorkerEnd A K). IsEndOf gates w.waker) (has.first ∷ came) e rest ends
+      (ap (λ l. (has.first ∷ came) ++ l) (sym next) ∙ has.are) all).0
 
-  pub ends-more : (gates : Gates (Box Contents)) (ends came rest : List (WorkerEnd A K)) (e : WorkerEnd A K) (old new : Pass (Box Contents))
-      → HasEnds gates ends came (e ∷ rest) old → pass_id new ≡ pass_id old → known_by new ≡ taking_over (known_by old) (known_by e.waker.pass)
-      → HasEnds gates ends (came ++ e ∷ []) rest new
-  ends-more gates ends came rest e old new has same knows = record {
-    ours = same ∙ has.ours;
-    first = has.first;
-    are = next-came (has.first ∷ came) e rest ends has.are;
-    seen = seen-more seen_by_end (has.first ∷ came) e (known_by old).log (known_by new).log (ap (λ (v : View). v.log) knows) has.seen;
-  }
+  pub ends-more : (gates : Gates (Box Contents)) (ends came left rest : List (WorkerEnd A K)) (e : WorkerEnd A K)
+      (old new other : Pass (Box Contents)) → HasEnds gates ends came left old → left ≡ e ∷ rest → other ≡ e.waker.pass → pass_id new ≡ pass_id old
+      → known_by new ≡ taking_over (known_by old) (known_by other) → HasEnds gates ends (came ++ e ∷ []) rest new
+  ends-more gates ends came left rest e old new other has next is same knows =
+      let log : (known_by new).log ≡ seen_by_end e ++ (known_by old).log =
+      ap (λ (v : View). v.log) knows ∙ ap (λ (p : Pass (Box Contents)). (known_by p).log ++ (known_by old).log) is in
+      record {
+        ours = same ∙ has.ours;
+        first = has.first;
+        are = next-came (has.first ∷ came) e rest ends (ap (λ l. (has.first ∷ came) ++ l) (sym next) ∙ has.are);
+        seen = seen-more seen_by_end (has.first ∷ came) e (known_by old).log (known_by new).log log has.seen;
+      }
 
-  pub ends-all : (gates : Gates (Box Contents)) (ends came : List (WorkerEnd A K)) (pass : Pass (Box Contents)) → HasEnds gates ends came [] pass
-      → AllSeen seen_by_end ends (known_by pass).log
-  ends-all gates ends came pass has =
-      subst (λ l. AllSeen seen_by_end l (known_by pass).log) (sym (append-end (has.first ∷ came)) ∙ has.are) has.seen
-    where
-      append-end : (l : List (WorkerEnd A K)) → l ++ [] ≡ l
-      append-end [] = refl
-      append-end (x ∷ l) = ap (λ m. x ∷ m) (append-end l)
+  pub ends-all : (gates : Gates (Box Contents)) (ends came left : List (WorkerEnd A K)) (pass : Pass (Box Contents))
+      → HasEnds gates ends came left pass → left ≡ [] → AllSeen seen_by_end ends (known_by pass).log
+  ends-all gates ends came left pass has none =
+      subst (λ l. AllSeen seen_by_end l (known_by pass).log)
+      (sym (append-nil (has.first ∷ came)) ∙ ap (λ l. (has.first ∷ came) ++ l) (sym none) ∙ has.are) has.seen
 
   -- the pass is of the gates, and knows what all ends and those senders that came have seen; these brought this
   pub record HasSenders (gates : Gates (Box Contents)) (ends : List (WorkerEnd A K)) (senders came rest : List (Sender A K))
@@ -87,24 +90,43 @@ module _ {A K : Type 0} where
     pub seen : AllSeen seen_by_sender came (known_by pass).log
     pub shown : map brought outside ≡ map brings came
 
-  pub sender-ours : (gates : Gates (Box Contents)) (ends : List (WorkerEnd A K)) (senders came rest : List (Sender A K)) (s : Sender A K)
-      (pass : Pass (Box Contents)) (outside : List Outsider) → HasSenders gates ends senders came (s ∷ rest) pass outside
-      → All (λ (x : Sender A K). IsSenderOf gates x.inner) senders → pass_id s.inner.waker.pass ≡ gates_id gates
-  sender-ours gates ends senders came rest s pass outside has all =
-      (of-next (λ (x : Sender A K). IsSenderOf gates x.inner) came s rest senders has.are all).ours.0
+  pub senders-first : (gates : Gates (Box Contents)) (ends : List (WorkerEnd A K)) (senders rest : List (Sender A K)) (pass : Pass (Box Contents))
+      (outside : List Outsider) → pass_id pass ≡ gates_id gates → AllSeen seen_by_end ends (known_by pass).log → rest ≡ senders → outside ≡ []
+      → HasSenders gates ends senders [] rest pass outside
+  senders-first gates ends senders rest pass outside ours seen are none = record {
+    ours = ours;
+    ends_seen = seen;
+    are = are;
+    seen = All-nil (λ (s : Sender A K). IsPart (seen_by_sender s) (known_by pass).log);
+    shown = ap (map brought) none;
+  }
 
-  pub senders-more : (gates : Gates (Box Contents)) (ends : List (WorkerEnd A K)) (senders came rest : List (Sender A K)) (s : Sender A K)
-      (old new : Pass (Box Contents)) (outside outside' : List Outsider) (o : Outsider) → HasSenders gates ends senders came (s ∷ rest) old outside
-      → pass_id new ≡ pass_id old → known_by new ≡ taking_over (known_by old) (known_by s.inner.waker.pass) → outside' ≡ outside ++ o ∷ []
-      → o.sends.items ≡ s.inner.sends.items → o.book ≡ s.inner.book → HasSenders gates ends senders (came ++ s ∷ []) rest new outside'
-  senders-more gates ends senders came rest s old new outside outside' o has same knows more sends book =
-      let log = ap (λ (v : View). v.log) knows in
+  pub sender-ours : (gates : Gates (Box Contents)) (ends : List (WorkerEnd A K)) (senders came left rest : List (Sender A K)) (s : Sender A K)
+      (pass other : Pass (Box Contents)) (outside : List Outsider) → HasSenders gates ends senders came left pass outside → left ≡ s ∷ rest
+      → other ≡ s.inner.waker.pass → All (λ (x : Sender A K). IsSenderOf gates x.inner) senders → pass_id other ≡ gates_id gates
+  sender-ours gates ends senders came left rest s pass other outside has next is all =
+      ap pass_id is
+      ∙ (of-next (λ (x : Sender A K). IsSenderOf gates x.inner) came s rest senders (ap (λ l. came ++ l) (sym next) ∙ has.are) all).ours.0
+
+  pub senders-more : (gates : Gates (Box Contents)) (ends : List (WorkerEnd A K)) (senders came left rest : List (Sender A K)) (s : Sender A K)
+      (old new other : Pass (Box Contents)) (outside outside' : List Outsider) (o : Outsider)
+      → HasSenders gates ends senders came left old outside → left ≡ s ∷ rest → other ≡ s.inner.waker.pass → pass_id new ≡ pass_id old
+      → known_by new ≡ taking_over (known_by old) (known_by other) → outside' ≡ outside ++ o ∷ [] → o.sends ≡ s.inner.sends → o.book ≡ s.inner.book
+      → HasSenders gates ends senders (came ++ s ∷ []) rest new outside'
+  senders-more gates ends senders came left rest s old new other outside outside' o has next is same knows more sends book =
+      let log : (known_by new).log ≡ seen_by_sender s ++ (known_by old).log =
+      ap (λ (v : View). v.log) knows ∙ ap (λ (p : Pass (Box Contents)). (known_by p).log ++ (known_by old).log) is in
       record {
         ours = same ∙ has.ours;
         ends_seen = seen-by seen_by_end ends (known_by old).log (known_by new).log
             (subst (IsPart (known_by old).log) (sym log) (part-back (seen_by_sender s) (known_by old).log)) has.ends_seen;
-        are = next-came came s rest senders has.are;
+        are = next-came came s rest senders (ap (λ l. came ++ l) (sym next) ∙ has.are);
         seen = seen-more seen_by_sender came s (known_by old).log (known_by new).log log has.seen;
-        shown = ap (map brought) more ∙ map-append brought outside (o ∷ []) ∙ (λ i. has.shown i ++ (sends i, book i) ∷ [])
-            ∙ sym (map-append brings came (s ∷ []));
+        shown = ap (map brought) more ∙ map-append brought outside (o ∷ [])
+            ∙ (λ i. has.shown i ++ ((sends i).items, book i) ∷ []) ∙ sym (map-append brings came (s ∷ []));
       }
+
+  pub senders-all : (gates : Gates (Box Contents)) (ends : List (WorkerEnd A K)) (senders came left : List (Sender A K)) (pass : Pass (Box Contents))
+      (outside : List Outsider) → HasSenders gates ends senders came left pass outside → left ≡ [] → came ≡ senders
+  senders-all gates ends senders came left pass outside has none =
+      sym (append-nil came) ∙ ap (λ l. came ++ l) (sym none) ∙ has.are

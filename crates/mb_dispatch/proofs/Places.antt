@@ -1,20 +1,20 @@
 -- The numbers of those that are there, by their places.
 use Rattle.std.proofs.Common.{◌≡◌, ◌⊎◌, inl, inr, ℕ, zero, suc, ◌+◌, ◌-◌, ◌<◌, ◌≤◌, List, [], ◌∷◌, length, map, refl, sym, ap, ◌∙◌, subst, Some}
-use Rattle.std.proofs.Common.{arith, get_or, set}
-use Rattle.std.specs.Prelude.{All, AllPairs, Contains, IsPermutation, slice_get, ◌≢◌}
-use Rattle.std.specs.List.{swap}
+use Rattle.std.proofs.Common.{arith, get_or}
+use Rattle.std.specs.Prelude.{All, AllPairs, Bool, Contains, IsPermutation, IsTrue, MatchBool, MatchOption, None, Option, is_some, slice_get, ◌≢◌, ◌↔◌, false, true}
+use Rattle.std.specs.List.{AllWithin, HoldsAt, swap}
 use Rattle.std.proofs.lemmas.Bool.{cases_eq, cases_lt}
-use Rattle.std.proofs.lemmas.List.Elements.{All-get_or}
+use Rattle.std.proofs.lemmas.List.Elements.{All-get_or, All-weaker}
 use Rattle.std.proofs.lemmas.List.Edits.{swap_is, swapped_from_swap}
-use Rattle.std.proofs.lemmas.List.Sorted.{Contains-permutation, IsPermutation-map, IsPermutation-swap, IsPermutation-sym, IsPermutation-trans, length_permutation}
+use Rattle.std.proofs.lemmas.List.Sorted.{All-permutation, Contains-permutation, IsPermutation-map, IsPermutation-swap, IsPermutation-sym, IsPermutation-trans, length_permutation}
 use Rattle.std.proofs.lemmas.Option.{get_or_from_slice_get, none-some, same_Some, slice_get-get_or, slice_get_within}
 use Rattle.mb_build.specs.Numbers.{numbers}
-use Rattle.mb_dispatch.specs.Belonging.{AreThere}
+use Rattle.mb_dispatch.specs.Belonging.{AreThere, IsLeastMissing}
 use Rattle.mb_system.specs.Belonging.{senders_numbers}
 use Rattle.mb_system.specs.Members.{ends_numbers}
 use Rattle.mb_system.specs.declared.end.WorkerEnd.{WorkerEnd}
 use Rattle.mb_system.specs.declared.sender.Sender.{Sender}
-use Rattle.mb_reckon.proofs.Lists.{from-mapped, length-mapped, mapped, there}
+use Rattle.mb_reckon.proofs.Lists.{at-place, each-place, from-mapped, length-mapped, mapped, there}
 
 module _ {X : Type 0} where
   pub at : (xs : List X) (i : ℕ) (x : X) → i < length xs → get_or xs i x ≡ x → slice_get xs i ≡ Some x
@@ -34,13 +34,6 @@ up-to P n all here k lt = by_sides (cases_eq k n)
     by_sides (inl same) = subst P (sym same) here
     by_sides (inr other) = all k (omega (arith, lt, other))
 
--- the number is not one of those before this place
-abbrev pub IsNotYet : List ℕ → ℕ → ℕ → Type 0
-IsNotYet ns n place = (k : ℕ) → k < place → slice_get ns k ≡ Some n → ⊥
-
-pub none-yet : (ns : List ℕ) (n : ℕ) → IsNotYet ns n 0
-none-yet ns n k lt is = omega (arith, lt)
-
 -- each of the first has the number of its place
 abbrev pub ArePlaced : List ℕ → ℕ → Type 0
 ArePlaced ns place = (k : ℕ) → k < place → slice_get ns k ≡ Some k
@@ -48,11 +41,23 @@ ArePlaced ns place = (k : ℕ) → k < place → slice_get ns k ≡ Some k
 pub none-placed : (ns : List ℕ) → ArePlaced ns 0
 none-placed ns k lt = absurd (omega (arith, lt))
 
-pub there-none : (ns : List ℕ) → AreThere 0 ns
-there-none ns n lt = absurd (omega (arith, lt))
+-- there is one where a place of it was found
+pub found-some : (ns : List ℕ) (n : ℕ) (place : Option ℕ) (some : Bool)
+    → MatchOption place (Contains ns n → ⊥) (λ k. slice_get ns k ≡ Some n) → is_some place ≡ some → IsTrue some ↔ Contains ns n
+found-some ns n None some none is = (λ e. absurd (cc), λ is_there. absurd (none is_there))
+found-some ns n (Some k) some found is = (λ _. contains-at ns k n found, λ _. sym is)
 
-pub there-more : (many : ℕ) (ns : List ℕ) → AreThere many ns → Contains ns many → AreThere (many + 1) ns
-there-more many ns all one = up-to (Contains ns) many all one
+-- the first number that is not there is the least
+pub least-missing : (found : Option ℕ) (many : ℕ) (ns : List ℕ)
+    → MatchOption found ((k : ℕ) → 0 ≤ k → k < many → Contains ns k)
+    (λ i. (0 ≤ i) × (i < many) × (Contains ns i → ⊥) × ((k : ℕ) → 0 ≤ k → k < i → Contains ns k))
+    → MatchOption found (AreThere many ns) (IsLeastMissing many ns)
+least-missing None many ns all = λ n lt. all n (omega arith) lt
+least-missing (Some i) many ns first = record {
+  within = first.1;
+  missing = first.2;
+  least = λ n lt. first.3 n (omega arith) lt;
+}
 
 -- the number of each is that of its place
 pub in-order : (ns : List ℕ) (first : ℕ) → ((k : ℕ) → k < length ns → slice_get ns k ≡ Some (first + k)) → ns ≡ numbers first (length ns)
@@ -62,22 +67,32 @@ in-order (n ∷ ns) first each =
     ap (λ m. m ∷ ns) one ∙ ap (λ l. first ∷ l) (in-order ns (first + 1) (λ k lt. each (suc k) (omega (arith, lt)) ∙ ap Some (omega arith)))
 
 module _ {X : Type 0} (f : X → ℕ) where
-  here : (xs : List X) (i n : ℕ) (x : X) → i < length xs → x ≡ get_or xs i x → f x ≡ n → slice_get (map f xs) i ≡ Some n
-  here xs i n x lt is same = mapped f xs i x (at xs i x lt (sym is)) ∙ ap Some same
+  -- the number is that of the element which was found; or of none
+  found-at : (xs : List X) (n k : ℕ) → k < length xs → HoldsAt (λ x. f x ≡ n) xs k → slice_get (map f xs) k ≡ Some n
+  found-at xs n k lt holds =
+      let one = there xs k lt in
+      mapped f xs k one.0 one.1 ∙ ap (λ x. Some (f x)) (sym (get_or_from_slice_get xs k one.0 one.0 one.1)) ∙ ap Some (holds one.0)
 
-  not-here : (xs : List X) (i n : ℕ) (x : X) → i < length xs → x ≡ get_or xs i x → (f x ≡ n → ⊥) → slice_get (map f xs) i ≡ Some n → ⊥
-  not-here xs i n x lt is other there =
-      other (same_Some (f x) n (sym (mapped f xs i x (at xs i x lt (sym is))) ∙ there))
+  of-none : (xs : List X) (n : ℕ) → AllWithin (λ x. f x ≡ n → ⊥) xs 0 (length xs) → Contains (map f xs) n → ⊥
+  of-none xs n none is_there =
+      let found = at-contained (map f xs) n is_there in
+      let one = from-mapped f xs found.0 n found.1 in
+      none found.0 one.0 (omega arith) (slice_get_within xs found.0 one.0 one.1)
+      (ap f (get_or_from_slice_get xs found.0 one.0 one.0 one.1) ∙ one.2)
 
-  not-yet : (xs : List X) (i n : ℕ) (x : X) → IsNotYet (map f xs) n i → i < length xs → x ≡ get_or xs i x → (f x ≡ n → ⊥) → IsNotYet (map f xs) n (i + 1)
-  not-yet xs i n x before lt is other = up-to (λ k. slice_get (map f xs) k ≡ Some n → ⊥) i before (not-here xs i n x lt is other)
+  pub found-any : (xs : List X) (n : ℕ) (any : Bool)
+      → MatchBool any ((k : ℕ) × (k < length xs) × HoldsAt (λ x. f x ≡ n) xs k) (AllWithin (λ x. f x ≡ n → ⊥) xs 0 (length xs))
+      → IsTrue any ↔ Contains (map f xs) n
+  found-any xs n true found =
+      (λ _. contains-at (map f xs) found.0 n (found-at xs n found.0 found.1 found.2), λ _. refl)
+  found-any xs n false none = (λ e. absurd (cc), λ is_there. absurd (of-none xs n none is_there))
 
-  never : (xs : List X) (n place : ℕ) → length xs ≤ place → IsNotYet (map f xs) n place → Contains (map f xs) n → ⊥
-  never xs n place all not there =
-      let found = at-contained (map f xs) n there in
-      let lt = slice_get_within (map f xs) found.0 n found.1 in
-      let many = length-mapped f xs in
-      not found.0 (omega (arith, lt, many, all)) found.1
+  pub found-place : (xs : List X) (n : ℕ) (place : Option ℕ)
+      → MatchOption place (AllWithin (λ x. f x ≡ n → ⊥) xs 0 (length xs))
+      (λ k. (k < length xs) × HoldsAt (λ x. f x ≡ n) xs k × AllWithin (λ x. f x ≡ n → ⊥) xs 0 k)
+      → MatchOption place (Contains (map f xs) n → ⊥) (λ k. slice_get (map f xs) k ≡ Some n)
+  found-place xs n None none = of-none xs n none
+  found-place xs n (Some k) found = found-at xs n k found.0 found.1
 
   -- the one of the next number comes to its place
   placed-more : (xs ys : List X) (p o : ℕ) → ArePlaced (map f xs) p → p < length xs → slice_get (map f xs) o ≡ Some p → ys ≡ swap xs p o
@@ -102,55 +117,48 @@ module _ {X : Type 0} (f : X → ℕ) where
           (slice_get-get_or ys k d (omega (arith, many, in_k)) ∙ ap Some (now ∙ get_or_from_slice_get xs k one.0 d one.1)) ∙ ap Some one.2
 
 module _ {A K : Type 0} where
-  pub end-here : (ends : List (WorkerEnd A K)) (i n : ℕ) (e : WorkerEnd A K) → i < length ends → e ≡ get_or ends i e → e.number ≡ n
-      → Contains (ends_numbers ends) n
-  end-here ends i n e lt is same =
-      contains-at (ends_numbers ends) i n (here (λ (e : WorkerEnd A K). e.number) ends i n e lt is same)
+  -- a sender outside the actors is named by its own number, or by its number as a sender
+  pub place-outside : (senders : List (Sender A K)) (n place : ℕ) → slice_get (map (λ (s : Sender A K). s.inner.book.by.0) senders) place ≡ Some (64 + n)
+      → slice_get (senders_numbers senders) place ≡ Some n
+  place-outside senders n place is =
+      let one = from-mapped (λ (s : Sender A K). s.inner.book.by.0) senders place (64 + n) is in
+      mapped (λ (s : Sender A K). s.inner.book.by.0 - 64) senders place one.0 one.1
+      ∙ ap Some (ap (λ (m : ℕ). m - 64) one.2 ∙ (omega arith))
 
-  pub end-not-yet : (ends : List (WorkerEnd A K)) (i n : ℕ) (e : WorkerEnd A K) → IsNotYet (ends_numbers ends) n i → i < length ends
-      → e ≡ get_or ends i e → (e.number ≡ n → ⊥) → IsNotYet (ends_numbers ends) n (i + 1)
-  end-not-yet ends = not-yet (λ (e : WorkerEnd A K). e.number) ends
+  pub outside-number : (senders : List (Sender A K)) (n : ℕ) → All (λ (s : Sender A K). 64 ≤ s.inner.book.by.0) senders
+      → Contains (senders_numbers senders) n → Contains (map (λ (s : Sender A K). s.inner.book.by.0) senders) (64 + n)
+  outside-number senders n outside is_there =
+      let found = at-contained (senders_numbers senders) n is_there in
+      let one = from-mapped (λ (s : Sender A K). s.inner.book.by.0 - 64) senders found.0 n found.1 in
+      let least = at-place (λ (s : Sender A K). 64 ≤ s.inner.book.by.0) senders found.0 one.0 outside one.1 in
+      let e = one.2 in
+      contains-at (map (λ (s : Sender A K). s.inner.book.by.0) senders) found.0 (64 + n)
+      (mapped (λ (s : Sender A K). s.inner.book.by.0) senders found.0 one.0 one.1 ∙ ap Some (omega (arith, least, e)))
 
-  pub end-never : (ends : List (WorkerEnd A K)) (n place : ℕ) → length ends ≤ place → IsNotYet (ends_numbers ends) n place
-      → Contains (ends_numbers ends) n → ⊥
-  end-never ends = never (λ (e : WorkerEnd A K). e.number) ends
-
-  pub sender-here : (senders : List (Sender A K)) (i n : ℕ) (s : Sender A K) → i < length senders → s ≡ get_or senders i s
-      → s.inner.book.by.0 ≡ 64 + n → slice_get (senders_numbers senders) i ≡ Some n
-  sender-here senders i n s lt is same =
-      here (λ (s : Sender A K). s.inner.book.by.0 - 64) senders i n s lt is (ap (λ (m : ℕ). m - 64) same ∙ (omega arith))
-
-  pub sender-not-yet : (senders : List (Sender A K)) (i n : ℕ) (s : Sender A K) → IsNotYet (senders_numbers senders) n i → i < length senders
-      → s ≡ get_or senders i s → All (λ (s : Sender A K). 64 ≤ s.inner.book.by.0) senders → (s.inner.book.by.0 ≡ 64 + n → ⊥)
-      → IsNotYet (senders_numbers senders) n (i + 1)
-  sender-not-yet senders i n s before lt is outside other =
-      let least : 64 ≤ s.inner.book.by.0 =
-      subst (λ (x : Sender A K). 64 ≤ x.inner.book.by.0) (sym is)
-      (All-get_or (λ (x : Sender A K). 64 ≤ x.inner.book.by.0) senders i s lt outside) in
-      not-yet (λ (s : Sender A K). s.inner.book.by.0 - 64) senders i n s before lt is
-      (λ same. other (let e : s.inner.book.by.0 - 64 ≡ n = same in omega (arith, e, least)))
-
-  pub sender-never : (senders : List (Sender A K)) (n place : ℕ) → length senders ≤ place → IsNotYet (senders_numbers senders) n place
-      → Contains (senders_numbers senders) n → ⊥
-  sender-never senders = never (λ (s : Sender A K). s.inner.book.by.0 - 64) senders
+  pub outside-there : (senders : List (Sender A K)) (n : ℕ) → Contains (map (λ (s : Sender A K). s.inner.book.by.0) senders) (64 + n)
+      → Contains (senders_numbers senders) n
+  outside-there senders n is_there =
+      let found = at-contained (map (λ (s : Sender A K). s.inner.book.by.0) senders) (64 + n) is_there in
+      contains-at (senders_numbers senders) found.0 n (place-outside senders n found.0 found.1)
 
   pub sender-placed : (old new : List (Sender A K)) (place other : ℕ) → ArePlaced (senders_numbers old) place → place < length old
       → slice_get (senders_numbers old) other ≡ Some place → new ≡ swap old place other → ArePlaced (senders_numbers new) (place + 1)
   sender-placed = placed-more (λ (s : Sender A K). s.inner.book.by.0 - 64)
 
-  -- the sender of this number is still there, in a place
-  pub still-there : (now was : List (Sender A K)) (many n : ℕ) → IsPermutation now was → AreThere many (senders_numbers was) → n < many
-      → Contains (senders_numbers now) n
-  still-there now was many n same all lt =
-      Contains-permutation (senders_numbers was) (senders_numbers now) n
-      (IsPermutation-sym (senders_numbers now) (senders_numbers was)
-      (IsPermutation-map (λ (s : Sender A K). s.inner.book.by.0 - 64) now was same)) (all n lt)
+  -- a sender that was there is still there, in a place
+  pub still-there : (now was : List (Sender A K)) (many n : ℕ) → IsPermutation now was → All (λ (s : Sender A K). 64 ≤ s.inner.book.by.0) was
+      → AreThere many (senders_numbers was) → n < many → Contains (map (λ (s : Sender A K). s.inner.book.by.0) now) (64 + n)
+  still-there now was many n same outside all lt =
+      let back = IsPermutation-sym now was same in
+      outside-number now n (All-permutation (λ (s : Sender A K). 64 ≤ s.inner.book.by.0) was now back outside)
+      (Contains-permutation (senders_numbers was) (senders_numbers now) n
+      (IsPermutation-map (λ (s : Sender A K). s.inner.book.by.0 - 64) was now back) (all n lt))
 
   pub numbers-placed : (now : List (Sender A K)) (place : ℕ) → length now ≤ place → ArePlaced (senders_numbers now) place
       → senders_numbers now ≡ numbers 0 (length now)
   numbers-placed now place all placed =
       let many = length-mapped (λ (s : Sender A K). s.inner.book.by.0 - 64) now in
-      in-order (senders_numbers now) 0 (λ k lt. placed k (omega (arith, lt, many, all))) ∙ ap (numbers 0) many
+      in-order (senders_numbers now) 0 (λ k lt. placed k (omega (arith, lt, many, all)) ∙ ap Some (omega arith)) ∙ ap (numbers 0) many
 
 -- ---- as many as there are numbers
 
@@ -219,3 +227,33 @@ as-many many ns all below apart =
     (λ i lt. All-get_or (λ n. n < many) ns i 0 lt below)
     (λ i j lt in_j same. apart i j 0 lt in_j same) in
     omega (arith, least, most)
+
+-- so there are as many senders as have numbers, where each is there once
+pub as-many-senders : {A K : Type 0} (many : ℕ) (senders : List (Sender A K)) → AreThere many (senders_numbers senders)
+    → All (λ (s : Sender A K). (64 ≤ s.inner.book.by.0) × (s.inner.book.by.0 < 64 + many)) senders
+    → AllPairs (λ a b. a ≢ b) (senders_numbers senders) → length senders ≡ many
+as-many-senders {A} {K} many senders all numbered once =
+    sym (length-mapped number senders) ∙ as-many many (senders_numbers senders) all below once
+  where
+    number : Sender A K → ℕ
+    number s = s.inner.book.by.0 - 64
+
+    below : All (λ n. n < many) (senders_numbers senders)
+    below = each-place (λ n. n < many) (senders_numbers senders) (λ i n is.
+        (let one = from-mapped (λ (s : Sender A K). s.inner.book.by.0 - 64) senders i n is in
+        let both = at-place (λ (s : Sender A K). (64 ≤ s.inner.book.by.0) × (s.inner.book.by.0 < 64 + many)) senders i one.0 numbered one.1 in
+        let low = both.0 in let high = both.1 in let e = one.2 in
+        omega (arith, low, high, e)))
+
+pub all-there : {A K : Type 0} (many : ℕ) (now senders : List (Sender A K)) → now ≡ senders → length senders ≡ many
+    → AreThere many (senders_numbers senders) → AreThere (length now) (senders_numbers now)
+all-there {A} {K} many now senders is count all =
+    subst (λ (l : List (Sender A K)). AreThere (length l) (senders_numbers l)) (sym is)
+    (subst (λ (n : ℕ). AreThere n (senders_numbers senders)) (sym count) all)
+
+pub outside-all : {A K : Type 0} (many : ℕ) (senders : List (Sender A K))
+    → All (λ (s : Sender A K). (64 ≤ s.inner.book.by.0) × (s.inner.book.by.0 < 64 + many)) senders
+    → All (λ (s : Sender A K). 64 ≤ s.inner.book.by.0) senders
+outside-all {A} {K} many senders =
+    All-weaker (λ (s : Sender A K). (64 ≤ s.inner.book.by.0) × (s.inner.book.by.0 < 64 + many)) (λ (s : Sender A K). 64 ≤ s.inner.book.by.0)
+    (λ s both. both.0) senders

@@ -19,11 +19,11 @@ one-part : (id : ℕ) (before after : View) → IsSettledBy id before after → 
 one-part id before after (status, inl closed) =
     subst (λ (v : View). IsPart before.log v.log) (sym closed.1) (reading-part id (word_of status) before)
 one-part id before after (status, inr (inl suspended)) =
-    subst (λ (v : View). IsPart before.log v.log) (sym suspended.2.2.1)
+    subst (λ (v : View). IsPart before.log v.log) (sym suspended.3)
     (looking-part before.log id false (reading id (word_of status) before) (reading-part id (word_of status) before))
 one-part id before after (status, inr (inr idle)) =
     let looked = looking id false (reading id (word_of status) before) in
-    subst (λ (v : View). IsPart before.log v.log) (sym idle.2.2)
+    subst (λ (v : View). IsPart before.log v.log) (sym idle.2)
     (part-more before.log looked.log _ _ (counting-log id 0 looked)
     (looking-part before.log id false (reading id (word_of status) before) (reading-part id (word_of status) before)))
 

@@ -1,12 +1,13 @@
 -- What belongs to a system, and is there at its end.
-use Rattle.std.specs.Prelude.{◌≡◌, ◌⊎◌, ℕ, ◌-◌, ◌<◌, [], ◌∷◌, List, All, Contains, length, slice_get, Some}
+use Rattle.std.specs.Prelude.{◌≡◌, ℕ, ◌-◌, ◌<◌, ◌∷◌, List, All, Contains, length, slice_get, Some}
 use Rattle.mb_msg.specs.Limits.{most_actors}
 use Rattle.mb_fates.specs.declared.posting.Posting.{Posting}
-use Rattle.mb_gate.specs.Names.{known_by, pass_id}
+use Rattle.mb_gate.specs.Names.{actors_of, known_by, pass_id}
 use Rattle.mb_gate.specs.Rule.{IsPart}
 use Rattle.mb_gate.specs.View.{Sight, View}
 use Rattle.mb_queue.specs.Passes.{Sending}
 use Rattle.mb_send.specs.declared.book.Book.{Book}
+use Rattle.mb_reckon.specs.Settled.{AreSettledBy}
 use Rattle.mb_reckon.specs.declared.outsider.Outsider.{Outsider}
 use Rattle.mb_system.specs.declared.built.Built.{Built}
 use Rattle.mb_system.specs.declared.end.WorkerEnd.{WorkerEnd}
@@ -53,9 +54,18 @@ module _ {A K : Type 0} where
     pub knew : known_by first.waker.pass ≡ before
     pub knows : known_by first'.waker.pass ≡ after
 
-  -- it has, in this way; or there is no end that could have
+  -- it has, in this way
   abbrev pub HasRead : (View → View → Type 0) → Built A K → Built A K → Type 0
   HasRead way old new = (before : View) × (after : View) × IsBack old new before after × way before after
 
-  abbrev pub HasReadIfAny : (View → View → Type 0) → Built A K → Built A K → Type 0
-  HasReadIfAny way old new = ((old.ends.items ≡ []) × (new ≡ old)) ⊎ HasRead way old new
+  -- the first end read of each actor that it had nothing to run, and what it read is among this
+  pub record WasSettled (built : Built A K) (log : List Sight) : Type 0 where
+    pub first : WorkerEnd A K
+    pub rest : List (WorkerEnd A K)
+    pub are : built.ends.items ≡ (first ∷ rest)
+    pub read : View
+    pub settled : AreSettledBy 0 (actors_of built.system.gates) (known_by first.waker.pass) read
+    pub among : IsPart read.log log
+
+  abbrev pub IsFoundSettled : Built A K → Type 0
+  IsFoundSettled built = (log : List Sight) × HasAllSeen built log × WasSettled built log

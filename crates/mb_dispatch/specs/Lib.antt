@@ -1,3 +1,2 @@
 pub mod Belonging
 pub mod Refused
-pub mod Story

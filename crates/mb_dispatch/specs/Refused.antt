@@ -8,7 +8,7 @@ use Rattle.mb_reckon.specs.Settled.{AreSettledBy, IsUnsettled}
 use Rattle.mb_system.specs.Belonging.{senders_numbers}
 use Rattle.mb_system.specs.Members.{ends_numbers}
 use Rattle.mb_system.specs.declared.built.Built.{Built}
-use Rattle.mb_dispatch.specs.Belonging.{AreThere, HasRead, HasReadIfAny, IsLeastMissing}
+use Rattle.mb_dispatch.specs.Belonging.{AreThere, HasRead, IsFoundSettled, IsLeastMissing}
 use Rattle.mb_dispatch.specs.declared.ending.FinishError.{FinishError}
 use Rattle.mb_dispatch.specs.declared.ending.FinishError.TheVariants.{MissingEnd, MissingSender, NotQuiet, NoMemory, Mismatch}
 
@@ -26,12 +26,11 @@ module _ {A K : Type 0} where
       built.senders.items)
 
   -- The least end that is missing; or the least sender, where all ends are there; or the least actor that had something to run as it was read,
-  -- where all are there; or no memory was there, or something does not agree, where none had. All comes back but in the last case. A system
-  -- without any end has nothing that could read: of it memory is said to be missing.
+  -- where all are there; or no memory was there, or something does not agree, where none had. All comes back but in the last case.
   abbrev pub IsRefusal : Built A K → FinishError A K → Type 0
   IsRefusal built (MissingEnd number back) = IsLeastMissing built.system.workers (ends_numbers built.ends.items) number × (back ≡ built)
   IsRefusal built (MissingSender number back) = AreThere built.system.workers (ends_numbers built.ends.items)
       × IsLeastMissing built.system.senders (senders_numbers built.senders.items) number × (back ≡ built)
   IsRefusal built (NotQuiet id back) = IsComplete built × (id.0 < actors_of built.system.gates) × HasRead (FindsUnsettled id.0) built back
-  IsRefusal built (NoMemory back) = IsComplete built × HasReadIfAny (FindsSettled (actors_of built.system.gates)) built back
-  IsRefusal built (Mismatch what) = IsComplete built × (of_whom what < actors_of built.system.gates)
+  IsRefusal built (NoMemory back) = IsComplete built × HasRead (FindsSettled (actors_of built.system.gates)) built back
+  IsRefusal built (Mismatch what) = IsComplete built × IsFoundSettled built × (of_whom what < actors_of built.system.gates)

@@ -1,5 +1,5 @@
 //! How a system ends.
-ghost use Rattle.std.specs.Prelude.{◌≡◌, ◌<◌, ◌≤◌, [], All, List, IfErr, IfOk, MatchOption, length, vec_capacity};
+ghost use Rattle.std.specs.Prelude.{◌≡◌, ◌<◌, ◌≤◌, [], All, List, IfErr, IfOk, IfSome, MatchOption, length, vec_capacity};
 ghost use Rattle.mb_fates.specs.declared.posting.Posting.{Posting};
 ghost use Rattle.mb_gate.specs.Names.{actors_of, first_of, known_by};
 ghost use Rattle.mb_gate.specs.Rule.{IsPart};
@@ -8,13 +8,13 @@ ghost use Rattle.mb_reckon.specs.Rooms.{IsRoom};
 ghost use Rattle.mb_reckon.specs.Settled.{AreSettledBy};
 ghost use Rattle.mb_system.specs.Belonging.{BelongsTogether};
 ghost use Rattle.mb_system.specs.Members.{IsEndOf};
-ghost use Rattle.mb_dispatch.specs.Belonging.{AreAnswers, HasAllSeen, HasRead, HasReadIfAny};
+ghost use Rattle.mb_dispatch.specs.Belonging.{AreAnswers, HasAllSeen, HasRead, IsFoundSettled};
 ghost use Rattle.mb_dispatch.specs.Refused.{FindsUnsettled, IsComplete, IsRefusal};
 ghost use Rattle.mb_reckon.specs.Seen.{GoesOnFromAll};
 ghost use Rattle.mb_reckon.specs.Whole.{IsWhole};
 
 use crate::leaving::gather;
-use crate::missing::{arrange, missing_end, missing_sender};
+use crate::missing::{missing_end, missing_sender};
 use mb_actor::{Actor, Behaviours};
 use mb_msg::ActorId;
 use mb_reckon::{Mismatch, Outsider, Room, first_unsettled, make_room, reckon};
@@ -49,7 +49,7 @@ pub fn finish<A: Actor, K: Behaviours, R: Wait>(
     ensures whole { IfOk result (λ report. (log : List Sight) × HasAllSeen built log
         × ((answers : List (List Posting)) × AreAnswers built.system.senders built.senders.items answers
         × IsWhole K.after K.gives (first_of built.system.gates).value.roll log answers report)) }
-    ensures quiet { IfOk result (λ _. IsComplete built) }
+    ensures quiet { IfOk result (λ _. IsComplete built × IsFoundSettled built) }
     ensures seen { IfOk result (λ report. All (λ e. GoesOnFromAll report (known_by e.waker.pass)) built.ends.items
         × All (λ s. GoesOnFromAll report (known_by s.inner.waker.pass)) built.senders.items) }
     ensures refused { IfErr result (IsRefusal built) }
@@ -67,7 +67,6 @@ pub fn finish<A: Actor, K: Behaviours, R: Wait>(
     let Some((room, mut outside)) = room_of(&mut built) else {
         return Err(FinishError::NoMemory(built));
     };
-    arrange(&mut built.senders);
     let (gates, pass) = gather(built, &mut outside);
     match reckon(rt, gates, pass, outside, room) {
         Ok(report) => Ok(report),
@@ -78,36 +77,32 @@ pub fn finish<A: Actor, K: Behaviours, R: Wait>(
 // The least actor that is scheduled or has something to run.
 fn unsettled<A: Actor, K: Behaviours>(built: &mut Built<A, K>) -> Option<ActorId>
     requires ours { All (λ e. IsEndOf built.old.system.gates e.waker) built.old.ends.items }
-    ensures { MatchOption result (HasReadIfAny (AreSettledBy 0 (actors_of built.old.system.gates)) built.old built.new)
+    requires some { 0 < length built.old.ends.items }
+    ensures { MatchOption result (HasRead (AreSettledBy 0 (actors_of built.old.system.gates)) built.old built.new)
         (λ id. (id.0 < actors_of built.old.system.gates) × HasRead (FindsUnsettled id.0) built.old built.new) }
 {
-    if built.ends.is_empty() {
-        return None;
-    }
-    first_unsettled(&built.system.gates, &mut built.ends[0].waker.pass)
+    let system = &built.system;
+    first_unsettled(&system.gates, &mut built.ends[0].waker.pass)
 }
 
 // All the room that is needed.
 fn room_of<A: Actor, K: Behaviours>(built: &mut Built<A, K>) -> Option<(Room<A, K>, Vec<Outsider>)>
     requires ours { All (λ e. IsEndOf built.old.system.gates e.waker) built.old.ends.items }
+    requires some { 0 < length built.old.ends.items }
     requires few { length built.old.senders.items ≤ 16 }
-    ensures { MatchOption result (HasReadIfAny (λ before after. IsPart before.log after.log) built.old built.new)
-        (λ made. HasRead (λ before after. IsPart before.log after.log) built.old built.new
-        × IsRoom (actors_of built.old.system.gates) (length built.old.senders.items) made.0
+    ensures read { HasRead (λ before after. IsPart before.log after.log) built.old built.new }
+    ensures room { IfSome result (λ made. IsRoom (actors_of built.old.system.gates) (length built.old.senders.items) made.0
         × (made.1.items ≡ []) × (length built.old.senders.items ≤ vec_capacity made.1)) }
 {
-    if built.ends.is_empty() {
-        return None;
-    }
-    let alloc = built.system.alloc;
+    let system = &built.system;
     let senders = built.senders.len();
     let room = make_room(
-        alloc,
-        &built.system.gates,
+        system.alloc,
+        &system.gates,
         &mut built.ends[0].waker.pass,
         senders,
     );
-    let (Ok(room), Ok(outside)) = (room, Vec::with_capacity(alloc, senders)) else {
+    let (Ok(room), Ok(outside)) = (room, Vec::with_capacity(system.alloc, senders)) else {
         return None;
     };
     Some((room, outside))

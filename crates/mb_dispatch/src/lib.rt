@@ -5,12 +5,10 @@
 //! threads of their own. At the end all come together, and the report tells what became of each actor and each envelope.
 #![tactic(auto)]
 
-mod boxes;
 mod ending;
 mod leaving;
 mod missing;
 
-pub use boxes::{WholeError, run_boxed, run_whole};
 pub use ending::{FinishError, finish};
 pub use mb_build::PlanError;
 pub use mb_reckon::Mismatch;

@@ -1,5 +1,5 @@
 //! Whether all that belongs to a system is there.
-ghost use Rattle.std.specs.Prelude.{◌≡◌, ◌↔◌, ◌<◌, ◌≤◌, All, Contains, IsPermutation, IsTrue, MatchOption, Some, length, slice_get};
+ghost use Rattle.std.specs.Prelude.{◌≡◌, ◌↔◌, ◌<◌, ◌≤◌, ◌+◌, All, Contains, IsPermutation, IsTrue, MatchOption, Some, length, map, slice_get};
 ghost use Rattle.mb_msg.specs.Limits.{most_actors};
 ghost use Rattle.mb_build.specs.Numbers.{numbers};
 ghost use Rattle.mb_system.specs.Belonging.{senders_numbers};
@@ -15,23 +15,13 @@ pub(crate) fn missing_end<A: Actor, K: Behaviours>(built: &Built<A, K>) -> Optio
     ensures { MatchOption result (AreThere built.now.system.workers (ends_numbers built.now.ends.items))
         (IsLeastMissing built.now.system.workers (ends_numbers built.now.ends.items)) }
 {
-    for number in 0..built.system.workers {
-        if !has_end(&built.ends, number) {
-            return Some(number);
-        }
-    }
-    None
+    (0..built.system.workers).find(|number| !has_end(&built.ends, *number))
 }
 
 fn has_end<A: Actor, K: Behaviours>(ends: &[WorkerEnd<A, K>], number: u32) -> bool
     ensures { IsTrue result ↔ Contains (ends_numbers ends.now) number }
 {
-    for place in 0..ends.len() {
-        if ends[place].number == number {
-            return true;
-        }
-    }
-    false
+    ends.iter().any(|end| end.number == number)
 }
 
 /// The least number of a sender that is missing.
@@ -40,27 +30,21 @@ pub(crate) fn missing_sender<A: Actor, K: Behaviours>(built: &Built<A, K>) -> Op
     ensures { MatchOption result (AreThere built.now.system.senders (senders_numbers built.now.senders.items))
         (IsLeastMissing built.now.system.senders (senders_numbers built.now.senders.items)) }
 {
-    for number in 0..built.system.senders {
-        if place_of(&built.senders, number).is_none() {
-            return Some(number);
-        }
-    }
-    None
+    (0..built.system.senders).find(|number| !has_sender(&built.senders, *number))
+}
+
+fn has_sender<A: Actor, K: Behaviours>(senders: &[Sender<A, K>], number: u32) -> bool
+    ensures { IsTrue result ↔ Contains (map (λ s. s.inner.book.by.0) senders.now) (most_actors + number) }
+{
+    place_of(senders, number).is_some()
 }
 
 // The place of the sender of this number.
 fn place_of<A: Actor, K: Behaviours>(senders: &[Sender<A, K>], number: u32) -> Option<usize>
-    requires few { number < 16 }
-    requires outside { All (λ s. most_actors ≤ s.inner.book.by.0) senders.now }
-    ensures { MatchOption result (Contains (senders_numbers senders.now) number → ⊥)
-        (λ place. slice_get (senders_numbers senders.now) place ≡ Some number) }
+    ensures { MatchOption result (Contains (map (λ s. s.inner.book.by.0) senders.now) (most_actors + number) → ⊥)
+        (λ place. slice_get (map (λ s. s.inner.book.by.0) senders.now) place ≡ Some (most_actors + number)) }
 {
-    for place in 0..senders.len() {
-        if senders[place].inner.book.by.0 == ACTORS + number {
-            return Some(place);
-        }
-    }
-    None
+    senders.iter().position(|sender| sender.inner.book.by.0.checked_sub(ACTORS) == Some(number))
 }
 
 /// Puts the senders in the order of their numbers, all of which are there.

@@ -1,6 +1,8 @@
-use Rattle.std.proofs.Common.{◌≡◌, ◌≤◌, ◌+◌, [], length}
-use Rattle.std.specs.Prelude.{vec_capacity}
+use Rattle.std.proofs.Common.{◌≡◌, ◌≤◌, ◌+◌, List, length}
+use Rattle.std.specs.Prelude.{IsPermutation, vec_capacity}
 use Rattle.std.specs.Vec.Iter.{into_iter_items}
+use Rattle.mb_build.specs.Numbers.{numbers}
+use Rattle.mb_system.specs.Belonging.{senders_numbers}
 use Rattle.mb_dispatch.proofs.Gathered.{HasEnds, HasSenders}
 use Rattle.mb_dispatch.proofs.leaving.gather.Given as goal
 
@@ -9,5 +11,6 @@ invariant-loop-end g l = HasEnds l.fn.built.system.gates l.fn.built.ends.items l
 
 abbrev pub invariant-loop-sender : goal.invariant-loop-sender
 invariant-loop-sender g l =
-    HasSenders l.fn.built.system.gates l.fn.built.ends.items l.fn.built.senders.items l.yielded (into_iter_items l.sender-iterator) l.pass l.outside.items
+    let built = l.fn.built in (now : List _) × IsPermutation now built.senders.items × (senders_numbers now ≡ numbers 0 built.system.senders)
+    × HasSenders built.system.gates built.ends.items now l.yielded (into_iter_items l.sender-iterator) l.pass l.outside.items
     × (length l.outside.items + length (into_iter_items l.sender-iterator) ≤ vec_capacity l.outside)
