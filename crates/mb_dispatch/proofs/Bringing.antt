@@ -79,6 +79,11 @@ vouched-in part log (d ∷ dead) is all =
 
 -- ---- the senders outside
 
+number-at : (first count i : ℕ) → i < count → slice_get (numbers first count) i ≡ Some (first + i)
+number-at first zero i lt = absurd (omega (arith, lt))
+number-at first (suc count) zero lt = ap Some (omega arith)
+number-at first (suc count) (suc i) lt = number-at (first + 1) count i (omega (arith, lt)) ∙ ap Some (omega arith)
+
 module _ {A K : Type 0} where
   -- what came of each sender, in their order, is what it brought
   abbrev pub AreBrought : List (Sender A K) → List Outsider → Type 0
@@ -112,15 +117,11 @@ module _ {A K : Type 0} where
           bounded = subst (λ (p : List Sending × Book). are_of_bounded (receiving_queues p.0) (dead_letters p.1.posted) ≡ true) (sym same)
               s.inner.bounded;
         },
-        rest,
+        subst (λ (n : ℕ). AreOutsiders (first_of gates).value.roll log n outside)
+            (let sum : 64 + (place + 1) ≡ 64 + place + 1 = omega arith in sum) rest,
       )
 
   -- each was answered what is listed in its place
-  number-at : (first count i : ℕ) → i < count → slice_get (numbers first count) i ≡ Some (first + i)
-  number-at first zero i lt = absurd (omega (arith, lt))
-  number-at first (suc count) zero lt = ap Some (omega arith)
-  number-at first (suc count) (suc i) lt = number-at (first + 1) count i (omega (arith, lt)) ∙ ap Some (omega arith)
-
   pub answers : (many : ℕ) (was now : List (Sender A K)) (outside : List Outsider) → length now ≡ many → IsPermutation now was
       → senders_numbers now ≡ numbers 0 (length now) → AreBrought now outside
       → AreAnswers many was (map (λ (o : Outsider). o.book.posted) outside)
@@ -134,7 +135,7 @@ module _ {A K : Type 0} where
         each = All-permutation IsAnswered now was same (each-place IsAnswered now (λ i s is.
             (let lt = slice_get_within now i s is in
             let place : s.inner.book.by.0 - 64 ≡ i = same_Some (s.inner.book.by.0 - 64) i
-            (sym (mapped number now i s is) ∙ ap (λ l. slice_get l i) numbered ∙ number-at 0 (length now) i lt) in
+            (sym (mapped number now i s is) ∙ ap (λ l. slice_get l i) numbered ∙ number-at 0 (length now) i lt ∙ ap Some (let none : 0 + i ≡ i = omega arith in none)) in
             let one = there outside i (omega (arith, lt, as_many)) in
             let e = alike brought brings outside now i one.0 s same_all one.1 is in
             ap (slice_get (map posted outside)) place ∙ mapped posted outside i one.0 one.1
