@@ -1,5 +1,5 @@
 -- What comes back after it was read, and what is known then.
-use Rattle.std.proofs.Common.{◌≡◌, ℕ, ◌+◌, ◌<◌, ◌≤◌, List, [], ◌∷◌, length, map, refl, sym, ap, ◌∙◌, subst, Some}
+use Rattle.std.proofs.Common.{◌≡◌, ℕ, ◌+◌, ◌<◌, ◌≤◌, List, [], ◌∷◌, length, refl, sym, ap, ◌∙◌, subst, Some}
 use Rattle.std.proofs.Common.{arith, drop, get_or}
 use Rattle.std.specs.Prelude.{All, AllPairs, IfOk, MatchOption, Ok, Result, None, Option, ◌≢◌, slice_get, slice_set}
 use Rattle.std.specs.Global.{Box}

@@ -13,13 +13,12 @@ use Rattle.mb_msg.specs.declared.dead_letter.DeadLetter.{DeadLetter}
 use Rattle.mb_msg.specs.declared.dead_letter.Why.{Why}
 use Rattle.mb_msg.specs.declared.dead_letter.Why.TheVariants as why
 use Rattle.mb_fates.specs.Accepted.{dead_letters}
-use Rattle.mb_fates.specs.declared.posting.Posting.{Posting}
-use Rattle.mb_gate.specs.Names.{first_of, known_by}
+use Rattle.mb_gate.specs.Names.{first_of}
 use Rattle.mb_gate.specs.Rule.{IsPart}
 use Rattle.mb_gate.specs.View.{Sight}
 use Rattle.mb_gate.specs.declared.gates.Gates.{Gates}
 use Rattle.mb_home.specs.Contents.{Contents}
-use Rattle.mb_home.specs.Roll.{Enrolled, queues_of}
+use Rattle.mb_home.specs.Roll.{Enrolled}
 use Rattle.mb_queue.specs.Passes.{Sending}
 use Rattle.mb_send.specs.Bounded.{are_of_bounded}
 use Rattle.mb_send.specs.Sends.{AreRoutes, receiving_queues}

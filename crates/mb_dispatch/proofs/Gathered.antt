@@ -1,10 +1,9 @@
 -- What is taken over, one after another.
-use Rattle.std.proofs.Common.{◌≡◌, ℕ, List, [], ◌∷◌, ◌++◌, append-nil, append_assoc, refl, sym, ap, ◌∙◌, subst, map}
-use Rattle.std.specs.Prelude.{All, length, ◌≤◌, ◌+◌, vec_capacity, Vec}
-use Rattle.std.specs.Global.{Box, Global}
-use Rattle.std.proofs.Common.{arith, length-append}
+use Rattle.std.proofs.Common.{◌≡◌, List, [], ◌∷◌, ◌++◌, append-nil, append_assoc, refl, sym, ap, ◌∙◌, subst, map}
+use Rattle.std.specs.Prelude.{All}
+use Rattle.std.specs.Global.{Box}
 use Rattle.std.proofs.lemmas.List.{map-append}
-use Rattle.std.proofs.lemmas.List.Elements.{All-append, All-cons, All-head, All-nil, All-same, All-tail}
+use Rattle.std.proofs.lemmas.List.Elements.{All-cons, All-head, All-nil, All-same, All-tail}
 use Rattle.mb_gate.specs.Names.{gates_id, known_by, pass_id}
 use Rattle.mb_gate.specs.Rule.{IsPart}
 use Rattle.mb_gate.specs.View.{Sight, View, taking_over}
@@ -16,7 +15,7 @@ use Rattle.mb_system.specs.Members.{IsEndOf, IsSenderOf}
 use Rattle.mb_system.specs.declared.end.WorkerEnd.{WorkerEnd}
 use Rattle.mb_system.specs.declared.sender.Sender.{Sender}
 use Rattle.mb_dispatch.specs.Belonging.{brings, brought}
-use Rattle.mb_dispatch.proofs.Parts.{AllSeen, part-back, part-front, part-same, seen-by, seen-more}
+use Rattle.mb_dispatch.proofs.Parts.{AllSeen, part-back, part-same, seen-by, seen-more}
 
 -- the rest of a list, after those that came and the next
 module _ {X : Type 0} where

@@ -1,10 +1,9 @@
 -- What was seen is a part of what is known when all that was seen is taken over.
-use Rattle.std.proofs.Common.{◌≡◌, ℕ, List, [], ◌∷◌, ◌++◌, append_assoc, append-nil, refl, sym, ap, ◌∙◌, subst}
+use Rattle.std.proofs.Common.{◌≡◌, List, [], ◌∷◌, ◌++◌, append_assoc, append-nil, refl, sym, ap, ◌∙◌, subst}
 use Rattle.std.specs.Prelude.{All}
 use Rattle.std.proofs.lemmas.List.Elements.{All-push, All-weaker}
-use Rattle.mb_gate.specs.Names.{known_by, gates_id, pass_id}
 use Rattle.mb_gate.specs.Rule.{IsPart}
-use Rattle.mb_gate.specs.View.{Sight, View, taking_over}
+use Rattle.mb_gate.specs.View.{Sight}
 use Rattle.mb_rule.specs.Seen.{Each}
 
 module _ {A : Type 0} where

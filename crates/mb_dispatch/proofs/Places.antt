@@ -3,16 +3,14 @@ use Rattle.std.proofs.Common.{◌≡◌, ◌⊎◌, inl, inr, ℕ, zero, suc, �
 use Rattle.std.proofs.Common.{arith, get_or}
 use Rattle.std.specs.Prelude.{All, AllPairs, Bool, Contains, IsPermutation, IsTrue, MatchBool, MatchOption, None, Option, is_some, slice_get, ◌≢◌, ◌↔◌, false, true}
 use Rattle.std.specs.List.{AllWithin, HoldsAt, swap}
-use Rattle.std.proofs.lemmas.Bool.{cases_eq, cases_lt}
+use Rattle.std.proofs.lemmas.Bool.{cases_eq}
 use Rattle.std.proofs.lemmas.List.Elements.{All-get_or, All-weaker}
-use Rattle.std.proofs.lemmas.List.Edits.{swap_is, swapped_from_swap}
-use Rattle.std.proofs.lemmas.List.Sorted.{All-permutation, Contains-permutation, IsPermutation-map, IsPermutation-swap, IsPermutation-sym, IsPermutation-trans, length_permutation}
+use Rattle.std.proofs.lemmas.List.Edits.{swapped_from_swap}
+use Rattle.std.proofs.lemmas.List.Sorted.{All-permutation, Contains-permutation, IsPermutation-map, IsPermutation-swap, IsPermutation-sym, length_permutation}
 use Rattle.std.proofs.lemmas.Option.{get_or_from_slice_get, none-some, same_Some, slice_get-get_or, slice_get_within}
 use Rattle.mb_build.specs.Numbers.{numbers}
 use Rattle.mb_dispatch.specs.Belonging.{AreThere, IsLeastMissing}
 use Rattle.mb_system.specs.Belonging.{senders_numbers}
-use Rattle.mb_system.specs.Members.{ends_numbers}
-use Rattle.mb_system.specs.declared.end.WorkerEnd.{WorkerEnd}
 use Rattle.mb_system.specs.declared.sender.Sender.{Sender}
 use Rattle.mb_reckon.proofs.Lists.{at-place, each-place, from-mapped, length-mapped, mapped, there}
 

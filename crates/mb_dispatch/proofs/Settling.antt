@@ -1,8 +1,8 @@
 -- What was read before the end is known at the end.
-use Rattle.std.proofs.Common.{◌≡◌, ℕ, ◌+◌, List, [], ◌∷◌, ◌++◌, refl, sym, ap, ◌∙◌, subst, inl, inr}
-use Rattle.std.specs.Prelude.{Bool, true, false, if◌then◌else◌}
+use Rattle.std.proofs.Common.{ℕ, ◌+◌, List, ◌∷◌, refl, sym, subst, inl, inr}
+use Rattle.std.specs.Prelude.{Bool, true, false}
 use Rattle.mb_gate.specs.Rule.{IsPart}
-use Rattle.mb_gate.specs.View.{Looked, Sight, View, looking, owes, owing, reading, seeing}
+use Rattle.mb_gate.specs.View.{Looked, Sight, View, looking, reading}
 use Rattle.mb_status.specs.Mailbox.{word_of}
 use Rattle.mb_reckon.specs.Settled.{AreSettledBy, IsSettledBy, none_read, one_more}
 use Rattle.mb_reckon.proofs.Steps.{counting-log, part-more, part-same}

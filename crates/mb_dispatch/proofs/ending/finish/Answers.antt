@@ -1,5 +1,4 @@
-use Rattle.std.proofs.Common.{◌≡◌, ◌<◌, ◌≤◌, List, length, map, refl, sym, ap, subst, arith}
-use Rattle.std.specs.Prelude.{vec_capacity}
+use Rattle.std.proofs.Common.{◌≡◌, ◌<◌, ◌≤◌, length, map, refl, sym, ap, subst, arith}
 use Rattle.std.specs.Global.{Box}
 use Rattle.mb_gate.specs.Names.{actors_of, first_of, known_by}
 use Rattle.mb_gate.specs.declared.gates.Gates.{Gates}

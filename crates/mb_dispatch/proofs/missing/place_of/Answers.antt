@@ -1,4 +1,4 @@
-use Rattle.std.proofs.Common.{◌≡◌, ◌+◌, refl, rules, tests}
+use Rattle.std.proofs.Common.{◌≡◌, ◌+◌, rules, tests}
 use Rattle.std.proofs.lemmas.Iterator.{IsFirst-from_position, YieldsList-from_slice}
 use Rattle.mb_dispatch.proofs.Places.{found-place}
 use Rattle.mb_dispatch.proofs.missing.place_of.Goals as goal
