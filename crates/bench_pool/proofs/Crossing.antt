@@ -9,6 +9,7 @@ use Rattle.mb_desk.specs.contracts.desk.DeskResident.TheImpl as resident
 use Rattle.mb_gate.specs.contracts.gates.Gates as gates
 use Rattle.mb_gate.proofs.Crossing.{pass_send}
 use Rattle.mb_pool.proofs.Crossing.{end_send}
+use Rattle.bench_pool.proofs.times.Times.TheSendSync as times
 use Rattle.bench_pool.specs.contracts.worker.Worker as worker
 
 abbrev pub TheGates : RattleType
@@ -17,5 +18,8 @@ TheGates = gates.the_row desk_row.the_row resident.ghosts
 pub worker_crosses : IsSend worker.the_row
 worker_crosses = declared_send worker.the_type (
   end_send _ resident.ghosts desk.the_send,
-  (pass_send _ desk.the_send, (search (sendable, actor.the_field_send, actor.the_send) depth 20, tt)),
+  (
+    pass_send _ desk.the_send,
+    (search (sendable, actor.the_field_send, actor.the_send) depth 20, (search sendable, (times.the_send, tt))),
+  ),
 )

@@ -1,14 +1,15 @@
 //! One end on one thread.
 ghost use Rattle.bench_pool.specs.Ready.{IsReady};
 
-use crate::shown::{Figure, Made, ROUNDS, elapsed, median};
+use crate::shown::{Figure, Made};
+use crate::times::ROUNDS;
 use crate::worker::{Worker, work, workers};
 use mb_desk::{Desk, gates_of};
 use mb_gate::Gates;
 use mb_pool::Kind;
 use std::alloc::Global;
 use std::sync::Wait;
-use std::time::{Clock, Instant};
+use std::time::Clock;
 
 /// A claim is pushed and taken again.
 pub fn turns<R: Clock + Wait>(rt: &R, alloc: Global, kind: Kind) -> Made {
@@ -21,15 +22,8 @@ pub fn turns<R: Clock + Wait>(rt: &R, alloc: Global, kind: Kind) -> Made {
 fn rounds<R: Clock + Wait>(rt: &R, gates: &Gates<Desk>, mut worker: Worker) -> Figure
     requires { IsReady gates.now worker }
 {
-    let mut times = [0u64; ROUNDS];
-    let mut done = 0;
-    for round in 0..ROUNDS {
-        let begin = Instant::now(rt).ok();
-        (worker, done) = work(rt, gates, worker);
-        times[round] = elapsed(rt, begin);
+    for _round in 0..ROUNDS {
+        worker = work(rt, gates, worker);
     }
-    Figure {
-        done,
-        median: median(times),
-    }
+    Figure::of(&worker)
 }

@@ -2,7 +2,8 @@
 ghost use Rattle.std.specs.Prelude.{All, IfSome};
 ghost use Rattle.bench_pool.specs.Ready.{AreReady, IsReady};
 
-use crate::shown::{Figure, Made, ROUNDS, elapsed, median};
+use crate::shown::{Figure, Made};
+use crate::times::ROUNDS;
 use crate::worker::{Worker, work, workers};
 use mb_desk::{Desk, gates_of};
 use mb_gate::Gates;
@@ -10,7 +11,7 @@ use mb_pool::Kind;
 use std::alloc::Global;
 use std::sync::Wait;
 use std::thread::{Threads, join};
-use std::time::{Clock, Instant};
+use std::time::Clock;
 
 type Pair = (Worker, Worker);
 
@@ -43,60 +44,53 @@ fn rounds<R: Clock + Threads + Wait + Sync>(
 ) -> Figure
     requires { AreReady gates.now first × AreReady gates.now second }
 {
-    let mut times = [0u64; ROUNDS];
-    let mut done = 0u64;
-    for round in 0..ROUNDS {
-        let begin = Instant::now(rt).ok();
-        let (a, b) = four(rt, gates, first, second);
-        times[round] = elapsed(rt, begin);
-        first = a.0;
-        second = b.0;
-        done = a.1.wrapping_add(b.1);
+    for _round in 0..ROUNDS {
+        (first, second) = four(rt, gates, first, second);
     }
-    Figure {
-        done,
-        median: median(times),
-    }
+    figure_of(&first).with(figure_of(&second))
 }
 
-/// The pairs of workers, and how often each did its work.
-fn four<R: Threads + Wait + Sync>(
+fn figure_of(pair: &Pair) -> Figure {
+    Figure::of(&pair.0).with(Figure::of(&pair.1))
+}
+
+/// The pairs of workers after one more round.
+fn four<R: Clock + Threads + Wait + Sync>(
     rt: &R,
     gates: &Gates<Desk>,
     first: Pair,
     second: Pair,
-) -> ((Pair, u64), (Pair, u64))
+) -> (Pair, Pair)
     requires { AreReady gates.now first × AreReady gates.now second }
-    ensures { AreReady gates.now result.0.0 × AreReady gates.now result.1.0 }
+    ensures { AreReady gates.now result.0 × AreReady gates.now result.1 }
 {
     join(
         rt,
-        || -> (Pair, u64)
+        || -> Pair
             requires { AreReady gates.now first }
-            ensures { AreReady gates.entry.now result.0 }
+            ensures { AreReady gates.entry.now result }
         { two(rt, gates, first) },
-        || -> (Pair, u64)
+        || -> Pair
             requires { AreReady gates.now second }
-            ensures { AreReady gates.entry.now result.0 }
+            ensures { AreReady gates.entry.now result }
         { two(rt, gates, second) },
     )
 }
 
-fn two<R: Threads + Wait + Sync>(rt: &R, gates: &Gates<Desk>, pair: Pair) -> (Pair, u64)
+fn two<R: Clock + Threads + Wait + Sync>(rt: &R, gates: &Gates<Desk>, pair: Pair) -> Pair
     requires { AreReady gates.now pair }
-    ensures { AreReady gates.now result.0 }
+    ensures { AreReady gates.now result }
 {
     let (a, b) = pair;
-    let ((a, first), (b, second)) = join(
+    join(
         rt,
-        || -> (Worker, u64)
+        || -> Worker
             requires { IsReady gates.now a }
-            ensures { IsReady gates.entry.now result.0 }
+            ensures { IsReady gates.entry.now result }
         { work(rt, gates, a) },
-        || -> (Worker, u64)
+        || -> Worker
             requires { IsReady gates.now b }
-            ensures { IsReady gates.entry.now result.0 }
+            ensures { IsReady gates.entry.now result }
         { work(rt, gates, b) },
-    );
-    ((a, b), first.wrapping_add(second))
+    )
 }

@@ -1,11 +1,12 @@
 //! `bench_pool`: what a push and a take of a claim cost in a shared and in a stealing pool, on one thread, and by four ends on
 //! four threads, each with claims of its own. How often the calls did their work goes to standard output, the medians of some
-//! rounds to standard error.
+//! rounds, each end's by its own clock, to standard error.
 #![tactic(auto)]
 
 mod alone;
 mod four;
 mod shown;
+mod times;
 mod worker;
 
 use mb_pool::Kind;

@@ -1,44 +1,58 @@
 //! How a figure is printed.
+use crate::times::ROUNDS;
+use crate::worker::Worker;
 use std::io;
-use std::time::{Clock, Duration, Instant};
 
-/// How often the work was done in each round, and how long the round in the middle took where the system says.
+/// How often the work was done in the last round by all ends together, and how long a round took: of each end the time in the
+/// middle, by its own clock; of these the least and the most.
+#[derive(Drop)]
 pub struct Figure {
     pub done: u64,
-    pub median: u64,
+    pub least: u64,
+    pub most: u64,
 }
 
 /// A figure, or that memory was refused.
 pub type Made = Option<Figure>;
 
-/// How often the work is done in one round.
+/// How often an end does the work in one round.
 pub const TURNS: u64 = 1_000_000;
 
-/// How many rounds are timed.
-pub const ROUNDS: usize = 9;
+impl Figure {
+    /// Of one end.
+    pub fn of(worker: &Worker) -> Figure {
+        let median = worker.times.median();
+        Figure {
+            done: worker.done,
+            least: median,
+            most: median,
+        }
+    }
 
-/// The nanoseconds since then, or 0 where the system does not say.
-pub fn elapsed<R: Clock>(rt: &R, begin: Option<Instant>) -> u64 {
-    let time: Option<Duration> = begin.and_then(|begin| begin.elapsed(rt).ok());
-    match time {
-        Some(time) => u64::try_from(time.as_nanos()).unwrap_or(0),
-        None => 0,
+    /// Of these ends and those.
+    pub fn with(self, other: Figure) -> Figure {
+        Figure {
+            done: self.done.wrapping_add(other.done),
+            least: self.least.min(other.least),
+            most: self.most.max(other.most),
+        }
     }
 }
 
-/// The time in the middle.
-pub fn median(mut times: [u64; ROUNDS]) -> u64 {
-    times.sort_unstable();
-    times[ROUNDS / 2]
-}
-
 pub fn show<R: Print + Eprint>(rt: &R, what: &str, made: Made) -> io::Result<()> {
-    let Some(Figure { done, median }) = made else {
+    let Some(Figure { done, least, most }) = made else {
         return println!(rt; "{what}: no memory");
     };
     println!(rt; "{what}: {done} done")?;
-    let whole = median / TURNS;
-    let tenth = median % TURNS * 10 / TURNS;
-    let _ = eprintln!(rt; "{what}: {whole}.{tenth} ns each, the median of {ROUNDS} rounds");
+    let (least, least_tenth) = each(least);
+    let (most, most_tenth) = each(most);
+    let _ = eprintln!(rt;
+        "{what}: {least}.{least_tenth} to {most}.{most_tenth} ns each, the ends' medians of {ROUNDS} rounds"
+    );
     Ok(())
+}
+
+/// The nanoseconds of one turn, and the tenths.
+fn each(round: u64) -> (u64, u64) {
+    (round / TURNS, round % TURNS * 10 / TURNS)
 }

@@ -7,19 +7,24 @@ ghost use Rattle.mb_pool.specs.Places.{gates_of};
 ghost use Rattle.bench_pool.specs.Ready.{IsReady};
 
 use crate::shown::TURNS;
+use crate::times::Times;
 use mb_desk::{Desk, attempt, give};
 use mb_gate::{Claim, Gates, Pass, Resident};
 use mb_msg::ActorId;
 use mb_pool::{Kind, Pool, Refused, WorkerEnd};
 use std::alloc::Global;
 use std::sync::Wait;
+use std::time::{Clock, Instant};
 
-/// An end of a pool, a pass, and the actor whose claim is pushed and taken.
+/// An end of a pool, a pass, and the actor whose claim is pushed and taken; how often that was done in the last round, and how
+/// long the rounds took.
 #[derive(Drop)]
 pub struct Worker {
     pub end: WorkerEnd<Desk>,
     pub pass: Pass<Desk>,
     pub actor: ActorId,
+    pub done: u64,
+    pub times: Times,
 }
 
 /// The workers of a new pool of this kind, each with an actor of its own.
@@ -68,16 +73,20 @@ fn worker_of(
         end,
         pass: gates.another(pass),
         actor,
+        done: 0,
+        times: Times::new(),
     }
 }
 
-/// The worker, and how often it pushed its actor's claim and took one.
-pub fn work<R: Wait>(rt: &R, gates: &Gates<Desk>, mut worker: Worker) -> (Worker, u64)
+/// The worker after one more round, in which it pushed its actor's claim and took one again and again.
+pub fn work<R: Clock + Wait>(rt: &R, gates: &Gates<Desk>, mut worker: Worker) -> Worker
     requires { IsReady gates.now worker }
-    ensures { IsReady gates.now result.0 }
+    ensures { IsReady gates.now result }
 {
-    let done = turn_often(rt, gates, &mut worker.pass, &mut worker.end, worker.actor);
-    (worker, done)
+    let begin = Instant::now(rt).ok();
+    worker.done = turn_often(rt, gates, &mut worker.pass, &mut worker.end, worker.actor);
+    worker.times.add(rt, begin);
+    worker
 }
 
 fn turn_often<H: Resident, R: Wait>(

@@ -13,6 +13,7 @@ use Rattle.crossbeam_deque.proofs.handles.Worker.TheSendSync as worker
 use Rattle.crossbeam_deque.proofs.handles.Stealer.TheSendSync as stealer
 use Rattle.mb_gate.specs.declared.resident.Resident as resident
 use Rattle.mb_gate.proofs.Crossing.{claim_send}
+use Rattle.mb_pool.proofs.apart.Apart.TheSendSync as apart
 use Rattle.mb_pool.specs.contracts.parked.Parked as parked
 use Rattle.mb_pool.specs.contracts.pool.Pool as pool
 use Rattle.mb_pool.specs.contracts.pool.Pool.TheInside as pool_inside
@@ -86,7 +87,8 @@ module _ (H : RattleType) (g : resident.Ghosts H.Denot) (home : IsSend H) where
       (search (sendable, std_crosses, heap_send, heap_sync, worker.the_field_send, worker.the_send, parked_send) depth 30, tt)
 
   own_send : IsSend (own.the_row H g)
-  own_send = view_send _ _ _ _ _ (declared_send (own_inside.the_type H g) (search sendable depth 20, (deque_send, tt)))
+  own_send = view_send _ _ _ _ _ (declared_send (own_inside.the_type H g)
+      (search sendable depth 20, (deque_send, (search (sendable, std_crosses, apart.the_send) depth 20, tt))))
 
   thief_send : IsSend (thief.the_row H g)
   thief_send = view_send _ _ _ _ _ (declared_send (thief_inside.the_type H g) (
@@ -102,7 +104,16 @@ module _ (H : RattleType) (g : resident.Ghosts H.Denot) (home : IsSend H) where
 
   pub end_send : IsSend (end.the_row H g)
   end_send = view_send _ _ _ _ _
-      (declared_send (end_inside.the_type H g) (door_send, (search (sendable, std_crosses, member_send) depth 20, tt)))
+      (declared_send (end_inside.the_type H g) (
+        apart.the_send,
+        (
+          door_send,
+          (
+            search (sendable, std_crosses, member_send) depth 20,
+            (apart.the_send, tt),
+          ),
+        ),
+      ))
 
   pub feed_send : IsSend (feed.the_row H g)
   feed_send = view_send _ _ _ _ _ (declared_send (feed_inside.the_type H g) (door_send, tt))

@@ -6,6 +6,7 @@ ghost use Rattle.mb_pool.specs.Places.{gates_of, looks, parts_of};
 ghost use Rattle.mb_gate.specs.Untouched.{IsUntouched};
 ghost use Rattle.mb_pool.specs.Ways.{AreOpen, way_of};
 
+use crate::apart::Apart;
 use crate::door::Door;
 use crate::member::{Member, take_somewhere};
 use crate::refused::Refused;
@@ -17,8 +18,11 @@ use std::sync::Wait;
 /// pushed and taken by way of it in each.
 #[derive(Drop)]
 pub struct WorkerEnd<H: Resident> {
+    // Ends lie beside one another in a list, and each writes its own.
+    pub(crate) before: Apart,
     pub(crate) door: Door<H>,
     pub(crate) member: Option<Member<H>>,
+    pub(crate) behind: Apart,
 }
 
 impl<H: Resident> Model for WorkerEnd<H> {

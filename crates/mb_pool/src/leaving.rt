@@ -99,7 +99,12 @@ fn empty_end<H: Resident, R: Wait>(rt: &R, end: WorkerEnd<H>, left: &mut Vec<Cla
     ensures emptied { Empties (IsUntouched H.is_of H.journal H.mailbox H.rested H.given H.closed_to)
         (gates_of end) end.own left.old.items left.new.items }
 {
-    let WorkerEnd { door, member } = end;
+    let WorkerEnd {
+        before: _,
+        door,
+        member,
+        behind: _,
+    } = end;
     if let Some(member) = member {
         let Member { own, thieves: _ } = member;
         empty_own(rt, own, left);

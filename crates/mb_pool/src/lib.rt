@@ -5,6 +5,7 @@
 //! worker has a feed. Two kinds of pool keep one contract, and nobody above sees which it is.
 #![tactic(auto)]
 
+mod apart;
 mod deque;
 mod door;
 mod doors;

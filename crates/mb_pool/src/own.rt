@@ -5,6 +5,7 @@ ghost use Rattle.mb_gate.specs.Untouched.{origin_of, IsUntouched};
 ghost use Rattle.mb_pool.specs.Made.{IsDeque};
 ghost use Rattle.mb_pool.specs.Rule.{Moment, PutsLast, TakesFirst};
 
+use crate::apart::Apart;
 use crate::deque::Deque;
 use crate::rule::Scoped;
 use crate::thief::Thief;
@@ -17,6 +18,8 @@ use std::marker::{Brand, Model};
 pub struct Own<H: Resident> {
     number: usize,
     deque: Deque<H>,
+    // An allocator that hands out one piece of memory after another lays it between this deque and the next end's.
+    apart: Box<Apart>,
 }
 
 impl<H: Resident> Model for Own<H> {
@@ -39,7 +42,12 @@ impl<H: Resident> Own<H> {
         ensures { IfOk result (λ own. IsDeque number own.spot × (own.ledger ≡ unused)) }
     {
         let deque = Deque::new(alloc)?;
-        Ok(Own { number, deque })
+        let apart = Box::new(alloc, Apart::new())?;
+        Ok(Own {
+            number,
+            deque,
+            apart,
+        })
     }
 
     /// Puts the claim last, or gives it back for want of memory.

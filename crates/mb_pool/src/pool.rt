@@ -6,6 +6,7 @@ ghost use Rattle.mb_gate.specs.Untouched.{origin_of};
 ghost use Rattle.mb_pool.specs.Parts.{look_of};
 ghost use Rattle.mb_pool.specs.Ways.{AreOpen, of_feed, way_of};
 
+use crate::apart::Apart;
 use crate::door::Door;
 use crate::doors::{doors_of, first_door};
 use crate::end::WorkerEnd;
@@ -122,7 +123,12 @@ fn ends_of<H: Resident>(
         let Some(door) = doors.pop() else {
             unreachable!()
         };
-        ends.push(WorkerEnd { door, member })?;
+        ends.push(WorkerEnd {
+            before: Apart::new(),
+            door,
+            member,
+            behind: Apart::new(),
+        })?;
     }
     Ok(ends)
 }

@@ -8,12 +8,12 @@ use Rattle.bench_pool.specs.contracts.worker.Worker as worker
 use Rattle.bench_pool.proofs.Crossing.{TheGates, worker_crosses}
 use Rattle.bench_pool.proofs.four.two.Goals as goal
 
-pub join-a-requires-send-F : goal.join-a-requires-send-F
-join-a-requires-send-F g c κs within =
+pub join-requires-send-F : goal.join-requires-send-F
+join-requires-send-F g c κs within =
     captured 1 _ _ (ShrRef _ _ (param 0 g.row.R) ∷ ShrRef _ _ TheGates ∷ worker.the_row ∷ []) (
       search (sendable, c.type_bounds.sync-R),
       (search (sendable, gates_shared), (worker_crosses, tt)),
     )
 
-pub join-a-requires-send-A : goal.join-a-requires-send-A
-join-a-requires-send-A g c κs within = search (sendable, worker_crosses) depth 20
+pub join-requires-send-A : goal.join-requires-send-A
+join-requires-send-A g c κs within = search (sendable, worker_crosses) depth 20
