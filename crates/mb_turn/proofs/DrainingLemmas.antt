@@ -1,6 +1,6 @@
 -- What a drain makes of a run.
-use Rattle.std.proofs.Common.{◌≡◌, ℕ, Bool, true, false, List, [], ◌∷◌, length, refl, sym, ap, ◌∙◌, subst}
-use Rattle.std.specs.Prelude.{not, IsTrue, MatchBool}
+use Rattle.std.proofs.Common.{◌≡◌, ℕ, false, List, [], ◌∷◌, length, refl, sym, ap, ◌∙◌, subst}
+use Rattle.std.specs.Prelude.{MatchBool}
 use Rattle.std.specs.Global.{Box}
 use Rattle.mb_msg.specs.declared.system.SysMsg.{SysMsg}
 use Rattle.mb_actor.specs.Behaviour.{Moment, Reply}
@@ -28,10 +28,9 @@ use Rattle.mb_turn.proofs.HoldLemmas.{hold-drained}
 use Rattle.mb_turn.proofs.RunningSteps.{running-drained, running-kept}
 use Rattle.mb_turn.proofs.TellingLemmas.{settled-here}
 
--- a test that was turned round
-pub not-false : (b : Bool) → not b ≡ false → IsTrue b
-not-false true is = refl
-not-false false is = absurd (cc is)
+-- a home that keeps nothing, where nothing was drained, keeps that
+pub none-kept : (home : Contents) (result : List (ℕ × SysMsg)) → home.rest ≡ [] → result ≡ [] → home ≡ record home { rest = result }
+none-kept home result here none = ap (λ l. record home { rest = l }) (here ∙ sym none)
 
 none-item : (list : List (ℕ × SysMsg)) → is_some_item list ≡ false → list ≡ []
 none-item [] none = refl

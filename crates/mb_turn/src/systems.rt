@@ -107,7 +107,9 @@ fn drain<A: Actor, K: Behaviours, R: Wait>(
     ensures drained { result ≡ false → IsDrained (hold_of claim.new) }
 {
     let drained = gates.sys_drain(rt, claim);
-    let some = !drained.is_empty();
+    if drained.is_empty() {
+        return false;
+    }
     claim.home.keep(drained);
-    some
+    true
 }

@@ -7,7 +7,7 @@ use Rattle.mb_home.specs.AtHome.{given_of}
 use Rattle.mb_home.specs.Contents.{Contents}
 use Rattle.mb_home.specs.Settled.{IsSettled}
 use Rattle.mb_turn.specs.Hold.{hold_of}
-use Rattle.mb_turn.proofs.DrainingLemmas.{not-false, keeps-drained, drained-from, beside-drained, is-drained, running-drain}
+use Rattle.mb_turn.proofs.DrainingLemmas.{none-kept, keeps-drained, drained-from, beside-drained, is-drained, running-drain}
 use Rattle.mb_turn.proofs.TellingLemmas.{running-own}
 use Rattle.mb_turn.proofs.systems.drain.Goals as goal
 
@@ -69,10 +69,54 @@ returns-clause-same g c =
     keeps-drained c.args.claim.now c.sys_drain-drained.new.claim did.ours did.same did.taken did.recorded c.sys_drain-drained.result did.given
     did.known did.gave c.keep.new.self kept
 
-pub returns-clause-drained : goal.returns-clause-drained
-returns-clause-drained g c =
+-- ---- nothing was drained
+
+pub returns-then-is_empty-clause-running : goal.returns-then-is_empty-clause-running
+returns-then-is_empty-clause-running g c =
     let did = c.sys_drain-drained.ensures in
-    let kept = subst (λ (x : Contents). c.keep.new.self ≡ record x { rest = c.sys_drain-drained.result }) c.deref_mut.ensures.value
-    c.keep.ensures.kept in
-    λ nothing. is-drained c.args.claim.now c.sys_drain-drained.new.claim did.ours did.same did.taken did.recorded c.sys_drain-drained.result
-    did.given did.known did.gave c.keep.new.self kept c.requires.rested (c.is_empty-some.ensures.0 (not-false _ nothing))
+    let old = c.args.claim.now in
+    let mid = c.sys_drain-drained.new.claim in
+    let none = c.is_empty.ensures.0 c.if-is_empty.true in
+    let here = ap (λ (b : Box Contents). b.value) did.same.1 in
+    let kept = none-kept mid.home.value c.sys_drain-drained.result (ap (λ (x : Contents). x.rest) here ∙ c.requires.rested.no_rest) none in
+    let own = running-own _ _ _ _ (hold_of old) c.requires.running.1 in
+    let before = subst (λ (l : List Act). IsSettled (g.K.Behaviours.gives old.home.value.cell.who.this.0) l old.home.value)
+    (sym c.requires.carried_out) own in
+    let settled = subst (λ (x : Contents). IsSettled (g.K.Behaviours.gives x.cell.who.this.0) x.cell.acts x) (sym here) before in
+    λ seen r. running-drain old mid did.ours did.same did.taken did.recorded c.sys_drain-drained.result did.given did.known did.gave mid.home.value kept
+    g.K.Behaviours.gives (origin_of c.args.gates.now) seen c.requires.carried_out settled did.named r
+
+pub returns-then-is_empty-clause-beside : goal.returns-then-is_empty-clause-beside
+returns-then-is_empty-clause-beside g c =
+    let did = c.sys_drain-drained.ensures in
+    let old = c.args.claim.now in
+    let mid = c.sys_drain-drained.new.claim in
+    let none = c.is_empty.ensures.0 c.if-is_empty.true in
+    let here = ap (λ (b : Box Contents). b.value) did.same.1 in
+    let kept = none-kept mid.home.value c.sys_drain-drained.result (ap (λ (x : Contents). x.rest) here ∙ c.requires.rested.no_rest) none in
+    beside-drained old mid did.ours did.same did.taken did.recorded c.sys_drain-drained.result did.given did.known did.gave mid.home.value kept
+    c.requires.rested c.requires.not_closed c.requires.beside.count
+
+pub returns-then-is_empty-clause-left : goal.returns-then-is_empty-clause-left
+returns-then-is_empty-clause-left g c = ap (λ (b : Box Contents). b.value.cell) c.sys_drain-drained.ensures.same.1
+
+pub returns-then-is_empty-clause-same : goal.returns-then-is_empty-clause-same
+returns-then-is_empty-clause-same g c =
+    let did = c.sys_drain-drained.ensures in
+    let old = c.args.claim.now in
+    let mid = c.sys_drain-drained.new.claim in
+    let none = c.is_empty.ensures.0 c.if-is_empty.true in
+    let here = ap (λ (b : Box Contents). b.value) did.same.1 in
+    let kept = none-kept mid.home.value c.sys_drain-drained.result (ap (λ (x : Contents). x.rest) here ∙ c.requires.rested.no_rest) none in
+    keeps-drained old mid did.ours did.same did.taken did.recorded c.sys_drain-drained.result did.given did.known did.gave mid.home.value kept
+
+pub returns-then-is_empty-clause-drained : goal.returns-then-is_empty-clause-drained
+returns-then-is_empty-clause-drained g c =
+    let did = c.sys_drain-drained.ensures in
+    let old = c.args.claim.now in
+    let mid = c.sys_drain-drained.new.claim in
+    let none = c.is_empty.ensures.0 c.if-is_empty.true in
+    let here = ap (λ (b : Box Contents). b.value) did.same.1 in
+    let kept = none-kept mid.home.value c.sys_drain-drained.result (ap (λ (x : Contents). x.rest) here ∙ c.requires.rested.no_rest) none in
+    λ _. is-drained old mid did.ours did.same did.taken did.recorded c.sys_drain-drained.result did.given did.known did.gave mid.home.value kept
+    c.requires.rested none
