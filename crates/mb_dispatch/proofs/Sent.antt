@@ -7,8 +7,10 @@ use Rattle.std.proofs.lemmas.Bool.{cases_eq}
 use Rattle.std.proofs.lemmas.List.{length-set}
 use Rattle.std.proofs.lemmas.Option.{same_Some, slice_get_read, slice_get_within}
 use Rattle.mb_msg.specs.Limits.{most_actors}
+use Rattle.mb_msg.specs.declared.id.ActorId.{ActorId}
 use Rattle.mb_msg.specs.declared.id.SenderId.{SenderId}
 use Rattle.mb_actor.specs.Behaviour.{Moment, Reply}
+use Rattle.mb_gate.specs.Names.{actors_of}
 use Rattle.mb_gate.specs.declared.gates.Gates.{Gates}
 use Rattle.mb_home.specs.Contents.{Contents}
 use Rattle.mb_pool.specs.Moves.{WasEmpty}
@@ -17,13 +19,20 @@ use Rattle.mb_turn.specs.Fresh.{IsFreshClaim}
 use Rattle.mb_wake.specs.Owed.{IsNobody}
 use Rattle.mb_reckon.proofs.Lists.{at-place, each-place, mapped, same-maps, there}
 use Rattle.mb_system.specs.Belonging.{BelongsTogether, senders_numbers}
+use Rattle.mb_system.specs.Faults.{IsToNobody}
 use Rattle.mb_system.specs.Members.{IsEndOf, IsSenderOf, ends_numbers}
 use Rattle.mb_system.specs.Orders.{HasSent, OwesNobody}
 use Rattle.mb_system.specs.declared.built.Built.{Built}
 use Rattle.mb_system.specs.declared.end.WorkerEnd.{WorkerEnd}
+use Rattle.mb_system.specs.declared.failure.RunError.{RunError}
+use Rattle.mb_system.specs.declared.failure.RunError.TheVariants as Fault
 use Rattle.mb_system.specs.declared.order.Order.{Order}
+use Rattle.mb_system.specs.declared.order.What.{What}
+use Rattle.mb_system.specs.declared.order.What.TheVariants.{Stop, Tell}
+use Rattle.mb_system.specs.declared.system.System.{System}
 use Rattle.mb_system.specs.declared.sender.Sender.{Sender}
-use Rattle.mb_dispatch.specs.Sent.{FoundNothing, HaveSent}
+use Rattle.mb_dispatch.specs.Sent.{BreaksOff, FoundNothing, HaveSent}
+use Rattle.mb_dispatch.specs.Untold.{IsForNobody, MayBreak}
 
 module _ {X : Type 0} where
   set-here : (xs : List X) (n : ℕ) (x : X) → n < length xs → slice_get (slice_set xs n x) n ≡ Some x
@@ -140,3 +149,20 @@ module _ {A K : Type 0} where
   found-nothing gives [] e some nobody way of empty = absurd (some refl)
   found-nothing gives (x ∷ ends) e some nobody way of empty =
       record { first = e; rest = ends; are = refl; nobody = nobody; way = way; of = of; empty = empty }
+
+-- what is to nobody by the gates is for none of so many actors
+for-nobody : (gates : Gates (Box Contents)) (many : ℕ) (to : ActorId) (what : What) → actors_of gates ≡ many → IsToNobody gates to what
+    → IsForNobody many to what
+for-nobody gates many to (Tell body) same (inl guardian) = inl guardian
+for-nobody gates many to (Tell body) same (inr beyond) = inr (subst (λ n. n ≤ to.0) same beyond)
+for-nobody gates many to Stop same beyond = subst (λ n. n ≤ to.0) same beyond
+
+module _ {A K : Type 0} where
+  -- for which faults a whole run may be broken off
+  pub may-break : (gives : ℕ → Moment → Reply → Type 0) (system : System A K) (orders : List (List Order)) (many : ℕ) (error : RunError)
+      → actors_of system.gates ≡ many → BreaksOff gives system orders error → MayBreak many orders error
+  may-break gives system orders many Fault.NoMemory same broken = tt
+  may-break gives system orders many Fault.JournalFull same broken = tt
+  may-break gives system orders many Fault.NoSuchActor same (inl one) =
+      (one.0, one.1, one.2, (one.3.0, one.3.1, for-nobody system.gates many one.3.0.to one.3.0.what same one.3.2))
+  may-break gives system orders many Fault.NoSuchActor same (inr work) = absurd work.1
