@@ -80,11 +80,16 @@ module _ {X : Type 0} (R : ℕ → X → X → Type 0) where
 abbrev pub orders_of : List (Vec Order Global) → List (List Order)
 orders_of = map (λ (v : Vec Order Global). v.items)
 
+-- what stands at a place
+pub orders-here : (sends : List (Vec Order Global)) (place : ℕ) (v : Vec Order Global) (given : List Order) → place < length sends
+    → v ≡ get_or sends place v → given ≡ v.items → slice_get (orders_of sends) place ≡ Some given
+orders-here sends place v given lt is same =
+    mapped (λ (v : Vec Order Global). v.items) sends place v (slice_get_read sends (length sends) place v refl lt is)
+    ∙ ap (λ (l : List Order). Some l) (sym same)
+
 pub orders-at : (sends : List (Vec Order Global)) (place : ℕ) (v : Vec Order Global) (of given : List Order) → place < length sends
     → v ≡ get_or sends place v → given ≡ v.items → slice_get (orders_of sends) place ≡ Some of → given ≡ of
-orders-at sends place v of given lt is same there =
-    let at : slice_get sends place ≡ Some v = slice_get_read sends (length sends) place v refl lt is in
-    same ∙ same_Some v.items of (sym (mapped (λ (v : Vec Order Global). v.items) sends place v at) ∙ there)
+orders-at sends place v of given lt is same there = same_Some given of (sym (orders-here sends place v given lt is same) ∙ there)
 
 module _ {A K : Type 0} (gates : Gates (Box Contents)) (orders : List (List Order)) where
   -- the sender of this place did what was ordered
