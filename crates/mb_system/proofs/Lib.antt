@@ -8,3 +8,4 @@ pub mod Led
 pub mod Crossing
 pub mod Sides
 pub mod Breaking
+pub mod Saw
