@@ -1,7 +1,7 @@
 -- Senders that do their orders, one after another.
 use Rattle.std.proofs.Common.{◌≡◌, ◌⊎◌, inl, inr, ℕ, zero, suc, ◌+◌, ◌-◌, ◌<◌, ◌≤◌, List, [], ◌∷◌, length, map, refl, sym, ap, ◌∙◌, subst, Some}
 use Rattle.std.proofs.Common.{arith, get_or, Vec}
-use Rattle.std.specs.Prelude.{◌≢◌, All, AllPairs, slice_get, slice_set}
+use Rattle.std.specs.Prelude.{◌≢◌, All, AllPairs, Err, IfErr, IsErrAnd, Ok, Result, slice_get, slice_set}
 use Rattle.std.specs.Global.{Box, Global}
 use Rattle.std.proofs.lemmas.Bool.{cases_eq}
 use Rattle.std.proofs.lemmas.List.{length-set}
@@ -10,7 +10,8 @@ use Rattle.mb_msg.specs.Limits.{most_actors}
 use Rattle.mb_msg.specs.declared.id.ActorId.{ActorId}
 use Rattle.mb_msg.specs.declared.id.SenderId.{SenderId}
 use Rattle.mb_actor.specs.Behaviour.{Moment, Reply}
-use Rattle.mb_gate.specs.Names.{actors_of}
+use Rattle.mb_gate.specs.Names.{actors_of, known_by}
+use Rattle.mb_gate.specs.Rule.{IsPart}
 use Rattle.mb_gate.specs.declared.gates.Gates.{Gates}
 use Rattle.mb_home.specs.Contents.{Contents}
 use Rattle.mb_pool.specs.Moves.{WasEmpty}
@@ -31,8 +32,14 @@ use Rattle.mb_system.specs.declared.order.What.{What}
 use Rattle.mb_system.specs.declared.order.What.TheVariants.{Stop, Tell}
 use Rattle.mb_system.specs.declared.system.System.{System}
 use Rattle.mb_system.specs.declared.sender.Sender.{Sender}
-use Rattle.mb_dispatch.specs.Sent.{BreaksOff, FoundNothing, HaveSent}
+use Rattle.mb_dispatch.specs.Sent.{BreaksOff, FoundNothing, HaveSent, SeeOn}
 use Rattle.mb_dispatch.specs.Untold.{IsForNobody, MayBreak}
+use Rattle.mb_dispatch.proofs.Parts.{part-same}
+
+-- what holds of an error holds where it is passed on
+pub err-of : {T E : Type 0} (Q : E → Type 0) (r : Result T E) (e : E) → IsErrAnd r (λ y. y ≡ e) → Q e → IfErr r Q
+err-of Q (Ok x) e passed holds = tt
+err-of Q (Err y) e passed holds = subst Q (sym passed) holds
 
 module _ {X : Type 0} where
   set-here : (xs : List X) (n : ℕ) (x : X) → n < length xs → slice_get (slice_set xs n x) n ≡ Some x
@@ -146,6 +153,17 @@ module _ {A K : Type 0} where
       → ends_numbers (slice_set ends 0 new) ≡ ends_numbers ends
   first-number old new [] some is same = absurd (some refl)
   first-number old new (x ∷ ends) some is same = ap (λ n. n ∷ ends_numbers ends) (same ∙ ap (λ (w : WorkerEnd A K). w.number) is)
+
+  -- an end that goes on from the first is put in its place
+  see-same : (ends : List (WorkerEnd A K)) → SeeOn ends ends
+  see-same [] = tt
+  see-same (x ∷ ends) = (part-same (known_by x.waker.pass).log, see-same ends)
+
+  pub see-on : (old new : WorkerEnd A K) (ends : List (WorkerEnd A K)) → ends ≢ [] → old ≡ get_or ends 0 old
+      → IsPart (known_by old.waker.pass).log (known_by new.waker.pass).log → SeeOn ends (slice_set ends 0 new)
+  see-on old new [] some is saw = absurd (some refl)
+  see-on old new (x ∷ ends) some is saw =
+      (subst (λ (e : WorkerEnd A K). IsPart (known_by e.waker.pass).log (known_by new.waker.pass).log) is saw, see-same ends)
 
   -- the first of the ends, which ran, found nothing more
   pub found-nothing : (gives : ℕ → Moment → Reply → Type 0) (ends : List (WorkerEnd A K)) (e : WorkerEnd A K) → ends ≢ []

@@ -1,7 +1,10 @@
 -- All that was to be sent, and a run after it.
 use Rattle.std.specs.Prelude.{◌≡◌, ◌⊎◌, ℕ, List, ◌∷◌, All, Some, length, slice_get}
 use Rattle.std.specs.Global.{Box}
+use Rattle.std.specs.List.{AllZip}
 use Rattle.mb_actor.specs.Behaviour.{Moment, Reply}
+use Rattle.mb_gate.specs.Names.{known_by}
+use Rattle.mb_gate.specs.Rule.{IsPart}
 use Rattle.mb_gate.specs.declared.gates.Gates.{Gates}
 use Rattle.mb_home.specs.Contents.{Contents}
 use Rattle.mb_pool.specs.Moves.{WasEmpty}
@@ -36,6 +39,10 @@ module _ {A K : Type 0} where
     pub way : Way (Box Contents)
     pub of : gates_of way ≡ gates_of first.waker.way.end
     pub empty : All (WasEmpty (IsFreshClaim gives)) (looks way)
+
+  -- what each of these ends saw is still among what it sees
+  abbrev pub SeeOn : List (WorkerEnd A K) → List (WorkerEnd A K) → Type 0
+  SeeOn = AllZip (λ (old new : WorkerEnd A K). IsPart (known_by old.waker.pass).log (known_by new.waker.pass).log)
 
   -- sending is broken off for this fault, or the run of an end of this system
   abbrev pub BreaksOff : (ℕ → Moment → Reply → Type 0) → System A K → List (List Order) → RunError → Type 0

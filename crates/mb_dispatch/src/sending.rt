@@ -4,7 +4,7 @@ ghost use Rattle.mb_system.specs.Belonging.{BelongsTogether};
 ghost use Rattle.mb_system.specs.Faults.{BreaksSending};
 ghost use Rattle.mb_system.specs.Members.{IsSenderOf, ends_numbers};
 ghost use Rattle.mb_system.specs.Orders.{HasSent, OwesNobody};
-ghost use Rattle.mb_dispatch.specs.Sent.{BreaksOff, BreaksOne, FoundNothing, HaveSent};
+ghost use Rattle.mb_dispatch.specs.Sent.{BreaksOff, BreaksOne, FoundNothing, HaveSent, SeeOn};
 
 use mb_actor::{Actor, Behaviours};
 use mb_system::{Built, Order, RunError, Sender, System};
@@ -27,6 +27,7 @@ pub(crate) fn send_and_run<A: Actor, K: Behaviours, R: Wait>(
     ensures ends { OnOk result (ends_numbers built.new.ends.items ≡ ends_numbers built.old.ends.items) }
     ensures sent { OnOk result (HaveSent built.old.system.gates (map (λ orders. orders.items) sends.now) built.old.senders.items
         built.new.senders.items) }
+    ensures saw { OnOk result (SeeOn built.old.ends.items built.new.ends.items) }
     ensures quiet { OnOk result (FoundNothing K.gives built.new.ends.items) }
     ensures fault { IfErr result (BreaksOff K.gives built.old.system (map (λ orders. orders.items) sends.now)) }
 {

@@ -3,11 +3,12 @@ use Rattle.std.specs.Global.{Global}
 use Rattle.mb_gate.specs.Names.{actors_of}
 use Rattle.mb_reckon.proofs.Lists.{length-mapped}
 use Rattle.mb_reckon.specs.Mismatched.{of_whom}
+use Rattle.mb_system.specs.Begun.{actors_in}
 use Rattle.mb_system.specs.declared.order.Order.{Order}
 use Rattle.mb_dispatch.specs.Refused.{IsRefusal}
 use Rattle.mb_dispatch.specs.Untold.{IsRight}
 use Rattle.mb_dispatch.proofs.Rolls.{actors-there}
-use Rattle.mb_dispatch.proofs.Sent.{orders_of}
+use Rattle.mb_dispatch.proofs.Sent.{may-break, orders_of}
 use Rattle.mb_dispatch.proofs.Story.{no-end-missing, no-sender-missing, senders-there, some-end, story}
 use Rattle.mb_dispatch.proofs.boxes.run_planned.Goals as goal
 
@@ -26,7 +27,14 @@ returns-in-Ok-finish-clause-story g c =
     let right = c.in_ok-check.ensures in
     story g.K.Behaviours.gives c.args.plan c.in-Ok.built begun (orders_of c.args.sends.now) c.send_and_run.new.built
     right.1 went.system went.ends went.sent g.K.Behaviours.after
-    c.in-Ok-finish.report end.whole.0 end.whole.2.0 end.whole.1 end.whole.2.1 end.whole.2.2 end.seen.0 end.seen.1
+    c.in-Ok-finish.report end.whole.0 end.whole.2.0 went.saw end.whole.1 end.whole.2.1 end.whole.2.2 end.seen.0 end.seen.1
+
+pub returns-in-Err-clause-refused : goal.returns-in-Err-clause-refused
+returns-in-Err-clause-refused g c = (
+  c.in_ok-check.ensures,
+  may-break g.K.Behaviours.gives c.in-Ok.built.system (orders_of c.args.sends.now) (length (actors_in c.args.plan)) c.in-Err.error
+  (actors-there g.K.Behaviours.gives c.args.plan c.in-Ok.built c.in-Ok.ensures.begun) c.in-Err.ensures.fault,
+)
 
 pub returns-in-Err-NotQuiet-clause-refused : goal.returns-in-Err-NotQuiet-clause-refused
 returns-in-Err-NotQuiet-clause-refused g c =
