@@ -9,3 +9,6 @@ pub mod Crossing
 pub mod Sides
 pub mod Breaking
 pub mod Saw
+pub mod Alike
+pub mod Together
+pub mod There

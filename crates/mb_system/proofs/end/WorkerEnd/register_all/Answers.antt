@@ -3,7 +3,7 @@ use Rattle.mb_system.proofs.Saw.{saw-same, saw-then}
 use Rattle.mb_system.proofs.end.WorkerEnd.register_all.Goals as goal
 
 pub loop-number-init : goal.loop-number-init
-loop-number-init g c = (c.requires, refl, saw-same _)
+loop-number-init g c = (c.requires.ours, refl, saw-same _)
 
 pub loop-number-preserved : goal.loop-number-preserved
 loop-number-preserved g c =
