@@ -1,8 +1,8 @@
 -- A whole run, from the system as it begins to what its end says.
-use Rattle.std.proofs.Common.{◌≡◌, ◌<◌, ◌≤◌, ℤ, ℕ, zero, suc, ◌+◌, ◌-◌, List, [], ◌∷◌, ◌++◌, length, map, append-nil, refl, sym, ap, ◌∙◌, subst, Some, arith}
+use Rattle.std.proofs.Common.{◌≡◌, ◌<◌, ◌≤◌, ℤ, ℕ, zero, suc, ◌+◌, ◌-◌, List, [], ◌∷◌, ◌++◌, length, map, refl, sym, ap, ◌∙◌, subst, Some, arith}
 use Rattle.std.specs.Prelude.{◌≢◌, All, reverse, slice_get}
 use Rattle.std.specs.Global.{Box}
-use Rattle.std.proofs.lemmas.List.{length-map}
+use Rattle.std.proofs.lemmas.List.{append-nil, length-map}
 use Rattle.std.proofs.lemmas.List.Elements.{All-head, All-map}
 use Rattle.std.proofs.lemmas.Option.{get_or_from_slice_get, same_Some, slice_get_within}
 use Rattle.mb_msg.specs.Limits.{most_actors}
@@ -148,10 +148,10 @@ module _ {A K : Type 0} (gives : ℕ → Moment → Reply → Type 0) (plan : Pl
         place after.0 answered.each after.1 in
         let posted : postings ≡ one.more =
         same_Some postings after.0.inner.book.posted (sym told ∙ ap (slice_get answers) (sym number) ∙ answer)
-        ∙ one.posted ∙ ap (λ l. l ++ one.more) new.1 in record {
+        ∙ one.posted ∙ ap (λ l. l ++ one.more) new.1 in
+        let terminates = reverse (stopped_by of) in record {
           accepted_are = ap (λ l. addressed (accepted l)) posted ∙ one.accepted_are;
-          said = ap (λ (v : View). said_to v.said) (sym after.2) ∙ one.said
-              ∙ ap (λ l. reverse (stopped_by of) ++ said_to l) new.2 ∙ append-nil (reverse (stopped_by of));
+          said = ap (λ (v : View). said_to v.said) (sym after.2) ∙ one.said ∙ ap (λ l. terminates ++ said_to l) new.2 ∙ append-nil terminates;
         }
 
     pub story : (after : ℕ → List Message → ℤ) (report : Report) (log : List Sight) (answers : List (List Posting))

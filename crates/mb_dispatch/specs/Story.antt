@@ -48,7 +48,7 @@ pub record HasMailbox (plan : ActorPlan) (e : Enrolled) : Type 0 where
   pub turns : e.turns ≡ turns_in kind
   pub bound : e.queue.main.capacity ≡ bound_of kind
 
--- The sender was answered for the envelopes of these orders, in order and for nothing else; and it said their Terminates, in order and nothing
+-- The sender was answered for the envelopes of these orders, and said their Terminates, each in order, and was answered for and said nothing
 -- else: what was said stands with the newest first.
 pub record DidOrders (orders : List Order) (postings : List Posting) (knew : View) : Type 0 where
   pub accepted_are : addressed (accepted postings) ≡ told_by orders
