@@ -182,7 +182,10 @@ module _ {A K : Type 0} (gives : ℕ → Moment → Reply → Type 0) (plan : Pl
             All-map IsTold knows now.senders.items (λ k d lt. (seen.1 k d lt, senders_seen k d lt)),
             All-map IsTold knew now.ends.items (λ k d lt. (seen.0 k d lt, ends_seen k d lt)),
           );
-          created = (begun.created.0, subst (λ l. IsPart l log) begun.created.1
-          (led log begun.end begun.others now.ends.items (subst (λ l. SeeOn l now.ends.items) begun.ends_are saw) seen.0));
+          created = (
+            begun.created.0,
+            subst (λ l. IsPart l log) begun.created.1
+                (led log begun.end begun.others now.ends.items (subst (λ l. SeeOn l now.ends.items) begun.ends_are saw) seen.0),
+          );
           did = did-orders answers answered;
         }

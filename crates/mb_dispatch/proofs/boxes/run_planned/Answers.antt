@@ -30,11 +30,13 @@ returns-in-Ok-finish-clause-story g c =
     c.in-Ok-finish.report end.whole.0 end.whole.2.0 went.saw end.whole.1 end.whole.2.1 end.whole.2.2 end.seen.0 end.seen.1
 
 pub returns-in-Err-clause-refused : goal.returns-in-Err-clause-refused
-returns-in-Err-clause-refused g c = (
-  c.in_ok-check.ensures,
-  may-break g.K.Behaviours.gives c.in-Ok.built.system (orders_of c.args.sends.now) (length (actors_in c.args.plan)) c.in-Err.error
-  (actors-there g.K.Behaviours.gives c.args.plan c.in-Ok.built c.in-Ok.ensures.begun) c.in-Err.ensures.fault,
-)
+returns-in-Err-clause-refused g c =
+    let right : IsRight c.args.plan (length c.args.actors.items) (orders_of c.args.sends.now) = search rules in
+    let many = actors-there g.K.Behaviours.gives c.args.plan c.in-Ok.built c.in-Ok.ensures.begun in (
+      right,
+      may-break g.K.Behaviours.gives c.in-Ok.built.system (orders_of c.args.sends.now) (length (actors_in c.args.plan)) c.in-Err.error many
+          c.in-Err.ensures.fault,
+    )
 
 pub returns-in-Err-NotQuiet-clause-refused : goal.returns-in-Err-NotQuiet-clause-refused
 returns-in-Err-NotQuiet-clause-refused g c =

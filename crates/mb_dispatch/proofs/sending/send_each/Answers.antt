@@ -34,9 +34,10 @@ returns-in_err-send_and_pay-clause-fault g c =
     let test = c.loop-place-test.true in let same = at.invariant.1.many in let as_many = c.requires.many in
     let within : place < length c.args.sends.now = omega (arith, test, same, as_many) in
     let gates = c.args.system.now.gates in
-    err-of (BreaksOne gates (orders_of c.args.sends.now)) c.from_residual-in_err-send_and_pay.result c.in_err-send_and_pay.field-0.0
-    c.from_residual-in_err-send_and_pay.ensures.1 (
-      place, c.deref.result.now,
+    err-of (BreaksOne gates (orders_of c.args.sends.now)) c.from_residual.result c.in_err-send_and_pay.field-0.0
+    c.from_residual.ensures.1 (
+      place,
+      c.deref.result.now,
       orders-here c.args.sends.now place orders c.deref.result.now within c.index-sends-place.is c.deref.ensures.value,
       c.in_err-send_and_pay.ensures.fault,
     )
