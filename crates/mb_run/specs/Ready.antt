@@ -1,5 +1,5 @@
 -- A system with all that belongs to it, before its run, after it, and at its end.
-use Rattle.std.specs.Prelude.{◌≡◌, ℕ, ◌<◌, ℤ, List, All, length}
+use Rattle.std.specs.Prelude.{◌≡◌, ℕ, ℤ, List, All, length}
 use Rattle.mb_actor.specs.Behaviour.{Moment, Reply}
 use Rattle.mb_actor.specs.declared.message.Message.{Message}
 use Rattle.mb_build.specs.Numbers.{numbers}
@@ -22,7 +22,6 @@ module _ {A K : Type 0} where
   pub record IsReady (orders : ℕ → List Order) (built : Built A K) : Type 0 where
     pub ends : AreEndsOf built.system.gates built.ends.items
     pub numbered : ends_numbers built.ends.items ≡ numbers 0 built.system.workers
-    pub worked : 0 < built.system.workers
     pub senders : HaveSentAll built.system.gates orders 0 built.senders.items
     pub many : length built.senders.items ≡ built.system.senders
 
