@@ -1,4 +1,4 @@
-use Rattle.std.proofs.Common.{rules, ◌≡◌, ◌≤◌, ◌<◌, ◌^◌, ◌++◌, ◌∷◌, ◌∙◌, [], refl, sym, ap, subst, length, append_assoc, arith}
+use Rattle.std.proofs.Common.{rules, ◌≡◌, ◌++◌, ◌∷◌, ◌∙◌, [], refl, sym, ap, subst, length, append_assoc, arith}
 use Rattle.std.specs.Vec.Iter.{into_iter_items}
 use Rattle.std.proofs.lemmas.List.{append-nil, nil_from_length}
 use Rattle.mb_run.specs.Orders.{orders_of}
@@ -22,7 +22,7 @@ overflow_cast-len g c =
     let many = as-many-jobs (λ number. orders_of number c.args.sends.now) 0 at.yielded at.jobs.items at.invariant.1 in
     let few = c.requires.few in
     let is : c.len-in-loop-sender.result ≡ length at.jobs.items = search rules in
-    let small : c.len-in-loop-sender.result < 2 ^ 32 = omega (arith, place, many, few, is) in record { fits = small }
+    omega (arith, place, many, few, is)
 
 pub loop-sender-preserved : goal.loop-sender-preserved
 loop-sender-preserved g c =
