@@ -35,9 +35,9 @@ loop-sending-preserved g c =
     let send = get_or c.args.sends.now at.sending-index no-sending in (
       length-set at.senders send.from c.send_often.new.sender ∙ at.invariant.0,
       sent-more gates c.args.sends.now at.senders at.sending-index no-sending c.index-senders-sending.result c.send_often.new.sender
-          c.loop-sending-test.true (omega (arith, lt, many)) c.index-senders-sending.is at.invariant.1
-          (subst (λ o. HasSent (replicate send.times o) c.index-senders-sending.result c.send_often.new.sender) c.order_of.ensures
-          c.in_ok-send_often.ensures.sent)
+          c.loop-sending-test.true (omega (arith, lt, many)) at.invariant.1
+          (subst (λ o. HasSent (replicate send.times o) (get_or at.senders send.from c.index-senders-sending.result) c.send_often.new.sender)
+          c.order_of.ensures c.in_ok-send_often.ensures.sent)
           c.send_often.ensures.ours,
     )
 
