@@ -12,12 +12,12 @@ unreachable-requires g c =
     let refused = subst (λ e. IsNoSystem c.args.plan c.args.actors.items e) c.in-Err-BadPlan.field-0-is c.in-Err-BadPlan.ensures.refused in
     let none = ap length (sym refused.1 ∙ c.requires.can_run.right) in omega (arith, none)
 
-pub send_and_run-requires : goal.send_and_run-requires
-send_and_run-requires g c =
-    let gives = g.K.Behaviours.gives in let begun = c.in-Ok.ensures.begun in record {
-      ready = ready gives c.args.plan c.in-Ok.built begun;
-      sendable = sendable-here gives c.args.plan c.in-Ok.built begun c.args.sends.now c.requires.can_run.sendable;
-    }
+pub send_and_run-requires-clause-ready : goal.send_and_run-requires-clause-ready
+send_and_run-requires-clause-ready g c κs within = ready g.K.Behaviours.gives c.args.plan c.in-Ok.built c.in-Ok.ensures.begun
+
+pub send_and_run-requires-clause-sendable : goal.send_and_run-requires-clause-sendable
+send_and_run-requires-clause-sendable g c κs within =
+    sendable-here g.K.Behaviours.gives c.args.plan c.in-Ok.built c.in-Ok.ensures.begun c.args.sends.now c.requires.can_run.sendable
 
 pub report_of-requires : goal.report_of-requires
 report_of-requires g c = record {
@@ -29,3 +29,16 @@ pub returns-clause-ran : goal.returns-clause-ran
 returns-clause-ran g c =
     all-ran g.K.Behaviours.after g.K.Behaviours.gives c.args.plan c.args.sends.now c.in-Ok.built c.in-Ok.ensures.begun c.in_ok-built.built
     c.in_ok-built.ensures.system c.in_ok-built.ensures.ready c.report_of.result c.report_of.ensures.ended
+
+pub returns-clause-many : goal.returns-clause-many
+returns-clause-many g c =
+    all-lines g.K.Behaviours.after g.K.Behaviours.gives c.args.plan c.args.sends.now c.in-Ok.built c.in-Ok.ensures.begun c.in_ok-built.built
+    c.in_ok-built.ensures.system c.in_ok-built.ensures.ready c.report_of.result c.report_of.ensures.ended
+
+pub returns-clause-fault : goal.returns-clause-fault
+returns-clause-fault g c =
+    all-unended g.K.Behaviours.after g.K.Behaviours.gives c.args.plan c.args.sends.now c.in-Ok.built c.in-Ok.ensures.begun c.in_ok-built.built
+    c.in_ok-built.ensures.system c.in_ok-built.ensures.ready c.report_of.result c.report_of.ensures.fault
+
+pub returns-in_err-built-clause-fault : goal.returns-in_err-built-clause-fault
+returns-in_err-built-clause-fault g c = ?

@@ -1,4 +1,4 @@
-use Rattle.std.proofs.Common.{rules, ◌≡◌, ℕ, List, ◌++◌, ◌∷◌, ◌∙◌, [], refl, sym, ap, subst, length, append_assoc, arith}
+use Rattle.std.proofs.Common.{rules, ◌≡◌, ℕ, List, ◌++◌, ◌∷◌, ◌∙◌, [], refl, sym, ap, subst, length, append_assoc, zero-add, arith}
 use Rattle.std.specs.Vec.Iter.{into_iter_items}
 use Rattle.std.proofs.lemmas.List.{append-nil, nil_from_length}
 use Rattle.mb_system.specs.declared.order.Order.{Order}
@@ -34,7 +34,7 @@ loop-sender-preserved g c =
       append_assoc at.yielded (c.in-Some.sender ∷ []) rest ∙ ap (λ l. at.yielded ++ l) (sym steps) ∙ at.invariant.0,
       subst (AreJobs orders 0 (at.yielded ++ c.in-Some.sender ∷ [])) (sym c.in_ok-push.ensures.items)
           (jobs-more orders 0 at.yielded at.jobs.items c.in-Some.sender _ at.invariant.1 refl
-          (c.in_ok-sends.ensures ∙ ap orders is)),
+          (c.in_ok-sends.ensures ∙ ap orders (is ∙ sym (zero-add (length at.jobs.items))))),
     )
 
 pub returns : goal.returns
