@@ -1,6 +1,10 @@
-use Rattle.std.proofs.Common.{◌≡◌, [], ap, length, sym, ◌∙◌, subst, arith}
+use Rattle.std.proofs.Common.{ap, length, sym, ◌∙◌, subst, arith, IfErr, Result}
+use Rattle.std.proofs.lemmas.Result.{err_from_is_err_and}
+use Rattle.mb_report.specs.declared.report.Report.{Report}
 use Rattle.mb_system.specs.Unbuilt.{IsNoSystem}
+use Rattle.mb_run.specs.Faults.{IsFaultOf}
 use Rattle.mb_run.specs.Orders.{orders_of}
+use Rattle.mb_run.specs.declared.fault.RunFault.{RunFault}
 use Rattle.mb_run.proofs.EndLemmas.{all-lines, all-ran, all-unended}
 use Rattle.mb_run.proofs.FullLemmas.{fault-broken}
 use Rattle.mb_run.proofs.MemberLemmas.{complete, together}
@@ -41,4 +45,9 @@ returns-clause-fault g c =
     c.in_ok-built.ensures.system c.in_ok-built.ensures.ready c.report_of.result c.report_of.ensures.fault
 
 pub returns-in_err-built-clause-fault : goal.returns-in_err-built-clause-fault
-returns-in_err-built-clause-fault g c = ?
+returns-in_err-built-clause-fault g c =
+    let gives = g.K.Behaviours.gives in let plan = c.args.plan in
+    let p = err_from_is_err_and c.from_residual.result c.from_residual.ensures.1 in
+    let broken = fault-broken gives plan c.in-Ok.built c.in-Ok.ensures.begun c.in_err-built.field-0.0 c.in_err-built.ensures.fault in
+    let as_told = subst (λ (f : RunFault). IsFaultOf gives plan f) (sym p.2) broken in
+    subst (λ (r : Result Report RunFault). IfErr r (IsFaultOf gives plan)) (sym p.1) as_told
