@@ -1,5 +1,5 @@
 -- The jobs of senders, before a run and after.
-use Rattle.std.proofs.Common.{◌≡◌, ℕ, suc, ◌+◌, ◌<◌, List, [], ◌∷◌, ◌++◌, length, map, length-append, refl, sym, ap, ◌∙◌, subst, arith}
+use Rattle.std.proofs.Common.{◌≡◌, ℕ, suc, ◌+◌, ◌<◌, List, [], ◌∷◌, ◌++◌, length, map, length-append, refl, sym, ap, ◌∙◌, subst, zero-add, arith}
 use Rattle.std.specs.Prelude.{All}
 use Rattle.std.specs.Global.{Box}
 use Rattle.std.proofs.lemmas.List.Elements.{All-cons, All-head, All-nil, All-tail}
@@ -20,7 +20,7 @@ place-left before rest all x is = let long = ap length is in let both = length-a
 
 module _ {A K : Type 0} (orders : ℕ → List Order) where
   -- one job more
-  pub jobs-more : (number : ℕ) (senders : List (Sender A K)) (jobs : List (Job A K)) (s : Sender A K) (j : Job A K)
+  jobs-more : (number : ℕ) (senders : List (Sender A K)) (jobs : List (Job A K)) (s : Sender A K) (j : Job A K)
       → AreJobs orders number senders jobs → j.sender ≡ s → j.sends.items ≡ orders (number + length jobs)
       → AreJobs orders number (senders ++ s ∷ []) (jobs ++ j ∷ [])
   jobs-more number [] [] s j are sender sends =
@@ -33,6 +33,12 @@ module _ {A K : Type 0} (orders : ℕ → List Order) where
     jobs-more (number + 1) senders jobs s j are.2 sender
         (sends ∙ ap orders (let e : number + length (k ∷ jobs) ≡ number + 1 + length jobs = omega arith in e)),
   )
+
+  pub jobs-pushed : (senders : List (Sender A K)) (jobs new : List (Job A K)) (s : Sender A K) (j : Job A K) → AreJobs orders 0 senders jobs
+      → new ≡ jobs ++ j ∷ [] → j.sender ≡ s → j.sends.items ≡ orders (length jobs) → AreJobs orders 0 (senders ++ s ∷ []) new
+  jobs-pushed senders jobs new s j are pushed sender sends =
+      subst (AreJobs orders 0 (senders ++ s ∷ [])) (sym pushed)
+      (jobs-more 0 senders jobs s j are sender (sends ∙ ap orders (sym (zero-add (length jobs)))))
 
   pub as-many-jobs : (number : ℕ) (senders : List (Sender A K)) (jobs : List (Job A K)) → AreJobs orders number senders jobs
       → length jobs ≡ length senders

@@ -1,11 +1,10 @@
 use Rattle.std.proofs.Common.{◌≡◌, ◌∙◌, ◌<◌, ap, length, sym, subst, true, false, arith}
 use Rattle.std.specs.Prelude.{vec_len}
-use Rattle.std.specs.Vec.{with_items}
 use Rattle.std.proofs.lemmas.List.{with_items_is}
 use Rattle.mb_system.proofs.Sides.{first_changed}
 use Rattle.mb_run.specs.Orders.{orders_of}
 use Rattle.mb_run.specs.Senders.{HaveSentAll}
-use Rattle.mb_run.proofs.FaultLemmas.{only-memory, told-of-work, work-for-somebody}
+use Rattle.mb_run.proofs.FaultLemmas.{told-of-work, work-for-somebody}
 use Rattle.mb_run.proofs.MemberLemmas.{some-end}
 use Rattle.mb_run.proofs.alone.run_alone.Goals as goal
 

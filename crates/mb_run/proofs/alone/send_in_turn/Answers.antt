@@ -1,4 +1,4 @@
-use Rattle.std.proofs.Common.{◌≡◌, ◌<◌, ◌∙◌, length, get_or, refl, subst, sym, replicate, arith}
+use Rattle.std.proofs.Common.{◌∙◌, length, get_or, subst, sym, replicate, arith}
 use Rattle.std.proofs.lemmas.List.{length-set, take_all}
 use Rattle.std.proofs.lemmas.List.Elements.{All-get_or}
 use Rattle.mb_gate.specs.Names.{actors_of}

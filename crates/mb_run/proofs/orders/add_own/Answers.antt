@@ -1,5 +1,5 @@
 use Rattle.std.proofs.Common.{◌≡◌, ◌∙◌, ◌++◌, ap, sym, replicate, arith}
-use Rattle.mb_run.proofs.OrderLemmas.{orders-other, orders-own}
+use Rattle.mb_run.proofs.OrderLemmas.{orders-own}
 use Rattle.mb_run.proofs.orders.add_own.Goals as goal
 
 pub returns : goal.returns

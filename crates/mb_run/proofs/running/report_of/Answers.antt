@@ -1,1 +1,0 @@
-use Rattle.mb_run.proofs.running.report_of.Goals as goal

@@ -1,10 +1,10 @@
-use Rattle.std.proofs.Common.{rules, ◌≡◌, ℕ, List, ◌++◌, ◌∷◌, ◌∙◌, [], refl, sym, ap, subst, length, append_assoc, zero-add, arith}
+use Rattle.std.proofs.Common.{rules, ◌≡◌, ℕ, List, ◌++◌, ◌∷◌, ◌∙◌, [], refl, sym, ap, subst, length, append_assoc, arith}
 use Rattle.std.specs.Vec.Iter.{into_iter_items}
 use Rattle.std.proofs.lemmas.List.{append-nil, nil_from_length}
 use Rattle.mb_system.specs.declared.order.Order.{Order}
 use Rattle.mb_run.specs.Orders.{orders_of}
 use Rattle.mb_run.specs.Senders.{AreJobs}
-use Rattle.mb_run.proofs.JobLemmas.{as-many-jobs, jobs-more, place-left}
+use Rattle.mb_run.proofs.JobLemmas.{as-many-jobs, jobs-pushed, place-left}
 use Rattle.mb_run.proofs.together.jobs_of.Goals as goal
 
 pub loop-sender-init : goal.loop-sender-init
@@ -32,9 +32,8 @@ loop-sender-preserved g c =
     let is : c.len-in-loop-sender.result ≡ length at.jobs.items = search rules in
     let orders : ℕ → List Order = λ number. orders_of number c.args.sends.now in (
       append_assoc at.yielded (c.in-Some.sender ∷ []) rest ∙ ap (λ l. at.yielded ++ l) (sym steps) ∙ at.invariant.0,
-      subst (AreJobs orders 0 (at.yielded ++ c.in-Some.sender ∷ [])) (sym c.in_ok-push.ensures.items)
-          (jobs-more orders 0 at.yielded at.jobs.items c.in-Some.sender _ at.invariant.1 refl
-          (c.in_ok-sends.ensures ∙ ap orders (is ∙ sym (zero-add (length at.jobs.items))))),
+      jobs-pushed orders at.yielded at.jobs.items c.push.new.self.items c.in-Some.sender _ at.invariant.1 c.in_ok-push.ensures.items refl
+          (c.in_ok-sends.ensures ∙ ap orders is),
     )
 
 pub returns : goal.returns

@@ -1,5 +1,4 @@
 use Rattle.std.proofs.Common.{◌≡◌, ℕ, ◌∙◌, List, [], ap, length, map, sym, subst}
-use Rattle.std.specs.Vec.{with_items}
 use Rattle.std.proofs.lemmas.List.{with_items_is}
 use Rattle.mb_gate.specs.Names.{actors_of}
 use Rattle.mb_reckon.proofs.Lists.{length-mapped}

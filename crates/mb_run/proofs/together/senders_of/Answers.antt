@@ -1,1 +1,0 @@
-use Rattle.mb_run.proofs.together.senders_of.Goals as goal
