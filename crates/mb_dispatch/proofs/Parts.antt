@@ -1,24 +1,13 @@
 -- What was seen is a part of what is known when all that was seen is taken over.
-use Rattle.std.proofs.Common.{◌≡◌, List, [], ◌∷◌, ◌++◌, append_assoc, append-nil, refl, sym, ap, ◌∙◌, subst}
+use Rattle.std.proofs.Common.{◌≡◌, List, [], ◌∷◌, ◌++◌, append-nil, refl, sym, ap, subst}
 use Rattle.std.specs.Prelude.{All}
 use Rattle.std.proofs.lemmas.List.Elements.{All-push, All-weaker}
 use Rattle.mb_gate.specs.Rule.{IsPart}
 use Rattle.mb_gate.specs.View.{Sight}
 use Rattle.mb_rule.specs.Seen.{Each}
+pub use Rattle.mb_system.proofs.Saw.{saw-same as part-same, saw-then as part-trans}
 
 module _ {A : Type 0} where
-  pub part-same : (xs : List A) → IsPart xs xs
-  part-same xs = record { before = []; after = []; joined = sym (append-nil xs) }
-
-  pub part-trans : (xs ys zs : List A) → IsPart xs ys → IsPart ys zs → IsPart xs zs
-  part-trans xs ys zs p q = record {
-    before = q.before ++ p.before;
-    after = p.after ++ q.after;
-    joined = q.joined ∙ ap (λ l. q.before ++ (l ++ q.after)) p.joined
-        ∙ ap (λ l. q.before ++ l) (append_assoc p.before (xs ++ p.after) q.after ∙ ap (λ l. p.before ++ l) (append_assoc xs p.after q.after))
-        ∙ sym (append_assoc q.before p.before (xs ++ (p.after ++ q.after)));
-  }
-
   pub part-front : (xs ys : List A) → IsPart xs (xs ++ ys)
   part-front xs ys = record { before = []; after = ys; joined = refl }
 

@@ -1,7 +1,7 @@
 -- Senders that do their orders, one after another.
 use Rattle.std.proofs.Common.{◌≡◌, ◌⊎◌, inl, inr, ℕ, zero, suc, ◌+◌, ◌-◌, ◌<◌, ◌≤◌, List, [], ◌∷◌, length, map, refl, sym, ap, ◌∙◌, subst, Some}
 use Rattle.std.proofs.Common.{arith, get_or, Vec}
-use Rattle.std.specs.Prelude.{◌≢◌, All, AllPairs, slice_get, slice_set}
+use Rattle.std.specs.Prelude.{◌≢◌, All, slice_get, slice_set}
 use Rattle.std.specs.Global.{Box, Global}
 use Rattle.std.proofs.lemmas.Bool.{cases_eq}
 use Rattle.std.proofs.lemmas.List.{length-set}
@@ -15,7 +15,7 @@ use Rattle.mb_pool.specs.Moves.{WasEmpty}
 use Rattle.mb_pool.specs.Places.{Way, gates_of, looks}
 use Rattle.mb_turn.specs.Fresh.{IsFreshClaim}
 use Rattle.mb_wake.specs.Owed.{IsNobody}
-use Rattle.mb_reckon.proofs.Lists.{at-place, each-place, mapped, same-maps, there}
+use Rattle.mb_reckon.proofs.Lists.{mapped, same-maps, there}
 use Rattle.mb_system.specs.Belonging.{BelongsTogether, senders_numbers}
 use Rattle.mb_system.specs.Members.{IsEndOf, IsSenderOf, ends_numbers}
 use Rattle.mb_system.specs.Orders.{HasSent, OwesNobody}
@@ -23,6 +23,8 @@ use Rattle.mb_system.specs.declared.built.Built.{Built}
 use Rattle.mb_system.specs.declared.end.WorkerEnd.{WorkerEnd}
 use Rattle.mb_system.specs.declared.order.Order.{Order}
 use Rattle.mb_system.specs.declared.sender.Sender.{Sender}
+use Rattle.mb_system.proofs.Alike.{look-alike}
+use Rattle.mb_system.proofs.Together.{again, by_of}
 use Rattle.mb_dispatch.specs.Sent.{FoundNothing, HaveSent}
 
 module _ {X : Type 0} where
@@ -97,19 +99,11 @@ module _ {A K : Type 0} (gates : Gates (Box Contents)) (orders : List (List Orde
         let lt = slice_get_within old place a was in
         let of = there orders place (omega (arith, lt, as_many)) in (sent.each place of.0 a b of.1 was is).0.by
 
-    pub numbers-kept : senders_numbers new ≡ senders_numbers old
-    numbers-kept =
-        let number = λ (s : Sender A K). s.inner.book.by.0 - most_actors in
-        same-maps number number new old sent.many (λ i b a is was. ap (λ (n : SenderId). n.0 - most_actors) (by-kept i a b was is))
+    pub senders-kept : map by_of new ≡ map by_of old
+    senders-kept = same-maps by_of by_of new old sent.many (λ i b a is was. by-kept i a b was is)
 
-    pub limits-kept : (limit : ℕ) → All (λ (s : Sender A K). (most_actors ≤ s.inner.book.by.0) × (s.inner.book.by.0 < limit)) old
-        → All (λ (s : Sender A K). (most_actors ≤ s.inner.book.by.0) × (s.inner.book.by.0 < limit)) new
-    limits-kept limit all =
-        let P = λ (s : Sender A K). (most_actors ≤ s.inner.book.by.0) × (s.inner.book.by.0 < limit) in
-        each-place P new (λ i b is.
-        (let lt = slice_get_within new i b is in let many = sent.many in
-        let a = there old i (omega (arith, lt, many)) in
-        subst (λ (n : SenderId). (most_actors ≤ n.0) × (n.0 < limit)) (sym (by-kept i a.0 b a.1 is)) (at-place P old i a.0 all a.1)))
+    pub numbers-kept : senders_numbers new ≡ senders_numbers old
+    numbers-kept = look-alike by_of (λ (n : SenderId). n.0 - most_actors) new old senders-kept
 
 module _ {A K : Type 0} where
   -- all belongs together after that
@@ -117,15 +111,8 @@ module _ {A K : Type 0} where
       → BelongsTogether old → HaveSent old.system.gates orders old.senders.items new.senders.items
       → All (λ (e : WorkerEnd A K). IsEndOf old.system.gates e.waker) new.ends.items
       → All (λ (s : Sender A K). IsSenderOf old.system.gates s.inner) new.senders.items → BelongsTogether new
-  together-kept orders old new as_many same was sent ends senders = record {
-    ends = subst (λ g. All (λ (e : WorkerEnd A K). IsEndOf g e.waker) new.ends.items) (sym (ap (λ s. s.gates) same)) ends;
-    senders = subst (λ g. All (λ (s : Sender A K). IsSenderOf g s.inner) new.senders.items) (sym (ap (λ s. s.gates) same)) senders;
-    once = subst (AllPairs (λ a b. a ≢ b))
-        (sym (numbers-kept old.system.gates orders old.senders.items new.senders.items as_many sent)) was.once;
-    numbered = subst (λ n. All (λ (s : Sender A K). (most_actors ≤ s.inner.book.by.0) × (s.inner.book.by.0 < most_actors + n)) new.senders.items)
-        (sym (ap (λ s. s.senders) same))
-        (limits-kept old.system.gates orders old.senders.items new.senders.items as_many sent (most_actors + old.system.senders) was.numbered);
-  }
+  together-kept orders old new as_many same was sent ends senders =
+      again old new same ends senders (senders-kept old.system.gates orders old.senders.items new.senders.items as_many sent) was
 
   -- an end is put in the place of the first, whose number it has
   pub first-number : (old new : WorkerEnd A K) (ends : List (WorkerEnd A K)) → ends ≢ [] → old ≡ get_or ends 0 old → new.number ≡ old.number

@@ -1,8 +1,8 @@
 -- A whole run, from the system as it begins to what its end says.
 use Rattle.std.proofs.Common.{◌≡◌, ◌<◌, ◌≤◌, ℤ, ℕ, zero, suc, ◌+◌, ◌-◌, List, [], ◌∷◌, ◌++◌, length, map, refl, sym, ap, ◌∙◌, subst, Some, arith}
-use Rattle.std.specs.Prelude.{◌≢◌, All, slice_get}
+use Rattle.std.specs.Prelude.{◌≢◌, All, reverse, slice_get}
 use Rattle.std.specs.Global.{Box}
-use Rattle.std.proofs.lemmas.List.{length-map}
+use Rattle.std.proofs.lemmas.List.{append-nil, length-map}
 use Rattle.std.proofs.lemmas.List.Elements.{All-map}
 use Rattle.std.proofs.lemmas.Option.{get_or_from_slice_get, same_Some, slice_get_within}
 use Rattle.mb_msg.specs.Limits.{most_actors}
@@ -26,7 +26,7 @@ use Rattle.mb_reckon.proofs.Lists.{at-place, from-mapped, length-mapped, there}
 use Rattle.mb_system.specs.Begun.{AreNewEnds, AreNewSenders, IsBegun}
 use Rattle.mb_system.specs.Belonging.{senders_numbers}
 use Rattle.mb_system.specs.Members.{ends_numbers}
-use Rattle.mb_system.specs.Orders.{addressed, said_to}
+use Rattle.mb_system.specs.Orders.{addressed, said_to, stopped_by}
 use Rattle.mb_system.specs.declared.built.Built.{Built}
 use Rattle.mb_system.specs.declared.end.WorkerEnd.{WorkerEnd}
 use Rattle.mb_system.specs.declared.order.Order.{Order}
@@ -72,7 +72,7 @@ module _ {A K : Type 0} (gates : Gates (Box Contents)) where
   -- the sender at this place, as it began
   new-at : (number : ℕ) (rows : List (List Sending)) (senders : List (Sender A K)) (place : ℕ) (s : Sender A K)
       → AreNewSenders gates number rows senders → slice_get senders place ≡ Some s
-      → (s.inner.book.by.0 ≡ number + place) × (s.inner.book.posted ≡ [])
+      → (s.inner.book.by.0 ≡ number + place) × (s.inner.book.posted ≡ []) × ((known_by s.inner.waker.pass).said ≡ [])
   new-at number [] [] place s are is = absurd (omega (arith, slice_get_within {A = Sender A K} [] place s is))
   new-at number [] (x ∷ senders) place s are is = absurd are
   new-at number (row ∷ rows) [] place s are is = absurd are
@@ -80,9 +80,10 @@ module _ {A K : Type 0} (gates : Gates (Box Contents)) where
       let same = sym (same_Some x s is) in (
         ap (λ (y : Sender A K). y.inner.book.by.0) same ∙ ap (λ n. n.0) are.0.by ∙ (omega arith),
         ap (λ (y : Sender A K). y.inner.book.posted) same ∙ are.0.posted,
+        ap (λ (y : Sender A K). (known_by y.inner.waker.pass).said) same ∙ are.0.silent,
       )
   new-at number (row ∷ rows) (x ∷ senders) (suc place) s are is =
-      let rest = new-at (number + 1) rows senders place s are.1 is in (rest.0 ∙ (omega arith), rest.1)
+      let rest = new-at (number + 1) rows senders place s are.1 is in (rest.0 ∙ (omega arith), rest.1, rest.2)
 
 module _ {A K : Type 0} (gives : ℕ → Moment → Reply → Type 0) (plan : Plan) (built : Built A K) (begun : IsBegun gives plan built) where
   -- all senders and ends of the plan are there, in order
@@ -137,10 +138,10 @@ module _ {A K : Type 0} (gives : ℕ → Moment → Reply → Type 0) (plan : Pl
         place after.0 answered.each after.1 in
         let posted : postings ≡ one.more =
         same_Some postings after.0.inner.book.posted (sym told ∙ ap (slice_get answers) (sym number) ∙ answer)
-        ∙ one.posted ∙ ap (λ l. l ++ one.more) new.1 in record {
+        ∙ one.posted ∙ ap (λ l. l ++ one.more) new.1 in
+        let terminates = reverse (stopped_by of) in record {
           accepted_are = ap (λ l. addressed (accepted l)) posted ∙ one.accepted_are;
-          earlier = said_to (known_by before.0.inner.waker.pass).said;
-          said = ap (λ (v : View). said_to v.said) (sym after.2) ∙ one.said;
+          said = ap (λ (v : View). said_to v.said) (sym after.2) ∙ one.said ∙ ap (λ l. terminates ++ said_to l) new.2 ∙ append-nil terminates;
         }
 
     pub story : (after : ℕ → List Message → ℤ) (report : Report) (log : List Sight) (answers : List (List Posting)) → HasAllSeen now log

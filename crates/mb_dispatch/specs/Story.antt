@@ -1,5 +1,5 @@
 -- A whole run, from the plan and the actors to the report.
-use Rattle.std.specs.Prelude.{◌≡◌, ℕ, zero, suc, ◌+◌, ℤ, pos, List, ◌++◌, All, Option, Some, None, length, map, reverse, slice_get}
+use Rattle.std.specs.Prelude.{◌≡◌, ℕ, zero, suc, ◌+◌, ℤ, pos, List, All, Option, Some, None, length, map, reverse, slice_get}
 use Rattle.mb_actor.specs.Behaviour.{Moment, Reply}
 use Rattle.mb_actor.specs.declared.message.Message.{Message}
 use Rattle.mb_build.specs.Kinds.{Queues}
@@ -8,7 +8,6 @@ use Rattle.mb_fates.specs.declared.posting.Posting.{Posting}
 use Rattle.mb_gate.specs.Rule.{IsPart}
 use Rattle.mb_gate.specs.View.{Sight, View}
 use Rattle.mb_home.specs.Roll.{Enrolled}
-use Rattle.mb_msg.specs.declared.system.SysMsg.{SysMsg}
 use Rattle.mb_plan.specs.declared.actor_plan.ActorPlan.{ActorPlan}
 use Rattle.mb_plan.specs.declared.plan.Plan.{Plan}
 use Rattle.mb_queue.specs.Made.{bound_of, turns_in}
@@ -48,12 +47,11 @@ pub record HasMailbox (plan : ActorPlan) (e : Enrolled) : Type 0 where
   pub turns : e.turns ≡ turns_in kind
   pub bound : e.queue.main.capacity ≡ bound_of kind
 
--- The sender was answered for the envelopes of these orders, in order and for nothing else; and of all that it said their Terminates, in order,
--- are the last: what was said stands with the newest first.
+-- The sender was answered for the envelopes of these orders, and said their Terminates, each in order, and was answered for and said nothing
+-- else: what was said stands with the newest first.
 pub record DidOrders (orders : List Order) (postings : List Posting) (knew : View) : Type 0 where
   pub accepted_are : addressed (accepted postings) ≡ told_by orders
-  pub earlier : List (ℕ × SysMsg)
-  pub said : said_to knew.said ≡ reverse (stopped_by orders) ++ earlier
+  pub said : said_to knew.said ≡ reverse (stopped_by orders)
 
 -- The report is whole of the actors of this plan, and of its senders outside, of whom each did the orders of its place: it speaks of all that
 -- the senders and the workers' ends saw, and goes on from that.

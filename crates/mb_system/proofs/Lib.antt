@@ -8,3 +8,7 @@ pub mod Led
 pub mod Crossing
 pub mod Sides
 pub mod Breaking
+pub mod Saw
+pub mod Alike
+pub mod Together
+pub mod There

@@ -61,6 +61,13 @@ copied-blank v w is none = ap (λ (x : View). x.log) is ∙ ap without_counts no
 pub halving-blank : (v w : View) → w ≡ halving v → v.log ≡ [] → w.log ≡ []
 halving-blank v w is none = ap (λ (x : View). x.log) is ∙ none
 
+-- and one of a pass that said nothing said nothing
+pub copied-silent : (v w : View) → w ≡ copied v → v.said ≡ [] → w.said ≡ []
+copied-silent v w is none = ap (λ (x : View). x.said) is ∙ none
+
+pub halving-silent : (v w : View) → w ≡ halving v → v.said ≡ [] → w.said ≡ []
+halving-silent v w is none = ap (λ (x : View). x.said) is ∙ none
+
 -- what was put first into the guardian's list
 pub created : (number : ℕ) (node : SysMsg) (v w : View) → w ≡ enlisting 0 number node v → node ≡ Create → v.log ≡ [] → IsCreated w
 created number node v w is made none =

@@ -54,7 +54,7 @@ abbrev pub IsCreated : View → Type 0
 IsCreated view = (number : ℕ) × (view.log ≡ Pushed 0 number Create ∷ [])
 
 module _ {A K : Type 0} (gates : Gates (Box Contents)) where
-  -- a sender of this number: it sent nothing, was answered nothing, saw nothing, owes nobody a look, and pushes by these passes
+  -- a sender of this number: it sent nothing, was answered nothing, said nothing, saw nothing, owes nobody a look, and pushes by these passes
   pub record IsNewSender (number : ℕ) (sends : List Sending) (s : Sender A K) : Type 0 where
     pub ours : IsSenderOf gates s.inner
     pub by : s.inner.book.by ≡ record { 0 = number }
@@ -62,6 +62,7 @@ module _ {A K : Type 0} (gates : Gates (Box Contents)) where
     pub sends_are : s.inner.sends.items ≡ sends
     pub nobody : IsNobody s.inner.waker.owed
     pub blank : (known_by s.inner.waker.pass).log ≡ []
+    pub silent : (known_by s.inner.waker.pass).said ≡ []
 
   -- so are these, which are numbered on from this one
   abbrev pub AreNewSenders : ℕ → List (List Sending) → List (Sender A K) → Type 0

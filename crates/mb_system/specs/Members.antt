@@ -1,6 +1,7 @@
 -- Who belongs to a system (this project's own profile: in Akka a dispatcher knows its own threads alone).
 use Rattle.std.specs.Prelude.{◌≡◌, ℕ, ◌+◌, ◌<◌, false, List, All, drop, map, vec_len}
 use Rattle.std.specs.Global.{Box}
+use Rattle.mb_msg.specs.declared.id.SenderId.{SenderId}
 use Rattle.mb_gate.specs.declared.gates.Gates.{Gates}
 use Rattle.mb_gate.specs.Names.{actors_of, first_of}
 use Rattle.mb_home.specs.Contents.{Contents}
@@ -40,6 +41,10 @@ module _ {A K : Type 0} where
   -- the numbers of these ends
   abbrev pub ends_numbers : List (WorkerEnd A K) → List ℕ
   ends_numbers = map (λ (e : WorkerEnd A K). e.number)
+
+  -- who the senders of these jobs are
+  abbrev pub jobs_senders : List (Job A K) → List SenderId
+  jobs_senders = map (λ (j : Job A K). j.sender.inner.book.by)
 
   -- all these ends are of the gates; and so are the senders of these jobs
   abbrev pub AreEndsOf : Gates (Box Contents) → List (WorkerEnd A K) → Type 0

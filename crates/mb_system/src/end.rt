@@ -4,6 +4,7 @@ ghost use Rattle.mb_journal.specs.Entry.{Entry};
 ghost use Rattle.mb_journal.specs.Run.{Stopped};
 ghost use Rattle.mb_journal.specs.Run.Stopped.{NoRoom};
 ghost use Rattle.mb_gate.specs.Names.{actors_of, held_actor, known_by};
+ghost use Rattle.mb_gate.specs.Rule.{IsPart};
 ghost use Rattle.mb_gate.specs.Untouched.{origin_of};
 ghost use Rattle.mb_pool.specs.Places.{gates_of, looks};
 ghost use Rattle.mb_pool.specs.Moves.{WasEmpty};
@@ -87,6 +88,7 @@ impl<A: Actor, K: Behaviours> WorkerEnd<A, K> {
         requires ours { IsEndOf system.now.gates self.old.waker }
         ensures ours { IsEndOf system.now.gates self.new.waker }
         ensures number { self.new.number ≡ self.old.number }
+        ensures saw { IsPart (known_by self.old.waker.pass).log (known_by self.new.waker.pass).log }
     {
         for number in 0..system.gates.actors() {
             self.register(rt, system, ActorId(number as u32), false, false);
@@ -132,6 +134,7 @@ impl<A: Actor, K: Behaviours> WorkerEnd<A, K> {
         ensures done { OnOk result ((id : ℕ) → id < actors_of system.now.gates → is_owed self.new.waker.owed id ≡ false) }
         ensures refused { OnErr result (IsErrOf result RunError.NoMemory) }
         ensures number { self.new.number ≡ self.old.number }
+        ensures saw { IsPart (known_by self.old.waker.pass).log (known_by self.new.waker.pass).log }
     {
         match self.waker.pay(rt, &system.gates) {
             Ok(()) => Ok(()),

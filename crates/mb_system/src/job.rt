@@ -26,6 +26,7 @@ impl<A: Actor, K: Behaviours> Job<A, K> {
     pub(crate) fn do_all<R: Wait>(&mut self, rt: &R, system: &System<A, K>) -> Result<(), RunError>
         requires ours { IsSenderOf system.now.gates self.old.sender.inner }
         ensures ours { IsSenderOf system.now.gates self.new.sender.inner }
+        ensures by { self.new.sender.inner.book.by ≡ self.old.sender.inner.book.by }
         ensures sends { self.new.sends ≡ self.old.sends }
         ensures sent { OnOk result (HasSent self.old.sends.items self.old.sender self.new.sender × OwesNobody system.now.gates self.new.sender) }
         ensures fault { IfErr result (BreaksSending system.now.gates self.old.sends.items) }
@@ -44,7 +45,7 @@ impl<A: Actor, K: Behaviours> Task<System<A, K>> for Job<A, K> {
 
     ghost ready = { λ system job. IsSenderOf system.gates job.sender.inner };
 
-    ghost keeps = { λ system old new. IsSenderOf system.gates new.sender.inner };
+    ghost keeps = { λ system old new. IsSenderOf system.gates new.sender.inner × (new.sender.inner.book.by ≡ old.sender.inner.book.by) };
 
     ghost done = { λ system old new. IsDone system.gates old new };
 
@@ -52,7 +53,7 @@ impl<A: Actor, K: Behaviours> Task<System<A, K>> for Job<A, K> {
 
     fn perform<R: Wait>(&mut self, rt: &R, shared: &System<A, K>) -> Result<(), RunError>
         requires ready { IsSenderOf shared.now.gates self.old.sender.inner }
-        ensures keeps { IsSenderOf shared.now.gates self.new.sender.inner }
+        ensures keeps { IsSenderOf shared.now.gates self.new.sender.inner × (self.new.sender.inner.book.by ≡ self.old.sender.inner.book.by) }
         ensures done { OnOk result (IsDone shared.now.gates self.old self.new) }
         ensures fails { IfErr result (BreaksSending shared.now.gates self.old.sends.items) }
     {
@@ -69,6 +70,7 @@ fn send_and_pay<A: Actor, K: Behaviours, R: Wait>(
 ) -> Result<(), RunError>
     requires ours { IsSenderOf system.now.gates sender.old.inner }
     ensures ours { IsSenderOf system.now.gates sender.new.inner }
+    ensures by { sender.new.inner.book.by ≡ sender.old.inner.book.by }
     ensures sent { OnOk result (HasSent orders.now sender.old sender.new × OwesNobody system.now.gates sender.new) }
     ensures fault { IfErr result (BreaksSending system.now.gates orders.now) }
 {

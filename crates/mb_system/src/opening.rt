@@ -41,7 +41,7 @@ pub(crate) fn open<A: Actor, K: Behaviours, R: Wait>(
     outside: Vec<Vec<SendPass>>,
 ) -> Result<Opened<A, K>, AllocError>
     requires ours { pass_id pass ≡ gates_id gates.now }
-    requires blank { (known_by pass).log ≡ [] }
+    requires blank { ((known_by pass).log ≡ []) × ((known_by pass).said ≡ []) }
     requires actors { (0 < actors_of gates.now) × (actors_of gates.now ≤ 64) }
     requires some { (0 < length ends.items) × (length ends.items ≤ 16) }
     requires ends { All (λ e. gates_of e ≡ Some (origin_of gates.now)) ends.items }
@@ -69,7 +69,7 @@ fn open_senders<A: Actor, K: Behaviours>(
     outside: Vec<Vec<SendPass>>,
 ) -> Result<Vec<Sender<A, K>>, AllocError>
     requires ours { (pass_id pass.old ≡ gates_id gates.now) × (actors_of gates.now ≤ 64) }
-    requires blank { (known_by pass.old).log ≡ [] }
+    requires blank { ((known_by pass.old).log ≡ []) × ((known_by pass.old).said ≡ []) }
     requires feeds { All (λ f. gates_of f ≡ Some (origin_of gates.now)) feeds.items }
     requires many { (length feeds.items ≡ length outside.items) × (length feeds.items ≤ 16) }
     requires outside { AreUnused (drop 1 (queues_of (first_of gates.now).value.roll)) (actors_of gates.now) most_actors

@@ -39,6 +39,7 @@ impl<A: Actor, K: Behaviours> Sender<A, K> {
     ) -> Result<(), RunError>
         requires ours { IsSenderOf system.now.gates self.old.inner }
         ensures ours { IsSenderOf system.now.gates self.new.inner }
+        ensures by { self.new.inner.book.by ≡ self.old.inner.book.by }
         ensures sent { OnOk result (HasSent orders.now self.old self.new) }
         ensures fault { IfErr result (BreaksSending system.now.gates orders.now) }
     {
@@ -52,6 +53,7 @@ impl<A: Actor, K: Behaviours> Sender<A, K> {
     fn send<R: Wait>(&mut self, rt: &R, system: &System<A, K>, order: Order) -> Result<(), RunError>
         requires ours { IsSenderOf system.now.gates self.old.inner }
         ensures ours { IsSenderOf system.now.gates self.new.inner }
+        ensures by { self.new.inner.book.by ≡ self.old.inner.book.by }
         ensures sent { OnOk result (HasSent (order ∷ []) self.old self.new) }
         ensures fault { IfErr result (BreaksSending system.now.gates (order ∷ [])) }
     {

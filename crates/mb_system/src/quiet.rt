@@ -1,6 +1,8 @@
 //! Running on one thread alone.
 ghost use Rattle.std.specs.Prelude.{◌≡◌, All, IfErr, OnOk};
 ghost use Rattle.std.specs.Global.{Box};
+ghost use Rattle.mb_gate.specs.Names.{known_by};
+ghost use Rattle.mb_gate.specs.Rule.{IsPart};
 ghost use Rattle.mb_home.specs.Contents.{Contents};
 ghost use Rattle.mb_pool.specs.Moves.{WasEmpty};
 ghost use Rattle.mb_pool.specs.Places.{Way, gates_of, looks};
@@ -32,6 +34,7 @@ impl<A: Actor, K: Behaviours> WorkerEnd<A, K> {
         ensures empty { OnOk result ((end : Way (Box Contents)) × (gates_of end ≡ gates_of self.new.waker.way.end)
             × All (WasEmpty (IsFreshClaim K.gives)) (looks end)) }
         ensures number { self.new.number ≡ self.old.number }
+        ensures saw { IsPart (known_by self.old.waker.pass).log (known_by self.new.waker.pass).log }
         ensures fault { IfErr result (BreaksWork K.gives system.now self.new) }
     {
         self.register_all(rt, system);

@@ -1,7 +1,7 @@
 //! A run of all workers and some senders, each on a thread of its own.
 ghost use Rattle.std.specs.Prelude.{◌≡◌, IfErr, OnOk, length};
 ghost use Rattle.mb_system.specs.Faults.{BreaksRun};
-ghost use Rattle.mb_system.specs.Members.{AreEndsOf, AreJobsOf, ArePaid, ends_numbers};
+ghost use Rattle.mb_system.specs.Members.{AreEndsOf, AreJobsOf, ArePaid, ends_numbers, jobs_senders};
 ghost use Rattle.mb_system.specs.Orders.{AreDone};
 
 use crate::beside::{all_beside, first_of};
@@ -28,6 +28,7 @@ impl<A: Actor + Send, K: Behaviours + Send> System<A, K> {
         requires jobs { AreJobsOf self.now.gates jobs.old }
         ensures ends { AreEndsOf self.now.gates ends.new × (ends_numbers ends.new ≡ ends_numbers ends.old) }
         ensures jobs { AreJobsOf self.now.gates jobs.new × (length jobs.new ≡ length jobs.old) }
+        ensures by { jobs_senders jobs.new ≡ jobs_senders jobs.old }
         ensures paid { OnOk result (ArePaid self.now.gates ends.new) }
         ensures done { OnOk result (AreDone self.now.gates jobs.old jobs.new) }
         ensures fault { IfErr result (BreaksRun K.gives self.now ends.new jobs.old) }

@@ -1,6 +1,7 @@
 //! A worker among others.
 ghost use Rattle.std.specs.Prelude.{◌≡◌, ◌<◌, ℕ, false, true, IfErr, Ok, OnOk, Some};
-ghost use Rattle.mb_gate.specs.Names.{actors_of};
+ghost use Rattle.mb_gate.specs.Names.{actors_of, known_by};
+ghost use Rattle.mb_gate.specs.Rule.{IsPart};
 ghost use Rattle.mb_gate.specs.Untouched.{origin_of};
 ghost use Rattle.mb_turn.specs.Fresh.{IsFreshClaim};
 ghost use Rattle.mb_wake.specs.Owed.{is_owed};
@@ -80,6 +81,7 @@ impl<A: Actor, K: Behaviours> WorkerEnd<A, K> {
         requires untouched { IsFreshClaim K.gives (Some (origin_of system.now.gates)) claim }
         ensures ours { IsEndOf system.now.gates self.new.waker }
         ensures number { self.new.number ≡ self.old.number }
+        ensures saw { IsPart (known_by self.old.waker.pass).log (known_by self.new.waker.pass).log }
         ensures fault { IfErr result (BreaksWork K.gives system.now self.new) }
     {
         match self.run_mailbox(rt, system, claim) {

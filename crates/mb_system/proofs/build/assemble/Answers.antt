@@ -34,7 +34,7 @@ open-requires g c =
     let fed : length feeds ≡ c.args.plan.senders = feeds_are.1 ∙ pool.feeds_are in
     let rows = sym (length-map outside.items (λ row. row.items)) ∙ founded.rows in let senders = right.senders in record {
       ours = c.in_ok-gates.ensures.pass.0;
-      blank = ap (λ (v : View). v.log) c.in_ok-gates.ensures.pass.1;
+      blank = (ap (λ (v : View). v.log) c.in_ok-gates.ensures.pass.1, ap (λ (v : View). v.said) c.in_ok-gates.ensures.pass.1);
       actors = (omega (arith, actors), omega (arith, actors, few));
       some = (omega (arith, as_many, some), omega (arith, as_many, workers));
       ends = subst (λ o. All (λ e. gates_of e ≡ Some o) ends) pool.gates ends_are.0;

@@ -12,7 +12,7 @@ use Rattle.mb_send.specs.Sends.{AreRoutes, receiving_queues}
 use Rattle.mb_wake.specs.Owed.{IsNobody}
 use Rattle.mb_build.proofs.RollLemmas.{drop-next}
 use Rattle.mb_system.specs.Begun.{AreNewSenders}
-use Rattle.mb_system.proofs.Opened.{copied-blank, halving-blank, none-left, place-left, senders-next, unused-there}
+use Rattle.mb_system.proofs.Opened.{copied-blank, copied-silent, halving-blank, halving-silent, none-left, place-left, senders-next, unused-there}
 use Rattle.mb_system.proofs.opening.open_senders.Goals as goal
 
 pub loop-feed-init : goal.loop-feed-init
@@ -24,7 +24,8 @@ loop-feed-init g c =
       count = ap length none;
       rows = c.into_iter-outside.ensures.rest ∙ ap (λ l. drop (length l) c.args.outside.items) (sym none);
       ours = refl;
-      blank = c.requires.blank;
+      blank = c.requires.blank.0;
+      silent = c.requires.blank.1;
       opened = subst (λ l. AreNewSenders c.args.gates.now most_actors (map (λ row. row.items) (take (length l) c.args.outside.items)) l)
           (sym none) tt;
     }
@@ -76,6 +77,7 @@ loop-feed-preserved g c =
       rows = sym (drop-next place outside sends left here) ∙ ap (λ n. drop n outside) next;
       ours = c.another.ensures.ours.0 ∙ at.invariant.ours;
       blank = halving-blank (known_by at.pass) _ c.another.ensures.known.0 at.invariant.blank;
+      silent = halving-silent (known_by at.pass) _ c.another.ensures.known.0 at.invariant.silent;
       opened = senders-next (λ r. r.items) gates most_actors at.senders.items _ _ outside sends left pushed here at.invariant.opened (record {
         ours = record {
           ours = (
@@ -91,6 +93,7 @@ loop-feed-preserved g c =
         sends_are = ap (λ v. v.items) parts.1;
         nobody = subst (λ w. IsNobody w.owed) (sym parts.0) c.none.ensures;
         blank = ap (λ w. (known_by w.pass).log) parts.0 ∙ copied-blank (known_by at.pass) _ c.another.ensures.known.1 at.invariant.blank;
+        silent = ap (λ w. (known_by w.pass).said) parts.0 ∙ copied-silent (known_by at.pass) _ c.another.ensures.known.1 at.invariant.silent;
       });
     }
 

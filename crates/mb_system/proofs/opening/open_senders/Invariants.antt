@@ -16,5 +16,6 @@ invariant-loop-feed g l = record {
   rows : into_iter_items l.outside ≡ drop (length l.senders.items) l.fn.outside.items;
   ours : pass_id l.pass ≡ pass_id l.initial.pass;
   blank : (known_by l.pass).log ≡ [];
+  silent : (known_by l.pass).said ≡ [];
   opened : AreNewSenders l.gates most_actors (map (λ row. row.items) (take (length l.senders.items) l.fn.outside.items)) l.senders.items;
 }

@@ -26,7 +26,10 @@ returns-clause-ends g c =
 
 pub returns-clause-jobs : goal.returns-clause-jobs
 returns-clause-jobs g c =
-    let each = c.all_beside-of_jobs.ensures.keeps.0 in (all_after _ _ (λ old new kept. kept) _ _ each, as_many_after _ _ _ each)
+    let each = c.all_beside-of_jobs.ensures.keeps.0 in (all_after _ _ (λ old new kept. kept.0) _ _ each, as_many_after _ _ _ each)
+
+pub returns-clause-by : goal.returns-clause-by
+returns-clause-by g c = same_after _ _ (λ old new kept. kept.1) _ _ c.all_beside-of_jobs.ensures.keeps.0
 
 pub returns-clause-paid : goal.returns-clause-paid
 returns-clause-paid g c =
