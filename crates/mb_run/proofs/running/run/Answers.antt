@@ -1,37 +1,53 @@
-use Rattle.std.proofs.Common.{Err, ◌≡◌, length, ap}
+use Rattle.std.proofs.Common.{ap, length, sym, ◌∙◌, subst, arith, IfErr, Result}
 use Rattle.std.proofs.lemmas.Result.{err_from_is_err_and}
-use Rattle.mb_journal.specs.Identity.{Identity}
-use Rattle.mb_journal.specs.declared.error.ReadyError.{ReadyError}
-use Rattle.mb_journal.specs.declared.error.ReadyError.TheVariants.{JournalFull}
-use Rattle.mb_reader.specs.View.{strategy_data}
-use Rattle.mb_run.proofs.Starting.{begun_block, begun_kept, begun_rest, full_needs, told_run}
+use Rattle.mb_report.specs.declared.report.Report.{Report}
+use Rattle.mb_system.specs.Unbuilt.{IsNoSystem}
+use Rattle.mb_run.specs.Faults.{IsFaultOf}
+use Rattle.mb_run.specs.Orders.{orders_of}
+use Rattle.mb_run.specs.declared.fault.RunFault.{RunFault}
+use Rattle.mb_run.proofs.EndLemmas.{all-lines, all-ran, all-unended}
+use Rattle.mb_run.proofs.FullLemmas.{fault-broken}
+use Rattle.mb_run.proofs.MemberLemmas.{complete, together}
+use Rattle.mb_run.proofs.PlanLemmas.{ready, sendable-here}
 use Rattle.mb_run.proofs.running.run.Goals as goal
 
-pub run_all-requires-clause-rest : goal.run_all-requires-clause-rest
-run_all-requires-clause-rest g c =
-    begun_rest c.in_ok-started.started.cell (strategy_data c.args.rules.strategy) c.args.rules.journal_limit c.args.sends.now
-    c.in-Ok.envelopes.items c.in_ok-started.ensures.begun c.in_ok-started.ensures.who c.in-Ok.ensures c.requires.plain
+pub unreachable-requires : goal.unreachable-requires
+unreachable-requires g c =
+    let refused = subst (λ e. IsNoSystem c.args.plan c.args.actors.items e) c.in-Err-BadPlan.field-0-is c.in-Err-BadPlan.ensures.refused in
+    let none = ap length (sym refused.1 ∙ c.requires.can_run.right) in omega (arith, none)
 
-pub run_all-requires-clause-started : goal.run_all-requires-clause-started
-run_all-requires-clause-started g c = begun_block c.in_ok-started.started.cell c.in_ok-started.ensures.begun
+pub send_and_run-requires-clause-ready : goal.send_and_run-requires-clause-ready
+send_and_run-requires-clause-ready g c κs within = ready g.K.Behaviours.gives c.args.plan c.in-Ok.built c.in-Ok.ensures.begun
 
-pub returns-in_err-run_all-clause-full : goal.returns-in_err-run_all-clause-full
-returns-in_err-run_all-clause-full g c = λ is_full.
-    let p = err_from_is_err_and c.from_residual-in_err-run_all.result c.from_residual-in_err-run_all.ensures.1 in
-    let fault : c.in_err-run_all.field-0.0 ≡ JournalFull = let from : p.0 ≡ c.in_err-run_all.field-0.0 = p.2 in
-    let same : c.from_residual-in_err-run_all.result ≡ Err p.0 = p.1 in
-    let given : c.from_residual-in_err-run_all.result ≡ Err JournalFull = is_full in
-    cc (from, same, given) in
-    let full = c.in_err-run_all.ensures.full (ap (λ (e : ReadyError). Err e) fault) in
-    full_needs c.in_ok-started.started.cell c.run_all.new.cell c.in-Ok.envelopes.items c.run_all.new.envelopes.items c.args.rules.journal_limit
-    (length c.args.sends.now) c.run_all.ensures.kept (ap (λ (w : Identity). w.limit) c.in_ok-started.ensures.who)
-    (begun_kept c.in_ok-started.started.cell c.args.sends.now c.in-Ok.envelopes.items c.in_ok-started.ensures.begun c.in-Ok.ensures
-    c.requires.plain).1 full
+pub send_and_run-requires-clause-sendable : goal.send_and_run-requires-clause-sendable
+send_and_run-requires-clause-sendable g c κs within =
+    sendable-here g.K.Behaviours.gives c.args.plan c.in-Ok.built c.in-Ok.ensures.begun c.args.sends.now c.requires.can_run.sendable
 
-pub returns-in-Ok-report_on-clause-told : goal.returns-in-Ok-report_on-clause-told
-returns-in-Ok-report_on-clause-told g c =
-    told_run g.K.Behaviours.after g.K.Behaviours.gives c.in_ok-started.started.guardian c.in_ok-started.started.cell c.run_all.new.cell
-    c.in-Ok.envelopes.items c.run_all.new.envelopes.items (strategy_data c.args.rules.strategy) c.args.rules.journal_limit c.args.rules.throughput
-    c.args.sends.now c.in-Ok-report_on.report c.in_ok-started.ensures.begun c.in_ok-started.ensures.guardian c.in_ok-started.ensures.who
-    c.in-Ok.ensures c.requires.plain c.run_all.ensures.rest c.run_all.ensures.kept c.in_ok-run_all.ensures.none_left c.in_ok-run_all.ensures.runs
-    c.in-Ok-report_on.ensures
+pub report_of-requires : goal.report_of-requires
+report_of-requires g c = record {
+  together = together (λ number. orders_of number c.args.sends.now) c.in_ok-built.built c.in_ok-built.ensures.ready;
+  complete = complete (λ number. orders_of number c.args.sends.now) c.in_ok-built.built c.in_ok-built.ensures.ready;
+}
+
+pub returns-clause-ran : goal.returns-clause-ran
+returns-clause-ran g c =
+    all-ran g.K.Behaviours.after g.K.Behaviours.gives c.args.plan c.args.sends.now c.in-Ok.built c.in-Ok.ensures.begun c.in_ok-built.built
+    c.in_ok-built.ensures.system c.in_ok-built.ensures.ready c.report_of.result c.report_of.ensures.ended
+
+pub returns-clause-many : goal.returns-clause-many
+returns-clause-many g c =
+    all-lines g.K.Behaviours.after g.K.Behaviours.gives c.args.plan c.args.sends.now c.in-Ok.built c.in-Ok.ensures.begun c.in_ok-built.built
+    c.in_ok-built.ensures.system c.in_ok-built.ensures.ready c.report_of.result c.report_of.ensures.ended
+
+pub returns-clause-fault : goal.returns-clause-fault
+returns-clause-fault g c =
+    all-unended g.K.Behaviours.after g.K.Behaviours.gives c.args.plan c.args.sends.now c.in-Ok.built c.in-Ok.ensures.begun c.in_ok-built.built
+    c.in_ok-built.ensures.system c.in_ok-built.ensures.ready c.report_of.result c.report_of.ensures.fault
+
+pub returns-in_err-built-clause-fault : goal.returns-in_err-built-clause-fault
+returns-in_err-built-clause-fault g c =
+    let gives = g.K.Behaviours.gives in let plan = c.args.plan in
+    let p = err_from_is_err_and c.from_residual.result c.from_residual.ensures.1 in
+    let broken = fault-broken gives plan c.in-Ok.built c.in-Ok.ensures.begun c.in_err-built.field-0.0 c.in_err-built.ensures.fault in
+    let as_told = subst (λ (f : RunFault). IsFaultOf gives plan f) (sym p.2) broken in
+    subst (λ (r : Result Report RunFault). IfErr r (IsFaultOf gives plan)) (sym p.1) as_told
