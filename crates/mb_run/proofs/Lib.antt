@@ -1,6 +1,7 @@
-pub mod EnvelopeStep
-pub mod RunSteps
-pub mod Runs
-pub mod SentLemmas
-pub mod StartSteps
-pub mod Starting
+pub mod OrderLemmas
+pub mod SenderLemmas
+pub mod JobLemmas
+pub mod MemberLemmas
+pub mod PlanLemmas
+pub mod ReasonLemmas
+pub mod EndLemmas

@@ -1,8 +1,6 @@
-pub mod Begun
-pub mod Calm
-pub mod Fates
-pub mod Plain
-pub mod Reported
-pub mod Rest
-pub mod Sent
-pub mod Told
+pub mod Orders
+pub mod Given
+pub mod Senders
+pub mod Ready
+pub mod Ran
+pub mod Faults

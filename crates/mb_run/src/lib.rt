@@ -1,12 +1,12 @@
-//! The run of one actor: it is started, its mailbox is run again and again until nothing waits, and what it has come to is
-//! reported.
+//! The run of a scenario: a system is built of its plan and its actors, each sender sends what the scenario says of it, the workers
+//! run the mailboxes until nothing is left to run, and the report tells what all came to.
 #![tactic(auto)]
 
-mod beginning;
-mod mailbox;
-mod reporting;
+mod alone;
+mod fault;
+mod orders;
 mod running;
+mod together;
 
-pub use beginning::{Started, start};
-pub use mailbox::run_mailbox;
-pub use running::{Rules, post_of, run};
+pub use fault::RunFault;
+pub use running::run;

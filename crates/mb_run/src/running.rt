@@ -1,127 +1,92 @@
-ghost use Rattle.std.specs.Prelude.{◌≡◌, ◌+◌, ◌≤◌, [], true, length, IfOk, OnOk, IsErrOf, Err};
-ghost use Rattle.std.specs.List.{list_all};
-ghost use Rattle.mb_status.specs.Mailbox.{should_process};
-ghost use Rattle.mb_actor.specs.Behaviour.{AllowsSame};
-ghost use Rattle.mb_reader.specs.View.{strategy_data};
-ghost use Rattle.mb_journal.specs.Run.{IsBlock};
-ghost use Rattle.mb_run.specs.Begun.{the_actor};
-ghost use Rattle.mb_run.specs.Calm.{IsQuiet};
-ghost use Rattle.mb_run.specs.Rest.{IsAtRest, LosesNothing, world};
-ghost use Rattle.mb_run.specs.Plain.{is_plain_send};
-ghost use Rattle.mb_run.specs.Sent.{bodies, sent_envelope, sent};
-ghost use Rattle.mb_run.specs.Told.{AreRuns, IsRunReport};
+//! The whole run.
+ghost use Rattle.std.specs.Prelude.{◌≡◌, ◌≤◌, ℕ, ◌+◌, IfErr, IfOk, [], length};
+ghost use Rattle.mb_build.specs.Behaved.{AreBehaved};
+ghost use Rattle.mb_gate.specs.Names.{actors_of};
+ghost use Rattle.mb_system.specs.Belonging.{BelongsTogether};
+ghost use Rattle.mb_dispatch.specs.Refused.{IsComplete};
+ghost use Rattle.mb_run.specs.Faults.{IsFaultOf};
+ghost use Rattle.mb_run.specs.Given.{AreSendable, CanRun};
+ghost use Rattle.mb_run.specs.Orders.{orders_of};
+ghost use Rattle.mb_run.specs.Ran.{HasRun};
+ghost use Rattle.mb_run.specs.Ready.{IsEnded, IsReady};
 
-use crate::beginning::{ACTOR, start};
-use crate::mailbox::run_mailbox;
-use crate::reporting::report_on;
+use crate::alone::run_alone;
+use crate::fault::RunFault;
+use crate::together::run_together;
 use mb_actor::{Actor, Behaviours};
-use mb_cell::Cell;
-use mb_journal::{ReadyError, Strategy};
-use mb_msg::{Body, Envelope, SenderId, limits};
-use mb_reader::{Sending, What};
+use mb_dispatch::{BuildError, Built, FinishError, System, finish};
+use mb_plan::Plan;
+use mb_reader::Sending;
 use mb_report::Report;
-use mb_status::Status;
-use std::alloc::{AllocError, Global};
-use std::collections::VecDeque;
+use std::alloc::Global;
+use std::sync::Wait;
+use std::thread::Threads;
 
-/// The number of the one sender.
-const SENDER: SenderId = SenderId(limits::ACTORS);
-
-/// By which rules an actor is run.
-#[derive(Drop)]
-pub struct Rules {
-    /// What it does about children that fail.
-    pub strategy: Strategy,
-    /// How many envelopes one run of its mailbox handles at most; 0 counts as 1.
-    pub throughput: u32,
-    /// How many entries its journal may have.
-    pub journal_limit: u32,
-}
-
-/// Starts an actor, gives it these sends in order, one run of its mailbox after another, until nothing waits, and reports
-/// what it has come to.
+/// Builds a system of a plan from which one can be built, and of its actors, in the order of their numbers from 1 on; has its
+/// senders send; runs it; and ends it: the report. A quiet run is one on the calling thread alone, after all was sent.
 ///
-/// The faults are `NoMemory`, and `JournalFull` once the journal has as many entries as it may have: the sends and the
-/// start are then as many at least.
-pub fn run<A: Actor, K: Behaviours>(
+/// The faults are `NoMemory`, `JournalFull` once the journal of an actor has as many entries as it may have, `NotQuiet` and
+/// `Mismatch`.
+pub fn run<A: Actor + Send, K: Behaviours + Send, R: Threads + Wait + Sync>(
+    rt: &R,
     alloc: Global,
-    actor: A,
-    rules: Rules,
+    plan: Plan,
+    actors: Vec<A>,
     sends: &[Sending],
-) -> Result<Report, ReadyError>
-    requires unused { A.content actor ≡ A.after actor [] }
-    requires behaves { A.after actor ≡ K.after 1 }
-    requires allows { AllowsSame (A.gives actor) (K.gives 1) }
-    requires quiet { IsQuiet (K.gives 1) }
-    requires plain { list_all is_plain_send sends.now ≡ true }
-    ensures told { IfOk result (IsRunReport (K.after 1) (K.gives 0) (K.gives 1)
-        (the_actor (strategy_data rules.strategy) rules.journal_limit) rules.throughput sends.now) }
-    ensures full { result ≡ Err ReadyError.JournalFull → rules.journal_limit ≤ length sends.now + 1 }
+    is_quiet: bool,
+) -> Result<Report, RunFault>
+    requires can_run { CanRun plan (length actors.items) sends.now }
+    requires behaved { AreBehaved A.content A.after A.gives K.after K.gives 1 actors.items }
+    ensures ran { IfOk result (HasRun K.after K.gives plan sends.now) }
+    ensures many { IfOk result (λ report. length report.actors.items ≡ length plan.actors.items + 1) }
+    ensures fault { IfErr result (IsFaultOf (length plan.actors.items + 1)) }
 {
-    let Rules {
-        strategy,
-        throughput,
-        journal_limit,
-    } = rules;
-    let Ok(mut envelopes) = post_of(alloc, sends) else {
-        return Err(ReadyError::NoMemory);
+    let built = match System::<A, K>::build(rt, alloc, plan, actors) {
+        Ok(built) => built,
+        Err(BuildError::BadPlan(_, _, _)) => unreachable!(),
+        Err(BuildError::NoMemory) => return Err(RunFault::NoMemory),
     };
-    let mut started = start::<A, K>(alloc, actor, strategy, journal_limit)?;
-    let status = started.status;
-    run_all(&mut started.cell, status, &mut envelopes, throughput)?;
-    match report_on(alloc, started.guardian, started.cell, sends.len()) {
+    let built = send_and_run(rt, alloc, built, sends, is_quiet)?;
+    report_of(rt, built)
+}
+
+/// Has the senders send, and the ends run what there is to run; all comes back.
+fn send_and_run<A: Actor + Send, K: Behaviours + Send, R: Threads + Wait + Sync>(
+    rt: &R,
+    alloc: Global,
+    built: Built<A, K>,
+    sends: &[Sending],
+    is_quiet: bool,
+) -> Result<Built<A, K>, RunFault>
+    requires ready { IsReady (λ _. []) built }
+    requires few { built.system.senders ≤ 16 }
+    requires sendable { AreSendable built.system.senders (actors_of built.system.gates) sends.now }
+    ensures system { IfOk result (λ after. after.system ≡ built.system) }
+    ensures ready { IfOk result (IsReady (λ number. orders_of number sends.now)) }
+    ensures fault { IfErr result (λ fault. (actors : ℕ) → IsFaultOf actors fault) }
+{
+    if is_quiet {
+        return run_alone(rt, built, sends);
+    }
+    run_together(rt, alloc, built, sends)
+}
+
+/// The report of a system that was run.
+fn report_of<A: Actor, K: Behaviours, R: Wait>(
+    rt: &R,
+    built: Built<A, K>,
+) -> Result<Report, RunFault>
+    requires together { BelongsTogether built }
+    requires complete { IsComplete built }
+    ensures ended { IfOk result (IsEnded K.after K.gives built) }
+    ensures fault { IfErr result (IsFaultOf (actors_of built.system.gates)) }
+{
+    match finish(rt, built) {
         Ok(report) => Ok(report),
-        Err(_) => Err(ReadyError::NoMemory),
-    }
-}
-
-/// Runs the mailbox of an actor that was just started, again and again until nothing waits.
-fn run_all<A: Actor, K: Behaviours>(
-    cell: &mut Cell<A, K>,
-    status: Status,
-    envelopes: &mut VecDeque<Envelope>,
-    throughput: u32,
-) -> Result<(), ReadyError>
-    requires rest { IsAtRest (world cell.old envelopes.old.items) }
-    requires started { IsBlock cell.old.who [] cell.old.journal }
-    requires quiet { IsQuiet (K.gives cell.old.who.this.0) }
-    requires open { should_process status ≡ true }
-    ensures rest { IsAtRest (world cell.new envelopes.new.items) }
-    ensures kept { LosesNothing (world cell.old envelopes.old.items) (world cell.new envelopes.new.items) }
-    ensures none_left { OnOk result (envelopes.new.items ≡ []) }
-    ensures runs { OnOk result (AreRuns cell.old.who throughput cell.new.journal) }
-    ensures full { IsErrOf result ReadyError.JournalFull → cell.new.who.limit ≤ length cell.new.journal }
-{
-    run_mailbox(cell, status, envelopes, throughput)?;
-    while !envelopes.is_empty() {
-        run_mailbox(cell, status, envelopes, throughput)?;
-    }
-    Ok(())
-}
-
-/// What waits for the actor before its first run: an envelope for each send.
-pub fn post_of(alloc: Global, sends: &[Sending]) -> Result<VecDeque<Envelope>, AllocError>
-    requires plain { list_all is_plain_send sends.now ≡ true }
-    ensures { IfOk result (λ envelopes. envelopes.items ≡ sent 0 (bodies sends.now)) }
-{
-    let mut envelopes = VecDeque::with_capacity(alloc, sends.len())?;
-    for (number, send) in sends.iter().enumerate() {
-        let What::Envelope(body) = send.what else {
-            unreachable!();
-        };
-        envelopes.push_back(sent_envelope(number as u64, body))?;
-    }
-    Ok(envelopes)
-}
-
-/// The envelope that the sender sends with this number.
-fn sent_envelope(number: u64, body: Body) -> Envelope
-    ensures { result ≡ sent_envelope number body }
-{
-    Envelope {
-        by: SENDER,
-        number,
-        to: ACTOR,
-        body,
+        Err(FinishError::NotQuiet(id, _)) => Err(RunFault::NotQuiet(id)),
+        Err(FinishError::NoMemory(_)) => Err(RunFault::NoMemory),
+        Err(FinishError::Mismatch(_)) => Err(RunFault::Mismatch),
+        Err(FinishError::MissingEnd(_, _)) => unreachable!(),
+        Err(FinishError::MissingSender(_, _)) => unreachable!(),
     }
 }

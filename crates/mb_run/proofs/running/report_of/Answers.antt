@@ -1,0 +1,1 @@
+use Rattle.mb_run.proofs.running.report_of.Goals as goal

@@ -1,0 +1,1 @@
+use Rattle.mb_run.proofs.running.send_and_run.Goals as goal

@@ -1,0 +1,1 @@
+use Rattle.mb_run.proofs.together.run_together.Goals as goal

@@ -1,0 +1,1 @@
+use Rattle.mb_run.proofs.together.senders_of.Goals as goal

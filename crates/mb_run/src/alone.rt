@@ -1,0 +1,90 @@
+//! A quiet run: all is sent first, in the order of the text, and then run on one thread.
+ghost use Rattle.std.specs.Prelude.{◌≡◌, ℕ, [], IfErr, IfOk, OnOk, length, replicate};
+ghost use Rattle.mb_gate.specs.Names.{actors_of};
+ghost use Rattle.mb_system.specs.Members.{IsSenderOf};
+ghost use Rattle.mb_system.specs.Orders.{HasSent};
+ghost use Rattle.mb_run.specs.Faults.{IsFaultOf};
+ghost use Rattle.mb_run.specs.Given.{AreSendable, IsOrderable};
+ghost use Rattle.mb_run.specs.Orders.{orders_of};
+ghost use Rattle.mb_run.specs.Ready.{IsReady};
+ghost use Rattle.mb_run.specs.Senders.{HaveSentAll};
+
+use crate::fault::{RunFault, of_run};
+use crate::orders::order_of;
+use mb_actor::{Actor, Behaviours};
+use mb_dispatch::{Built, Order, Sender, System};
+use mb_reader::Sending;
+use std::sync::Wait;
+
+/// Sends all, and runs what there is to run; all comes back.
+pub(crate) fn run_alone<A: Actor, K: Behaviours, R: Wait>(
+    rt: &R,
+    built: Built<A, K>,
+    sends: &[Sending],
+) -> Result<Built<A, K>, RunFault>
+    requires ready { IsReady (λ _. []) built }
+    requires sendable { AreSendable built.system.senders (actors_of built.system.gates) sends.now }
+    ensures system { IfOk result (λ after. after.system ≡ built.system) }
+    ensures ready { IfOk result (IsReady (λ number. orders_of number sends.now)) }
+    ensures fault { IfErr result (λ fault. (actors : ℕ) → IsFaultOf actors fault) }
+{
+    let Built {
+        system,
+        mut ends,
+        mut senders,
+    } = built;
+    send_in_turn(rt, &system, &mut senders, sends)?;
+    let Some(first) = ends.first_mut() else {
+        unreachable!()
+    };
+    if let Err(error) = first.run_quietly(rt, &system) {
+        return Err(of_run(error));
+    }
+    Ok(Built {
+        system,
+        ends,
+        senders,
+    })
+}
+
+/// Each send by its sender, in the order of the text.
+fn send_in_turn<A: Actor, K: Behaviours, R: Wait>(
+    rt: &R,
+    system: &System<A, K>,
+    senders: &mut [Sender<A, K>],
+    sends: &[Sending],
+) -> Result<(), RunFault>
+    requires unsent { HaveSentAll system.now.gates (λ _. []) 0 senders.old }
+    requires sendable { AreSendable (length senders.old) (actors_of system.now.gates) sends.now }
+    ensures many { length senders.new ≡ length senders.old }
+    ensures sent { OnOk result (HaveSentAll system.now.gates (λ number. orders_of number sends.now) 0 senders.new) }
+    ensures fault { IfErr result (λ fault. (actors : ℕ) → IsFaultOf actors fault) }
+{
+    for sending in sends {
+        let sender = &mut senders[sending.from as usize];
+        send_often(rt, system, sender, order_of(sending), sending.times)?;
+    }
+    Ok(())
+}
+
+/// Sends this so many times.
+fn send_often<A: Actor, K: Behaviours, R: Wait>(
+    rt: &R,
+    system: &System<A, K>,
+    sender: &mut Sender<A, K>,
+    order: Order,
+    times: u32,
+) -> Result<(), RunFault>
+    requires ours { IsSenderOf system.now.gates sender.old.inner }
+    requires there { IsOrderable (actors_of system.now.gates) order }
+    ensures ours { IsSenderOf system.now.gates sender.new.inner }
+    ensures sent { OnOk result (HasSent (replicate times order) sender.old sender.new) }
+    ensures fault { IfErr result (λ fault. (actors : ℕ) → IsFaultOf actors fault) }
+{
+    for _ in 0..times {
+        if let Err(error) = sender.send_all(rt, system, &[order]) {
+            return Err(of_run(error));
+        }
+    }
+    Ok(())
+}

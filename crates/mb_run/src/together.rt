@@ -1,0 +1,80 @@
+//! A run on threads: each sender has a job, with its sends in the order of the text, beside the workers.
+ghost use Rattle.std.specs.Prelude.{◌≡◌, ◌≤◌, ℕ, [], IfErr, IfOk, length, map};
+ghost use Rattle.mb_gate.specs.Names.{actors_of};
+ghost use Rattle.mb_run.specs.Faults.{IsFaultOf};
+ghost use Rattle.mb_run.specs.Given.{AreSendable};
+ghost use Rattle.mb_run.specs.Orders.{orders_of};
+ghost use Rattle.mb_run.specs.Ready.{IsReady};
+ghost use Rattle.mb_run.specs.Senders.{AreJobs};
+
+use crate::fault::{RunFault, of_run};
+use crate::orders::orders_of;
+use mb_actor::{Actor, Behaviours};
+use mb_dispatch::{Built, Job, Sender};
+use mb_reader::Sending;
+use std::alloc::{AllocError, Global};
+use std::sync::Wait;
+use std::thread::Threads;
+
+/// Runs the workers while the senders send; all comes back.
+pub(crate) fn run_together<A: Actor + Send, K: Behaviours + Send, R: Threads + Wait + Sync>(
+    rt: &R,
+    alloc: Global,
+    built: Built<A, K>,
+    sends: &[Sending],
+) -> Result<Built<A, K>, RunFault>
+    requires ready { IsReady (λ _. []) built }
+    requires few { built.system.senders ≤ 16 }
+    requires sendable { AreSendable built.system.senders (actors_of built.system.gates) sends.now }
+    ensures system { IfOk result (λ after. after.system ≡ built.system) }
+    ensures ready { IfOk result (IsReady (λ number. orders_of number sends.now)) }
+    ensures fault { IfErr result (λ fault. (actors : ℕ) → IsFaultOf actors fault) }
+{
+    let Built {
+        system,
+        mut ends,
+        senders,
+    } = built;
+    let mut jobs = jobs_of(alloc, senders, sends)?;
+    if let Err(error) = system.run(rt, &mut ends, &mut jobs) {
+        return Err(of_run(error));
+    }
+    let senders = senders_of(alloc, jobs)?;
+    Ok(Built {
+        system,
+        ends,
+        senders,
+    })
+}
+
+/// A job for each sender.
+fn jobs_of<A: Actor, K: Behaviours>(
+    alloc: Global,
+    senders: Vec<Sender<A, K>>,
+    sends: &[Sending],
+) -> Result<Vec<Job<A, K>>, AllocError>
+    requires few { length senders.items ≤ 16 }
+    ensures { IfOk result (λ jobs. AreJobs (λ number. orders_of number sends.now) 0 senders.items jobs.items) }
+{
+    let mut jobs = Vec::with_capacity(alloc, senders.len())?;
+    for sender in senders {
+        let sends = orders_of(alloc, jobs.len() as u32, sends)?;
+        jobs.push(Job { sender, sends })?;
+    }
+    Ok(jobs)
+}
+
+/// The senders of these jobs.
+fn senders_of<A: Actor, K: Behaviours>(
+    alloc: Global,
+    jobs: Vec<Job<A, K>>,
+) -> Result<Vec<Sender<A, K>>, AllocError>
+    ensures { IfOk result (λ senders. senders.items ≡ map (λ j. j.sender) jobs.items) }
+{
+    let mut senders = Vec::with_capacity(alloc, jobs.len())?;
+    for job in jobs {
+        let Job { sender, sends: _ } = job;
+        senders.push(sender)?;
+    }
+    Ok(senders)
+}
