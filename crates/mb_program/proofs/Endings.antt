@@ -146,22 +146,11 @@ pub failed_without : (W : Type 0) → (contents : W → Option (List ℕ)) → (
 failed_without W contents result arguments known read_failed old new said_old said_new errors_failed none has =
     subst (λ (n : ℕ). HasFailed W contents result n known read_failed old new said_old said_new errors_failed) (sym none) has
 
-said-itself : (failure : Failure) → IsSaidFor failure failure
+-- where a failure's own line was said, it was said for it
+pub said-itself : (failure : Failure) → IsSaidFor failure failure
 said-itself Os = refl
 said-itself Arguments = refl
 said-itself JournalFull = refl
 said-itself (NotQuiet id) = inl refl
 said-itself Mismatch = refl
 said-itself (Input fault) = inl refl
-
--- where a failure's own line was said, with its status
-pub refused-as : (W : Type 0) → (contents : W → Option (List ℕ)) → (failure said : Failure) (status : ℕ) (old : Option (List ℕ))
-    (then new : Watching W) (line : List ℕ) → new ≡ then → failure ≡ said → line ≡ error_line said → status ≡ exit_status failure
-    → IsLineSaid old (contents then.stream) then.failed line → IsRefusal failure status old (contents new.stream) new.failed
-refused-as W contents failure said status old then new line still same line_is status_is is_said = (
-  failure,
-  said-itself failure,
-  status_is,
-  subst (λ (w : Watching W). IsLineSaid old (contents w.stream) w.failed (error_line failure)) (sym still)
-      (subst (λ (l : List ℕ). IsLineSaid old (contents then.stream) then.failed l) (line_is ∙ ap error_line (sym same)) is_said),
-)

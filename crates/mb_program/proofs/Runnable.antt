@@ -33,6 +33,7 @@ use Rattle.mb_run.specs.declared.fault.RunFault.{RunFault}
 use Rattle.mb_run.specs.declared.fault.RunFault.TheVariants.{NoMemory, JournalFull, NotQuiet, Mismatch}
 use Rattle.mb_program.specs.Answer.{IsRefused}
 use Rattle.mb_program.specs.Failure.{failure_of_run}
+use Rattle.mb_program.specs.Scripts.{gives_at}
 use Rattle.mb_program.proofs.Passed.{AreActorData, IsActorData, IsBoundData, IsPassed, IsReceived, IsSendData, length-items, passed, senders-right}
 
 -- ---- no reason against the plan
@@ -155,9 +156,8 @@ as-many-names text scenario plan names read planned named =
 
 -- a fault of the run of a scenario that was read is why there is no report of it
 pub refused-run : (text : List ℕ) (scenario : ScenarioData) (plan : Plan) (fault : RunFault) → IsReadAs text scenario
-    → plan_data plan ≡ scenario.plan → IsFaultOf (length plan.actors.items + 1) fault → IsRefused text (failure_of_run fault)
+    → plan_data plan ≡ scenario.plan → IsFaultOf (gives_at scenario.scripts) plan fault → IsRefused text (failure_of_run fault)
 refused-run text scenario plan NoMemory read planned is = tt
-refused-run text scenario plan JournalFull read planned is = (scenario, read, omega arith)
-refused-run text scenario plan (NotQuiet id) read planned is =
-    let many = as-many-names text scenario plan scenario.names read planned refl in (scenario, read, omega (arith, is, many))
-refused-run text scenario plan Mismatch read planned is = (scenario, read, omega arith)
+refused-run text scenario plan JournalFull read planned is = (scenario, read, record { plan = plan; planned = planned; fault_of = is })
+refused-run text scenario plan (NotQuiet id) read planned is = (scenario, read, record { plan = plan; planned = planned; fault_of = is })
+refused-run text scenario plan Mismatch read planned is = (scenario, read, record { plan = plan; planned = planned; fault_of = is })

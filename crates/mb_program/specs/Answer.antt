@@ -6,8 +6,10 @@ use Rattle.mb_reader.specs.Reading.{IsReadAs, Refuses}
 use Rattle.mb_reader.specs.declared.fault.Fault.TheVariants.{NoMemory, NotToml, BadScenario}
 use Rattle.mb_report.specs.Lines.{report_text_of}
 use Rattle.mb_report.specs.declared.report.Report.{Report}
+use Rattle.mb_run.specs.declared.fault.RunFault.{RunFault}
+use Rattle.mb_run.specs.declared.fault.RunFault.TheVariants as run
 use Rattle.mb_program.specs.Failure.{exit_status}
-use Rattle.mb_program.specs.Ran.{IsOfScenario}
+use Rattle.mb_program.specs.Ran.{EndsIn, IsOfScenario}
 use Rattle.mb_program.specs.Watching.{Watching}
 use Rattle.mb_program.specs.Written.{AppendsBeginning}
 use Rattle.mb_program.specs.declared.failure.Failure.{Failure}
@@ -35,18 +37,17 @@ pub record TellsOfARun (scenario : ScenarioData) (bytes : List ℕ) : Type 0 whe
 abbrev pub IsReport : List ℕ → List ℕ → Type 0
 IsReport text report = (scenario : ScenarioData) × IsReadAs text scenario × TellsOfARun scenario report
 
--- the text is a scenario with more actors than this number, the guardian among them
-abbrev pub IsOfMore : ℕ → List ℕ → Type 0
-IsOfMore number text = (scenario : ScenarioData) × IsReadAs text scenario × (number ≤ length scenario.names)
+-- the text is a scenario, and a run of it came to this fault
+abbrev pub HasNoReport : List ℕ → RunFault → Type 0
+HasNoReport text fault = (scenario : ScenarioData) × IsReadAs text scenario × EndsIn scenario fault
 
--- this is why there is no report of the text: it is none of a scenario; or it is, and its run failed, where nothing more can be said than that an
--- actor which has something to run still is one of the scenario's. Of want of memory nothing can be said
+-- this is why there is no report of the text: it is none of a scenario; or it is, and its run failed. Of want of memory nothing can be said
 abbrev pub IsRefused : List ℕ → Failure → Type 0
 IsRefused text Os = ⊥
 IsRefused text Arguments = ⊥
-IsRefused text JournalFull = IsOfMore 0 text
-IsRefused text (NotQuiet id) = IsOfMore id.0 text
-IsRefused text Mismatch = IsOfMore 0 text
+IsRefused text JournalFull = HasNoReport text run.JournalFull
+IsRefused text (NotQuiet id) = HasNoReport text (run.NotQuiet id)
+IsRefused text Mismatch = HasNoReport text run.Mismatch
 IsRefused text (Input fault) = Refuses text fault
 
 -- the text is at fault: it is no scenario, and this is why

@@ -2,6 +2,8 @@ ghost use Rattle.std.specs.Prelude.{◌≡◌, ◌≢◌, ◌<◌, ◌≤◌, �
 ghost use Rattle.mb_program.specs.Answer.{most_read, HasReported, IsAnswer, IsAtFault, IsCutShort, IsLineSaid, IsMet, IsSaidFor, TakesAtMost};
 ghost use Rattle.mb_program.specs.Failure.{error_line, exit_status};
 ghost use Rattle.mb_program.specs.declared.failure.Failure.{Failure};
+ghost use Rattle.mb_program.specs.declared.failure.Failure.TheVariants.{Input};
+ghost use Rattle.mb_reader.specs.declared.fault.Fault.TheVariants.{NoMemory};
 
 use crate::answer::answer;
 use crate::failure::Failure;
@@ -121,26 +123,23 @@ fn refuse<E: Write>(alloc: Global, errors: &mut Watched<E>, failure: &Failure) -
         × IsLineSaid (E.contents errors.old.stream) (E.contents errors.new.stream) errors.new.failed (error_line said) }
 {
     match failure {
-        Failure::Os => say(errors, "mailrun: 2 Os\n"),
-        Failure::Arguments => say(errors, "mailrun: 12 BadScenario arguments: too many\n"),
-        Failure::JournalFull => say(errors, "mailrun: 6 JournalFull\n"),
-        Failure::Mismatch => say(errors, "mailrun: 10 Mismatch\n"),
+        Failure::Os => say(errors, failure, "mailrun: 2 Os\n"),
+        Failure::Arguments => say(
+            errors,
+            failure,
+            "mailrun: 12 BadScenario arguments: too many\n",
+        ),
+        Failure::JournalFull => say(errors, failure, "mailrun: 6 JournalFull\n"),
+        Failure::Mismatch => say(errors, failure, "mailrun: 10 Mismatch\n"),
         Failure::NotQuiet(id) => match not_quiet_line(alloc, *id) {
-            Ok(line) => say(errors, line.as_str()),
-            Err(_) => {
-                say(errors, "mailrun: 1 NoMemory\n");
-                return 1;
-            }
+            Ok(line) => say(errors, failure, line.as_str()),
+            Err(_) => say_no_memory(errors),
         },
         Failure::Input(fault) => match fault_line(alloc, fault) {
-            Ok(line) => say(errors, line.as_str()),
-            Err(_) => {
-                say(errors, "mailrun: 1 NoMemory\n");
-                return 1;
-            }
+            Ok(line) => say(errors, failure, line.as_str()),
+            Err(_) => say_no_memory(errors),
         },
     }
-    failure.status()
 }
 
 /// The line of an actor that has something to run still.
@@ -158,10 +157,26 @@ fn fault_line(alloc: Global, fault: &Fault) -> Result<String, AllocError>
     format!(in alloc; "mailrun: {fault}\n")
 }
 
-/// Says the line, as far as it can be written.
-fn say<E: Write>(errors: &mut Watched<E>, line: &str)
+/// Says that memory was refused, which needs none.
+fn say_no_memory<E: Write>(errors: &mut Watched<E>) -> u8
     requires errors { errors.old.failed ≡ false }
-    ensures { IsLineSaid (E.contents errors.old.stream) (E.contents errors.new.stream) errors.new.failed line.now }
+    ensures { (result ≡ exit_status (Input NoMemory))
+        × IsLineSaid (E.contents errors.old.stream) (E.contents errors.new.stream) errors.new.failed (error_line (Input NoMemory)) }
+{
+    say(
+        errors,
+        &Failure::Input(Fault::NoMemory),
+        "mailrun: 1 NoMemory\n",
+    )
+}
+
+/// Says the line of a failure, as far as it can be written, and answers the exit status.
+fn say<E: Write>(errors: &mut Watched<E>, failure: &Failure, line: &str) -> u8
+    requires errors { errors.old.failed ≡ false }
+    requires line { line.now ≡ error_line failure.now }
+    ensures { (result ≡ exit_status failure.now)
+        × IsLineSaid (E.contents errors.old.stream) (E.contents errors.new.stream) errors.new.failed (error_line failure.now) }
 {
     let _ = errors.send(line.as_bytes());
+    failure.status()
 }

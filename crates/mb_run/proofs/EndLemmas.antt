@@ -1,7 +1,8 @@
 -- What a run came to, once its system has ended.
-use Rattle.std.proofs.Common.{◌≡◌, ℕ, ◌+◌, ◌-◌, ◌<◌, ℤ, List, [], ◌∷◌, ◌++◌, length, reverse, refl, sym, ap, ◌∙◌, subst, arith, Some}
+use Rattle.std.proofs.Common.{◌≡◌, ℕ, ◌+◌, ◌-◌, ◌<◌, ℤ, List, [], ◌∷◌, ◌++◌, length, map, reverse, refl, sym, ap, ◌∙◌, subst, arith, Some}
 use Rattle.std.specs.Prelude.{All, slice_get}
-use Rattle.std.proofs.lemmas.List.{length-map}
+use Rattle.std.proofs.lemmas.List.{append-nil, length-map}
+use Rattle.std.proofs.lemmas.List.Elements.{All-map}
 use Rattle.std.proofs.lemmas.Option.{same_Some}
 use Rattle.mb_msg.specs.Limits.{most_actors}
 use Rattle.mb_actor.specs.Behaviour.{Moment, Reply}
@@ -9,60 +10,76 @@ use Rattle.mb_actor.specs.declared.message.Message.{Message}
 use Rattle.mb_fates.specs.Accepted.{accepted}
 use Rattle.mb_fates.specs.declared.posting.Posting.{Posting}
 use Rattle.mb_gate.specs.Names.{first_of, known_by}
+use Rattle.mb_gate.specs.Rule.{IsPart}
+use Rattle.mb_gate.specs.View.{Sight}
 use Rattle.mb_home.specs.Roll.{Enrolled}
 use Rattle.mb_build.proofs.HouseLemmas.{length-who}
 use Rattle.mb_plan.specs.declared.plan.Plan.{Plan}
 use Rattle.mb_reader.specs.declared.scenario.Sending.{Sending}
 use Rattle.mb_reckon.specs.Seen.{GoesOnFromAll}
-use Rattle.mb_reckon.proofs.Lists.{at-place, there, within}
+use Rattle.mb_reckon.proofs.Lists.{at-place, length-mapped, there, within}
 use Rattle.mb_report.specs.declared.report.Report.{Report}
-use Rattle.mb_system.specs.Orders.{addressed, said_to, told_by}
+use Rattle.mb_system.specs.Orders.{addressed, said_to, stopped_by}
 use Rattle.mb_system.specs.declared.built.Built.{Built}
+use Rattle.mb_system.specs.declared.end.WorkerEnd.{WorkerEnd}
 use Rattle.mb_system.specs.declared.sender.Sender.{Sender}
 use Rattle.mb_run.specs.Orders.{orders_of}
-use Rattle.mb_run.specs.Ran.{HasRun, HasSpoken, IsRollOf}
+use Rattle.mb_run.specs.Ran.{HasRun, HasSpoken, IsRollOf, IsSeenIn}
 use Rattle.mb_run.specs.Ready.{IsEnded, IsReady}
 use Rattle.mb_run.specs.Senders.{HasSentAll}
+use Rattle.mb_run.proofs.MemberLemmas.{many-ends}
 use Rattle.mb_run.proofs.SenderLemmas.{sender-here}
 
 module _ {A K : Type 0} (after : ℕ → List Message → ℤ) (gives : ℕ → Moment → Reply → Type 0) (plan : Plan) (sends : List Sending)
     (built : Built A K) (report : Report) where
-  spoken : (number : ℕ) (s : Sender A K) → HasSentAll built.system.gates number (orders_of number sends) s
-      → GoesOnFromAll report (known_by s.inner.waker.pass) → HasSpoken sends report number s.inner.book.posted
-  spoken number s all seen = record {
+  -- what one sender was answered, and said
+  spoken : (log : List Sight) (number : ℕ) (s : Sender A K) → HasSentAll built.system.gates number (orders_of number sends) s
+      → IsPart (known_by s.inner.waker.pass).log log → GoesOnFromAll report (known_by s.inner.waker.pass)
+      → HasSpoken sends log report number s.inner.book.posted
+  spoken log number s all part goes_on = record {
     told = ap (λ l. addressed (accepted l)) (all.sent.posted ∙ ap (λ l. l ++ all.sent.more) all.unused) ∙ all.sent.accepted_are;
     view = known_by s.inner.waker.pass;
-    before = said_to (known_by all.first.inner.waker.pass).said;
-    said = all.sent.said;
-    seen = seen;
+    said = all.sent.said ∙ ap (λ l. reverse (stopped_by (orders_of number sends)) ++ said_to l) all.silent
+        ∙ append-nil (reverse (stopped_by (orders_of number sends)));
+    among = (part, goes_on);
   }
 
+  spoken-at : IsReady (λ number. orders_of number sends) built → (ended : IsEnded after gives built report) → (number : ℕ) (postings : List Posting)
+      → slice_get ended.answers number ≡ Some postings → HasSpoken sends ended.log report number postings
+  spoken-at ready ended number postings is =
+      let lt = within ended.answers number postings is in
+      let count = ended.answered.length_is in let many = ready.many in
+      let found = there built.senders.items number (omega (arith, lt, count, many)) in
+      let s = found.0 in
+      let all : HasSentAll built.system.gates number (orders_of number sends) s =
+      sender-here built.system.gates (λ n. orders_of n sends) built.senders.items number s ready.senders found.1 in
+      let by = all.by in
+      let place : s.inner.book.by.0 - most_actors ≡ number = omega (arith, by) in
+      let answered = at-place (λ (s : Sender A K). slice_get ended.answers (s.inner.book.by.0 - most_actors) ≡ Some s.inner.book.posted)
+      built.senders.items number s ended.answered.each found.1 in
+      let same : s.inner.book.posted ≡ postings = same_Some s.inner.book.posted postings
+      (sym answered ∙ ap (slice_get ended.answers) place ∙ is) in
+      subst (HasSpoken sends ended.log report number) same
+      (spoken ended.log number s all
+      (at-place (λ (s : Sender A K). IsPart (known_by s.inner.waker.pass).log ended.log) built.senders.items number s ended.all_seen.1 found.1)
+      (at-place (λ (s : Sender A K). GoesOnFromAll report (known_by s.inner.waker.pass)) built.senders.items number s ended.goes_on.1 found.1))
+
   pub has-run : IsReady (λ number. orders_of number sends) built → IsRollOf plan (first_of built.system.gates).value.roll
-      → built.system.senders ≡ plan.senders → IsEnded after gives built report → HasRun after gives plan sends report
-  has-run ready planned senders ended = record {
-    roll = (first_of built.system.gates).value.roll;
-    planned = planned;
-    log = ended.log;
-    outside = ended.answers;
-    many = ended.answered.length_is ∙ senders;
-    whole = ended.whole;
-    sent = λ number postings is.
-        (let lt = within ended.answers number postings is in
-        let count = ended.answered.length_is in let many = ready.many in
-        let found = there built.senders.items number (omega (arith, lt, count, many)) in
-        let s = found.0 in
-        let all : HasSentAll built.system.gates number (orders_of number sends) s =
-        sender-here built.system.gates (λ n. orders_of n sends) built.senders.items number s ready.senders found.1 in
-        let by = all.by in
-        let place : s.inner.book.by.0 - most_actors ≡ number = omega (arith, by) in
-        let answered = at-place (λ (s : Sender A K). slice_get ended.answers (s.inner.book.by.0 - most_actors) ≡ Some s.inner.book.posted)
-        built.senders.items number s ended.answered.each found.1 in
-        let same : s.inner.book.posted ≡ postings = same_Some s.inner.book.posted postings
-        (sym answered ∙ ap (slice_get ended.answers) place ∙ is) in
-        subst (HasSpoken sends report number) same
-        (spoken number s all
-        (at-place (λ (s : Sender A K). GoesOnFromAll report (known_by s.inner.waker.pass)) built.senders.items number s ended.goes_on found.1)));
-  }
+      → built.system.senders ≡ plan.senders → built.system.workers ≡ plan.workers → IsEnded after gives built report
+      → HasRun after gives plan sends report
+  has-run ready planned senders workers ended =
+      let knew = λ (e : WorkerEnd A K). known_by e.waker.pass in record {
+        roll = (first_of built.system.gates).value.roll;
+        planned = planned;
+        log = ended.log;
+        outside = ended.answers;
+        many = ended.answered.length_is ∙ senders;
+        whole = ended.whole;
+        sent = spoken-at ready ended;
+        ends = map knew built.ends.items;
+        all_ends = length-mapped knew built.ends.items ∙ many-ends (λ number. orders_of number sends) built ready ∙ workers;
+        seen = All-map (IsSeenIn ended.log report) knew built.ends.items (λ k d lt. (ended.all_seen.0 k d lt, ended.goes_on.0 k d lt));
+      }
 
   -- the report has a line for each actor of the plan, and the guardian's
   pub as-many-lines : HasRun after gives plan sends report → length report.actors.items ≡ length plan.actors.items + 1

@@ -4,4 +4,6 @@ pub mod JobLemmas
 pub mod MemberLemmas
 pub mod PlanLemmas
 pub mod ReasonLemmas
+pub mod FaultLemmas
+pub mod FullLemmas
 pub mod EndLemmas

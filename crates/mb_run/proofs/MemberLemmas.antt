@@ -9,7 +9,7 @@ use Rattle.mb_build.specs.Numbers.{numbers}
 use Rattle.mb_build.proofs.NumberLemmas.{two-runs}
 use Rattle.mb_gate.specs.declared.gates.Gates.{Gates}
 use Rattle.mb_home.specs.Contents.{Contents}
-use Rattle.mb_system.specs.Begun.{AreNewEnds}
+use Rattle.mb_reckon.proofs.Lists.{length-mapped}
 use Rattle.mb_system.specs.Belonging.{BelongsTogether, senders_numbers}
 use Rattle.mb_system.specs.Members.{IsSenderOf, ends_numbers}
 use Rattle.mb_system.specs.declared.built.Built.{Built}
@@ -41,13 +41,7 @@ pub different : (count : ℕ) → AllPairs (λ (a b : ℕ). a ≢ b) (numbers 0 
 different count = subst (AllPairs (λ (a b : ℕ). a ≢ b)) (append-nil (numbers 0 count)) (two-runs 0 count count 0 (omega arith))
 
 module _ {A K : Type 0} where
-  -- new ends have their numbers in order
-  pub new-ends : (gates : Gates (Box Contents)) (number : ℕ) (ends : List (WorkerEnd A K)) → AreNewEnds gates number ends
-      → ends_numbers ends ≡ numbers number (length ends)
-  new-ends gates number [] are = refl
-  new-ends gates number (e ∷ ends) are = λ i. are.0.number_is i ∷ new-ends gates (number + 1) ends are.1 i
-
-  -- and so have senders
+  -- senders have their numbers in order
   numbers-of : (gates : Gates (Box Contents)) (orders : ℕ → List Order) (number : ℕ) (senders : List (Sender A K))
       → HaveSentAll gates orders number senders → senders_numbers senders ≡ numbers number (length senders)
   numbers-of gates orders number [] all = refl
@@ -84,13 +78,11 @@ module _ {A K : Type 0} where
         (numbers-of built.system.gates orders 0 built.senders.items ready.senders ∙ ap (numbers 0) ready.many),
   )
 
-  -- there is an end
-  pub some-end : (orders : ℕ → List Order) (built : Built A K) → IsReady orders built → built.ends.items ≡ [] → ⊥
-  some-end orders built ready none =
-      let worked = ready.worked in
-      let no_numbers : numbers 0 built.system.workers ≡ [] = sym ready.numbered ∙ ap ends_numbers none in
-      some built.system.workers worked no_numbers
-    where
-      some : (n : ℕ) → 0 < n → numbers 0 n ≡ [] → ⊥
-      some zero lt none = omega (arith, lt)
-      some (suc n) lt none = absurd (cc)
+  -- there are as many ends as workers; so there is one
+  pub many-ends : (orders : ℕ → List Order) (built : Built A K) → IsReady orders built → length built.ends.items ≡ built.system.workers
+  many-ends orders built ready =
+      sym (length-mapped (λ (e : WorkerEnd A K). e.number) built.ends.items) ∙ ap length ready.numbered ∙ length-numbers 0 built.system.workers
+
+  pub some-end : (orders : ℕ → List Order) (built : Built A K) → IsReady orders built → 0 < length built.ends.items
+  some-end orders built ready =
+      let some = built.system.some in let many = many-ends orders built ready in omega (arith, some, many)

@@ -1,11 +1,12 @@
 -- What senders have sent, one after another.
 use Rattle.std.proofs.Common.{◌≡◌, ◌⊎◌, inl, inr, ℕ, zero, suc, ◌+◌, ◌<◌, ◌≤◌, ◌==◌, Bool, true, false, cond, List, [], ◌∷◌, ◌++◌, length, refl, sym, ap, ◌∙◌, subst, arith, Some}
 use Rattle.std.proofs.Common.{replicate, get_or, set, take, zero-add}
-use Rattle.std.specs.Prelude.{All, slice_get}
+use Rattle.std.specs.Prelude.{All, pos, slice_get}
 use Rattle.std.specs.Global.{Box}
 use Rattle.std.proofs.lemmas.List.{append-nil, replicate_more}
 use Rattle.std.proofs.lemmas.List.Elements.{All-cons, All-nil}
 use Rattle.std.proofs.lemmas.Option.{none-some, same_Some, slice_get-get_or}
+use Rattle.mb_msg.specs.declared.envelope.Body.TheVariants.{User}
 use Rattle.mb_gate.specs.declared.gates.Gates.{Gates}
 use Rattle.mb_home.specs.Contents.{Contents}
 use Rattle.mb_system.specs.Members.{IsSenderOf}
@@ -14,9 +15,14 @@ use Rattle.mb_system.specs.declared.order.Order.{Order}
 use Rattle.mb_system.specs.declared.sender.Sender.{Sender}
 use Rattle.mb_system.proofs.Sending.{sent-none, sent-then}
 use Rattle.mb_reader.specs.declared.scenario.Sending.{Sending as Planned}
+use Rattle.mb_reader.specs.declared.scenario.What.TheVariants.{Envelope}
 use Rattle.mb_run.specs.Orders.{order_of, orders_of}
 use Rattle.mb_run.specs.Senders.{HasSentAll, HaveSentAll}
 use Rattle.mb_run.proofs.OrderLemmas.{each_time, orders-next, orders-other, orders-own}
+
+-- a send of nothing, which stands where a list has none
+abbrev pub no-sending : Planned
+no-sending = record { from = 0; to = record { 0 = 0 }; what = Envelope (User 0 (pos 0)); times = 0 }
 
 module _ {A K : Type 0} where
   -- one more of the same was sent
@@ -34,6 +40,7 @@ module _ {A K : Type 0} where
       by = ap (λ b. b.0) more.by ∙ all.by;
       first = all.first;
       unused = all.unused;
+      silent = all.silent;
       sent = sent-then xs ys all.first s t all.sent more;
     }
 

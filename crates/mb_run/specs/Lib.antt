@@ -4,3 +4,4 @@ pub mod Senders
 pub mod Ready
 pub mod Ran
 pub mod Faults
+pub mod Broken

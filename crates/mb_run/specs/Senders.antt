@@ -2,6 +2,7 @@
 use Rattle.std.specs.Prelude.{◌≡◌, ℕ, ◌+◌, List, [], ◌∷◌}
 use Rattle.std.specs.Global.{Box}
 use Rattle.mb_msg.specs.Limits.{most_actors}
+use Rattle.mb_gate.specs.Names.{known_by}
 use Rattle.mb_gate.specs.declared.gates.Gates.{Gates}
 use Rattle.mb_home.specs.Contents.{Contents}
 use Rattle.mb_system.specs.Members.{IsSenderOf}
@@ -11,12 +12,13 @@ use Rattle.mb_system.specs.declared.order.Order.{Order}
 use Rattle.mb_system.specs.declared.sender.Sender.{Sender}
 
 module _ {A K : Type 0} (gates : Gates (Box Contents)) where
-  -- the sender of this number, counted from 0, was answered for nothing at first, and sent these since
+  -- the sender of this number, counted from 0, was answered for nothing and had said nothing at first, and sent these since
   pub record HasSentAll (number : ℕ) (orders : List Order) (s : Sender A K) : Type 0 where
     pub ours : IsSenderOf gates s.inner
     pub by : s.inner.book.by.0 ≡ most_actors + number
     pub first : Sender A K
     pub unused : first.inner.book.posted ≡ []
+    pub silent : (known_by first.inner.waker.pass).said ≡ []
     pub sent : HasSent orders first s
 
   -- so did each of these, which are numbered on from this one

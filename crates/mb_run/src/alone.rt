@@ -1,13 +1,14 @@
 //! A quiet run: all is sent first, in the order of the text, and then run on one thread.
-ghost use Rattle.std.specs.Prelude.{◌≡◌, ℕ, [], IfErr, IfOk, OnOk, length, replicate};
+ghost use Rattle.std.specs.Prelude.{◌≡◌, [], IfErr, IfOk, OnOk, length, replicate};
 ghost use Rattle.mb_gate.specs.Names.{actors_of};
 ghost use Rattle.mb_system.specs.Members.{IsSenderOf};
 ghost use Rattle.mb_system.specs.Orders.{HasSent};
-ghost use Rattle.mb_run.specs.Faults.{IsFaultOf};
+ghost use Rattle.mb_run.specs.Broken.{IsBrokenOff};
 ghost use Rattle.mb_run.specs.Given.{AreSendable, IsOrderable};
 ghost use Rattle.mb_run.specs.Orders.{orders_of};
 ghost use Rattle.mb_run.specs.Ready.{IsReady};
 ghost use Rattle.mb_run.specs.Senders.{HaveSentAll};
+ghost use Rattle.mb_run.specs.declared.fault.RunFault.TheVariants.{NoMemory};
 
 use crate::fault::{RunFault, of_run};
 use crate::orders::order_of;
@@ -26,7 +27,7 @@ pub(crate) fn run_alone<A: Actor, K: Behaviours, R: Wait>(
     requires sendable { AreSendable built.system.senders (actors_of built.system.gates) sends.now }
     ensures system { IfOk result (λ after. after.system ≡ built.system) }
     ensures ready { IfOk result (IsReady (λ number. orders_of number sends.now)) }
-    ensures fault { IfErr result (λ fault. (actors : ℕ) → IsFaultOf actors fault) }
+    ensures fault { IfErr result (IsBrokenOff K.gives built.system) }
 {
     let Built {
         system,
@@ -58,7 +59,7 @@ fn send_in_turn<A: Actor, K: Behaviours, R: Wait>(
     requires sendable { AreSendable (length senders.old) (actors_of system.now.gates) sends.now }
     ensures many { length senders.new ≡ length senders.old }
     ensures sent { OnOk result (HaveSentAll system.now.gates (λ number. orders_of number sends.now) 0 senders.new) }
-    ensures fault { IfErr result (λ fault. (actors : ℕ) → IsFaultOf actors fault) }
+    ensures fault { IfErr result (λ fault. fault ≡ NoMemory) }
 {
     for sending in sends {
         let sender = &mut senders[sending.from as usize];
@@ -79,7 +80,7 @@ fn send_often<A: Actor, K: Behaviours, R: Wait>(
     requires there { IsOrderable (actors_of system.now.gates) order }
     ensures ours { IsSenderOf system.now.gates sender.new.inner }
     ensures sent { OnOk result (HasSent (replicate times order) sender.old sender.new) }
-    ensures fault { IfErr result (λ fault. (actors : ℕ) → IsFaultOf actors fault) }
+    ensures fault { IfErr result (λ fault. fault ≡ NoMemory) }
 {
     for _ in 0..times {
         if let Err(error) = sender.send_all(rt, system, &[order]) {

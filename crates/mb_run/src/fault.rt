@@ -1,7 +1,7 @@
 //! Why a run gave no report.
-ghost use Rattle.std.specs.Prelude.{◌≡◌, ℕ};
+ghost use Rattle.std.specs.Prelude.{◌≡◌, ◌≢◌};
 ghost use Rattle.mb_system.specs.declared.failure.RunError.TheVariants as Fault;
-ghost use Rattle.mb_run.specs.Faults.{IsFaultOf};
+ghost use Rattle.mb_run.specs.Broken.{IsToldOf};
 
 use mb_dispatch::RunError;
 use mb_msg::ActorId;
@@ -32,8 +32,8 @@ impl From<AllocError> for RunFault {
 
 /// Why a run was broken off whose orders name actors that there are.
 pub(crate) fn of_run(error: RunError) -> RunFault
-    requires there { error ≡ Fault.NoSuchActor → ⊥ }
-    ensures { (actors : ℕ) → IsFaultOf actors result }
+    requires there { error ≢ Fault.NoSuchActor }
+    ensures { IsToldOf error result }
 {
     match error {
         RunError::NoMemory => RunFault::NoMemory,

@@ -1,9 +1,10 @@
 //! The whole run.
-ghost use Rattle.std.specs.Prelude.{◌≡◌, ◌≤◌, ℕ, ◌+◌, IfErr, IfOk, [], length};
+ghost use Rattle.std.specs.Prelude.{◌≡◌, ◌≤◌, ◌+◌, IfErr, IfOk, [], length};
 ghost use Rattle.mb_build.specs.Behaved.{AreBehaved};
 ghost use Rattle.mb_gate.specs.Names.{actors_of};
 ghost use Rattle.mb_system.specs.Belonging.{BelongsTogether};
 ghost use Rattle.mb_dispatch.specs.Refused.{IsComplete};
+ghost use Rattle.mb_run.specs.Broken.{IsBrokenOff, IsUnended};
 ghost use Rattle.mb_run.specs.Faults.{IsFaultOf};
 ghost use Rattle.mb_run.specs.Given.{AreSendable, CanRun};
 ghost use Rattle.mb_run.specs.Orders.{orders_of};
@@ -39,7 +40,7 @@ pub fn run<A: Actor + Send, K: Behaviours + Send, R: Threads + Wait + Sync>(
     requires behaved { AreBehaved A.content A.after A.gives K.after K.gives 1 actors.items }
     ensures ran { IfOk result (HasRun K.after K.gives plan sends.now) }
     ensures many { IfOk result (λ report. length report.actors.items ≡ length plan.actors.items + 1) }
-    ensures fault { IfErr result (IsFaultOf (length plan.actors.items + 1)) }
+    ensures fault { IfErr result (IsFaultOf K.gives plan) }
 {
     let built = match System::<A, K>::build(rt, alloc, plan, actors) {
         Ok(built) => built,
@@ -63,7 +64,7 @@ fn send_and_run<A: Actor + Send, K: Behaviours + Send, R: Threads + Wait + Sync>
     requires sendable { AreSendable built.system.senders (actors_of built.system.gates) sends.now }
     ensures system { IfOk result (λ after. after.system ≡ built.system) }
     ensures ready { IfOk result (IsReady (λ number. orders_of number sends.now)) }
-    ensures fault { IfErr result (λ fault. (actors : ℕ) → IsFaultOf actors fault) }
+    ensures fault { IfErr result (IsBrokenOff K.gives built.system) }
 {
     if is_quiet {
         return run_alone(rt, built, sends);
@@ -79,7 +80,7 @@ fn report_of<A: Actor, K: Behaviours, R: Wait>(
     requires together { BelongsTogether built }
     requires complete { IsComplete built }
     ensures ended { IfOk result (IsEnded K.after K.gives built) }
-    ensures fault { IfErr result (IsFaultOf (actors_of built.system.gates)) }
+    ensures fault { IfErr result (IsUnended (actors_of built.system.gates)) }
 {
     match finish(rt, built) {
         Ok(report) => Ok(report),

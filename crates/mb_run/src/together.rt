@@ -1,7 +1,7 @@
 //! A run on threads: each sender has a job, with its sends in the order of the text, beside the workers.
-ghost use Rattle.std.specs.Prelude.{◌≡◌, ◌≤◌, ℕ, [], IfErr, IfOk, length, map};
+ghost use Rattle.std.specs.Prelude.{◌≡◌, ◌≤◌, [], IfErr, IfOk, length, map};
 ghost use Rattle.mb_gate.specs.Names.{actors_of};
-ghost use Rattle.mb_run.specs.Faults.{IsFaultOf};
+ghost use Rattle.mb_run.specs.Broken.{IsBrokenOff};
 ghost use Rattle.mb_run.specs.Given.{AreSendable};
 ghost use Rattle.mb_run.specs.Orders.{orders_of};
 ghost use Rattle.mb_run.specs.Ready.{IsReady};
@@ -28,7 +28,7 @@ pub(crate) fn run_together<A: Actor + Send, K: Behaviours + Send, R: Threads + W
     requires sendable { AreSendable built.system.senders (actors_of built.system.gates) sends.now }
     ensures system { IfOk result (λ after. after.system ≡ built.system) }
     ensures ready { IfOk result (IsReady (λ number. orders_of number sends.now)) }
-    ensures fault { IfErr result (λ fault. (actors : ℕ) → IsFaultOf actors fault) }
+    ensures fault { IfErr result (IsBrokenOff K.gives built.system) }
 {
     let Built {
         system,
