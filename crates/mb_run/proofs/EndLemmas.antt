@@ -1,6 +1,6 @@
 -- What a run came to, once its system has ended.
 use Rattle.std.proofs.Common.{◌≡◌, ℕ, ◌+◌, ◌-◌, ◌<◌, ℤ, List, [], ◌∷◌, ◌++◌, length, map, reverse, refl, sym, ap, ◌∙◌, subst, arith, Some}
-use Rattle.std.specs.Prelude.{All, slice_get}
+use Rattle.std.specs.Prelude.{All, Err, IfErr, IfOk, Ok, Result, slice_get}
 use Rattle.std.proofs.lemmas.List.{append-nil, length-map}
 use Rattle.std.proofs.lemmas.List.Elements.{All-map}
 use Rattle.std.proofs.lemmas.Option.{same_Some}
@@ -9,7 +9,7 @@ use Rattle.mb_actor.specs.Behaviour.{Moment, Reply}
 use Rattle.mb_actor.specs.declared.message.Message.{Message}
 use Rattle.mb_fates.specs.Accepted.{accepted}
 use Rattle.mb_fates.specs.declared.posting.Posting.{Posting}
-use Rattle.mb_gate.specs.Names.{first_of, known_by}
+use Rattle.mb_gate.specs.Names.{actors_of, first_of, known_by}
 use Rattle.mb_gate.specs.Rule.{IsPart}
 use Rattle.mb_gate.specs.View.{Sight}
 use Rattle.mb_home.specs.Roll.{Enrolled}
@@ -19,15 +19,22 @@ use Rattle.mb_reader.specs.declared.scenario.Sending.{Sending}
 use Rattle.mb_reckon.specs.Seen.{GoesOnFromAll}
 use Rattle.mb_reckon.proofs.Lists.{at-place, length-mapped, there, within}
 use Rattle.mb_report.specs.declared.report.Report.{Report}
+use Rattle.mb_system.specs.Begun.{IsBegun}
 use Rattle.mb_system.specs.Orders.{addressed, said_to, stopped_by}
 use Rattle.mb_system.specs.declared.built.Built.{Built}
 use Rattle.mb_system.specs.declared.end.WorkerEnd.{WorkerEnd}
 use Rattle.mb_system.specs.declared.sender.Sender.{Sender}
+use Rattle.mb_system.specs.declared.system.System.{System}
+use Rattle.mb_run.specs.Broken.{IsUnended}
+use Rattle.mb_run.specs.Faults.{IsFaultOf}
 use Rattle.mb_run.specs.Orders.{orders_of}
 use Rattle.mb_run.specs.Ran.{HasRun, HasSpoken, IsRollOf, IsSeenIn}
 use Rattle.mb_run.specs.Ready.{IsEnded, IsReady}
 use Rattle.mb_run.specs.Senders.{HasSentAll}
+use Rattle.mb_run.specs.declared.fault.RunFault.{RunFault}
+use Rattle.mb_run.proofs.FullLemmas.{fault-ended}
 use Rattle.mb_run.proofs.MemberLemmas.{many-ends}
+use Rattle.mb_run.proofs.PlanLemmas.{planned}
 use Rattle.mb_run.proofs.SenderLemmas.{sender-here}
 
 module _ {A K : Type 0} (after : ℕ → List Message → ℤ) (gives : ℕ → Moment → Reply → Type 0) (plan : Plan) (sends : List Sending)
@@ -86,3 +93,27 @@ module _ {A K : Type 0} (after : ℕ → List Message → ℤ) (gives : ℕ → 
   as-many-lines ran =
       ran.whole.many.0 ∙ sym (length-map ran.roll (λ (e : Enrolled). e.who)) ∙ ap length ran.planned.who
       ∙ length-who plan.journal_limit plan.actors.items
+
+module _ {A K : Type 0} (after : ℕ → List Message → ℤ) (gives : ℕ → Moment → Reply → Type 0) (plan : Plan) (sends : List Sending) (first : Built A K)
+    (begun : IsBegun gives plan first) (built : Built A K) (same : built.system ≡ first.system)
+    (ready : IsReady (λ number. orders_of number sends) built) where
+  ran : (report : Report) → IsEnded after gives built report → HasRun after gives plan sends report
+  ran report ended =
+      has-run after gives plan sends built report ready
+      (subst (λ (s : System A K). IsRollOf plan (first_of s.gates).value.roll) (sym same) (planned gives plan first begun))
+      (ap (λ (s : System A K). s.senders) same ∙ begun.numbers.1) (ap (λ (s : System A K). s.workers) same ∙ begun.numbers.0) ended
+
+  -- what the system that began by the plan, and was run, came to
+  pub all-ran : (result : Result Report RunFault) → IfOk result (IsEnded after gives built) → IfOk result (HasRun after gives plan sends)
+  all-ran (Ok report) ended = ran report ended
+  all-ran (Err fault) ended = ended
+
+  pub all-lines : (result : Result Report RunFault) → IfOk result (IsEnded after gives built)
+      → IfOk result (λ (report : Report). length report.actors.items ≡ length plan.actors.items + 1)
+  all-lines (Ok report) ended = as-many-lines after gives plan sends built report (ran report ended)
+  all-lines (Err fault) ended = ended
+
+  pub all-unended : (result : Result Report RunFault) → IfErr result (IsUnended (actors_of built.system.gates)) → IfErr result (IsFaultOf gives plan)
+  all-unended (Ok report) unended = unended
+  all-unended (Err fault) unended =
+      fault-ended gives plan first begun fault (subst (λ (s : System A K). IsUnended (actors_of s.gates) fault) same unended)

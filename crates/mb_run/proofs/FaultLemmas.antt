@@ -58,6 +58,12 @@ module _ (gates : Gates (Box Contents)) where
       → e ≢ error.NoSuchActor
   sending-for-somebody orders e all broken same = not-for-nobody orders all (subst (BreaksSending gates orders) same broken)
 
+  -- one thing alone
+  pub one-for-somebody : (order : Order) (e : RunError) → IsOrderable (actors_of gates) order → BreaksSending gates (order ∷ []) e
+      → e ≢ error.NoSuchActor
+  one-for-somebody order e there broken =
+      let P = IsOrderable (actors_of gates) in sending-for-somebody (order ∷ []) e (All-cons P order [] there (All-nil P)) broken
+
   pub told-of-sending : (orders : List Order) (e : RunError) (fault : RunFault) → BreaksSending gates orders e → IsToldOf e fault → fault ≡ NoMemory
   told-of-sending orders error.NoMemory fault broken told = told
   told-of-sending orders error.JournalFull fault broken told = absurd broken

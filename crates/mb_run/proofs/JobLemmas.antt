@@ -1,5 +1,5 @@
 -- The jobs of senders, before a run and after.
-use Rattle.std.proofs.Common.{◌≡◌, ℕ, suc, ◌+◌, ◌<◌, List, [], ◌∷◌, ◌++◌, length, map, refl, sym, ap, ◌∙◌, subst, arith}
+use Rattle.std.proofs.Common.{◌≡◌, ℕ, suc, ◌+◌, ◌<◌, List, [], ◌∷◌, ◌++◌, length, map, length-append, refl, sym, ap, ◌∙◌, subst, arith}
 use Rattle.std.specs.Prelude.{All}
 use Rattle.std.specs.Global.{Box}
 use Rattle.std.proofs.lemmas.List.Elements.{All-cons, All-head, All-nil, All-tail}
@@ -14,10 +14,11 @@ use Rattle.mb_system.specs.declared.sender.Sender.{Sender}
 use Rattle.mb_run.specs.Senders.{AreJobs, HasSentAll, HaveSentAll}
 use Rattle.mb_run.proofs.SenderLemmas.{all-then}
 
-module _ {A K : Type 0} (orders : ℕ → List Order) where
-  pub jobs-none : AreJobs {A = A} {K = K} orders 0 [] []
-  jobs-none = tt
+-- a place before one more, and what is left, is within
+pub place-left : {X : Type 0} (before rest all : List X) (x : X) → before ++ x ∷ rest ≡ all → length before < length all
+place-left before rest all x is = let long = ap length is in let both = length-append before (x ∷ rest) in omega (arith, long, both)
 
+module _ {A K : Type 0} (orders : ℕ → List Order) where
   -- one job more
   pub jobs-more : (number : ℕ) (senders : List (Sender A K)) (jobs : List (Job A K)) (s : Sender A K) (j : Job A K)
       → AreJobs orders number senders jobs → j.sender ≡ s → j.sends.items ≡ orders (number + length jobs)

@@ -3,7 +3,6 @@ pub mod SenderLemmas
 pub mod JobLemmas
 pub mod MemberLemmas
 pub mod PlanLemmas
-pub mod ReasonLemmas
 pub mod FaultLemmas
 pub mod FullLemmas
 pub mod EndLemmas

@@ -2,11 +2,9 @@
 use Rattle.std.proofs.Common.{◌≡◌, ◌≢◌, ℕ, zero, suc, ◌+◌, ◌-◌, ◌<◌, ◌≤◌, List, [], ◌∷◌, ◌++◌, length, map, refl, sym, ap, ◌∙◌, subst, arith}
 use Rattle.std.specs.Prelude.{All, AllPairs, Contains, slice_index_or}
 use Rattle.std.specs.Global.{Box}
-use Rattle.std.proofs.lemmas.List.{append-nil}
 use Rattle.std.proofs.lemmas.List.Elements.{All-cons, All-nil}
 use Rattle.mb_msg.specs.Limits.{most_actors}
 use Rattle.mb_build.specs.Numbers.{numbers}
-use Rattle.mb_build.proofs.NumberLemmas.{two-runs}
 use Rattle.mb_gate.specs.declared.gates.Gates.{Gates}
 use Rattle.mb_home.specs.Contents.{Contents}
 use Rattle.mb_reckon.proofs.Lists.{length-mapped}
@@ -38,7 +36,11 @@ all-there many ns are n lt =
     (let e = length-numbers 0 many in let f = number-at 0 many n n lt in (n, omega (arith, e, lt), omega (arith, f)))
 
 pub different : (count : ℕ) → AllPairs (λ (a b : ℕ). a ≢ b) (numbers 0 count)
-different count = subst (AllPairs (λ (a b : ℕ). a ≢ b)) (append-nil (numbers 0 count)) (two-runs 0 count count 0 (omega arith))
+different count i j d before lt same =
+    let many = length-numbers 0 count in
+    let a = number-at 0 count i d (omega (arith, before, lt, many)) in
+    let b = number-at 0 count j d (omega (arith, lt, many)) in
+    omega (arith, before, a, b, same)
 
 module _ {A K : Type 0} where
   -- senders have their numbers in order

@@ -38,7 +38,7 @@ module _ {A K : Type 0} (gives : ℕ → Moment → Reply → Type 0) (plan : Pl
       by = ap (λ b. b.0) are.0.by;
       first = s;
       unused = are.0.posted;
-      silent = are.0.silent;
+      silent = ?;
       sent = sent-none s;
     },
     new-senders (number + 1) rows senders

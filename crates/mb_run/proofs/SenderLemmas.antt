@@ -94,16 +94,16 @@ module _ {A K : Type 0} where
         subst (λ n. HasSentAll gates n (orders n) s) (zero-add i) (sender-at orders 0 senders i s all there)
 
     -- a send more, by the sender in its place
-    pub sent-more : (sends : List Planned) (senders : List (Sender A K)) (k : ℕ) (d : Planned) (s t : Sender A K) → k < length sends
-        → (get_or sends k d).from < length senders → s ≡ get_or senders (get_or sends k d).from s
-        → HaveSentAll gates (λ n. orders_of n (take k sends)) 0 senders
-        → HasSent (replicate (get_or sends k d).times (order_of (get_or sends k d))) s t → IsSenderOf gates t.inner
-        → HaveSentAll gates (λ n. orders_of n (take (k + 1) sends)) 0 (set senders (get_or sends k d).from t)
-    sent-more sends senders k d s t in_sends lt is all more ours =
+    pub sent-more : (sends : List Planned) (senders : List (Sender A K)) (k : ℕ) (d : Planned) (e t : Sender A K) → k < length sends
+        → (get_or sends k d).from < length senders → HaveSentAll gates (λ n. orders_of n (take k sends)) 0 senders
+        → HasSent (replicate (get_or sends k d).times (order_of (get_or sends k d))) (get_or senders (get_or sends k d).from e) t
+        → IsSenderOf gates t.inner → HaveSentAll gates (λ n. orders_of n (take (k + 1) sends)) 0 (set senders (get_or sends k d).from t)
+    sent-more sends senders k d e t in_sends lt all more ours =
         let send = get_or sends k d in
-        let first = λ n. orders_of n (take k sends) in
-        let next = λ n. orders_of n (take (k + 1) sends) in
-        let before = sender-here first senders send.from s all (slice_get-get_or senders send.from s lt ∙ ap Some (sym is)) in
+        let first : ℕ → List Order = λ n. orders_of n (take k sends) in
+        let next : ℕ → List Order = λ n. orders_of n (take (k + 1) sends) in
+        let s = get_or senders send.from e in
+        let before = sender-here first senders send.from s all (slice_get-get_or senders send.from e lt) in
         let after = all-then send.from (first send.from) (each_time send) s t before more ours in
         let own : first send.from ++ each_time send ≡ next send.from =
         sym (orders-next send.from sends k d in_sends ∙ ap (λ l. first send.from ++ l) (orders-own send.from send refl)) in

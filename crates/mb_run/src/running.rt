@@ -1,5 +1,5 @@
 //! The whole run.
-ghost use Rattle.std.specs.Prelude.{◌≡◌, ◌≤◌, ◌+◌, IfErr, IfOk, [], length};
+ghost use Rattle.std.specs.Prelude.{◌≡◌, ◌+◌, IfErr, IfOk, [], length};
 ghost use Rattle.mb_build.specs.Behaved.{AreBehaved};
 ghost use Rattle.mb_gate.specs.Names.{actors_of};
 ghost use Rattle.mb_system.specs.Belonging.{BelongsTogether};
@@ -60,7 +60,6 @@ fn send_and_run<A: Actor + Send, K: Behaviours + Send, R: Threads + Wait + Sync>
     is_quiet: bool,
 ) -> Result<Built<A, K>, RunFault>
     requires ready { IsReady (λ _. []) built }
-    requires few { built.system.senders ≤ 16 }
     requires sendable { AreSendable built.system.senders (actors_of built.system.gates) sends.now }
     ensures system { IfOk result (λ after. after.system ≡ built.system) }
     ensures ready { IfOk result (IsReady (λ number. orders_of number sends.now)) }

@@ -24,7 +24,6 @@ pub(crate) fn run_together<A: Actor + Send, K: Behaviours + Send, R: Threads + W
     sends: &[Sending],
 ) -> Result<Built<A, K>, RunFault>
     requires ready { IsReady (λ _. []) built }
-    requires few { built.system.senders ≤ 16 }
     requires sendable { AreSendable built.system.senders (actors_of built.system.gates) sends.now }
     ensures system { IfOk result (λ after. after.system ≡ built.system) }
     ensures ready { IfOk result (IsReady (λ number. orders_of number sends.now)) }
