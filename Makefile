@@ -4,15 +4,20 @@ PREFIX ?= /usr/local
 PROGRAM := crates/mailrun/out/mailrun
 SOURCES := crates.txt HANDLES $(shell find crates -path '*/out' -prune -o \( -name '*.rt' -o -name '*.antt' \) -print)
 
-.PHONY: run test check bench install
+.PHONY: run examples test check bench install
 .DEFAULT_GOAL := run
 
 # Runs a scenario and prints its report: make run [SCENARIO=path]
 run: $(PROGRAM)
 	@$(PROGRAM) < $(SCENARIO)
 
+# Runs each scenario of examples/, and sees to it that the report is printed that stands beside it.
+examples: $(PROGRAM)
+	@tools/check_examples $(PROGRAM)
+
 # The gate: the list of definitions, the worked runs, the examples, every proof from nothing, the must-fail edits, the tests, the
-# program by two compilers, the program as a user runs it, and random scenarios beside a second reader.
+# program by two compilers, the program as a user runs it, also on worker threads and on what it has to refuse, and random scenarios
+# beside a second reader.
 test:
 	tools/check_definitions
 	tools/check_worked_runs
@@ -20,6 +25,10 @@ test:
 	rt ci
 	@$(MAKE) --no-print-directory $(PROGRAM)
 	tools/check_program $(PROGRAM)
+	tools/check_worked_runs $(PROGRAM)
+	tools/check_examples $(PROGRAM)
+	tools/check_refusals $(PROGRAM)
+	tools/check_workers $(PROGRAM)
 	tools/compare_with_a_model $(PROGRAM)
 
 # Proves what changed since the last check, lowest crate first.

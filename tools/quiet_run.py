@@ -326,8 +326,9 @@ class Cell:
 class System:
     """All actors, and the claims of those that are to be run, in order."""
 
-    def __init__(self, top):
+    def __init__(self, top, refused=0):
         self.tables, self.top = top.get("actor", []), top
+        self.pushed, self.refused = 0, refused
         self.number_of = {"guardian": 0, **{table["name"]: number for number, table in enumerate(self.tables, 1)}}
         parents = [self.number_of[table.get("parent", "guardian")] for table in self.tables]
         self.cells = []
@@ -354,7 +355,8 @@ class System:
 
     def tell(self, to, body):
         cell = self.cells[to]
-        if cell.closed or not cell.mailbox.push((None, body)):
+        self.pushed += 1
+        if cell.closed or self.pushed == self.refused or not cell.mailbox.push((None, body)):
             cell.dead += 1
             self.register(cell)
         else:
@@ -442,9 +444,10 @@ class System:
         return "\n".join([*lines, "sent {} handled {} left {} dead {}".format(sum(sums), *sums)]) + "\n"
 
 
-def report_of(top):
-    """The report of a scenario, or the line of its fault; and the turns."""
-    system = System(top)
+def report_of(top, refused=0):
+    """The report of a scenario, or the line of its fault; and the turns. The envelope of the number `refused`, counted from 1 over all that
+    are sent, finds no memory in its mailbox, and is a dead letter."""
+    system = System(top, refused)
     try:
         system.run()
     except JournalFull:

@@ -11,6 +11,7 @@ use std::process::ExitCode;
 
 fn main(rt: HostRuntime) -> ExitCode {
     ExitCode::from(run_program(
+        &rt,
         rt.alloc(),
         argument_count(&rt),
         &mut Watched::new(rt.stdin()),

@@ -1,7 +1,8 @@
 -- How a run ends.
-use Rattle.std.proofs.Common.{◌≡◌, ℕ, ◌<◌, Bool, true, false, ◌||◌, List, take, Option, Some, None, IfSome, refl, sym, subst, inl}
+use Rattle.std.proofs.Common.{◌≡◌, ℕ, ◌<◌, Bool, true, false, ◌||◌, List, take, Option, Some, None, IfSome, refl, sym, subst, inl, ap, ◌∙◌}
 use Rattle.std.proofs.Common.{inr, arith}
 use Rattle.std.specs.Io.KnownBytes.{Appends}
+use Rattle.mb_msg.specs.declared.id.ActorId.{ActorId}
 use Rattle.mb_reader.specs.declared.fault.Fault.{Fault}
 use Rattle.mb_reader.specs.declared.fault.Fault.TheVariants.{NoMemory, NotToml, BadScenario}
 use Rattle.mb_program.specs.Answer.{most_read, HasReported, IsAnswer, IsAtFault, IsCutShort, IsLineSaid, IsMet, IsRead, IsRefused}
@@ -11,7 +12,7 @@ use Rattle.mb_program.specs.Failure.{error_line, exit_status}
 use Rattle.mb_program.specs.Watching.{Watching}
 use Rattle.mb_program.specs.Written.{AppendsBeginning}
 use Rattle.mb_program.specs.declared.failure.Failure.{Failure}
-use Rattle.mb_program.specs.declared.failure.Failure.TheVariants.{Os, Arguments, NotYet, Input}
+use Rattle.mb_program.specs.declared.failure.Failure.TheVariants.{Os, Arguments, JournalFull, NotQuiet, Mismatch, Input}
 use Rattle.mb_program.proofs.Refusals.{read_not_refused}
 
 -- what was said where this failure was met, and the status
@@ -37,7 +38,7 @@ pub answered_not_refused : (A : Type 0) → (known : Option (List ℕ)) (report 
 answered_not_refused A None report answer = tt
 answered_not_refused A (Some input) report answer = λ failure refused.
     let read : answer.0 ≡ take most_read input = answer.1 in
-    absurd (read_not_refused answer.0 answer.2.0 failure answer.2.1 answer.2.2 (subst (λ (t : List ℕ). IsRefused t failure) (sym read) refused.0)
+    absurd (read_not_refused answer.0 answer.2.0 failure answer.2.1 (subst (λ (t : List ℕ). IsRefused t failure) (sym read) refused.0)
     refused.1)
 
 -- a writer that was not called was not called for what is no scenario
@@ -49,7 +50,9 @@ nothing_for_refused W (Some input) writer = λ failure refused. refl
 positive : (failure : Failure) → 0 < exit_status failure
 positive Os = omega arith
 positive Arguments = omega arith
-positive NotYet = omega arith
+positive JournalFull = omega arith
+positive (NotQuiet id) = omega arith
+positive Mismatch = omega arith
 positive (Input NoMemory) = omega arith
 positive (Input NotToml) = omega arith
 positive (Input (BadScenario place reason)) = omega arith
@@ -70,7 +73,9 @@ pub met_refused : (known : Option (List ℕ)) (text : List ℕ) (failed : Bool) 
     IsRefused text failure → IsMet 0 known failed failure
 met_refused known text failed Os read none refused = absurd refused
 met_refused known text failed Arguments read none refused = absurd refused
-met_refused known text failed NotYet read none refused = (refl, none, (text, read, refused))
+met_refused known text failed JournalFull read none refused = (refl, none, (text, read, refused))
+met_refused known text failed (NotQuiet id) read none refused = (refl, none, (text, read, refused))
+met_refused known text failed Mismatch read none refused = (refl, none, (text, read, refused))
 met_refused known text failed (Input NoMemory) read none refused = (refl, none)
 met_refused known text failed (Input NotToml) read none refused = (refl, none, (text, read, refused))
 met_refused known text failed (Input (BadScenario place reason)) read none refused = (refl, none, (text, read, refused))
@@ -80,7 +85,11 @@ met_said : (failure said : Failure) (arguments : ℕ) (known : Option (List ℕ)
     IsSaidFor failure said → IsMet arguments known failed failure → IsMet arguments known failed said
 met_said Os said arguments known failed same met = subst (λ (f : Failure). IsMet arguments known failed f) (sym same) met
 met_said Arguments said arguments known failed same met = subst (λ (f : Failure). IsMet arguments known failed f) (sym same) met
-met_said NotYet said arguments known failed same met = subst (λ (f : Failure). IsMet arguments known failed f) (sym same) met
+met_said JournalFull said arguments known failed same met = subst (λ (f : Failure). IsMet arguments known failed f) (sym same) met
+met_said (NotQuiet id) said arguments known failed (inl same) met = subst (λ (f : Failure). IsMet arguments known failed f) (sym same) met
+met_said (NotQuiet id) said arguments known failed (inr same) met =
+    subst (λ (f : Failure). IsMet arguments known failed f) (sym same) (met.0, met.1)
+met_said Mismatch said arguments known failed same met = subst (λ (f : Failure). IsMet arguments known failed f) (sym same) met
 met_said (Input fault) said arguments known failed (inl same) met = subst (λ (f : Failure). IsMet arguments known failed f) (sym same) met
 met_said (Input fault) said arguments known failed (inr same) met =
     subst (λ (f : Failure). IsMet arguments known failed f) (sym same) (met_at_all arguments known failed fault met)
@@ -126,6 +135,9 @@ failed_writing W contents result known read_failed old new said_old said_new err
 pub said_no_memory : (failure : Failure) (fault : Fault) → failure ≡ Input fault → IsSaidFor failure (Input NoMemory)
 said_no_memory failure fault same = subst (λ (f : Failure). IsSaidFor f (Input NoMemory)) (sym same) (inr refl)
 
+pub said_no_memory_of : (failure : Failure) (id : ActorId) → failure ≡ NotQuiet id → IsSaidFor failure (Input NoMemory)
+said_no_memory_of failure id same = subst (λ (f : Failure). IsSaidFor f (Input NoMemory)) (sym same) (inr refl)
+
 -- without arguments
 pub failed_without : (W : Type 0) → (contents : W → Option (List ℕ)) → (result arguments : ℕ) (known : Option (List ℕ)) (read_failed : Bool)
     (old new : Watching W) (said_old said_new : Option (List ℕ)) (errors_failed : Bool) → arguments ≡ 0 →
@@ -133,3 +145,12 @@ pub failed_without : (W : Type 0) → (contents : W → Option (List ℕ)) → (
     HasFailed W contents result arguments known read_failed old new said_old said_new errors_failed
 failed_without W contents result arguments known read_failed old new said_old said_new errors_failed none has =
     subst (λ (n : ℕ). HasFailed W contents result n known read_failed old new said_old said_new errors_failed) (sym none) has
+
+-- where a failure's own line was said, it was said for it
+pub said-itself : (failure : Failure) → IsSaidFor failure failure
+said-itself Os = refl
+said-itself Arguments = refl
+said-itself JournalFull = refl
+said-itself (NotQuiet id) = inl refl
+said-itself Mismatch = refl
+said-itself (Input fault) = inl refl

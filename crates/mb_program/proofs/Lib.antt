@@ -1,8 +1,9 @@
-pub mod Answering
-pub mod CalmReports
+pub mod Actors
+pub mod Checks
 pub mod Endings
 pub mod InputLemmas
+pub mod Names
+pub mod Passed
 pub mod Refusals
-pub mod ScopeLemmas
-pub mod ScriptLemmas
+pub mod Runnable
 pub mod WrittenLemmas

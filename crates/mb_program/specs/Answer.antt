@@ -6,14 +6,14 @@ use Rattle.mb_reader.specs.Reading.{IsReadAs, Refuses}
 use Rattle.mb_reader.specs.declared.fault.Fault.TheVariants.{NoMemory, NotToml, BadScenario}
 use Rattle.mb_report.specs.Lines.{report_text_of}
 use Rattle.mb_report.specs.declared.report.Report.{Report}
+use Rattle.mb_run.specs.declared.fault.RunFault.{RunFault}
+use Rattle.mb_run.specs.declared.fault.RunFault.TheVariants as run
 use Rattle.mb_program.specs.Failure.{exit_status}
-use Rattle.mb_program.specs.CalmReport.{report_of}
-use Rattle.mb_program.specs.Scope.{can_run}
-use Rattle.mb_program.specs.Ran.{HasRun}
+use Rattle.mb_program.specs.Ran.{EndsIn, IsOfScenario}
 use Rattle.mb_program.specs.Watching.{Watching}
 use Rattle.mb_program.specs.Written.{AppendsBeginning}
 use Rattle.mb_program.specs.declared.failure.Failure.{Failure}
-use Rattle.mb_program.specs.declared.failure.Failure.TheVariants.{Os, Arguments, NotYet, Input}
+use Rattle.mb_program.specs.declared.failure.Failure.TheVariants.{Os, Arguments, JournalFull, NotQuiet, Mismatch, Input}
 
 -- how many bytes of the input are read at most: one more than a scenario may have
 abbrev pub most_read : ℕ
@@ -27,29 +27,30 @@ IsRead known text = IfSome known (λ input. text ≡ take most_read input)
 abbrev pub TakesAtMost : ℕ → Option (List ℕ) → Option (List ℕ) → Type 0
 TakesAtMost most old new = (taken : List ℕ) × Consumes old new taken × (length taken ≤ most)
 
--- these bytes are the text of the report of a run of the scenario, which says that all that was sent was handled
+-- these bytes are the text of the report of a run of the scenario
 pub record TellsOfARun (scenario : ScenarioData) (bytes : List ℕ) : Type 0 where
   pub report : Report
-  pub ran : HasRun scenario report
+  pub ran : IsOfScenario scenario report
   pub text : bytes ≡ report_text_of scenario.names report
-  pub all_handled : bytes ≡ report_of scenario
 
--- the text is a scenario that can be run, and this is its report
+-- the text is a scenario, and this is the report of a run of it
 abbrev pub IsReport : List ℕ → List ℕ → Type 0
-IsReport text report = (scenario : ScenarioData) × IsReadAs text scenario × (can_run scenario ≡ true) × TellsOfARun scenario report
+IsReport text report = (scenario : ScenarioData) × IsReadAs text scenario × TellsOfARun scenario report
 
--- the text is a scenario that cannot be run today
-abbrev pub IsNotYet : List ℕ → Type 0
-IsNotYet text = (scenario : ScenarioData) × IsReadAs text scenario × (can_run scenario ≡ false)
+-- the text is a scenario, and a run of it came to this fault
+abbrev pub HasNoReport : List ℕ → RunFault → Type 0
+HasNoReport text fault = (scenario : ScenarioData) × IsReadAs text scenario × EndsIn scenario fault
 
--- this is why there is no report of the text. Of want of memory nothing can be said
+-- this is why there is no report of the text: it is none of a scenario; or it is, and its run failed. Of want of memory nothing can be said
 abbrev pub IsRefused : List ℕ → Failure → Type 0
 IsRefused text Os = ⊥
 IsRefused text Arguments = ⊥
-IsRefused text NotYet = IsNotYet text
+IsRefused text JournalFull = HasNoReport text run.JournalFull
+IsRefused text (NotQuiet id) = HasNoReport text (run.NotQuiet id)
+IsRefused text Mismatch = HasNoReport text run.Mismatch
 IsRefused text (Input fault) = Refuses text fault
 
--- the text is at fault: it is no scenario that can be run, and this is why
+-- the text is at fault: it is no scenario, and this is why
 abbrev pub IsAtFault : List ℕ → Failure → Type 0
 IsAtFault text failure = IsRefused text failure × (exit_status failure ≡ 2)
 
@@ -70,7 +71,9 @@ IsRefusedOf known failure = (text : List ℕ) × IsRead known text × IsRefused 
 abbrev pub IsMet : ℕ → Option (List ℕ) → Bool → Failure → Type 0
 IsMet arguments known failed Os = (arguments ≡ 0) × IsTrue failed
 IsMet arguments known failed Arguments = (0 < arguments) × (failed ≡ false)
-IsMet arguments known failed NotYet = (arguments ≡ 0) × (failed ≡ false) × IsRefusedOf known NotYet
+IsMet arguments known failed JournalFull = (arguments ≡ 0) × (failed ≡ false) × IsRefusedOf known JournalFull
+IsMet arguments known failed (NotQuiet id) = (arguments ≡ 0) × (failed ≡ false) × IsRefusedOf known (NotQuiet id)
+IsMet arguments known failed Mismatch = (arguments ≡ 0) × (failed ≡ false) × IsRefusedOf known Mismatch
 IsMet arguments known failed (Input NoMemory) = (arguments ≡ 0) × (failed ≡ false)
 IsMet arguments known failed (Input NotToml) = (arguments ≡ 0) × (failed ≡ false) × IsRefusedOf known (Input NotToml)
 IsMet arguments known failed (Input (BadScenario place reason)) =
@@ -91,14 +94,18 @@ IsLineSaid old new failed line = AppendsBeginning old new line × (failed ≡ fa
 abbrev pub IsReadFailure : Bool → Bool → Failure → Type 0
 IsReadFailure before after Os = IsTrue after
 IsReadFailure before after Arguments = ⊥
-IsReadFailure before after NotYet = ⊥
+IsReadFailure before after JournalFull = ⊥
+IsReadFailure before after (NotQuiet id) = ⊥
+IsReadFailure before after Mismatch = ⊥
 IsReadFailure before after (Input NoMemory) = after ≡ before
 IsReadFailure before after (Input NotToml) = ⊥
 IsReadFailure before after (Input (BadScenario place reason)) = ⊥
 
--- what is said where a failure is met: it; or of the input's, where no memory was had for the line, that
+-- what is said where a failure is met: it; or, where no memory was had for its line, that
 abbrev pub IsSaidFor : Failure → Failure → Type 0
 IsSaidFor Os said = said ≡ Os
 IsSaidFor Arguments said = said ≡ Arguments
-IsSaidFor NotYet said = said ≡ NotYet
+IsSaidFor JournalFull said = said ≡ JournalFull
+IsSaidFor (NotQuiet id) said = (said ≡ NotQuiet id) ⊎ (said ≡ Input NoMemory)
+IsSaidFor Mismatch said = said ≡ Mismatch
 IsSaidFor (Input fault) said = (said ≡ Input fault) ⊎ (said ≡ Input NoMemory)

@@ -1,52 +1,32 @@
-ghost use Rattle.std.specs.Prelude.{◌≡◌, ◌≤◌, ◌+◌, IfOk, IfErr, Err, length, string_bytes};
-ghost use Rattle.mb_reader.specs.View.{scenario_data};
+ghost use Rattle.std.specs.Prelude.{IfErr, IfOk, string_bytes};
 ghost use Rattle.mb_program.specs.Answer.{IsReport, IsRefused};
-ghost use Rattle.mb_program.specs.Ran.{HasRun};
 
 use crate::failure::Failure;
-use crate::scope::can_run;
-use mb_journal::ReadyError;
-use mb_plan::ActorPlan;
-use mb_reader::{Fault, Scenario, read};
+use mb_reader::{Scenario, read};
 use mb_report::report_text;
-use mb_run::{Rules, run};
+use mb_run::run;
 use mb_script::Script;
 use std::alloc::Global;
 use std::marker::Brand;
+use std::sync::Wait;
+use std::thread::Threads;
 
-/// The report of a scenario's text. Its failures are those of reading the text, that the scenario cannot be run today, and
-/// `NoMemory`.
-pub fn answer(alloc: Global, text: &[u8]) -> Result<String, Failure>
+/// The report of a run of a text's scenario. Its failures are those of reading the text and of running it, and `NoMemory`.
+pub fn answer<R: Threads + Wait + Sync>(
+    rt: &R,
+    alloc: Global,
+    text: &[u8],
+) -> Result<String, Failure>
     ensures report { IfOk result (λ report. IsReport text.now (string_bytes report)) }
     ensures refused { IfErr result (IsRefused text.now) }
 {
-    let scenario = read(alloc, text)?;
-    if !can_run(&scenario) {
-        return Err(Failure::NotYet);
-    }
     let Scenario {
-        mut plan,
+        plan,
         names,
-        mut scripts,
+        scripts,
         sends,
-        quiet: _,
-    } = scenario;
-    let Some(actor) = plan.actors.pop() else {
-        unreachable!();
-    };
-    let Some(script) = scripts.pop() else {
-        unreachable!();
-    };
-    let rules = Rules {
-        strategy: actor.strategy,
-        throughput: plan.throughput,
-        journal_limit: plan.journal_limit,
-    };
-    let report = match run::<Script, Brand>(alloc, script, rules, &sends) {
-        Ok(report) => report,
-        // The journal has room for more entries than there are sends.
-        Err(ReadyError::JournalFull) => unreachable!(),
-        Err(ReadyError::NoMemory) => return Err(Failure::Input(Fault::NoMemory)),
-    };
+        quiet,
+    } = read(alloc, text)?;
+    let report = run::<Script, Brand, R>(rt, alloc, plan, scripts, &sends, quiet)?;
     Ok(report_text(alloc, &report, &names)?)
 }

@@ -5,9 +5,7 @@ mod answer;
 mod drive;
 mod failure;
 mod input;
-mod scope;
 mod watched;
 
 pub use drive::run_program;
-pub use scope::{adds_alone, are_plain_sends};
 pub use watched::Watched;

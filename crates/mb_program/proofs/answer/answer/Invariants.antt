@@ -1,5 +1,5 @@
-use Rattle.mb_script.specs.Script.{after_of, gives_of}
+use Rattle.mb_program.specs.Scripts.{after_at, gives_at}
 use Rattle.mb_program.proofs.answer.answer.Given as goal
 
 abbrev pub ghosts-run : goal.ghosts-run
-ghosts-run a = record { after = λ _. after_of a.actor.script.initial a.actor.script.rows; gives = λ _. gives_of a.actor.script }
+ghosts-run g a = record { after = after_at a.actors.items; gives = gives_at a.actors.items }

@@ -1,0 +1,163 @@
+-- A scenario that was read can be run.
+use Rattle.std.proofs.Common.{◌≡◌, ℕ, ◌+◌, ◌<◌, ◌≤◌, ◌==◌, ◌&&◌, Bool, true, false, not, List, [], ◌∷◌, ◌++◌, length, map, max, refl, sym, ap, ◌∙◌, subst, arith}
+use Rattle.std.proofs.Common.{codes, None}
+use Rattle.std.specs.Prelude.{All, nat_le, nat_lt}
+use Rattle.std.proofs.lemmas.Bool.Decides.{nat_tests}
+use Rattle.std.proofs.lemmas.List.{length-map}
+use Rattle.std.proofs.lemmas.List.Elements.{All-cons, All-head, All-nil, All-tail}
+use Rattle.toml.specs.Data.{Data, Items, Members, get_member}
+use Rattle.mb_format.specs.Check.{all_kin, document_check, items_in}
+use Rattle.mb_format.specs.Value.{item_count}
+use Rattle.mb_msg.specs.declared.id.ActorId.{ActorId}
+use Rattle.mb_plan.specs.declared.actor_plan.ActorPlan.{ActorPlan}
+use Rattle.mb_plan.specs.declared.kind.Kind.{Kind}
+use Rattle.mb_plan.specs.declared.kind.Kind.TheVariants.{Unbounded, Bounded, Priority, Control}
+use Rattle.mb_plan.specs.declared.plan.Plan.{Plan}
+use Rattle.mb_build.specs.Reasons.{bad_bounds, bad_numbers, bad_parents, may_be_bound, reasons, unless}
+use Rattle.mb_build.specs.declared.check.PlanError.{PlanError}
+use Rattle.mb_build.specs.declared.check.PlanError.TheVariants.{Actors, Boxes, Parent, Capacity, Senders, Workers, JournalLimit}
+use Rattle.mb_reader.specs.Fields.{map_items, number_or, small}
+use Rattle.mb_reader.specs.Plans.{PlanData, ScenarioData, name_of, planned_actor, plan_of, scenario_of, sends_in, workers_in}
+use Rattle.mb_reader.specs.Reading.{IsReadAs}
+use Rattle.mb_reader.specs.Scripts.{scripted_of}
+use Rattle.mb_reader.specs.Sends.{senders_of}
+use Rattle.mb_reader.specs.View.{actor_data, kind_data, plan_data}
+use Rattle.mb_reader.specs.declared.scenario.Sending.{Sending}
+use Rattle.mb_reader.specs.declared.scenario.What.{What}
+use Rattle.mb_reader.specs.declared.scenario.What.TheVariants.{Envelope, Stop}
+use Rattle.mb_script.specs.Script.{Scripted}
+use Rattle.mb_run.specs.Given.{AreSendable, CanRun, IsReceiver, IsSendable}
+use Rattle.mb_run.specs.Faults.{IsFaultOf}
+use Rattle.mb_run.specs.Orders.{what_of}
+use Rattle.mb_run.specs.declared.fault.RunFault.{RunFault}
+use Rattle.mb_run.specs.declared.fault.RunFault.TheVariants.{NoMemory, JournalFull, NotQuiet, Mismatch}
+use Rattle.mb_program.specs.Answer.{IsRefused}
+use Rattle.mb_program.specs.Failure.{failure_of_run}
+use Rattle.mb_program.specs.Scripts.{gives_at}
+use Rattle.mb_program.proofs.Passed.{AreActorData, IsActorData, IsBoundData, IsPassed, IsReceived, IsSendData, length-items, passed, senders-right}
+
+-- ---- no reason against the plan
+
+ruled-out : (test : Bool) (reason : PlanError) → test ≡ true → unless test reason ≡ []
+ruled-out test reason is = ap (λ b. unless b reason) is
+
+none-of : (xs ys : List PlanError) → xs ≡ [] → ys ≡ [] → xs ++ ys ≡ []
+none-of xs ys first second = λ i. first i ++ second i
+
+below : (a b : ℕ) → a < b → nat_lt a b ≡ true
+below a b lt = grind (arith, nat_tests)
+
+at-most : (a b : ℕ) → a ≤ b → nat_le a b ≡ true
+at-most a b le = grind (arith, nat_tests)
+
+within : (low n high : ℕ) → low ≤ n → n ≤ high → (nat_le low n && nat_le n high) ≡ true
+within low n high least most = λ i. at-most low n least i && at-most n high most i
+
+same : (a b : ℕ) → a ≡ b → (a == b) ≡ true
+same a b is = grind (arith, nat_tests)
+
+no-parents : (id : ℕ) (actors : List ActorPlan) → AreActorData id (map actor_data actors) → bad_parents id actors ≡ []
+no-parents id [] are = refl
+no-parents id (a ∷ actors) are =
+    none-of (unless (nat_lt a.parent.0 id) (Parent (record { 0 = id }))) (bad_parents (id + 1) actors)
+    (ruled-out (nat_lt a.parent.0 id) (Parent (record { 0 = id })) (below a.parent.0 id are.0.0)) (no-parents (id + 1) actors are.1)
+
+bound : (kind : Kind) → IsBoundData (kind_data kind) → may_be_bound kind ≡ true
+bound Unbounded is = refl
+bound (Bounded capacity) is = within 1 capacity 65536 is.0 is.1
+bound (Priority rows other) is = refl
+bound Control is = refl
+
+no-bounds : (id : ℕ) (actors : List ActorPlan) → AreActorData id (map actor_data actors) → bad_bounds id actors ≡ []
+no-bounds id [] are = refl
+no-bounds id (a ∷ actors) are =
+    none-of (unless (may_be_bound a.mailbox) (Capacity (record { 0 = id }))) (bad_bounds (id + 1) actors)
+    (ruled-out (may_be_bound a.mailbox) (Capacity (record { 0 = id })) (bound a.mailbox are.0.1)) (no-bounds (id + 1) actors are.1)
+
+no-reasons : (plan : Plan) (actors : ℕ) → length plan.actors.items ≤ 63 → length plan.actors.items ≡ actors
+    → AreActorData 1 (map actor_data plan.actors.items) → plan.senders ≤ 16 → 1 ≤ plan.workers → plan.workers ≤ 16 → 1 ≤ plan.journal_limit
+    → reasons plan actors ≡ []
+no-reasons plan actors few as_many are senders least most limit =
+    let all = plan.actors.items in
+    let others = unless (nat_le 1 plan.workers && nat_le plan.workers 16) Workers ++ unless (nat_le 1 plan.journal_limit) JournalLimit in
+    none-of (unless (nat_lt (length all) 64) Actors)
+    (unless (length all == actors) Boxes ++ (bad_parents 1 all ++ (bad_bounds 1 all ++ bad_numbers plan)))
+    (ruled-out (nat_lt (length all) 64) Actors (below (length all) 64 (omega (arith, few))))
+    (none-of (unless (length all == actors) Boxes) (bad_parents 1 all ++ (bad_bounds 1 all ++ bad_numbers plan))
+    (ruled-out (length all == actors) Boxes (same (length all) actors as_many))
+    (none-of (bad_parents 1 all) (bad_bounds 1 all ++ bad_numbers plan) (no-parents 1 all are)
+    (none-of (bad_bounds 1 all) (bad_numbers plan) (no-bounds 1 all are)
+    (none-of (unless (nat_le plan.senders 16) Senders) others (ruled-out (nat_le plan.senders 16) Senders (at-most plan.senders 16 senders))
+    (none-of (unless (nat_le 1 plan.workers && nat_le plan.workers 16) Workers) (unless (nat_le 1 plan.journal_limit) JournalLimit)
+    (ruled-out (nat_le 1 plan.workers && nat_le plan.workers 16) Workers (within 1 plan.workers 16 least most))
+    (ruled-out (nat_le 1 plan.journal_limit) JournalLimit (at-most 1 plan.journal_limit limit)))))))
+
+-- ---- what is sent
+
+receiver : (actors : ℕ) (to : ActorId) (what : What) → IsReceived actors to what → IsReceiver actors to (what_of what)
+receiver actors to (Envelope body) is = is
+receiver actors to Stop is = is
+
+sendable : (actors senders : ℕ) (sends : List Sending) → All (IsSendData actors) sends → All (λ (s : Sending). s.from < senders) sends
+    → AreSendable senders actors sends
+sendable actors senders [] all from = All-nil (IsSendable senders actors)
+sendable actors senders (s ∷ sends) all from =
+    All-cons (IsSendable senders actors) s sends
+    (All-head (λ (s : Sending). s.from < senders) s sends from, receiver actors s.to s.what (All-head (IsSendData actors) s sends all).1)
+    (sendable actors senders sends (All-tail (IsSendData actors) s sends all) (All-tail (λ (s : Sending). s.from < senders) s sends from))
+
+-- ---- the scenario
+
+of-document : (top : Members) (plan : Plan) → document_check top ≡ None → plan_data plan ≡ plan_of top
+    → CanRun plan (length (scenario_of top).scripts) (sends_in top)
+of-document top plan none planned =
+    let items = items_in (get_member (codes "actor") top) in
+    let is = passed top none in
+    let right = senders-right (1 + item_count items) (sends_in top) is.sends in
+    let actors : map actor_data plan.actors.items ≡ (plan_of top).actors = ap (λ (p : PlanData). p.actors) planned in
+    let many : length plan.actors.items ≡ item_count items = sym (length-map plan.actors.items actor_data) ∙ ap length actors
+    ∙ length-items (planned_actor (all_kin items)) items in
+    let scripts : length (scenario_of top).scripts ≡ item_count items = length-items (scripted_of (all_kin items)) items in
+    let senders : plan.senders ≡ small (senders_of (sends_in top)) = ap (λ (p : PlanData). p.senders) planned in
+    let workers : plan.workers ≡ max 1 (workers_in top) = ap (λ (p : PlanData). p.workers) planned in
+    let limit : plan.journal_limit ≡ number_or 4294967295 (get_member (codes "journal_limit") top) =
+    ap (λ (p : PlanData). p.journal_limit) planned in
+    let few = is.few in
+    let most_senders = right.0 in
+    let most_workers = is.workers in
+    let least_limit = is.limit in
+    record {
+      right = no-reasons plan (length (scenario_of top).scripts) (omega (arith, few, many)) (omega (arith, many, scripts))
+          (subst (AreActorData 1) (sym actors) is.actors) (omega (arith, senders, most_senders)) (omega (arith, workers))
+          (omega (arith, workers, most_workers)) (omega (arith, limit, least_limit));
+      sendable =
+          sendable (length plan.actors.items + 1) plan.senders (sends_in top)
+          (subst (λ n. All (IsSendData n) (sends_in top)) (omega (arith, many)) is.sends)
+          (subst (λ n. All (λ (s : Sending). s.from < n) (sends_in top)) (sym senders) right.1);
+    }
+
+-- a scenario that was read can be run
+pub can-run : (text : List ℕ) (scenario : ScenarioData) (plan : Plan) → IsReadAs text scenario → plan_data plan ≡ scenario.plan
+    → CanRun plan (length scenario.scripts) scenario.sends
+can-run text scenario plan read planned =
+    let is : scenario ≡ scenario_of read.0 = read.2.1 in
+    subst (λ (s : ScenarioData). CanRun plan (length s.scripts) s.sends) (sym is)
+    (of-document read.0 plan read.2.0 (planned ∙ ap (λ (s : ScenarioData). s.plan) is))
+
+-- there are as many names as actors
+pub as-many-names : (text : List ℕ) (scenario : ScenarioData) (plan : Plan) (names : List (List ℕ)) → IsReadAs text scenario
+    → plan_data plan ≡ scenario.plan → names ≡ scenario.names → length plan.actors.items ≡ length names
+as-many-names text scenario plan names read planned named =
+    let is : scenario ≡ scenario_of read.0 = read.2.1 in
+    let items = items_in (get_member (codes "actor") read.0) in
+    sym (length-map plan.actors.items actor_data) ∙ ap (λ (p : PlanData). length p.actors) (planned ∙ ap (λ (s : ScenarioData). s.plan) is)
+    ∙ length-items (planned_actor (all_kin items)) items ∙ sym (length-items name_of items)
+    ∙ sym (ap length (named ∙ ap (λ (s : ScenarioData). s.names) is))
+
+-- a fault of the run of a scenario that was read is why there is no report of it
+pub refused-run : (text : List ℕ) (scenario : ScenarioData) (plan : Plan) (fault : RunFault) → IsReadAs text scenario
+    → plan_data plan ≡ scenario.plan → IsFaultOf (gives_at scenario.scripts) plan fault → IsRefused text (failure_of_run fault)
+refused-run text scenario plan NoMemory read planned is = tt
+refused-run text scenario plan JournalFull read planned is = (scenario, read, record { plan = plan; planned = planned; fault_of = is })
+refused-run text scenario plan (NotQuiet id) read planned is = (scenario, read, record { plan = plan; planned = planned; fault_of = is })
+refused-run text scenario plan Mismatch read planned is = (scenario, read, record { plan = plan; planned = planned; fault_of = is })
