@@ -1,3 +1,3 @@
 pub mod Alike
-pub mod Together
+pub mod Belonging
 pub mod Casting

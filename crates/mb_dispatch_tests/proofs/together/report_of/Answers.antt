@@ -6,7 +6,7 @@ use Rattle.mb_system.specs.Members.{IsEndOf, IsSenderOf}
 use Rattle.mb_system.specs.Orders.{AreDone}
 use Rattle.mb_system.specs.declared.end.WorkerEnd.{WorkerEnd}
 use Rattle.mb_system.specs.declared.job.Job.{Job}
-use Rattle.mb_dispatch_tests.proofs.Together.{jobs-ours, run-again, sender_in}
+use Rattle.mb_dispatch_tests.proofs.Belonging.{jobs-ours, run-again, sender_in}
 use Rattle.mb_dispatch_tests.proofs.together.report_of.Goals as goal
 
 pub run-requires-clause-ends : goal.run-requires-clause-ends
