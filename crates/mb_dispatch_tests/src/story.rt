@@ -111,12 +111,12 @@ pub fn text_of(alloc: Global, report: &Report, count: usize) -> Option<String> {
 fn names_of(alloc: Global, count: usize) -> Result<Vec<String>, AllocError> {
     let mut names = Vec::new(alloc);
     for place in 0..count {
-        names.push(name_of(alloc, place as u32)?)?;
+        names.push(name_of(alloc, place)?)?;
     }
     Ok(names)
 }
 
-fn name_of(alloc: Global, place: u32) -> Result<String, AllocError> {
+fn name_of(alloc: Global, place: usize) -> Result<String, AllocError> {
     let number = place.wrapping_add(1);
     format!(in alloc; "a{number}")
 }

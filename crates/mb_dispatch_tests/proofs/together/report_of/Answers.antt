@@ -1,9 +1,10 @@
 use Rattle.std.proofs.Common.{◌≡◌, List, length, map, refl, sym, ap, ◌∙◌, subst}
 use Rattle.std.proofs.lemmas.List.Elements.{All-same}
+use Rattle.std.proofs.lemmas.Slice.Zip.{AllZip-long}
 use Rattle.mb_build.proofs.QueueLemmas.{refilled}
 use Rattle.mb_reckon.proofs.Lists.{length-mapped}
 use Rattle.mb_system.specs.Members.{IsEndOf, IsSenderOf}
-use Rattle.mb_system.specs.Orders.{AreDone}
+use Rattle.mb_system.specs.Orders.{AreDone, IsDone}
 use Rattle.mb_system.specs.declared.end.WorkerEnd.{WorkerEnd}
 use Rattle.mb_system.specs.declared.job.Job.{Job}
 use Rattle.mb_dispatch_tests.proofs.Belonging.{jobs-ours, run-again, sender_in}
@@ -29,7 +30,8 @@ end-requires g c =
     let many_ends : length c.run.new.ends ≡ built.ends.len =
     sym (length-mapped number c.run.new.ends) ∙ ap (λ (l : List _). length l) c.run.ensures.ends.1
     ∙ length-mapped number c.as_mut_slice-workers.result.now ∙ c.as_mut_slice-workers.ensures.len in
-    let many_jobs : length c.run.new.jobs ≡ jobs.len = c.run.ensures.jobs.1 ∙ c.as_mut_slice-tasks.ensures.len in
+    let many_jobs : length c.run.new.jobs ≡ jobs.len =
+    AllZip-long (IsDone built.system.gates) c.as_mut_slice-tasks.result.now c.run.new.jobs c.in-Ok.ensures.done ∙ c.as_mut_slice-tasks.ensures.len in
     record {
       together = run-again built _ jobs.items c.run.new.jobs refl
           (All-same (λ (e : WorkerEnd g.row.A.Denot g.row.K.Denot). IsEndOf built.system.gates e.waker) _ c.run.new.ends
