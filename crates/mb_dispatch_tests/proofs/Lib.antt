@@ -1,0 +1,3 @@
+pub mod Alike
+pub mod Belonging
+pub mod Casting

@@ -1,0 +1,8 @@
+use Rattle.std.proofs.Common.{pos, refl}
+use Rattle.mb_dispatch_tests.proofs.Casting.{alike-behaved}
+use Rattle.mb_dispatch_tests.specs.declared.guest.Guest.{Guest}
+use Rattle.mb_dispatch_tests.proofs.meeting.meet.Goals as goal
+
+pub report_of-requires : goal.report_of-requires
+report_of-requires g c =
+    record { behaved = alike-behaved (λ (x : Guest). pos 0) (λ messages. pos 0) (λ moment reply. Unit {0}) 1 c.in-Ok.guests.items (λ k d within. refl) }

@@ -1,0 +1,9 @@
+use Rattle.std.proofs.Common.{pos}
+use Rattle.mb_dispatch_tests.specs.Sum.{sum_of}
+use Rattle.mb_dispatch_tests.proofs.Casting.{alike-behaved}
+use Rattle.mb_dispatch_tests.specs.declared.player.Player.{Player}
+use Rattle.mb_dispatch_tests.proofs.together.run_together.Goals as goal
+
+pub report_of-requires : goal.report_of-requires
+report_of-requires g c =
+    record { behaved = alike-behaved (λ (p : Player). p.sum) sum_of (λ moment reply. Unit {0}) 1 c.in-Ok.players.items c.in-Ok.ensures }

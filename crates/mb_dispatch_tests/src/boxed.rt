@@ -1,0 +1,76 @@
+//! Boxed actors of two kinds in one system.
+ghost use Rattle.std.specs.Prelude.{◌≡◌, [], All, IfOk};
+
+use crate::player::{ADD, COUNTER, Player};
+use crate::story::{PLAIN, Story, orders_of, plan_of, said, text_of, told, words};
+use crate::watcher::Watcher;
+use mb_actor::{Actor, Outbox};
+use mb_dispatch::run_boxed;
+use mb_msg::{ActorId, Body};
+use std::alloc::{AllocError, Global};
+use std::sync::Wait;
+use std::test::Fail;
+
+/// The first watches the second, which is poisoned between two messages.
+const REPORT: &str = "\
+guardian live state - suspended 0 handled 0 left 0 dead 0 restarts 0
+a1 live state 0 suspended 0 handled 1 left 0 dead 0 restarts 0
+a2 ended state 1 suspended 0 handled 2 left 0 dead 1 restarts 0
+sent 4 handled 3 left 0 dead 1
+";
+
+/// The report of these two.
+fn run_both<R: Wait>(
+    rt: &R,
+    alloc: Global,
+    first: Box<dyn Actor + Send>,
+    second: Box<dyn Actor + Send>,
+) -> Option<String> {
+    let story = Story {
+        parts: &[COUNTER, COUNTER],
+        ..PLAIN
+    };
+    let orders = [told(2, ADD, 1), said(2, Body::PoisonPill), told(2, ADD, 2)];
+    let plan = plan_of(alloc, &story).ok()?;
+    let sends = orders_of(alloc, 1, &orders).ok()?;
+    let Ok(actors) = fresh(alloc, first, second) else {
+        return None;
+    };
+    match run_boxed(rt, alloc, plan, actors, &sends) {
+        Ok(report) => text_of(alloc, &report, 2),
+        Err(_) => None,
+    }
+}
+
+// These two, each of which has begun anew.
+fn fresh(
+    alloc: Global,
+    first: Box<dyn Actor + Send>,
+    second: Box<dyn Actor + Send>,
+) -> Result<Vec<Box<dyn Actor + Send>>, AllocError>
+    ensures { IfOk result (λ actors. All (λ actor. content actor ≡ after actor []) actors.items) }
+{
+    let mut actors = Vec::new(alloc);
+    actors.push(begun(alloc, first))?;
+    actors.push(begun(alloc, second))?;
+    Ok(actors)
+}
+
+// It has begun anew: so it shows what it shows after no message.
+fn begun(alloc: Global, actor: Box<dyn Actor + Send>) -> Box<dyn Actor + Send>
+    ensures { content result ≡ after result [] }
+{
+    let mut actor = actor;
+    let mut out = Outbox::new(1, &Vec::new(alloc));
+    let _answer = actor.start(&mut out);
+    actor
+}
+
+#[test]
+fn a_boxed_actor_watches_one_of_another_kind(rt: HostRuntime) -> Result<(), Fail> {
+    let first: Box<dyn Actor + Send> = Box::new(rt.alloc(), Watcher { of: ActorId(2) })?;
+    let second: Box<dyn Actor + Send> = Box::new(rt.alloc(), Player::new(COUNTER))?;
+    let found = run_both(&rt, rt.alloc(), first, second);
+    assert_eq!(rt; words(&found), REPORT);
+    Ok(())
+}

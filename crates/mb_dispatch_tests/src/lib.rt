@@ -1,0 +1,27 @@
+//! The tests of the dispatcher: whole runs, on threads and on one thread, each with the report that it must give.
+#![tactic(auto)]
+
+#[cfg(test)]
+mod alone;
+#[cfg(test)]
+mod boxed;
+#[cfg(test)]
+mod crowd;
+#[cfg(test)]
+mod ended;
+#[cfg(test)]
+mod guest;
+#[cfg(test)]
+mod limited;
+#[cfg(test)]
+mod meeting;
+#[cfg(test)]
+mod player;
+#[cfg(test)]
+mod story;
+#[cfg(test)]
+mod supervised;
+#[cfg(test)]
+mod together;
+#[cfg(test)]
+mod watcher;

@@ -1,0 +1,130 @@
+//! What is played: who acts, and what is sent.
+use crate::player::Part;
+use mb_dispatch::{Order, What};
+use mb_journal::{Pattern, Strategy};
+use mb_msg::{ActorId, Body};
+use mb_plan::{ActorPlan, Kind, Plan, Pool};
+use mb_report::{Report, report_text};
+use std::alloc::{AllocError, Global};
+
+/// A system of players, each of whose senders is to send the same.
+#[derive(Clone, Copy)]
+pub struct Story<'a> {
+    pub workers: u32,
+    pub pool: Pool,
+    pub senders: u32,
+    pub journal_limit: u32,
+    pub parts: &'a [Part],
+    pub orders: &'a [Order],
+}
+
+/// Nobody, with two workers and one sender.
+pub const PLAIN: Story<'static> = Story {
+    workers: 2,
+    pool: Pool::Shared,
+    senders: 1,
+    journal_limit: 100,
+    parts: &[],
+    orders: &[],
+};
+
+/// A message of this kind and value.
+pub fn told(to: u32, kind: u32, value: i64) -> Order {
+    said(to, Body::User { kind, value })
+}
+
+/// This body.
+pub fn said(to: u32, body: Body) -> Order {
+    Order {
+        to: ActorId(to),
+        what: What::Tell(body),
+    }
+}
+
+/// The plan of a story.
+pub fn plan_of(alloc: Global, story: &Story<'_>) -> Result<Plan, AllocError> {
+    let mut actors = Vec::new(alloc);
+    for part in story.parts {
+        actors.push(actor_plan(alloc, part)?)?;
+    }
+    Ok(Plan {
+        throughput: 5,
+        workers: story.workers,
+        pool: story.pool,
+        senders: story.senders,
+        journal_limit: story.journal_limit,
+        actors,
+    })
+}
+
+fn actor_plan(alloc: Global, part: &Part) -> Result<ActorPlan, AllocError> {
+    let mut rows = Vec::new(alloc);
+    if let Some(directive) = part.directive {
+        rows.push((Pattern::AnyError, directive))?;
+    }
+    Ok(ActorPlan {
+        parent: ActorId(part.parent),
+        mailbox: match part.capacity {
+            Some(capacity) => Kind::Bounded(capacity),
+            None => Kind::Unbounded,
+        },
+        strategy: Strategy {
+            rows,
+            retries: part.retries,
+            all_for_one: false,
+        },
+    })
+}
+
+/// What each of so many senders is to send.
+pub fn orders_of(
+    alloc: Global,
+    senders: u32,
+    orders: &[Order],
+) -> Result<Vec<Vec<Order>>, AllocError> {
+    let mut all = Vec::new(alloc);
+    for _ in 0..senders {
+        all.push(copy_of(alloc, orders)?)?;
+    }
+    Ok(all)
+}
+
+/// The same orders.
+pub fn copy_of(alloc: Global, orders: &[Order]) -> Result<Vec<Order>, AllocError> {
+    let mut copy = Vec::new(alloc);
+    copy.extend_from_slice(orders)?;
+    Ok(copy)
+}
+
+/// The text of a report on so many actors, whose names are a1, a2 and so on. Nothing where they are not as many, or memory was
+/// refused.
+pub fn text_of(alloc: Global, report: &Report, count: usize) -> Option<String> {
+    let Ok(names) = names_of(alloc, count) else {
+        return None;
+    };
+    if report.actors.len() != names.len() + 1 {
+        return None;
+    }
+    report_text(alloc, report, &names).ok()
+}
+
+fn names_of(alloc: Global, count: usize) -> Result<Vec<String>, AllocError> {
+    let mut names = Vec::new(alloc);
+    for place in 0..count {
+        names.push(name_of(alloc, place)?)?;
+    }
+    Ok(names)
+}
+
+fn name_of(alloc: Global, place: usize) -> Result<String, AllocError> {
+    let number = place.wrapping_add(1);
+    format!(in alloc; "a{number}")
+}
+
+/// What was found, to be compared; "no report" if nothing was.
+pub fn words(found: &Option<String>) -> &str {
+    match found {
+        Some(text) => text.as_str(),
+        None => "no report",
+    }
+}

@@ -1,0 +1,119 @@
+//! Whole runs on threads: all workers run while each sender sends.
+ghost use Rattle.std.specs.Prelude.{◌≡◌, IfOk, map};
+ghost use Rattle.mb_build.specs.Behaved.{AreBehaved};
+ghost use Rattle.mb_system.specs.Belonging.{BelongsTogether};
+
+use crate::player::{Adding, Player, players_of};
+use crate::story::{Story, copy_of, plan_of, text_of};
+use mb_actor::{Actor, Behaviours};
+use mb_dispatch::{Built, Job, Order, Sender, System, finish};
+use mb_plan::Plan;
+use mb_report::Report;
+use std::alloc::{AllocError, Global};
+use std::sync::Wait;
+use std::thread::Threads;
+
+/// The report's text of this story; nothing where there is none.
+pub fn run_together<R: Threads + Wait + Sync>(
+    rt: &R,
+    alloc: Global,
+    story: &Story<'_>,
+) -> Option<String> {
+    let plan = plan_of(alloc, story).ok()?;
+    let Ok(players) = players_of(alloc, story.parts) else {
+        return None;
+    };
+    match report_of::<Player, Adding, R>(rt, alloc, plan, players, story.orders) {
+        Ok(Some(report)) => text_of(alloc, &report, story.parts.len()),
+        _ => None,
+    }
+}
+
+/// The report of this plan, each of whose senders sends this; nothing where there is none.
+pub fn report_of<A: Actor + Send, K: Behaviours + Send, R: Threads + Wait + Sync>(
+    rt: &R,
+    alloc: Global,
+    plan: Plan,
+    actors: Vec<A>,
+    orders: &[Order],
+) -> Result<Option<Report>, AllocError>
+    requires behaved { AreBehaved A.content A.after A.gives K.after K.gives 1 actors.items }
+{
+    let built = begin::<A, K, R>(rt, alloc, plan, actors)?;
+    let Built {
+        system,
+        mut ends,
+        senders,
+    } = built;
+    let mut jobs = jobs_of(alloc, senders, orders)?;
+    let workers = ends.as_mut_slice();
+    let tasks = jobs.as_mut_slice();
+    match system.run(rt, workers, tasks) {
+        Ok(()) => {}
+        Err(_) => return Ok(None),
+    }
+    let senders = senders_of(alloc, jobs)?;
+    let ended = Built {
+        system,
+        ends,
+        senders,
+    };
+    Ok(end(rt, ended))
+}
+
+// The system of this plan, which is right.
+fn begin<A: Actor, K: Behaviours, R: Wait>(
+    rt: &R,
+    alloc: Global,
+    plan: Plan,
+    actors: Vec<A>,
+) -> Result<Built<A, K>, AllocError>
+    requires behaved { AreBehaved A.content A.after A.gives K.after K.gives 1 actors.items }
+    ensures { IfOk result BelongsTogether }
+{
+    match System::<A, K>::build(rt, alloc, plan, actors) {
+        Ok(built) => Ok(built),
+        Err(_) => Err(AllocError),
+    }
+}
+
+// The report of a system that ends.
+fn end<A: Actor, K: Behaviours, R: Wait>(rt: &R, built: Built<A, K>) -> Option<Report>
+    requires together { BelongsTogether built }
+{
+    match finish(rt, built) {
+        Ok(report) => Some(report),
+        Err(_) => None,
+    }
+}
+
+// A job for each sender, with these orders.
+fn jobs_of<A: Actor, K: Behaviours>(
+    alloc: Global,
+    senders: Vec<Sender<A, K>>,
+    orders: &[Order],
+) -> Result<Vec<Job<A, K>>, AllocError>
+    ensures { IfOk result (λ jobs. map (λ job. job.sender) jobs.items ≡ senders.items) }
+{
+    let mut jobs = Vec::new(alloc);
+    for sender in senders {
+        let sends = copy_of(alloc, orders)?;
+        jobs.push(Job { sender, sends })?;
+    }
+    Ok(jobs)
+}
+
+// The senders of these jobs.
+fn senders_of<A: Actor, K: Behaviours>(
+    alloc: Global,
+    jobs: Vec<Job<A, K>>,
+) -> Result<Vec<Sender<A, K>>, AllocError>
+    ensures { IfOk result (λ senders. senders.items ≡ map (λ job. job.sender) jobs.items) }
+{
+    let mut senders = Vec::new(alloc);
+    for job in jobs {
+        let Job { sender, sends: _ } = job;
+        senders.push(sender)?;
+    }
+    Ok(senders)
+}
