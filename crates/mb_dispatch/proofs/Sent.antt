@@ -1,14 +1,17 @@
 -- Senders that do their orders, one after another.
 use Rattle.std.proofs.Common.{◌≡◌, ◌⊎◌, inl, inr, ℕ, zero, suc, ◌+◌, ◌-◌, ◌<◌, ◌≤◌, List, [], ◌∷◌, length, map, refl, sym, ap, ◌∙◌, subst, Some}
 use Rattle.std.proofs.Common.{arith, get_or, Vec}
-use Rattle.std.specs.Prelude.{◌≢◌, All, slice_get, slice_set}
+use Rattle.std.specs.Prelude.{◌≢◌, All, Err, IfErr, IsErrAnd, Ok, Result, slice_get, slice_set}
 use Rattle.std.specs.Global.{Box, Global}
 use Rattle.std.proofs.lemmas.Bool.{cases_eq}
 use Rattle.std.proofs.lemmas.List.{length-set}
 use Rattle.std.proofs.lemmas.Option.{same_Some, slice_get_read, slice_get_within}
 use Rattle.mb_msg.specs.Limits.{most_actors}
+use Rattle.mb_msg.specs.declared.id.ActorId.{ActorId}
 use Rattle.mb_msg.specs.declared.id.SenderId.{SenderId}
 use Rattle.mb_actor.specs.Behaviour.{Moment, Reply}
+use Rattle.mb_gate.specs.Names.{actors_of, known_by}
+use Rattle.mb_gate.specs.Rule.{IsPart}
 use Rattle.mb_gate.specs.declared.gates.Gates.{Gates}
 use Rattle.mb_home.specs.Contents.{Contents}
 use Rattle.mb_pool.specs.Moves.{WasEmpty}
@@ -17,15 +20,28 @@ use Rattle.mb_turn.specs.Fresh.{IsFreshClaim}
 use Rattle.mb_wake.specs.Owed.{IsNobody}
 use Rattle.mb_reckon.proofs.Lists.{mapped, same-maps, there}
 use Rattle.mb_system.specs.Belonging.{BelongsTogether, senders_numbers}
+use Rattle.mb_system.specs.Faults.{IsToNobody}
 use Rattle.mb_system.specs.Members.{IsEndOf, IsSenderOf, ends_numbers}
 use Rattle.mb_system.specs.Orders.{HasSent, OwesNobody}
 use Rattle.mb_system.specs.declared.built.Built.{Built}
 use Rattle.mb_system.specs.declared.end.WorkerEnd.{WorkerEnd}
+use Rattle.mb_system.specs.declared.failure.RunError.{RunError}
+use Rattle.mb_system.specs.declared.failure.RunError.TheVariants as Fault
 use Rattle.mb_system.specs.declared.order.Order.{Order}
+use Rattle.mb_system.specs.declared.order.What.{What}
+use Rattle.mb_system.specs.declared.order.What.TheVariants.{Stop, Tell}
+use Rattle.mb_system.specs.declared.system.System.{System}
 use Rattle.mb_system.specs.declared.sender.Sender.{Sender}
 use Rattle.mb_system.proofs.Alike.{look-alike}
 use Rattle.mb_system.proofs.Together.{again, by_of}
-use Rattle.mb_dispatch.specs.Sent.{FoundNothing, HaveSent}
+use Rattle.mb_dispatch.specs.Sent.{BreaksOff, FoundNothing, HaveSent, SeeOn}
+use Rattle.mb_dispatch.specs.Untold.{IsForNobody, MayBreak}
+use Rattle.mb_dispatch.proofs.Parts.{part-same}
+
+-- what holds of an error holds where it is passed on
+pub err-of : {T E : Type 0} (Q : E → Type 0) (r : Result T E) (e : E) → IsErrAnd r (λ y. y ≡ e) → Q e → IfErr r Q
+err-of Q (Ok x) e passed holds = tt
+err-of Q (Err y) e passed holds = subst Q (sym passed) holds
 
 module _ {X : Type 0} where
   set-here : (xs : List X) (n : ℕ) (x : X) → n < length xs → slice_get (slice_set xs n x) n ≡ Some x
@@ -73,11 +89,16 @@ module _ {X : Type 0} (R : ℕ → X → X → Type 0) where
 abbrev pub orders_of : List (Vec Order Global) → List (List Order)
 orders_of = map (λ (v : Vec Order Global). v.items)
 
+-- what stands at a place
+pub orders-here : (sends : List (Vec Order Global)) (place : ℕ) (v : Vec Order Global) (given : List Order) → place < length sends
+    → v ≡ get_or sends place v → given ≡ v.items → slice_get (orders_of sends) place ≡ Some given
+orders-here sends place v given lt is same =
+    mapped (λ (v : Vec Order Global). v.items) sends place v (slice_get_read sends (length sends) place v refl lt is)
+    ∙ ap (λ (l : List Order). Some l) (sym same)
+
 pub orders-at : (sends : List (Vec Order Global)) (place : ℕ) (v : Vec Order Global) (of given : List Order) → place < length sends
     → v ≡ get_or sends place v → given ≡ v.items → slice_get (orders_of sends) place ≡ Some of → given ≡ of
-orders-at sends place v of given lt is same there =
-    let at : slice_get sends place ≡ Some v = slice_get_read sends (length sends) place v refl lt is in
-    same ∙ same_Some v.items of (sym (mapped (λ (v : Vec Order Global). v.items) sends place v at) ∙ there)
+orders-at sends place v of given lt is same there = same_Some given of (sym (orders-here sends place v given lt is same) ∙ there)
 
 module _ {A K : Type 0} (gates : Gates (Box Contents)) (orders : List (List Order)) where
   -- the sender of this place did what was ordered
@@ -120,6 +141,17 @@ module _ {A K : Type 0} where
   first-number old new [] some is same = absurd (some refl)
   first-number old new (x ∷ ends) some is same = ap (λ n. n ∷ ends_numbers ends) (same ∙ ap (λ (w : WorkerEnd A K). w.number) is)
 
+  -- an end that goes on from the first is put in its place
+  see-same : (ends : List (WorkerEnd A K)) → SeeOn ends ends
+  see-same [] = tt
+  see-same (x ∷ ends) = (part-same (known_by x.waker.pass).log, see-same ends)
+
+  pub see-on : (old new : WorkerEnd A K) (ends : List (WorkerEnd A K)) → ends ≢ [] → old ≡ get_or ends 0 old
+      → IsPart (known_by old.waker.pass).log (known_by new.waker.pass).log → SeeOn ends (slice_set ends 0 new)
+  see-on old new [] some is saw = absurd (some refl)
+  see-on old new (x ∷ ends) some is saw =
+      (subst (λ (e : WorkerEnd A K). IsPart (known_by e.waker.pass).log (known_by new.waker.pass).log) is saw, see-same ends)
+
   -- the first of the ends, which ran, found nothing more
   pub found-nothing : (gives : ℕ → Moment → Reply → Type 0) (ends : List (WorkerEnd A K)) (e : WorkerEnd A K) → ends ≢ []
       → IsNobody e.waker.owed → (way : Way (Box Contents)) → gates_of way ≡ gates_of e.waker.way.end
@@ -127,3 +159,20 @@ module _ {A K : Type 0} where
   found-nothing gives [] e some nobody way of empty = absurd (some refl)
   found-nothing gives (x ∷ ends) e some nobody way of empty =
       record { first = e; rest = ends; are = refl; nobody = nobody; way = way; of = of; empty = empty }
+
+-- what is to nobody by the gates is for none of so many actors
+for-nobody : (gates : Gates (Box Contents)) (many : ℕ) (to : ActorId) (what : What) → actors_of gates ≡ many → IsToNobody gates to what
+    → IsForNobody many to what
+for-nobody gates many to (Tell body) same (inl guardian) = inl guardian
+for-nobody gates many to (Tell body) same (inr beyond) = inr (subst (λ n. n ≤ to.0) same beyond)
+for-nobody gates many to Stop same beyond = subst (λ n. n ≤ to.0) same beyond
+
+module _ {A K : Type 0} where
+  -- for which faults a whole run may be broken off
+  pub may-break : (gives : ℕ → Moment → Reply → Type 0) (system : System A K) (orders : List (List Order)) (many : ℕ) (error : RunError)
+      → actors_of system.gates ≡ many → BreaksOff gives system orders error → MayBreak many orders error
+  may-break gives system orders many Fault.NoMemory same broken = tt
+  may-break gives system orders many Fault.JournalFull same broken = tt
+  may-break gives system orders many Fault.NoSuchActor same (inl one) =
+      (one.0, one.1, one.2, (one.3.0, one.3.1, for-nobody system.gates many one.3.0.to one.3.0.what same one.3.2))
+  may-break gives system orders many Fault.NoSuchActor same (inr work) = absurd work.1

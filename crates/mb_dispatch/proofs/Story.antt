@@ -3,7 +3,7 @@ use Rattle.std.proofs.Common.{◌≡◌, ◌<◌, ◌≤◌, ℤ, ℕ, zero, suc
 use Rattle.std.specs.Prelude.{◌≢◌, All, reverse, slice_get}
 use Rattle.std.specs.Global.{Box}
 use Rattle.std.proofs.lemmas.List.{append-nil, length-map}
-use Rattle.std.proofs.lemmas.List.Elements.{All-map}
+use Rattle.std.proofs.lemmas.List.Elements.{All-head, All-map}
 use Rattle.std.proofs.lemmas.Option.{get_or_from_slice_get, same_Some, slice_get_within}
 use Rattle.mb_msg.specs.Limits.{most_actors}
 use Rattle.mb_actor.specs.Behaviour.{Moment, Reply}
@@ -32,8 +32,9 @@ use Rattle.mb_system.specs.declared.end.WorkerEnd.{WorkerEnd}
 use Rattle.mb_system.specs.declared.order.Order.{Order}
 use Rattle.mb_system.specs.declared.sender.Sender.{Sender}
 use Rattle.mb_dispatch.specs.Belonging.{AreAnswers, AreThere, HasAllSeen}
-use Rattle.mb_dispatch.specs.Sent.{HaveSent}
+use Rattle.mb_dispatch.specs.Sent.{HaveSent, SeeOn}
 use Rattle.mb_dispatch.specs.Story.{DidOrders, IsStory}
+use Rattle.mb_dispatch.proofs.Parts.{part-trans}
 use Rattle.mb_dispatch.proofs.Rolls.{of-plan}
 use Rattle.mb_dispatch.proofs.Sent.{numbers-kept}
 
@@ -84,6 +85,15 @@ module _ {A K : Type 0} (gates : Gates (Box Contents)) where
       )
   new-at number (row ∷ rows) (x ∷ senders) (suc place) s are is =
       let rest = new-at (number + 1) rows senders place s are.1 is in (rest.0 ∙ (omega arith), rest.1, rest.2)
+
+module _ {A K : Type 0} where
+  -- what the first of the ends had seen is among all that they saw
+  led : (log : List Sight) (end : WorkerEnd A K) (others now : List (WorkerEnd A K)) → SeeOn (end ∷ others) now
+      → All (λ (e : WorkerEnd A K). IsPart (known_by e.waker.pass).log log) now → IsPart (known_by end.waker.pass).log log
+  led log end others [] saw seen = absurd saw
+  led log end others (e ∷ now) saw seen =
+      part-trans (known_by end.waker.pass).log (known_by e.waker.pass).log log saw.0
+      (All-head (λ (x : WorkerEnd A K). IsPart (known_by x.waker.pass).log log) e now seen)
 
 module _ {A K : Type 0} (gives : ℕ → Moment → Reply → Type 0) (plan : Plan) (built : Built A K) (begun : IsBegun gives plan built) where
   -- all senders and ends of the plan are there, in order
@@ -144,12 +154,13 @@ module _ {A K : Type 0} (gives : ℕ → Moment → Reply → Type 0) (plan : Pl
           said = ap (λ (v : View). said_to v.said) (sym after.2) ∙ one.said ∙ ap (λ l. terminates ++ said_to l) new.2 ∙ append-nil terminates;
         }
 
-    pub story : (after : ℕ → List Message → ℤ) (report : Report) (log : List Sight) (answers : List (List Posting)) → HasAllSeen now log
+    pub story : (after : ℕ → List Message → ℤ) (report : Report) (log : List Sight) (answers : List (List Posting))
+        → SeeOn built.ends.items now.ends.items → HasAllSeen now log
         → AreAnswers now.system.senders now.senders.items answers
         → IsWhole after gives (first_of now.system.gates).value.roll log answers report
         → All (λ (e : WorkerEnd A K). GoesOnFromAll report (known_by e.waker.pass)) now.ends.items
         → All (λ (s : Sender A K). GoesOnFromAll report (known_by s.inner.waker.pass)) now.senders.items → IsStory after gives plan orders report
-    story after report log answers seen answered whole ends_seen senders_seen =
+    story after report log answers saw seen answered whole ends_seen senders_seen =
         let plan_is = of-plan gives plan built begun in
         let knows = λ (s : Sender A K). known_by s.inner.waker.pass in
         let knew = λ (e : WorkerEnd A K). known_by e.waker.pass in
@@ -170,6 +181,11 @@ module _ {A K : Type 0} (gives : ℕ → Moment → Reply → Type 0) (plan : Pl
           seen = (
             All-map IsTold knows now.senders.items (λ k d lt. (seen.1 k d lt, senders_seen k d lt)),
             All-map IsTold knew now.ends.items (λ k d lt. (seen.0 k d lt, ends_seen k d lt)),
+          );
+          created = (
+            begun.created.0,
+            subst (λ l. IsPart l log) begun.created.1
+                (led log begun.end begun.others now.ends.items (subst (λ l. SeeOn l now.ends.items) begun.ends_are saw) seen.0),
           );
           did = did-orders answers answered;
         }

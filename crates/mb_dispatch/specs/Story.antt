@@ -1,13 +1,14 @@
 -- A whole run, from the plan and the actors to the report.
-use Rattle.std.specs.Prelude.{◌≡◌, ℕ, zero, suc, ◌+◌, ℤ, pos, List, All, Option, Some, None, length, map, reverse, slice_get}
+use Rattle.std.specs.Prelude.{◌≡◌, ℕ, zero, suc, ◌+◌, ℤ, pos, List, [], ◌∷◌, All, Option, Some, None, length, map, reverse, slice_get}
 use Rattle.mb_actor.specs.Behaviour.{Moment, Reply}
 use Rattle.mb_actor.specs.declared.message.Message.{Message}
 use Rattle.mb_build.specs.Kinds.{Queues}
 use Rattle.mb_fates.specs.Accepted.{accepted}
 use Rattle.mb_fates.specs.declared.posting.Posting.{Posting}
 use Rattle.mb_gate.specs.Rule.{IsPart}
-use Rattle.mb_gate.specs.View.{Sight, View}
+use Rattle.mb_gate.specs.View.{Pushed, Sight, View}
 use Rattle.mb_home.specs.Roll.{Enrolled}
+use Rattle.mb_msg.specs.declared.system.SysMsg.TheVariants.{Create}
 use Rattle.mb_plan.specs.declared.actor_plan.ActorPlan.{ActorPlan}
 use Rattle.mb_plan.specs.declared.plan.Plan.{Plan}
 use Rattle.mb_queue.specs.Made.{bound_of, turns_in}
@@ -54,7 +55,7 @@ pub record DidOrders (orders : List Order) (postings : List Posting) (knew : Vie
   pub said : said_to knew.said ≡ reverse (stopped_by orders)
 
 -- The report is whole of the actors of this plan, and of its senders outside, of whom each did the orders of its place: it speaks of all that
--- the senders and the workers' ends saw, and goes on from that.
+-- the senders and the workers' ends saw, and goes on from that; and they saw that a Create went into the guardian's list.
 pub record IsStory (after : ℕ → List Message → ℤ) (gives : ℕ → Moment → Reply → Type 0) (plan : Plan) (orders : List (List Order)) (report : Report)
     : Type 0 where
   pub roll : List Enrolled
@@ -70,5 +71,6 @@ pub record IsStory (after : ℕ → List Message → ℤ) (gives : ℕ → Momen
   pub ends : List View
   pub all_ends : length ends ≡ plan.workers
   pub seen : All (λ (v : View). IsPart v.log log × GoesOnFromAll report v) knew × All (λ (v : View). IsPart v.log log × GoesOnFromAll report v) ends
+  pub created : (number : ℕ) × IsPart (Pushed 0 number Create ∷ []) log
   pub did : (place : ℕ) (of : List Order) (postings : List Posting) (view : View) → slice_get orders place ≡ Some of
       → slice_get outside place ≡ Some postings → slice_get knew place ≡ Some view → DidOrders of postings view

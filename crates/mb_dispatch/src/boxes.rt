@@ -26,7 +26,8 @@ pub enum WholeError {
     Sends,
     /// Memory was refused as the system was built, or as it was to end.
     NoMemory,
-    /// What was to be sent could not be, or the run was broken off.
+    /// What was to be sent could not be, or the run was broken off: `NoSuchActor` only where something was to be sent to an actor
+    /// that there is not, or an envelope to the guardian.
     Run(RunError),
     /// This actor has something to run still.
     NotQuiet(ActorId),
@@ -49,8 +50,8 @@ pub fn run_boxed<R: Wait>(
     requires unused { All (λ actor. content actor ≡ after actor []) actors.items }
     ensures story { IfOk result (IsStory (after_at actors.items after) (gives_at actors.items gives) plan
         (map (λ orders. orders.items) sends.now)) }
-    ensures right { OnOk result (IsRight plan (length actors.items) (length sends.now)) }
-    ensures refused { IfErr result (IsNoStory plan (length actors.items) (length sends.now)) }
+    ensures right { OnOk result (IsRight plan (length actors.items) (map (λ orders. orders.items) sends.now)) }
+    ensures refused { IfErr result (IsNoStory plan (length actors.items) (map (λ orders. orders.items) sends.now)) }
 {
     run_whole::<Box<dyn Actor + Send>, R>(rt, alloc, plan, actors, sends)
 }
@@ -66,8 +67,8 @@ pub fn run_whole<A: Actor, R: Wait>(
     requires unused { All (λ actor. A.content actor ≡ A.after actor []) actors.items }
     ensures story { IfOk result (IsStory (after_at actors.items A.after) (gives_at actors.items A.gives) plan
         (map (λ orders. orders.items) sends.now)) }
-    ensures right { OnOk result (IsRight plan (length actors.items) (length sends.now)) }
-    ensures refused { IfErr result (IsNoStory plan (length actors.items) (length sends.now)) }
+    ensures right { OnOk result (IsRight plan (length actors.items) (map (λ orders. orders.items) sends.now)) }
+    ensures refused { IfErr result (IsNoStory plan (length actors.items) (map (λ orders. orders.items) sends.now)) }
 {
     run_planned::<A, Brand, R>(rt, alloc, plan, actors, sends)
 }
@@ -82,10 +83,10 @@ fn run_planned<A: Actor, K: Behaviours, R: Wait>(
 ) -> Result<Report, WholeError>
     requires behaved { AreBehaved A.content A.after A.gives K.after K.gives 1 actors.items }
     ensures story { IfOk result (IsStory K.after K.gives plan (map (λ orders. orders.items) sends.now)) }
-    ensures right { OnOk result (IsRight plan (length actors.items) (length sends.now)) }
-    ensures refused { IfErr result (IsNoStory plan (length actors.items) (length sends.now)) }
+    ensures right { OnOk result (IsRight plan (length actors.items) (map (λ orders. orders.items) sends.now)) }
+    ensures refused { IfErr result (IsNoStory plan (length actors.items) (map (λ orders. orders.items) sends.now)) }
 {
-    check(&plan, actors.len(), sends.len())?;
+    check(&plan, actors.len(), sends)?;
     let mut built = match System::<A, K>::build(rt, alloc, plan, actors) {
         Ok(built) => built,
         Err(BuildError::NoMemory) => return Err(WholeError::NoMemory),
@@ -106,13 +107,14 @@ fn run_planned<A: Actor, K: Behaviours, R: Wait>(
 }
 
 // What is refused before anything is done.
-fn check(plan: &Plan, actors: usize, lists: usize) -> Result<(), WholeError>
-    ensures { MatchResult result (λ _. IsRight plan.now actors lists) (IsNoStory plan.now actors lists) }
+fn check(plan: &Plan, actors: usize, sends: &[Vec<Order>]) -> Result<(), WholeError>
+    ensures { MatchResult result (λ _. IsRight plan.now actors (map (λ orders. orders.items) sends.now))
+        (IsNoStory plan.now actors (map (λ orders. orders.items) sends.now)) }
 {
     if let Err(reason) = check_plan(plan, actors) {
         return Err(WholeError::BadPlan(reason));
     }
-    if lists != plan.senders as usize {
+    if sends.len() != plan.senders as usize {
         return Err(WholeError::Sends);
     }
     Ok(())

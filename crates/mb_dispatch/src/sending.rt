@@ -1,9 +1,10 @@
 //! All that is to be sent, and a run of what that leaves to run.
-ghost use Rattle.std.specs.Prelude.{◌≡◌, ◌≢◌, [], All, OnOk, length, map};
+ghost use Rattle.std.specs.Prelude.{◌≡◌, ◌≢◌, [], All, IfErr, OnOk, length, map};
 ghost use Rattle.mb_system.specs.Belonging.{BelongsTogether};
+ghost use Rattle.mb_system.specs.Faults.{BreaksSending};
 ghost use Rattle.mb_system.specs.Members.{IsSenderOf, ends_numbers};
 ghost use Rattle.mb_system.specs.Orders.{HasSent, OwesNobody};
-ghost use Rattle.mb_dispatch.specs.Sent.{FoundNothing, HaveSent};
+ghost use Rattle.mb_dispatch.specs.Sent.{BreaksOff, BreaksOne, FoundNothing, HaveSent, SeeOn};
 
 use mb_actor::{Actor, Behaviours};
 use mb_system::{Built, Order, RunError, Sender, System};
@@ -26,7 +27,9 @@ pub(crate) fn send_and_run<A: Actor, K: Behaviours, R: Wait>(
     ensures ends { OnOk result (ends_numbers built.new.ends.items ≡ ends_numbers built.old.ends.items) }
     ensures sent { OnOk result (HaveSent built.old.system.gates (map (λ orders. orders.items) sends.now) built.old.senders.items
         built.new.senders.items) }
+    ensures saw { OnOk result (SeeOn built.old.ends.items built.new.ends.items) }
     ensures quiet { OnOk result (FoundNothing K.gives built.new.ends.items) }
+    ensures fault { IfErr result (BreaksOff K.gives built.old.system (map (λ orders. orders.items) sends.now)) }
 {
     send_each(rt, &built.system, &mut built.senders, sends)?;
     let _turns = built.ends[0].run_quietly(rt, &built.system)?;
@@ -44,6 +47,7 @@ fn send_each<A: Actor, K: Behaviours, R: Wait>(
     requires many { length senders.old ≡ length sends.now }
     ensures ours { All (λ s. IsSenderOf system.now.gates s.inner) senders.new }
     ensures sent { OnOk result (HaveSent system.now.gates (map (λ orders. orders.items) sends.now) senders.old senders.new) }
+    ensures fault { IfErr result (BreaksOne system.now.gates (map (λ orders. orders.items) sends.now)) }
 {
     for place in 0..senders.len() {
         send_and_pay(rt, system, &mut senders[place], &sends[place])?;
@@ -61,6 +65,7 @@ fn send_and_pay<A: Actor, K: Behaviours, R: Wait>(
     requires ours { IsSenderOf system.now.gates sender.old.inner }
     ensures ours { IsSenderOf system.now.gates sender.new.inner }
     ensures sent { OnOk result (HasSent orders.now sender.old sender.new × OwesNobody system.now.gates sender.new) }
+    ensures fault { IfErr result (BreaksSending system.now.gates orders.now) }
 {
     sender.send_all(rt, system, orders)?;
     sender.pay(rt, system)

@@ -1,4 +1,4 @@
-use Rattle.std.proofs.Common.{refl, sym, ◌∙◌, subst, Vec}
+use Rattle.std.proofs.Common.{refl, sym, ◌∙◌, subst, Vec, inr}
 use Rattle.std.specs.Prelude.{All}
 use Rattle.std.specs.Global.{Global}
 use Rattle.std.specs.Vec.{with_item, with_items}
@@ -7,8 +7,8 @@ use Rattle.std.proofs.lemmas.List.Elements.{All-set}
 use Rattle.mb_reckon.proofs.Lists.{length-mapped}
 use Rattle.mb_system.specs.Members.{IsEndOf, IsSenderOf}
 use Rattle.mb_system.specs.declared.order.Order.{Order}
-use Rattle.mb_dispatch.specs.Sent.{HaveSent}
-use Rattle.mb_dispatch.proofs.Sent.{first-number, found-nothing, orders_of, together-kept}
+use Rattle.mb_dispatch.specs.Sent.{BreaksOff, HaveSent}
+use Rattle.mb_dispatch.proofs.Sent.{err-of, first-number, found-nothing, orders_of, see-on, together-kept}
 use Rattle.mb_dispatch.proofs.sending.send_and_run.Goals as goal
 
 pub returns-clause-quiet : goal.returns-clause-quiet
@@ -27,6 +27,16 @@ pub returns-clause-ends : goal.returns-clause-ends
 returns-clause-ends g c =
     first-number c.index_mut.result.now c.run_quietly.new.self c.args.built.now.ends.items c.requires.some c.index_mut.ensures.value
     c.in_ok-_turns.ensures.number
+
+pub returns-in_err-_turns-clause-fault : goal.returns-in_err-_turns-clause-fault
+returns-in_err-_turns-clause-fault g c =
+    err-of (BreaksOff g.K.Behaviours.gives c.args.built.now.system (orders_of c.args.sends.now)) c.from_residual-in_err-_turns.result
+    c.in_err-_turns.field-0.0 c.from_residual-in_err-_turns.ensures.1 (inr (c.run_quietly.new.self, c.in_err-_turns.ensures.fault))
+
+pub returns-clause-saw : goal.returns-clause-saw
+returns-clause-saw g c =
+    see-on c.index_mut.result.now c.run_quietly.new.self c.args.built.now.ends.items c.requires.some c.index_mut.ensures.value
+    c.in_ok-_turns.ensures.saw
 
 pub returns-clause-together : goal.returns-clause-together
 returns-clause-together g c =

@@ -4,7 +4,8 @@ use Rattle.std.proofs.lemmas.List.Elements.{All-set}
 use Rattle.std.proofs.lemmas.Option.{slice_get-get_or}
 use Rattle.mb_system.specs.Members.{IsSenderOf}
 use Rattle.mb_system.specs.Orders.{HasSent, OwesNobody}
-use Rattle.mb_dispatch.proofs.Sent.{Did, all-sent, one-done, orders-at, orders_of}
+use Rattle.mb_dispatch.specs.Sent.{BreaksOne}
+use Rattle.mb_dispatch.proofs.Sent.{Did, all-sent, err-of, one-done, orders-at, orders-here, orders_of}
 use Rattle.mb_dispatch.proofs.sending.send_each.Goals as goal
 
 pub loop-place-preserved : goal.loop-place-preserved
@@ -26,3 +27,17 @@ pub returns-clause-sent : goal.returns-clause-sent
 returns-clause-sent g c =
     let at = c.loop-place in let test = c.loop-place-test.false in let same = at.invariant.1.many in
     all-sent c.args.system.now.gates (orders_of c.args.sends.now) at.place c.args.senders.now at.senders (omega (arith, test, same)) at.invariant.1
+
+pub returns-in_err-send_and_pay-clause-fault : goal.returns-in_err-send_and_pay-clause-fault
+returns-in_err-send_and_pay-clause-fault g c =
+    let at = c.loop-place in let place = at.place in let orders = c.index-sends-place.result in
+    let test = c.loop-place-test.true in let same = at.invariant.1.many in let as_many = c.requires.many in
+    let within : place < length c.args.sends.now = omega (arith, test, same, as_many) in
+    let gates = c.args.system.now.gates in
+    err-of (BreaksOne gates (orders_of c.args.sends.now)) c.from_residual.result c.in_err-send_and_pay.field-0.0
+    c.from_residual.ensures.1 (
+      place,
+      c.deref.result.now,
+      orders-here c.args.sends.now place orders c.deref.result.now within c.index-sends-place.is c.deref.ensures.value,
+      c.in_err-send_and_pay.ensures.fault,
+    )
