@@ -1,6 +1,6 @@
 -- What scenario sends is to somebody; so why its run is broken off is known.
-use Rattle.std.proofs.Common.{◌≡◌, ℕ, ◌+◌, List, [], ◌∷◌, ◌++◌, inl, inr, refl, sym, ap, ◌∙◌, subst, arith, replicate}
-use Rattle.std.specs.Prelude.{◌≢◌, All, Contains}
+use Rattle.std.proofs.Common.{◌≡◌, ℕ, ◌+◌, List, [], ◌∷◌, inl, inr, sym, subst, arith}
+use Rattle.std.specs.Prelude.{◌≢◌, All}
 use Rattle.std.specs.Global.{Box}
 use Rattle.std.specs.List.{flat_map}
 use Rattle.std.proofs.lemmas.List.Elements.{All-append, All-cons, All-contains, All-filter, All-head, All-nil, All-replicate, All-tail}

@@ -1,5 +1,5 @@
 -- All that belongs to a system is there.
-use Rattle.std.proofs.Common.{◌≡◌, ◌≢◌, ℕ, zero, suc, ◌+◌, ◌-◌, ◌<◌, ◌≤◌, List, [], ◌∷◌, ◌++◌, length, map, refl, sym, ap, ◌∙◌, subst, arith}
+use Rattle.std.proofs.Common.{◌≡◌, ◌≢◌, ℕ, zero, suc, ◌+◌, ◌-◌, ◌<◌, ◌≤◌, List, [], ◌∷◌, length, refl, sym, ap, ◌∙◌, subst, arith}
 use Rattle.std.specs.Prelude.{All, AllPairs, Contains, slice_index_or}
 use Rattle.std.specs.Global.{Box}
 use Rattle.std.proofs.lemmas.List.Elements.{All-cons, All-nil}
@@ -9,7 +9,7 @@ use Rattle.mb_gate.specs.declared.gates.Gates.{Gates}
 use Rattle.mb_home.specs.Contents.{Contents}
 use Rattle.mb_reckon.proofs.Lists.{length-mapped}
 use Rattle.mb_system.specs.Belonging.{BelongsTogether, senders_numbers}
-use Rattle.mb_system.specs.Members.{IsSenderOf, ends_numbers}
+use Rattle.mb_system.specs.Members.{ends_numbers}
 use Rattle.mb_system.specs.declared.built.Built.{Built}
 use Rattle.mb_system.specs.declared.end.WorkerEnd.{WorkerEnd}
 use Rattle.mb_system.specs.declared.order.Order.{Order}
@@ -17,7 +17,7 @@ use Rattle.mb_system.specs.declared.sender.Sender.{Sender}
 use Rattle.mb_dispatch.specs.Belonging.{AreThere}
 use Rattle.mb_dispatch.specs.Refused.{IsComplete}
 use Rattle.mb_run.specs.Ready.{IsReady}
-use Rattle.mb_run.specs.Senders.{HasSentAll, HaveSentAll}
+use Rattle.mb_run.specs.Senders.{HaveSentAll}
 use Rattle.mb_run.proofs.SenderLemmas.{all-ours}
 
 -- numbers in order are all there, each once

@@ -1,5 +1,5 @@
 -- A system as it begins is of its plan, and ready.
-use Rattle.std.proofs.Common.{◌≡◌, ℕ, zero, suc, ◌+◌, List, [], ◌∷◌, length, refl, sym, ap, ◌∙◌, subst, arith}
+use Rattle.std.proofs.Common.{◌≡◌, ℕ, ◌+◌, List, [], ◌∷◌, length, sym, ap, ◌∙◌, subst, arith}
 use Rattle.mb_msg.specs.Limits.{most_actors}
 use Rattle.mb_actor.specs.Behaviour.{Moment, Reply}
 use Rattle.mb_plan.specs.declared.plan.Plan.{Plan}

@@ -1,5 +1,5 @@
 -- What senders have sent, one after another.
-use Rattle.std.proofs.Common.{◌≡◌, ◌⊎◌, inl, inr, ℕ, zero, suc, ◌+◌, ◌<◌, ◌≤◌, ◌==◌, Bool, true, false, cond, List, [], ◌∷◌, ◌++◌, length, refl, sym, ap, ◌∙◌, subst, arith, Some}
+use Rattle.std.proofs.Common.{◌≡◌, ℕ, zero, suc, ◌+◌, ◌<◌, ◌≤◌, List, [], ◌∷◌, ◌++◌, length, refl, sym, ap, ◌∙◌, subst, arith, Some}
 use Rattle.std.proofs.Common.{replicate, get_or, set, take, zero-add}
 use Rattle.std.specs.Prelude.{All, pos, slice_get}
 use Rattle.std.specs.Global.{Box}
@@ -13,7 +13,7 @@ use Rattle.mb_system.specs.Members.{IsSenderOf}
 use Rattle.mb_system.specs.Orders.{HasSent}
 use Rattle.mb_system.specs.declared.order.Order.{Order}
 use Rattle.mb_system.specs.declared.sender.Sender.{Sender}
-use Rattle.mb_system.proofs.Sending.{sent-none, sent-then}
+use Rattle.mb_system.proofs.Sending.{sent-then}
 use Rattle.mb_reader.specs.declared.scenario.Sending.{Sending as Planned}
 use Rattle.mb_reader.specs.declared.scenario.What.TheVariants.{Envelope}
 use Rattle.mb_run.specs.Orders.{order_of, orders_of}
