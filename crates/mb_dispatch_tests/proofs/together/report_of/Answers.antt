@@ -11,13 +11,13 @@ use Rattle.mb_dispatch_tests.proofs.Belonging.{jobs-ours, run-again, sender_in}
 use Rattle.mb_dispatch_tests.proofs.together.report_of.Goals as goal
 
 pub run-requires-clause-ends : goal.run-requires-clause-ends
-run-requires-clause-ends g c =
+run-requires-clause-ends g c κs within =
     let built = c.in_ok-built.built in
     All-same (λ (e : WorkerEnd g.row.A.Denot g.row.K.Denot). IsEndOf built.system.gates e.waker) c.as_mut_slice-workers.result.now built.ends.items
     c.as_mut_slice-workers.ensures.value c.in_ok-built.ensures.ends
 
 pub run-requires-clause-jobs : goal.run-requires-clause-jobs
-run-requires-clause-jobs g c =
+run-requires-clause-jobs g c κs within =
     let built = c.in_ok-built.built in
     All-same (λ (j : Job g.row.A.Denot g.row.K.Denot). IsSenderOf built.system.gates j.sender.inner) c.as_mut_slice-tasks.result.now
     c.in_ok-jobs.jobs.items c.as_mut_slice-tasks.ensures.value (jobs-ours built c.in_ok-jobs.jobs.items c.in_ok-jobs.ensures c.in_ok-built.ensures)
