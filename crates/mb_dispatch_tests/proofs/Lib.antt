@@ -1,4 +1,3 @@
-pub mod Alike
-pub mod Belonging
 pub mod Casting
+pub mod Kept
 pub mod Nonempty
