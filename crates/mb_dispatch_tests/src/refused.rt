@@ -3,6 +3,7 @@
 ghost use Rattle.std.specs.Prelude.{IfOk};
 ghost use Rattle.mb_system.specs.Belonging.{BelongsTogether};
 
+use crate::deed::Deed;
 use crate::player::{ADD, Adding, COUNTER, FAIL, Part, Player, players_of};
 use crate::story::{PLAIN, Story, plan_of, text_of, words};
 use crate::together::{begin, end};
@@ -15,7 +16,7 @@ use std::process::Abort;
 use std::sync::Wait;
 
 const PARENT: Part = Part {
-    child: Some(ActorId(2)),
+    start: &[Deed::Spawn(2)],
     ..COUNTER
 };
 
