@@ -2,6 +2,7 @@ use Rattle.std.proofs.Common.{rules, ◌≡◌, ◌≢◌, ◌<◌, ◌≤◌, i
 use Rattle.std.specs.Prelude.{vec_capacity}
 use Rattle.std.proofs.lemmas.List.{append-nil, length-append}
 use Rattle.mb_finish.specs.Rest.{IsMoreThan}
+use Rattle.mb_finish.proofs.CameLemmas.{parts-out}
 use Rattle.mb_finish.proofs.RestLemmas.{is-rest, longer-none, some-length}
 use Rattle.mb_finish.proofs.rest.take_rest.Goals as goal
 
@@ -12,7 +13,8 @@ returns-in_default-clause-rest g c = λ fits.
     is-rest c.args.take c.take.new.self items
     (e.taken ∙ append-nil c.loop.take.taken ∙ at.0.1 ∙ ap (λ l. c.args.take.taken ++ (items ++ l)) none
     ∙ ap (λ l. c.args.take.taken ++ l) (append-nil items)) (e.same.0 ∙ at.1.0, e.same.1 ∙ at.1.1) (e.same.2 ∙ at.2) e.each_once
-    (λ turns. e.in_order (sym e.same.1 ∙ turns)) e.known
+    (λ turns. e.in_order (sym e.same.1 ∙ turns))
+    (parts-out c.loop.take c.take.new.self e.turn e.taken e.same.1 e.same.2) e.known
 
 pub returns-in_default-clause-over : goal.returns-in_default-clause-over
 returns-in_default-clause-over g c = λ over.
@@ -20,7 +22,8 @@ returns-in_default-clause-over g c = λ over.
     record {
       left = items ++ more;
       rest = is-rest c.args.take c.take.new.self (items ++ more) (e.taken ∙ append-nil c.loop.take.taken ∙ at.0.1)
-          (e.same.0 ∙ at.1.0, e.same.1 ∙ at.1.1) (e.same.2 ∙ at.2) e.each_once (λ turns. e.in_order (sym e.same.1 ∙ turns)) e.known;
+          (e.same.0 ∙ at.1.0, e.same.1 ∙ at.1.1) (e.same.2 ∙ at.2) e.each_once (λ turns. e.in_order (sym e.same.1 ∙ turns))
+          (parts-out c.loop.take c.take.new.self e.turn e.taken e.same.1 e.same.2) e.known;
       over = ⊎_elim (λ all. absurd (cc (sym over ∙ all.0)))
           (λ some.
           let a = some-length more some.1 in let b = some.2 in let cap = at.3 in let both = length-append items more in
