@@ -153,11 +153,7 @@ fn ran<T: Threads + Wait + Sync>(
 }
 
 /// The same of a text, without arguments.
-fn driven<T: Threads + Wait + Sync>(
-    rt: &T,
-    alloc: Global,
-    text: &[u8],
-) -> (u8, Vec<u8>, Vec<u8>) {
+fn driven<T: Threads + Wait + Sync>(rt: &T, alloc: Global, text: &[u8]) -> (u8, Vec<u8>, Vec<u8>) {
     let mut rest = text;
     ran(rt, alloc, 0, &mut rest)
 }
@@ -307,7 +303,8 @@ fn more(rt: HostRuntime) {
 
 #[test]
 fn a_full_journal(rt: HostRuntime) {
-    let text = "workers = 0\njournal_limit = 2\n[[actor]]\nname = \"a\"\n[[send]]\nto = \"a\"\nkind = 1\n";
+    let text =
+        "workers = 0\njournal_limit = 2\n[[actor]]\nname = \"a\"\n[[send]]\nto = \"a\"\nkind = 1\n";
     let (status, written, errors) = driven(&rt, rt.alloc(), text.as_bytes());
     assert_eq!(rt; status, 1);
     assert_eq!(rt; written.len(), 0);
@@ -549,4 +546,3 @@ fn each_prefix(rt: HostRuntime) {
         assert_eq!(rt; errors.is_empty(), status == 0);
     }
 }
-
