@@ -70,6 +70,13 @@ module _ {R : Type 0} where
   place-there rooms all takes items done one many is last =
       let a = ap length is ∙ length-append takes done in let b = ap length last ∙ length-append items (one ∷ []) in omega (arith, many, a, b)
 
+  -- what is told of the one that was set, is told of the one in its place
+  pub same-set : (f g : R → ℕ) (xs : List R) (n : ℕ) (x : R) → f x ≡ g x → n < length xs
+      → slice_get (map f (set xs n x)) n ≡ slice_get (map g (set xs n x)) n
+  same-set f g [] n x same lt = absurd (omega (arith, lt))
+  same-set f g (y ∷ xs) zero x same lt = ap Some same
+  same-set f g (y ∷ xs) (suc n) x same lt = same-set f g xs n x same (omega (arith, lt))
+
   -- what holds of each of the first, holds of each of fewer
   pub all-fewer : (P : R → Type 0) (xs : List R) (n : ℕ) → All P (take (suc n) xs) → All P (take n xs)
   all-fewer P [] zero all = all

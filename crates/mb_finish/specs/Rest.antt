@@ -1,5 +1,5 @@
 -- What is left in the queues of receivers.
-use Rattle.std.specs.Prelude.{◌≡◌, ℕ, ◌<◌, List, [], ◌∷◌, ◌++◌, All, Some, length, slice_get, vec_capacity}
+use Rattle.std.specs.Prelude.{◌≡◌, ℕ, ◌<◌, List, [], ◌∷◌, ◌++◌, All, Some, length, map, slice_get, vec_capacity, vec_len}
 use Rattle.std.specs.Global.{Vec}
 use Rattle.mb_msg.specs.declared.envelope.Envelope.{Envelope}
 use Rattle.mb_queue.specs.Passes.{IsOfQueue, Sending, Taking}
@@ -48,3 +48,8 @@ pub record IsOverfull (takes : List Taking) (rows : List (List Sending)) (rooms 
   pub lies : slice_get rooms place ≡ Some room
   pub was : WasLeft take (column place rows) left
   pub over : vec_capacity room < length left
+
+-- there is no place left in the room of this receiver
+abbrev pub IsFullAt : ℕ → List (Vec Envelope) → Type 0
+IsFullAt place rooms =
+    slice_get (map (λ (room : Vec Envelope). vec_len room) rooms) place ≡ slice_get (map (λ (room : Vec Envelope). vec_capacity room) rooms) place

@@ -1,6 +1,6 @@
 //! What is left in the queues.
-ghost use Rattle.std.specs.Prelude.{◌≡◌, ◌<◌, [], All, length, map, IfErr, IfOk, false, true};
-ghost use Rattle.mb_finish.specs.Rest.{AreRests, IsMoreThan, IsOver, IsRest};
+ghost use Rattle.std.specs.Prelude.{◌≡◌, ◌<◌, [], All, length, map, vec_capacity, vec_len, IfErr, IfOk, false, true};
+ghost use Rattle.mb_finish.specs.Rest.{AreRests, IsFullAt, IsMoreThan, IsOver, IsRest};
 
 use mb_msg::Envelope;
 use mb_queue::TakePass;
@@ -13,7 +13,7 @@ pub struct TooMany(pub usize);
 /// Takes out all that is left in each of these queues, into a room of its own. Then all came to its receiver that the passes
 /// pushed which it had taken in.
 ///
-/// It answers `TooMany` if more was left in a queue than there is room for: what its room does not hold is let go.
+/// It answers `TooMany` if more was left in a queue than there is room for: its room is full then, and what that does not hold is let go.
 pub(crate) fn take_rests<R: Wait>(
     rt: &R,
     takes: Vec<TakePass>,
@@ -24,6 +24,7 @@ pub(crate) fn take_rests<R: Wait>(
     ensures rests { IfOk result (λ _. AreRests takes.items (map (λ room. room.items) rooms.new)) }
     ensures place { IfErr result (λ many. many.0 < length takes.items) }
     ensures over { IfErr result (λ many. IsOver many.0 takes.items rooms.old) }
+    ensures full { IfErr result (λ many. IsFullAt many.0 rooms.new) }
 {
     let mut takes = takes;
     while let Some(take) = takes.pop() {
@@ -36,11 +37,12 @@ pub(crate) fn take_rests<R: Wait>(
 }
 
 /// Takes out all that is left in a queue, until a take finds nothing. It answers `false` if there was more than there is room
-/// for: what the room does not hold is let go.
+/// for: the room is full then, and what it does not hold is let go.
 fn take_rest<R: Wait>(rt: &R, take: TakePass, room: &mut Vec<Envelope>) -> bool
     requires empty { room.old.items ≡ [] }
     ensures rest { result ≡ true → IsRest take room.new.items }
     ensures over { result ≡ false → IsMoreThan take room.old }
+    ensures full { result ≡ false → vec_len room.new ≡ vec_capacity room.new }
 {
     let mut take = take;
     let mut fits = true;

@@ -1,10 +1,10 @@
 use Rattle.std.proofs.Common.{rules, ◌≡◌, ◌<◌, ◌++◌, ◌∷◌, [], ℕ, suc, length}
 use Rattle.std.proofs.Common.{map, take, drop, set, sym, ap, ◌∙◌, subst, append_assoc, arith}
-use Rattle.std.specs.Prelude.{All, get_or, slice_get}
+use Rattle.std.specs.Prelude.{All, get_or, slice_get, vec_capacity, vec_len}
 use Rattle.std.proofs.lemmas.List.{length-append, length-set}
 use Rattle.std.proofs.lemmas.Option.{slice_get-get_or}
 use Rattle.mb_finish.specs.Rest.{AreRests}
-use Rattle.mb_finish.proofs.RestLemmas.{all-fewer, in-place, place-there, rests-more, same-last, take-fewer, take-set}
+use Rattle.mb_finish.proofs.RestLemmas.{all-fewer, in-place, place-there, rests-more, same-last, same-set, take-fewer, take-set}
 use Rattle.mb_finish.proofs.rest.take_rests.Goals as goal
 
 pub loop-take-preserved : goal.loop-take-preserved
@@ -51,3 +51,12 @@ returns-then-not-take_rest-clause-over g c =
           ∙ slice_get-get_or at.rooms c.len-place.result c.index-rooms-place.result (subst (λ m. m < length at.rooms) (sym place) lt);
       more = c.take_rest.ensures.over (search rules);
     }
+
+pub returns-then-not-take_rest-clause-full : goal.returns-then-not-take_rest-clause-full
+returns-then-not-take_rest-clause-full g c =
+    let at = c.loop-take in let items = c.pop.new.self.items in
+    let place : c.len-place.result ≡ length items = search rules in
+    same-set (λ r. vec_len r) (λ r. vec_capacity r) at.rooms c.len-place.result c.take_rest.new.room (c.take_rest.ensures.full (search rules))
+    (subst (λ n. n < length at.rooms) (sym place)
+    (place-there at.rooms c.args.takes.items at.takes.items items at.invariant.2.0 c.in-Some.take at.invariant.0 at.invariant.2.1
+    c.in-Some.ensures.items))
