@@ -1,3 +1,0 @@
-pub mod ActorSetLemmas
-pub mod HeldLemmas
-pub mod OutboxLemmas

@@ -1,3 +1,0 @@
-pub mod EffectLemmas
-pub mod HandledLemmas
-pub mod RetryLemmas

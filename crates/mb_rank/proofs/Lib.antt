@@ -1,4 +1,0 @@
-pub mod Keeps
-pub mod Ranked
-pub mod Slots
-pub mod Turns

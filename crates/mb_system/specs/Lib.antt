@@ -1,3 +1,0 @@
-pub mod Enrolled
-pub mod Members
-pub mod Orders
