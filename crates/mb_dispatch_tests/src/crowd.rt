@@ -1,6 +1,6 @@
 //! Sixteen workers, sixty-three actors and four senders, each on a thread of its own.
 use crate::player::{ADD, COUNTER};
-use crate::story::{Story, told, words};
+use crate::story::{PLAIN, Story, told, words};
 use crate::together::run_together;
 use mb_dispatch::Order;
 use mb_plan::Pool;
@@ -52,6 +52,7 @@ fn count_in_a_crowd<R: Threads + Wait + Sync>(rt: &R, alloc: Global, pool: Pool)
         journal_limit: 1_000,
         parts: &[COUNTER; 63],
         orders: &orders,
+        ..PLAIN
     };
     run_together(rt, alloc, &story)
 }

@@ -6,9 +6,21 @@ mod alone;
 #[cfg(test)]
 mod boxed;
 #[cfg(test)]
+mod by_hand;
+#[cfg(test)]
+mod closing;
+#[cfg(test)]
+mod company;
+#[cfg(test)]
 mod crowd;
 #[cfg(test)]
+mod deed;
+#[cfg(test)]
 mod ended;
+#[cfg(test)]
+mod family;
+#[cfg(test)]
+mod farewell;
 #[cfg(test)]
 mod guest;
 #[cfg(test)]
@@ -16,11 +28,23 @@ mod limited;
 #[cfg(test)]
 mod meeting;
 #[cfg(test)]
+mod ordered;
+#[cfg(test)]
 mod player;
+#[cfg(test)]
+mod refused;
+#[cfg(test)]
+mod shown;
+#[cfg(test)]
+mod stage;
 #[cfg(test)]
 mod story;
 #[cfg(test)]
 mod supervised;
+#[cfg(test)]
+mod tale;
+#[cfg(test)]
+mod throughput;
 #[cfg(test)]
 mod together;
 #[cfg(test)]

@@ -1,16 +1,16 @@
 //! Mailboxes and journals that are full, on one thread.
 use crate::alone::run_alone;
-use crate::player::{ADD, COUNTER, Part};
+use crate::player::{ADD, COUNTER, Mailbox, Part};
 use crate::story::{PLAIN, Story, told, words};
 use mb_dispatch::{RunError, WholeError};
 
-const TWO_PLACES: &str = "\
+pub const TWO_PLACES: &str = "\
 guardian live state - suspended 0 handled 0 left 0 dead 0 restarts 0
 a1 live state 3 suspended 0 handled 2 left 0 dead 1 restarts 0
 sent 3 handled 2 left 0 dead 1
 ";
 
-const ONE_PLACE: &str = "\
+pub const ONE_PLACE: &str = "\
 guardian live state - suspended 0 handled 0 left 0 dead 0 restarts 0
 a1 live state 1 suspended 0 handled 1 left 0 dead 2 restarts 0
 sent 3 handled 1 left 0 dead 2
@@ -20,7 +20,7 @@ sent 3 handled 1 left 0 dead 2
 fn what_finds_a_full_mailbox_is_dead(rt: HostRuntime) {
     for (capacity, report) in [(2, TWO_PLACES), (1, ONE_PLACE)] {
         let bounded = Part {
-            capacity: Some(capacity),
+            mailbox: Mailbox::Bounded(capacity),
             ..COUNTER
         };
         let story = Story {

@@ -1,9 +1,12 @@
-//! An actor that plays a part, and shows the sum of the values of kind 1 that it got. A message of kind 2 makes it fail.
+//! An actor that plays a part, and shows the sum of the values of kind 1 that it got. A message of kind 2 makes most of them fail.
 ghost use Rattle.std.specs.Prelude.{◌≡◌, pos, All, IfOk};
 ghost use Rattle.mb_dispatch_tests.specs.Sum.{sum_with, sum_with_value};
 
+use crate::deed::{Deed, Habits, do_all, hear};
 use mb_actor::{Actor, Answer, Behaviours, Message, Outbox};
-use mb_msg::{ActorId, Cause, Directive};
+use mb_journal::Pattern;
+use mb_msg::{Cause, Directive};
+use mb_plan::Rank;
 use std::alloc::{AllocError, Global};
 
 /// The kind of messages whose values are added up.
@@ -12,25 +15,41 @@ pub const ADD: u32 = 1;
 /// The kind of messages that make a player fail.
 pub const FAIL: u32 = 2;
 
-/// Whose child an actor is, whom it starts and whom it watches at its start, how many envelopes its mailbox holds at most, what it
-/// does about a child that failed, and how often that is started afresh: -1 is no limit.
+/// Which envelopes an actor's mailbox holds, and in which order it gives them.
+#[derive(Clone, Copy)]
+pub enum Mailbox {
+    InOrder,
+    Bounded(u32),
+    /// These kinds by their ranks, all others by rank 1.
+    Ranked(&'static [Rank]),
+    ControlFirst,
+}
+
+/// Whose child an actor is and what mailbox it has; what it does at a start, at a restart, at its end, and about messages; what it
+/// does about a child that failed so, or about all of them, and how often it starts one afresh: -1 is no limit.
 #[derive(Clone, Copy)]
 pub struct Part {
     pub parent: u32,
-    pub child: Option<ActorId>,
-    pub watched: Option<ActorId>,
-    pub capacity: Option<u32>,
-    pub directive: Option<Directive>,
+    pub mailbox: Mailbox,
+    pub start: &'static [Deed],
+    pub restart: &'static [Deed],
+    pub stop: &'static [Deed],
+    pub habits: Habits,
+    pub rule: Option<(Pattern, Directive)>,
+    pub all_for_one: bool,
     pub retries: i64,
 }
 
-/// It adds up, and nothing else.
+/// It adds up, and fails where it is told to.
 pub const COUNTER: Part = Part {
     parent: 0,
-    child: None,
-    watched: None,
-    capacity: None,
-    directive: None,
+    mailbox: Mailbox::InOrder,
+    start: &[],
+    restart: &[],
+    stop: &[],
+    habits: &[(FAIL, &[Deed::Fail(1)])],
+    rule: None,
+    all_for_one: false,
     retries: -1,
 };
 
@@ -73,29 +92,22 @@ impl Actor for Player {
 
     fn start(&mut self, out: &mut Outbox) -> Answer {
         self.sum = 0;
-        if let Some(child) = self.part.child {
-            let _refused = out.spawn(child);
-        }
-        if let Some(id) = self.part.watched {
-            let _refused = out.watch(id);
-        }
-        Answer::Handled
+        do_all(self.part.start, 0, out)
     }
 
-    fn receive(&mut self, message: &Message, _out: &mut Outbox) -> Answer {
+    fn receive(&mut self, message: &Message, out: &mut Outbox) -> Answer {
         self.sum = with(self.sum, message);
-        match message {
-            Message::User { kind: FAIL, .. } => Answer::Failed(1),
-            _ => Answer::Handled,
-        }
+        hear(self.part.habits, message, out)
     }
 
-    fn restart(&mut self, _cause: Cause, _out: &mut Outbox) -> Answer {
+    fn restart(&mut self, _cause: Cause, out: &mut Outbox) -> Answer {
         self.sum = 0;
-        Answer::Handled
+        do_all(self.part.restart, 0, out)
     }
 
-    fn stop(&mut self, _out: &mut Outbox) {}
+    fn stop(&mut self, out: &mut Outbox) {
+        let _answer = do_all(self.part.stop, 0, out);
+    }
 
     fn state(&self) -> i64 {
         self.sum

@@ -1,7 +1,7 @@
 //! What is played: who acts, and what is sent.
-use crate::player::Part;
+use crate::player::{Mailbox, Part};
 use mb_dispatch::{Order, What};
-use mb_journal::{Pattern, Strategy};
+use mb_journal::Strategy;
 use mb_msg::{ActorId, Body};
 use mb_plan::{ActorPlan, Kind, Plan, Pool};
 use mb_report::{Report, report_text};
@@ -13,6 +13,7 @@ pub struct Story<'a> {
     pub workers: u32,
     pub pool: Pool,
     pub senders: u32,
+    pub throughput: u32,
     pub journal_limit: u32,
     pub parts: &'a [Part],
     pub orders: &'a [Order],
@@ -23,6 +24,7 @@ pub const PLAIN: Story<'static> = Story {
     workers: 2,
     pool: Pool::Shared,
     senders: 1,
+    throughput: 5,
     journal_limit: 100,
     parts: &[],
     orders: &[],
@@ -48,7 +50,7 @@ pub fn plan_of(alloc: Global, story: &Story<'_>) -> Result<Plan, AllocError> {
         actors.push(actor_plan(alloc, part)?)?;
     }
     Ok(Plan {
-        throughput: 5,
+        throughput: story.throughput,
         workers: story.workers,
         pool: story.pool,
         senders: story.senders,
@@ -59,20 +61,30 @@ pub fn plan_of(alloc: Global, story: &Story<'_>) -> Result<Plan, AllocError> {
 
 fn actor_plan(alloc: Global, part: &Part) -> Result<ActorPlan, AllocError> {
     let mut rows = Vec::new(alloc);
-    if let Some(directive) = part.directive {
-        rows.push((Pattern::AnyError, directive))?;
+    if let Some(rule) = part.rule {
+        rows.push(rule)?;
     }
     Ok(ActorPlan {
         parent: ActorId(part.parent),
-        mailbox: match part.capacity {
-            Some(capacity) => Kind::Bounded(capacity),
-            None => Kind::Unbounded,
-        },
+        mailbox: kind_of(alloc, part.mailbox)?,
         strategy: Strategy {
             rows,
             retries: part.retries,
-            all_for_one: false,
+            all_for_one: part.all_for_one,
         },
+    })
+}
+
+fn kind_of(alloc: Global, mailbox: Mailbox) -> Result<Kind, AllocError> {
+    Ok(match mailbox {
+        Mailbox::InOrder => Kind::Unbounded,
+        Mailbox::Bounded(capacity) => Kind::Bounded(capacity),
+        Mailbox::Ranked(ranks) => {
+            let mut rows = Vec::new(alloc);
+            rows.extend_from_slice(ranks)?;
+            Kind::Priority { rows, other: 1 }
+        }
+        Mailbox::ControlFirst => Kind::Control,
     })
 }
 

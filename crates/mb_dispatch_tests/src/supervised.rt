@@ -1,36 +1,38 @@
 //! Children that fail, on threads.
+use crate::deed::Deed;
 use crate::player::{ADD, COUNTER, FAIL, Part};
 use crate::story::{PLAIN, Story, told, words};
 use crate::together::run_together;
-use mb_msg::{ActorId, Directive};
+use mb_journal::Pattern;
+use mb_msg::Directive;
 
-const CHILD: Part = Part {
+pub const CHILD: Part = Part {
     parent: 1,
     ..COUNTER
 };
 
-const RESTARTED: &str = "\
+pub const RESTARTED: &str = "\
 guardian live state - suspended 0 handled 0 left 0 dead 0 restarts 0
 a1 live state 0 suspended 0 handled 0 left 0 dead 0 restarts 0
 a2 live state 7 suspended 0 handled 3 left 0 dead 0 restarts 1
 sent 3 handled 3 left 0 dead 0
 ";
 
-const RESUMED: &str = "\
+pub const RESUMED: &str = "\
 guardian live state - suspended 0 handled 0 left 0 dead 0 restarts 0
 a1 live state 0 suspended 0 handled 0 left 0 dead 0 restarts 0
 a2 live state 12 suspended 0 handled 3 left 0 dead 0 restarts 0
 sent 3 handled 3 left 0 dead 0
 ";
 
-const STOPPED: &str = "\
+pub const STOPPED: &str = "\
 guardian live state - suspended 0 handled 0 left 0 dead 0 restarts 0
 a1 live state 0 suspended 0 handled 0 left 0 dead 0 restarts 0
 a2 ended state 5 suspended 0 handled 2 left 0 dead 1 restarts 0
 sent 3 handled 2 left 0 dead 1
 ";
 
-const ESCALATED: &str = "\
+pub const ESCALATED: &str = "\
 guardian live state - suspended 0 handled 0 left 0 dead 0 restarts 0
 a1 live state 0 suspended 0 handled 0 left 0 dead 0 restarts 1
 a2 live state 7 suspended 0 handled 3 left 0 dead 0 restarts 1
@@ -67,8 +69,8 @@ fn a_child_that_fails_is_treated_as_its_parent_says(rt: HostRuntime) {
         (Directive::Escalate, ESCALATED),
     ] {
         let parent = Part {
-            child: Some(ActorId(2)),
-            directive: Some(directive),
+            start: &[Deed::Spawn(2)],
+            rule: Some((Pattern::AnyError, directive)),
             ..COUNTER
         };
         let story = Story {
@@ -84,7 +86,7 @@ fn a_child_that_fails_is_treated_as_its_parent_says(rt: HostRuntime) {
 fn a_child_is_restarted_as_often_as_its_parent_says(rt: HostRuntime) {
     for (retries, report) in [(2, RETRIED_TWICE), (0, NEVER_RETRIED), (-1, ALWAYS_RETRIED)] {
         let parent = Part {
-            child: Some(ActorId(2)),
+            start: &[Deed::Spawn(2)],
             retries,
             ..COUNTER
         };

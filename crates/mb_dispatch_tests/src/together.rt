@@ -61,8 +61,8 @@ pub fn report_of<A: Actor + Send, K: Behaviours + Send, R: Threads + Wait + Sync
     Ok(end(rt, ended))
 }
 
-// The system of this plan, which is right.
-fn begin<A: Actor, K: Behaviours, R: Wait>(
+/// The system of this plan, which is right.
+pub fn begin<A: Actor, K: Behaviours, R: Wait>(
     rt: &R,
     alloc: Global,
     plan: Plan,

@@ -1,0 +1,140 @@
+//! A system of players with all that belongs to it, of which the first end and the first sender are led. The calls ask for
+//! nothing: what those of the dispatcher ask for stands in the type, or is looked at first. Nothing comes of a call for which
+//! there is no end, no sender or no such actor.
+ghost use Rattle.mb_system.specs.Members.{IsEndOf};
+
+use crate::player::{Adding, Player, players_of};
+use crate::story::{Story, plan_of};
+use crate::together::begin;
+use mb_dispatch::{Built, Look, Put, RunError, System, Ticket, Turn, Unsent, WorkerEnd};
+use mb_msg::{ActorId, Body};
+use std::alloc::Global;
+use std::marker::Model;
+use std::sync::Wait;
+
+/// A system of players with its ends, and with those of its senders that are not lost.
+#[derive(Drop)]
+pub struct Company {
+    pub(crate) built: Built<Player, Adding>,
+}
+
+impl Model for Company {
+    ghost use Rattle.mb_system.specs.Belonging.{BelongsTogether};
+
+    ghost Value = { Unit {0} };
+
+    ghost view = { λ company. tt };
+
+    ghost invariant = { λ company. BelongsTogether company.built };
+}
+
+impl Company {
+    /// The system of this story; nothing where there is none.
+    pub fn new<R: Wait>(rt: &R, alloc: Global, story: &Story<'_>) -> Option<Self> {
+        let plan = plan_of(alloc, story).ok()?;
+        let Ok(players) = players_of(alloc, story.parts) else {
+            return None;
+        };
+        match begin::<Player, Adding, R>(rt, alloc, plan, players) {
+            Ok(built) => Some(Company { built }),
+            Err(_) => None,
+        }
+    }
+
+    /// The senders are lost.
+    pub fn lose_senders(&mut self) {
+        self.built.senders.clear();
+    }
+
+    /// Runs claims on this thread until none is there: the turns.
+    pub fn run_quietly<R: Wait>(&mut self, rt: &R) -> Option<Result<Vec<Turn>, RunError>> {
+        if self.built.ends.len() == 0 {
+            return None;
+        }
+        Some(self.built.ends[0].run_quietly(rt, &self.built.system))
+    }
+
+    /// Registers an actor: whether its claim went to the pool.
+    pub fn register<R: Wait>(&mut self, rt: &R, id: ActorId) -> Option<bool> {
+        if self.built.ends.len() == 0 || id.0 as usize >= self.built.system.gates.actors() {
+            return None;
+        }
+        Some(self.built.ends[0].register(rt, &self.built.system, id, false, false))
+    }
+
+    /// Takes a claim and runs its mailbox: the turn. Nothing also where there is no claim, or the turn is broken off.
+    pub fn turn<R: Wait>(&mut self, rt: &R) -> Option<Turn> {
+        if self.built.ends.len() == 0 {
+            return None;
+        }
+        run_next(rt, &self.built.system, &mut self.built.ends[0])
+    }
+
+    /// Works until there is no claim.
+    pub fn work<R: Wait>(&mut self, rt: &R) -> Option<Result<(), RunError>> {
+        if self.built.ends.len() == 0 {
+            return None;
+        }
+        Some(self.built.ends[0].work(rt, &self.built.system))
+    }
+
+    /// Tells an actor this body.
+    pub fn tell<R: Wait>(
+        &mut self,
+        rt: &R,
+        to: ActorId,
+        body: Body,
+    ) -> Option<Result<Put, Unsent>> {
+        if self.built.senders.len() == 0 {
+            return None;
+        }
+        Some(self.built.senders[0].tell(rt, &self.built.system, to, body))
+    }
+
+    /// Stops an actor.
+    pub fn stop<R: Wait>(&mut self, rt: &R, id: ActorId) -> Option<Result<bool, Unsent>> {
+        if self.built.senders.len() == 0 {
+            return None;
+        }
+        Some(self.built.senders[0].stop(rt, &self.built.system, id))
+    }
+
+    /// Looks at an actor.
+    pub fn look(&mut self, to: ActorId) -> Option<Result<Look, Unsent>> {
+        if self.built.senders.len() == 0 {
+            return None;
+        }
+        Some(self.built.senders[0].look(&self.built.system, to))
+    }
+
+    /// Puts this body by a ticket.
+    pub fn put<R: Wait>(
+        &mut self,
+        rt: &R,
+        ticket: Ticket,
+        body: Body,
+    ) -> Option<Result<Put, Unsent>> {
+        if self.built.senders.len() == 0
+            || ticket.to.0 == 0
+            || ticket.to.0 as usize >= self.built.system.gates.actors()
+        {
+            return None;
+        }
+        Some(self.built.senders[0].put(rt, &self.built.system, ticket, body))
+    }
+}
+
+// Takes a claim and runs its mailbox.
+fn run_next<R: Wait>(
+    rt: &R,
+    system: &System<Player, Adding>,
+    end: &mut WorkerEnd<Player, Adding>,
+) -> Option<Turn>
+    requires ours { IsEndOf system.now.gates end.old.waker }
+    ensures ours { IsEndOf system.now.gates end.new.waker }
+{
+    match end.take(rt) {
+        Some(claim) => end.run_mailbox(rt, system, claim).ok(),
+        None => None,
+    }
+}

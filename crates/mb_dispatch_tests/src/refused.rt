@@ -1,0 +1,121 @@
+//! Plans of which no system is built.
+use crate::player::{Adding, COUNTER, Mailbox, Part, Player, players_of};
+use crate::story::{PLAIN, Story, plan_of};
+use mb_dispatch::{BuildError, PlanError, System};
+use mb_msg::ActorId;
+use std::alloc::{AllocError, Global};
+use std::process::Abort;
+use std::sync::Wait;
+use std::test::Fail;
+
+const ONE: Story<'static> = Story {
+    parts: &[COUNTER],
+    ..PLAIN
+};
+
+/// Its own child.
+const OWN_CHILD: Part = Part {
+    parent: 1,
+    ..COUNTER
+};
+
+const TOO_LARGE: Part = Part {
+    mailbox: Mailbox::Bounded(65_537),
+    ..COUNTER
+};
+
+/// A plan, the actors that are handed in for it, and the first reason for which it is refused.
+const BAD: &[(Story<'static>, &'static [Part], PlanError)] = &[
+    (
+        Story {
+            parts: &[OWN_CHILD; 64],
+            ..PLAIN
+        },
+        &[],
+        PlanError::Actors,
+    ),
+    (
+        Story {
+            parts: &[OWN_CHILD],
+            ..PLAIN
+        },
+        &[COUNTER, COUNTER],
+        PlanError::Boxes,
+    ),
+    (
+        Story {
+            parts: &[Part {
+                mailbox: Mailbox::Bounded(0),
+                ..OWN_CHILD
+            }],
+            ..PLAIN
+        },
+        &[COUNTER],
+        PlanError::Parent(ActorId(1)),
+    ),
+    (
+        Story {
+            senders: 17,
+            parts: &[TOO_LARGE],
+            ..PLAIN
+        },
+        &[COUNTER],
+        PlanError::Capacity(ActorId(1)),
+    ),
+    (
+        Story {
+            senders: 17,
+            workers: 0,
+            ..ONE
+        },
+        &[COUNTER],
+        PlanError::Senders,
+    ),
+    (
+        Story {
+            workers: 0,
+            journal_limit: 0,
+            ..ONE
+        },
+        &[COUNTER],
+        PlanError::Workers,
+    ),
+    (Story { workers: 17, ..ONE }, &[COUNTER], PlanError::Workers),
+    (
+        Story {
+            journal_limit: 0,
+            ..ONE
+        },
+        &[COUNTER],
+        PlanError::JournalLimit,
+    ),
+];
+
+/// Why no system is built of this story with these actors, which come back with the plan. Nothing where one is.
+fn refusal<R: Abort + Wait>(
+    rt: &R,
+    alloc: Global,
+    story: &Story<'_>,
+    actors: &[Part],
+) -> Result<Option<PlanError>, AllocError> {
+    let plan = plan_of(alloc, story)?;
+    let players = players_of(alloc, actors)?;
+    match System::<Player, Adding>::build(rt, alloc, plan, players) {
+        Ok(_) => Ok(None),
+        Err(BuildError::BadPlan(reason, plan, players)) => {
+            assert_eq!(rt; plan.actors.len(), story.parts.len());
+            assert_eq!(rt; plan.workers, story.workers);
+            assert_eq!(rt; players.len(), actors.len());
+            Ok(Some(reason))
+        }
+        Err(BuildError::NoMemory) => Err(AllocError),
+    }
+}
+
+#[test]
+fn a_bad_plan_is_refused_for_its_first_reason(rt: HostRuntime) -> Result<(), Fail> {
+    for (story, actors, reason) in BAD {
+        assert_eq!(rt; refusal(&rt, rt.alloc(), story, actors)?, Some(*reason));
+    }
+    Ok(())
+}

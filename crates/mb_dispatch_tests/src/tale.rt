@@ -1,0 +1,61 @@
+//! Stories that go on step by step, on one thread.
+use crate::stage::Stage;
+use crate::story::{Story, words};
+use std::alloc::Global;
+use std::process::Abort;
+use std::sync::Wait;
+
+/// What is sent to an actor: a message of a kind and a value, such a control message, or what ends it.
+#[derive(Clone, Copy)]
+pub enum Sending {
+    Tell(u32, u32, i64),
+    Control(u32, u32, i64),
+    Poison(u32),
+    Kill(u32),
+    Stop(u32),
+}
+
+/// What is done next; of actors by their numbers.
+#[derive(Clone, Copy)]
+pub enum Step {
+    /// The first sender sends this, in order: the answers.
+    Send(&'static [Sending]),
+    /// It looks at an actor.
+    Look(u32),
+    /// It puts a message that adds this value, by the ticket that it had last.
+    Put(i64),
+    /// The first end runs all claims: the turns.
+    Run,
+    /// It registers an actor.
+    Register(u32),
+    /// It takes one claim and runs its mailbox: the turn.
+    Turn,
+    /// It works until there is no claim.
+    Work,
+    /// The senders are lost.
+    LoseSenders,
+    /// The system ends: the report's text, or why there is none.
+    Finish,
+    /// What came to an actor, in order, by the report.
+    Journal(u32),
+    /// How many system messages to an actor are dead, by the report.
+    DeadSystem(u32),
+}
+
+/// Who acts, and what is done, each step with its answer.
+#[derive(Clone, Copy)]
+pub struct Tale {
+    pub story: Story<'static>,
+    pub steps: &'static [(Step, &'static str)],
+}
+
+/// Takes each step of each tale, and sees to it that it is answered as it says.
+pub fn play<R: Abort + Wait>(rt: &R, alloc: Global, tales: &[Tale]) {
+    for tale in tales {
+        let mut stage = Stage::new(rt, alloc, &tale.story);
+        for (step, answer) in tale.steps {
+            let found = stage.take(rt, *step);
+            assert_eq!(rt; words(&found), *answer);
+        }
+    }
+}
