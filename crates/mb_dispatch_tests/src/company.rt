@@ -8,7 +8,7 @@ use crate::story::{Story, plan_of};
 use crate::together::begin;
 use mb_dispatch::{Built, Look, Put, RunError, System, Ticket, Turn, Unsent, WorkerEnd};
 use mb_msg::{ActorId, Body};
-use std::alloc::Global;
+use std::alloc::{AllocError, Global};
 use std::marker::Model;
 use std::sync::Wait;
 
@@ -29,16 +29,12 @@ impl Model for Company {
 }
 
 impl Company {
-    /// The system of this story; nothing where there is none.
-    pub fn new<R: Wait>(rt: &R, alloc: Global, story: &Story<'_>) -> Option<Self> {
-        let plan = plan_of(alloc, story).ok()?;
-        let Ok(players) = players_of(alloc, story.parts) else {
-            return None;
-        };
-        match begin::<Player, Adding, R>(rt, alloc, plan, players) {
-            Ok(built) => Some(Company { built }),
-            Err(_) => None,
-        }
+    /// The system of this story.
+    pub fn new<R: Wait>(rt: &R, alloc: Global, story: &Story<'_>) -> Result<Self, AllocError> {
+        let plan = plan_of(alloc, story)?;
+        let players = players_of(alloc, story.parts)?;
+        let built = begin::<Player, Adding, R>(rt, alloc, plan, players)?;
+        Ok(Company { built })
     }
 
     /// The senders are lost.

@@ -29,7 +29,7 @@ impl Stage {
         Stage {
             alloc,
             count: story.parts.len(),
-            company: Company::new(rt, alloc, story),
+            company: Company::new(rt, alloc, story).ok(),
             ticket: None,
             report: None,
         }

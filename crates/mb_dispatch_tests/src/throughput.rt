@@ -16,12 +16,14 @@ a1 live state 5 suspended 0 handled 5 left 0 dead 0 restarts 0
 sent 5 handled 5 left 0 dead 0
 ";
 
+const BY_TWOS: Story<'static> = Story {
+    throughput: 2,
+    parts: &[COUNTER],
+    ..PLAIN
+};
+
 const TWO_AT_A_TIME: Tale = Tale {
-    story: Story {
-        throughput: 2,
-        parts: &[COUNTER],
-        ..PLAIN
-    },
+    story: BY_TWOS,
     steps: &[
         (Send(&[ONE, ONE, ONE, ONE, ONE]), ALL_QUEUED),
         (Run, "(0;1,0) (1;1,2) (1;0,2) (1;0,1)"),
@@ -33,7 +35,7 @@ const TWO_AT_A_TIME_BY_STEALING: Tale = Tale {
     story: Story {
         workers: 1,
         pool: Pool::Stealing,
-        ..TWO_AT_A_TIME.story
+        ..BY_TWOS
     },
     ..TWO_AT_A_TIME
 };
