@@ -27,7 +27,16 @@ pub struct Unfinished {
 impl Company {
     /// Ends the system: the report.
     pub fn finish<R: Wait>(self, rt: &R) -> Result<Report, Unfinished> {
-        let Company { built } = self;
+        let Company {
+            system,
+            ends,
+            senders,
+        } = self;
+        let built = Built {
+            system,
+            ends,
+            senders,
+        };
         match finish(rt, built) {
             Ok(report) => Ok(report),
             Err(FinishError::MissingEnd(number, back)) => {
@@ -52,6 +61,6 @@ fn come_back(why: Refusal, built: Built<Player, Adding>) -> Unfinished
 {
     Unfinished {
         why,
-        back: Some(Company { built }),
+        back: Some(Company::of(built)),
     }
 }

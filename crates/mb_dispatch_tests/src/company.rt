@@ -1,12 +1,13 @@
 //! A system of players with all that belongs to it, of which the first end and the first sender are led. The calls ask for
 //! nothing: what those of the dispatcher ask for stands in the type, or is looked at first. Nothing comes of a call for which
 //! there is no end, no sender or no such actor.
+ghost use Rattle.mb_system.specs.Belonging.{BelongsTogether};
 ghost use Rattle.mb_system.specs.Members.{IsEndOf};
 
 use crate::player::{Adding, Player, players_of};
 use crate::story::{Story, plan_of};
 use crate::together::begin;
-use mb_dispatch::{Built, Look, Put, RunError, System, Ticket, Turn, Unsent, WorkerEnd};
+use mb_dispatch::{Built, Look, Put, RunError, Sender, System, Ticket, Turn, Unsent, WorkerEnd};
 use mb_msg::{ActorId, Body};
 use std::alloc::{AllocError, Global};
 use std::marker::Model;
@@ -15,7 +16,9 @@ use std::sync::Wait;
 /// A system of players with its ends, and with those of its senders that are not lost.
 #[derive(Drop)]
 pub struct Company {
-    pub(crate) built: Built<Player, Adding>,
+    pub(crate) system: System<Player, Adding>,
+    pub(crate) ends: Vec<WorkerEnd<Player, Adding>>,
+    pub(crate) senders: Vec<Sender<Player, Adding>>,
 }
 
 impl Model for Company {
@@ -25,7 +28,8 @@ impl Model for Company {
 
     ghost view = { λ company. tt };
 
-    ghost invariant = { λ company. BelongsTogether company.built };
+    ghost invariant = { λ company.
+        BelongsTogether (record { system = company.system; ends = company.ends; senders = company.senders }) };
 }
 
 impl Company {
@@ -34,44 +38,60 @@ impl Company {
         let plan = plan_of(alloc, story)?;
         let players = players_of(alloc, story.parts)?;
         let built = begin::<Player, Adding, R>(rt, alloc, plan, players)?;
-        Ok(Company { built })
+        Ok(Company::of(built))
+    }
+
+    /// The system and all that is there of it.
+    pub(crate) fn of(built: Built<Player, Adding>) -> Self
+        requires together { BelongsTogether built }
+    {
+        let Built {
+            system,
+            ends,
+            senders,
+        } = built;
+        Company {
+            system,
+            ends,
+            senders,
+        }
     }
 
     /// The senders are lost.
     pub fn lose_senders(&mut self) {
-        self.built.senders.clear();
+        self.senders.clear();
     }
 
     /// Runs claims on this thread until none is there: the turns.
     pub fn run_quietly<R: Wait>(&mut self, rt: &R) -> Option<Result<Vec<Turn>, RunError>> {
-        if self.built.ends.len() == 0 {
+        if self.ends.len() == 0 {
             return None;
         }
-        Some(self.built.ends[0].run_quietly(rt, &self.built.system))
+        Some(self.ends[0].run_quietly(rt, &self.system))
     }
 
     /// Registers an actor: whether its claim went to the pool.
     pub fn register<R: Wait>(&mut self, rt: &R, id: ActorId) -> Option<bool> {
-        if self.built.ends.len() == 0 || id.0 as usize >= self.built.system.gates.actors() {
+        if self.ends.len() == 0 || id.0 as usize >= self.system.gates.actors() {
             return None;
         }
-        Some(self.built.ends[0].register(rt, &self.built.system, id, false, false))
+        Some(self.ends[0].register(rt, &self.system, id, false, false))
     }
 
     /// Takes a claim and runs its mailbox: the turn. Nothing also where there is no claim, or the turn is broken off.
     pub fn turn<R: Wait>(&mut self, rt: &R) -> Option<Turn> {
-        if self.built.ends.len() == 0 {
+        if self.ends.len() == 0 {
             return None;
         }
-        run_next(rt, &self.built.system, &mut self.built.ends[0])
+        run_next(rt, &self.system, &mut self.ends[0])
     }
 
     /// Works until there is no claim.
     pub fn work<R: Wait>(&mut self, rt: &R) -> Option<Result<(), RunError>> {
-        if self.built.ends.len() == 0 {
+        if self.ends.len() == 0 {
             return None;
         }
-        Some(self.built.ends[0].work(rt, &self.built.system))
+        Some(self.ends[0].work(rt, &self.system))
     }
 
     /// Tells an actor this body.
@@ -81,26 +101,26 @@ impl Company {
         to: ActorId,
         body: Body,
     ) -> Option<Result<Put, Unsent>> {
-        if self.built.senders.len() == 0 {
+        if self.senders.len() == 0 {
             return None;
         }
-        Some(self.built.senders[0].tell(rt, &self.built.system, to, body))
+        Some(self.senders[0].tell(rt, &self.system, to, body))
     }
 
     /// Stops an actor.
     pub fn stop<R: Wait>(&mut self, rt: &R, id: ActorId) -> Option<Result<bool, Unsent>> {
-        if self.built.senders.len() == 0 {
+        if self.senders.len() == 0 {
             return None;
         }
-        Some(self.built.senders[0].stop(rt, &self.built.system, id))
+        Some(self.senders[0].stop(rt, &self.system, id))
     }
 
     /// Looks at an actor.
     pub fn look(&mut self, to: ActorId) -> Option<Result<Look, Unsent>> {
-        if self.built.senders.len() == 0 {
+        if self.senders.len() == 0 {
             return None;
         }
-        Some(self.built.senders[0].look(&self.built.system, to))
+        Some(self.senders[0].look(&self.system, to))
     }
 
     /// Puts this body by a ticket.
@@ -110,13 +130,13 @@ impl Company {
         ticket: Ticket,
         body: Body,
     ) -> Option<Result<Put, Unsent>> {
-        if self.built.senders.len() == 0
+        if self.senders.len() == 0
             || ticket.to.0 == 0
-            || ticket.to.0 as usize >= self.built.system.gates.actors()
+            || ticket.to.0 as usize >= self.system.gates.actors()
         {
             return None;
         }
-        Some(self.built.senders[0].put(rt, &self.built.system, ticket, body))
+        Some(self.senders[0].put(rt, &self.system, ticket, body))
     }
 }
 
