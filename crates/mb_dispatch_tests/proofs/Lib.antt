@@ -1,4 +1,2 @@
-pub mod Alike
-pub mod Belonging
 pub mod Casting
 pub mod Kept

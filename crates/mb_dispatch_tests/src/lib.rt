@@ -32,8 +32,6 @@ mod ordered;
 #[cfg(test)]
 mod player;
 #[cfg(test)]
-mod refused;
-#[cfg(test)]
 mod shown;
 #[cfg(test)]
 mod stage;
@@ -47,5 +45,7 @@ mod tale;
 mod throughput;
 #[cfg(test)]
 mod together;
+#[cfg(test)]
+mod unbuilt;
 #[cfg(test)]
 mod watcher;

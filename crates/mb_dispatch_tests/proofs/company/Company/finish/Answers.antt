@@ -4,8 +4,8 @@ use Rattle.mb_dispatch_tests.proofs.company.Company.finish.Goals as goal
 pub finish-requires : goal.finish-requires
 finish-requires g c = record { together = c.self.invariant }
 
-pub come_back-requires-in-Err-MissingEnd : goal.come_back-requires-in-Err-MissingEnd
-come_back-requires-in-Err-MissingEnd g c =
+pub come_back-requires : goal.come_back-requires
+come_back-requires g c =
     let was = c.self.inside in
     let arm = c.in-Err-MissingEnd in
     record { together = comes-back was.system was.ends was.senders _ _ arm.field-0-is arm.ensures.refused c.self.invariant }

@@ -2,7 +2,7 @@ use Rattle.std.proofs.Common.{pos}
 use Rattle.mb_dispatch_tests.specs.Sum.{sum_of}
 use Rattle.mb_dispatch_tests.proofs.Casting.{alike-behaved}
 use Rattle.mb_dispatch_tests.specs.declared.player.Player.{Player}
-use Rattle.mb_dispatch_tests.proofs.refused.refusal.Goals as goal
+use Rattle.mb_dispatch_tests.proofs.unbuilt.refusal.Goals as goal
 
 pub build-requires : goal.build-requires
 build-requires g c =
