@@ -12,4 +12,4 @@ run_mailbox-requires-clause-untouched g c =
     subst (λ origin. IsFreshClaim (λ (n : ℕ) (m : Moment) (r : Reply). Unit {0}) origin c.in-Some.claim) c.requires.ours.1 c.in-Some.ensures.fit
 
 pub returns-in-None : goal.returns-in-None
-returns-in-None g c = took c.args.system.now.gates c.args.end.now c.take.new.self c.take.ensures.same c.requires.ours
+returns-in-None g c = record { ours = took c.args.system.now.gates c.args.end.now c.take.new.self c.take.ensures.same c.requires.ours }
