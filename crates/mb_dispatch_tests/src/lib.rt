@@ -6,11 +6,21 @@ mod alone;
 #[cfg(test)]
 mod boxed;
 #[cfg(test)]
+mod chance;
+#[cfg(test)]
 mod crowd;
+#[cfg(test)]
+mod dice;
 #[cfg(test)]
 mod ended;
 #[cfg(test)]
+mod gambler;
+#[cfg(test)]
 mod guest;
+#[cfg(test)]
+mod ids;
+#[cfg(test)]
+mod lawful;
 #[cfg(test)]
 mod limited;
 #[cfg(test)]
@@ -18,9 +28,15 @@ mod meeting;
 #[cfg(test)]
 mod player;
 #[cfg(test)]
+mod sent;
+#[cfg(test)]
+mod stood;
+#[cfg(test)]
 mod story;
 #[cfg(test)]
 mod supervised;
+#[cfg(test)]
+mod thousand;
 #[cfg(test)]
 mod together;
 #[cfg(test)]

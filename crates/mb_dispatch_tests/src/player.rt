@@ -114,7 +114,7 @@ pub fn players_of(alloc: Global, parts: &[Part]) -> Result<Vec<Player>, AllocErr
 }
 
 /// The sum with one message more.
-fn with(sum: i64, message: &Message) -> i64
+pub fn with(sum: i64, message: &Message) -> i64
     ensures { result ≡ sum_with sum message.now }
 {
     match *message {

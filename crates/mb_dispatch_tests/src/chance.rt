@@ -1,0 +1,116 @@
+//! Plans and orders by chance.
+use crate::dice::Dice;
+use crate::gambler::GREATEST;
+use crate::player::ADD;
+use crate::story::{said, told};
+use mb_dispatch::{Order, What};
+use mb_journal::{Pattern, Strategy};
+use mb_msg::{ActorId, Body, Directive};
+use mb_plan::{ActorPlan, Kind, Plan, Pool, Rank};
+use std::alloc::{AllocError, Global};
+
+/// How many actors the plan of this seed has.
+pub fn actors_by_chance(seed: u64) -> u32 {
+    Dice::new(seed).roll(1, 6)
+}
+
+/// The plan of this seed.
+pub fn plan_by_chance(alloc: Global, seed: u64, pool: Pool) -> Result<Plan, AllocError> {
+    let mut dice = Dice::new(seed);
+    let mut actors = Vec::new(alloc);
+    for number in 1..=dice.roll(1, 6) {
+        actors.push(ActorPlan {
+            parent: ActorId(dice.roll(0, number.saturating_sub(1))),
+            mailbox: mailbox(alloc, &mut dice)?,
+            strategy: strategy(alloc, &mut dice)?,
+        })?;
+    }
+    Ok(Plan {
+        throughput: dice.roll(0, 3),
+        workers: dice.roll(1, 4),
+        pool,
+        senders: dice.roll(1, 4),
+        journal_limit: 100_000,
+        actors,
+    })
+}
+
+fn mailbox(alloc: Global, dice: &mut Dice) -> Result<Kind, AllocError> {
+    Ok(match dice.roll(1, 4) {
+        1 => Kind::Unbounded,
+        2 => Kind::Bounded(dice.roll(1, 6)),
+        3 => Kind::Control,
+        _ => Kind::Priority {
+            rows: ranks(alloc, dice)?,
+            other: 1,
+        },
+    })
+}
+
+fn ranks(alloc: Global, dice: &mut Dice) -> Result<Vec<Rank>, AllocError> {
+    let mut rows = Vec::new(alloc);
+    for kind in ADD..=GREATEST {
+        let rank = dice.roll(0, 2);
+        rows.push(Rank { kind, rank })?;
+    }
+    Ok(rows)
+}
+
+fn strategy(alloc: Global, dice: &mut Dice) -> Result<Strategy, AllocError> {
+    let mut rows = Vec::new(alloc);
+    for _ in 0..dice.roll(0, 2) {
+        let pattern = pattern(dice);
+        rows.push((pattern, directive(dice)))?;
+    }
+    Ok(Strategy {
+        rows,
+        retries: i64::from(dice.roll(0, 5)).saturating_sub(2),
+        all_for_one: dice.is_one_of(3),
+    })
+}
+
+fn pattern(dice: &mut Dice) -> Pattern {
+    match dice.roll(1, 5) {
+        1 => Pattern::Any,
+        2 => Pattern::AnyError,
+        3 => Pattern::Init,
+        4 => Pattern::Killed,
+        _ => Pattern::DeathPact,
+    }
+}
+
+fn directive(dice: &mut Dice) -> Directive {
+    match dice.roll(1, 7) {
+        1..=3 => Directive::Resume,
+        4..=5 => Directive::Restart,
+        6 => Directive::Stop,
+        _ => Directive::Escalate,
+    }
+}
+
+/// What each sender is to send, where there are so many actors.
+pub fn orders_by_chance(alloc: Global, seed: u64, actors: u32) -> Result<Vec<Order>, AllocError> {
+    let mut dice = Dice::new(seed.wrapping_add(1_000));
+    let mut orders = Vec::new(alloc);
+    for _ in 0..dice.roll(0, 40) {
+        let to = dice.roll(1, actors);
+        orders.push(order(to, &mut dice))?;
+    }
+    Ok(orders)
+}
+
+fn order(to: u32, dice: &mut Dice) -> Order {
+    let value = i64::from(dice.roll(0, 99));
+    let kind = dice.roll(ADD, GREATEST);
+    match dice.roll(1, 100) {
+        1 => Order {
+            to: ActorId(to),
+            what: What::Stop,
+        },
+        2 => said(to, Body::Kill),
+        3 => said(to, Body::PoisonPill),
+        4..=20 => said(to, Body::Control { kind, value }),
+        21..=40 => told(to, kind, value),
+        _ => told(to, ADD, value),
+    }
+}

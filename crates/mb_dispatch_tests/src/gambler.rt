@@ -1,0 +1,112 @@
+//! An actor that does things by chance, and shows the sum of the values of kind 1 that it got.
+ghost use Rattle.std.specs.Prelude.{◌≡◌, pos, All, IfOk};
+
+use crate::dice::Dice;
+use crate::player::{ADD, with};
+use mb_actor::{Actor, Answer, Message, Outbox};
+use mb_msg::{ActorId, Cause};
+use std::alloc::{AllocError, Global};
+
+/// The greatest kind of message. One of a greater kind than that of values makes a gambler do things; what it tells then is of
+/// the kind before, so that each run ends.
+pub const GREATEST: u32 = 4;
+
+/// It knows how many actors there are, and starts all children that it has.
+#[derive(Drop)]
+pub struct Gambler {
+    pub(crate) dice: Dice,
+    pub(crate) actors: u32,
+    pub(crate) sum: i64,
+}
+
+impl Actor for Gambler {
+    ghost use Rattle.mb_dispatch_tests.specs.Sum.{sum_of};
+
+    ghost after = { λ _. sum_of };
+
+    ghost content = { λ gambler. gambler.sum };
+
+    ghost gives = { λ _ _ _. Unit {0} };
+
+    fn start(&mut self, out: &mut Outbox) -> Answer {
+        self.sum = 0;
+        for number in 1..=self.actors {
+            let _refused = out.spawn(ActorId(number));
+        }
+        act(&mut self.dice, self.actors, ADD, out);
+        fail_once_in(20, &mut self.dice)
+    }
+
+    fn receive(&mut self, message: &Message, out: &mut Outbox) -> Answer {
+        self.sum = with(self.sum, message);
+        match *message {
+            Message::User { kind: ADD, .. } | Message::Control { kind: ADD, .. } => Answer::Handled,
+            Message::User { kind, .. } | Message::Control { kind, .. } => {
+                let less = kind.saturating_sub(1);
+                act(&mut self.dice, self.actors, less, out);
+                act(&mut self.dice, self.actors, less, out);
+                fail_once_in(3, &mut self.dice)
+            }
+            Message::Terminated(_) => {
+                if self.dice.is_one_of(3) {
+                    Answer::Unhandled
+                } else {
+                    Answer::Handled
+                }
+            }
+        }
+    }
+
+    fn restart(&mut self, _cause: Cause, out: &mut Outbox) -> Answer {
+        self.sum = 0;
+        act(&mut self.dice, self.actors, ADD, out);
+        fail_once_in(20, &mut self.dice)
+    }
+
+    fn stop(&mut self, out: &mut Outbox) {
+        act(&mut self.dice, self.actors, ADD, out);
+    }
+
+    fn state(&self) -> i64 {
+        self.sum
+    }
+}
+
+/// Asks for one thing; a message that is told is of this kind.
+fn act(dice: &mut Dice, actors: u32, kind: u32, out: &mut Outbox)
+    ensures actors { out.new.actors ≡ out.old.actors }
+    ensures unspawned { out.new.unspawned ≡ out.old.unspawned }
+{
+    let who = ActorId(dice.roll(1, actors));
+    let value = i64::from(dice.roll(0, 99));
+    let _refused = match dice.roll(1, 20) {
+        1 => out.stop(who),
+        2..=5 => out.watch(who),
+        6..=7 => out.unwatch(who),
+        8..=11 => out.control(who, kind, value),
+        _ => out.tell(who, kind, value),
+    };
+}
+
+fn fail_once_in(sides: u32, dice: &mut Dice) -> Answer {
+    if dice.is_one_of(sides) {
+        Answer::Failed(4)
+    } else {
+        Answer::Handled
+    }
+}
+
+/// So many gamblers, who got nothing yet.
+pub fn gamblers(alloc: Global, seed: u64, actors: u32) -> Result<Vec<Gambler>, AllocError>
+    ensures { IfOk result (λ gamblers. All (λ gambler. gambler.sum ≡ pos 0) gamblers.items) }
+{
+    let mut gamblers = Vec::new(alloc);
+    for number in 1..=actors {
+        gamblers.push(Gambler {
+            dice: Dice::new(seed.wrapping_mul(64).wrapping_add(u64::from(number))),
+            actors,
+            sum: 0,
+        })?;
+    }
+    Ok(gamblers)
+}

@@ -1,0 +1,153 @@
+//! What must be true of the envelopes of a report, by code that shares nothing with the program's: each that was sent stands
+//! once, in its sender's order; what is dead is so for a reason.
+use crate::sent::{Sent, all_sent};
+use mb_actor::Phase;
+use mb_dispatch::Order;
+use mb_journal::Arrival;
+use mb_msg::{ActorId, Body, DeadLetter, Envelope, SenderId, Why};
+use mb_plan::{Kind, Plan};
+use mb_report::{ActorReport, Report, SenderReport};
+use std::alloc::{AllocError, Global};
+
+/// Whether the envelopes of a report on this plan are right, where each sender outside sent this.
+pub fn are_envelopes_right(
+    alloc: Global,
+    report: &Report,
+    plan: &Plan,
+    orders: &[Order],
+) -> Result<bool, AllocError> {
+    let all = all_sent(alloc, report, plan.senders, orders)?;
+    Ok(are_senders_right(report, plan, &all)
+        && are_receivers_right(alloc, report, plan, &all)?
+        && does_each_stand_once(alloc, report, &all)?)
+}
+
+/// Each sender sent as many as it says, and is told of its own dead letters.
+fn are_senders_right(report: &Report, plan: &Plan, all: &[Sent]) -> bool {
+    if report.senders.len() != all.len() {
+        return false;
+    }
+    for (sender, sent) in report.senders.iter().zip(all) {
+        if sender.sent != sent.envelopes.len() as u64 {
+            return false;
+        }
+        for letter in &sender.dead {
+            if letter.envelope.by != sent.by || !is_dead_for_a_reason(report, plan, letter) {
+                return false;
+            }
+        }
+    }
+    true
+}
+
+/// A letter is dead as closed where its receiver has ended, and as full where that has a bound. There was memory for all.
+fn is_dead_for_a_reason(report: &Report, plan: &Plan, letter: &DeadLetter) -> bool {
+    let to = letter.envelope.to;
+    match letter.why {
+        Why::Closed => match report.actors.get(to.0 as usize) {
+            Some(actor) => actor.phase == Phase::Ended,
+            None => false,
+        },
+        Why::Full => matches!(mailbox_of(plan, to), Some(Kind::Bounded(_))),
+        Why::NoMemory | Why::Cleaned => false,
+    }
+}
+
+/// An actor's mailbox. The guardian's is not planned.
+fn mailbox_of(plan: &Plan, id: ActorId) -> Option<&Kind> {
+    match plan.actors.get((id.0 as usize).wrapping_sub(1)) {
+        Some(actor) => Some(&actor.mailbox),
+        None => None,
+    }
+}
+
+/// Each actor has what was sent to it, in order.
+fn are_receivers_right(
+    alloc: Global,
+    report: &Report,
+    plan: &Plan,
+    all: &[Sent],
+) -> Result<bool, AllocError> {
+    let mut id = ActorId(0);
+    for actor in &report.actors {
+        let fates = fates_of(alloc, actor)?;
+        for envelope in &fates {
+            if envelope.to != id {
+                return Ok(false);
+            }
+        }
+        for sent in all {
+            if !are_in_order(&fates, sent.by, mailbox_of(plan, id)) {
+                return Ok(false);
+            }
+        }
+        id = ActorId(id.0.wrapping_add(1));
+    }
+    Ok(true)
+}
+
+/// What became of the envelopes to an actor that were not refused: handled or dropped, cleaned up, left.
+fn fates_of(alloc: Global, actor: &ActorReport) -> Result<Vec<Envelope>, AllocError> {
+    let mut fates = Vec::new(alloc);
+    for place in 0..actor.journal.len() {
+        match actor.journal.get(place).arrival {
+            Arrival::Handled { envelope, .. } => fates.push(envelope)?,
+            Arrival::Dropped { envelope } => fates.push(envelope)?,
+            Arrival::System { .. } | Arrival::SetAside { .. } => {}
+        }
+    }
+    fates.extend_from_slice(&actor.cleaned)?;
+    fates.extend_from_slice(&actor.left)?;
+    Ok(fates)
+}
+
+/// Whether this sender's are in order, where the mailbox keeps the order: all of them, or where control messages go first, these
+/// and the others.
+fn are_in_order(fates: &[Envelope], by: SenderId, mailbox: Option<&Kind>) -> bool {
+    let mut control = 0;
+    let mut other = 0;
+    for envelope in fates {
+        if envelope.by != by {
+            continue;
+        }
+        let next = match (mailbox, envelope.body) {
+            (Some(Kind::Priority { .. }), _) => return true,
+            (Some(Kind::Control), Body::Control { .. }) => &mut control,
+            _ => &mut other,
+        };
+        if envelope.number < *next {
+            return false;
+        }
+        *next = envelope.number.saturating_add(1);
+    }
+    true
+}
+
+/// Each envelope that was sent stands once, among the fates of an actor or the dead letters, and nothing else stands there.
+fn does_each_stand_once(
+    alloc: Global,
+    report: &Report,
+    all: &[Sent],
+) -> Result<bool, AllocError> {
+    let mut sent = Vec::new(alloc);
+    for one in all {
+        sent.extend_from_slice(&one.envelopes)?;
+    }
+    let mut stood = Vec::new(alloc);
+    for actor in &report.actors {
+        stood.extend_from_slice(&fates_of(alloc, actor)?)?;
+    }
+    for sender in &report.senders {
+        push_dead(&mut stood, sender)?;
+    }
+    sent.sort()?;
+    stood.sort()?;
+    Ok(sent == stood)
+}
+
+fn push_dead(stood: &mut Vec<Envelope>, sender: &SenderReport) -> Result<(), AllocError> {
+    for letter in &sender.dead {
+        stood.push(letter.envelope)?;
+    }
+    Ok(())
+}
