@@ -13,7 +13,11 @@ use std::alloc::{AllocError, Global};
 pub fn are_actors_right(alloc: Global, report: &Report, plan: &Plan) -> Result<bool, AllocError> {
     let mut is_guardian = true;
     for actor in &report.actors {
-        let first = if is_guardian { below_guardian(plan) } else { NOBODY };
+        let first = if is_guardian {
+            below_guardian(plan)
+        } else {
+            NOBODY
+        };
         let is_right = actor.state == state_of(&actor.journal, is_guardian)
             && actor.phase == phase_of(&actor.journal, first, is_guardian)
             && is_rest_right(actor)
@@ -82,7 +86,12 @@ fn phase_of(journal: &Journal, first: Ids, is_guardian: bool) -> Phase {
     };
     for place in 0..journal.len() {
         let record = journal.get(place);
-        if let Arrival::System { answer, message, .. } = record.arrival {
+        if let Arrival::System {
+            answer,
+            message,
+            ..
+        } = record.arrival
+        {
             life.hear(answer, message);
             if is_guardian && message == SysMsg::Create {
                 life.phase = Phase::Live;
@@ -148,7 +157,11 @@ fn are_system_messages_right(alloc: Global, actor: &ActorReport) -> Result<bool,
                 came = came.wrapping_add(1);
                 aside.push((number, message))?;
             }
-            Arrival::System { number, message, .. } => {
+            Arrival::System {
+                number,
+                message,
+                ..
+            } => {
                 if number == came {
                     came = came.wrapping_add(1);
                 } else if !take(&mut aside, (number, message)) {

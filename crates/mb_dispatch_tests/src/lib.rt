@@ -12,6 +12,8 @@ mod crowd;
 #[cfg(test)]
 mod dice;
 #[cfg(test)]
+mod doubted;
+#[cfg(test)]
 mod ended;
 #[cfg(test)]
 mod gambler;

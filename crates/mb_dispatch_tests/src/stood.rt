@@ -17,9 +17,11 @@ pub fn are_envelopes_right(
     orders: &[Order],
 ) -> Result<bool, AllocError> {
     let all = all_sent(alloc, report, plan.senders, orders)?;
-    Ok(are_senders_right(report, plan, &all)
-        && are_receivers_right(alloc, report, plan, &all)?
-        && does_each_stand_once(alloc, report, &all)?)
+    Ok(
+        are_senders_right(report, plan, &all)
+            && are_receivers_right(alloc, report, plan, &all)?
+            && does_each_stand_once(alloc, report, &all)?,
+    )
 }
 
 /// Each sender sent as many as it says, and is told of its own dead letters.
@@ -124,11 +126,7 @@ fn are_in_order(fates: &[Envelope], by: SenderId, mailbox: Option<&Kind>) -> boo
 }
 
 /// Each envelope that was sent stands once, among the fates of an actor or the dead letters, and nothing else stands there.
-fn does_each_stand_once(
-    alloc: Global,
-    report: &Report,
-    all: &[Sent],
-) -> Result<bool, AllocError> {
+fn does_each_stand_once(alloc: Global, report: &Report, all: &[Sent]) -> Result<bool, AllocError> {
     let mut sent = Vec::new(alloc);
     for one in all {
         sent.extend_from_slice(&one.envelopes)?;

@@ -26,8 +26,10 @@ fn try_one<R: Threads + Wait + Sync>(
         return Ok(false);
     };
     let plan = plan_by_chance(alloc, seed, pool)?;
-    Ok(are_envelopes_right(alloc, &report, &plan, &orders)?
-        && are_actors_right(alloc, &report, &plan)?)
+    Ok(
+        are_envelopes_right(alloc, &report, &plan, &orders)?
+            && are_actors_right(alloc, &report, &plan)?,
+    )
 }
 
 fn try_five_hundred<R: Abort + Threads + Wait + Sync>(rt: &R, alloc: Global, pool: Pool) {
