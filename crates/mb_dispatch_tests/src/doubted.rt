@@ -1,7 +1,7 @@
 //! What is checked of reports, tried on reports by hand: on one that is right, and on others that have one thing wrong.
 ghost use Rattle.std.specs.Prelude.{OnOk, IsTrue};
 
-use crate::doubted::Twist::{Cleaned, Dead, Left, Nothing, SentMore, StartedLate};
+use crate::doubted::Twist::{Cleaned, Dead, Elsewhere, Left, Nothing, SentMore, StartedLate};
 use crate::lawful::are_actors_right;
 use crate::player::{ADD, COUNTER};
 use crate::stood::are_envelopes_right;
@@ -24,6 +24,8 @@ enum Twist {
     Cleaned,
     /// The second envelope is dead.
     Dead(Why),
+    /// The guardian handled the second envelope.
+    Elsewhere,
     /// One more was sent.
     SentMore,
     /// A system message came before the first, but is not there.
@@ -36,11 +38,12 @@ type Claim = (&'static str, &'static [u64], i64, Phase, Twist);
 
 const RIGHT: Claim = ("right", &[0, 1], 3, Live, Nothing);
 
-const WRONG: [Claim; 14] = [
+const WRONG: [Claim; 15] = [
     ("one is lost", &[0], 1, Live, Nothing),
     ("one is handled twice", &[0, 0], 2, Live, Nothing),
     ("one is handled and dead", &[0, 1], 3, Live, Dead(Full)),
     ("one was not sent", &[0, 1, 2], 5, Live, Nothing),
+    ("one is at another actor", &[0], 1, Live, Elsewhere),
     ("two are exchanged", &[1, 0], 3, Live, Nothing),
     ("a wrong number of envelopes", &[0, 1], 3, Live, SentMore),
     ("a wrong state", &[0, 1], 4, Live, Nothing),
@@ -70,7 +73,7 @@ fn is_found_right(alloc: Global, claim: Claim) -> Result<bool, AllocError> {
 
 fn report_of(alloc: Global, claim: Claim) -> Result<Report, AllocError> {
     let (_, handled, state, phase, twist) = claim;
-    let guardian = actor(alloc, 0, None)?;
+    let mut guardian = actor(alloc, 0, None)?;
     let mut one = actor(
         alloc,
         u64::from(matches!(twist, StartedLate)),
@@ -79,9 +82,7 @@ fn report_of(alloc: Global, claim: Claim) -> Result<Report, AllocError> {
     one.phase = phase;
     one.state = Some(state);
     for number in handled {
-        make_ready(&mut one.journal)?;
-        one.journal
-            .push_handled(envelope(*number), 0, Some(Answer::Handled), &[]);
+        handle(&mut one.journal, *number)?;
     }
     let mut outside = silent(alloc);
     outside.sent = 2;
@@ -92,6 +93,7 @@ fn report_of(alloc: Global, claim: Claim) -> Result<Report, AllocError> {
             envelope: envelope(1),
             why,
         })?,
+        Elsewhere => handle(&mut guardian.journal, 1)?,
         SentMore => outside.sent = 3,
         StartedLate | Nothing => {}
     }
@@ -116,6 +118,13 @@ fn actor(alloc: Global, number: u64, answer: Option<Answer>) -> Result<ActorRepo
         cleaned: Vec::new(alloc),
         dead_system: 0,
     })
+}
+
+/// Adds that the envelope of this number was handled.
+fn handle(journal: &mut Journal, number: u64) -> Result<(), AllocError> {
+    make_ready(journal)?;
+    journal.push_handled(envelope(number), 0, Some(Answer::Handled), &[]);
+    Ok(())
 }
 
 fn make_ready(journal: &mut Journal) -> Result<(), AllocError>

@@ -11,7 +11,7 @@ use std::alloc::{AllocError, Global};
 /// the kind before, so that each run ends.
 pub const GREATEST: u32 = 4;
 
-/// It knows how many actors there are, and starts all children that it has.
+/// It knows how many actors there are.
 #[derive(Drop)]
 pub struct Gambler {
     pub(crate) dice: Dice,
@@ -30,9 +30,7 @@ impl Actor for Gambler {
 
     fn start(&mut self, out: &mut Outbox) -> Answer {
         self.sum = 0;
-        for number in 1..=self.actors {
-            let _refused = out.spawn(ActorId(number));
-        }
+        spawn_all(self.actors, out);
         act(&mut self.dice, self.actors, ADD, out);
         fail_once_in(20, &mut self.dice)
     }
@@ -69,6 +67,16 @@ impl Actor for Gambler {
 
     fn state(&self) -> i64 {
         self.sum
+    }
+}
+
+/// Starts all children that the actor has.
+fn spawn_all(actors: u32, out: &mut Outbox)
+    ensures actors { out.new.actors ≡ out.old.actors }
+    ensures unspawned { out.new.unspawned ≡ out.old.unspawned }
+{
+    for number in 1..=actors {
+        let _refused = out.spawn(ActorId(number));
     }
 }
 
