@@ -1,7 +1,9 @@
 //! What is checked of reports, tried on reports by hand: on one that is right, and on others that have one thing wrong.
 ghost use Rattle.std.specs.Prelude.{OnOk, IsTrue};
 
-use crate::doubted::Twist::{Cleaned, Dead, Elsewhere, Left, Nothing, SentMore, StartedLate};
+use crate::doubted::Twist::{
+    Cleaned, Dead, Elsewhere, Left, Nothing, SentMore, StartedLate, Suspended,
+};
 use crate::lawful::are_actors_right;
 use crate::player::{ADD, COUNTER};
 use crate::stood::are_envelopes_right;
@@ -26,6 +28,8 @@ enum Twist {
     Dead(Why),
     /// The guardian handled the second envelope.
     Elsewhere,
+    /// The status word was read before each envelope that tells of one suspension.
+    Suspended,
     /// One more was sent.
     SentMore,
     /// A system message came before the first, but is not there.
@@ -38,7 +42,7 @@ type Claim = (&'static str, &'static [u64], i64, Phase, Twist);
 
 const RIGHT: Claim = ("right", &[0, 1], 3, Live, Nothing);
 
-const WRONG: [Claim; 15] = [
+const WRONG: [Claim; 16] = [
     ("one is lost", &[0], 1, Live, Nothing),
     ("one is handled twice", &[0, 0], 2, Live, Nothing),
     ("one is handled and dead", &[0, 1], 3, Live, Dead(Full)),
@@ -53,6 +57,7 @@ const WRONG: [Claim; 15] = [
     ("cleaned up before an end", &[0], 1, Live, Cleaned),
     ("closed before an end", &[0], 1, Live, Dead(Closed)),
     ("full without a bound", &[0], 1, Live, Dead(Full)),
+    ("begun while suspended", &[0, 1], 3, Live, Suspended),
     ("a system message is lost", &[0, 1], 3, Live, StartedLate),
 ];
 
@@ -81,8 +86,9 @@ fn report_of(alloc: Global, claim: Claim) -> Result<Report, AllocError> {
     )?;
     one.phase = phase;
     one.state = Some(state);
+    let reading = if matches!(twist, Suspended) { 4 } else { 0 };
     for number in handled {
-        handle(&mut one.journal, *number)?;
+        handle(&mut one.journal, *number, reading)?;
     }
     let mut outside = silent(alloc);
     outside.sent = 2;
@@ -93,9 +99,9 @@ fn report_of(alloc: Global, claim: Claim) -> Result<Report, AllocError> {
             envelope: envelope(1),
             why,
         })?,
-        Elsewhere => handle(&mut guardian.journal, 1)?,
+        Elsewhere => handle(&mut guardian.journal, 1, 0)?,
         SentMore => outside.sent = 3,
-        StartedLate | Nothing => {}
+        Suspended | StartedLate | Nothing => {}
     }
     Ok(Report {
         actors: vec![in alloc; guardian, one]?,
@@ -120,10 +126,10 @@ fn actor(alloc: Global, number: u64, answer: Option<Answer>) -> Result<ActorRepo
     })
 }
 
-/// Adds that the envelope of this number was handled.
-fn handle(journal: &mut Journal, number: u64) -> Result<(), AllocError> {
+/// Adds that the envelope of this number was handled, before which this status word was read.
+fn handle(journal: &mut Journal, number: u64, reading: u64) -> Result<(), AllocError> {
     make_ready(journal)?;
-    journal.push_handled(envelope(number), 0, Some(Answer::Handled), &[]);
+    journal.push_handled(envelope(number), reading, Some(Answer::Handled), &[]);
     Ok(())
 }
 

@@ -1,5 +1,5 @@
 //! What must be true of each actor of a report, by code that shares nothing with the program's: its state, its phase and its
-//! system messages are as its journal tells.
+//! system messages are as its journal tells, and its envelopes were begun while it was open.
 use crate::ids::{Ids, NOBODY};
 use crate::player::ADD;
 use mb_actor::{Answer, Effect, Phase};
@@ -8,6 +8,9 @@ use mb_msg::{ActorId, Body, SysMsg};
 use mb_plan::Plan;
 use mb_report::{ActorReport, Report};
 use std::alloc::{AllocError, Global};
+
+/// The bit of a status word that says that the mailbox is scheduled.
+const SCHEDULED: u64 = 2;
 
 /// Whether each actor of a report on this plan is as its journal tells.
 pub fn are_actors_right(alloc: Global, report: &Report, plan: &Plan) -> Result<bool, AllocError> {
@@ -20,6 +23,7 @@ pub fn are_actors_right(alloc: Global, report: &Report, plan: &Plan) -> Result<b
         };
         let is_right = actor.state == state_of(&actor.journal, is_guardian)
             && actor.phase == phase_of(&actor.journal, first, is_guardian)
+            && were_all_open(&actor.journal)
             && is_rest_right(actor)
             && are_system_messages_right(alloc, actor)?;
         if !is_right {
@@ -131,6 +135,18 @@ impl Life {
             self.phase = Phase::Ended;
         }
     }
+}
+
+/// No envelope was begun while the status word that was read before it told of a suspension or of a closed mailbox.
+fn were_all_open(journal: &Journal) -> bool {
+    for place in 0..journal.len() {
+        if let Arrival::Handled { reading, .. } = journal.get(place).arrival {
+            if reading & !SCHEDULED != 0 {
+                return false;
+            }
+        }
+    }
+    true
 }
 
 /// Envelopes are left, and messages set aside, only where an actor is suspended or has ended; only of an ended one envelopes were
