@@ -102,15 +102,15 @@ pub fn orders_by_chance(alloc: Global, seed: u64, actors: u32) -> Result<Vec<Ord
 fn order(to: u32, dice: &mut Dice) -> Order {
     let value = i64::from(dice.roll(0, 99));
     let kind = dice.roll(ADD, GREATEST);
-    match dice.roll(1, 100) {
+    match dice.roll(1, 200) {
         1 => Order {
             to: ActorId(to),
             what: What::Stop,
         },
         2 => said(to, Body::Kill),
         3 => said(to, Body::PoisonPill),
-        4..=20 => said(to, Body::Control { kind, value }),
-        21..=40 => told(to, kind, value),
+        4..=40 => said(to, Body::Control { kind, value }),
+        41..=80 => told(to, kind, value),
         _ => told(to, ADD, value),
     }
 }
