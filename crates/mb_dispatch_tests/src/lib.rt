@@ -30,8 +30,6 @@ mod meeting;
 #[cfg(test)]
 mod player;
 #[cfg(test)]
-mod refused;
-#[cfg(test)]
 mod sent;
 #[cfg(test)]
 mod stood;
