@@ -1,3 +1,4 @@
 pub mod Alike
 pub mod Belonging
 pub mod Casting
+pub mod Nonempty

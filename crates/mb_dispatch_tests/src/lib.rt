@@ -30,6 +30,8 @@ mod meeting;
 #[cfg(test)]
 mod player;
 #[cfg(test)]
+mod refused;
+#[cfg(test)]
 mod sent;
 #[cfg(test)]
 mod stood;

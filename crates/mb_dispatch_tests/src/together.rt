@@ -62,7 +62,7 @@ pub fn report_of<A: Actor + Send, K: Behaviours + Send, R: Threads + Wait + Sync
 }
 
 // The system of this plan, which is right.
-fn begin<A: Actor, K: Behaviours, R: Wait>(
+pub(crate) fn begin<A: Actor, K: Behaviours, R: Wait>(
     rt: &R,
     alloc: Global,
     plan: Plan,
@@ -78,7 +78,7 @@ fn begin<A: Actor, K: Behaviours, R: Wait>(
 }
 
 // The report of a system that ends.
-fn end<A: Actor, K: Behaviours, R: Wait>(rt: &R, built: Built<A, K>) -> Option<Report>
+pub(crate) fn end<A: Actor, K: Behaviours, R: Wait>(rt: &R, built: Built<A, K>) -> Option<Report>
     requires together { BelongsTogether built }
 {
     match finish(rt, built) {
