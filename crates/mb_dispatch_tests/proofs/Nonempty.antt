@@ -1,6 +1,6 @@
--- A list that is not empty.
-use Rattle.std.proofs.Common.{◌≡◌, ◌<◌, ◌==◌, ℕ, false, arith, cc}
+-- What is not empty.
+use Rattle.std.proofs.Common.{◌≡◌, ◌<◌, ◌==◌, ℕ, false, arith}
 
 pub some : (n : ℕ) → (n == 0) ≡ false → 0 < n
-some 0 no = absurd (cc)
+some zero no = absurd (cc)
 some (suc n) no = omega arith
