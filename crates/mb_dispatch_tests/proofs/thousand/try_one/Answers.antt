@@ -1,4 +1,3 @@
-use Rattle.std.proofs.Common.{pos}
 use Rattle.mb_dispatch_tests.specs.Sum.{sum_of}
 use Rattle.mb_dispatch_tests.proofs.Casting.{alike-behaved}
 use Rattle.mb_dispatch_tests.specs.declared.gambler.Gambler.{Gambler}
