@@ -65,6 +65,7 @@ module _ (c mid : Claim (Box Contents)) (ours : (claim_id mid ≡ claim_id c) ×
           actor = refl;
           who = ap (λ (x : Seen). x.who) cell;
           before = refl;
+          takes = takes-same _ _ (ap (λ (x : Contents). x.take) kept_here);
           counted = counted-still _ _ (total (counted_off (held_actor c)) (known_of c).log) (ap (λ (x : Contents). length x.take.taken) kept_here);
         };
         journal = ap (λ (x : Seen). x.journal) cell;

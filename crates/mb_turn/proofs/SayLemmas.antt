@@ -40,7 +40,10 @@ module _ (c new : Claim (Box Contents)) (said : Said) (r : IsRecorded c new said
   pub keeps-recorded : KeepsJournal (hold_of c) (hold_of new)
   keeps-recorded =
       subst (KeepsJournal (hold_of c)) (sym (hold-recorded c new said r))
-      (record { same = record { actor = refl; who = refl; before = refl; counted = refl }; journal = refl })
+      (record {
+        same = record { actor = refl; who = refl; before = refl; takes = takes-same _ _ refl; counted = refl };
+        journal = refl;
+      })
 
   pub beside-said : IsBeside (hold_of c) → IsBeside (hold_of new)
   beside-said s = subst IsBeside (sym (hold-recorded c new said r)) (beside-recorded (hold_of c) s (recorded_by c ++ said ∷ []))
