@@ -24,6 +24,7 @@ use Rattle.mb_turn.specs.Hold.{Hold, hold_of}
 use Rattle.mb_turn.specs.Ran.{IsDrained}
 use Rattle.mb_turn.specs.Running.{IsRunning, IsBeside, KeepsJournal}
 use Rattle.mb_turn.proofs.CountLemmas.{counted-still}
+use Rattle.mb_turn.proofs.EmptiedLemmas.{takes-same}
 use Rattle.mb_turn.proofs.HoldLemmas.{hold-drained}
 use Rattle.mb_turn.proofs.RunningSteps.{running-drained, running-kept}
 use Rattle.mb_turn.proofs.TellingLemmas.{settled-here}

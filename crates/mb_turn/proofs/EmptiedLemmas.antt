@@ -1,6 +1,7 @@
 -- Takes, one after another.
 use Rattle.std.proofs.Common.{◌≡◌, ◌⊎◌, inl, inr, ℕ, true, false, List, [], ◌∷◌, ◌++◌, Option, Some, None}
 use Rattle.std.proofs.Common.{refl, sym, ap, ◌∙◌, subst, append_assoc, append-nil}
+use Rattle.std.specs.Prelude.{OnOk, Result, Ok, Err}
 use Rattle.mb_msg.specs.declared.envelope.Envelope.{Envelope}
 use Rattle.mb_queue.specs.Passes.{Taking}
 use Rattle.mb_home.specs.Contents.{Contents}
@@ -33,6 +34,11 @@ finds-then a b c p q = record {
       subst (λ l. TakesAll a l c) (sym (append_assoc p.answers q.answers (None ∷ [])))
       (takes-joined p.answers (q.answers ++ None ∷ []) a b c p.takes q.takes);
 }
+
+-- where it answered well
+pub ok-so : {T E : Type 0} (r : Result T E) {P Q : Type 0} → (P → Q) → OnOk r P → OnOk r Q
+ok-so (Ok x) f p = f p
+ok-so (Err e) f p = tt
 
 -- ---- what a home tells of its pass
 

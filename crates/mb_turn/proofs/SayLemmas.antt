@@ -18,6 +18,7 @@ use Rattle.mb_turn.specs.Notice.{IsAnswered, IsNotified, asker}
 use Rattle.mb_turn.specs.Running.{IsRunning, IsBeside, KeepsJournal}
 use Rattle.mb_turn.proofs.AnswerLemmas.{asker-told, running-answer}
 use Rattle.mb_turn.proofs.BesideLemmas.{beside-recorded, keeps-same}
+use Rattle.mb_turn.proofs.EmptiedLemmas.{takes-same}
 use Rattle.mb_turn.proofs.HoldLemmas.{hold-recorded}
 use Rattle.mb_turn.proofs.RunningSteps.{running-seen, running-listed}
 

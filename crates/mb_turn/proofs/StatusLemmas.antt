@@ -13,6 +13,7 @@ use Rattle.mb_home.specs.Contents.{Contents}
 use Rattle.mb_turn.specs.Hold.{Hold, hold_of}
 use Rattle.mb_turn.specs.Running.{IsRunning, IsBeside, KeepsJournal}
 use Rattle.mb_turn.proofs.BesideLemmas.{beside-status}
+use Rattle.mb_turn.proofs.EmptiedLemmas.{takes-same}
 use Rattle.mb_turn.proofs.HoldLemmas.{hold-written}
 use Rattle.mb_turn.proofs.RunningSteps.{running-suspend, running-resume, running-close}
 

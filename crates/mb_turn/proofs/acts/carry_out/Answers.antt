@@ -1,4 +1,4 @@
-use Rattle.std.proofs.Common.{◌≡◌, ◌∷◌, [], List, length, sym, ap, ◌∙◌, subst, arith}
+use Rattle.std.proofs.Common.{◌≡◌, ◌∷◌, [], List, length, refl, sym, ap, ◌∙◌, subst, arith}
 use Rattle.mb_books.specs.ActQueue.{act_of}
 use Rattle.mb_journal.specs.Acts.{Act}
 use Rattle.mb_gate.specs.Names.{known_by}
@@ -9,11 +9,12 @@ use Rattle.mb_turn.specs.Hold.{hold_of}
 use Rattle.mb_turn.specs.Running.{IsRunning}
 use Rattle.mb_turn.proofs.BesideLemmas.{keeps-same, keeps-then}
 use Rattle.mb_turn.proofs.CallerLemmas.{further-none, further-then}
+use Rattle.mb_turn.proofs.EmptiedLemmas.{cleared-same, cleared-then}
 use Rattle.mb_turn.proofs.TellingLemmas.{running-own, running-next, beside-next, keeps-next}
 use Rattle.mb_turn.proofs.acts.carry_out.Goals as goal
 
 pub loop-act-init : goal.loop-act-init
-loop-act-init g c = (c.requires.ours, c.requires.running, c.requires.beside, keeps-same _, further-none _)
+loop-act-init g c = (c.requires.ours, c.requires.running, c.requires.beside, keeps-same _, further-none _, λ clean. cleared-same _ _ refl refl)
 
 pub next_act-requires : goal.next_act-requires
 next_act-requires g c = record {

@@ -1,4 +1,4 @@
-use Rattle.std.proofs.Common.{inl, [], ◌∷◌, List, sym, ap, ◌∙◌, subst, arith}
+use Rattle.std.proofs.Common.{inl, [], ◌∷◌, List, refl, sym, ap, ◌∙◌, subst, arith}
 use Rattle.mb_status.specs.Mailbox.{word_of}
 use Rattle.mb_msg.specs.declared.dead_letter.Why.TheVariants.{Closed}
 use Rattle.mb_journal.specs.Acts.Act.{Tell}
@@ -12,6 +12,7 @@ use Rattle.mb_wake.proofs.Views.{looks-read, does-then, does-sending, does-unsen
 use Rattle.mb_turn.specs.Hold.{hold_of}
 use Rattle.mb_turn.specs.Running.{IsRunning}
 use Rattle.mb_turn.proofs.CallerLemmas.{account-none, account-woken}
+use Rattle.mb_turn.proofs.EmptiedLemmas.{cleared-same}
 use Rattle.mb_turn.proofs.MoveLemmas.{moves-does, moves-then, further-moves}
 use Rattle.mb_turn.proofs.SayLemmas.{running-goes}
 use Rattle.mb_turn.proofs.TellingLemmas.{running-own, told-below, log-closed, paid-closed, keeps-home, beside-cell}
@@ -83,7 +84,14 @@ returns-then-closed-clause-same g c =
     let buried = subst (λ (x : Contents). Buries x c.bury_closed.new.self c.args.to c.args.body Closed) c.deref_mut.ensures.value
     c.bury_closed.ensures.buried in
     keeps-home (hold_of c.args.claim.now) c.bury_closed.new.self (ap (λ (x : Contents). x.cell) buried.same)
-    (ap (λ (x : Contents). x.take.taken) buried.same)
+    (ap (λ (x : Contents). x.take) buried.same)
+
+pub returns-then-closed-clause-cleared : goal.returns-then-closed-clause-cleared
+returns-then-closed-clause-cleared g c =
+    let buried = subst (λ (x : Contents). Buries x c.bury_closed.new.self c.args.to c.args.body Closed) c.deref_mut.ensures.value
+    c.bury_closed.ensures.buried in
+    cleared-same (hold_of c.args.claim.now) (record (hold_of c.args.claim.now) { home = c.bury_closed.new.self }) refl
+    (ap (λ (x : Contents). x.take) buried.same)
 
 pub returns-then-closed-clause-goes : goal.returns-then-closed-clause-goes
 returns-then-closed-clause-goes g c =
@@ -133,7 +141,13 @@ pub returns-in-Ok-clause-same : goal.returns-in-Ok-clause-same
 returns-in-Ok-clause-same g c =
     let pushed = subst (λ (x : Contents). Pushes x c.push.new.self c.args.to c.args.body) c.deref_mut-2.ensures.value c.in-Ok.ensures.pushed in
     keeps-home (hold_of c.args.claim.now) c.push.new.self (ap (λ (x : Contents). x.cell) pushed.same)
-    (ap (λ (x : Contents). x.take.taken) pushed.same)
+    (ap (λ (x : Contents). x.take) pushed.same)
+
+pub returns-in-Ok-clause-cleared : goal.returns-in-Ok-clause-cleared
+returns-in-Ok-clause-cleared g c =
+    let pushed = subst (λ (x : Contents). Pushes x c.push.new.self c.args.to c.args.body) c.deref_mut-2.ensures.value c.in-Ok.ensures.pushed in
+    cleared-same (hold_of c.args.claim.now) (record (hold_of c.args.claim.now) { home = c.push.new.self }) refl
+    (ap (λ (x : Contents). x.take) pushed.same)
 
 -- ---- it was refused
 
@@ -180,4 +194,11 @@ returns-in-Err-clause-same g c =
     let buried = subst (λ (x : Contents). Buries x c.push.new.self c.args.to c.args.body (reason_of c.in-Err.field-0)) c.deref_mut-2.ensures.value
     c.in-Err.ensures.pushed.1 in
     keeps-home (hold_of c.args.claim.now) c.push.new.self (ap (λ (x : Contents). x.cell) buried.same)
-    (ap (λ (x : Contents). x.take.taken) buried.same)
+    (ap (λ (x : Contents). x.take) buried.same)
+
+pub returns-in-Err-clause-cleared : goal.returns-in-Err-clause-cleared
+returns-in-Err-clause-cleared g c =
+    let buried = subst (λ (x : Contents). Buries x c.push.new.self c.args.to c.args.body (reason_of c.in-Err.field-0)) c.deref_mut-2.ensures.value
+    c.in-Err.ensures.pushed.1 in
+    cleared-same (hold_of c.args.claim.now) (record (hold_of c.args.claim.now) { home = c.push.new.self }) refl
+    (ap (λ (x : Contents). x.take) buried.same)
