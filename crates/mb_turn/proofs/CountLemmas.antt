@@ -1,6 +1,6 @@
 -- How many envelopes a run's steps count as taken.
-use Rattle.std.proofs.Common.{◌≡◌, ℕ, ◌+◌, ◌==◌, true, if◌then◌else◌, List, [], ◌∷◌, ◌++◌, length, refl, ap, ◌∙◌, arith}
-use Rattle.std.proofs.Common.{length-append}
+use Rattle.std.proofs.Common.{◌≡◌, ℕ, ◌+◌, ◌==◌, true, if◌then◌else◌, List, [], ◌∷◌, ◌++◌, length, refl, sym, ap, ◌∙◌, arith}
+use Rattle.std.proofs.Common.{append_assoc, append-nil, length-append}
 use Rattle.std.proofs.lemmas.Bool.Decides.{nat_tests}
 use Rattle.mb_msg.specs.declared.envelope.Envelope.{Envelope}
 use Rattle.mb_fates.specs.Fates.{begun}
@@ -45,6 +45,26 @@ begun-turns who from to n (a_turn before middle there e turns none of_envelope b
     let one = begun-one e middle of_envelope in
     let rest = begun-turns who from middle before turns in
     omega (arith, last, one, rest)
+
+-- and these are they
+since-block : (who : Identity) (from to : List Entry) → IsBlock who from to → begun to ≡ begun from
+since-block who from to no_more = refl
+since-block who from to (one_more there number m outcome block front) = since-block who from there block
+
+since-one : (e : Entry) (before : List Entry) → IsOfEnvelope e → (envelope : Envelope) × (begun (e ∷ before) ≡ begun before ++ envelope ∷ [])
+since-one (Handled envelope reading outcome) before of_it = (envelope, refl)
+since-one (System number m outcome) before of_it = absurd of_it
+since-one (Dropped envelope) before of_it = (envelope, refl)
+
+pub begun-since : (who : Identity) (from to : List Entry) (n : ℕ) → IsTurns who from n to
+    → (started : List Envelope) × (begun to ≡ begun from ++ started)
+begun-since who from to n (a_block there block) = ([], since-block who from to block ∙ sym (append-nil (begun from)))
+begun-since who from to n (a_turn before middle there e turns none of_envelope block) =
+    let rest = begun-since who from middle before turns in
+    let one = since-one e middle of_envelope in (
+      rest.0 ++ one.0 ∷ [],
+      since-block who (e ∷ middle) to block ∙ one.1 ∙ ap (λ l. l ++ one.0 ∷ []) rest.1 ∙ append_assoc (begun from) rest.0 (one.0 ∷ []),
+    )
 
 -- of a run: all that came out of the queue was begun or cleaned up, so that its steps count what was begun in it and what was cleaned up
 pub counted-all : (journal before : List Entry) (taken cleaned first : List Envelope) (none steps n : ℕ)

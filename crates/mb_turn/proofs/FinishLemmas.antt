@@ -3,7 +3,7 @@ use Rattle.std.proofs.Common.{◌≡◌, ◌≢◌, ◌⊎◌, inl, inr, ℕ, �
 use Rattle.std.proofs.Common.{refl, sym, ap, ◌∙◌, subst, append_assoc, append-nil, length}
 use Rattle.std.specs.Prelude.{MatchBool, if◌then◌else◌}
 use Rattle.std.specs.Global.{Box}
-use Rattle.mb_status.specs.Mailbox.{word_of, idle}
+use Rattle.mb_status.specs.Mailbox.{Mailbox, word_of, idle}
 use Rattle.mb_msg.specs.declared.envelope.Envelope.{Envelope}
 use Rattle.mb_actor.specs.Behaviour.{Moment, Reply}
 use Rattle.mb_core.specs.declared.debt.Debt.{Debt}
@@ -11,6 +11,8 @@ use Rattle.mb_journal.specs.Entry.{Entry}
 use Rattle.mb_journal.specs.Identity.{Identity}
 use Rattle.mb_journal.specs.Life.{closed}
 use Rattle.mb_journal.specs.Run.{IsReason, IsTurns, Stopped, most_envelopes}
+use Rattle.mb_journal.specs.Run.Stopped.{UsedUp, NotOpen, NoEnvelope, AtClosing, NoRoom}
+use Rattle.mb_queue.specs.Passes.{Taking}
 use Rattle.mb_rule.specs.Summed.{total}
 use Rattle.mb_fates.specs.Fates.{begun}
 use Rattle.mb_gate.specs.declared.claim.Claim.{Claim}
@@ -31,12 +33,13 @@ use Rattle.mb_wake.proofs.Views.{owes-other}
 use Rattle.mb_turn.specs.declared.turn.Turn.{Turn}
 use Rattle.mb_turn.specs.Caller.{Caller, GoesFurther, IsPaid, LeavesCaller, OwesForRefusals}
 use Rattle.mb_turn.specs.Dry.{TakesDry}
-use Rattle.mb_turn.specs.Hold.{hold_of}
-use Rattle.mb_turn.specs.Ran.{EndsDrained, IsTurning, LeavesRun, systems_in}
+use Rattle.mb_turn.specs.Emptied.{FindsNoMore, IsCleared}
+use Rattle.mb_turn.specs.Hold.{Hold, hold_of}
+use Rattle.mb_turn.specs.Ran.{AsksInVain, EndsDrained, EndsEmpty, HadRoom, IsTurning, LeavesRun, systems_in}
 use Rattle.mb_turn.specs.Running.{IsRunning, IsBeside, SameRun}
 use Rattle.mb_turn.proofs.CallerLemmas.{account-then}
 use Rattle.mb_turn.proofs.CleanLemmas.{ended-closed}
-use Rattle.mb_turn.proofs.CountLemmas.{begun-turns, counted-all}
+use Rattle.mb_turn.proofs.CountLemmas.{begun-since, begun-turns, counted-all}
 use Rattle.mb_turn.proofs.RestLemmas.{closed-front}
 use Rattle.mb_turn.proofs.RunningMoves.{status-at}
 use Rattle.mb_turn.proofs.ToldLemmas.{told-all}
@@ -149,22 +152,47 @@ leaves-caller actor journal v mid a b new debts bare known looks g account paid 
 
 -- ---- what a run tells
 
+-- the run ends with an empty queue
+pub ends-empty : (who : Identity) (throughput n : ℕ) (stopped : Stopped) (from : Taking) (h : Hold) → HadRoom stopped →
+    AsksInVain from h.home.take stopped → IsReason who throughput n h.home.cell.journal stopped →
+    (closed who h.home.cell.journal ≡ true → FindsNoMore from h.home.take) → EndsEmpty stopped (closed who h.home.cell.journal) →
+    FindsNoMore from h.home.take
+ends-empty who throughput n UsedUp from h had asked reason cleared ends = cleared ends
+ends-empty who throughput n (NotOpen word) from h had asked reason cleared ends = cleared ends
+ends-empty who throughput n (NoEnvelope word) from h had asked reason cleared ends = asked
+ends-empty who throughput n AtClosing from h had asked reason cleared ends = cleared reason
+ends-empty who throughput n NoRoom from h had asked reason cleared ends = absurd ends
+
+-- an actor that ended in the run was cleaned up
+pub ends-cleared : (gives : ℕ → Moment → Reply → Type 0) (origin : Origin (Box Contents)) (seen : List Sight) (first last : Hold) →
+    first.status.closed ≡ false → IsRunning gives origin [] seen last → IsCleared first last →
+    closed last.home.cell.who last.home.cell.journal ≡ true → FindsNoMore first.home.take last.home.take
+ends-cleared gives origin seen first last open_yet r cleared ended =
+    by_case (cleared (ap (λ (m : Mailbox). m.closed) (status-at last r.leads) ∙ ended))
+  where
+    by_case : ((first.status.closed ≡ true) × (last.home.take ≡ first.home.take)) ⊎ FindsNoMore first.home.take last.home.take →
+        FindsNoMore first.home.take last.home.take
+    by_case (inl shut) = absurd (cc (open_yet, shut.0))
+    by_case (inr found) = found
+
 pub leaves-run : (throughput : ℕ) (first last : Claim (Box Contents)) (pass : View) (turn : Turn) (stopped : Stopped) →
     taken_with first ≡ first.home.value.cell.journal → SameRun (hold_of first) (hold_of last) → IsTurning (hold_of last) turn →
     turn.envelopes ≤ most_envelopes throughput →
     IsReason last.home.value.cell.who throughput turn.envelopes last.home.value.cell.journal stopped →
     EndsDrained (held_actor last) (known_of last).log stopped → TakesDry (held_actor last) (known_of last).log →
     IsAmong (Saw (held_actor last) last.home.value.cell.journal) pass.log → IsPart (known_of last).log pass.log → (known_of first).log ≡ [] →
-    length first.home.value.take.taken ≡ length (begun first.home.value.cell.journal) →
+    first.home.value.take.taken ≡ begun first.home.value.cell.journal →
     last.home.value.take.taken ≡ begun last.home.value.cell.journal ++ last.home.value.cleaned →
     (closed last.home.value.cell.who last.home.value.cell.journal ≡ false → last.home.value.cleaned ≡ []) →
+    (EndsEmpty stopped (closed first.home.value.cell.who last.home.value.cell.journal) → FindsNoMore first.home.value.take last.home.value.take) →
     LeavesRun throughput first pass last.home.value.cell.journal turn stopped
-leaves-run throughput first last pass turn stopped taken same t few reason ends dry saw part fresh at_first at_last keeps =
+leaves-run throughput first last pass turn stopped taken same t few reason ends dry saw part fresh at_first at_last keeps empty =
     let before : (hold_of last).before ≡ first.home.value.cell.journal = same.before ∙ taken in
     let journal = last.home.value.cell.journal in
     let turns : IsTurns first.home.value.cell.who first.home.value.cell.journal turn.envelopes journal =
     subst (λ (x : Identity × List Entry). IsTurns x.0 x.1 turn.envelopes journal) (λ i. (same.who i, before i)) t.turns in
     let steps = (known_of last).log in
+    let since = begun-since first.home.value.cell.who first.home.value.cell.journal journal turn.envelopes turns in
     record {
       run = record {
         envelopes = turn.envelopes;
@@ -180,12 +208,20 @@ leaves-run throughput first last pass turn stopped taken same t few reason ends 
       taken_over = part;
       dry = subst (λ n. TakesDry n (known_of last).log) same.actor dry;
       last = subst (λ n. EndsDrained n (known_of last).log stopped) same.actor ends;
-      cleaned = length last.home.value.cleaned;
-      none_cleaned = λ open_yet. ap (λ (l : List Envelope). length l)
-          (keeps (ap (λ (w : Identity). closed w journal) same.who ∙ open_yet));
+      started = since.0;
+      started_is = since.1;
+      cleaned = last.home.value.cleaned;
+      none_cleaned = λ open_yet. keeps (ap (λ (w : Identity). closed w journal) same.who ∙ open_yet);
+      emptied = λ ends. record {
+        left = last.home.value.take;
+        gave =
+            at_last ∙ ap (λ l. l ++ last.home.value.cleaned) (since.1 ∙ ap (λ l. l ++ since.0) (sym at_first))
+            ∙ append_assoc first.home.value.take.taken since.0 last.home.value.cleaned;
+        empty = empty ends;
+      };
       counted = ap (λ n. total (counted_off n) steps) (sym same.actor)
           ∙ counted-all journal first.home.value.cell.journal last.home.value.take.taken last.home.value.cleaned first.home.value.take.taken
           (total (counted_off (held_actor first)) (known_of first).log) (total (counted_off (held_actor last)) steps) turn.envelopes same.counted
-          (ap (total (counted_off (held_actor first))) fresh) at_first at_last
+          (ap (total (counted_off (held_actor first))) fresh) (ap (λ (l : List Envelope). length l) at_first) at_last
           (begun-turns first.home.value.cell.who first.home.value.cell.journal journal turn.envelopes turns);
     }
