@@ -18,6 +18,7 @@ use Rattle.mb_fates.specs.Fates.{begun}
 use Rattle.mb_gate.specs.declared.claim.Claim.{Claim}
 use Rattle.mb_gate.specs.Names.{held_actor, known_of, recorded_by, status_of, taken_with, gave_last}
 use Rattle.mb_gate.specs.Record.{IsSaidSince}
+use Rattle.mb_rule.proofs.SeenLemmas.{each_append}
 use Rattle.mb_gate.specs.Rule.{Extends, IsAmong, IsPart}
 use Rattle.mb_gate.specs.Untouched.{Origin}
 use Rattle.mb_gate.specs.View.{View, Sight, Saw, owes, debt_of, added_debts, either_owes, idling, taking_in}
@@ -31,15 +32,16 @@ use Rattle.mb_wake.specs.Views.{LooksAfter}
 use Rattle.mb_wake.proofs.Bits.{same_or_other}
 use Rattle.mb_wake.proofs.Views.{owes-other}
 use Rattle.mb_turn.specs.declared.turn.Turn.{Turn}
-use Rattle.mb_turn.specs.Caller.{Caller, GoesFurther, IsPaid, LeavesCaller, OwesForRefusals}
+use Rattle.mb_turn.specs.Caller.{Caller, GoesFurther, IsNoTake, IsPaid, LeavesCaller, OwesForRefusals, TakesOver}
 use Rattle.mb_turn.specs.Dry.{TakesDry}
 use Rattle.mb_turn.specs.Emptied.{FindsNoMore, IsCleared}
 use Rattle.mb_turn.specs.Hold.{Hold, hold_of}
-use Rattle.mb_turn.specs.Ran.{AsksInVain, EndsDrained, EndsEmpty, HadRoom, IsTurning, LeavesRun, systems_in}
+use Rattle.mb_turn.specs.Ran.{AsksInVain, EndsDrained, EndsEmpty, HadRoom, IsTurning, LeavesRun, systems_in, taken_of}
 use Rattle.mb_turn.specs.Running.{IsRunning, IsBeside, SameRun}
 use Rattle.mb_turn.proofs.CallerLemmas.{account-then}
 use Rattle.mb_turn.proofs.CleanLemmas.{ended-closed}
-use Rattle.mb_turn.proofs.CountLemmas.{begun-since, begun-turns, counted-all}
+use Rattle.mb_turn.proofs.CountLemmas.{begun-since, begun-turns, counted-all, counts-over}
+use Rattle.mb_turn.proofs.MoveLemmas.{looks-take-none}
 use Rattle.mb_turn.proofs.RestLemmas.{closed-front}
 use Rattle.mb_turn.proofs.RunningMoves.{status-at}
 use Rattle.mb_turn.proofs.ToldLemmas.{told-all}
@@ -108,14 +110,16 @@ module _ (actor : ℕ) (journal : List Entry) (v w mid : View) (debts : v.debts 
         (among_right (Saw actor journal) (looks.looks ++ []) (Saw actor journal ∷ (w.log ++ v.log)) (among_first (Saw actor journal)
         (w.log ++ v.log)))
 
-    -- the claim's own steps
-    pub steps-taken : IsPart v.log new.log
-    steps-taken = record {
-      before = (looks.looks ++ []) ++ Saw actor journal ∷ w.log;
-      after = [];
+    -- the claim's own steps, besides what it knew before and did itself
+    pub steps-taken : {H : Type 0} (a b : Caller H) → b.view ≡ w → GoesFurther a b → TakesOver a.view new v.log
+    steps-taken a b here g = record {
+      own = (looks.looks ++ []) ++ Saw actor journal ∷ g.more;
+      took_none = each_append IsNoTake (looks.looks ++ []) (Saw actor journal ∷ g.more)
+          (each_append IsNoTake looks.looks [] (looks-take-none actor looks.looks looks.only) tt) (tt, g.took_none);
       joined =
-          log-after ∙ sym (append_assoc (looks.looks ++ []) (Saw actor journal ∷ w.log) v.log)
-          ∙ ap (λ l. ((looks.looks ++ []) ++ Saw actor journal ∷ w.log) ++ l) (sym (append-nil v.log));
+          log-after ∙ ap (λ l. (looks.looks ++ []) ++ Saw actor journal ∷ (l ++ v.log)) (sym (ap (λ (x : View). x.log) here) ∙ g.log)
+          ∙ ap (λ l. (looks.looks ++ []) ++ Saw actor journal ∷ l) (append_assoc g.more a.view.log v.log)
+          ∙ sym (append_assoc (looks.looks ++ []) (Saw actor journal ∷ g.more) (a.view.log ++ v.log));
     }
 
     known-still : (more old : List Sight) → w.log ≡ more ++ old → IsPart old new.log
@@ -175,24 +179,30 @@ ends-cleared gives origin seen first last open_yet r cleared ended =
     by_case (inl shut) = absurd (cc (open_yet, shut.0))
     by_case (inr found) = found
 
-pub leaves-run : (throughput : ℕ) (first last : Claim (Box Contents)) (pass : View) (turn : Turn) (stopped : Stopped) →
+pub leaves-run : (throughput : ℕ) (first last : Claim (Box Contents)) (old pass : View) (turn : Turn) (stopped : Stopped) →
     taken_with first ≡ first.home.value.cell.journal → SameRun (hold_of first) (hold_of last) → IsTurning (hold_of last) turn →
     turn.envelopes ≤ most_envelopes throughput →
     IsReason last.home.value.cell.who throughput turn.envelopes last.home.value.cell.journal stopped →
     EndsDrained (held_actor last) (known_of last).log stopped → TakesDry (held_actor last) (known_of last).log →
-    IsAmong (Saw (held_actor last) last.home.value.cell.journal) pass.log → IsPart (known_of last).log pass.log → (known_of first).log ≡ [] →
+    IsAmong (Saw (held_actor last) last.home.value.cell.journal) pass.log → TakesOver old pass (known_of last).log → (known_of first).log ≡ [] →
     first.home.value.take.taken ≡ begun first.home.value.cell.journal →
     last.home.value.take.taken ≡ begun last.home.value.cell.journal ++ last.home.value.cleaned →
     (closed last.home.value.cell.who last.home.value.cell.journal ≡ false → last.home.value.cleaned ≡ []) →
     (EndsEmpty stopped (closed first.home.value.cell.who last.home.value.cell.journal) → FindsNoMore first.home.value.take last.home.value.take) →
-    LeavesRun throughput first pass last.home.value.cell.journal turn stopped
-leaves-run throughput first last pass turn stopped taken same t few reason ends dry saw part fresh at_first at_last keeps empty =
+    LeavesRun throughput first old pass last.home.value.cell.journal turn stopped
+leaves-run throughput first last old pass turn stopped taken same t few reason ends dry saw part fresh at_first at_last keeps empty =
     let before : (hold_of last).before ≡ first.home.value.cell.journal = same.before ∙ taken in
     let journal = last.home.value.cell.journal in
     let turns : IsTurns first.home.value.cell.who first.home.value.cell.journal turn.envelopes journal =
     subst (λ (x : Identity × List Entry). IsTurns x.0 x.1 turn.envelopes journal) (λ i. (same.who i, before i)) t.turns in
     let steps = (known_of last).log in
     let since = begun-since first.home.value.cell.who first.home.value.cell.journal journal turn.envelopes turns in
+    let counted : total (counted_off (held_actor first)) steps ≡ turn.envelopes + length last.home.value.cleaned =
+    ap (λ n. total (counted_off n) steps) (sym same.actor)
+    ∙ counted-all journal first.home.value.cell.journal last.home.value.take.taken last.home.value.cleaned first.home.value.take.taken
+          (total (counted_off (held_actor first)) (known_of first).log) (total (counted_off (held_actor last)) steps) turn.envelopes same.counted
+          (ap (total (counted_off (held_actor first))) fresh) (ap (λ (l : List Envelope). length l) at_first) at_last
+          (begun-turns first.home.value.cell.who first.home.value.cell.journal journal turn.envelopes turns) in
     record {
       run = record {
         envelopes = turn.envelopes;
@@ -219,9 +229,10 @@ leaves-run throughput first last pass turn stopped taken same t few reason ends 
             ∙ append_assoc first.home.value.take.taken since.0 last.home.value.cleaned;
         empty = empty ends;
       };
-      counted = ap (λ n. total (counted_off n) steps) (sym same.actor)
-          ∙ counted-all journal first.home.value.cell.journal last.home.value.take.taken last.home.value.cleaned first.home.value.take.taken
-          (total (counted_off (held_actor first)) (known_of first).log) (total (counted_off (held_actor last)) steps) turn.envelopes same.counted
-          (ap (total (counted_off (held_actor first))) fresh) (ap (λ (l : List Envelope). length l) at_first) at_last
-          (begun-turns first.home.value.cell.who first.home.value.cell.journal journal turn.envelopes turns);
+      counted = counted;
+      counts =
+          counts-over (held_actor first) old pass steps (turn.envelopes + length last.home.value.cleaned) part
+          (subst (λ n. TakesDry n steps) same.actor dry) counted
+          ∙ (let sum : total (taken_of (held_actor first)) old.log + (turn.envelopes + length last.home.value.cleaned)
+          ≡ total (taken_of (held_actor first)) old.log + turn.envelopes + length last.home.value.cleaned = omega arith in sum);
     }

@@ -1,5 +1,5 @@
 -- What a run tells.
-use Rattle.std.specs.Prelude.{◌≡◌, ℕ, ◌+◌, Bool, true, false, List, [], ◌∷◌, ◌++◌, None, length}
+use Rattle.std.specs.Prelude.{◌≡◌, ℕ, ◌+◌, ◌==◌, if◌then◌else◌, Bool, true, false, List, [], ◌∷◌, ◌++◌, None, length}
 use Rattle.std.specs.Global.{Box}
 use Rattle.mb_msg.specs.declared.envelope.Envelope.{Envelope}
 use Rattle.mb_journal.specs.Aside.{next_front}
@@ -15,14 +15,20 @@ use Rattle.mb_fates.specs.Fates.{begun}
 use Rattle.mb_rule.specs.Summed.{total}
 use Rattle.mb_gate.specs.declared.claim.Claim.{Claim}
 use Rattle.mb_gate.specs.Names.{held_actor}
-use Rattle.mb_gate.specs.Rule.{IsAmong, IsPart}
-use Rattle.mb_gate.specs.View.{View, Sight, Saw}
+use Rattle.mb_gate.specs.Rule.{IsAmong}
+use Rattle.mb_gate.specs.View.{View, Sight, Saw, Took}
 use Rattle.mb_gate.specs.Waiting.{counted_off}
 use Rattle.mb_home.specs.Contents.{Contents}
 use Rattle.mb_turn.specs.declared.turn.Turn.{Turn}
+use Rattle.mb_turn.specs.Caller.{TakesOver}
 use Rattle.mb_turn.specs.Dry.{DrainedLast, TakesDry}
 use Rattle.mb_turn.specs.Emptied.{FindsNoMore, IsEmptied}
 use Rattle.mb_turn.specs.Hold.{Hold}
+
+-- how many envelopes of this actor were taken
+abbrev pub taken_of : ℕ → Sight → ℕ
+taken_of actor (Took a n) = if a == actor then n else 0
+taken_of actor _ = 0
 
 -- how many of these entries are of system messages
 abbrev pub systems_in : List Entry → ℕ
@@ -83,11 +89,11 @@ EndsEmpty AtClosing ended = Unit {0}
 EndsEmpty NoRoom ended = ⊥
 
 -- The claim's actor ran from the journal with which the claim was taken to this one, which the pass has seen; the turn names the actor and
--- counts the entries of either kind. Of its own steps, which the pass has taken over, each that took an envelope came when no system message
+-- counts the entries of either kind. Of its own steps, which the pass has taken over besides what it knew before, each that took an envelope came when no system message
 -- was left to be drained, and they count as many envelopes as taken as were begun and cleaned up: none is cleaned up unless the actor ended.
 -- Where it stopped since no envelope was there, or the actor ended and there was room for all, these are all that the takes of its home's pass
 -- gave, and the last take found none.
-pub record LeavesRun (throughput : ℕ) (claim : Claim (Box Contents)) (pass : View) (journal : List Entry) (turn : Turn) (stopped : Stopped)
+pub record LeavesRun (throughput : ℕ) (claim : Claim (Box Contents)) (old pass : View) (journal : List Entry) (turn : Turn) (stopped : Stopped)
     : Type 0 where
   pub run : IsRun claim.home.value.cell.who throughput claim.home.value.cell.journal journal stopped
   pub actor : turn.actor.0 ≡ held_actor claim
@@ -95,7 +101,7 @@ pub record LeavesRun (throughput : ℕ) (claim : Claim (Box Contents)) (pass : V
   pub system : turn.system + systems_in claim.home.value.cell.journal ≡ systems_in journal
   pub seen : IsAmong (Saw (held_actor claim) journal) pass.log
   pub steps : List Sight
-  pub taken_over : IsPart steps pass.log
+  pub taken_over : TakesOver old pass steps
   pub dry : TakesDry (held_actor claim) steps
   pub last : EndsDrained (held_actor claim) steps stopped
   pub started : List Envelope
@@ -103,4 +109,6 @@ pub record LeavesRun (throughput : ℕ) (claim : Claim (Box Contents)) (pass : V
   pub cleaned : List Envelope
   pub none_cleaned : closed claim.home.value.cell.who journal ≡ false → cleaned ≡ []
   pub counted : total (counted_off (held_actor claim)) steps ≡ turn.envelopes + length cleaned
+  pub counts : total (taken_of (held_actor claim)) pass.log
+      ≡ total (taken_of (held_actor claim)) old.log + turn.envelopes + length cleaned
   pub emptied : EndsEmpty stopped (closed claim.home.value.cell.who journal) → IsEmptied claim.home.value.take (started ++ cleaned)

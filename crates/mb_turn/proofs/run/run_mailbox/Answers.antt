@@ -117,7 +117,8 @@ returns-in-Ok-clause-ran g c =
     let saw = saw-journal (held_actor last) journal (known_of last) (known_by run.new.waker.pass) (known_by c.release.new.pass)
     run.ensures.running.owes_nothing c.release.ensures.known (known_by c.register.new.self.pass) looks in
     let part = steps-taken (held_actor last) journal (known_of last) (known_by run.new.waker.pass) (known_by c.release.new.pass)
-    run.ensures.running.owes_nothing c.release.ensures.known (known_by c.register.new.self.pass) looks in
+    run.ensures.running.owes_nothing c.release.ensures.known (known_by c.register.new.self.pass) looks
+    (caller_of g.W.Way.pushed g.W.Way.refused c.args.waker.now) (caller_of g.W.Way.pushed g.W.Way.refused run.new.waker) refl run.ensures.goes in
     let taken = taken-fresh g.K.Behaviours.gives (origin_of c.args.gates.now) c.args.claim c.requires.untouched in
     let fresh = log-fresh g.K.Behaviours.gives (origin_of c.args.gates.now) c.args.claim c.requires.untouched in
     let at_first = taken-begun g.K.Behaviours.gives (origin_of c.args.gates.now) c.args.claim c.requires.untouched in
@@ -136,7 +137,7 @@ returns-in-Ok-clause-ran g c =
       (
         ended.0,
         ended.1,
-        leaves-run c.args.throughput c.args.claim last (known_by c.register.new.self.pass) turn ended.0 taken run.ensures.turning.1
+        leaves-run c.args.throughput c.args.claim last (known_by c.args.waker.now.pass) (known_by c.register.new.self.pass) turn ended.0 taken run.ensures.turning.1
             run.ensures.turning.0 run.ensures.few ended.4 ended.2 run.ensures.running.dry saw part fresh at_first
             run.ensures.running.settled.taken run.ensures.running.settled.open_keeps empty,
       ),
@@ -154,14 +155,15 @@ returns-in-Err-clause-ran g c =
     let saw = saw-journal (held_actor last) journal (known_of last) (known_by run.new.waker.pass) (known_by c.release.new.pass)
     run.ensures.running.owes_nothing c.release.ensures.known (known_by c.register.new.self.pass) looks in
     let part = steps-taken (held_actor last) journal (known_of last) (known_by run.new.waker.pass) (known_by c.release.new.pass)
-    run.ensures.running.owes_nothing c.release.ensures.known (known_by c.register.new.self.pass) looks in
+    run.ensures.running.owes_nothing c.release.ensures.known (known_by c.register.new.self.pass) looks
+    (caller_of g.W.Way.pushed g.W.Way.refused c.args.waker.now) (caller_of g.W.Way.pushed g.W.Way.refused run.new.waker) refl run.ensures.goes in
     let taken = taken-fresh g.K.Behaviours.gives (origin_of c.args.gates.now) c.args.claim c.requires.untouched in
     let fresh = log-fresh g.K.Behaviours.gives (origin_of c.args.gates.now) c.args.claim c.requires.untouched in
     let at_first = taken-begun g.K.Behaviours.gives (origin_of c.args.gates.now) c.args.claim c.requires.untouched in (
       journal,
       (
         turn,
-        leaves-run c.args.throughput c.args.claim last (known_by c.register.new.self.pass) turn NoRoom taken run.ensures.turning.1
+        leaves-run c.args.throughput c.args.claim last (known_by c.args.waker.now.pass) (known_by c.register.new.self.pass) turn NoRoom taken run.ensures.turning.1
             run.ensures.turning.0 run.ensures.few tt tt run.ensures.running.dry saw part fresh at_first
             run.ensures.running.settled.taken run.ensures.running.settled.open_keeps (λ ends. absurd ends),
         λ full. subst (λ (w : Identity). w.limit ≤ length journal) run.ensures.turning.1.who

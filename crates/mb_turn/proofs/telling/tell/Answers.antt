@@ -99,7 +99,7 @@ returns-then-closed-clause-goes g c =
     let a = known_by c.args.waker.now.pass in let b = known_by c.status-status.new.pass in
     let known = c.status-status.ensures.known in
     let shut = sym c.closed.ensures ∙ c.if-closed.true in
-    further-moves id _ _ (moves-does id [] [] a b (looks-read id (word_of c.status-status.result) a b known)) (account-none _)
+    further-moves id _ _ (moves-does id [] [] a b tt (looks-read id (word_of c.status-status.result) a b known)) (account-none _)
     (inl (paid-closed id c.status-status.result a b shut known))
 
 -- ---- it was pushed
@@ -110,8 +110,8 @@ returns-in-Ok-clause-goes g c =
     let a = known_by c.args.waker.now.pass in let b = known_by c.status-status.new.pass in
     let d = known_by c.note_sent.new.pass in let e = known_by c.register.new.self.pass in
     further-moves id _ _
-    (moves-then id a b e (moves-does id [] [] a b (looks-read id (word_of c.status-status.result) a b c.status-status.ensures.known))
-    (moves-does id _ [] b e (does-then id _ [] b d e (does-sending id b d c.note_sent.ensures.known) c.register.ensures.looks)))
+    (moves-then id a b e (moves-does id [] [] a b tt (looks-read id (word_of c.status-status.result) a b c.status-status.ensures.known))
+    (moves-does id _ [] b e (tt, tt) (does-then id _ [] b d e (does-sending id b d c.note_sent.ensures.known) c.register.ensures.looks)))
     (account-woken id _ _ c.register.result c.register.ensures.woken) c.register.ensures.paid
 
 pub returns-in-Ok-clause-running : goal.returns-in-Ok-clause-running
@@ -158,8 +158,8 @@ returns-in-Err-clause-goes g c =
     let d = known_by c.note_sent.new.pass in let e = known_by c.note_unsent.new.pass in
     let f = known_by c.register-in-Err.new.self.pass in
     further-moves id _ _
-    (moves-then id a b f (moves-does id [] [] a b (looks-read id (word_of c.status-status.result) a b c.status-status.ensures.known))
-    (moves-does id _ [] b f (does-then id _ [] b e f (does-unsending id b d e c.note_sent.ensures.known c.note_unsent.ensures.known)
+    (moves-then id a b f (moves-does id [] [] a b tt (looks-read id (word_of c.status-status.result) a b c.status-status.ensures.known))
+    (moves-does id _ [] b f (tt, tt, tt) (does-then id _ [] b e f (does-unsending id b d e c.note_sent.ensures.known c.note_unsent.ensures.known)
     c.register-in-Err.ensures.looks)))
     (account-woken id _ _ c.register-in-Err.result c.register-in-Err.ensures.woken) c.register-in-Err.ensures.paid
 
