@@ -85,30 +85,30 @@ counted-all journal before taken cleaned first none steps n counted is first_is 
 
 taken-none : (actor : ℕ) (log : List Sight) → Each IsNoTake log → total (taken_of actor) log ≡ 0
 taken-none actor [] none = refl
-taken-none actor (Read a word ∷ log) none = taken-none actor log none.1
-taken-none actor (Saw a journal ∷ log) none = taken-none actor log none.1
-taken-none actor (Counted a waiting ∷ log) none = taken-none actor log none.1
-taken-none actor (Looked a has_work ∷ log) none = taken-none actor log none.1
-taken-none actor (Sent a n ∷ log) none = taken-none actor log none.1
-taken-none actor (Unsent a n ∷ log) none = taken-none actor log none.1
+taken-none actor (Read a word ∷ log) none = let rest = taken-none actor log none.1 in omega (arith, rest)
+taken-none actor (Saw a journal ∷ log) none = let rest = taken-none actor log none.1 in omega (arith, rest)
+taken-none actor (Counted a waiting ∷ log) none = let rest = taken-none actor log none.1 in omega (arith, rest)
+taken-none actor (Looked a has_work ∷ log) none = let rest = taken-none actor log none.1 in omega (arith, rest)
+taken-none actor (Sent a n ∷ log) none = let rest = taken-none actor log none.1 in omega (arith, rest)
+taken-none actor (Unsent a n ∷ log) none = let rest = taken-none actor log none.1 in omega (arith, rest)
 taken-none actor (Took a n ∷ log) none = absurd none.0
-taken-none actor (Pushed a number message ∷ log) none = taken-none actor log none.1
-taken-none actor (Drained a given ∷ log) none = taken-none actor log none.1
-taken-none actor (Ended a given ∷ log) none = taken-none actor log none.1
+taken-none actor (Pushed a number message ∷ log) none = let rest = taken-none actor log none.1 in omega (arith, rest)
+taken-none actor (Drained a given ∷ log) none = let rest = taken-none actor log none.1 in omega (arith, rest)
+taken-none actor (Ended a given ∷ log) none = let rest = taken-none actor log none.1 in omega (arith, rest)
 
 -- a claim's seat gives nothing back, so that all that it counted off was taken
 taken-all : (actor : ℕ) (log : List Sight) → TakesDry actor log → total (taken_of actor) log ≡ total (counted_off actor) log
 taken-all actor [] dry = refl
-taken-all actor (Read a word ∷ log) dry = taken-all actor log dry
-taken-all actor (Saw a journal ∷ log) dry = taken-all actor log dry
-taken-all actor (Counted a waiting ∷ log) dry = taken-all actor log dry
-taken-all actor (Looked a has_work ∷ log) dry = taken-all actor log dry
-taken-all actor (Sent a n ∷ log) dry = taken-all actor log dry
+taken-all actor (Read a word ∷ log) dry = ap (λ k. 0 + k) (taken-all actor log dry)
+taken-all actor (Saw a journal ∷ log) dry = ap (λ k. 0 + k) (taken-all actor log dry)
+taken-all actor (Counted a waiting ∷ log) dry = ap (λ k. 0 + k) (taken-all actor log dry)
+taken-all actor (Looked a has_work ∷ log) dry = ap (λ k. 0 + k) (taken-all actor log dry)
+taken-all actor (Sent a n ∷ log) dry = ap (λ k. 0 + k) (taken-all actor log dry)
 taken-all actor (Unsent a n ∷ log) dry = absurd dry
 taken-all actor (Took a n ∷ log) dry = ap (λ k. (if a == actor then n else 0) + k) (taken-all actor log dry.1)
-taken-all actor (Pushed a number message ∷ log) dry = taken-all actor log dry
-taken-all actor (Drained a given ∷ log) dry = taken-all actor log dry
-taken-all actor (Ended a given ∷ log) dry = taken-all actor log dry
+taken-all actor (Pushed a number message ∷ log) dry = ap (λ k. 0 + k) (taken-all actor log dry)
+taken-all actor (Drained a given ∷ log) dry = ap (λ k. 0 + k) (taken-all actor log dry)
+taken-all actor (Ended a given ∷ log) dry = ap (λ k. 0 + k) (taken-all actor log dry)
 
 pub counts-over : (actor : ℕ) (old new : View) (steps : List Sight) (n : ℕ) → TakesOver old new steps → TakesDry actor steps →
     total (counted_off actor) steps ≡ n → total (taken_of actor) new.log ≡ total (taken_of actor) old.log + n

@@ -1,7 +1,7 @@
 -- Takes, one after another.
 use Rattle.std.proofs.Common.{◌≡◌, ◌⊎◌, inl, inr, ℕ, true, false, List, [], ◌∷◌, ◌++◌, Option, Some, None}
 use Rattle.std.proofs.Common.{refl, sym, ap, ◌∙◌, subst, append_assoc, append-nil}
-use Rattle.std.specs.Prelude.{OnOk, Result, Ok, Err}
+use Rattle.std.specs.Prelude.{◌&&◌, Bool, OnOk, Result, Ok, Err, is_ok}
 use Rattle.mb_msg.specs.declared.envelope.Envelope.{Envelope}
 use Rattle.mb_queue.specs.Passes.{Taking}
 use Rattle.mb_home.specs.Contents.{Contents}
@@ -39,6 +39,15 @@ finds-then a b c p q = record {
 pub ok-so : {T E : Type 0} (r : Result T E) {P Q : Type 0} → (P → Q) → OnOk r P → OnOk r Q
 ok-so (Ok x) f p = f p
 ok-so (Err e) f p = tt
+
+pub ok-then : {T E : Type 0} (r : Result T E) {P : Type 0} → is_ok r ≡ true → OnOk r P → P
+ok-then (Ok x) well p = p
+ok-then (Err e) well p = absurd (cc well)
+
+pub and-both : (a b : Bool) → (a && b) ≡ true → (a ≡ true) × (b ≡ true)
+and-both true true both = (refl, refl)
+and-both true false both = absurd (cc both)
+and-both false b both = absurd (cc both)
 
 -- ---- what a home tells of its pass
 

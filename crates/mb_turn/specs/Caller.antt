@@ -33,7 +33,7 @@ IsNoTake (Ended a given) = Unit {0}
 pub record TakesOver (old new : View) (steps : List Sight) : Type 0 where
   pub own : List Sight
   pub took_none : Each IsNoTake own
-  pub joined : new.log ≡ own ++ old.log ++ steps
+  pub joined : new.log ≡ own ++ (old.log ++ steps)
 
 module _ {H W : Type 0} where
   -- a waker's pass and its way are of these gates, which have no more actors than it can owe a look

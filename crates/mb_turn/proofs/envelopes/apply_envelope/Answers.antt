@@ -46,7 +46,7 @@ returns-then-not-should_process-clause-took g c = (
 )
 
 pub returns-then-not-should_process-clause-cleared : goal.returns-then-not-should_process-clause-cleared
-returns-then-not-should_process-clause-cleared g c = cleared-same _ _ refl refl
+returns-then-not-should_process-clause-cleared g c = cleared-same (hold_of c.args.claim.now) (hold_of c.args.claim.now) refl refl
 
 -- ---- there was no room
 
@@ -357,10 +357,10 @@ returns-in-Ok-clause-cleared g c =
     let t = sym (c.should_process.ensures ∙ ap should_process c.status-status.ensures) ∙ c.if-not-should_process.false in
     let begun : Begins mid new (word_of c.status-status.result) =
     c.begin.ensures.begun mid (subst (λ (x : Contents). TakesOut mid x c.in-Some.envelope) (sym here) out) in
-    let begun_hold = record (hold_of c.note_taken.new.claim) { home = new } in
+    let begun_hold : Hold = record (hold_of c.note_taken.new.claim) { home = new } in
     let open_yet = is-open g.K.Behaviours.gives (origin_of c.args.gates.now) (known_by c.args.waker.now.pass).log old c.requires.running t in
     let takes = takes-then _ _ _ (takes-same _ _ (ap (λ (x : Contents). x.take) same)) (takes-one _ _ _ (take-begun mid new _ begun)) in
-    cleared-then old begun_hold _ takes (cleared-open old begun_hold (ap (λ (m : Mailbox). m.closed) c.note_taken.ensures.same.0 ∙ open_yet))
+    cleared-then old begun_hold (hold_of c.carry_out.new.claim) takes (cleared-open old begun_hold (ap (λ (m : Mailbox). m.closed) c.note_taken.ensures.same.0 ∙ open_yet))
     c.in-Ok.ensures.cleared
 
 pub returns-in-Err-clause-turning : goal.returns-in-Err-clause-turning

@@ -1,4 +1,5 @@
 use Rattle.std.proofs.Common.{◌∙◌, arith}
+use Rattle.mb_turn.specs.Hold.{hold_of}
 use Rattle.mb_turn.proofs.BesideLemmas.{same-run-then}
 use Rattle.mb_turn.proofs.CallerLemmas.{further-then}
 use Rattle.mb_turn.proofs.EmptiedLemmas.{cleared-then, ok-so}
@@ -20,7 +21,8 @@ returns-clause-goes g c = further-then _ _ _ c.apply_systems.ensures.goes c.appl
 
 pub returns-clause-cleared : goal.returns-clause-cleared
 returns-clause-cleared g c =
-    ok-so c.apply_envelopes.result (cleared-then _ _ _ c.apply_systems.ensures.turning.1.takes c.in_ok-apply_systems.ensures.cleared)
+    ok-so c.apply_envelopes.result (cleared-then (hold_of c.args.claim.now) (hold_of c.apply_systems.new.claim) (hold_of c.apply_envelopes.new.claim)
+    c.apply_systems.ensures.turning.1.takes c.in_ok-apply_systems.ensures.cleared)
     c.apply_envelopes.ensures.cleared
 
 -- where it stopped since none was there, the run's takes begin with those of its first block

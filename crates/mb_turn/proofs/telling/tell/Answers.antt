@@ -159,7 +159,7 @@ returns-in-Err-clause-goes g c =
     let f = known_by c.register-in-Err.new.self.pass in
     further-moves id _ _
     (moves-then id a b f (moves-does id [] [] a b tt (looks-read id (word_of c.status-status.result) a b c.status-status.ensures.known))
-    (moves-does id _ [] b f (tt, tt, tt) (does-then id _ [] b e f (does-unsending id b d e c.note_sent.ensures.known c.note_unsent.ensures.known)
+    (moves-does id _ [] b f (tt, (tt, tt)) (does-then id _ [] b e f (does-unsending id b d e c.note_sent.ensures.known c.note_unsent.ensures.known)
     c.register-in-Err.ensures.looks)))
     (account-woken id _ _ c.register-in-Err.result c.register-in-Err.ensures.woken) c.register-in-Err.ensures.paid
 
