@@ -51,10 +51,10 @@ loop-act-preserved g c =
       c.carry.ensures.beside,
       keeps-then _ _ _ c.loop-act.invariant.3 (keeps-then _ _ _ (keeps-next (hold_of c.loop-act.claim) new same) c.carry.ensures.same),
       further-then _ _ _ c.loop-act.invariant.4 c.carry.ensures.goes,
-      λ clean. let both = and-both c.loop-act.is_clean c.is_ok.result clean in
+      λ clean. let both = and-both c.loop-act.is_clean c.is_ok-is_clean.result clean in
           let before = hold_of c.loop-act.claim in
           let next : Hold = record before { home = new } in
-          let carried = ok-then c.carry.result (sym c.is_ok.ensures.value ∙ both.1) c.carry.ensures.cleared in
+          let carried = ok-then c.carry.result (sym c.is_ok-is_clean.ensures.value ∙ both.1) c.carry.ensures.cleared in
           cleared-then (hold_of c.args.claim.now) before (hold_of c.carry.new.claim) c.loop-act.invariant.3.same.takes (c.loop-act.invariant.5 both.0)
           (cleared-then before next (hold_of c.carry.new.claim) (keeps-next before new same).same.takes
           (cleared-same before next refl (ap (λ (x : Contents). x.take) same)) carried),
