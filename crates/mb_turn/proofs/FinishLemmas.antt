@@ -200,9 +200,9 @@ leaves-run throughput first last old pass turn stopped taken same t few reason e
     let counted : total (counted_off (held_actor first)) steps ≡ turn.envelopes + length last.home.value.cleaned =
     ap (λ n. total (counted_off n) steps) (sym same.actor)
     ∙ counted-all journal first.home.value.cell.journal last.home.value.take.taken last.home.value.cleaned first.home.value.take.taken
-          (total (counted_off (held_actor first)) (known_of first).log) (total (counted_off (held_actor last)) steps) turn.envelopes same.counted
-          (ap (total (counted_off (held_actor first))) fresh) (ap (λ (l : List Envelope). length l) at_first) at_last
-          (begun-turns first.home.value.cell.who first.home.value.cell.journal journal turn.envelopes turns) in
+    (total (counted_off (held_actor first)) (known_of first).log) (total (counted_off (held_actor last)) steps) turn.envelopes same.counted
+    (ap (total (counted_off (held_actor first))) fresh) (ap (λ (l : List Envelope). length l) at_first) at_last
+    (begun-turns first.home.value.cell.who first.home.value.cell.journal journal turn.envelopes turns) in
     record {
       run = record {
         envelopes = turn.envelopes;

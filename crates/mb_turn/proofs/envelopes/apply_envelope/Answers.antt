@@ -192,9 +192,11 @@ returns-in_default-clause-took g c =
     let t = sym (c.should_process.ensures ∙ ap should_process c.status-status.ensures) ∙ c.if-not-should_process.false in
     let found = subst (λ (x : Contents). FindsNone x new) c.deref_mut-2.ensures.value c.in_default.ensures.none in
     let drained = drained-home old mid (ap (λ (x : Contents). x.cell.who) same)
-    (ap (λ (x : Contents). x.cell.journal) same) (drained-open gives origin seen old c.requires.running c.requires.whole t) in
-    (refl, subst (λ (k : Taking). IsWhy k (record h { home = new })) (ap (λ (x : Contents). x.take) same)
-    (why-none gives origin seen h r new found (acts-ready old mid _ _ same ∙ c.requires.carried_out) drained t))
+    (ap (λ (x : Contents). x.cell.journal) same) (drained-open gives origin seen old c.requires.running c.requires.whole t) in (
+      refl,
+      subst (λ (k : Taking). IsWhy k (record h { home = new })) (ap (λ (x : Contents). x.take) same)
+          (why-none gives origin seen h r new found (acts-ready old mid _ _ same ∙ c.requires.carried_out) drained t),
+    )
 
 -- ---- one was
 
