@@ -88,11 +88,11 @@ EndsEmpty (NoEnvelope word) ended = Unit {0}
 EndsEmpty AtClosing ended = Unit {0}
 EndsEmpty NoRoom ended = ⊥
 
--- The claim's actor ran from the journal with which the claim was taken to this one, which the pass has seen; the turn names the actor and
--- counts the entries of either kind. Of its own steps, which the pass has taken over besides what it knew before, each that took an envelope came when no system message
--- was left to be drained, and they count as many envelopes as taken as were begun and cleaned up: none is cleaned up unless the actor ended.
--- Where it stopped since no envelope was there, or the actor ended and there was room for all, these are all that the takes of its home's pass
--- gave, and the last take found none.
+-- The claim's actor ran from the journal with which the claim was taken to this one, which the pass has seen; the turn names the actor and counts
+-- the entries of either kind. Of its own steps, which the pass has taken over besides what it knew before, each that took an envelope came when
+-- no system message was left to be drained, and they count as many envelopes as taken as were begun and cleaned up: none is cleaned up unless the
+-- actor ended. Where it stopped since no envelope was there, or the actor ended and there was room for all, these are all that the takes of its
+-- home's pass gave, and the last take found none.
 pub record LeavesRun (throughput : ℕ) (claim : Claim (Box Contents)) (old pass : View) (journal : List Entry) (turn : Turn) (stopped : Stopped)
     : Type 0 where
   pub run : IsRun claim.home.value.cell.who throughput claim.home.value.cell.journal journal stopped

@@ -43,7 +43,8 @@ pub fn run_mailbox<A: Actor, K: Behaviours, W: Way<Place<A, K>>, R: Wait>(
     ensures goes { LeavesCaller (caller_of W.pushed W.refused waker.old) (caller_of W.pushed W.refused waker.new) }
     ensures paid { IsPaid (held_actor claim) (caller_of W.pushed W.refused waker.new) }
     ensures ran { (journal : List Entry) × MatchResult result
-        (λ turn. (stopped : Stopped) × HadRoom stopped × LeavesRun throughput claim (known_by waker.old.pass) (known_by waker.new.pass) journal turn stopped)
+        (λ turn. (stopped : Stopped) × HadRoom stopped
+        × LeavesRun throughput claim (known_by waker.old.pass) (known_by waker.new.pass) journal turn stopped)
         (λ _. (turn : Turn) × LeavesRun throughput claim (known_by waker.old.pass) (known_by waker.new.pass) journal turn NoRoom
         × (IsErrOf result ReadyError.JournalFull → claim.home.value.cell.who.limit ≤ length journal)) }
 {

@@ -14,7 +14,14 @@ use Rattle.mb_turn.proofs.TellingLemmas.{running-own, running-next, beside-next,
 use Rattle.mb_turn.proofs.acts.carry_out.Goals as goal
 
 pub loop-act-init : goal.loop-act-init
-loop-act-init g c = (c.requires.ours, c.requires.running, c.requires.beside, keeps-same _, further-none _, λ clean. cleared-same (hold_of c.args.claim.now) (hold_of c.args.claim.now) refl refl)
+loop-act-init g c = (
+  c.requires.ours,
+  c.requires.running,
+  c.requires.beside,
+  keeps-same _,
+  further-none _,
+  λ clean. cleared-same (hold_of c.args.claim.now) (hold_of c.args.claim.now) refl refl,
+)
 
 pub next_act-requires : goal.next_act-requires
 next_act-requires g c = record {
@@ -105,5 +112,6 @@ returns-clause-cleared g c =
     c.next_act.ensures.same in
     let before = hold_of c.loop-act.claim in
     ok-so c.answer_of.result
-    (λ clean. cleared-then (hold_of c.args.claim.now) before (record before { home = new }) c.loop-act.invariant.3.same.takes (c.loop-act.invariant.5 clean)
+    (λ clean. cleared-then (hold_of c.args.claim.now) before (record before { home = new }) c.loop-act.invariant.3.same.takes
+    (c.loop-act.invariant.5 clean)
     (cleared-same before (record before { home = new }) refl (ap (λ (x : Contents). x.take) same))) c.answer_of.ensures.clean

@@ -135,5 +135,6 @@ loop-preserved g c =
       ap (λ (b : Box Contents). b.value.cell) did.same.1 ∙ cell ∙ inv.8,
       keeps-then _ _ _ inv.9
           (keeps-taken _ new ours did.same.1 did.same.0 did.known did.taken l.home.value (ap (λ (x : Seen). x.who) cell)
-          (one-more mid.take.taken l.home.value.take.taken found.envelope found.took) (takes-one _ _ _ (take-cleaned _ _ found)) (ap (λ (x : Seen). x.journal) cell)),
+          (one-more mid.take.taken l.home.value.take.taken found.envelope found.took)
+          (takes-one _ _ _ (take-cleaned _ _ found)) (ap (λ (x : Seen). x.journal) cell)),
     )

@@ -362,7 +362,8 @@ returns-in-Ok-clause-cleared g c =
     let begun_hold : Hold = record (hold_of c.note_taken.new.claim) { home = new } in
     let open_yet = is-open g.K.Behaviours.gives (origin_of c.args.gates.now) (known_by c.args.waker.now.pass).log old c.requires.running t in
     let takes = takes-then _ _ _ (takes-same _ _ (ap (λ (x : Contents). x.take) same)) (takes-one _ _ _ (take-begun mid new _ begun)) in
-    cleared-then old begun_hold (hold_of c.carry_out.new.claim) takes (cleared-open old begun_hold (ap (λ (m : Mailbox). m.closed) c.note_taken.ensures.same.0 ∙ open_yet))
+    cleared-then old begun_hold (hold_of c.carry_out.new.claim) takes
+    (cleared-open old begun_hold (ap (λ (m : Mailbox). m.closed) c.note_taken.ensures.same.0 ∙ open_yet))
     c.in-Ok.ensures.cleared
 
 pub returns-in-Err-clause-turning : goal.returns-in-Err-clause-turning

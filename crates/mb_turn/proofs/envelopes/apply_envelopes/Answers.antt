@@ -41,7 +41,8 @@ returns-then-not-took-clause-goes g c = further-then _ _ _ c.loop-handled.invari
 
 pub returns-then-not-took-clause-cleared : goal.returns-then-not-took-clause-cleared
 returns-then-not-took-clause-cleared g c =
-    cleared-then (hold_of c.args.claim.now) (hold_of c.loop-handled.claim) (hold_of c.apply_envelope.new.claim) c.loop-handled.invariant.5.takes c.loop-handled.invariant.9
+    cleared-then (hold_of c.args.claim.now) (hold_of c.loop-handled.claim) (hold_of c.apply_envelope.new.claim) c.loop-handled.invariant.5.takes
+    c.loop-handled.invariant.9
     c.in_ok-took.ensures.cleared
 
 -- why no envelope was taken
@@ -84,8 +85,10 @@ loop-handled-preserved g c =
       c.apply_systems.ensures.envelopes ∙ more ∙ ap (λ n. n + 1) c.loop-handled.invariant.6,
       c.in_ok-apply_systems.ensures.whole,
       further-then _ _ _ c.loop-handled.invariant.8 (further-then _ _ _ c.apply_envelope.ensures.goes c.apply_systems.ensures.goes),
-      cleared-then (hold_of c.args.claim.now) (hold_of c.loop-handled.claim) (hold_of c.apply_systems.new.claim) c.loop-handled.invariant.5.takes c.loop-handled.invariant.9
-          (cleared-then (hold_of c.loop-handled.claim) h (hold_of c.apply_systems.new.claim) c.apply_envelope.ensures.turning.1.takes c.in_ok-took.ensures.cleared c.in_ok-apply_systems.ensures.cleared),
+      cleared-then (hold_of c.args.claim.now) (hold_of c.loop-handled.claim) (hold_of c.apply_systems.new.claim) c.loop-handled.invariant.5.takes
+          c.loop-handled.invariant.9
+          (cleared-then (hold_of c.loop-handled.claim) h (hold_of c.apply_systems.new.claim) c.apply_envelope.ensures.turning.1.takes
+          c.in_ok-took.ensures.cleared c.in_ok-apply_systems.ensures.cleared),
     )
 
 -- the throughput was used up

@@ -137,7 +137,8 @@ returns-in-Ok-clause-ran g c =
       (
         ended.0,
         ended.1,
-        leaves-run c.args.throughput c.args.claim last (known_by c.args.waker.now.pass) (known_by c.register.new.self.pass) turn ended.0 taken run.ensures.turning.1
+        leaves-run c.args.throughput c.args.claim last (known_by c.args.waker.now.pass) (known_by c.register.new.self.pass) turn ended.0
+            taken run.ensures.turning.1
             run.ensures.turning.0 run.ensures.few ended.4 ended.2 run.ensures.running.dry saw part fresh at_first
             run.ensures.running.settled.taken run.ensures.running.settled.open_keeps empty,
       ),
@@ -163,7 +164,8 @@ returns-in-Err-clause-ran g c =
       journal,
       (
         turn,
-        leaves-run c.args.throughput c.args.claim last (known_by c.args.waker.now.pass) (known_by c.register.new.self.pass) turn NoRoom taken run.ensures.turning.1
+        leaves-run c.args.throughput c.args.claim last (known_by c.args.waker.now.pass) (known_by c.register.new.self.pass) turn NoRoom
+            taken run.ensures.turning.1
             run.ensures.turning.0 run.ensures.few tt tt run.ensures.running.dry saw part fresh at_first
             run.ensures.running.settled.taken run.ensures.running.settled.open_keeps (λ ends. absurd ends),
         λ full. subst (λ (w : Identity). w.limit ≤ length journal) run.ensures.turning.1.who

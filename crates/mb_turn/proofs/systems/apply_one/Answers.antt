@@ -163,7 +163,9 @@ returns-clause-cleared g c =
     let old = hold_of c.args.claim.now in
     let mid : Hold = record old { home = c.apply_next.new.self } in
     let take : mid.home.take ≡ old.home.take = ap (λ (x : Contents). x.take) applied.same ∙ ap (λ (x : Contents). x.take) same in
-    ok-so c.carry_out.result (cleared-then old mid (hold_of c.carry_out.new.claim) (takes-same _ _ take) (cleared-open old mid c.requires.not_closed)) c.carry_out.ensures.cleared
+    ok-so c.carry_out.result
+    (cleared-then old mid (hold_of c.carry_out.new.claim) (takes-same _ _ take) (cleared-open old mid c.requires.not_closed))
+    c.carry_out.ensures.cleared
 
 pub returns-clause-full : goal.returns-clause-full
 returns-clause-full g c = λ full. absurd (not-full _ c.carry_out.ensures.refused full)
