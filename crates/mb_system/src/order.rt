@@ -14,23 +14,24 @@ use std::sync::Wait;
 /// What is to be sent.
 #[derive(Clone, Copy, Debug, PartialEq, Eq)]
 pub enum What {
-    /// An envelope with this body.
+    /// An envelope with this body (`ActorRef.tell`).
     Tell(Body),
-    /// A Terminate.
+    /// A Terminate (`ActorSystem.stop`).
     Stop,
 }
 
 /// One thing that is to be sent.
 #[derive(Clone, Copy, Debug, PartialEq, Eq)]
 pub struct Order {
-    /// To whom.
+    /// To whom: an envelope to an actor from number 1 on, a Terminate also to the guardian.
     pub to: ActorId,
     /// What.
     pub what: What,
 }
 
 impl<A: Actor, K: Behaviours> Sender<A, K> {
-    /// Sends all this, in order. It stops at the first fault: `NoSuchActor` or `NoMemory` as a tell or a stop answers it.
+    /// Sends all this, in order. It stops at the first fault: `NoSuchActor` or `NoMemory` as a tell or a stop answers it. What was
+    /// sent before stays sent. Whom the sender owes a look then, a `pay` looks after.
     pub fn send_all<R: Wait>(
         &mut self,
         rt: &R,
