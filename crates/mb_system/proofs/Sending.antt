@@ -77,8 +77,7 @@ module _ {A K : Type 0} where
 
 -- something was done at an actor
 saw-does : (id : ℕ) (did : List Sight) (told : List Said) (old new : View) → Does id did told old new → IsPart old.log new.log
-saw-does id did told old new does =
-    saw-more (does.looks ++ did) old.log new.log (does.log ∙ sym (append_assoc does.looks did old.log))
+saw-does id did told old new does = saw-more (does.looks ++ did) old.log new.log does.log
 
 -- an envelope was told
 module _ (by : SenderId) (number : ℕ) (to : ActorId) (body : Body) (posted posted' : List Posting) where

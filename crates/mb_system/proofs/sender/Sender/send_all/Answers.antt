@@ -1,8 +1,11 @@
 use Rattle.std.proofs.Common.{subst, sym}
 use Rattle.std.proofs.lemmas.List.{take_more}
 use Rattle.mb_system.specs.Orders.{HasSent}
-use Rattle.mb_system.proofs.Sending.{sent-then}
+use Rattle.mb_system.proofs.Sending.{sent-none, sent-then}
 use Rattle.mb_system.proofs.sender.Sender.send_all.Goals as goal
+
+pub loop-order-init : goal.loop-order-init
+loop-order-init g c = (c.requires.ours, sent-none c.args.self.now)
 
 pub loop-order-preserved : goal.loop-order-preserved
 loop-order-preserved g c =
