@@ -30,6 +30,32 @@ module _ {T : Type 0} where
   as_many_after R (x ∷ xs) [] each = absurd each
   as_many_after R (x ∷ xs) (y ∷ ys) each = ap suc (as_many_after R xs ys each.1)
 
+  -- one thing after another was done with each
+  pub zip_then : (R S Q : T → T → Type 0) → ((x y z : T) → R x y → S y z → Q x z) → (xs ys zs : List T) → AllZip R xs ys → AllZip S ys zs
+      → AllZip Q xs zs
+  zip_then R S Q f [] [] [] p q = tt
+  zip_then R S Q f [] [] (z ∷ zs) p q = absurd q
+  zip_then R S Q f [] (y ∷ ys) zs p q = absurd p
+  zip_then R S Q f (x ∷ xs) [] zs p q = absurd p
+  zip_then R S Q f (x ∷ xs) (y ∷ ys) [] p q = absurd q
+  zip_then R S Q f (x ∷ xs) (y ∷ ys) (z ∷ zs) p q = (f x y z p.0 q.0, zip_then R S Q f xs ys zs p.1 q.1)
+
+  pub zip_weaker : (R Q : T → T → Type 0) → ((x y : T) → R x y → Q x y) → (xs ys : List T) → AllZip R xs ys → AllZip Q xs ys
+  zip_weaker R Q f [] [] p = tt
+  zip_weaker R Q f [] (y ∷ ys) p = absurd p
+  zip_weaker R Q f (x ∷ xs) [] p = absurd p
+  zip_weaker R Q f (x ∷ xs) (y ∷ ys) p = (f x y p.0, zip_weaker R Q f xs ys p.1)
+
+  -- nothing was, or something with the first
+  pub zip_same : (R : T → T → Type 0) → ((x : T) → R x x) → (xs : List T) → AllZip R xs xs
+  zip_same R f [] = tt
+  zip_same R f (x ∷ xs) = (f x, zip_same R f xs)
+
+  pub zip_first : (R : T → T → Type 0) → ((x : T) → R x x) → (xs : List T) (old new : T) → old ≡ get_or xs 0 old → R old new
+      → AllZip R xs (set xs 0 new)
+  zip_first R f [] old new there did = tt
+  zip_first R f (x ∷ xs) old new there did = (subst (λ y. R y new) there did, zip_same R f xs)
+
   -- another stands first, of which this is the same
   pub same_first : {X : Type 0} (of : T → X) (xs : List T) (old new : T) → old ≡ get_or xs 0 old → of new ≡ of old → map of (set xs 0 new) ≡ map of xs
   same_first of [] old new there same = refl

@@ -1,5 +1,6 @@
 pub mod Enrolled
 pub mod Members
+pub mod Debts
 pub mod Belonging
 pub mod Begun
 pub mod Founded
