@@ -36,6 +36,11 @@ module _ {H : Type 0} (actors : ℕ) where
       by_last (inr kept) (inl (inr owed)) = not-both (is_owed b.account.owed id) owed kept.0
       by_last (inr kept) (inr before) = inr (before.0, kept.1 ∙ before.1)
 
+  -- nothing became of them in between
+  pub debts-from : (a b between c : Caller H) → KeepsDebts actors a b → between.view ≡ b.view → between.account.owed ≡ b.account.owed
+      → KeepsDebts actors between c → KeepsDebts actors a c
+  debts-from a b between c p view owed q = debts-then a between c (debts-then a b between p (debts-same b between view owed)) q
+
   -- a look, or a run of a mailbox, lets none go
   pub debts-left : (a b : Caller H) → LeavesCaller a b → KeepsDebts actors a b
   debts-left a b left id lt = by_look (left.debts id) (true-or-false (is_owed a.account.owed id))

@@ -1,5 +1,6 @@
 -- What looks after actors leave with an end.
-use Rattle.std.proofs.Common.{◌≡◌, ◌⊎◌, inl, inr, ◌++◌, [], Bool, ℕ, ap, refl, sym, ◌∙◌}
+use Rattle.std.proofs.Common.{◌≡◌, ◌⊎◌, inl, inr, ◌++◌, [], Bool, ℕ, ap, refl, sym, ◌∙◌, Option, Some, None}
+use Rattle.std.specs.Prelude.{IfNone}
 use Rattle.std.proofs.lemmas.List.{append-nil}
 use Rattle.mb_turn.specs.Caller.{Caller, IsPaid, LeavesCaller}
 use Rattle.mb_turn.proofs.CallerLemmas.{account-none, account-then, account-woken, further-by}
@@ -38,3 +39,8 @@ leaves-then a b c p q = record {
     by_last id (inr kept) (inl (inl none)) = inl (inl (kept ∙ none))
     by_last id (inr kept) (inl (inr owed)) = inl (inr (q.account.still id owed))
     by_last id (inr kept) (inr same) = inr (kept ∙ same)
+
+-- what an answer of none tells
+pub none-tells : {X : Type 0} (A B C : Type 0) (r : Option X) → (A → B) → IfNone r (A × C) → IfNone r (B × C)
+none-tells A B C None f h = (f h.0, h.1)
+none-tells A B C (Some x) f h = tt

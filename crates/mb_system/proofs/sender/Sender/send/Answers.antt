@@ -1,6 +1,8 @@
 use Rattle.std.proofs.Common.{◌∙◌, Err, ap, subst, sym}
+use Rattle.mb_gate.specs.Names.{actors_of}
 use Rattle.mb_system.specs.Faults.{IsToNobody}
 use Rattle.mb_system.proofs.Breaking.{breaks-one, to-nobody}
+use Rattle.mb_system.proofs.Sending.{debts-stopped, debts-told}
 use Rattle.mb_system.proofs.sender.Sender.send.Goals as goal
 
 pub returns-in-Err-clause-fault : goal.returns-in-Err-clause-fault
@@ -19,3 +21,13 @@ returns-in-Err-stop-clause-fault g c =
     (λ unknown. subst (λ what. IsToNobody gates c.args.order.to what) (sym c.in-Stop.is)
     (to-nobody _ _ _ c.stop.result c.stop.ensures.refused (λ memory. memory.0) (c.in-Err-stop.is ∙ ap Err (failed.ensures.unknown unknown))))
     failed.ensures.sending
+
+pub returns-in-Ok-clause-debts : goal.returns-in-Ok-clause-debts
+returns-in-Ok-clause-debts g c =
+    debts-told (actors_of c.args.system.now.gates) c.args.order.to c.args.self.now c.tell.new.self c.in-Ok.ensures.paid c.tell.ensures.still _ _
+    c.in-Ok.ensures.told
+
+pub returns-in-Ok-stop-clause-debts : goal.returns-in-Ok-stop-clause-debts
+returns-in-Ok-stop-clause-debts g c =
+    debts-stopped (actors_of c.args.system.now.gates) c.args.order.to c.args.self.now c.stop.new.self c.in-Ok-stop.ensures.paid
+    c.stop.ensures.still _ c.in-Ok-stop.ensures.stopped
