@@ -32,7 +32,7 @@ use Rattle.mb_system.specs.declared.end.WorkerEnd.{WorkerEnd}
 use Rattle.mb_system.specs.declared.order.Order.{Order}
 use Rattle.mb_system.specs.declared.sender.Sender.{Sender}
 use Rattle.mb_dispatch.specs.Belonging.{AreAnswers, AreThere, HasAllSeen}
-use Rattle.mb_dispatch.specs.Sent.{HaveSent, SeeOn}
+use Rattle.mb_dispatch.specs.Sent.{HaveSent}
 use Rattle.mb_dispatch.specs.Story.{DidOrders, IsStory}
 use Rattle.mb_dispatch.proofs.Parts.{part-trans}
 use Rattle.mb_dispatch.proofs.Rolls.{of-plan}
