@@ -13,7 +13,7 @@ true-or-false true = inl refl
 true-or-false false = inr refl
 
 not-both : {P : Type 0} (b : Bool) → b ≡ true → b ≡ false → P
-not-both b yes no = let clash : true ≡ false = sym yes ∙ no in absurd (cc)
+not-both b owed_it free = let clash : true ≡ false = sym owed_it ∙ free in absurd (cc)
 
 module _ {H : Type 0} (actors : ℕ) where
   -- nothing became of them
@@ -22,8 +22,8 @@ module _ {H : Type 0} (actors : ℕ) where
     where
       by_look : (is_owed a.account.owed id ≡ true) ⊎ (is_owed a.account.owed id ≡ false)
           → IsPaid id b ⊎ ((is_owed a.account.owed id ≡ false) × (owes id b.view ≡ owes id a.view))
-      by_look (inl yes) = inl (inr (ap (λ o. is_owed o id) owed ∙ yes))
-      by_look (inr no) = inr (no, ap (owes id) view)
+      by_look (inl owed_it) = inl (inr (ap (λ o. is_owed o id) owed ∙ owed_it))
+      by_look (inr free) = inr (free, ap (owes id) view)
 
   pub debts-then : (a b c : Caller H) → KeepsDebts actors a b → KeepsDebts actors b c → KeepsDebts actors a c
   debts-then a b c p q id lt = by_last (q id lt) (p id lt)
@@ -48,8 +48,8 @@ module _ {H : Type 0} (actors : ℕ) where
       by_look : IsPaid id b ⊎ (owes id b.view ≡ owes id a.view) → (is_owed a.account.owed id ≡ true) ⊎ (is_owed a.account.owed id ≡ false)
           → IsPaid id b ⊎ ((is_owed a.account.owed id ≡ false) × (owes id b.view ≡ owes id a.view))
       by_look (inl paid) owed = inl paid
-      by_look (inr same) (inl yes) = inl (inr (left.account.still id yes))
-      by_look (inr same) (inr no) = inr (no, same)
+      by_look (inr same) (inl owed_it) = inl (inr (left.account.still id owed_it))
+      by_look (inr same) (inr free) = inr (free, same)
 
   -- nor does one who pays
   pub debts-paid : (a b : Caller H) → LooksAmong (is_owed a.account.owed) a.view b.view
@@ -58,8 +58,8 @@ module _ {H : Type 0} (actors : ℕ) where
     where
       by_look : (is_owed a.account.owed id ≡ true) ⊎ (is_owed a.account.owed id ≡ false)
           → IsPaid id b ⊎ ((is_owed a.account.owed id ≡ false) × (owes id b.view ≡ owes id a.view))
-      by_look (inl yes) = inl (inl (paid id lt yes))
-      by_look (inr no) = inr (no, looks.others id no)
+      by_look (inl owed_it) = inl (inl (paid id lt owed_it))
+      by_look (inr free) = inr (free, looks.others id free)
 
   -- nor who does something at one actor, and looks after it
   pub debts-at : (at : ℕ) (a b : Caller H) → ((id : ℕ) → id ≢ at → owes id b.view ≡ owes id a.view) → IsPaid at b
@@ -69,8 +69,8 @@ module _ {H : Type 0} (actors : ℕ) where
       by_actor : (id ≡ at) ⊎ (id ≢ at) → (is_owed a.account.owed id ≡ true) ⊎ (is_owed a.account.owed id ≡ false)
           → IsPaid id b ⊎ ((is_owed a.account.owed id ≡ false) × (owes id b.view ≡ owes id a.view))
       by_actor (inl same) owed = inl (subst (λ n. IsPaid n b) (sym same) paid)
-      by_actor (inr other) (inl yes) = inl (inr (still id yes))
-      by_actor (inr other) (inr no) = inr (no, others id other)
+      by_actor (inr other) (inl owed_it) = inl (inr (still id owed_it))
+      by_actor (inr other) (inr free) = inr (free, others id other)
 
   -- who owed each actor nothing, or a look, does so still
   pub paid-still : (a b : Caller H) → HasPaid actors a → KeepsDebts actors a b → HasPaid actors b

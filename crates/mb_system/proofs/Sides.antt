@@ -98,9 +98,9 @@ module _ {E : Type 0} where
   on_ok (Ok x) p = p
   on_ok (Err e) p = tt
 
-  pub on_ok_and : {T P Q : Type 0} (r : Result T E) → OnOk r P → OnOk r Q → OnOk r (P × Q)
-  on_ok_and (Ok x) p q = (p, q)
-  on_ok_and (Err e) p q = tt
+  pub on_ok_and : {T : Type 0} (P Q : Type 0) (r : Result T E) → OnOk r P → OnOk r Q → OnOk r (P × Q)
+  on_ok_and P Q (Ok x) p q = (p, q)
+  on_ok_and P Q (Err e) p q = tt
 
   pub ok_first : (P : Type 0) (a b r : Result (Unit {0}) E) → MatchResult a (λ _. r ≡ b) (λ _. r ≡ a) → OnOk a P → OnOk r P
   ok_first P (Ok x) b r is p = on_ok r p

@@ -15,4 +15,4 @@ returns-clause-sent g c =
         debts-then (actors_of c.args.system.now.gates) (sender_caller c.args.sender.now.inner.waker)
             (sender_caller c.send_all.new.sender.inner.waker) (sender_caller c.pay.new.sender.inner.waker) sent.debts both.1,
       ))
-    (on_ok_and _ paid.done paid.debts)
+    (on_ok_and _ _ _ paid.done paid.debts)

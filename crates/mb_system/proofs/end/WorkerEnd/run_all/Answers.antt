@@ -10,7 +10,7 @@ use Rattle.mb_system.proofs.end.WorkerEnd.run_all.Goals as goal
 pub loop-init : goal.loop-init
 loop-init g c =
     let caller = end_caller c.args.self.now.waker in
-    (c.requires, refl, saw-same _, debts-same (actors_of c.args.system.now.gates) caller caller refl refl)
+    (c.requires.ours, refl, saw-same _, debts-same (actors_of c.args.system.now.gates) caller caller refl refl)
 
 pub loop-preserved : goal.loop-preserved
 loop-preserved g c =
@@ -24,13 +24,13 @@ loop-preserved g c =
       debts-from actors first old between new c.loop.invariant.3 (ap known_by same.0) same.1 (debts-left actors between new did.leaves),
     )
 
-pub returns-in_default-take-clause-saw : goal.returns-in_default-take-clause-saw
-returns-in_default-take-clause-saw g c =
+pub returns-in_default-clause-saw : goal.returns-in_default-clause-saw
+returns-in_default-clause-saw g c =
     saw-then _ _ _ c.loop.invariant.2
     (subst (λ p. IsPart (known_by p).log (known_by c.pay.new.self.waker.pass).log) c.take.ensures.same.0 c.pay.ensures.saw)
 
-pub returns-in_default-take-clause-debts : goal.returns-in_default-take-clause-debts
-returns-in_default-take-clause-debts g c =
+pub returns-in_default-clause-debts : goal.returns-in_default-clause-debts
+returns-in_default-clause-debts g c =
     let same = c.take.ensures.same in
     on_ok_weaker _
     (debts-from (actors_of c.args.system.now.gates) (end_caller c.args.self.now.waker) (end_caller c.loop.self.waker)

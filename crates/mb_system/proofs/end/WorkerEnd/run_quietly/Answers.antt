@@ -36,7 +36,7 @@ loop-preserved g c =
       saw-then _ _ _ c.loop.invariant.2 (subst (λ p. IsPart (known_by p).log (known_by c.pay.new.self.waker.pass).log) same.0 did.saw),
       paid-still actors between new
           (paid-still actors old between c.loop.invariant.3 (debts-same actors old between (ap known_by same.0) same.1))
-          c.in_ok-pay.ensures.debts,
+          c.in_ok-pay-in-None-take.ensures.debts,
     )
 
 pub returns-in_err-run_one-in-Some-take-clause-saw : goal.returns-in_err-run_one-in-Some-take-clause-saw
@@ -49,14 +49,14 @@ returns-in_err-pay-in-None-take-clause-saw g c =
     saw-then _ _ _ c.loop.invariant.2
     (subst (λ p. IsPart (known_by p).log (known_by c.pay.new.self.waker.pass).log) c.take.ensures.same.0 c.pay.ensures.saw)
 
-pub returns-clause-empty : goal.returns-clause-empty
-returns-clause-empty g c =
-    let none = c.in-None.ensures.none in
+pub returns-then-is_empty-clause-empty : goal.returns-then-is_empty-clause-empty
+returns-then-is_empty-clause-empty g c =
+    let none = c.in-None-take.ensures.none in
     subst (λ end. All (WasEmpty (IsFreshClaim g.K.Behaviours.gives)) (looks end.waker.way.end)) (sym none.0) none.1
 
-pub returns-clause-settled : goal.returns-clause-settled
-returns-clause-settled g c =
+pub returns-then-is_empty-clause-settled : goal.returns-then-is_empty-clause-settled
+returns-then-is_empty-clause-settled g c =
     let same = c.take.ensures.same in let actors = actors_of c.args.system.now.gates in
     let old = end_caller c.loop.self.waker in let new = end_caller c.take.new.self.waker in
     owes-nothing actors new (paid-still actors old new c.loop.invariant.3 (debts-same actors old new (ap known_by same.0) same.1))
-    (c.is_empty.ensures.nobody c.is_empty-test.true)
+    (c.is_empty.ensures.nobody c.if-is_empty.true)

@@ -8,7 +8,7 @@ use Rattle.mb_system.proofs.end.WorkerEnd.work_on.Goals as goal
 pub loop-init : goal.loop-init
 loop-init g c =
     let caller = end_caller c.args.self.now.waker in
-    (c.requires, refl, saw-same _, debts-same (actors_of c.args.system.now.gates) caller caller refl refl)
+    (c.requires.ours, refl, saw-same _, debts-same (actors_of c.args.system.now.gates) caller caller refl refl)
 
 pub loop-preserved : goal.loop-preserved
 loop-preserved g c =
@@ -22,12 +22,12 @@ loop-preserved g c =
           c.in_ok-is_over.ensures.debts,
     )
 
-pub returns-clause-saw : goal.returns-clause-saw
-returns-clause-saw g c =
+pub returns-then-branch-clause-saw : goal.returns-then-branch-clause-saw
+returns-then-branch-clause-saw g c =
     saw-then _ _ _ (saw-then _ _ _ c.loop.invariant.2 c.run_all.ensures.saw) c.is_over.ensures.saw
 
-pub returns-clause-debts : goal.returns-clause-debts
-returns-clause-debts g c =
+pub returns-then-branch-clause-debts : goal.returns-then-branch-clause-debts
+returns-then-branch-clause-debts g c =
     let actors = actors_of c.args.system.now.gates in
     let first = end_caller c.args.self.now.waker in let old = end_caller c.loop.self.waker in
     let between = end_caller c.run_all.new.self.waker in let new = end_caller c.is_over.new.self.waker in
