@@ -87,7 +87,7 @@ record GoesOnAt (id : ℕ) (old new : View) : Type 0 where
 
 does-at : (id : ℕ) (did : List Sight) (told : List Said) (old new : View) → Does id did told old new → GoesOnAt id old new
 does-at id did told old new does = record {
-  saw = saw-more (does.looks ++ did) old.log new.log (does.log ∙ sym (append_assoc does.looks did old.log));
+  saw = saw-more (does.looks ++ did) old.log new.log does.log;
   others = does.others;
 }
 

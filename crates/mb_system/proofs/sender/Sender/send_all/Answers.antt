@@ -10,7 +10,7 @@ use Rattle.mb_system.proofs.sender.Sender.send_all.Goals as goal
 pub loop-order-init : goal.loop-order-init
 loop-order-init g c =
     let first = c.args.self.now in let caller = sender_caller first.inner.waker in
-    (c.requires, sent-none first, debts-same (actors_of c.args.system.now.gates) caller caller refl refl)
+    (c.requires.ours, sent-none first, debts-same (actors_of c.args.system.now.gates) caller caller refl refl)
 
 pub loop-order-preserved : goal.loop-order-preserved
 loop-order-preserved g c =
