@@ -40,12 +40,6 @@ module _ {T : Type 0} where
   zip_then R S Q f (x ∷ xs) (y ∷ ys) [] p q = absurd q
   zip_then R S Q f (x ∷ xs) (y ∷ ys) (z ∷ zs) p q = (f x y z p.0 q.0, zip_then R S Q f xs ys zs p.1 q.1)
 
-  pub zip_weaker : (R Q : T → T → Type 0) → ((x y : T) → R x y → Q x y) → (xs ys : List T) → AllZip R xs ys → AllZip Q xs ys
-  zip_weaker R Q f [] [] p = tt
-  zip_weaker R Q f [] (y ∷ ys) p = absurd p
-  zip_weaker R Q f (x ∷ xs) [] p = absurd p
-  zip_weaker R Q f (x ∷ xs) (y ∷ ys) p = (f x y p.0, zip_weaker R Q f xs ys p.1)
-
   -- nothing was, or something with the first
   pub zip_same : (R : T → T → Type 0) → ((x : T) → R x x) → (xs : List T) → AllZip R xs xs
   zip_same R f [] = tt

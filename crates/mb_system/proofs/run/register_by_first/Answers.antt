@@ -1,7 +1,5 @@
 use Rattle.std.proofs.Common.{refl}
 use Rattle.mb_gate.specs.Names.{actors_of, known_by}
-use Rattle.mb_gate.specs.Rule.{IsPart}
-use Rattle.mb_system.specs.Debts.{KeepsDebts}
 use Rattle.mb_system.specs.Members.{end_caller}
 use Rattle.mb_system.proofs.Debts.{debts-left, debts-same}
 use Rattle.mb_system.proofs.Saw.{saw-same}
