@@ -19,6 +19,7 @@ use Rattle.mb_report.specs.declared.report.ActorReport.{ActorReport}
 use Rattle.mb_report.specs.declared.report.Report.{Report}
 use Rattle.mb_report.specs.declared.report.SenderReport.{SenderReport}
 use Rattle.mb_reckon.specs.Apart.{AreApart, IsDone, end_of, ended_of, sent_of}
+use Rattle.mb_reckon.specs.Homes.{AreHomes, Place}
 use Rattle.mb_reckon.specs.Outside.{AreOutsiders, HasKnownSenders}
 use Rattle.mb_reckon.specs.Seen.{GoesOnFrom, GoesOnFromAll}
 use Rattle.mb_reckon.specs.Shown.{ShowsAll, ShowsCell}
@@ -30,7 +31,7 @@ use Rattle.mb_reckon.proofs.Columns.{different}
 use Rattle.mb_reckon.proofs.Gathering.{Gathered, gathered, numbers-rise}
 use Rattle.mb_reckon.proofs.Lists.{alike, at-place, each-place, from-mapped, length-mapped, same-maps, there, within}
 use Rattle.mb_reckon.proofs.Parties.{Party}
-use Rattle.mb_reckon.proofs.Standing.{AreHomes, Place, Stands, many-left, own_word, shut, stands}
+use Rattle.mb_reckon.proofs.Standing.{Stands, many-left, own_word, shut, stands}
 use Rattle.mb_reckon.proofs.WholeLaw.{whole}
 
 module _ {A K : Type 0} (gives : ℕ → Moment → Reply → Type 0) (first : Contents) (n : ℕ) (v : View) (all : List (Option Place))

@@ -39,6 +39,7 @@ use Rattle.mb_report.specs.declared.report.ActorReport.{ActorReport}
 use Rattle.mb_report.specs.declared.report.Report.{Report}
 use Rattle.mb_report.specs.declared.report.SenderReport.{SenderReport}
 use Rattle.mb_reckon.specs.Apart.{IsDone, end_of, sent_of}
+use Rattle.mb_reckon.specs.Homes.{Place}
 use Rattle.mb_reckon.specs.Outside.{HasKnownSenders, IsSenderAmong}
 use Rattle.mb_reckon.specs.Shown.{ShowsCell}
 use Rattle.mb_reckon.specs.Taken.{AreTaken}
@@ -48,7 +49,7 @@ use Rattle.mb_reckon.proofs.Columns.{in-column}
 use Rattle.mb_reckon.proofs.Gathering.{Gathered, IsShut}
 use Rattle.mb_reckon.proofs.Lists.{alike, at-place, from-mapped, length-mapped, mapped, there, within}
 use Rattle.mb_reckon.proofs.Parties.{HasReason, IsParty, Party}
-use Rattle.mb_reckon.proofs.Standing.{Place, Stands}
+use Rattle.mb_reckon.proofs.Standing.{Stands}
 
 ended-phase : (p : Phase) → phase_is p EndedPhase ≡ true → p ≡ EndedPhase
 ended-phase EndedPhase t = refl
