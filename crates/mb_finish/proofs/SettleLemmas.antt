@@ -1,7 +1,8 @@
 -- All receivers at once.
-use Rattle.std.proofs.Common.{◌≡◌, ℕ, zero, suc, List, [], ◌∷◌, ◌++◌, length, take, drop, refl, sym, ap, ◌∙◌, subst, count_by, Some}
+use Rattle.std.proofs.Common.{◌≡◌, ℕ, zero, suc, List, [], ◌∷◌, ◌++◌, length, take, drop, refl, sym, ap, ◌∙◌, subst, count_by, Option, Some, None}
 use Rattle.std.specs.List.{All}
-use Rattle.std.specs.Prelude.{option_map, slice_get, Result, Ok, Err, IfOk}
+use Rattle.std.specs.Global.{Global}
+use Rattle.std.specs.Prelude.{Vec, option_map, slice_get, Result, Ok, Err, IfOk}
 use Rattle.std.proofs.lemmas.Option.{none-some, same_Some}
 use Rattle.mb_msg.specs.declared.envelope.Envelope.{Envelope}
 use Rattle.mb_queue.specs.Passes.{IsOfQueue, Queue, Sending, Taking, Turns, first_in_first_out}
@@ -12,7 +13,7 @@ use Rattle.mb_fates.proofs.Counting.{stands-as-often}
 use Rattle.mb_fates.proofs.Naming.{kept-in-order, stands-once}
 use Rattle.mb_finish.specs.Came.{Came}
 use Rattle.mb_finish.specs.Joined.{AreOfDifferent, column, joined_by, joins_all}
-use Rattle.mb_finish.specs.Rest.{AreRests, IsRest}
+use Rattle.mb_finish.specs.Rest.{AreRests, IsOver, IsOverfull, IsRest}
 use Rattle.mb_finish.proofs.CameLemmas.{same-queue, same-taken}
 use Rattle.mb_finish.proofs.JoinLemmas.{length-joins_all, place-joins_all, refilled}
 
@@ -55,6 +56,39 @@ module _ (takes : List Taking) (rows : List (List Sending)) (lefts : List (List 
   known-at =
       subst (λ (x : Queue × List Envelope). All (IsOfQueue x.0) (x.1 ++ left))
       (λ i. (same-queue take (column place rows) i, same-taken take (column place rows) i)) rest-joined.known
+
+-- of receivers that took in all passes to them, one has no room for what was left
+pub overfull : (takes : List Taking) (rows : List (List Sending)) (rooms : List (Vec Envelope Global)) (place : ℕ)
+    → AreOfDifferent (column place rows) → IsOver place (joins_all takes rows) rooms → IsOverfull takes rows rooms place
+overfull takes rows rooms place different over = by_case (slice_get takes place) refl
+  where
+    abbrev ways : List Sending
+    ways = column place rows
+
+    abbrev left : List Envelope
+    left = over.more.left
+
+    now : (o : Option Taking) → slice_get takes place ≡ o → Some over.take ≡ option_map (λ t. joined_by t ways) o
+    now o is = sym over.there ∙ place-joins_all takes rows place ∙ ap (option_map (λ t. joined_by t ways)) is
+
+    by_case : (o : Option Taking) → slice_get takes place ≡ o → IsOverfull takes rows rooms place
+    by_case None is = absurd (cc (now None is))
+    by_case (Some t) is =
+        let same : over.take ≡ joined_by t ways = same_Some over.take (joined_by t ways) (now (Some t) is) in
+        record {
+          take = t;
+          room = over.room;
+          left = left;
+          there = is;
+          lies = over.lies;
+          was = record {
+            known = subst (λ (x : Queue × List Envelope). All (IsOfQueue x.0) (x.1 ++ left))
+                (λ i. ((ap (λ (y : Taking). y.queue) same ∙ same-queue t ways) i, (ap (λ (y : Taking). y.taken) same ∙ same-taken t ways) i))
+                over.more.rest.known;
+            came = over.more.rest.came t ways same different;
+          };
+          over = over.more.over;
+        }
 
 module _ (to : ℕ) (postings : List Posting) (turns : Turns) (fates : List Envelope) (pass : Sending)
     (pushed : pass.pushed ≡ to_actor to (queued postings)) (came : Came turns fates pass) where
