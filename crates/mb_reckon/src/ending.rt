@@ -4,7 +4,7 @@ ghost use Rattle.mb_gate.specs.Names.{actors_of, first_of, gates_id, known_by, p
 ghost use Rattle.mb_reckon.specs.Homes.{CameHome, Disagrees};
 ghost use Rattle.mb_reckon.specs.Mismatched.{of_whom};
 ghost use Rattle.mb_reckon.specs.Outside.{AreOutsiders, HasKnownSenders};
-ghost use Rattle.mb_reckon.specs.Rooms.{IsRoom};
+ghost use Rattle.mb_reckon.specs.Rooms.{IsRoom, counted_in};
 ghost use Rattle.mb_reckon.specs.Seen.{GoesOnFromAll};
 ghost use Rattle.mb_reckon.specs.Whole.{IsWhole};
 
@@ -43,7 +43,7 @@ pub fn reckon<A: Actor, K: Behaviours, R: Wait>(
     ensures home { IfOk result (CameHome K.gives (first_of gates).value (actors_of gates) (known_by pass)) }
     ensures whom { IfErr result (λ mismatch. of_whom mismatch < actors_of gates) }
     ensures why { IfErr result (Disagrees K.gives (first_of gates).value (actors_of gates) (known_by pass) (map (λ o. o.sends.items) outside.items)
-        room.waiting.items) }
+        (counted_in room)) }
 {
     let Room {
         waiting,

@@ -124,6 +124,38 @@ report_on-requires-clause-senders g c =
     ∙ length-append (map sent_of c.take_apart.new.senders.items) (map {A = Outsider} {B = ℕ × List DeadLetter} (λ o. (o.book.sent, o.book.dead.items)) c.args.outside.items) in
     let few = c.requires.few in let a = few.0 in let b = few.1 in omega (arith, senders, of, before, outs, all, n, a, b)
 
+pub returns-in_err-take_apart-clause-whom : goal.returns-in_err-take_apart-clause-whom
+returns-in_err-take_apart-clause-whom g c =
+    let all = c.finish-all.result.items in let n = c.finish-all.ensures.left.many in
+    err-each c.take_apart.result (DidNotCome all) (λ m. of_whom m < actors_of c.args.gates)
+    (λ m d. subst (λ k. of_whom m < k) n (whom-came all m d)) c.take_apart.ensures.whom
+
+pub returns-in_err-take_apart-clause-why : goal.returns-in_err-take_apart-clause-why
+returns-in_err-take_apart-clause-why g c =
+    let all = c.finish-all.result.items in let outs = map (λ o. o.sends.items) c.args.outside.items in
+    let first = (first_of c.args.gates).value in let n = actors_of c.args.gates in let v = known_by c.args.pass in
+    let what = c.in_err-take_apart.mismatch in
+    disagrees g.K.Behaviours.gives first n v all outs c.args.room.waiting.items what c.finish-all.ensures.left
+    (not-come all outs c.args.room.waiting.items what c.in_err-take_apart.ensures.whom)
+
+pub returns-in-Ok-clause-home : goal.returns-in-Ok-clause-home
+returns-in-Ok-clause-home g c =
+    let apart = c.in_ok-take_apart.ensures.apart in let ended = c.take_apart.new.ended.items in
+    let takes = c.take_apart.new.takes.items in let before = map (λ r. r.items) c.take_apart.new.rows.items in
+    let lefts = map (λ l. l.items) c.take_rests.new.lefts.items in
+    let first = (first_of c.args.gates).value in let v = known_by c.args.pass in
+    let same : c.deref.result.now ≡ c.args.room.waiting.items = search rules in
+    let waits : length c.deref.result.now ≡ actors_of c.args.gates = ap length same ∙ c.requires.room.counted in
+    ok-each c.report_on.result
+    (λ report. ShowsAll g.K.Behaviours.after ended lefts c.deref.result.now report.actors.items × (report.senders ≡ c.add_outside.new.senders))
+    (CameHome g.K.Behaviours.gives first (actors_of c.args.gates) v)
+    (λ report s.
+    report-home g.K.Behaviours.gives first (actors_of c.args.gates) v c.finish-all.result.items
+    c.finish-all.ensures.left ended takes before c.take_apart.new.senders.items apart c.args.outside.items c.requires.few.0 c.requires.roll
+    c.requires.outside c.add_outside.ensures.small (λ r. r.items) c.add_outside.new.rows.items c.add_outside.ensures.rows g.K.Behaviours.after
+    c.requires.senders lefts c.in-Ok.ensures.taken c.deref.result.now waits report s.0
+    (ap (λ (w : Vec SenderReport Global). map sent_of w.items) s.1 ∙ c.add_outside.ensures.senders)) c.report_on.ensures.shows
+
 pub returns-in-Ok-clause-whom : goal.returns-in-Ok-clause-whom
 returns-in-Ok-clause-whom g c =
     let apart = c.in_ok-take_apart.ensures.apart in
