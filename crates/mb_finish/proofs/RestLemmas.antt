@@ -1,5 +1,5 @@
 -- What is left, once a take found nothing.
-use Rattle.std.proofs.Common.{◌≡◌, ◌<◌, ℕ, zero, suc, List, [], ◌∷◌, ◌++◌, length}
+use Rattle.std.proofs.Common.{◌≡◌, ◌≢◌, ◌<◌, ℕ, zero, suc, List, [], ◌∷◌, ◌++◌, length}
 use Rattle.std.proofs.Common.{map, take, drop, set, refl, sym, ap, ◌∙◌, subst, arith, slice_get, Some}
 use Rattle.std.specs.List.{All}
 use Rattle.std.proofs.lemmas.List.{length-append}
@@ -40,6 +40,18 @@ is-rest first last left taken same accounts once in_order known = record {
 }
 
 module _ {R : Type 0} where
+  pub some-length : (xs : List R) → xs ≢ [] → 0 < length xs
+  some-length [] some = absurd (some refl)
+  some-length (x ∷ xs) some = omega arith
+
+  pub longer-none : (xs : List R) (x : R) → xs ++ x ∷ [] ≢ []
+  longer-none [] x none = absurd (cc none)
+  longer-none (y ∷ xs) x none = absurd (cc none)
+
+  pub in-place : (xs : List R) (x : R) (rest : List R) → slice_get (xs ++ x ∷ rest) (length xs) ≡ Some x
+  in-place [] x rest = refl
+  in-place (y ∷ xs) x rest = in-place xs x rest
+
   pub take-set : (xs : List R) (n : ℕ) (x : R) → take n (set xs n x) ≡ take n xs
   take-set [] zero x = refl
   take-set [] (suc n) x = refl

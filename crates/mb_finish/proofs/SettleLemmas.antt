@@ -2,7 +2,7 @@
 use Rattle.std.proofs.Common.{◌≡◌, ℕ, zero, suc, List, [], ◌∷◌, ◌++◌, length, take, drop, refl, sym, ap, ◌∙◌, subst, count_by, Option, Some, None}
 use Rattle.std.specs.List.{All}
 use Rattle.std.specs.Global.{Global}
-use Rattle.std.specs.Prelude.{Vec, option_map, slice_get, Result, Ok, Err, IfOk}
+use Rattle.std.specs.Prelude.{Vec, option_map, slice_get, Result, Ok, Err, IfErr, IfOk}
 use Rattle.std.proofs.lemmas.Option.{none-some, same_Some}
 use Rattle.mb_msg.specs.declared.envelope.Envelope.{Envelope}
 use Rattle.mb_queue.specs.Passes.{IsOfQueue, Queue, Sending, Taking, Turns, first_in_first_out}
@@ -22,6 +22,11 @@ pub ok-then : {T E A B : Type 0} (r : Result T E) → (A → B) → IfOk r (λ _
 ok-then (Ok x) f h = f h
 ok-then (Err e) f h = tt
 
+-- what a fault tells tells more
+pub err-each : {T E : Type 0} (r : Result T E) (P Q : E → Type 0) → ((e : E) → P e → Q e) → IfErr r P → IfErr r Q
+err-each (Ok x) P Q f h = h
+err-each (Err e) P Q f h = f e h
+
 -- the rest of one receiver
 rest-at : (takes : List Taking) (lefts : List (List Envelope)) (place : ℕ) (take : Taking) (left : List Envelope) → AreRests takes lefts
     → slice_get takes place ≡ Some take → slice_get lefts place ≡ Some left → IsRest take left
@@ -39,6 +44,13 @@ pub rests-refilled : (rows : List (List Sending)) (lefts : List (List Envelope))
 rests-refilled rows lefts takes now new count base came many =
     let is : new ≡ joins_all takes rows = came ∙ ap (λ l. joins_all l rows) base in
     subst (λ l. AreRests l lefts) (refilled count takes new (ap length is ∙ length-joins_all takes rows ∙ many) ∙ is)
+
+pub over-refilled : (rows : List (List Sending)) (rooms : List (Vec Envelope Global)) (takes now new : List Taking) (count place : ℕ)
+    → now ≡ takes → new ≡ joins_all now rows → length takes ≡ count
+    → IsOver place (take count (new ++ drop (length new) takes)) rooms → IsOver place (joins_all takes rows) rooms
+over-refilled rows rooms takes now new count place base came many =
+    let is : new ≡ joins_all takes rows = came ∙ ap (λ l. joins_all l rows) base in
+    subst (λ l. IsOver place l rooms) (refilled count takes new (ap length is ∙ length-joins_all takes rows ∙ many) ∙ is)
 
 -- the rest of one receiver that took in the passes to it
 module _ (takes : List Taking) (rows : List (List Sending)) (lefts : List (List Envelope)) (place : ℕ) (take : Taking) (left : List Envelope)
