@@ -70,37 +70,35 @@ module _ (takes : List Taking) (rows : List (List Sending)) (lefts : List (List 
       (λ i. (same-queue take (column place rows) i, same-taken take (column place rows) i)) rest-joined.known
 
 -- of receivers that took in all passes to them, one has no room for what was left
-pub overfull : (takes : List Taking) (rows : List (List Sending)) (rooms : List (Vec Envelope Global)) (place : ℕ)
-    → AreOfDifferent (column place rows) → IsOver place (joins_all takes rows) rooms → IsOverfull takes rows rooms place
-overfull takes rows rooms place different over = by_case (slice_get takes place) refl
-  where
-    abbrev ways : List Sending
-    ways = column place rows
+module _ (takes : List Taking) (rows : List (List Sending)) (rooms : List (Vec Envelope Global)) (place : ℕ)
+    (different : AreOfDifferent (column place rows)) (over : IsOver place (joins_all takes rows) rooms) where
+  abbrev ways : List Sending
+  ways = column place rows
 
-    abbrev left : List Envelope
-    left = over.more.left
+  now : (o : Option Taking) → slice_get takes place ≡ o → Some over.take ≡ option_map (λ t. joined_by t ways) o
+  now o is = sym over.there ∙ place-joins_all takes rows place ∙ ap (option_map (λ t. joined_by t ways)) is
 
-    now : (o : Option Taking) → slice_get takes place ≡ o → Some over.take ≡ option_map (λ t. joined_by t ways) o
-    now o is = sym over.there ∙ place-joins_all takes rows place ∙ ap (option_map (λ t. joined_by t ways)) is
+  by_case : (o : Option Taking) → slice_get takes place ≡ o → IsOverfull takes rows rooms place
+  by_case None is = absurd {A = IsOverfull takes rows rooms place} (let no = now None is in cc no)
+  by_case (Some t) is =
+      let same : over.take ≡ joined_by t ways = same_Some over.take (joined_by t ways) (now (Some t) is) in let left = over.more.left in
+      record {
+        take = t;
+        room = over.room;
+        left = left;
+        there = is;
+        lies = over.lies;
+        was = record {
+          known = subst (λ (x : Queue × List Envelope). All (IsOfQueue x.0) (x.1 ++ left))
+              (λ i. ((ap (λ (y : Taking). y.queue) same ∙ same-queue t ways) i, (ap (λ (y : Taking). y.taken) same ∙ same-taken t ways) i))
+              over.more.rest.known;
+          came = over.more.rest.came t ways same different;
+        };
+        over = over.more.over;
+      }
 
-    by_case : (o : Option Taking) → slice_get takes place ≡ o → IsOverfull takes rows rooms place
-    by_case None is = absurd (cc (now None is))
-    by_case (Some t) is =
-        let same : over.take ≡ joined_by t ways = same_Some over.take (joined_by t ways) (now (Some t) is) in
-        record {
-          take = t;
-          room = over.room;
-          left = left;
-          there = is;
-          lies = over.lies;
-          was = record {
-            known = subst (λ (x : Queue × List Envelope). All (IsOfQueue x.0) (x.1 ++ left))
-                (λ i. ((ap (λ (y : Taking). y.queue) same ∙ same-queue t ways) i, (ap (λ (y : Taking). y.taken) same ∙ same-taken t ways) i))
-                over.more.rest.known;
-            came = over.more.rest.came t ways same different;
-          };
-          over = over.more.over;
-        }
+  pub overfull : IsOverfull takes rows rooms place
+  overfull = by_case (slice_get takes place) refl
 
 module _ (to : ℕ) (postings : List Posting) (turns : Turns) (fates : List Envelope) (pass : Sending)
     (pushed : pass.pushed ≡ to_actor to (queued postings)) (came : Came turns fates pass) where

@@ -46,8 +46,8 @@ loop-preserved-then-len-capacity g c =
     )
 
 -- one more was taken, and is let go
-pub loop-preserved-else-len-capacity : goal.loop-preserved-else-len-capacity
-loop-preserved-else-len-capacity g c =
+pub loop-preserved : goal.loop-preserved
+loop-preserved g c =
     let e = c.in-Some-take.ensures in let at = c.loop.invariant in let one = c.in-Some-take.envelope ∷ [] in let items = c.loop.room.items in
     let old = c.args.take.taken in let more = at.0.0 in
     let full : vec_capacity c.loop.room ≤ length items = search rules in (
