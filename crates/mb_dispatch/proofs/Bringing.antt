@@ -137,13 +137,13 @@ module _ {A K : Type 0} where
     brought-each =
         let number = λ (s : Sender A K). s.inner.book.by.0 - 64 in
         All-permutation IsListed now was same (each-place IsListed now (λ i s is.
-            (let lt = slice_get_within now i s is in
-            let place : s.inner.book.by.0 - 64 ≡ i = same_Some (s.inner.book.by.0 - 64) i
-            (sym (mapped number now i s is) ∙ ap (λ l. slice_get l i) numbered ∙ number-at 0 (length now) i lt ∙ ap Some (let none : 0 + i ≡ i = omega arith in none)) in
-            let one = there outside i (omega (arith, lt, as_many)) in
-            let e = alike brought brings outside now i one.0 s same_all one.1 is in
-            ap (slice_get (map (λ (o : Outsider). f (brought o)) outside)) place
-            ∙ mapped (λ (o : Outsider). f (brought o)) outside i one.0 one.1 ∙ ap (λ (p : List Sending × Book). Some (f p)) e)))
+        (let lt = slice_get_within now i s is in
+        let place : s.inner.book.by.0 - 64 ≡ i = same_Some (s.inner.book.by.0 - 64) i
+        (sym (mapped number now i s is) ∙ ap (λ l. slice_get l i) numbered ∙ number-at 0 (length now) i lt ∙ ap Some (let none : 0 + i ≡ i = omega arith in none)) in
+        let one = there outside i (omega (arith, lt, as_many)) in
+        let e = alike brought brings outside now i one.0 s same_all one.1 is in
+        ap (slice_get (map (λ (o : Outsider). f (brought o)) outside)) place
+        ∙ mapped (λ (o : Outsider). f (brought o)) outside i one.0 one.1 ∙ ap (λ (p : List Sending × Book). Some (f p)) e)))
 
   -- each was answered what is listed in its place
   pub answers : (many : ℕ) (was now : List (Sender A K)) (outside : List Outsider) → length now ≡ many → IsPermutation now was
