@@ -1,5 +1,6 @@
 -- What a result says.
-use Rattle.std.specs.Prelude.{Result, Ok, Err, IfErr, IfOk}
+use Rattle.std.proofs.Common.{subst, sym}
+use Rattle.std.specs.Prelude.{◌≡◌, Result, Ok, Err, IfErr, IfOk, IsErrAnd}
 
 -- what holds of each good result then
 pub ok-each : {T E : Type 0} (r : Result T E) (P Q : T → Type 0) → ((x : T) → P x → Q x) → IfOk r P → IfOk r Q
@@ -10,3 +11,8 @@ ok-each (Err e) P Q f h = h
 pub err-each : {T E : Type 0} (r : Result T E) (P Q : E → Type 0) → ((e : E) → P e → Q e) → IfErr r P → IfErr r Q
 err-each (Ok x) P Q f h = h
 err-each (Err e) P Q f h = f e h
+
+-- the fault that is passed on
+pub err-of : {T E : Type 0} (Q : E → Type 0) (r : Result T E) (e : E) → IsErrAnd r (λ y. y ≡ e) → Q e → IfErr r Q
+err-of Q (Ok x) e passed holds = tt
+err-of Q (Err y) e passed holds = subst Q (sym passed) holds

@@ -4,7 +4,7 @@ use Rattle.std.proofs.Common.{arith, append-nil, Option, Some, None}
 use Rattle.std.specs.Global.{Global}
 use Rattle.std.specs.Prelude.{All, Vec, is_some, option_to_list, remove, slice_get, slice_index_or, true}
 use Rattle.std.proofs.lemmas.List.{drop_all, take_all}
-use Rattle.std.proofs.lemmas.List.Elements.{All-head, All-nil}
+use Rattle.std.proofs.lemmas.List.Elements.{All-head, All-nil, All-tail}
 use Rattle.std.proofs.lemmas.Option.{none-some, same_Some}
 use borrow.Rule.Slice.PartMut.{post_of}
 use Rattle.mb_msg.specs.declared.envelope.Envelope.{Envelope}
@@ -39,6 +39,19 @@ module _ {R : Type 0} where
       ∙ ap (λ l. take count ((x ∷ rooms) ++ l)) over
       ∙ ap (take count) (append-nil (x ∷ rooms))
       ∙ take_all count (x ∷ rooms) (omega (arith, many, fewer))
+
+  -- what is lent is all but the first
+  pub lent-rooms : (now : List R) → take (length now - 1) (drop 1 now) ≡ drop 1 now
+  lent-rooms [] = refl
+  lent-rooms (x ∷ xs) = take_all (length (x ∷ xs) - 1) xs (omega arith)
+
+  all-but-first : (P : R → Type 0) (xs : List R) → All P xs → All P (drop 1 xs)
+  all-but-first P [] all = All-nil P
+  all-but-first P (x ∷ xs) all = All-tail P x xs all
+
+  pub lent-empty : (P : R → Type 0) (old now : List R) → now ≡ old → All P old → All P (take (length now - 1) (drop 1 now))
+  lent-empty P old now same all =
+      subst (All P) (sym (lent-rooms now)) (all-but-first P now (subst (All P) (sym same) all))
 
 -- the rooms of all, of which the first stays empty
 pub rooms-of : {R : Type 0} (items : R → List Envelope) (now rooms : List R) → 0 < length now → All (λ r. items r ≡ []) now

@@ -1,7 +1,8 @@
 use Rattle.std.proofs.Common.{rules, ◌++◌, ◌∷◌, [], length, map, refl, sym, ap, subst, ◌∙◌, append_assoc, length-append, arith}
 use Rattle.std.specs.Vec.Iter.{into_iter_items}
 use Rattle.std.proofs.lemmas.List.{map-append}
-use Rattle.mb_reckon.specs.Mismatched.{IsUnopened}
+use Rattle.mb_reckon.specs.Mismatched.{DidNotCome, IsUnopened}
+use Rattle.mb_reckon.proofs.Answered.{err-of}
 use Rattle.mb_reckon.proofs.Lists.{length-mapped}
 use Rattle.mb_reckon.proofs.Mismatches.{did-not-come, next-of}
 use Rattle.mb_reckon.proofs.Steps.{apart-more, apart-same, as-many}
@@ -54,7 +55,8 @@ pub returns-in_err-cell-clause-whom : goal.returns-in_err-cell-clause-whom
 returns-in_err-cell-clause-whom g c =
     let at = c.loop-left in let left = c.in-Some.left in let rest = into_iter_items c.next.new.self in
     let many = as-many at.yielded at.ended.items at.takes.items (map (λ r. r.items) at.rows.items) at.senders.items at.invariant.0 in
-    let a = many.of_ended in
-    did-not-come c.args.all.items left (length at.yielded) _
+    let a = many.of_ended in let what = c.in_err-cell.field-0.0 in
+    err-of (DidNotCome c.args.all.items) c.from_residual.result what c.from_residual.ensures.1
+    (did-not-come c.args.all.items left (length at.yielded) what
     (next-of at.yielded rest c.args.all.items left (ap (λ l. at.yielded ++ l) (sym c.in-Some.ensures.steps.0) ∙ at.invariant.1))
-    (subst (λ k. IsUnopened left k _) (search (rules, a)) c.in_err-cell.ensures.opened)
+    (subst (λ k. IsUnopened left k what) (search (rules, a)) c.in_err-cell.ensures.opened))

@@ -12,7 +12,7 @@ use Rattle.mb_reckon.specs.Rooms.{IsEnough}
 use Rattle.mb_reckon.specs.Seen.{GoesOnFromAll}
 use Rattle.mb_reckon.specs.Shown.{ShowsAll}
 use Rattle.mb_reckon.specs.Whole.{IsWhole}
-use Rattle.mb_reckon.proofs.Answered.{err-each, ok-each}
+use Rattle.mb_reckon.proofs.Answered.{err-each, err-of, ok-each}
 use Rattle.mb_reckon.proofs.EndLaw.{report-home, report-seen, report-whole, rows-different, rows-queues}
 use Rattle.mb_reckon.proofs.Lists.{length-mapped}
 use Rattle.mb_reckon.proofs.Mismatches.{why-not-come, why-otherwise, why-too-much}
@@ -131,11 +131,13 @@ returns-in_err-take_apart-clause-whom g c =
     let first = (first_of c.args.gates).value in let n = actors_of c.args.gates in let v = known_by c.args.pass in
     let all = c.finish-all.result.items in let outs = map (λ o. o.sends.items) c.args.outside.items in
     let waiting = c.args.room.waiting.items in
-    (why-not-come g.K.Behaviours.gives first n v all c.finish-all.ensures.left outs waiting c.requires.room.counted _
+    let what = c.in_err-take_apart.field-0.0 in
+    err-of (λ what. of_whom what < n) c.from_residual.result what c.from_residual.ensures.1
+    (why-not-come g.K.Behaviours.gives first n v all c.finish-all.ensures.left outs waiting c.requires.room.counted what
     c.in_err-take_apart.ensures.whom).0
 
-pub returns-in-Err-clause-whom : goal.returns-in-Err-clause-whom
-returns-in-Err-clause-whom g c =
+pub returns-clause-whom : goal.returns-clause-whom
+returns-clause-whom g c =
     let first = (first_of c.args.gates).value in let n = actors_of c.args.gates in let v = known_by c.args.pass in
     let all = c.finish-all.result.items in let outs = map (λ o. o.sends.items) c.args.outside.items in
     let waiting = c.args.room.waiting.items in
@@ -165,11 +167,13 @@ returns-in_err-take_apart-clause-why g c =
     let first = (first_of c.args.gates).value in let n = actors_of c.args.gates in let v = known_by c.args.pass in
     let all = c.finish-all.result.items in let outs = map (λ o. o.sends.items) c.args.outside.items in
     let waiting = c.args.room.waiting.items in
-    (why-not-come g.K.Behaviours.gives first n v all c.finish-all.ensures.left outs waiting c.requires.room.counted _
+    let what = c.in_err-take_apart.field-0.0 in
+    err-of (Disagrees g.K.Behaviours.gives first n v outs waiting) c.from_residual.result what c.from_residual.ensures.1
+    (why-not-come g.K.Behaviours.gives first n v all c.finish-all.ensures.left outs waiting c.requires.room.counted what
     c.in_err-take_apart.ensures.whom).1
 
-pub returns-in-Err-clause-why : goal.returns-in-Err-clause-why
-returns-in-Err-clause-why g c =
+pub returns-clause-why : goal.returns-clause-why
+returns-clause-why g c =
     let first = (first_of c.args.gates).value in let n = actors_of c.args.gates in let v = known_by c.args.pass in
     let all = c.finish-all.result.items in let outs = map (λ o. o.sends.items) c.args.outside.items in
     let waiting = c.args.room.waiting.items in
