@@ -1,12 +1,16 @@
 -- What the accounts of a receiver say once all passes were taken in.
-use Rattle.std.proofs.Common.{◌≡◌, ◌≢◌, ℕ, List, [], ◌∷◌, refl, ◌∙◌, Some}
+use Rattle.std.proofs.Common.{◌≡◌, ◌≢◌, ℕ, List, [], ◌∷◌, ◌++◌, refl, sym, subst, ◌∙◌, Some, None}
 use Rattle.std.specs.List.{All}
+use Rattle.std.proofs.lemmas.List.{append-nil}
 use Rattle.std.proofs.lemmas.List.Elements.{All-nil, All-cons, All-head, All-tail}
+use Rattle.mb_msg.specs.declared.envelope.Envelope.{Envelope}
+use Rattle.mb_lane.specs.declared.ledger.Account.{Account}
 use Rattle.mb_lane.specs.Ledger.{account, home}
 use Rattle.mb_lane.proofs.Lists.{account-other, account-same}
 use Rattle.mb_queue.specs.Fates.{InOrder}
-use Rattle.mb_queue.specs.Passes.{Sending, Taking, first_in_first_out}
-use Rattle.mb_queue.specs.Takes.{EachOnce}
+use Rattle.mb_queue.specs.Parts.{controls, others}
+use Rattle.mb_queue.specs.Passes.{Sending, Taking, first_in_first_out, control_first}
+use Rattle.mb_queue.specs.Takes.{AllOut, EachOnce, IsTake}
 use Rattle.mb_finish.specs.Came.{Came}
 use Rattle.mb_finish.specs.Joined.{AreOfDifferent, joined, joined_by}
 
@@ -41,12 +45,28 @@ pub same-taken : (t : Taking) (passes : List Sending) → (joined_by t passes).t
 same-taken t [] = refl
 same-taken t (p ∷ passes) = same-taken (joined t p) passes
 
+-- of each part of a control-aware queue, all that the senders pushed came, in their order
+abbrev pub PartsOut : Taking → Type 0
+PartsOut t = AllOut controls t.accounts t.taken × AllOut others t.accounts t.taken
+
+-- so it is once a take found nothing
+pub parts-out : (old new : Taking) → IsTake old.turns old None new → new.taken ≡ old.taken ++ [] → new.turns ≡ old.turns
+    → new.accounts ≡ old.accounts → new.turns ≡ control_first → PartsOut new
+parts-out old new turn taken turns accounts kind =
+    let found : IsTake control_first old None new = subst (λ k. IsTake k old None new) (sym turns ∙ kind) turn in
+    let all : new.taken ≡ old.taken = taken ∙ append-nil old.taken in
+    subst (λ (x : List Account × List Envelope). AllOut controls x.0 x.1 × AllOut others x.0 x.1) (λ i. (sym accounts i, sym all i)) found.1
+
 -- once a take found nothing, all that each pushed came
 pub all-came : (t : Taking) (passes : List Sending) → EachOnce t → (t.turns ≡ first_in_first_out → InOrder t)
-    → All (IsKnownBy t) passes → All (Came t.turns t.taken) passes
-all-came t [] once in_order known = All-nil (Came t.turns t.taken)
-all-came t (p ∷ passes) once in_order known =
+    → (t.turns ≡ control_first → PartsOut t) → All (IsKnownBy t) passes → All (Came t.turns t.taken) passes
+all-came t [] once in_order parts known = All-nil (Came t.turns t.taken)
+all-came t (p ∷ passes) once in_order parts known =
     let mine = All-head (IsKnownBy t) p passes known in
     All-cons (Came t.turns t.taken) p passes
-    (record { once = once p.by p.pushed mine; in_order = λ turns. in_order turns p.by p.pushed mine })
-    (all-came t passes once in_order (All-tail (IsKnownBy t) p passes known))
+    (record {
+      once = once p.by p.pushed mine;
+      in_order = λ turns. in_order turns p.by p.pushed mine;
+      parts_in_order = λ turns. let out = parts turns in (out.0 p.by p.pushed mine, out.1 p.by p.pushed mine);
+    })
+    (all-came t passes once in_order parts (All-tail (IsKnownBy t) p passes known))

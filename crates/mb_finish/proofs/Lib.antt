@@ -1,4 +1,5 @@
 pub mod JoinLemmas
 pub mod CameLemmas
+pub mod QueuedLemmas
 pub mod RestLemmas
 pub mod SettleLemmas

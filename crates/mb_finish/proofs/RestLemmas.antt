@@ -6,12 +6,12 @@ use Rattle.std.proofs.lemmas.List.{length-append}
 use Rattle.std.proofs.lemmas.List.Elements.{All-nil, All-cons, All-head, All-tail}
 use Rattle.mb_msg.specs.declared.envelope.Envelope.{Envelope}
 use Rattle.mb_queue.specs.Fates.{InOrder}
-use Rattle.mb_queue.specs.Passes.{IsOfQueue, Queue, Sending, Taking, Turns, first_in_first_out}
+use Rattle.mb_queue.specs.Passes.{IsOfQueue, Queue, Sending, Taking, Turns, first_in_first_out, control_first}
 use Rattle.mb_queue.specs.Takes.{EachOnce}
 use Rattle.mb_finish.specs.Came.{Came}
 use Rattle.mb_finish.specs.Joined.{AreOfDifferent, joined_by}
 use Rattle.mb_finish.specs.Rest.{AreRests, IsRest}
-use Rattle.mb_finish.proofs.CameLemmas.{IsKnownBy, all-came, all-known, same-taken, same-turns}
+use Rattle.mb_finish.proofs.CameLemmas.{IsKnownBy, PartsOut, all-came, all-known, same-taken, same-turns}
 
 -- the receiver takes from the same queue, and in the same order
 abbrev pub SameQueue : Taking → Taking → Type 0
@@ -20,23 +20,24 @@ SameQueue first last = (last.queue ≡ first.queue) × (last.turns ≡ first.tur
 -- the receiver took this besides, and then found nothing
 came-first : (first last : Taking) (left : List Envelope) → last.taken ≡ first.taken ++ left → last.turns ≡ first.turns
     → last.accounts ≡ first.accounts → EachOnce last → (last.turns ≡ first_in_first_out → InOrder last)
+    → (last.turns ≡ control_first → PartsOut last)
     → (before : Taking) (passes : List Sending) → first ≡ joined_by before passes → AreOfDifferent passes
     → All (Came before.turns (before.taken ++ left)) passes
-came-first first last left taken turns accounts once in_order before passes is different =
+came-first first last left taken turns accounts once in_order parts before passes is different =
     let kind : last.turns ≡ before.turns = turns ∙ ap (λ (t : Taking). t.turns) is ∙ same-turns before passes in
     let all : last.taken ≡ before.taken ++ left
     = taken ∙ ap (λ (t : Taking). t.taken ++ left) is ∙ ap (λ l. l ++ left) (same-taken before passes) in
     let known : All (IsKnownBy last) passes
     = subst (λ l. All (λ (p : Sending). IsKnownBy (record last { accounts = l }) p) passes)
     (sym (accounts ∙ ap (λ (t : Taking). t.accounts) is)) (all-known before passes different) in
-    subst (λ (x : Turns × List Envelope). All (Came x.0 x.1) passes) (λ i. (kind i, all i)) (all-came last passes once in_order known)
+    subst (λ (x : Turns × List Envelope). All (Came x.0 x.1) passes) (λ i. (kind i, all i)) (all-came last passes once in_order parts known)
 
 pub is-rest : (first last : Taking) (left : List Envelope) → last.taken ≡ first.taken ++ left → SameQueue first last
     → last.accounts ≡ first.accounts → EachOnce last → (last.turns ≡ first_in_first_out → InOrder last)
-    → All (IsOfQueue last.queue) last.taken → IsRest first left
-is-rest first last left taken same accounts once in_order known = record {
+    → (last.turns ≡ control_first → PartsOut last) → All (IsOfQueue last.queue) last.taken → IsRest first left
+is-rest first last left taken same accounts once in_order parts known = record {
   known = subst (λ (x : Queue × List Envelope). All (IsOfQueue x.0) x.1) (λ i. (same.0 i, taken i)) known;
-  came = came-first first last left taken same.1 accounts once in_order;
+  came = came-first first last left taken same.1 accounts once in_order parts;
 }
 
 module _ {R : Type 0} where

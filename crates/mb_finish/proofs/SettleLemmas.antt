@@ -4,16 +4,19 @@ use Rattle.std.specs.List.{All}
 use Rattle.std.specs.Prelude.{option_map, slice_get, Result, Ok, Err, IfOk}
 use Rattle.std.proofs.lemmas.Option.{none-some, same_Some}
 use Rattle.mb_msg.specs.declared.envelope.Envelope.{Envelope}
-use Rattle.mb_queue.specs.Passes.{IsOfQueue, Queue, Sending, Taking, Turns, first_in_first_out}
+use Rattle.mb_queue.specs.Parts.{controls, others}
+use Rattle.mb_queue.specs.Passes.{IsOfQueue, Queue, Sending, Taking, Turns, first_in_first_out, control_first}
 use Rattle.mb_fates.specs.Accepted.{IsNumbered, accepted, queued, to_actor}
 use Rattle.mb_fates.specs.Pair.{IsInOrder, StandsAsOften, StandsOnce}
 use Rattle.mb_fates.specs.declared.posting.Posting.{Posting}
 use Rattle.mb_fates.proofs.Counting.{stands-as-often}
 use Rattle.mb_fates.proofs.Naming.{kept-in-order, stands-once}
 use Rattle.mb_finish.specs.Came.{Came}
+use Rattle.mb_finish.specs.Parts.{ArePartsInOrder}
 use Rattle.mb_finish.specs.Joined.{AreOfDifferent, column, joined_by, joins_all}
 use Rattle.mb_finish.specs.Rest.{AreRests, IsRest}
 use Rattle.mb_finish.proofs.CameLemmas.{same-queue, same-taken}
+use Rattle.mb_finish.proofs.QueuedLemmas.{queued-are}
 use Rattle.mb_finish.proofs.JoinLemmas.{length-joins_all, place-joins_all, refilled}
 
 -- what an answer tells tells more
@@ -66,3 +69,9 @@ module _ (to : ℕ) (postings : List Posting) (turns : Turns) (fates : List Enve
 
   pub in_order : IsNumbered pass.by 0 (accepted postings) → turns ≡ first_in_first_out → IsInOrder pass.by to postings fates
   in_order numbered kind = kept-in-order pass.by to postings fates numbered (sym pushed ∙ came.in_order kind)
+
+  pub parts_in_order : IsNumbered pass.by 0 (accepted postings) → turns ≡ control_first → ArePartsInOrder pass.by to postings fates
+  parts_in_order numbered kind =
+      let both = came.parts_in_order kind in
+      let all = pushed ∙ queued-are pass.by to postings numbered in
+      (sym both.0 ∙ ap controls all, sym both.1 ∙ ap others all)

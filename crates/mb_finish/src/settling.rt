@@ -14,8 +14,9 @@ use std::sync::Wait;
 
 /// Each of these receivers takes in the passes that push to it, one of each sender, and then all that is left in its queue, into
 /// a room of its own. Of each sender and each receiver all that the one pushed is then among what the other took before and what
-/// was left: each envelope once, and in the sender's order where the mailbox is first in, first out. Nothing else is among it but
-/// envelopes by senders of the receiver's queue and to its actor.
+/// was left: each envelope once, and in the sender's order where the mailbox is first in, first out; where it is control-aware, the
+/// control messages in the sender's order, and so all others. Nothing else is among it but envelopes by senders of the receiver's
+/// queue and to its actor.
 ///
 /// It answers `TooMany` if more is left in a queue than there is room for: then that room is full.
 pub fn settle<R: Wait>(

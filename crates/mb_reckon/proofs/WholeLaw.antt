@@ -24,9 +24,10 @@ use Rattle.mb_fates.specs.Fates.{begun}
 use Rattle.mb_fates.specs.Pair.{IsInOrder, StandsAsOften, StandsOnce}
 use Rattle.mb_fates.specs.Told.{told}
 use Rattle.mb_fates.specs.declared.posting.Posting.{Posting}
-use Rattle.mb_queue.specs.Passes.{IsOfQueue, Sending, first_in_first_out}
+use Rattle.mb_queue.specs.Passes.{IsOfQueue, Sending, first_in_first_out, control_first}
 use Rattle.mb_finish.specs.Came.{Came}
-use Rattle.mb_finish.proofs.SettleLemmas.{in_order, often, once}
+use Rattle.mb_finish.specs.Parts.{ArePartsInOrder}
+use Rattle.mb_finish.proofs.SettleLemmas.{in_order, often, once, parts_in_order}
 use Rattle.mb_gate.specs.View.{Sight}
 use Rattle.mb_rule.specs.Seen.{Each}
 use Rattle.mb_home.specs.Contents.{Contents}
@@ -309,6 +310,13 @@ module _ (after : ℕ → List Message → ℤ) (gives : ℕ → Moment → Repl
           subst (λ (y : ℕ × List Posting × List Envelope). IsInOrder y.0 (suc k) y.1 y.2) (λ i. (number-is i, answers-back i, fates-back i))
           (in_order (suc k) p.postings t.turns (t.taken ++ x.left) s pushed-is came numbered-by kind)
 
+      pair-parts-in-order : x.l.home.value.take.turns ≡ control_first → ArePartsInOrder (number_at place) (suc k) (answers place) (fates_in a)
+      pair-parts-in-order kind =
+          let t = x.l.home.value.take in
+          subst (λ (y : ℕ × List Posting × List Envelope). ArePartsInOrder y.0 (suc k) y.1 y.2)
+          (λ i. (number-is i, answers-back i, fates-back i))
+          (parts_in_order (suc k) p.postings t.turns (t.taken ++ x.left) s pushed-is came numbered-by kind)
+
     once-clause : (place id : ℕ) (a : ActorReport) → place < length report.senders.items → 0 < id → slice_get report.actors.items id ≡ Some a
         → StandsOnce id (answers place) (fates_in a) × StandsAsOften (number_at place) id (answers place) (fates_in a)
     once-clause place zero a lt above found = absurd (omega (arith, above))
@@ -321,6 +329,14 @@ module _ (after : ℕ → List Message → ℤ) (gives : ℕ → Moment → Repl
     order-clause place (suc k) e a lt above is found kind =
         let x = at-actor (suc k) a found in
         pair-in-order place k a lt found (sym (ap (λ (n : Enrolled). n.turns) (enrolled-at (suc k) e x.l is x.there_is)) ∙ kind)
+
+    parts-clause : (place id : ℕ) (e : Enrolled) (a : ActorReport) → place < length report.senders.items → 0 < id
+        → slice_get first.roll id ≡ Some e → slice_get report.actors.items id ≡ Some a → e.turns ≡ control_first
+        → ArePartsInOrder (number_at place) id (answers place) (fates_in a)
+    parts-clause place zero e a lt above is found kind = absurd (omega (arith, above))
+    parts-clause place (suc k) e a lt above is found kind =
+        let x = at-actor (suc k) a found in
+        pair-parts-in-order place k a lt found (sym (ap (λ (n : Enrolled). n.turns) (enrolled-at (suc k) e x.l is x.there_is)) ∙ kind)
 
     -- ---- nothing else
 
@@ -356,6 +372,7 @@ module _ (after : ℕ → List Message → ℤ) (gives : ℕ → Moment → Repl
       once = once-clause;
       nothing_else = nothing-clause;
       in_order = order-clause;
+      parts_in_order = parts-clause;
       cleaned = λ id a found some.
           let x = at-actor id a found in
           cleaned-ended id x.l (stands id x.l x.there_is) (done id x.l x.there_is) x.left a x.shows some;

@@ -1,4 +1,4 @@
-use Rattle.mb_finish.proofs.SettleLemmas.{in_order, often, once}
+use Rattle.mb_finish.proofs.SettleLemmas.{in_order, often, once, parts_in_order}
 use Rattle.mb_finish.proofs.laws.what_came_is_accounted_for.Goals as goal
 
 pub returns-clause-often : goal.returns-clause-often
@@ -9,3 +9,6 @@ returns-clause-once c = once
 
 pub returns-clause-in_order : goal.returns-clause-in_order
 returns-clause-in_order c = in_order
+
+pub returns-clause-parts_in_order : goal.returns-clause-parts_in_order
+returns-clause-parts_in_order c = parts_in_order
