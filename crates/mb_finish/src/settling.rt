@@ -1,9 +1,10 @@
 //! All receivers and all senders come together.
 ghost use Rattle.std.specs.Prelude.{◌≡◌, ◌<◌, ℕ, [], ◌++◌, All, List, length, map, slice_get, Some, IfErr, IfOk};
 ghost use Rattle.mb_msg.specs.declared.envelope.Envelope.{Envelope};
-ghost use Rattle.mb_queue.specs.Passes.{IsOfQueue, Taking};
+ghost use Rattle.mb_queue.specs.Passes.{IsOfQueue, Taking, control_first};
 ghost use Rattle.mb_finish.specs.Came.{Came};
-ghost use Rattle.mb_finish.specs.Joined.{AreOfDifferent, column, queues_of, ways_of};
+ghost use Rattle.mb_finish.specs.Joined.{AreOfAllSenders, AreOfDifferent, column, queues_of, ways_of};
+ghost use Rattle.mb_finish.specs.Parts.{IsControlsFirst};
 ghost use Rattle.mb_finish.specs.Rest.{IsFullAt};
 
 use crate::joining::join_all;
@@ -34,6 +35,9 @@ pub fn settle<R: Wait>(
         → All (Came take.turns (take.taken ++ left)) (column place (map (λ row. row.items) senders.items))) }
     ensures known { IfOk result (λ _. (place : ℕ) (take : Taking) (left : List Envelope) → slice_get takes.items place ≡ Some take
         → slice_get (map (λ room. room.items) rooms.new) place ≡ Some left → All (IsOfQueue take.queue) (take.taken ++ left)) }
+    ensures ordered { IfOk result (λ _. (place : ℕ) (take : Taking) (left : List Envelope) → slice_get takes.items place ≡ Some take
+        → slice_get (map (λ room. room.items) rooms.new) place ≡ Some left → take.turns ≡ control_first
+        → AreOfAllSenders take.queue (column place (map (λ row. row.items) senders.items)) → IsControlsFirst left) }
     ensures place { IfErr result (λ many. many.0 < length takes.items) }
     ensures full { IfErr result (λ many. IsFullAt many.0 rooms.new) }
 {
