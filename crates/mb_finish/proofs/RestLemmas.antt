@@ -1,5 +1,5 @@
 -- What is left, once a take found nothing.
-use Rattle.std.proofs.Common.{◌≡◌, ◌<◌, ℕ, zero, suc, List, [], ◌∷◌, ◌++◌, length}
+use Rattle.std.proofs.Common.{◌≡◌, ◌≢◌, ◌<◌, ℕ, zero, suc, List, [], ◌∷◌, ◌++◌, length}
 use Rattle.std.proofs.Common.{map, take, drop, set, refl, sym, ap, ◌∙◌, subst, arith, slice_get, Some}
 use Rattle.std.specs.List.{All}
 use Rattle.std.proofs.lemmas.List.{length-append}
@@ -41,6 +41,18 @@ is-rest first last left taken same accounts once in_order parts known = record {
 }
 
 module _ {R : Type 0} where
+  pub some-length : (xs : List R) → xs ≢ [] → 0 < length xs
+  some-length [] some = absurd (some refl)
+  some-length (x ∷ xs) some = omega arith
+
+  pub longer-none : (xs : List R) (x : R) → xs ++ x ∷ [] ≢ []
+  longer-none [] x none = absurd (cc none)
+  longer-none (y ∷ xs) x none = absurd (cc none)
+
+  pub in-place : (xs : List R) (x : R) (rest : List R) → slice_get (xs ++ x ∷ rest) (length xs) ≡ Some x
+  in-place [] x rest = refl
+  in-place (y ∷ xs) x rest = in-place xs x rest
+
   pub take-set : (xs : List R) (n : ℕ) (x : R) → take n (set xs n x) ≡ take n xs
   take-set [] zero x = refl
   take-set [] (suc n) x = refl
@@ -58,13 +70,6 @@ module _ {R : Type 0} where
   place-there rooms all takes items done one many is last =
       let a = ap length is ∙ length-append takes done in let b = ap length last ∙ length-append items (one ∷ []) in omega (arith, many, a, b)
 
-  -- what is told of the one that was set, is told of the one in its place
-  pub same-set : (f g : R → ℕ) (xs : List R) (n : ℕ) (x : R) → f x ≡ g x → n < length xs
-      → slice_get (map f (set xs n x)) n ≡ slice_get (map g (set xs n x)) n
-  same-set f g [] n x same lt = absurd (omega (arith, lt))
-  same-set f g (y ∷ xs) zero x same lt = ap Some same
-  same-set f g (y ∷ xs) (suc n) x same lt = same-set f g xs n x same (omega (arith, lt))
-
   -- what holds of each of the first, holds of each of fewer
   pub all-fewer : (P : R → Type 0) (xs : List R) (n : ℕ) → All P (take (suc n) xs) → All P (take n xs)
   all-fewer P [] zero all = all
@@ -72,6 +77,22 @@ module _ {R : Type 0} where
   all-fewer P (x ∷ xs) zero all = All-nil P
   all-fewer P (x ∷ xs) (suc n) all =
       All-cons P x (take n xs) (All-head P x (take (suc n) xs) all) (all-fewer P xs n (All-tail P x (take (suc n) xs) all))
+
+  -- of two lists that begin alike, fewer are alike, and so is the last of these
+  pub take-fewer : (xs ys : List R) (n : ℕ) → take (suc n) xs ≡ take (suc n) ys → take n xs ≡ take n ys
+  take-fewer [] [] n same = refl
+  take-fewer [] (y ∷ ys) n same = absurd (cc same)
+  take-fewer (x ∷ xs) [] n same = absurd (cc same)
+  take-fewer (x ∷ xs) (y ∷ ys) zero same = refl
+  take-fewer (x ∷ xs) (y ∷ ys) (suc n) same =
+      let first : x ≡ y = cc same in let rest : take (suc n) xs ≡ take (suc n) ys = cc same in λ i. first i ∷ take-fewer xs ys n rest i
+
+  pub same-last : (xs ys : List R) (n : ℕ) → take (suc n) xs ≡ take (suc n) ys → slice_get xs n ≡ slice_get ys n
+  same-last [] [] n same = refl
+  same-last [] (y ∷ ys) n same = absurd (cc same)
+  same-last (x ∷ xs) [] n same = absurd (cc same)
+  same-last (x ∷ xs) (y ∷ ys) zero same = let first : x ≡ y = cc same in ap Some first
+  same-last (x ∷ xs) (y ∷ ys) (suc n) same = let rest : take (suc n) xs ≡ take (suc n) ys = cc same in same-last xs ys n rest
 
   -- the rest of one receiver more, before the others
   pub rests-more : (items : R → List Envelope) (rooms : List R) (n : ℕ) (room : R) (take1 : Taking) (done : List Taking) → n < length rooms

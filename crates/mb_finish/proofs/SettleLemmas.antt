@@ -1,7 +1,8 @@
 -- All receivers at once.
-use Rattle.std.proofs.Common.{◌≡◌, ℕ, zero, suc, List, [], ◌∷◌, ◌++◌, length, take, drop, refl, sym, ap, ◌∙◌, subst, count_by, Some}
+use Rattle.std.proofs.Common.{◌≡◌, ℕ, zero, suc, List, [], ◌∷◌, ◌++◌, length, take, drop, refl, sym, ap, ◌∙◌, subst, count_by, Option, Some, None}
 use Rattle.std.specs.List.{All}
-use Rattle.std.specs.Prelude.{option_map, slice_get, Result, Ok, Err, IfOk}
+use Rattle.std.specs.Global.{Global}
+use Rattle.std.specs.Prelude.{Vec, option_map, slice_get, Result, Ok, Err, IfErr, IfOk}
 use Rattle.std.proofs.lemmas.Option.{none-some, same_Some}
 use Rattle.mb_msg.specs.declared.envelope.Envelope.{Envelope}
 use Rattle.mb_queue.specs.Parts.{controls, others}
@@ -14,7 +15,7 @@ use Rattle.mb_fates.proofs.Naming.{kept-in-order, stands-once}
 use Rattle.mb_finish.specs.Came.{Came}
 use Rattle.mb_finish.specs.Parts.{ArePartsInOrder}
 use Rattle.mb_finish.specs.Joined.{AreOfDifferent, column, joined_by, joins_all}
-use Rattle.mb_finish.specs.Rest.{AreRests, IsRest}
+use Rattle.mb_finish.specs.Rest.{AreRests, IsOver, IsOverfull, IsRest}
 use Rattle.mb_finish.proofs.CameLemmas.{same-queue, same-taken}
 use Rattle.mb_finish.proofs.QueuedLemmas.{queued-are}
 use Rattle.mb_finish.proofs.JoinLemmas.{length-joins_all, place-joins_all, refilled}
@@ -23,6 +24,11 @@ use Rattle.mb_finish.proofs.JoinLemmas.{length-joins_all, place-joins_all, refil
 pub ok-then : {T E A B : Type 0} (r : Result T E) → (A → B) → IfOk r (λ _. A) → IfOk r (λ _. B)
 ok-then (Ok x) f h = f h
 ok-then (Err e) f h = tt
+
+-- what a fault tells tells more
+pub err-each : {T E : Type 0} (r : Result T E) (P Q : E → Type 0) → ((e : E) → P e → Q e) → IfErr r P → IfErr r Q
+err-each (Ok x) P Q f h = h
+err-each (Err e) P Q f h = f e h
 
 -- the rest of one receiver
 rest-at : (takes : List Taking) (lefts : List (List Envelope)) (place : ℕ) (take : Taking) (left : List Envelope) → AreRests takes lefts
@@ -42,6 +48,13 @@ rests-refilled rows lefts takes now new count base came many =
     let is : new ≡ joins_all takes rows = came ∙ ap (λ l. joins_all l rows) base in
     subst (λ l. AreRests l lefts) (refilled count takes new (ap length is ∙ length-joins_all takes rows ∙ many) ∙ is)
 
+pub over-refilled : (rows : List (List Sending)) (rooms : List (Vec Envelope Global)) (takes now new : List Taking) (count place : ℕ)
+    → now ≡ takes → new ≡ joins_all now rows → length takes ≡ count
+    → IsOver place (take count (new ++ drop (length new) takes)) rooms → IsOver place (joins_all takes rows) rooms
+over-refilled rows rooms takes now new count place base came many =
+    let is : new ≡ joins_all takes rows = came ∙ ap (λ l. joins_all l rows) base in
+    subst (λ l. IsOver place l rooms) (refilled count takes new (ap length is ∙ length-joins_all takes rows ∙ many) ∙ is)
+
 -- the rest of one receiver that took in the passes to it
 module _ (takes : List Taking) (rows : List (List Sending)) (lefts : List (List Envelope)) (place : ℕ) (take : Taking) (left : List Envelope)
     (rests : AreRests (joins_all takes rows) lefts) (there : slice_get takes place ≡ Some take) (is : slice_get lefts place ≡ Some left) where
@@ -58,6 +71,37 @@ module _ (takes : List Taking) (rows : List (List Sending)) (lefts : List (List 
   known-at =
       subst (λ (x : Queue × List Envelope). All (IsOfQueue x.0) (x.1 ++ left))
       (λ i. (same-queue take (column place rows) i, same-taken take (column place rows) i)) rest-joined.known
+
+-- of receivers that took in all passes to them, one has no room for what was left
+module _ (takes : List Taking) (rows : List (List Sending)) (rooms : List (Vec Envelope Global)) (place : ℕ)
+    (different : AreOfDifferent (column place rows)) (over : IsOver place (joins_all takes rows) rooms) where
+  abbrev ways : List Sending
+  ways = column place rows
+
+  now : (o : Option Taking) → slice_get takes place ≡ o → Some over.take ≡ option_map (λ t. joined_by t ways) o
+  now o is = sym over.there ∙ place-joins_all takes rows place ∙ ap (option_map (λ t. joined_by t ways)) is
+
+  by_case : (o : Option Taking) → slice_get takes place ≡ o → IsOverfull takes rows rooms place
+  by_case None is = absurd {A = IsOverfull takes rows rooms place} (let no = now None is in cc no)
+  by_case (Some t) is =
+      let same : over.take ≡ joined_by t ways = same_Some over.take (joined_by t ways) (now (Some t) is) in let left = over.more.left in
+      record {
+        take = t;
+        room = over.room;
+        left = left;
+        there = is;
+        lies = over.lies;
+        was = record {
+          known = subst (λ (x : Queue × List Envelope). All (IsOfQueue x.0) (x.1 ++ left))
+              (λ i. ((ap (λ (y : Taking). y.queue) same ∙ same-queue t ways) i, (ap (λ (y : Taking). y.taken) same ∙ same-taken t ways) i))
+              over.more.rest.known;
+          came = over.more.rest.came t ways same different;
+        };
+        over = over.more.over;
+      }
+
+  pub overfull : IsOverfull takes rows rooms place
+  overfull = by_case (slice_get takes place) refl
 
 module _ (to : ℕ) (postings : List Posting) (turns : Turns) (fates : List Envelope) (pass : Sending)
     (pushed : pass.pushed ≡ to_actor to (queued postings)) (came : Came turns fates pass) where

@@ -1,6 +1,6 @@
 //! What is left in the queues.
-ghost use Rattle.std.specs.Prelude.{◌≡◌, ◌<◌, [], All, length, map, vec_capacity, vec_len, IfErr, IfOk, false, true};
-ghost use Rattle.mb_finish.specs.Rest.{AreRests, IsFullAt, IsRest};
+ghost use Rattle.std.specs.Prelude.{◌≡◌, ◌<◌, [], All, length, map, IfErr, IfOk, false, true};
+ghost use Rattle.mb_finish.specs.Rest.{AreRests, IsMoreThan, IsOver, IsRest};
 
 use mb_msg::Envelope;
 use mb_queue::TakePass;
@@ -13,7 +13,7 @@ pub struct TooMany(pub usize);
 /// Takes out all that is left in each of these queues, into a room of its own. Then all came to its receiver that the passes
 /// pushed which it had taken in.
 ///
-/// It answers `TooMany` if more is left in a queue than there is room for: then that room is full.
+/// It answers `TooMany` if more was left in a queue than there is room for: what its room does not hold is let go.
 pub(crate) fn take_rests<R: Wait>(
     rt: &R,
     takes: Vec<TakePass>,
@@ -23,7 +23,7 @@ pub(crate) fn take_rests<R: Wait>(
     requires empty { All (λ room. room.items ≡ []) rooms.old }
     ensures rests { IfOk result (λ _. AreRests takes.items (map (λ room. room.items) rooms.new)) }
     ensures place { IfErr result (λ many. many.0 < length takes.items) }
-    ensures full { IfErr result (λ many. IsFullAt many.0 rooms.new) }
+    ensures over { IfErr result (λ many. IsOver many.0 takes.items rooms.old) }
 {
     let mut takes = takes;
     while let Some(take) = takes.pop() {
@@ -35,22 +35,24 @@ pub(crate) fn take_rests<R: Wait>(
     Ok(())
 }
 
-/// Takes out all that is left in a queue, until a take finds nothing. It answers `false` if there is one more than there is
-/// room for: then the room is full.
+/// Takes out all that is left in a queue, until a take finds nothing. It answers `false` if there was more than there is room
+/// for: what the room does not hold is let go.
 fn take_rest<R: Wait>(rt: &R, take: TakePass, room: &mut Vec<Envelope>) -> bool
     requires empty { room.old.items ≡ [] }
     ensures rest { result ≡ true → IsRest take room.new.items }
-    ensures full { result ≡ false → vec_len room.new ≡ vec_capacity room.new }
+    ensures over { result ≡ false → IsMoreThan take room.old }
 {
     let mut take = take;
+    let mut fits = true;
     for _ in rt.forever() {
         let Some(envelope) = take.take(rt) else {
-            return true;
+            return fits;
         };
-        if room.len() == room.capacity() {
-            return false;
+        if room.len() < room.capacity() {
+            room.push_reserved(envelope);
+        } else {
+            fits = false;
         }
-        room.push_reserved(envelope);
     }
     unreachable!()
 }

@@ -4,7 +4,7 @@ ghost use Rattle.mb_msg.specs.declared.envelope.Envelope.{Envelope};
 ghost use Rattle.mb_queue.specs.Passes.{IsOfQueue, Taking};
 ghost use Rattle.mb_finish.specs.Came.{Came};
 ghost use Rattle.mb_finish.specs.Joined.{AreOfDifferent, column, queues_of, ways_of};
-ghost use Rattle.mb_finish.specs.Rest.{IsFullAt};
+ghost use Rattle.mb_finish.specs.Rest.{IsOverfull};
 
 use crate::joining::join_all;
 use crate::rest::{TooMany, take_rests};
@@ -18,7 +18,7 @@ use std::sync::Wait;
 /// control messages in the sender's order, and so all others. Nothing else is among it but envelopes by senders of the receiver's
 /// queue and to its actor.
 ///
-/// It answers `TooMany` if more is left in a queue than there is room for: then that room is full.
+/// It answers `TooMany` if more was left in a queue than there is room for: what its room does not hold is let go.
 pub fn settle<R: Wait>(
     rt: &R,
     takes: Vec<TakePass>,
@@ -35,7 +35,7 @@ pub fn settle<R: Wait>(
     ensures known { IfOk result (λ _. (place : ℕ) (take : Taking) (left : List Envelope) → slice_get takes.items place ≡ Some take
         → slice_get (map (λ room. room.items) rooms.new) place ≡ Some left → All (IsOfQueue take.queue) (take.taken ++ left)) }
     ensures place { IfErr result (λ many. many.0 < length takes.items) }
-    ensures full { IfErr result (λ many. IsFullAt many.0 rooms.new) }
+    ensures over { IfErr result (λ many. IsOverfull takes.items (map (λ row. row.items) senders.items) rooms.old many.0) }
 {
     let mut takes = takes;
     join_all(&mut takes, senders);

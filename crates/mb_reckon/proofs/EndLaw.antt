@@ -19,6 +19,7 @@ use Rattle.mb_report.specs.declared.report.ActorReport.{ActorReport}
 use Rattle.mb_report.specs.declared.report.Report.{Report}
 use Rattle.mb_report.specs.declared.report.SenderReport.{SenderReport}
 use Rattle.mb_reckon.specs.Apart.{AreApart, IsDone, end_of, ended_of, sent_of}
+use Rattle.mb_reckon.specs.Homes.{AreHomes, CameHome, Place}
 use Rattle.mb_reckon.specs.Outside.{AreOutsiders, HasKnownSenders}
 use Rattle.mb_reckon.specs.Seen.{GoesOnFrom, GoesOnFromAll}
 use Rattle.mb_reckon.specs.Shown.{ShowsAll, ShowsCell}
@@ -28,10 +29,10 @@ use Rattle.mb_reckon.specs.declared.outsider.Outsider.{Outsider}
 use Rattle.mb_reckon.specs.declared.room.Ended.{Ended}
 use Rattle.mb_reckon.proofs.Columns.{different}
 use Rattle.mb_reckon.proofs.Gathering.{Gathered, gathered, numbers-rise}
-use Rattle.mb_reckon.proofs.Lists.{alike, at-place, each-place, from-mapped, length-mapped, same-maps, there, within}
+use Rattle.mb_reckon.proofs.Lists.{alike, at-place, each-place, from-mapped, length-mapped, mapped-to, same-maps, there, within}
 use Rattle.mb_reckon.proofs.Parties.{Party}
-use Rattle.mb_reckon.proofs.Standing.{AreHomes, Place, Stands, many-left, own_word, shut, stands}
-use Rattle.mb_reckon.proofs.WholeLaw.{whole}
+use Rattle.mb_reckon.proofs.Standing.{Stands, many-left, own_word, shut, stands}
+use Rattle.mb_reckon.proofs.WholeLaw.{counts-given, whole}
 
 module _ {A K : Type 0} (gives : ℕ → Moment → Reply → Type 0) (first : Contents) (n : ℕ) (v : View) (all : List (Option Place))
     (left : AreHomes gives first n v all) (ended : List (Ended A K)) (takes : List Taking) (rows : List (List Sending))
@@ -154,3 +155,24 @@ module _ {A K : Type 0} (gives : ℕ → Moment → Reply → Type 0) (first : C
 
       pub report-seen : GoesOnFromAll report v
       report-seen = all-go-on v.log (λ i l found. (stands-at i l found).kept)
+
+      -- each home came, and all that its list gave is counted
+      pub report-home : CameHome gives first n v report
+      report-home = record {
+        all = all;
+        left = left;
+        came = λ id lt whole.
+            let l = there lefts id (let m = many-lefts in omega (arith, lt, m)) in
+            left.back whole id l.0 lt (mapped-to (λ (x : Place). Some x) lefts all id l.0 (sym apart.are) l.1);
+        given = λ id l a is found.
+            let x = from-mapped (λ (x : Place). Some x) lefts id (Some l) (ap (λ y. slice_get y id) (sym apart.are) ∙ is) in
+            let here : slice_get lefts id ≡ Some l = x.1 ∙ x.2 in
+            let b = within lefts id l here in let m = many-lefts in
+            let q = taken.many in let t = ap length apart.takes_are in let k = length-mapped (λ (l : Place). l.home.value.take) lefts in
+            let es = there envelopes id (omega (arith, b, q, t, k)) in
+            let done = done-at id l here in (
+              done.1,
+              counts-given after gives first v.log id l (stands-at id l here) done es.0 a (shown id l es.0 a here es.1 found).0 l.given
+                  (left.each id (Some l) (omega (arith, b, m)) is).5,
+            );
+      }

@@ -15,13 +15,14 @@ use Rattle.mb_home.specs.AtHome.{closed_receivers}
 use Rattle.mb_home.specs.Contents.{Contents}
 use Rattle.mb_home.specs.Roll.{Enrolled}
 use Rattle.mb_send.specs.Vouched.{has_seen_closed}
+use Rattle.mb_reckon.specs.Homes.{Place}
 use Rattle.mb_reckon.specs.Outside.{AreOutsiders, IsOutsider}
 use Rattle.mb_reckon.specs.Whole.{sender_number}
 use Rattle.mb_reckon.specs.declared.outsider.Outsider.{Outsider}
 use Rattle.mb_reckon.proofs.Lists.{at-place, choose, in-either, in-first, in-second, length-mapped, mapped, from-mapped, same-maps, there, within}
 use Rattle.mb_reckon.proofs.Outsiders.{outside-party, seen-shut}
 use Rattle.mb_reckon.proofs.Parties.{IsParty, Party, home-party, party_of}
-use Rattle.mb_reckon.proofs.Standing.{Place, Stands, closed-by-word}
+use Rattle.mb_reckon.proofs.Standing.{Stands, closed-by-word}
 
 -- ---- the numbers of senders
 

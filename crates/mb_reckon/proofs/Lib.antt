@@ -10,3 +10,4 @@ pub mod EndLaw
 pub mod Steps
 pub mod Answered
 pub mod Rests
+pub mod Mismatches

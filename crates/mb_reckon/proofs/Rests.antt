@@ -1,15 +1,18 @@
 -- What is left, taken out of all queues.
-use Rattle.std.proofs.Common.{◌≡◌, ℕ, zero, suc, ◌+◌, ◌-◌, ◌<◌, false, List, [], ◌∷◌, ◌++◌, length, map, take, drop, refl, sym, ap, ◌∙◌, subst}
+use Rattle.std.proofs.Common.{◌≡◌, ◌≢◌, inl, inr, ℕ, zero, suc, ◌+◌, ◌-◌, ◌<◌, false, List, [], ◌∷◌, ◌++◌, length, map, take, drop, refl, sym, ap, ◌∙◌, subst}
 use Rattle.std.proofs.Common.{arith, append-nil, Option, Some, None}
-use Rattle.std.specs.Prelude.{All, is_some, option_to_list, remove, slice_get, slice_index_or}
+use Rattle.std.specs.Global.{Global}
+use Rattle.std.specs.Prelude.{All, Vec, is_some, option_to_list, remove, slice_get, slice_index_or, true}
 use Rattle.std.proofs.lemmas.List.{drop_all, take_all}
-use Rattle.std.proofs.lemmas.List.Elements.{All-head}
-use Rattle.std.proofs.lemmas.Option.{same_Some}
+use Rattle.std.proofs.lemmas.List.Elements.{All-head, All-nil}
+use Rattle.std.proofs.lemmas.Option.{none-some, same_Some}
 use borrow.Rule.Slice.PartMut.{post_of}
 use Rattle.mb_msg.specs.declared.envelope.Envelope.{Envelope}
 use Rattle.mb_queue.specs.Passes.{IsOfQueue, Queue, Sending, Taking}
 use Rattle.mb_finish.specs.Came.{Came}
 use Rattle.mb_finish.specs.Joined.{column}
+use Rattle.mb_finish.specs.Rest.{IsOverfull}
+use Rattle.mb_reckon.specs.Mismatched.{IsTooMuchFor}
 use Rattle.mb_reckon.specs.Taken.{AreTaken}
 
 pub none-listed : {A : Type 0} (o : Option A) → is_some o ≡ false → option_to_list o ≡ []
@@ -72,3 +75,39 @@ are-taken takes ts guardian last rows lefts lents es takes_are queue taken own l
         subst (λ (x : Taking × List Envelope). All (IsOfQueue x.0.queue) (x.0.taken ++ x.1))
         (λ i. (same_Some guardian take is i, same_Some es left found i)) first
     known-at (suc place) take left is found = known place take left is found
+
+-- ---- what is too much
+
+some-listed : {A : Type 0} (o : Option A) → is_some o ≡ true → option_to_list o ≢ []
+some-listed None is = absurd (cc is)
+some-listed (Some x) is = λ none. absurd (cc none)
+
+-- the guardian was left one
+pub guardian-given : (takes ts : List Taking) (guardian last : Taking) (rows : List (List Sending)) (rooms : List (Vec Envelope Global))
+    (given : Option Envelope) → takes ≡ guardian ∷ ts → last.queue ≡ guardian.queue → last.taken ≡ guardian.taken ++ option_to_list given
+    → All (IsOfQueue last.queue) last.taken → is_some given ≡ true → IsTooMuchFor takes rows rooms 0
+guardian-given takes ts guardian last rows rooms given takes_are queue taken own some = record {
+  take = guardian;
+  left = option_to_list given;
+  there = ap (λ l. slice_get l 0) takes_are;
+  was = record {
+    known = subst (λ (x : Queue × List Envelope). All (IsOfQueue x.0) x.1) (λ i. (queue i, taken i)) own;
+    came = All-nil (Came guardian.turns (guardian.taken ++ option_to_list given));
+  };
+  over = inl (refl, some-listed given some);
+}
+
+-- more was left for another than its room holds
+pub rest-over : (takes ts : List Taking) (guardian : Taking) (rows : List (List Sending)) (rooms lent_out : List (Vec Envelope Global)) (place : ℕ)
+    → takes ≡ guardian ∷ ts → lent_out ≡ drop 1 rooms → IsOverfull ts rows lent_out place → IsTooMuchFor takes rows rooms (suc place)
+rest-over takes ts guardian rows rooms lent_out place takes_are lent_are over = record {
+  take = over.take;
+  left = over.left;
+  there = ap (λ l. slice_get l (suc place)) takes_are ∙ over.there;
+  was = over.was;
+  over = inr (over.room, dropped rooms place over.room (ap (λ l. slice_get l place) (sym lent_are) ∙ over.lies), over.over);
+}
+  where
+    dropped : (rs : List (Vec Envelope Global)) (i : ℕ) (r : Vec Envelope Global) → slice_get (drop 1 rs) i ≡ Some r → slice_get rs (suc i) ≡ Some r
+    dropped [] i r is = absurd (none-some r is)
+    dropped (x ∷ rs) i r is = is

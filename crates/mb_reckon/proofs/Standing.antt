@@ -13,19 +13,15 @@ use Rattle.mb_journal.specs.Suspension.{count}
 use Rattle.mb_rule.specs.Layout.{Spot, spot_of}
 use Rattle.mb_rule.specs.Seen.{Each}
 use Rattle.mb_rule.proofs.SeenLemmas.{each_weaker}
-use Rattle.mb_gate.specs.declared.left.Left.{Left}
 use Rattle.mb_gate.specs.declared.slot.Slot.{Slot}
-use Rattle.mb_gate.specs.Leaves.{AreLeft, IsKept}
+use Rattle.mb_gate.specs.Leaves.{IsKept}
 use Rattle.mb_gate.specs.Rule.{Ghost, IsAmong, IsSo, Shelf, Word, is_some_item, slot_offset, word_offset}
 use Rattle.mb_gate.specs.View.{View, Sight, Read, Saw, Counted, Looked, Sent, Unsent, Took, Pushed, Drained, Ended}
 use Rattle.mb_home.specs.AtHome.{IsHomeOf, closed_receivers, given_of, mailbox_at}
 use Rattle.mb_home.specs.Contents.{Contents}
-use Rattle.mb_home.specs.Steps.{IsRested}
+use Rattle.mb_reckon.specs.Homes.{AreHomes, Place}
 use Rattle.mb_reckon.specs.Whole.{IsPutAmong}
 use Rattle.mb_reckon.proofs.Lists.{length-mapped, mapped-to, within}
-
-abbrev pub Place : Type 0
-Place = Left (Box Contents)
 
 -- the word of a journal's mailbox
 abbrev pub own_word : Contents → ℕ
@@ -65,14 +61,7 @@ module _ (gives : ℕ → Moment → Reply → Type 0) (first : Contents) where
     pub known : Each (IsPutAmong actor pushed) log
     pub given : given_of h ≡ length pushed % 2 ^ 64
 
-  -- what the gates left
-  abbrev pub AreHomes : ℕ → View → List (Option Place) → Type 0
-  AreHomes =
-      AreLeft {H = Box Contents} (λ actor home. IsHomeOf (gives actor) first actor home.value) (λ home. home.value.cell.journal)
-      (λ home. mailbox_at home.value.cell.who home.value.cell.journal) (λ home. IsRested home.value) (λ home. given_of home.value)
-      (λ home. closed_receivers home.value.dead)
-
-  module _ (actors : ℕ) (v : View) (all : List (Option Place)) (lefts : List Place) (left : AreHomes actors v all)
+  module _ (actors : ℕ) (v : View) (all : List (Option Place)) (lefts : List Place) (left : AreHomes gives first actors v all)
       (are : all ≡ map (λ (l : Place). Some l) lefts) where
     at : (actor : ℕ) (l : Place) → slice_get lefts actor ≡ Some l → slice_get all actor ≡ Some (Some l)
     at actor l there = mapped-to (λ (x : Place). Some x) lefts all actor l (sym are) there

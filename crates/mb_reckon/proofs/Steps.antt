@@ -13,14 +13,14 @@ use Rattle.mb_actor.specs.declared.message.Message.{Message}
 use Rattle.mb_cell.specs.Seen.{Seen}
 use Rattle.mb_queue.specs.Passes.{Sending, Taking}
 use Rattle.mb_gate.specs.declared.left.Left.{Left}
-use Rattle.mb_gate.specs.Rule.{IsPart}
-use Rattle.mb_gate.specs.View.{View, Counted, counting, owes, owing, seeing}
+use Rattle.mb_gate.specs.Rule.{IsAmong, IsPart}
+use Rattle.mb_gate.specs.View.{Sight, View, Counted, counting, owes, owing, seeing}
 use Rattle.mb_home.specs.Contents.{Contents}
 use Rattle.mb_home.specs.declared.home.Parts.{Parts}
 use Rattle.mb_report.specs.declared.report.ActorReport.{ActorReport}
 use Rattle.mb_report.specs.declared.report.SenderReport.{SenderReport}
 use Rattle.mb_reckon.specs.Apart.{AreApart, IsDone, IsOpened, end_of, ended_of, sent_in, sent_of}
-use Rattle.mb_reckon.specs.Rooms.{IsEnough}
+use Rattle.mb_reckon.specs.Rooms.{AreCounted, IsEnough}
 use Rattle.mb_reckon.specs.Settled.{AreSettledBy, IsSettledBy, one_more}
 use Rattle.mb_reckon.specs.Shown.{ShowsCell, ShowsOne}
 use Rattle.mb_journal.specs.Life.{phase}
@@ -129,6 +129,28 @@ counting-log id waiting v = by_test (waiting == 0)
     by_test true = refl
     by_test false = refl
 
+-- what holds of each place of a list holds with one more
+pub each-more : {X : Type 0} (P : ℕ → X → Type 0) (xs : List X) (x : X) → ((i : ℕ) (y : X) → slice_get xs i ≡ Some y → P i y) → P (length xs) x
+    → (i : ℕ) (y : X) → slice_get (xs ++ x ∷ []) i ≡ Some y → P i y
+each-more P [] x all last zero y e = subst (P zero) (same_Some x y e) last
+each-more P [] x all last (suc i) y e = absurd (none-some y e)
+each-more P (z ∷ xs) x all last zero y e = all zero y e
+each-more P (z ∷ xs) x all last (suc i) y e = each-more (λ n. P (suc n)) xs x (λ n w q. all (suc n) w q) last i y e
+
+-- no count was read; and one more
+pub none-counted : (log : List Sight) (counts : List ℕ) → counts ≡ [] → AreCounted log counts
+none-counted log counts none = λ id n is. absurd (none-some n (sym (ap (λ l. slice_get l id) none) ∙ is))
+
+among-more : {X : Type 0} (x y : X) (log : List X) → IsAmong x log → IsAmong x (y ∷ log)
+among-more x y log is = record { before = y ∷ is.before; after = is.after; joined = ap (λ l. y ∷ l) is.joined }
+
+pub one-counted : (old new : List Sight) (counts counts' : List ℕ) (id n : ℕ) → new ≡ Counted id n ∷ old → counts' ≡ counts ++ n ∷ []
+    → length counts ≡ id → AreCounted old counts → AreCounted new counts'
+one-counted old new counts counts' id n grown longer many each = λ i m is.
+    subst (IsAmong (Counted i m)) (sym grown)
+    (each-more (λ i m. IsAmong (Counted i m) (Counted id n ∷ old)) counts n (λ i m is. among-more (Counted i m) (Counted id n) old (each i m is))
+    (record { before = []; after = old; joined = ap (λ k. Counted k n ∷ old) (sym many) }) i m (sym (ap (λ l. slice_get l i) longer) ∙ is))
+
 -- ---- the room
 
 module _ {X Y : Type 0} (R : X → Y → Type 0) where
@@ -172,14 +194,6 @@ module _ {X : Type 0} where
   drop-rest [] (suc k) x rest is = absurd (cc is)
   drop-rest (y ∷ xs) zero x rest is = cc is
   drop-rest (y ∷ xs) (suc k) x rest is = drop-rest xs k x rest is
-
--- what holds of each place of a list holds with one more
-pub each-more : {X : Type 0} (P : ℕ → X → Type 0) (xs : List X) (x : X) → ((i : ℕ) (y : X) → slice_get xs i ≡ Some y → P i y) → P (length xs) x
-    → (i : ℕ) (y : X) → slice_get (xs ++ x ∷ []) i ≡ Some y → P i y
-each-more P [] x all last zero y e = subst (P zero) (same_Some x y e) last
-each-more P [] x all last (suc i) y e = absurd (none-some y e)
-each-more P (z ∷ xs) x all last zero y e = all zero y e
-each-more P (z ∷ xs) x all last (suc i) y e = each-more (λ n. P (suc n)) xs x (λ n w q. all (suc n) w q) last i y e
 
 -- one more was added
 pub added : {R O I : Type 0} (f : R → I) (h : O → I) (old new : List R) (r : R) (done : List O) (o : O) (before : List I) → new ≡ old ++ r ∷ []

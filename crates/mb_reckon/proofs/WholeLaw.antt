@@ -30,6 +30,7 @@ use Rattle.mb_finish.specs.Parts.{ArePartsInOrder}
 use Rattle.mb_finish.proofs.SettleLemmas.{in_order, often, once, parts_in_order}
 use Rattle.mb_gate.specs.View.{Sight}
 use Rattle.mb_rule.specs.Seen.{Each}
+use Rattle.mb_home.specs.AtHome.{given_of}
 use Rattle.mb_home.specs.Contents.{Contents}
 use Rattle.mb_home.specs.Numbers.{applied_numbers, numbers_in, times}
 use Rattle.mb_home.specs.Roll.{Enrolled, queues_of}
@@ -40,6 +41,7 @@ use Rattle.mb_report.specs.declared.report.ActorReport.{ActorReport}
 use Rattle.mb_report.specs.declared.report.Report.{Report}
 use Rattle.mb_report.specs.declared.report.SenderReport.{SenderReport}
 use Rattle.mb_reckon.specs.Apart.{IsDone, end_of, sent_of}
+use Rattle.mb_reckon.specs.Homes.{CountsGiven, Place}
 use Rattle.mb_reckon.specs.Outside.{HasKnownSenders, IsSenderAmong}
 use Rattle.mb_reckon.specs.Shown.{ShowsCell}
 use Rattle.mb_reckon.specs.Taken.{AreTaken}
@@ -49,7 +51,7 @@ use Rattle.mb_reckon.proofs.Columns.{in-column}
 use Rattle.mb_reckon.proofs.Gathering.{Gathered, IsShut}
 use Rattle.mb_reckon.proofs.Lists.{alike, at-place, from-mapped, length-mapped, mapped, there, within}
 use Rattle.mb_reckon.proofs.Parties.{HasReason, IsParty, Party}
-use Rattle.mb_reckon.proofs.Standing.{Place, Stands}
+use Rattle.mb_reckon.proofs.Standing.{Stands}
 
 ended-phase : (p : Phase) → phase_is p EndedPhase ≡ true → p ≡ EndedPhase
 ended-phase EndedPhase t = refl
@@ -110,6 +112,13 @@ module _ (after : ℕ → List Message → ℤ) (gives : ℕ → Moment → Repl
       dead = shows.dead_is ∙ ap (λ n. (n + h.dropped) % 2 ^ 64) aside-is
           ∙ ap (λ (j : List Entry). ((if closed who j then length (ever_aside j) else 0) + h.dropped) % 2 ^ 64) back;
     }
+
+    pub counts-given : (given : ℕ) → given_of h ≡ given → CountsGiven who given a
+    counts-given given is =
+        subst (λ (j : List Entry). (given + (if closed who j then length (ever_aside j) else 0)) % 2 ^ 64 ≡ (next_number j + a.dead_system) % 2 ^ 64)
+        back
+        (let dead : a.dead_system ≡ (h.aside_dead + h.dropped) % 2 ^ 64 = shows.dead_is in let none = ap length done.0.no_rest in
+        let at_end = aside-is in omega (arith, is, dead, none, at_end))
 
     pub fates-are : fates_in a ≡ h.take.taken ++ left
     fates-are =

@@ -7,3 +7,4 @@ pub mod Taken
 pub mod Shown
 pub mod Rooms
 pub mod Mismatched
+pub mod Homes

@@ -1,13 +1,23 @@
 -- The room that the end of a system takes.
-use Rattle.std.specs.Prelude.{◌≡◌, ℕ, ◌+◌, ◌≤◌, [], Vec, length, vec_capacity}
+use Rattle.std.specs.Prelude.{◌≡◌, ℕ, ◌+◌, ◌≤◌, List, [], Some, Vec, length, slice_get, vec_capacity}
 use Rattle.std.specs.List.{AllZip}
 use Rattle.std.specs.Global.{Global}
 use Rattle.mb_msg.specs.declared.envelope.Envelope.{Envelope}
+use Rattle.mb_gate.specs.Rule.{IsAmong}
+use Rattle.mb_gate.specs.View.{Sight, Counted}
 use Rattle.mb_reckon.specs.declared.room.Room.{Room}
 
 -- it is unused, and there is room for so many
 abbrev pub IsEnough : ℕ → Vec Envelope Global → Type 0
 IsEnough waiting room = (room.items ≡ []) × (waiting ≤ vec_capacity room)
+
+-- how many envelopes of each actor are counted as waiting
+abbrev pub counted_in : {A K : Type 0} → Room A K → List ℕ
+counted_in room = room.waiting.items
+
+-- each of these counts was read of its actor
+abbrev pub AreCounted : List Sight → List ℕ → Type 0
+AreCounted log waiting = (id n : ℕ) → slice_get waiting id ≡ Some n → IsAmong (Counted id n) log
 
 -- There is room for what is left of so many actors and of so many senders outside, and for as many envelopes of each actor as are counted.
 pub record IsRoom {A K : Type 0} (actors outside : ℕ) (room : Room A K) : Type 0 where

@@ -1,7 +1,7 @@
 //! The homes are taken apart.
-ghost use Rattle.std.specs.Prelude.{◌≡◌, ◌+◌, ◌<◌, ◌≤◌, ◌^◌, [], ◌++◌, All, IfErr, IfOk, OnOk, length, map, vec_capacity};
+ghost use Rattle.std.specs.Prelude.{◌≡◌, ◌+◌, ◌<◌, ◌≤◌, ◌^◌, [], ◌++◌, All, IfErr, MatchResult, OnOk, length, map, vec_capacity};
 ghost use Rattle.mb_reckon.specs.Apart.{AreApart, IsOpened, sent_of};
-ghost use Rattle.mb_reckon.specs.Mismatched.{of_whom};
+ghost use Rattle.mb_reckon.specs.Mismatched.{DidNotCome, IsUnopened};
 
 use crate::mismatch::Mismatch;
 use crate::outsider::Outsider;
@@ -27,7 +27,7 @@ pub(crate) fn take_apart<A: Actor, K: Behaviours>(
     requires room { (length all.items ≤ vec_capacity ended.old) × (length all.items ≤ vec_capacity takes.old)
         × (length all.items ≤ vec_capacity rows.old) × (length all.items ≤ vec_capacity senders.old) × (length all.items ≤ 64) }
     ensures apart { OnOk result (AreApart all.items ended.new.items takes.new.items (map (λ r. r.items) rows.new.items) senders.new.items) }
-    ensures whom { IfErr result (λ mismatch. of_whom mismatch < length all.items) }
+    ensures whom { IfErr result (DidNotCome all.items) }
     ensures room { (vec_capacity rows.new ≡ vec_capacity rows.old) × (vec_capacity senders.new ≡ vec_capacity senders.old) }
 {
     for left in all {
@@ -58,8 +58,7 @@ fn opened<A: Actor, K: Behaviours>(
     left: Option<Left<Place<A, K>>>,
     id: ActorId,
 ) -> Result<Parts<A, K>, Mismatch>
-    ensures opened { IfOk result (IsOpened left) }
-    ensures whom { IfErr result (λ mismatch. of_whom mismatch ≡ id.0) }
+    ensures opened { MatchResult result (IsOpened left) (IsUnopened left id.0) }
 {
     let Some(
         Left {

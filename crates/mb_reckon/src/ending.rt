@@ -1,9 +1,10 @@
 //! What became of all.
 ghost use Rattle.std.specs.Prelude.{◌≡◌, ◌<◌, ◌≤◌, IfErr, IfOk, length, map};
 ghost use Rattle.mb_gate.specs.Names.{actors_of, first_of, gates_id, known_by, pass_id};
+ghost use Rattle.mb_reckon.specs.Homes.{CameHome, Disagrees};
 ghost use Rattle.mb_reckon.specs.Mismatched.{of_whom};
 ghost use Rattle.mb_reckon.specs.Outside.{AreOutsiders, HasKnownSenders};
-ghost use Rattle.mb_reckon.specs.Rooms.{IsRoom};
+ghost use Rattle.mb_reckon.specs.Rooms.{IsRoom, counted_in};
 ghost use Rattle.mb_reckon.specs.Seen.{GoesOnFromAll};
 ghost use Rattle.mb_reckon.specs.Whole.{IsWhole};
 
@@ -39,7 +40,10 @@ pub fn reckon<A: Actor, K: Behaviours, R: Wait>(
     ensures whole { IfOk result (λ report.
         IsWhole K.after K.gives (first_of gates).value.roll (known_by pass).log (map (λ o. o.book.posted) outside.items) report) }
     ensures seen { IfOk result (λ report. GoesOnFromAll report (known_by pass)) }
+    ensures home { IfOk result (CameHome K.gives (first_of gates).value (actors_of gates) (known_by pass)) }
     ensures whom { IfErr result (λ mismatch. of_whom mismatch < actors_of gates) }
+    ensures why { IfErr result (Disagrees K.gives (first_of gates).value (actors_of gates) (known_by pass) (map (λ o. o.sends.items) outside.items)
+        (counted_in room)) }
 {
     let Room {
         waiting,

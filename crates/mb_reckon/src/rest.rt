@@ -1,7 +1,7 @@
 //! What is left for the actors.
 ghost use Rattle.std.specs.Prelude.{◌≡◌, ◌<◌, ◌≤◌, ℕ, [], All, IfErr, OnOk, drop, length, map};
 ghost use Rattle.mb_finish.specs.Joined.{AreOfDifferent, column, queues_of, ways_of};
-ghost use Rattle.mb_reckon.specs.Mismatched.{of_whom};
+ghost use Rattle.mb_reckon.specs.Mismatched.{IsTooMuch};
 ghost use Rattle.mb_reckon.specs.Taken.{AreTaken};
 
 use crate::mismatch::Mismatch;
@@ -26,7 +26,7 @@ pub(crate) fn take_rests<R: Wait>(
     requires many { length lefts.old.items ≡ length takes.items }
     requires empty { All (λ room. room.items ≡ []) lefts.old.items }
     ensures taken { OnOk result (AreTaken takes.items (map (λ row. row.items) rows.items) (map (λ room. room.items) lefts.new.items)) }
-    ensures whom { IfErr result (λ mismatch. of_whom mismatch < length takes.items) }
+    ensures over { IfErr result (IsTooMuch takes.items (map (λ row. row.items) rows.items) lefts.old.items) }
 {
     let mut takes = takes;
     let mut guardian = takes.remove(0);

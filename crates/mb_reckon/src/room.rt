@@ -3,7 +3,7 @@ ghost use Rattle.std.specs.Prelude.{◌≡◌, ◌≤◌, IfOk, length};
 ghost use Rattle.std.specs.List.{AllZip};
 ghost use Rattle.mb_gate.specs.Names.{actors_of, gates_id, known_by, pass_id};
 ghost use Rattle.mb_gate.specs.Rule.{IsPart};
-ghost use Rattle.mb_reckon.specs.Rooms.{IsEnough, IsRoom};
+ghost use Rattle.mb_reckon.specs.Rooms.{AreCounted, IsEnough, IsRoom, counted_in};
 
 use crate::place::Place;
 use mb_actor::{Actor, Behaviours};
@@ -47,6 +47,7 @@ pub fn make_room<A: Actor, K: Behaviours>(
     ensures ours { pass_id pass.new ≡ pass_id pass.old }
     ensures known { IsPart (known_by pass.old).log (known_by pass.new).log }
     ensures room { IfOk result (IsRoom (actors_of gates.now) outside) }
+    ensures waiting { IfOk result (λ room. AreCounted (known_by pass.new).log (counted_in room)) }
 {
     let actors = gates.actors();
     let senders = actors + outside;
@@ -75,6 +76,7 @@ fn make_lefts<H: Resident>(
     ensures known { IsPart (known_by pass.old).log (known_by pass.new).log }
     ensures counted { IfOk result (λ made. length made.0.items ≡ actors_of gates.now) }
     ensures room { IfOk result (λ made. AllZip IsEnough made.0.items made.1.items) }
+    ensures waiting { IfOk result (λ made. AreCounted (known_by pass.new).log made.0.items) }
 {
     let actors = gates.actors();
     let mut counts = Vec::with_capacity(alloc, actors)?;

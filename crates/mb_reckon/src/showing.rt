@@ -1,10 +1,7 @@
 //! What is reported of the actors.
-ghost use Rattle.std.specs.Prelude.{◌≡◌, ◌≢◌, ◌<◌, ◌≤◌, ◌⊎◌, [], true, false, IfErr, IfOk, length, map, vec_capacity};
-ghost use Rattle.mb_actor.specs.declared.phase.Phase.TheVariants.{Ended as EndedPhase};
-ghost use Rattle.mb_journal.specs.Life.{phase};
-ghost use Rattle.mb_journal.specs.Suspension.{count};
+ghost use Rattle.std.specs.Prelude.{◌≡◌, ◌≢◌, ◌≤◌, ◌⊎◌, [], IfErr, IfOk, MatchBool, length, map, vec_capacity};
 ghost use Rattle.mb_reckon.specs.Apart.{ended_of};
-ghost use Rattle.mb_reckon.specs.Mismatched.{of_whom};
+ghost use Rattle.mb_reckon.specs.Mismatched.{CanHandle, CannotHandle, IsOtherwise};
 ghost use Rattle.mb_reckon.specs.Shown.{ShowsAll, ShowsCell};
 
 use crate::mismatch::Mismatch;
@@ -29,7 +26,7 @@ pub(crate) fn report_on<A: Actor, K: Behaviours>(
     requires senders { length senders.items ≤ 80 }
     ensures shows { IfOk result (λ report. ShowsAll K.after ended.items (map (λ l. l.items) lefts.items) waiting.now report.actors.items
         × (report.senders ≡ senders)) }
-    ensures whom { IfErr result (λ mismatch. of_whom mismatch < length ended.items) }
+    ensures differs { IfErr result (IsOtherwise ended.items (map (λ l. l.items) lefts.items) waiting.now) }
 {
     let mut actors = room;
     let mut lefts = lefts.into_iter();
@@ -48,8 +45,8 @@ pub(crate) fn report_on<A: Actor, K: Behaviours>(
 
 // Whether as many envelopes are left as were counted, and none that the actor could handle.
 fn agrees<A: Actor, K: Behaviours>(cell: &Cell<A, K>, left: &[Envelope], waiting: u64) -> bool
-    ensures { result ≡ true → (length left.now ≡ waiting) × (left.now ≢ []
-        → (phase cell.now.who cell.now.journal ≡ EndedPhase) ⊎ (0 < count cell.now.who cell.now.journal)) }
+    ensures { MatchBool result ((length left.now ≡ waiting) × (left.now ≢ [] → CannotHandle cell.now))
+        ((length left.now ≢ waiting) ⊎ ((left.now ≢ []) × CanHandle cell.now)) }
 {
     if left.len() as u64 != waiting {
         return false;
@@ -59,7 +56,7 @@ fn agrees<A: Actor, K: Behaviours>(cell: &Cell<A, K>, left: &[Envelope], waiting
 
 // Whether the actor could handle an envelope: it has not ended, and is not suspended.
 fn may_handle<A: Actor, K: Behaviours>(cell: &Cell<A, K>) -> bool
-    ensures { result ≡ false → (phase cell.now.who cell.now.journal ≡ EndedPhase) ⊎ (0 < count cell.now.who cell.now.journal) }
+    ensures { MatchBool result (CanHandle cell.now) (CannotHandle cell.now) }
 {
     let ended = match cell.phase() {
         Phase::Ended => true,

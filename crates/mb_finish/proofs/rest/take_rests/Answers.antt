@@ -1,9 +1,10 @@
 use Rattle.std.proofs.Common.{rules, ◌≡◌, ◌<◌, ◌++◌, ◌∷◌, [], ℕ, suc, length}
 use Rattle.std.proofs.Common.{map, take, drop, set, sym, ap, ◌∙◌, subst, append_assoc, arith}
-use Rattle.std.specs.Prelude.{All, vec_capacity, vec_len}
+use Rattle.std.specs.Prelude.{All, get_or, slice_get}
 use Rattle.std.proofs.lemmas.List.{length-append, length-set}
+use Rattle.std.proofs.lemmas.Option.{slice_get-get_or}
 use Rattle.mb_finish.specs.Rest.{AreRests}
-use Rattle.mb_finish.proofs.RestLemmas.{all-fewer, place-there, rests-more, same-set, take-set}
+use Rattle.mb_finish.proofs.RestLemmas.{all-fewer, in-place, place-there, rests-more, same-last, take-fewer, take-set}
 use Rattle.mb_finish.proofs.rest.take_rests.Goals as goal
 
 pub loop-take-preserved : goal.loop-take-preserved
@@ -27,13 +28,26 @@ loop-take-preserved g c =
             (rests-more (λ r. r.items) at.rooms n room one done lt rest
             (subst (λ m. AreRests done (map (λ r. r.items) (drop m at.rooms))) longer at.invariant.2.2)),
       ),
+      ap (λ m. take n (set at.rooms m room)) place ∙ take-set at.rooms n room
+          ∙ take-fewer at.rooms c.args.rooms.now n (subst (λ m. take m at.rooms ≡ take m c.args.rooms.now) longer at.invariant.3),
     )
 
-pub returns-then-not-take_rest-clause-full : goal.returns-then-not-take_rest-clause-full
-returns-then-not-take_rest-clause-full g c =
-    let at = c.loop-take in let items = c.pop.new.self.items in
-    let place : c.len-place.result ≡ length items = search rules in
-    same-set (λ r. vec_len r) (λ r. vec_capacity r) at.rooms c.len-place.result c.take_rest.new.room (c.take_rest.ensures.full (search rules))
-    (subst (λ n. n < length at.rooms) (sym place)
-    (place-there at.rooms c.args.takes.items at.takes.items items at.invariant.2.0 c.in-Some.take at.invariant.0 at.invariant.2.1
-    c.in-Some.ensures.items))
+pub returns-then-not-take_rest-clause-over : goal.returns-then-not-take_rest-clause-over
+returns-then-not-take_rest-clause-over g c =
+    let at = c.loop-take in let items = c.pop.new.self.items in let n : ℕ = length items in let one = c.in-Some.take in
+    let place : c.len-place.result ≡ n = search rules in let done = at.invariant.2.0 in let rooms = c.args.rooms.now in
+    let longer : length at.takes.items ≡ suc n = ap length c.in-Some.ensures.items ∙ length-append items (one ∷ []) ∙ (omega arith) in
+    let all : c.args.takes.items ≡ items ++ one ∷ done
+    = at.invariant.2.1 ∙ ap (λ l. l ++ done) c.in-Some.ensures.items ∙ append_assoc items (one ∷ []) done in
+    let lt : n < length at.rooms =
+    place-there at.rooms c.args.takes.items at.takes.items items done one at.invariant.0 at.invariant.2.1 c.in-Some.ensures.items in
+    let same = same-last at.rooms rooms n (subst (λ m. take m at.rooms ≡ take m rooms) longer at.invariant.3) in
+    let old = get_or at.rooms c.len-place.result c.index-rooms-place.result in
+    record {
+      take = one;
+      room = old;
+      there = ap (slice_get c.args.takes.items) place ∙ ap (λ l. slice_get l n) all ∙ in-place items one done;
+      lies = ap (slice_get rooms) place ∙ sym same ∙ ap (slice_get at.rooms) (sym place)
+          ∙ slice_get-get_or at.rooms c.len-place.result c.index-rooms-place.result (subst (λ m. m < length at.rooms) (sym place) lt);
+      more = c.take_rest.ensures.over (search rules);
+    }

@@ -11,6 +11,7 @@ invariant-loop-take g l =
     × All (λ room. room.items ≡ []) (take (length l.takes.items) l.rooms)
     × ((done : List Taking) × (l.initial.takes.items ≡ l.takes.items ++ done)
     × AreRests done (map (λ room. room.items) (drop (length l.takes.items) l.rooms)))
+    × (take (length l.takes.items) l.rooms ≡ take (length l.takes.items) l.initial.rooms)
 
 abbrev pub decreases-loop-take : goal.decreases-loop-take
 decreases-loop-take g l = vec_len l.takes

@@ -1,5 +1,6 @@
 use Rattle.std.proofs.Common.{rules, map}
-use Rattle.mb_finish.proofs.SettleLemmas.{came-at, known-at, ok-then, rests-refilled}
+use Rattle.mb_finish.proofs.SettleLemmas.{came-at, err-each, known-at, ok-then, overfull, over-refilled, rests-refilled}
+use Rattle.mb_finish.specs.Rest.{IsOver, IsOverfull}
 use Rattle.mb_finish.proofs.settling.settle.Goals as goal
 
 pub returns-clause-came : goal.returns-clause-came
@@ -19,3 +20,12 @@ returns-clause-known g c =
     known-at v.items rows lefts place take left
     (rests-refilled rows lefts v.items c.deref_mut.result.now c.join_all.new.takes v.len (search rules) c.join_all.ensures (search rules) rests)
     there found) c.take_rests.ensures.rests
+
+pub returns-clause-over : goal.returns-clause-over
+returns-clause-over g c =
+    let rows = map (λ row. row.items) c.args.senders.items in let v = c.args.takes in let rooms = c.args.rooms.now in
+    err-each c.take_rests.result (λ many. IsOver many.0 _ rooms) (λ many. IsOverfull v.items rows rooms many.0)
+    (λ many over.
+    overfull v.items rows rooms many.0 (c.requires.different many.0)
+    (over-refilled rows rooms v.items c.deref_mut.result.now c.join_all.new.takes v.len many.0 (search rules) c.join_all.ensures (search rules)
+    over)) c.take_rests.ensures.over

@@ -1,7 +1,9 @@
-use Rattle.std.proofs.Common.{◌++◌, ◌∷◌, [], length, map, refl, sym, ap, ◌∙◌, append_assoc, length-append, arith}
+use Rattle.std.proofs.Common.{rules, ◌++◌, ◌∷◌, [], length, map, refl, sym, ap, subst, ◌∙◌, append_assoc, length-append, arith}
 use Rattle.std.specs.Vec.Iter.{into_iter_items}
 use Rattle.std.proofs.lemmas.List.{map-append}
+use Rattle.mb_reckon.specs.Mismatched.{IsUnopened}
 use Rattle.mb_reckon.proofs.Lists.{length-mapped}
+use Rattle.mb_reckon.proofs.Mismatches.{did-not-come, next-of}
 use Rattle.mb_reckon.proofs.Steps.{apart-more, apart-same, as-many}
 use Rattle.mb_reckon.proofs.apart.take_apart.Goals as goal
 
@@ -47,3 +49,12 @@ loop-left-preserved g c =
       c.push_reserved-in-loop-left.ensures.capacity ∙ at.invariant.4,
       c.push_reserved-in-loop-left-2.ensures.capacity ∙ at.invariant.5,
     )
+
+pub returns-in_err-cell-clause-whom : goal.returns-in_err-cell-clause-whom
+returns-in_err-cell-clause-whom g c =
+    let at = c.loop-left in let left = c.in-Some.left in let rest = into_iter_items c.next.new.self in
+    let many = as-many at.yielded at.ended.items at.takes.items (map (λ r. r.items) at.rows.items) at.senders.items at.invariant.0 in
+    let a = many.of_ended in
+    did-not-come c.args.all.items left (length at.yielded) _
+    (next-of at.yielded rest c.args.all.items left (ap (λ l. at.yielded ++ l) (sym c.in-Some.ensures.steps.0) ∙ at.invariant.1))
+    (subst (λ k. IsUnopened left k _) (search (rules, a)) c.in_err-cell.ensures.opened)

@@ -6,14 +6,16 @@ use Rattle.mb_msg.specs.declared.dead_letter.DeadLetter.{DeadLetter}
 use Rattle.mb_reckon.specs.declared.outsider.Outsider.{Outsider}
 use Rattle.mb_report.specs.declared.report.SenderReport.{SenderReport}
 use Rattle.mb_reckon.specs.Apart.{sent_of}
-use Rattle.mb_reckon.specs.Mismatched.{of_whom}
+use Rattle.mb_reckon.specs.Homes.{CameHome, Disagrees}
+use Rattle.mb_reckon.specs.Mismatched.{IsOtherwise, of_whom}
 use Rattle.mb_reckon.specs.Rooms.{IsEnough}
 use Rattle.mb_reckon.specs.Seen.{GoesOnFromAll}
 use Rattle.mb_reckon.specs.Shown.{ShowsAll}
 use Rattle.mb_reckon.specs.Whole.{IsWhole}
-use Rattle.mb_reckon.proofs.Answered.{ok-each}
-use Rattle.mb_reckon.proofs.EndLaw.{report-seen, report-whole, rows-different, rows-queues}
+use Rattle.mb_reckon.proofs.Answered.{err-each, ok-each}
+use Rattle.mb_reckon.proofs.EndLaw.{report-home, report-seen, report-whole, rows-different, rows-queues}
 use Rattle.mb_reckon.proofs.Lists.{length-mapped}
+use Rattle.mb_reckon.proofs.Mismatches.{why-not-come, why-otherwise, why-too-much}
 use Rattle.mb_reckon.proofs.Steps.{as-many, zip-empty, zip-many}
 use Rattle.mb_reckon.proofs.ending.reckon.Goals as goal
 
@@ -124,10 +126,88 @@ report_on-requires-clause-senders g c =
     ∙ length-append (map sent_of c.take_apart.new.senders.items) (map {A = Outsider} {B = ℕ × List DeadLetter} (λ o. (o.book.sent, o.book.dead.items)) c.args.outside.items) in
     let few = c.requires.few in let a = few.0 in let b = few.1 in omega (arith, senders, of, before, outs, all, n, a, b)
 
+pub returns-in_err-take_apart-clause-whom : goal.returns-in_err-take_apart-clause-whom
+returns-in_err-take_apart-clause-whom g c =
+    let first = (first_of c.args.gates).value in let n = actors_of c.args.gates in let v = known_by c.args.pass in
+    let all = c.finish-all.result.items in let outs = map (λ o. o.sends.items) c.args.outside.items in
+    let waiting = c.args.room.waiting.items in
+    (why-not-come g.K.Behaviours.gives first n v all c.finish-all.ensures.left outs waiting c.requires.room.counted _
+    c.in_err-take_apart.ensures.whom).0
+
+pub returns-in-Err-clause-whom : goal.returns-in-Err-clause-whom
+returns-in-Err-clause-whom g c =
+    let first = (first_of c.args.gates).value in let n = actors_of c.args.gates in let v = known_by c.args.pass in
+    let all = c.finish-all.result.items in let outs = map (λ o. o.sends.items) c.args.outside.items in
+    let waiting = c.args.room.waiting.items in
+    let apart = c.in_ok-take_apart.ensures.apart in let takes = c.take_apart.new.takes.items in
+    let before = map (λ r. r.items) c.take_apart.new.rows.items in let rows = map (λ r. r.items) c.add_outside.new.rows.items in
+    (why-too-much g.K.Behaviours.gives first n v all c.finish-all.ensures.left outs waiting c.requires.room.counted apart.lefts apart.are takes
+    apart.takes_are rows before c.add_outside.ensures.rows apart.rows_are c.args.room.lefts.items c.in-Err.mismatch c.requires.room.lefts
+    c.in-Err.ensures.over).0
+
 pub returns-in-Ok-clause-whom : goal.returns-in-Ok-clause-whom
 returns-in-Ok-clause-whom g c =
-    let apart = c.in_ok-take_apart.ensures.apart in
-    let n = c.finish-all.ensures.left.many in
-    let many = as-many c.finish-all.result.items c.take_apart.new.ended.items c.take_apart.new.takes.items
-    (map (λ r. r.items) c.take_apart.new.rows.items) c.take_apart.new.senders.items apart in
-    subst (λ k. IfErr c.report_on.result (λ m. of_whom m < k)) (many.of_ended ∙ n) c.report_on.ensures.whom
+    let first = (first_of c.args.gates).value in let n = actors_of c.args.gates in let v = known_by c.args.pass in
+    let all = c.finish-all.result.items in let outs = map (λ o. o.sends.items) c.args.outside.items in
+    let waiting = c.args.room.waiting.items in
+    let apart = c.in_ok-take_apart.ensures.apart in let takes = c.take_apart.new.takes.items in
+    let before = map (λ r. r.items) c.take_apart.new.rows.items in let rows = map (λ r. r.items) c.add_outside.new.rows.items in
+    let ended = c.take_apart.new.ended.items in let lefts = map (λ l. l.items) c.take_rests.new.lefts.items in
+    let same : c.deref.result.now ≡ waiting = search rules in
+    err-each c.report_on.result (IsOtherwise ended lefts waiting) (λ what. of_whom what < n)
+    (λ what other.
+    (why-otherwise g.K.Behaviours.gives first n v all c.finish-all.ensures.left outs waiting c.requires.room.counted apart.lefts apart.are takes
+    apart.takes_are rows before c.add_outside.ensures.rows apart.rows_are ended lefts what apart.ended_are c.in-Ok.ensures.taken other).0)
+    (subst (λ w. IfErr c.report_on.result (IsOtherwise ended lefts w)) same c.report_on.ensures.differs)
+
+pub returns-in_err-take_apart-clause-why : goal.returns-in_err-take_apart-clause-why
+returns-in_err-take_apart-clause-why g c =
+    let first = (first_of c.args.gates).value in let n = actors_of c.args.gates in let v = known_by c.args.pass in
+    let all = c.finish-all.result.items in let outs = map (λ o. o.sends.items) c.args.outside.items in
+    let waiting = c.args.room.waiting.items in
+    (why-not-come g.K.Behaviours.gives first n v all c.finish-all.ensures.left outs waiting c.requires.room.counted _
+    c.in_err-take_apart.ensures.whom).1
+
+pub returns-in-Err-clause-why : goal.returns-in-Err-clause-why
+returns-in-Err-clause-why g c =
+    let first = (first_of c.args.gates).value in let n = actors_of c.args.gates in let v = known_by c.args.pass in
+    let all = c.finish-all.result.items in let outs = map (λ o. o.sends.items) c.args.outside.items in
+    let waiting = c.args.room.waiting.items in
+    let apart = c.in_ok-take_apart.ensures.apart in let takes = c.take_apart.new.takes.items in
+    let before = map (λ r. r.items) c.take_apart.new.rows.items in let rows = map (λ r. r.items) c.add_outside.new.rows.items in
+    (why-too-much g.K.Behaviours.gives first n v all c.finish-all.ensures.left outs waiting c.requires.room.counted apart.lefts apart.are takes
+    apart.takes_are rows before c.add_outside.ensures.rows apart.rows_are c.args.room.lefts.items c.in-Err.mismatch c.requires.room.lefts
+    c.in-Err.ensures.over).1
+
+pub returns-in-Ok-clause-why : goal.returns-in-Ok-clause-why
+returns-in-Ok-clause-why g c =
+    let first = (first_of c.args.gates).value in let n = actors_of c.args.gates in let v = known_by c.args.pass in
+    let all = c.finish-all.result.items in let outs = map (λ o. o.sends.items) c.args.outside.items in
+    let waiting = c.args.room.waiting.items in
+    let apart = c.in_ok-take_apart.ensures.apart in let takes = c.take_apart.new.takes.items in
+    let before = map (λ r. r.items) c.take_apart.new.rows.items in let rows = map (λ r. r.items) c.add_outside.new.rows.items in
+    let ended = c.take_apart.new.ended.items in let lefts = map (λ l. l.items) c.take_rests.new.lefts.items in
+    let same : c.deref.result.now ≡ waiting = search rules in
+    err-each c.report_on.result (IsOtherwise ended lefts waiting) (Disagrees g.K.Behaviours.gives first n v outs waiting)
+    (λ what other.
+    (why-otherwise g.K.Behaviours.gives first n v all c.finish-all.ensures.left outs waiting c.requires.room.counted apart.lefts apart.are takes
+    apart.takes_are rows before c.add_outside.ensures.rows apart.rows_are ended lefts what apart.ended_are c.in-Ok.ensures.taken other).1)
+    (subst (λ w. IfErr c.report_on.result (IsOtherwise ended lefts w)) same c.report_on.ensures.differs)
+
+pub returns-in-Ok-clause-home : goal.returns-in-Ok-clause-home
+returns-in-Ok-clause-home g c =
+    let apart = c.in_ok-take_apart.ensures.apart in let ended = c.take_apart.new.ended.items in
+    let takes = c.take_apart.new.takes.items in let before = map (λ r. r.items) c.take_apart.new.rows.items in
+    let lefts = map (λ l. l.items) c.take_rests.new.lefts.items in
+    let first = (first_of c.args.gates).value in let v = known_by c.args.pass in
+    let same : c.deref.result.now ≡ c.args.room.waiting.items = search rules in
+    let waits : length c.deref.result.now ≡ actors_of c.args.gates = ap length same ∙ c.requires.room.counted in
+    ok-each c.report_on.result
+    (λ report. ShowsAll g.K.Behaviours.after ended lefts c.deref.result.now report.actors.items × (report.senders ≡ c.add_outside.new.senders))
+    (CameHome g.K.Behaviours.gives first (actors_of c.args.gates) v)
+    (λ report s.
+    report-home g.K.Behaviours.gives first (actors_of c.args.gates) v c.finish-all.result.items
+    c.finish-all.ensures.left ended takes before c.take_apart.new.senders.items apart c.args.outside.items c.requires.few.0 c.requires.roll
+    c.requires.outside c.add_outside.ensures.small (λ r. r.items) c.add_outside.new.rows.items c.add_outside.ensures.rows g.K.Behaviours.after
+    c.requires.senders lefts c.in-Ok.ensures.taken c.deref.result.now waits report s.0
+    (ap (λ (w : Vec SenderReport Global). map sent_of w.items) s.1 ∙ c.add_outside.ensures.senders)) c.report_on.ensures.shows

@@ -2,7 +2,7 @@ use Rattle.std.proofs.Common.{◌+◌, ◌∷◌, [], length, refl, ap, ◌∙�
 use Rattle.mb_gate.specs.Names.{known_by}
 use Rattle.mb_gate.specs.View.{View, Counted}
 use Rattle.mb_reckon.specs.Rooms.{IsEnough}
-use Rattle.mb_reckon.proofs.Steps.{counting-log, part-more, part-same, zip-more, zip-none}
+use Rattle.mb_reckon.proofs.Steps.{counting-log, none-counted, one-counted, part-more, part-same, zip-more, zip-none}
 use Rattle.mb_reckon.proofs.room.make_lefts.Goals as goal
 
 pub returns-in_err-counts-clause-known : goal.returns-in_err-counts-clause-known
@@ -20,6 +20,7 @@ loop-number-init g c = (
   refl,
   refl,
   ap length c.in_ok-lefts.ensures.items,
+  none-counted (known_by c.args.pass.now).log c.in_ok-counts.counts.items c.in_ok-counts.ensures.items,
 )
 
 pub returns-in_err-room-clause-known : goal.returns-in_err-room-clause-known
@@ -41,4 +42,7 @@ loop-number-preserved g c =
       first.ensures.capacity ∙ at.invariant.4,
       second.ensures.capacity ∙ at.invariant.5,
       ap length second.ensures.items ∙ length-append at.lefts.items (room ∷ []) ∙ ap (λ n. n + 1) at.invariant.6,
+      one-counted (known_by at.pass).log (known_by c.waiting-waiting.new.pass).log at.counts.items first.new.self.items at.number w
+          (ap (λ (v : View). v.log) c.waiting-waiting.ensures.known ∙ counting-log at.number w (known_by at.pass)) first.ensures.items
+          at.invariant.2 at.invariant.7,
     )
