@@ -18,6 +18,7 @@ mod order;
 mod quiet;
 mod run;
 mod sender;
+mod shim;
 mod system;
 mod work;
 
