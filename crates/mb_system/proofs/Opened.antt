@@ -5,6 +5,7 @@ use Rattle.std.proofs.lemmas.List.{length-append, length-drop, length_push, map_
 use Rattle.mb_msg.specs.declared.system.SysMsg.{SysMsg}
 use Rattle.mb_msg.specs.declared.system.SysMsg.TheVariants.{Create}
 use Rattle.mb_rule.specs.Shares.{IsWhole}
+use Rattle.mb_gate.specs.Turns.{got_by, times}
 use Rattle.mb_gate.specs.View.{Pushed, View, enlisting}
 use Rattle.mb_gate.specs.declared.gates.Gates.{Gates}
 use Rattle.mb_home.specs.Contents.{Contents}
@@ -59,6 +60,10 @@ module _ {A K : Type 0} (gates : Gates (Box Contents)) where
 pub created : (number : ℕ) (node : SysMsg) (v w : View) → w ≡ enlisting 0 number node v → node ≡ Create → v.log ≡ [] → IsCreated w
 created number node v w is made none =
     (number, ap (λ (x : View). x.log) is ∙ (λ i. Pushed 0 number (made i) ∷ none i))
+
+-- nobody got a claim of the guardian, who got none
+pub nobody-got : (v : View) → v.got ≡ [] → 0 < got_by 0 v → ⊥
+nobody-got v none some = let zero_got : got_by 0 v ≡ 0 = ap (times 0) none in omega (arith, some, zero_got)
 
 -- who put it there got no claim by that, and has the share that it had
 pub kept-whole : (number : ℕ) (node : SysMsg) (v w : View) → w ≡ enlisting 0 number node v → v.got ≡ [] → IsWhole v.share

@@ -1,15 +1,9 @@
-use Rattle.std.proofs.Common.{◌≡◌, ◌<◌, [], ap, ◌∙◌, subst, arith}
-use Rattle.mb_rule.specs.Shares.{IsWhole}
 use Rattle.mb_gate.specs.Names.{known_by}
-use Rattle.mb_gate.specs.Turns.{times}
-use Rattle.mb_gate.specs.View.{View}
-use Rattle.mb_system.proofs.Opened.{created, kept-whole}
+use Rattle.mb_system.proofs.Opened.{created, kept-whole, nobody-got}
 use Rattle.mb_system.proofs.opening.start.Goals as goal
 
 pub unreachable-requires : goal.unreachable-requires
-unreachable-requires g c =
-    let some = c.in-Err.ensures.held c.requires.whole in
-    let none : times 0 (known_by c.args.pass.now).got ≡ 0 = ap (times 0) c.requires.blank.1 in omega (arith, some, none)
+unreachable-requires g c = nobody-got (known_by c.args.pass.now) c.requires.blank.1 (c.in-Err.ensures.held c.requires.whole)
 
 pub returns-clause-created : goal.returns-clause-created
 returns-clause-created g c = created _ _ (known_by c.args.pass.now) _ c.in-Ok.ensures.listed c.in_ok-node.ensures c.requires.blank.0
