@@ -57,6 +57,7 @@ use Rattle.mb_gate.specs.declared.slot.Slot.TheVariants.{List as Listing}
 use Rattle.mb_gate.specs.View.{View, Sight, Read, Pushed, Held, Lent, owes, lending, enlisting, refusing, given_after, regiven, unloading}
 use Rattle.mb_gate.specs.Rule.{
   Word,
+  Status,
   Waiting,
   Gate,
   word_offset,

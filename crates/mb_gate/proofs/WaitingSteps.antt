@@ -64,6 +64,7 @@ use Rattle.mb_gate.specs.View.{
 use Rattle.mb_gate.specs.Waiting.{counted_on, counted_off, on_by, off_by, IsBalance}
 use Rattle.mb_gate.specs.Rule.{
   Word,
+  Status,
   Gate,
   Waiting,
   word_offset,

@@ -29,7 +29,7 @@ one_out : (holder : Option (ℕ × Held)) → holder ≢ None → claims_out hol
 one_out None held = absurd (held refl)
 one_out (Some h) held = refl
 
-none_out : (holder : Option (ℕ × Held)) → claims_out holder ≡ 0 → holder ≡ None
+pub none_out : (holder : Option (ℕ × Held)) → claims_out holder ≡ 0 → holder ≡ None
 none_out None none = refl
 none_out (Some h) none = absurd (let one : 1 ≡ 0 = none in omega arith)
 
@@ -86,3 +86,10 @@ module _ {H : Type 0} (is_of : ℕ → H → Type 0) (journal : H → List Entry
   -- a closed actor was held by a claim that the seat itself got
   pub was_held : x.row Status ≡ 1 → 0 < got_by actor v
   was_held one = subst (λ k. 0 < k) (total_alone (got_by actor) vs id v at (λ q u other there. (others_bare q u other there).got)) (f.held one)
+
+  -- nobody holds an actor of which it got no claim
+  pub unheld : got_by actor v ≡ 0 → x.ghost.holder ≡ None
+  unheld none = none_out x.ghost.holder (no_part (got_by actor v) (back_by actor v) (claims_out x.ghost.holder) none own_turns)
+    where
+      no_part : (all back k : ℕ) → all ≡ 0 → all ≡ back + k → k ≡ 0
+      no_part all back k is sum = omega arith

@@ -14,7 +14,7 @@ split_seat-rest-requires g c = (
 )
 
 pub invariant_of-pass : goal.invariant_of-pass
-invariant_of-pass g c = let me = c.split_seat-rest.ensures.4 in let was = c.args.pass.now in record {
+invariant_of-pass g c = let me = ap (λ s. s.me) c.replace-seat.ensures.after ∙ c.split_seat-rest.ensures.4 in let was = c.args.pass.now in record {
   holds_nothing = (
     ap (λ m. m.1) me,
     ap (λ m. m.0.claim) me ∙ was.holds_nothing.1,
@@ -24,7 +24,7 @@ invariant_of-pass g c = let me = c.split_seat-rest.ensures.4 in let was = c.args
 }
 
 pub invariant_of-result : goal.invariant_of-result
-invariant_of-result g c = let me = c.split_seat-rest.ensures.2 in let was = c.args.pass.now in record {
+invariant_of-result g c = let me = ap (λ s. s.me) c.replace-seat.ensures.value ∙ c.split_seat-rest.ensures.2 in let was = c.args.pass.now in record {
   holds_nothing = (
     ap (λ m. m.1) me ∙ was.holds_nothing.0,
     ap (λ m. m.0.claim) me,
