@@ -1,6 +1,5 @@
 -- What is so of an actor of which who has the whole got no claim.
-use Rattle.std.proofs.Common.{◌≡◌, ◌≢◌, ℕ, ◌<◌, Bool, true, false, IsTrue, List, Option, Some, None, refl, sym, ap, subst, arith}
-use mathlib.Core.Option.{some}
+use Rattle.std.proofs.Common.{◌≡◌, ◌≢◌, ℕ, ◌<◌, Bool, true, false, IsTrue, List, Option, None, refl, subst, arith}
 use Rattle.mb_status.specs.Mailbox.{Mailbox}
 use Rattle.mb_journal.specs.Entry.{Entry}
 use Rattle.mb_rule.specs.Layout.{Spot, spot_of}
@@ -11,11 +10,11 @@ use Rattle.mb_gate.specs.Shown.{ShowsUnclaimed}
 use Rattle.mb_gate.proofs.Whole.{unheld, was_held}
 
 not_true : (b : Bool) → (IsTrue b → ⊥) → b ≡ false
-not_true true no = absurd (no refl)
-not_true false no = refl
+not_true true never = absurd (never refl)
+not_true false never = refl
 
 no_more_than_none : (n : ℕ) → n ≡ 0 → 0 < n → ⊥
-no_more_than_none n none some = omega arith
+no_more_than_none n is more = omega arith
 
 module _ {H : Type 0} (is_of : ℕ → H → Type 0) (journal : H → List Entry) (mailbox : H → Mailbox) (rested : H → Type 0) (given_by : H
     → ℕ) (closed_to : H → List ℕ) where
@@ -24,11 +23,11 @@ module _ {H : Type 0} (is_of : ℕ → H → Type 0) (journal : H → List Entry
   home_of actor x holder free kept = subst (Keeping is_of journal mailbox rested given_by closed_to actor x) free kept
 
   pub shows_unclaimed : ShowsUnclaimed is_of journal mailbox rested given_by closed_to
-  shows_unclaimed n s r actor inside p v at whole none =
+  shows_unclaimed n s r actor inside p v at whole unclaimed =
       let x = spot_of word_offset slot_offset s r.ghosts actor in
       let f = r.each actor inside in
       let home = home_of actor x x.ghost.holder
-      (unheld is_of journal mailbox rested given_by closed_to n actor x s.views p v f at whole none) f.cell in
-      let open_yet : x.row Status ≢ 1 = (λ one. no_more_than_none _ none
+      (unheld is_of journal mailbox rested given_by closed_to n actor x s.views p v f at whole unclaimed) f.cell in
+      let open_yet : x.row Status ≢ 1 = (λ one. no_more_than_none _ unclaimed
       (was_held is_of journal mailbox rested given_by closed_to n actor x s.views p v f at whole one)) in
       ((home.home, home.there, home.own, home.word), open_yet, not_true x.ghost.listed.closed (λ ended. open_yet (f.ended ended)))
