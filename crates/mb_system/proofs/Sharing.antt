@@ -61,13 +61,13 @@ module _ {X : Type 0} (f : X → List ℕ) where
       (subst (λ l. KeepsWhole before (halved share) l) (sym more) (keeps-half before share (flat_map f xs) keeps))
 
 -- the whole is with the ends, of which the first took over the pass, and with the senders
-pub whole-with : (share sent mine outside ends new : List ℕ) → IsWhole share → KeepsWhole share sent outside → KeepsWhole sent mine ends
-    → new ≡ mine ++ ends → IsWhole (new ++ outside)
-whole-with share sent mine outside ends new whole senders led is =
+pub whole-with : (share sent mine outside ends lent new : List ℕ) → IsWhole share → KeepsWhole share sent outside → KeepsWhole sent mine ends
+    → new ≡ mine ++ lent → lent ≡ ends → IsWhole (new ++ outside)
+whole-with share sent mine outside ends lent new whole senders led is same =
     let first : IsWhole (sent ++ (outside ++ [])) = senders [] (subst IsWhole (sym (append-nil share)) whole) in
     let all : IsWhole (mine ++ (ends ++ outside)) =
     led outside (subst (λ l. IsWhole (sent ++ l)) (append-nil outside) first) in
-    subst IsWhole (sym (append_assoc mine ends outside) ∙ ap (λ l. l ++ outside) (sym is)) all
+    subst IsWhole (sym (append_assoc mine ends outside) ∙ ap (λ l. l ++ outside) (sym (is ∙ ap (λ l. mine ++ l) same))) all
 
 module _ {A K : Type 0} where
   -- the first end has its share and that of the pass

@@ -1,4 +1,4 @@
-use Rattle.std.proofs.Common.{rules, ◌≡◌, ◌++◌, length, sym, ap, ◌∙◌, subst, arith}
+use Rattle.std.proofs.Common.{rules, ◌≡◌, length, sym, ap, ◌∙◌, subst, arith}
 use Rattle.mb_build.proofs.QueueLemmas.{refilled}
 use Rattle.mb_system.specs.Begun.{AreLedEnds, AreNewEnds}
 use Rattle.mb_system.specs.Shared.{shares_of_ends}
@@ -33,5 +33,5 @@ pub returns-clause-whole : goal.returns-clause-whole
 returns-clause-whole g c =
     let v = c.in_ok-ends.ends in let lent : c.deref_mut.result.now ≡ v.items = search rules in
     let new = c.give_first.new.ends in let count : length new ≡ v.len = c.give_first.ensures.many ∙ ap length lent ∙ sym v.ok.0 in
-    whole-with _ _ _ _ _ _ c.in_ok-start.ensures.kept.1 c.in_ok-senders.ensures.shares c.in_ok-ends.ensures.shares
-    (ap shares_of_ends (refilled v.len v.items new count) ∙ c.give_first.ensures.shares ∙ ap (λ l. _ ++ shares_of_ends l) lent)
+    whole-with _ _ _ _ _ _ _ c.in_ok-start.ensures.kept.1 c.in_ok-senders.ensures.shares c.in_ok-ends.ensures.shares
+    (ap shares_of_ends (refilled v.len v.items new count) ∙ c.give_first.ensures.shares) (ap shares_of_ends lent)
