@@ -1,4 +1,0 @@
-pub mod JoinLemmas
-pub mod CameLemmas
-pub mod RestLemmas
-pub mod SettleLemmas

@@ -1,7 +1,0 @@
--- What a result says.
-use Rattle.std.specs.Prelude.{Result, Ok, Err, IfOk}
-
--- what holds of each good result then
-pub ok-each : {T E : Type 0} (r : Result T E) (P Q : T → Type 0) → ((x : T) → P x → Q x) → IfOk r P → IfOk r Q
-ok-each (Ok x) P Q f h = f x h
-ok-each (Err e) P Q f h = h

@@ -1,9 +1,0 @@
-pub mod Settled
-pub mod Whole
-pub mod Seen
-pub mod Outside
-pub mod Apart
-pub mod Taken
-pub mod Shown
-pub mod Rooms
-pub mod Mismatched

@@ -1,6 +1,0 @@
-use Rattle.std.proofs.Common.{◌≡◌}
-use Rattle.mb_system.specs.Members.{IsEndOf}
-use Rattle.mb_system.proofs.end.WorkerEnd.run_quietly.Given as goal
-
-abbrev pub invariant-loop : goal.invariant-loop
-invariant-loop g l = IsEndOf l.system.gates l.self.waker × (l.self.number ≡ l.fn.self.number)
