@@ -3,6 +3,7 @@ pub mod Sending
 pub mod Right
 pub mod Building
 pub mod Opened
+pub mod Sharing
 pub mod Founded
 pub mod Led
 pub mod Crossing
