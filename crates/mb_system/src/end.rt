@@ -118,9 +118,10 @@ impl<A: Actor, K: Behaviours> WorkerEnd<A, K> {
         ensures leaves { LeavesCaller (end_caller self.old.waker) (end_caller self.new.waker) }
         ensures paid { IsPaid (held_actor claim) (end_caller self.new.waker) }
         ensures ran { (journal : List Entry) × MatchResult result
-            (λ turn. (stopped : Stopped) × HadRoom stopped × LeavesRun system.now.throughput claim (known_by self.new.waker.pass) journal turn
-            stopped)
-            (λ _. (turn : TurnType) × LeavesRun system.now.throughput claim (known_by self.new.waker.pass) journal turn NoRoom
+            (λ turn. (stopped : Stopped) × HadRoom stopped
+            × LeavesRun system.now.throughput claim (known_by self.old.waker.pass) (known_by self.new.waker.pass) journal turn stopped)
+            (λ _. (turn : TurnType)
+            × LeavesRun system.now.throughput claim (known_by self.old.waker.pass) (known_by self.new.waker.pass) journal turn NoRoom
             × (IsErrOf result ReadyError.JournalFull → claim.home.value.cell.who.limit ≤ length journal)) }
         ensures number { self.new.number ≡ self.old.number }
     {

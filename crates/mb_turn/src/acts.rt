@@ -1,10 +1,11 @@
 //! The acts of a message.
-ghost use Rattle.std.specs.Prelude.{◌≡◌, [], ◌∷◌, IsErrOf, OnErr};
+ghost use Rattle.std.specs.Prelude.{◌≡◌, [], ◌∷◌, true, IsErrOf, OnErr, OnOk};
 ghost use Rattle.mb_books.specs.ActQueue.{act_of};
 ghost use Rattle.mb_journal.specs.Acts.Act.{CloseSelf};
 ghost use Rattle.mb_gate.specs.Names.{known_by};
 ghost use Rattle.mb_gate.specs.Untouched.{origin_of};
 ghost use Rattle.mb_turn.specs.Caller.{IsWakerOf, caller_of, GoesFurther};
+ghost use Rattle.mb_turn.specs.Emptied.{FindsNoMore, IsCleared};
 ghost use Rattle.mb_turn.specs.Hold.{hold_of};
 ghost use Rattle.mb_turn.specs.Running.{IsRunning, IsBeside, KeepsJournal};
 
@@ -36,6 +37,7 @@ pub(crate) fn carry_out<A: Actor, K: Behaviours, W: Way<Place<A, K>>, R: Wait>(
     ensures beside { IsBeside (hold_of claim.new) }
     ensures carried_out { claim.new.home.value.cell.acts ≡ [] }
     ensures same { KeepsJournal (hold_of claim.old) (hold_of claim.new) }
+    ensures cleared { OnOk result (IsCleared (hold_of claim.old) (hold_of claim.new)) }
     ensures goes { GoesFurther (caller_of W.pushed W.refused waker.old) (caller_of W.pushed W.refused waker.new) }
     ensures refused { OnErr result (IsErrOf result ReadyError.NoMemory) }
 {
@@ -48,7 +50,8 @@ pub(crate) fn carry_out<A: Actor, K: Behaviours, W: Way<Place<A, K>>, R: Wait>(
 
 // What is answered.
 fn answer_of(is_clean: bool) -> Result<(), ReadyError>
-    ensures { OnErr result (IsErrOf result ReadyError.NoMemory) }
+    ensures refused { OnErr result (IsErrOf result ReadyError.NoMemory) }
+    ensures clean { OnOk result (is_clean ≡ true) }
 {
     if is_clean {
         Ok(())
@@ -74,6 +77,7 @@ fn carry<A: Actor, K: Behaviours, W: Way<Place<A, K>>, R: Wait>(
     ensures beside { IsBeside (hold_of claim.new) }
     ensures left { claim.new.home.value.cell.acts ≡ claim.old.home.value.cell.acts }
     ensures same { KeepsJournal (hold_of claim.old) (hold_of claim.new) }
+    ensures cleared { OnOk result (IsCleared (hold_of claim.old) (hold_of claim.new)) }
     ensures goes { GoesFurther (caller_of W.pushed W.refused waker.old) (caller_of W.pushed W.refused waker.new) }
 {
     match act {
@@ -113,6 +117,7 @@ fn close<A: Actor, K: Behaviours, W: Way<Place<A, K>>, R: Wait>(
     ensures beside { IsBeside (hold_of claim.new) }
     ensures left { claim.new.home.value.cell.acts ≡ claim.old.home.value.cell.acts }
     ensures same { KeepsJournal (hold_of claim.old) (hold_of claim.new) }
+    ensures emptied { OnOk result (FindsNoMore claim.old.home.value.take claim.new.home.value.take) }
     ensures goes { GoesFurther (caller_of W.pushed W.refused waker.old) (caller_of W.pushed W.refused waker.new) }
 {
     gates.close_mailbox(claim);

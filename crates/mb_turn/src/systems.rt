@@ -1,11 +1,12 @@
 //! System messages.
-ghost use Rattle.std.specs.Prelude.{◌≡◌, ◌⊎◌, ◌≤◌, [], true, false, length, List, IfOk, IsErrOf};
+ghost use Rattle.std.specs.Prelude.{◌≡◌, ◌⊎◌, ◌≤◌, [], true, false, length, List, IfOk, IsErrOf, OnOk};
 ghost use Rattle.mb_gate.specs.View.{Sight};
 ghost use Rattle.mb_gate.specs.Names.{status_of};
 ghost use Rattle.mb_home.specs.Steps.{HasNext, IsRested};
 ghost use Rattle.mb_gate.specs.Names.{known_by};
 ghost use Rattle.mb_gate.specs.Untouched.{origin_of};
 ghost use Rattle.mb_turn.specs.Caller.{IsWakerOf, caller_of, GoesFurther};
+ghost use Rattle.mb_turn.specs.Emptied.{IsCleared};
 ghost use Rattle.mb_turn.specs.Hold.{hold_of};
 ghost use Rattle.mb_turn.specs.Ran.{IsTurning, IsDrained};
 ghost use Rattle.mb_turn.specs.Running.{IsRunning, IsBeside, SameRun, KeepsJournal};
@@ -40,6 +41,7 @@ pub(crate) fn apply_systems<A: Actor, K: Behaviours, W: Way<Place<A, K>>, R: Wai
     ensures turning { IsTurning (hold_of claim.new) turn.new × SameRun (hold_of claim.old) (hold_of claim.new) }
     ensures envelopes { turn.new.envelopes ≡ turn.old.envelopes }
     ensures whole { IfOk result (λ _. ((status_of claim.new).closed ≡ true) ⊎ IsDrained (hold_of claim.new)) }
+    ensures cleared { OnOk result (IsCleared (hold_of claim.old) (hold_of claim.new)) }
     ensures goes { GoesFurther (caller_of W.pushed W.refused waker.old) (caller_of W.pushed W.refused waker.new) }
     ensures full { IsErrOf result ReadyError.JournalFull → claim.new.home.value.cell.who.limit ≤ length claim.new.home.value.cell.journal }
 {
@@ -79,6 +81,7 @@ fn apply_one<A: Actor, K: Behaviours, W: Way<Place<A, K>>, R: Wait>(
     ensures carried_out { claim.new.home.value.cell.acts ≡ [] }
     ensures turning { IsTurning (hold_of claim.new) turn.new × SameRun (hold_of claim.old) (hold_of claim.new) }
     ensures envelopes { turn.new.envelopes ≡ turn.old.envelopes }
+    ensures cleared { OnOk result (IsCleared (hold_of claim.old) (hold_of claim.new)) }
     ensures goes { GoesFurther (caller_of W.pushed W.refused waker.old) (caller_of W.pushed W.refused waker.new) }
     ensures full { IsErrOf result ReadyError.JournalFull → claim.new.home.value.cell.who.limit ≤ length claim.new.home.value.cell.journal }
 {
@@ -104,6 +107,7 @@ fn drain<A: Actor, K: Behaviours, R: Wait>(
     ensures beside { IsBeside (hold_of claim.new) }
     ensures left { claim.new.home.value.cell ≡ claim.old.home.value.cell }
     ensures same { KeepsJournal (hold_of claim.old) (hold_of claim.new) }
+    ensures cleared { IsCleared (hold_of claim.old) (hold_of claim.new) }
     ensures drained { result ≡ false → IsDrained (hold_of claim.new) }
 {
     let drained = gates.sys_drain(rt, claim);

@@ -5,9 +5,11 @@ use Rattle.mb_cell.specs.Seen.{Seen}
 use Rattle.mb_gate.specs.Names.{known_by}
 use Rattle.mb_home.specs.Contents.{Contents}
 use Rattle.mb_home.specs.Steps.{HasNext, IsRested}
+use Rattle.mb_turn.specs.Hold.{hold_of}
 use Rattle.mb_turn.proofs.AppliedLemmas.{same-keeps}
 use Rattle.mb_turn.proofs.BesideLemmas.{keeps-same, same-run-then}
 use Rattle.mb_turn.proofs.CallerLemmas.{further-none, further-then}
+use Rattle.mb_turn.proofs.EmptiedLemmas.{cleared-same, cleared-then}
 use Rattle.mb_turn.proofs.TurningLemmas.{turning-keeps}
 use Rattle.mb_turn.proofs.systems.apply_systems.Goals as goal
 
@@ -23,10 +25,14 @@ loop-init g c = (
   (keeps-same _).same,
   refl,
   further-none _,
+  cleared-same (hold_of c.args.claim.now) (hold_of c.args.claim.now) refl refl,
 )
 
 pub returns-then-closed-clause-whole : goal.returns-then-closed-clause-whole
 returns-then-closed-clause-whole g c = inl (sym (c.closed.ensures ∙ ap (λ (m : Mailbox). m.closed) c.status.ensures) ∙ c.if-closed.true)
+
+pub returns-then-closed-clause-cleared : goal.returns-then-closed-clause-cleared
+returns-then-closed-clause-cleared g c = c.loop.invariant.10
 
 -- ---- a system message is due
 
@@ -60,6 +66,8 @@ loop-preserved-then-has_next g c = (
   same-run-then _ _ _ c.loop.invariant.7 c.apply_one.ensures.turning.1,
   c.apply_one.ensures.envelopes ∙ c.loop.invariant.8,
   further-then _ _ _ c.loop.invariant.9 c.apply_one.ensures.goes,
+  cleared-then (hold_of c.args.claim.now) (hold_of c.loop.claim) (hold_of c.apply_one.new.claim) c.loop.invariant.7.takes c.loop.invariant.10
+      c.in_ok-apply_one.ensures.cleared,
 )
 
 -- ---- none is: the list is drained
@@ -85,6 +93,11 @@ pub returns-then-not-drain-clause-turning : goal.returns-then-not-drain-clause-t
 returns-then-not-drain-clause-turning g c =
     (turning-keeps _ _ _ c.drain.ensures.same c.loop.invariant.6, same-keeps _ _ _ c.loop.invariant.7 c.drain.ensures.same)
 
+pub returns-then-not-drain-clause-cleared : goal.returns-then-not-drain-clause-cleared
+returns-then-not-drain-clause-cleared g c =
+    cleared-then (hold_of c.args.claim.now) (hold_of c.loop.claim) (hold_of c.drain.new.claim) c.loop.invariant.7.takes c.loop.invariant.10
+    c.drain.ensures.cleared
+
 pub returns-then-not-drain-clause-whole : goal.returns-then-not-drain-clause-whole
 returns-then-not-drain-clause-whole g c = inr (c.drain.ensures.drained c.if-not-drain.true)
 
@@ -100,4 +113,6 @@ loop-preserved g c = (
   same-keeps _ _ _ c.loop.invariant.7 c.drain.ensures.same,
   c.loop.invariant.8,
   c.loop.invariant.9,
+  cleared-then (hold_of c.args.claim.now) (hold_of c.loop.claim) (hold_of c.drain.new.claim) c.loop.invariant.7.takes c.loop.invariant.10
+      c.drain.ensures.cleared,
 )
