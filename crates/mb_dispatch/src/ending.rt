@@ -37,7 +37,8 @@ pub enum FinishError<A: Actor, K: Behaviours> {
     Mismatch(Mismatch),
 }
 
-/// Ends the system: what became of each actor and each envelope.
+/// Ends the system: what became of each actor, the guardian first, and of each envelope. (This project's own profile: Akka's
+/// `ActorSystem.terminate` stops the actors, and tells nothing of them.)
 ///
 /// It answers the least number of a worker whose end is missing; else of a sender that is; else the least actor that is scheduled
 /// or has something to run; else `NoMemory`. All comes back then, and the same call may be made again.

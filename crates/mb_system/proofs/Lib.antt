@@ -1,4 +1,5 @@
 pub mod Looking
+pub mod Debts
 pub mod Sending
 pub mod Right
 pub mod Building

@@ -1,5 +1,6 @@
 pub mod Enrolled
 pub mod Members
+pub mod Debts
 pub mod Belonging
 pub mod Shared
 pub mod Begun
