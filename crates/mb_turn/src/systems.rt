@@ -22,7 +22,7 @@ use std::sync::Wait;
 
 /// Gives the cell all system messages (`Mailbox.processAllSystemMessages`): those that go in front, then those that were
 /// drained, the earliest first; where none is left it drains again, until that gives nothing or the mailbox is closed.
-#[inline]
+#[inline(always)]
 pub(crate) fn apply_systems<A: Actor, K: Behaviours, W: Way<Place<A, K>>, R: Wait>(
     rt: &R,
     gates: &Gates<Place<A, K>>,
@@ -54,6 +54,7 @@ pub(crate) fn apply_systems<A: Actor, K: Behaviours, W: Way<Place<A, K>>, R: Wai
 
 // Whether the mailbox is open and no system message is due: none goes in front, none is left of what was drained, and to
 // drain again gives nothing. It stands apart, so that where it is so nothing is called that may wait.
+#[inline(always)]
 fn is_quiet<A: Actor, K: Behaviours>(
     gates: &Gates<Place<A, K>>,
     claim: &mut Claim<Place<A, K>>,

@@ -11,6 +11,7 @@ use mb_msg::ActorId;
 use std::sync::Wait;
 
 /// Whether the actor has system work, as a hint says or a look shows.
+#[inline(always)]
 fn has_system<H: Resident>(gates: &Gates<H>, pass: &mut Pass<H>, id: ActorId, hint: bool) -> bool
     requires ours { pass_id pass.old ≡ gates_id gates.now }
     requires there { id.0 < actors_of gates.now }
@@ -26,6 +27,7 @@ fn has_system<H: Resident>(gates: &Gates<H>, pass: &mut Pass<H>, id: ActorId, hi
 }
 
 /// Whether envelopes wait for the actor, as a hint says or their number shows.
+#[inline(always)]
 fn has_messages<H: Resident>(gates: &Gates<H>, pass: &mut Pass<H>, id: ActorId, hint: bool) -> bool
     requires ours { pass_id pass.old ≡ gates_id gates.now }
     requires there { id.0 < actors_of gates.now }
@@ -44,6 +46,7 @@ fn has_messages<H: Resident>(gates: &Gates<H>, pass: &mut Pass<H>, id: ActorId, 
 /// Whether the actor has to be given to a worker (`Mailbox.canBeScheduledForExecution`): no worker holds it, and it has
 /// system work, or envelopes that it may handle. A hint says that it has, and spares the look. Where the answer is no, the
 /// pass owes it nothing.
+#[inline(always)]
 pub(crate) fn is_due<H: Resident>(
     gates: &Gates<H>,
     pass: &mut Pass<H>,

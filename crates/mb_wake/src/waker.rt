@@ -32,6 +32,7 @@ impl<H: Resident, W: Way<H>> Waker<H, W> {
     /// work, and spares the look.
     ///
     /// Where the pool refuses the claim, it goes home, and the actor is owed a look.
+    #[inline(always)]
     pub fn register<R: Wait>(
         &mut self,
         rt: &R,
