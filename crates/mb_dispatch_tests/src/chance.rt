@@ -1,4 +1,4 @@
-//! Plans and orders by chance.
+//! Plans by chance, and what their senders are to send.
 use crate::dice::Dice;
 use crate::gambler::GREATEST;
 use crate::player::ADD;
@@ -88,9 +88,26 @@ fn directive(dice: &mut Dice) -> Directive {
     }
 }
 
-/// What each sender is to send, where there are so many actors.
-pub fn orders_by_chance(alloc: Global, seed: u64, actors: u32) -> Result<Vec<Order>, AllocError> {
-    let mut dice = Dice::new(seed.wrapping_add(1_000));
+/// What each of so many senders is to send to so many actors: each its own.
+pub fn sends_by_chance(
+    alloc: Global,
+    seed: u64,
+    senders: u32,
+    actors: u32,
+) -> Result<Vec<Vec<Order>>, AllocError> {
+    let mut sends = Vec::new(alloc);
+    for sender in 0..senders {
+        let own = seed
+            .wrapping_add(1_000)
+            .wrapping_mul(16)
+            .wrapping_add(u64::from(sender));
+        sends.push(orders_by_chance(alloc, own, actors)?)?;
+    }
+    Ok(sends)
+}
+
+fn orders_by_chance(alloc: Global, seed: u64, actors: u32) -> Result<Vec<Order>, AllocError> {
+    let mut dice = Dice::new(seed);
     let mut orders = Vec::new(alloc);
     for _ in 0..dice.roll(0, 40) {
         let to = dice.roll(1, actors);

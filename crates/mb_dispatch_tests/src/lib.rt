@@ -34,6 +34,8 @@ mod guest;
 #[cfg(test)]
 mod ids;
 #[cfg(test)]
+mod judged;
+#[cfg(test)]
 mod lawful;
 #[cfg(test)]
 mod limited;

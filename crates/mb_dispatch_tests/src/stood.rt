@@ -1,7 +1,7 @@
 //! What must be true of the envelopes of a report, by code that shares nothing with the program's: each that was sent stands
 //! once, in its sender's order; what is dead is so for a reason.
+use crate::lawful::has_ended;
 use crate::sent::{Sent, all_sent};
-use mb_actor::Phase;
 use mb_dispatch::Order;
 use mb_journal::Arrival;
 use mb_msg::{ActorId, Body, DeadLetter, Envelope, SenderId, Why};
@@ -9,14 +9,14 @@ use mb_plan::{Kind, Plan};
 use mb_report::{ActorReport, Report, SenderReport};
 use std::alloc::{AllocError, Global};
 
-/// Whether the envelopes of a report on this plan are right, where each sender outside sent this.
+/// Whether the envelopes of a report on this plan are right, where each sender outside sent its own of these.
 pub fn are_envelopes_right(
     alloc: Global,
     report: &Report,
     plan: &Plan,
-    orders: &[Order],
+    sends: &[Vec<Order>],
 ) -> Result<bool, AllocError> {
-    let all = all_sent(alloc, report, plan.senders, orders)?;
+    let all = all_sent(alloc, report, sends)?;
     Ok(
         are_senders_right(report, plan, &all)
             && are_receivers_right(alloc, report, plan, &all)?
@@ -46,10 +46,7 @@ fn are_senders_right(report: &Report, plan: &Plan, all: &[Sent]) -> bool {
 fn is_dead_for_a_reason(report: &Report, plan: &Plan, letter: &DeadLetter) -> bool {
     let to = letter.envelope.to;
     match letter.why {
-        Why::Closed => match report.actors.get(to.0 as usize) {
-            Some(actor) => actor.phase == Phase::Ended,
-            None => false,
-        },
+        Why::Closed => has_ended(report, to),
         Why::Full => matches!(mailbox_of(plan, to), Some(Kind::Bounded(_))),
         Why::NoMemory | Why::Cleaned => false,
     }

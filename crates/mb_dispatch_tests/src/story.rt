@@ -101,6 +101,14 @@ pub fn orders_of(
     Ok(all)
 }
 
+/// Those of the sender at this place among them. None where there are not so many.
+pub fn orders_at(sends: &[Vec<Order>], place: usize) -> &[Order] {
+    match sends.get(place) {
+        Some(orders) => orders.as_slice(),
+        None => &[],
+    }
+}
+
 /// The same orders.
 pub fn copy_of(alloc: Global, orders: &[Order]) -> Result<Vec<Order>, AllocError> {
     let mut copy = Vec::new(alloc);

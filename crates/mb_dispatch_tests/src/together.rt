@@ -4,7 +4,7 @@ ghost use Rattle.mb_build.specs.Behaved.{AreBehaved};
 ghost use Rattle.mb_system.specs.Belonging.{BelongsTogether};
 
 use crate::player::{Adding, Player, players_of};
-use crate::story::{Story, copy_of, plan_of, text_of};
+use crate::story::{Story, copy_of, orders_at, orders_of, plan_of, text_of};
 use mb_actor::{Actor, Behaviours};
 use mb_dispatch::{Built, Job, Order, Sender, System, finish};
 use mb_plan::Plan;
@@ -23,19 +23,20 @@ pub fn run_together<R: Threads + Wait + Sync>(
     let Ok(players) = players_of(alloc, story.parts) else {
         return None;
     };
-    match report_of::<Player, Adding, R>(rt, alloc, plan, players, story.orders) {
+    let sends = orders_of(alloc, story.senders, story.orders).ok()?;
+    match report_of::<Player, Adding, R>(rt, alloc, plan, players, &sends) {
         Ok(Some(report)) => text_of(alloc, &report, story.parts.len()),
         _ => None,
     }
 }
 
-/// The report of this plan, each of whose senders sends this; nothing where there is none.
+/// The report of this plan, each of whose senders sends its own of these; nothing where there is none.
 pub fn report_of<A: Actor + Send, K: Behaviours + Send, R: Threads + Wait + Sync>(
     rt: &R,
     alloc: Global,
     plan: Plan,
     actors: Vec<A>,
-    orders: &[Order],
+    sends: &[Vec<Order>],
 ) -> Result<Option<Report>, AllocError>
     requires behaved { AreBehaved A.content A.after A.gives K.after K.gives 1 actors.items }
 {
@@ -45,7 +46,7 @@ pub fn report_of<A: Actor + Send, K: Behaviours + Send, R: Threads + Wait + Sync
         mut ends,
         senders,
     } = built;
-    let mut jobs = jobs_of(alloc, senders, orders)?;
+    let mut jobs = jobs_of(alloc, senders, sends)?;
     let workers = ends.as_mut_slice();
     let tasks = jobs.as_mut_slice();
     match system.run(rt, workers, tasks) {
@@ -87,17 +88,17 @@ pub(crate) fn end<A: Actor, K: Behaviours, R: Wait>(rt: &R, built: Built<A, K>) 
     }
 }
 
-// A job for each sender, with these orders.
+// A job for each sender, with its own of these.
 fn jobs_of<A: Actor, K: Behaviours>(
     alloc: Global,
     senders: Vec<Sender<A, K>>,
-    orders: &[Order],
+    sends: &[Vec<Order>],
 ) -> Result<Vec<Job<A, K>>, AllocError>
     ensures { IfOk result (λ jobs. map (λ job. job.sender) jobs.items ≡ senders.items) }
 {
     let mut jobs = Vec::new(alloc);
     for sender in senders {
-        let sends = copy_of(alloc, orders)?;
+        let sends = copy_of(alloc, orders_at(sends, jobs.len()))?;
         jobs.push(Job { sender, sends })?;
     }
     Ok(jobs)
