@@ -1,21 +1,29 @@
 //! Whole runs on one thread: all is sent before anything is run.
 use crate::player::players_of;
-use crate::story::{Story, orders_of, plan_of, text_of};
-use mb_dispatch::{WholeError, run_whole};
-use std::alloc::{AllocError, Global};
+use crate::sending::same_orders;
+use crate::story::{Story, plan_of, text_of, words};
+use crate::together::Run;
+use mb_dispatch::run_whole;
+use std::alloc::Global;
+use std::process::Abort;
 use std::sync::Wait;
 
-/// The report's text of this story, or why there is no report. Nothing where memory was refused for its text.
-pub fn run_alone<R: Wait>(
-    rt: &R,
-    alloc: Global,
-    story: &Story<'_>,
-) -> Result<Result<Option<String>, WholeError>, AllocError> {
-    let plan = plan_of(alloc, story)?;
-    let players = players_of(alloc, story.parts)?;
-    let orders = orders_of(alloc, story.senders, story.orders)?;
+/// Plays each of these stories, and sees to it that its report has this text, or that this is why there is no report.
+pub fn play_alone<R: Abort + Wait>(rt: &R, alloc: Global, runs: &[Run]) {
+    for (story, report) in runs {
+        assert_eq!(rt; words(&run_alone(rt, alloc, story)), *report);
+    }
+}
+
+// The report's text of this story, or why there is no report. Nothing where memory was refused.
+fn run_alone<R: Wait>(rt: &R, alloc: Global, story: &Story<'_>) -> Option<String> {
+    let plan = plan_of(alloc, story).ok()?;
+    let Ok(players) = players_of(alloc, story.parts) else {
+        return None;
+    };
+    let orders = same_orders(alloc, story.senders, story.sends).ok()?;
     match run_whole(rt, alloc, plan, players, &orders) {
-        Ok(report) => Ok(Ok(text_of(alloc, &report, story.parts.len()))),
-        Err(error) => Ok(Err(error)),
+        Ok(report) => text_of(alloc, &report, story.parts.len()),
+        Err(error) => format!(in alloc; "{error:?}").ok(),
     }
 }

@@ -6,26 +6,43 @@ use crate::doubted::Twist::{
 };
 use crate::judged::is_right;
 use crate::player::{ADD, COUNTER};
-use crate::story::{PLAIN, Story, plan_of, told};
+use crate::sending::Sending::{self, Stop, Tell};
+use crate::sending::orders_of;
+use crate::story::{PLAIN, Story, plan_of};
 use mb_actor::Answer;
 use mb_actor::Phase::{self, Broken, Ended, Live};
-use mb_dispatch::{Order, What};
+use mb_dispatch::Order;
 use mb_journal::Journal;
 use mb_msg::Why::{self, Closed, Full};
 use mb_msg::{ActorId, Body, DeadLetter, Envelope, SenderId, SysMsg};
 use mb_report::{ActorReport, Report, SenderReport};
 use std::alloc::{AllocError, Global};
+use std::process::Abort;
 
 /// An envelope to the only actor: its sender, its number and its value.
 type Letter = (u32, u64, i64);
 
 /// The first sender outside was to send this, and then 2.
 const ONE: Letter = (64, 0, 1);
+
 const TWO: Letter = (64, 1, 2);
 
 /// The other was to send this, and then 8.
 const FOUR: Letter = (65, 0, 4);
+
 const EIGHT: Letter = (65, 1, 8);
+
+const TWO_SENDERS: Story<'static> = Story {
+    senders: 2,
+    parts: &[COUNTER],
+    ..PLAIN
+};
+
+const FIRST: &[Sending] = &[Tell(1, ADD, 1), Tell(1, ADD, 2)];
+
+const OTHER: &[Sending] = &[Tell(1, ADD, 4), Tell(1, ADD, 8)];
+
+const OTHER_AND_STOP: &[Sending] = &[Tell(1, ADD, 4), Tell(1, ADD, 8), Stop(1)];
 
 const ALL: &[Letter] = &[ONE, FOUR, TWO, EIGHT];
 
@@ -58,19 +75,43 @@ enum Twist {
 /// What a report says of an actor to which the two sent: the envelopes that it handled, its state, its phase, and what else.
 type Claim = (&'static str, &'static [Letter], i64, Phase, Twist);
 
-const RIGHT: [Claim; 2] = [
+const RIGHT: &[Claim] = &[
     ("all is handled", ALL, 15, Live, Nothing),
     ("all is handled before the end", ALL, 15, Ended, Stopped),
 ];
 
-const WRONG: [Claim; 19] = [
+const WRONG: &[Claim] = &[
     ("one is lost", WITHOUT_TWO, 13, Live, Nothing),
-    ("one is handled twice", &[ONE, FOUR, ONE, EIGHT], 14, Live, Nothing),
+    (
+        "one is handled twice",
+        &[ONE, FOUR, ONE, EIGHT],
+        14,
+        Live,
+        Nothing,
+    ),
     ("one is handled and dead", ALL, 15, Live, Dead(Full)),
-    ("one was not sent", &[ONE, FOUR, TWO, EIGHT, (64, 2, 2)], 17, Live, Nothing),
+    (
+        "one was not sent",
+        &[ONE, FOUR, TWO, EIGHT, (64, 2, 2)],
+        17,
+        Live,
+        Nothing,
+    ),
     ("one is at another actor", WITHOUT_TWO, 13, Live, Elsewhere),
-    ("one has another value", &[ONE, FOUR, (64, 1, 3), EIGHT], 16, Live, Nothing),
-    ("two are exchanged", &[TWO, FOUR, ONE, EIGHT], 15, Live, Nothing),
+    (
+        "one has another value",
+        &[ONE, FOUR, (64, 1, 3), EIGHT],
+        16,
+        Live,
+        Nothing,
+    ),
+    (
+        "two are exchanged",
+        &[TWO, FOUR, ONE, EIGHT],
+        15,
+        Live,
+        Nothing,
+    ),
     (
         "two senders sent one another's",
         &[(65, 0, 1), (64, 0, 4), (65, 1, 2), (64, 1, 8)],
@@ -92,41 +133,40 @@ const WRONG: [Claim; 19] = [
 ];
 
 /// Whether the claim is found right.
-fn is_found_right(alloc: Global, claim: Claim) -> Result<bool, AllocError> {
-    let (_, _, _, _, twist) = claim;
-    let story = Story {
-        senders: 2,
-        parts: &[COUNTER],
-        ..PLAIN
-    };
-    let plan = plan_of(alloc, &story)?;
+fn is_found_right(alloc: Global, claim: &Claim) -> Result<bool, AllocError> {
     let report = report_of(alloc, claim)?;
-    let sends = sends_of(alloc, twist)?;
-    is_right(alloc, &report, &plan, &sends)
+    let (_, _, _, _, twist) = *claim;
+    is_report_right(alloc, &report, twist)
+}
+
+fn is_report_right(alloc: Global, report: &Report, twist: Twist) -> Result<bool, AllocError> {
+    let plan = plan_of(alloc, &TWO_SENDERS)?;
+    let orders = orders(alloc, twist)?;
+    is_right(alloc, report, &plan, &orders)
 }
 
 /// What the two were to send.
-fn sends_of(alloc: Global, twist: Twist) -> Result<Vec<Vec<Order>>, AllocError> {
-    let first = vec![in alloc; told(1, ADD, 1), told(1, ADD, 2)]?;
-    let mut other = vec![in alloc; told(1, ADD, 4), told(1, ADD, 8)]?;
-    if matches!(twist, Stopped | Overlooked) {
-        other.push(Order {
-            to: ActorId(1),
-            what: What::Stop,
-        })?;
-    }
-    Ok(vec![in alloc; first, other]?)
+fn orders(alloc: Global, twist: Twist) -> Result<Vec<Vec<Order>>, AllocError> {
+    let other = match twist {
+        Stopped | Overlooked => OTHER_AND_STOP,
+        _ => OTHER,
+    };
+    let mut orders = Vec::new(alloc);
+    orders.push(orders_of(alloc, FIRST)?)?;
+    orders.push(orders_of(alloc, other)?)?;
+    Ok(orders)
 }
 
-fn report_of(alloc: Global, claim: Claim) -> Result<Report, AllocError> {
-    let (_, handled, state, phase, twist) = claim;
+fn report_of(alloc: Global, claim: &Claim) -> Result<Report, AllocError> {
+    let (_, handled, state, phase, twist) = *claim;
     let guardian = guardian(alloc, twist)?;
     let mut actor = receiver(alloc, handled, twist)?;
     actor.phase = phase;
     actor.state = Some(state);
+    let first = first_sender(alloc, twist)?;
     Ok(Report {
         actors: vec![in alloc; guardian, actor]?,
-        senders: senders(alloc, twist)?,
+        senders: vec![in alloc; sender(alloc, 0), sender(alloc, 0), first, sender(alloc, 2)]?,
     })
 }
 
@@ -155,8 +195,7 @@ fn receiver(alloc: Global, handled: &[Letter], twist: Twist) -> Result<ActorRepo
     Ok(actor)
 }
 
-/// Two actors that sent nothing, and the two senders outside.
-fn senders(alloc: Global, twist: Twist) -> Result<Vec<SenderReport>, AllocError> {
+fn first_sender(alloc: Global, twist: Twist) -> Result<SenderReport, AllocError> {
     let mut first = sender(alloc, 2);
     match twist {
         Dead(why) => first.dead.push(DeadLetter {
@@ -166,7 +205,7 @@ fn senders(alloc: Global, twist: Twist) -> Result<Vec<SenderReport>, AllocError>
         SentMore => first.sent = 3,
         _ => {}
     }
-    Ok(vec![in alloc; sender(alloc, 0), sender(alloc, 0), first, sender(alloc, 2)]?)
+    Ok(first)
 }
 
 fn sender(alloc: Global, sent: u64) -> SenderReport {
@@ -230,14 +269,19 @@ fn envelope(letter: Letter) -> Envelope {
     }
 }
 
+fn find_out<R: Abort>(rt: &R, alloc: Global, claims: &[Claim], is_right: bool) {
+    for claim in claims {
+        let (what, ..) = *claim;
+        let is_found_right = is_found_right(alloc, claim);
+        assert!(rt;
+            matches!(is_found_right, Ok(found) if found == is_right),
+            "{what}"
+        );
+    }
+}
+
 #[test]
 fn a_report_with_one_thing_wrong_is_found_out(rt: HostRuntime) {
-    for claim in RIGHT {
-        let (what, ..) = claim;
-        assert!(rt; matches!(is_found_right(rt.alloc(), claim), Ok(true)), "{what}");
-    }
-    for claim in WRONG {
-        let (what, ..) = claim;
-        assert!(rt; matches!(is_found_right(rt.alloc(), claim), Ok(false)), "{what}");
-    }
+    find_out(&rt, rt.alloc(), RIGHT, true);
+    find_out(&rt, rt.alloc(), WRONG, false)
 }

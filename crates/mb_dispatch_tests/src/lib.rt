@@ -48,6 +48,8 @@ mod player;
 #[cfg(test)]
 mod refused;
 #[cfg(test)]
+mod sending;
+#[cfg(test)]
 mod sent;
 #[cfg(test)]
 mod shown;

@@ -1,7 +1,9 @@
 //! Two actors that wait for one another while they are called: two workers run at once.
 use crate::guest::{Guest, Hall, Silent};
 use crate::player::{ADD, COUNTER};
-use crate::story::{PLAIN, Story, orders_of, plan_of, text_of, told, words};
+use crate::sending::Sending::Tell;
+use crate::sending::same_orders;
+use crate::story::{PLAIN, Story, plan_of, text_of, words};
 use crate::together::report_of;
 use mb_plan::Pool;
 use std::alloc::{AllocError, Global};
@@ -26,8 +28,8 @@ fn meet<R: Threads + Wait + Sync>(rt: &R, alloc: Global, pool: Pool) -> Option<S
     let Ok(guests) = two_guests(alloc) else {
         return None;
     };
-    let sends = orders_of(alloc, 1, &[told(1, ADD, 1), told(2, ADD, 1)]).ok()?;
-    match report_of::<Guest, Silent, R>(rt, alloc, plan, guests, &sends) {
+    let orders = same_orders(alloc, 1, &[Tell(1, ADD, 1), Tell(2, ADD, 1)]).ok()?;
+    match report_of::<Guest, Silent, R>(rt, alloc, plan, guests, &orders) {
         Ok(Some(report)) => text_of(alloc, &report, 2),
         _ => None,
     }

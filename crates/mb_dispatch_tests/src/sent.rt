@@ -70,11 +70,7 @@ fn add_actors(all: &mut Vec<Sent>, alloc: Global, report: &Report) -> Result<(),
     Ok(())
 }
 
-fn add_outside(
-    all: &mut Vec<Sent>,
-    alloc: Global,
-    sends: &[Vec<Order>],
-) -> Result<(), AllocError> {
+fn add_outside(all: &mut Vec<Sent>, alloc: Global, sends: &[Vec<Order>]) -> Result<(), AllocError> {
     let mut number = OUTSIDE;
     for orders in sends {
         all.push(outside(alloc, number, orders)?)?;

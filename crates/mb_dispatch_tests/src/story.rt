@@ -1,8 +1,8 @@
 //! What is played: who acts, and what is sent.
 use crate::player::{Mailbox, Part};
-use mb_dispatch::{Order, What};
+use crate::sending::Sending;
 use mb_journal::Strategy;
-use mb_msg::{ActorId, Body};
+use mb_msg::ActorId;
 use mb_plan::{ActorPlan, Kind, Plan, Pool};
 use mb_report::{Report, report_text};
 use std::alloc::{AllocError, Global};
@@ -16,7 +16,7 @@ pub struct Story<'a> {
     pub throughput: u32,
     pub journal_limit: u32,
     pub parts: &'a [Part],
-    pub orders: &'a [Order],
+    pub sends: &'a [Sending],
 }
 
 /// Nobody, with two workers and one sender.
@@ -27,21 +27,8 @@ pub const PLAIN: Story<'static> = Story {
     throughput: 5,
     journal_limit: 100,
     parts: &[],
-    orders: &[],
+    sends: &[],
 };
-
-/// A message of this kind and value.
-pub fn told(to: u32, kind: u32, value: i64) -> Order {
-    said(to, Body::User { kind, value })
-}
-
-/// This body.
-pub fn said(to: u32, body: Body) -> Order {
-    Order {
-        to: ActorId(to),
-        what: What::Tell(body),
-    }
-}
 
 /// The plan of a story.
 pub fn plan_of(alloc: Global, story: &Story<'_>) -> Result<Plan, AllocError> {
@@ -86,34 +73,6 @@ fn kind_of(alloc: Global, mailbox: Mailbox) -> Result<Kind, AllocError> {
         }
         Mailbox::ControlFirst => Kind::Control,
     })
-}
-
-/// What each of so many senders is to send.
-pub fn orders_of(
-    alloc: Global,
-    senders: u32,
-    orders: &[Order],
-) -> Result<Vec<Vec<Order>>, AllocError> {
-    let mut all = Vec::new(alloc);
-    for _ in 0..senders {
-        all.push(copy_of(alloc, orders)?)?;
-    }
-    Ok(all)
-}
-
-/// Those of the sender at this place among them. None where there are not so many.
-pub fn orders_at(sends: &[Vec<Order>], place: usize) -> &[Order] {
-    match sends.get(place) {
-        Some(orders) => orders.as_slice(),
-        None => &[],
-    }
-}
-
-/// The same orders.
-pub fn copy_of(alloc: Global, orders: &[Order]) -> Result<Vec<Order>, AllocError> {
-    let mut copy = Vec::new(alloc);
-    copy.extend_from_slice(orders)?;
-    Ok(copy)
 }
 
 /// The text of a report on so many actors, whose names are a1, a2 and so on. Nothing where they are not as many, or memory was

@@ -1,19 +1,10 @@
 //! Stories that go on step by step, on one thread.
+use crate::sending::Sending;
 use crate::stage::Stage;
 use crate::story::{Story, words};
 use std::alloc::Global;
 use std::process::Abort;
 use std::sync::Wait;
-
-/// What is sent to an actor: a message of a kind and a value, such a control message, or what ends it.
-#[derive(Clone, Copy)]
-pub enum Sending {
-    Tell(u32, u32, i64),
-    Control(u32, u32, i64),
-    Poison(u32),
-    Kill(u32),
-    Stop(u32),
-}
 
 /// What is done next; of actors by their numbers.
 #[derive(Clone, Copy)]

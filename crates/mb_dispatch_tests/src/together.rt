@@ -4,14 +4,26 @@ ghost use Rattle.mb_build.specs.Behaved.{AreBehaved};
 ghost use Rattle.mb_system.specs.Belonging.{BelongsTogether};
 
 use crate::player::{Adding, Player, players_of};
-use crate::story::{Story, copy_of, orders_at, orders_of, plan_of, text_of};
+use crate::sending::{orders_at, same_orders};
+use crate::story::{Story, plan_of, text_of, words};
 use mb_actor::{Actor, Behaviours};
 use mb_dispatch::{Built, Job, Order, Sender, System, finish};
 use mb_plan::Plan;
 use mb_report::Report;
 use std::alloc::{AllocError, Global};
+use std::process::Abort;
 use std::sync::Wait;
 use std::thread::Threads;
+
+/// A story, and the text of its report.
+pub type Run = (Story<'static>, &'static str);
+
+/// Plays each of these stories, and sees to it that its report has this text.
+pub fn play_together<R: Abort + Threads + Wait + Sync>(rt: &R, alloc: Global, runs: &[Run]) {
+    for (story, report) in runs {
+        assert_eq!(rt; words(&run_together(rt, alloc, story)), *report);
+    }
+}
 
 /// The report's text of this story; nothing where there is none.
 pub fn run_together<R: Threads + Wait + Sync>(
@@ -23,8 +35,8 @@ pub fn run_together<R: Threads + Wait + Sync>(
     let Ok(players) = players_of(alloc, story.parts) else {
         return None;
     };
-    let sends = orders_of(alloc, story.senders, story.orders).ok()?;
-    match report_of::<Player, Adding, R>(rt, alloc, plan, players, &sends) {
+    let orders = same_orders(alloc, story.senders, story.sends).ok()?;
+    match report_of::<Player, Adding, R>(rt, alloc, plan, players, &orders) {
         Ok(Some(report)) => text_of(alloc, &report, story.parts.len()),
         _ => None,
     }
@@ -36,7 +48,7 @@ pub fn report_of<A: Actor + Send, K: Behaviours + Send, R: Threads + Wait + Sync
     alloc: Global,
     plan: Plan,
     actors: Vec<A>,
-    sends: &[Vec<Order>],
+    orders: &[Vec<Order>],
 ) -> Result<Option<Report>, AllocError>
     requires behaved { AreBehaved A.content A.after A.gives K.after K.gives 1 actors.items }
 {
@@ -46,7 +58,7 @@ pub fn report_of<A: Actor + Send, K: Behaviours + Send, R: Threads + Wait + Sync
         mut ends,
         senders,
     } = built;
-    let mut jobs = jobs_of(alloc, senders, sends)?;
+    let mut jobs = jobs_of(alloc, senders, orders)?;
     let workers = ends.as_mut_slice();
     let tasks = jobs.as_mut_slice();
     match system.run(rt, workers, tasks) {
@@ -92,13 +104,14 @@ pub(crate) fn end<A: Actor, K: Behaviours, R: Wait>(rt: &R, built: Built<A, K>) 
 fn jobs_of<A: Actor, K: Behaviours>(
     alloc: Global,
     senders: Vec<Sender<A, K>>,
-    sends: &[Vec<Order>],
+    orders: &[Vec<Order>],
 ) -> Result<Vec<Job<A, K>>, AllocError>
     ensures { IfOk result (λ jobs. map (λ job. job.sender) jobs.items ≡ senders.items) }
 {
     let mut jobs = Vec::new(alloc);
     for sender in senders {
-        let sends = copy_of(alloc, orders_at(sends, jobs.len()))?;
+        let mut sends = Vec::new(alloc);
+        sends.extend_from_slice(orders_at(orders, jobs.len()))?;
         jobs.push(Job { sender, sends })?;
     }
     Ok(jobs)
