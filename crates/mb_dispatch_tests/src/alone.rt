@@ -1,7 +1,7 @@
 //! Whole runs on one thread: all is sent before anything is run.
 use crate::player::players_of;
 use crate::sending::same_orders;
-use crate::story::{Story, plan_of, text_of, words};
+use crate::story::{Story, plan_of, see, text_of};
 use crate::together::Run;
 use mb_dispatch::run_whole;
 use std::alloc::Global;
@@ -11,7 +11,7 @@ use std::sync::Wait;
 /// Plays each of these stories, and sees to it that its report has this text, or that this is why there is no report.
 pub fn play_alone<R: Abort + Wait>(rt: &R, alloc: Global, runs: &[Run]) {
     for (story, report) in runs {
-        assert_eq!(rt; words(&run_alone(rt, alloc, story)), *report);
+        see(rt, &run_alone(rt, alloc, story), *report);
     }
 }
 

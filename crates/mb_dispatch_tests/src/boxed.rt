@@ -4,7 +4,7 @@ ghost use Rattle.std.specs.Prelude.{◌≡◌, [], All, IfOk};
 use crate::player::{ADD, COUNTER, Player};
 use crate::sending::Sending::{self, Poison, Tell};
 use crate::sending::same_orders;
-use crate::story::{PLAIN, Story, plan_of, text_of, words};
+use crate::story::{PLAIN, Story, plan_of, see, text_of};
 use crate::watcher::Watcher;
 use mb_actor::{Actor, Outbox};
 use mb_dispatch::run_boxed;
@@ -74,6 +74,6 @@ fn a_boxed_actor_watches_one_of_another_kind(rt: HostRuntime) -> Result<(), Fail
     let first: Box<dyn Actor + Send> = Box::new(rt.alloc(), Watcher { of: ActorId(2) })?;
     let second: Box<dyn Actor + Send> = Box::new(rt.alloc(), Player::new(COUNTER))?;
     let found = run_both(&rt, rt.alloc(), first, second);
-    assert_eq!(rt; words(&found), REPORT);
+    see(&rt, &found, REPORT);
     Ok(())
 }

@@ -73,3 +73,5 @@ mod together;
 mod unbuilt;
 #[cfg(test)]
 mod watcher;
+#[cfg(test)]
+mod witness;

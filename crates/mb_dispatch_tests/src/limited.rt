@@ -2,8 +2,16 @@
 use crate::alone::play_alone;
 use crate::player::{ADD, COUNTER, Mailbox, Part};
 use crate::sending::Sending::{self, Tell};
-use crate::story::{PLAIN, Story};
+use crate::sending::same_orders;
+use crate::story::{PLAIN, Story, plan_of};
 use crate::together::Run;
+use crate::witness::one_witness;
+use mb_dispatch::{RunError, WholeError, run_whole};
+use std::alloc::{AllocError, Global};
+use std::sync::atomic::AtomicI64;
+use std::sync::atomic::Ordering::SeqCst;
+use std::sync::{Arc, Wait};
+use std::test::Fail;
 
 pub const TWO_PLACES: &str = "\
 guardian live state - suspended 0 handled 0 left 0 dead 0 restarts 0
@@ -44,15 +52,15 @@ const FULL_MAILBOX: &[Run] = &[
     ),
 ];
 
-const FULL_JOURNAL: &[Run] = &[(
-    Story {
-        journal_limit: 2,
-        parts: &[COUNTER],
-        sends: &[Tell(1, ADD, 1), Tell(1, ADD, 2)],
-        ..PLAIN
-    },
-    "Run(JournalFull)",
-)];
+/// There is room for the start and one message.
+const SHORT: Story<'static> = Story {
+    journal_limit: 2,
+    parts: &[COUNTER],
+    sends: &[Tell(1, ADD, 1), Tell(1, ADD, 2)],
+    ..PLAIN
+};
+
+const FULL_JOURNAL: &[Run] = &[(SHORT, "Run(JournalFull)")];
 
 #[test]
 fn what_finds_a_full_mailbox_is_dead(rt: HostRuntime) {
@@ -62,4 +70,25 @@ fn what_finds_a_full_mailbox_is_dead(rt: HostRuntime) {
 #[test]
 fn what_finds_a_full_journal_is_not_handled(rt: HostRuntime) {
     play_alone(&rt, rt.alloc(), FULL_JOURNAL)
+}
+
+/// Whether a witness finds its journal full.
+fn is_journal_full<R: Wait>(
+    rt: &R,
+    alloc: Global,
+    shown: Arc<AtomicI64>,
+) -> Result<bool, AllocError> {
+    let plan = plan_of(alloc, &SHORT)?;
+    let witnesses = one_witness(alloc, shown)?;
+    let orders = same_orders(alloc, SHORT.senders, SHORT.sends)?;
+    let run = run_whole(rt, alloc, plan, witnesses, &orders);
+    Ok(matches!(run, Err(WholeError::Run(RunError::JournalFull))))
+}
+
+#[test]
+fn what_was_handled_before_stands(rt: HostRuntime) -> Result<(), Fail> {
+    let shown = Arc::new(rt.alloc(), AtomicI64::new(0))?;
+    assert!(rt; is_journal_full(&rt, rt.alloc(), shown.clone()?)?);
+    assert_eq!(rt; shown.load(SeqCst), 1);
+    Ok(())
 }

@@ -3,7 +3,7 @@ use crate::guest::{Guest, Hall, Silent};
 use crate::player::{ADD, COUNTER};
 use crate::sending::Sending::Tell;
 use crate::sending::same_orders;
-use crate::story::{PLAIN, Story, plan_of, text_of, words};
+use crate::story::{PLAIN, Story, plan_of, see, text_of};
 use crate::together::report_of;
 use mb_plan::Pool;
 use std::alloc::{AllocError, Global};
@@ -52,10 +52,10 @@ fn two_guests(alloc: Global) -> Result<Vec<Guest>, AllocError> {
 
 #[test]
 fn two_actors_meet_by_a_shared_pool(rt: HostRuntime) {
-    assert_eq!(rt; words(&meet(&rt, rt.alloc(), Pool::Shared)), REPORT);
+    see(&rt, &meet(&rt, rt.alloc(), Pool::Shared), REPORT);
 }
 
 #[test]
 fn two_actors_meet_by_a_stealing_pool(rt: HostRuntime) {
-    assert_eq!(rt; words(&meet(&rt, rt.alloc(), Pool::Stealing)), REPORT);
+    see(&rt, &meet(&rt, rt.alloc(), Pool::Stealing), REPORT);
 }

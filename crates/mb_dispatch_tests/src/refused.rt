@@ -1,17 +1,15 @@
 //! A whole run on one thread, whose calls are made again where memory was refused: run this with each allocation refused in turn
 //! (`tools/refuse_each_allocation_of_a_system`).
-ghost use Rattle.std.specs.Prelude.{IfOk};
-ghost use Rattle.mb_system.specs.Belonging.{BelongsTogether};
-
+use crate::closing::{Refusal, Unfinished};
+use crate::company::Company;
 use crate::deed::Deed;
-use crate::player::{ADD, Adding, COUNTER, FAIL, Part, Player, players_of};
-use crate::story::{PLAIN, Story, plan_of, text_of, words};
-use crate::together::{begin, end};
-use mb_dispatch::{Built, FinishError, Put, RunError, Unsent, finish};
+use crate::player::{ADD, COUNTER, FAIL, Part};
+use crate::story::{PLAIN, Story, text_of, words};
+use mb_dispatch::{Put, RunError, Unsent};
 use mb_msg::{ActorId, Body, Why};
 use mb_plan::Pool;
 use mb_report::Report;
-use std::alloc::{AllocError, Global};
+use std::alloc::Global;
 use std::process::Abort;
 use std::sync::Wait;
 
@@ -23,11 +21,6 @@ const PARENT: Part = Part {
 const CHILD: Part = Part {
     parent: 1,
     ..COUNTER
-};
-
-const FAILURE: Body = Body::User {
-    kind: FAIL,
-    value: 0,
 };
 
 /// With ample memory. The same where the last envelope finds no memory: it is dead in any case.
@@ -75,109 +68,86 @@ sent 5 handled 4 left 0 dead 1
 ";
 
 /// What the child is sent, and the report where that finds no memory.
-fn sends() -> [(Body, &'static str); 5] {
-    [
-        (add(5), WITHOUT_5),
-        (FAILURE, WITHOUT_FAILURE),
-        (add(7), WITHOUT_7),
-        (Body::PoisonPill, WITHOUT_POISON),
-        (add(9), WITH_ALL),
-    ]
-}
-
-fn add(value: i64) -> Body {
-    Body::User { kind: ADD, value }
-}
+const SENDS: &[(Body, &str)] = &[
+    (
+        Body::User {
+            kind: ADD,
+            value: 5,
+        },
+        WITHOUT_5,
+    ),
+    (
+        Body::User {
+            kind: FAIL,
+            value: 0,
+        },
+        WITHOUT_FAILURE,
+    ),
+    (
+        Body::User {
+            kind: ADD,
+            value: 7,
+        },
+        WITHOUT_7,
+    ),
+    (Body::PoisonPill, WITHOUT_POISON),
+    (
+        Body::User {
+            kind: ADD,
+            value: 9,
+        },
+        WITH_ALL,
+    ),
+];
 
 /// A system of the two, built once more where memory was refused.
-fn build_at_last<R: Wait>(
-    rt: &R,
-    alloc: Global,
-    story: &Story<'_>,
-) -> Result<Built<Player, Adding>, AllocError>
-    ensures { IfOk result BelongsTogether }
-{
-    match build(rt, alloc, story) {
-        Ok(built) => Ok(built),
-        Err(_) => build(rt, alloc, story),
+fn build_at_last<R: Wait>(rt: &R, alloc: Global, story: &Story<'_>) -> Option<Company> {
+    match Company::new(rt, alloc, story) {
+        Ok(company) => Some(company),
+        Err(_) => Company::new(rt, alloc, story).ok(),
     }
 }
 
-fn build<R: Wait>(
-    rt: &R,
-    alloc: Global,
-    story: &Story<'_>,
-) -> Result<Built<Player, Adding>, AllocError>
-    ensures { IfOk result BelongsTogether }
-{
-    let plan = plan_of(alloc, story)?;
-    let players = players_of(alloc, story.parts)?;
-    begin::<Player, Adding, R>(rt, alloc, plan, players)
-}
-
-/// Sends all, once more where nothing was sent: the report that is due.
-fn tell_each<R: Wait>(rt: &R, built: &mut Built<Player, Adding>) -> Option<&'static str>
-    requires together { BelongsTogether built.old }
-    ensures together { BelongsTogether built.new }
-{
+/// Sends all: the report that is due.
+fn tell_each<R: Wait>(rt: &R, company: &mut Company) -> Option<&'static str> {
     let mut due = WITH_ALL;
-    for (body, without) in sends() {
-        let put = match tell(rt, built, body)? {
-            Err(Unsent::NoMemory) => tell(rt, built, body)?,
-            put => put,
-        };
-        match put {
+    for (body, without) in SENDS {
+        match tell_at_last(rt, company, *body)? {
             Ok(Put::Queued(_)) => {}
-            Ok(Put::Dead(_, Why::NoMemory)) => due = without,
+            Ok(Put::Dead(_, Why::NoMemory)) => due = *without,
             _ => return None,
         }
     }
     Some(due)
 }
 
-fn tell<R: Wait>(
-    rt: &R,
-    built: &mut Built<Player, Adding>,
-    body: Body,
-) -> Option<Result<Put, Unsent>>
-    requires together { BelongsTogether built.old }
-    ensures together { BelongsTogether built.new }
-{
-    if built.senders.is_empty() {
-        return None;
+/// Sends this, once more where nothing was sent.
+fn tell_at_last<R: Wait>(rt: &R, company: &mut Company, body: Body) -> Option<Result<Put, Unsent>> {
+    match company.tell(rt, ActorId(2), body)? {
+        Err(Unsent::NoMemory) => company.tell(rt, ActorId(2), body),
+        put => Some(put),
     }
-    Some(built.senders[0].tell(rt, &built.system, ActorId(2), body))
 }
 
 /// Runs all, once more where memory was refused: whether it ran.
-fn run_at_last<R: Wait>(rt: &R, built: &mut Built<Player, Adding>) -> bool
-    requires together { BelongsTogether built.old }
-    ensures together { BelongsTogether built.new }
-{
-    match run(rt, built) {
-        Err(RunError::NoMemory) => run(rt, built).is_ok(),
-        answer => answer.is_ok(),
-    }
-}
-
-fn run<R: Wait>(rt: &R, built: &mut Built<Player, Adding>) -> Result<(), RunError>
-    requires together { BelongsTogether built.old }
-    ensures together { BelongsTogether built.new }
-{
-    if built.ends.is_empty() {
-        return Ok(());
-    }
-    let _turns = built.ends[0].run_quietly(rt, &built.system)?;
-    Ok(())
+fn run_at_last<R: Wait>(rt: &R, company: &mut Company) -> bool {
+    let turns = match company.run_quietly(rt) {
+        Some(Err(RunError::NoMemory)) => company.run_quietly(rt),
+        turns => turns,
+    };
+    matches!(turns, Some(Ok(_)))
 }
 
 /// Ends the system, once more where memory was refused.
-fn finish_at_last<R: Wait>(rt: &R, built: Built<Player, Adding>) -> Option<Report>
-    requires together { BelongsTogether built }
-{
-    match finish(rt, built) {
+fn finish_at_last<R: Wait>(rt: &R, company: Company) -> Option<Report> {
+    match company.finish(rt) {
         Ok(report) => Some(report),
-        Err(FinishError::NoMemory(back)) => end(rt, back),
+        Err(
+            Unfinished {
+                why: Refusal::NoMemory,
+                back: Some(back),
+            },
+        ) => back.finish(rt).ok(),
         Err(_) => None,
     }
 }
@@ -193,23 +163,20 @@ fn report_at_last<R: Wait>(
         parts: &[PARENT, CHILD],
         ..PLAIN
     };
-    let Ok(mut built) = build_at_last(rt, alloc, &story) else {
-        return None;
-    };
-    let due = tell_each(rt, &mut built)?;
-    if !run_at_last(rt, &mut built) {
+    let mut company = build_at_last(rt, alloc, &story)?;
+    let due = tell_each(rt, &mut company)?;
+    if !run_at_last(rt, &mut company) {
         return None;
     }
-    let report = finish_at_last(rt, built)?;
-    let text = text_of(alloc, &report, 2);
-    Some((
-        if text.is_some() {
-            text
-        } else {
-            text_of(alloc, &report, 2)
-        },
-        due,
-    ))
+    let report = finish_at_last(rt, company)?;
+    Some((text_at_last(alloc, &report), due))
+}
+
+fn text_at_last(alloc: Global, report: &Report) -> Option<String> {
+    match text_of(alloc, report, 2) {
+        Some(text) => Some(text),
+        None => text_of(alloc, report, 2),
+    }
 }
 
 fn try_at_last<R: Abort + Wait>(rt: &R, alloc: Global, pool: Pool) {

@@ -1,7 +1,7 @@
 //! Stories that go on step by step, on one thread.
 use crate::sending::Sending;
 use crate::stage::Stage;
-use crate::story::{Story, words};
+use crate::story::{Story, see};
 use std::alloc::Global;
 use std::process::Abort;
 use std::sync::Wait;
@@ -45,8 +45,7 @@ pub fn play<R: Abort + Wait>(rt: &R, alloc: Global, tales: &[Tale]) {
     for tale in tales {
         let mut stage = Stage::new(rt, alloc, &tale.story);
         for (step, answer) in tale.steps {
-            let found = stage.take(rt, *step);
-            assert_eq!(rt; words(&found), *answer);
+            see(rt, &stage.take(rt, *step), *answer);
         }
     }
 }

@@ -5,7 +5,7 @@ ghost use Rattle.mb_system.specs.Belonging.{BelongsTogether};
 
 use crate::player::{Adding, Player, players_of};
 use crate::sending::{orders_at, same_orders};
-use crate::story::{Story, plan_of, text_of, words};
+use crate::story::{Story, plan_of, see, text_of};
 use mb_actor::{Actor, Behaviours};
 use mb_dispatch::{Built, Job, Order, Sender, System, finish};
 use mb_plan::Plan;
@@ -21,7 +21,7 @@ pub type Run = (Story<'static>, &'static str);
 /// Plays each of these stories, and sees to it that its report has this text.
 pub fn play_together<R: Abort + Threads + Wait + Sync>(rt: &R, alloc: Global, runs: &[Run]) {
     for (story, report) in runs {
-        assert_eq!(rt; words(&run_together(rt, alloc, story)), *report);
+        see(rt, &run_together(rt, alloc, story), *report);
     }
 }
 
@@ -91,7 +91,7 @@ pub fn begin<A: Actor, K: Behaviours, R: Wait>(
 }
 
 // The report of a system that ends.
-pub(crate) fn end<A: Actor, K: Behaviours, R: Wait>(rt: &R, built: Built<A, K>) -> Option<Report>
+fn end<A: Actor, K: Behaviours, R: Wait>(rt: &R, built: Built<A, K>) -> Option<Report>
     requires together { BelongsTogether built }
 {
     match finish(rt, built) {
