@@ -1,8 +1,11 @@
 //! Whole runs on one thread: all is sent before anything is run.
+ghost use Rattle.std.specs.Prelude.{◌≡◌, [], All};
+
 use crate::player::players_of;
 use crate::sending::same_orders;
 use crate::story::{Story, plan_of, see, text_of};
 use crate::together::Run;
+use mb_actor::Actor;
 use mb_dispatch::run_whole;
 use std::alloc::Global;
 use std::process::Abort;
@@ -17,12 +20,24 @@ pub fn play_alone<R: Abort + Wait>(rt: &R, alloc: Global, runs: &[Run]) {
 
 // The report's text of this story, or why there is no report. Nothing where memory was refused.
 fn run_alone<R: Wait>(rt: &R, alloc: Global, story: &Story<'_>) -> Option<String> {
+    match players_of(alloc, story.parts) {
+        Ok(players) => text_alone(rt, alloc, story, players),
+        Err(_) => None,
+    }
+}
+
+/// The same where these are the actors.
+pub fn text_alone<A: Actor, R: Wait>(
+    rt: &R,
+    alloc: Global,
+    story: &Story<'_>,
+    actors: Vec<A>,
+) -> Option<String>
+    requires unused { All (λ actor. A.content actor ≡ A.after actor []) actors.items }
+{
     let plan = plan_of(alloc, story).ok()?;
-    let Ok(players) = players_of(alloc, story.parts) else {
-        return None;
-    };
     let orders = same_orders(alloc, story.senders, story.sends).ok()?;
-    match run_whole(rt, alloc, plan, players, &orders) {
+    match run_whole(rt, alloc, plan, actors, &orders) {
         Ok(report) => text_of(alloc, &report, story.parts.len()),
         Err(error) => format!(in alloc; "{error:?}").ok(),
     }

@@ -1,16 +1,13 @@
 //! Mailboxes and journals that are full, on one thread.
-use crate::alone::play_alone;
+use crate::alone::{play_alone, text_alone};
 use crate::player::{ADD, COUNTER, Mailbox, Part};
 use crate::sending::Sending::{self, Tell};
-use crate::sending::same_orders;
-use crate::story::{PLAIN, Story, plan_of};
+use crate::story::{PLAIN, Story, see};
 use crate::together::Run;
 use crate::witness::one_witness;
-use mb_dispatch::{RunError, WholeError, run_whole};
-use std::alloc::{AllocError, Global};
+use std::sync::Arc;
 use std::sync::atomic::AtomicI64;
 use std::sync::atomic::Ordering::SeqCst;
-use std::sync::{Arc, Wait};
 use std::test::Fail;
 
 pub const TWO_PLACES: &str = "\
@@ -60,7 +57,9 @@ const SHORT: Story<'static> = Story {
     ..PLAIN
 };
 
-const FULL_JOURNAL: &[Run] = &[(SHORT, "Run(JournalFull)")];
+const JOURNAL_FULL: &str = "Run(JournalFull)";
+
+const SHORT_JOURNAL: &[Run] = &[(SHORT, JOURNAL_FULL)];
 
 #[test]
 fn what_finds_a_full_mailbox_is_dead(rt: HostRuntime) {
@@ -69,26 +68,18 @@ fn what_finds_a_full_mailbox_is_dead(rt: HostRuntime) {
 
 #[test]
 fn what_finds_a_full_journal_is_not_handled(rt: HostRuntime) {
-    play_alone(&rt, rt.alloc(), FULL_JOURNAL)
-}
-
-/// Whether a witness finds its journal full.
-fn is_journal_full<R: Wait>(
-    rt: &R,
-    alloc: Global,
-    shown: Arc<AtomicI64>,
-) -> Result<bool, AllocError> {
-    let plan = plan_of(alloc, &SHORT)?;
-    let witnesses = one_witness(alloc, shown)?;
-    let orders = same_orders(alloc, SHORT.senders, SHORT.sends)?;
-    let run = run_whole(rt, alloc, plan, witnesses, &orders);
-    Ok(matches!(run, Err(WholeError::Run(RunError::JournalFull))))
+    play_alone(&rt, rt.alloc(), SHORT_JOURNAL)
 }
 
 #[test]
 fn what_was_handled_before_stands(rt: HostRuntime) -> Result<(), Fail> {
     let shown = Arc::new(rt.alloc(), AtomicI64::new(0))?;
-    assert!(rt; is_journal_full(&rt, rt.alloc(), shown.clone()?)?);
+    let witnesses = one_witness(rt.alloc(), shown.clone()?)?;
+    see(
+        &rt,
+        &text_alone(&rt, rt.alloc(), &SHORT, witnesses),
+        JOURNAL_FULL,
+    );
     assert_eq!(rt; shown.load(SeqCst), 1);
     Ok(())
 }

@@ -31,12 +31,24 @@ pub fn run_together<R: Threads + Wait + Sync>(
     alloc: Global,
     story: &Story<'_>,
 ) -> Option<String> {
+    match players_of(alloc, story.parts) {
+        Ok(players) => text_together::<Player, Adding, R>(rt, alloc, story, players),
+        Err(_) => None,
+    }
+}
+
+/// The text of the report of this story where these are its actors; nothing where there is none.
+pub fn text_together<A: Actor + Send, K: Behaviours + Send, R: Threads + Wait + Sync>(
+    rt: &R,
+    alloc: Global,
+    story: &Story<'_>,
+    actors: Vec<A>,
+) -> Option<String>
+    requires behaved { AreBehaved A.content A.after A.gives K.after K.gives 1 actors.items }
+{
     let plan = plan_of(alloc, story).ok()?;
-    let Ok(players) = players_of(alloc, story.parts) else {
-        return None;
-    };
     let orders = same_orders(alloc, story.senders, story.sends).ok()?;
-    match report_of::<Player, Adding, R>(rt, alloc, plan, players, &orders) {
+    match report_of::<A, K, R>(rt, alloc, plan, actors, &orders) {
         Ok(Some(report)) => text_of(alloc, &report, story.parts.len()),
         _ => None,
     }
