@@ -3,7 +3,8 @@ use Rattle.std.proofs.Common.{◌≡◌, ◌⊎◌, inl, inr, ◌++◌, [], Bool
 use Rattle.std.specs.Prelude.{IfNone}
 use Rattle.std.proofs.lemmas.List.{append-nil}
 use Rattle.mb_turn.specs.Caller.{Caller, IsPaid, LeavesCaller}
-use Rattle.mb_turn.proofs.CallerLemmas.{account-none, account-then, account-woken, further-by}
+use Rattle.mb_turn.proofs.CallerLemmas.{account-none, account-then, account-woken}
+use Rattle.mb_turn.proofs.MoveLemmas.{further-moves, moves-does}
 use Rattle.mb_gate.specs.View.{owes}
 use Rattle.mb_wake.specs.Views.{LooksAfter}
 use Rattle.mb_wake.specs.Waking.{IsWoken}
@@ -13,7 +14,8 @@ use Rattle.mb_system.proofs.Saw.{saw-same, saw-then}
 pub leaves-woken : {H : Type 0} (id : ℕ) (a b : Caller H) (woken : Bool) → LooksAfter id a.view b.view → IsWoken id a.account b.account woken
     → IsPaid id b → LeavesCaller a b
 leaves-woken id a b woken looks w paid =
-    let g = further-by id [] [] a b looks (account-woken id a.account b.account woken w) paid in
+    let moves = moves-does id [] [] a.view b.view tt looks in
+    let g = further-moves id a b moves (account-woken id a.account b.account woken w) paid in
     record {
       log = record { before = g.more; after = []; joined = g.log ∙ ap (λ l. g.more ++ l) (sym (append-nil a.view.log)) };
       account = g.account;

@@ -81,7 +81,7 @@ module _ {A K : Type 0} where
   }
 
 -- it sees still what it saw, and owes the others what it did
-record GoesOnAt (id : ℕ) (old new : View) : Type 0 where
+pub record GoesOnAt (id : ℕ) (old new : View) : Type 0 where
   pub saw : IsPart old.log new.log
   pub others : (other : ℕ) → other ≢ id → owes other new ≡ owes other old
 

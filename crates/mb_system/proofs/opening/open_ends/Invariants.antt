@@ -1,4 +1,4 @@
-use Rattle.std.proofs.Common.{◌≡◌, ◌++◌, [], length}
+use Rattle.std.proofs.Common.{◌≡◌, ◌++◌, length}
 use Rattle.std.specs.Prelude.{All, Some}
 use Rattle.std.specs.Vec.Iter.{into_iter_items}
 use Rattle.mb_gate.specs.Names.{known_by, pass_id}

@@ -1,4 +1,4 @@
-use Rattle.std.proofs.Common.{◌≡◌, ◌++◌, [], drop, length, map, take}
+use Rattle.std.proofs.Common.{◌≡◌, ◌++◌, drop, length, map, take}
 use Rattle.std.specs.Prelude.{All, Some}
 use Rattle.std.specs.Vec.Iter.{into_iter_items}
 use Rattle.mb_msg.specs.Limits.{most_actors}

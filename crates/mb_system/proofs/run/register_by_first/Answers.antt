@@ -3,7 +3,7 @@ use Rattle.mb_gate.specs.Names.{actors_of, known_by}
 use Rattle.mb_system.specs.Members.{end_caller}
 use Rattle.mb_system.proofs.Debts.{debts-left, debts-same}
 use Rattle.mb_system.proofs.Saw.{saw-same}
-use Rattle.mb_system.proofs.Sides.{first_changed, zip_first, zip_same}
+use Rattle.mb_system.proofs.Sides.{first_changed, zip_first}
 use Rattle.mb_system.proofs.run.register_by_first.Goals as goal
 
 pub returns-in-Some-clause-ends : goal.returns-in-Some-clause-ends
