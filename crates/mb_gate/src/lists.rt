@@ -323,6 +323,26 @@ impl<H: Resident> Gates<H> {
         chain
     }
 
+    /// Whether nothing is listed of the claim's actor and the last drain gave nothing: then this one load is a drain that gives
+    /// nothing, as `sys_drain` makes it, and else nothing is changed (`systemQueue` that is empty). It waits for nobody.
+    #[inline]
+    pub fn sys_is_drained(&self, claim: &mut Claim<H>) -> bool
+        requires ours { claim_id claim.old ≡ gates_id self.now }
+        requires there { held_actor claim.old < actors_of self.now }
+        ensures ours { (claim_id claim.new ≡ claim_id claim.old) × (held_actor claim.new ≡ held_actor claim.old) }
+        ensures known { result ≡ true → known_of claim.new ≡ draining (held_actor claim.old) [] false (known_of claim.old) }
+        ensures same { (status_of claim.new ≡ status_of claim.old) × (claim.new.home ≡ claim.old.home) }
+        ensures taken { (taken_with claim.new ≡ taken_with claim.old) × (closed_with claim.new ≡ closed_with claim.old) }
+        ensures recorded { recorded_by claim.new ≡ recorded_by claim.old }
+        ensures given { result ≡ true → given_to claim.new ≡ given_after (given_to claim.old) [] }
+        ensures gave { result ≡ true → gave_last claim.new ≡ false }
+        ensures drained { result ≡ true → drained_by claim.new ≡ drained_by claim.old ++ [] }
+        ensures unchanged { result ≡ false → (known_of claim.new ≡ known_of claim.old) × (gave_last claim.new ≡ gave_last claim.old)
+            × (given_to claim.new ≡ given_to claim.old) × (drained_by claim.new ≡ drained_by claim.old) }
+    {
+        self.is_drained(&mut claim.seat, claim.actor)
+    }
+
     /// Takes all system messages that are listed out of the list of the claim's actor, the earliest first, with their
     /// numbers, which go on from how many were given before (`systemDrain`). Each names actors of these gates alone. It
     /// takes no memory, and may wait for the list's gate; a drain of an empty list, where the last drain gave nothing, is

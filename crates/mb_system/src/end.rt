@@ -107,6 +107,7 @@ impl<A: Actor, K: Behaviours> WorkerEnd<A, K> {
 
     /// Takes the claim of an actor out of the pool, as it was pushed: the actor's mailbox is to be run. `None` only if each place in
     /// which it looks was empty at a moment; then the end is as it was.
+    #[inline(always)]
     pub fn take<R: Wait>(&mut self, rt: &R) -> Option<Claim<Place<A, K>>>
         ensures fit { IfSome result (IsFreshClaim K.gives (gates_of self.old.waker.way.end)) }
         ensures none { IfNone result ((self.new ≡ self.old) × All (WasEmpty (IsFreshClaim K.gives)) (looks self.old.waker.way.end)) }
@@ -121,6 +122,7 @@ impl<A: Actor, K: Behaviours> WorkerEnd<A, K> {
     ///
     /// It answers `JournalFull` or `NoMemory` if there was no room for the next message, or for an envelope of an actor that ended:
     /// then the run ends there, and what it did stays done. The claim went home all the same, and the end may be used on.
+    #[inline(always)]
     pub fn run_mailbox<R: Wait>(
         &mut self,
         rt: &R,

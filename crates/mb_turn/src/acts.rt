@@ -23,6 +23,7 @@ use std::sync::Wait;
 
 /// Carries out the acts of the last message, in order. It answers `NoMemory` if a place for an envelope of an actor that
 /// ended was refused; the other acts are carried out all the same.
+#[inline(always)]
 pub(crate) fn carry_out<A: Actor, K: Behaviours, W: Way<Place<A, K>>, R: Wait>(
     rt: &R,
     gates: &Gates<Place<A, K>>,

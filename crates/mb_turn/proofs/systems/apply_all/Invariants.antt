@@ -6,7 +6,7 @@ use Rattle.mb_turn.specs.Emptied.{IsCleared}
 use Rattle.mb_turn.specs.Hold.{hold_of}
 use Rattle.mb_turn.specs.Ran.{IsTurning}
 use Rattle.mb_turn.specs.Running.{IsRunning, IsBeside, SameRun}
-use Rattle.mb_turn.proofs.systems.apply_systems.Given as goal
+use Rattle.mb_turn.proofs.systems.apply_all.Given as goal
 
 abbrev pub invariant-loop : goal.invariant-loop
 invariant-loop g l =
