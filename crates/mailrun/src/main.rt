@@ -3,7 +3,15 @@
 
 mod arguments;
 #[cfg(test)]
-mod tests;
+mod command_line;
+#[cfg(test)]
+mod driven;
+#[cfg(test)]
+mod refusals;
+#[cfg(test)]
+mod reports;
+#[cfg(test)]
+mod streams;
 
 use arguments::argument_count;
 use mb_program::{Watched, run_program};

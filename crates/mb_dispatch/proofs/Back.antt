@@ -1,5 +1,5 @@
 -- What comes back after it was read, and what is known then.
-use Rattle.std.proofs.Common.{◌≡◌, ℕ, ◌+◌, ◌<◌, ◌≤◌, List, [], ◌∷◌, length, refl, sym, ap, ◌∙◌, subst, Some}
+use Rattle.std.proofs.Common.{◌≡◌, ℕ, ◌+◌, ◌<◌, ◌≤◌, List, [], ◌∷◌, ◌++◌, length, refl, sym, ap, ◌∙◌, subst, Some, append_assoc}
 use Rattle.std.proofs.Common.{arith, drop, get_or}
 use Rattle.std.specs.Prelude.{All, AllPairs, IfOk, MatchOption, Ok, Result, None, Option, ◌≢◌, slice_get, slice_set}
 use Rattle.std.specs.Global.{Box}
@@ -9,10 +9,11 @@ use Rattle.std.proofs.lemmas.Option.{same_Some}
 use Rattle.mb_gate.specs.declared.pass.Pass.{Pass}
 use Rattle.mb_msg.specs.declared.id.ActorId.{ActorId}
 use Rattle.mb_gate.specs.Names.{actors_of, gates_id, known_by, pass_id}
-use Rattle.mb_gate.specs.Rule.{IsPart}
-use Rattle.mb_gate.specs.View.{Sight, View}
+use Rattle.mb_gate.specs.Rule.{IsAmong, IsPart}
+use Rattle.mb_gate.specs.View.{Counted, Sight, View}
 use Rattle.mb_home.specs.Contents.{Contents}
 use Rattle.mb_pool.specs.Places.{gates_of}
+use Rattle.mb_reckon.specs.Rooms.{AreCounted}
 use Rattle.mb_reckon.specs.Settled.{AreSettledBy, IsUnsettled}
 use Rattle.mb_reckon.proofs.Lists.{length-mapped}
 use Rattle.mb_ways.specs.declared.end_way.EndWay.{EndWay}
@@ -38,6 +39,17 @@ module _ {X : Type 0} where
 found-part : (many : ℕ) (before after : View) → FindsSettled many before after → IsPart before.log after.log
 found-part many before after found =
     part-trans before.log found.0.log after.log (settled-part 0 many before found.0 found.1) found.2
+
+-- what is among a part is among all
+among-part : {X : Type 0} (x : X) (part all : List X) → IsPart part all → IsAmong x part → IsAmong x all
+among-part x part all is among =
+    let inner : part ++ is.after ≡ among.before ++ x ∷ (among.after ++ is.after)
+    = ap (λ l. l ++ is.after) among.joined ∙ append_assoc among.before (x ∷ among.after) is.after in
+    record {
+      before = is.before ++ among.before;
+      after = among.after ++ is.after;
+      joined = is.joined ∙ ap (λ l. is.before ++ l) inner ∙ sym (append_assoc is.before among.before (x ∷ (among.after ++ is.after)));
+    }
 
 pub ok-at : {X E : Type 0} (P : X → Type 0) (result : Result X E) (x : X) → result ≡ Ok x → IfOk result P → P x
 ok-at {X} {E} P result x is all = subst (λ (r : Result X E). IfOk r P) is all
@@ -218,3 +230,14 @@ module _ {A K : Type 0} where
         settled = subst (λ (v : View). AreSettledBy 0 (actors_of old.system.gates) v found.3.0) (sym back.knew) found.3.1;
         among = part-trans found.3.0.log found.1.log log found.3.2 last;
       }
+
+  -- what was counted as the first end read it was seen
+  pub counted-all : (old new : Built A K) (log : List Sight) (waiting : List ℕ)
+      → HasRead (λ (before : View) (after : View). AreCounted after.log waiting) old new → AllSeen seen_by_end new.ends.items log
+      → AreCounted log waiting
+  counted-all old new log waiting read ends =
+      let HasSeen = λ (e : WorkerEnd A K). IsPart (seen_by_end e) log in let back = read.2 in
+      let those = All-same HasSeen (back.first' ∷ back.rest) new.ends.items (sym back.is) ends in
+      let last : IsPart read.1.log log =
+      subst (λ (v : View). IsPart v.log log) back.knows (All-head HasSeen back.first' back.rest those) in
+      λ id n is. among-part (Counted id n) read.1.log log last (read.3 id n is)

@@ -33,7 +33,7 @@ use Rattle.mb_system.specs.Belonging.{senders_numbers}
 use Rattle.mb_system.specs.Enrolled.{AreKnown, IsKnown}
 use Rattle.mb_system.specs.Members.{IsSenderOf}
 use Rattle.mb_system.specs.declared.sender.Sender.{Sender}
-use Rattle.mb_dispatch.specs.Belonging.{AreAnswers, brings, brought}
+use Rattle.mb_dispatch.specs.Belonging.{AreAnswers, AreWays, brings, brought}
 use Rattle.mb_dispatch.proofs.Gathered.{seen_by_sender}
 use Rattle.mb_dispatch.proofs.Parts.{AllSeen}
 
@@ -120,26 +120,48 @@ module _ {A K : Type 0} where
             (let sum : 64 + (place + 1) ≡ 64 + place + 1 = omega arith in sum) rest,
       )
 
+  -- what each brought is listed in its place
+  module _ {Y : Type 0} (f : List Sending × Book → Y) (many : ℕ) (was now : List (Sender A K)) (outside : List Outsider)
+      (count : length now ≡ many) (same : IsPermutation now was) (numbered : senders_numbers now ≡ numbers 0 (length now))
+      (same_all : AreBrought now outside) where
+    as_many : length outside ≡ length now
+    as_many = sym (length-mapped brought outside) ∙ ap length same_all ∙ length-mapped brings now
+
+    brought-many : length (map (λ (o : Outsider). f (brought o)) outside) ≡ many
+    brought-many = length-mapped (λ (o : Outsider). f (brought o)) outside ∙ as_many ∙ count
+
+    abbrev IsListed : Sender A K → Type 0
+    IsListed s = slice_get (map (λ (o : Outsider). f (brought o)) outside) (s.inner.book.by.0 - 64) ≡ Some (f (brings s))
+
+    brought-each : All IsListed was
+    brought-each =
+        let number = λ (s : Sender A K). s.inner.book.by.0 - 64 in
+        All-permutation IsListed now was same (each-place IsListed now (λ i s is.
+        (let lt = slice_get_within now i s is in
+        let place : s.inner.book.by.0 - 64 ≡ i = same_Some (s.inner.book.by.0 - 64) i
+        (sym (mapped number now i s is) ∙ ap (λ l. slice_get l i) numbered ∙ number-at 0 (length now) i lt ∙ ap Some (let none : 0 + i ≡ i = omega arith in none)) in
+        let one = there outside i (omega (arith, lt, as_many)) in
+        let e = alike brought brings outside now i one.0 s same_all one.1 is in
+        ap (slice_get (map (λ (o : Outsider). f (brought o)) outside)) place
+        ∙ mapped (λ (o : Outsider). f (brought o)) outside i one.0 one.1 ∙ ap (λ (p : List Sending × Book). Some (f p)) e)))
+
   -- each was answered what is listed in its place
   pub answers : (many : ℕ) (was now : List (Sender A K)) (outside : List Outsider) → length now ≡ many → IsPermutation now was
       → senders_numbers now ≡ numbers 0 (length now) → AreBrought now outside
       → AreAnswers many was (map (λ (o : Outsider). o.book.posted) outside)
-  answers many was now outside count same numbered same_all =
-      let posted = λ (o : Outsider). o.book.posted in
-      let IsAnswered = λ (s : Sender A K). slice_get (map posted outside) (s.inner.book.by.0 - 64) ≡ Some s.inner.book.posted in
-      let number = λ (s : Sender A K). s.inner.book.by.0 - 64 in
-      let as_many : length outside ≡ length now =
-      sym (length-mapped brought outside) ∙ ap length same_all ∙ length-mapped brings now in record {
-        length_is = length-mapped posted outside ∙ as_many ∙ count;
-        each = All-permutation IsAnswered now was same (each-place IsAnswered now (λ i s is.
-            (let lt = slice_get_within now i s is in
-            let place : s.inner.book.by.0 - 64 ≡ i = same_Some (s.inner.book.by.0 - 64) i
-            (sym (mapped number now i s is) ∙ ap (λ l. slice_get l i) numbered ∙ number-at 0 (length now) i lt ∙ ap Some (let none : 0 + i ≡ i = omega arith in none)) in
-            let one = there outside i (omega (arith, lt, as_many)) in
-            let e = alike brought brings outside now i one.0 s same_all one.1 is in
-            ap (slice_get (map posted outside)) place ∙ mapped posted outside i one.0 one.1
-            ∙ ap (λ (p : List Sending × Book). Some p.1.posted) e)));
-      }
+  answers many was now outside count same numbered same_all = record {
+    length_is = brought-many (λ p. p.1.posted) many was now outside count same numbered same_all;
+    each = brought-each (λ p. p.1.posted) many was now outside count same numbered same_all;
+  }
+
+  -- and so are the passes of each
+  pub ways : (many : ℕ) (was now : List (Sender A K)) (outside : List Outsider) → length now ≡ many → IsPermutation now was
+      → senders_numbers now ≡ numbers 0 (length now) → AreBrought now outside
+      → AreWays many was (map (λ (o : Outsider). o.sends.items) outside)
+  ways many was now outside count same numbered same_all = record {
+    length_is = brought-many (λ p. p.0) many was now outside count same numbered same_all;
+    each = brought-each (λ p. p.0) many was now outside count same numbered same_all;
+  }
 
 -- ---- who may send
 

@@ -23,10 +23,10 @@ use Rattle.mb_system.specs.declared.built.Built.{Built}
 use Rattle.mb_system.specs.declared.end.WorkerEnd.{WorkerEnd}
 use Rattle.mb_system.specs.declared.sender.Sender.{Sender}
 use Rattle.mb_system.specs.declared.system.System.{System}
-use Rattle.mb_dispatch.specs.Belonging.{AreAnswers, HasAllSeen, HasRead, IsFoundSettled, brings, brought}
+use Rattle.mb_dispatch.specs.Belonging.{AreAnswers, AreWays, HasAllSeen, HasRead, IsFoundSettled, brings, brought}
 use Rattle.mb_dispatch.specs.Refused.{FindsSettled, IsComplete}
 use Rattle.mb_dispatch.proofs.Back.{all-seen, was-settled}
-use Rattle.mb_dispatch.proofs.Bringing.{answers, known-senders, outsiders}
+use Rattle.mb_dispatch.proofs.Bringing.{answers, known-senders, outsiders, ways}
 use Rattle.mb_dispatch.proofs.Gathered.{seen_by_end, seen_by_sender}
 use Rattle.mb_dispatch.proofs.Parts.{each-part}
 use Rattle.mb_dispatch.proofs.Places.{as-many-senders, outside-all}
@@ -92,6 +92,9 @@ module _ {A K : Type 0} (built : Built A K) (gates : Gates (Box Contents)) (log 
 
   pub came-answers : AreAnswers built.system.senders built.senders.items (map (λ (o : Outsider). o.book.posted) outside)
   came-answers = answers built.system.senders built.senders.items came.now outside now-many came.same in-places came.shown
+
+  pub came-ways : AreWays built.system.senders built.senders.items (map (λ (o : Outsider). o.sends.items) outside)
+  came-ways = ways built.system.senders built.senders.items came.now outside now-many came.same in-places came.shown
 
   -- the report goes on from what each end and each sender saw
   pub goes-on : (report : Report) (v : View) → v.log ≡ log → GoesOnFromAll report v

@@ -15,14 +15,14 @@ use Rattle.mb_gate.specs.Rule.{IsPart}
 use Rattle.mb_gate.specs.declared.gates.Gates.{Gates}
 use Rattle.mb_home.specs.Contents.{Contents}
 use Rattle.mb_pool.specs.Moves.{WasEmpty}
-use Rattle.mb_pool.specs.Places.{Way, gates_of, looks}
+use Rattle.mb_pool.specs.Places.{looks}
 use Rattle.mb_turn.specs.Fresh.{IsFreshClaim}
 use Rattle.mb_wake.specs.Owed.{IsNobody}
 use Rattle.mb_reckon.proofs.Lists.{mapped, same-maps, there}
 use Rattle.mb_system.specs.Belonging.{BelongsTogether, senders_numbers}
 use Rattle.mb_system.specs.Faults.{IsToNobody}
-use Rattle.mb_system.specs.Members.{IsEndOf, IsSenderOf, ends_numbers}
-use Rattle.mb_system.specs.Orders.{HasSent, OwesNobody}
+use Rattle.mb_system.specs.Debts.{OwesNothing}
+use Rattle.mb_system.specs.Members.{IsEndOf, IsSenderOf, SeeOn, end_caller, ends_numbers}
 use Rattle.mb_system.specs.declared.built.Built.{Built}
 use Rattle.mb_system.specs.declared.end.WorkerEnd.{WorkerEnd}
 use Rattle.mb_system.specs.declared.failure.RunError.{RunError}
@@ -34,7 +34,7 @@ use Rattle.mb_system.specs.declared.system.System.{System}
 use Rattle.mb_system.specs.declared.sender.Sender.{Sender}
 use Rattle.mb_system.proofs.Alike.{look-alike}
 use Rattle.mb_system.proofs.Together.{again, by_of}
-use Rattle.mb_dispatch.specs.Sent.{BreaksOff, FoundNothing, HaveSent, SeeOn}
+use Rattle.mb_dispatch.specs.Sent.{BreaksOff, FoundNothing, HasSentAndPaid, HaveSent}
 use Rattle.mb_dispatch.specs.Untold.{IsForNobody, MayBreak}
 use Rattle.mb_dispatch.proofs.Parts.{part-same}
 
@@ -103,7 +103,7 @@ orders-at sends place v of given lt is same there = same_Some given of (sym (ord
 module _ {A K : Type 0} (gates : Gates (Box Contents)) (orders : List (List Order)) where
   -- the sender of this place did what was ordered
   abbrev pub Did : ℕ → Sender A K → Sender A K → Type 0
-  Did place old new = (of : List Order) → slice_get orders place ≡ Some of → HasSent of old new × OwesNobody gates new
+  Did place old new = (of : List Order) → slice_get orders place ≡ Some of → HasSentAndPaid gates of old new
 
   pub all-sent : (n : ℕ) (old new : List (Sender A K)) → length old ≤ n → AreUpTo Did n old new → HaveSent gates orders old new
   all-sent n old new all so = record {
@@ -153,12 +153,12 @@ module _ {A K : Type 0} where
       (subst (λ (e : WorkerEnd A K). IsPart (known_by e.waker.pass).log (known_by new.waker.pass).log) is saw, see-same ends)
 
   -- the first of the ends, which ran, found nothing more
-  pub found-nothing : (gives : ℕ → Moment → Reply → Type 0) (ends : List (WorkerEnd A K)) (e : WorkerEnd A K) → ends ≢ []
-      → IsNobody e.waker.owed → (way : Way (Box Contents)) → gates_of way ≡ gates_of e.waker.way.end
-      → All (WasEmpty (IsFreshClaim gives)) (looks way) → FoundNothing gives (slice_set ends 0 e)
-  found-nothing gives [] e some nobody way of empty = absurd (some refl)
-  found-nothing gives (x ∷ ends) e some nobody way of empty =
-      record { first = e; rest = ends; are = refl; nobody = nobody; way = way; of = of; empty = empty }
+  pub found-nothing : (gives : ℕ → Moment → Reply → Type 0) (gates : Gates (Box Contents)) (ends : List (WorkerEnd A K)) (e : WorkerEnd A K)
+      → ends ≢ [] → IsNobody e.waker.owed → OwesNothing (actors_of gates) (end_caller e.waker)
+      → All (WasEmpty (IsFreshClaim gives)) (looks e.waker.way.end) → FoundNothing gives gates (slice_set ends 0 e)
+  found-nothing gives gates [] e some nobody settled empty = absurd (some refl)
+  found-nothing gives gates (x ∷ ends) e some nobody settled empty =
+      record { first = e; rest = ends; are = refl; nobody = nobody; settled = settled; empty = empty }
 
 -- what is to nobody by the gates is for none of so many actors
 for-nobody : (gates : Gates (Box Contents)) (many : ℕ) (to : ActorId) (what : What) → actors_of gates ≡ many → IsToNobody gates to what

@@ -25,14 +25,14 @@ use Rattle.mb_reckon.specs.Whole.{IsWhole}
 use Rattle.mb_reckon.proofs.Lists.{at-place, from-mapped, length-mapped, there}
 use Rattle.mb_system.specs.Begun.{AreNewEnds, AreNewSenders, IsBegun}
 use Rattle.mb_system.specs.Belonging.{senders_numbers}
-use Rattle.mb_system.specs.Members.{ends_numbers}
+use Rattle.mb_system.specs.Members.{SeeOn, ends_numbers}
 use Rattle.mb_system.specs.Orders.{addressed, said_to, stopped_by}
 use Rattle.mb_system.specs.declared.built.Built.{Built}
 use Rattle.mb_system.specs.declared.end.WorkerEnd.{WorkerEnd}
 use Rattle.mb_system.specs.declared.order.Order.{Order}
 use Rattle.mb_system.specs.declared.sender.Sender.{Sender}
 use Rattle.mb_dispatch.specs.Belonging.{AreAnswers, AreThere, HasAllSeen}
-use Rattle.mb_dispatch.specs.Sent.{HaveSent, SeeOn}
+use Rattle.mb_dispatch.specs.Sent.{HaveSent}
 use Rattle.mb_dispatch.specs.Story.{DidOrders, IsStory}
 use Rattle.mb_dispatch.proofs.Parts.{part-trans}
 use Rattle.mb_dispatch.proofs.Rolls.{of-plan}

@@ -35,6 +35,11 @@ module _ {A K : Type 0} where
     pub length_is : length answers ≡ many
     pub each : All (λ (s : Sender A K). slice_get answers (s.inner.book.by.0 - most_actors) ≡ Some s.inner.book.posted) senders
 
+  -- what the senders push by, in the order of their numbers
+  pub record AreWays (many : ℕ) (senders : List (Sender A K)) (ways : List (List Sending)) : Type 0 where
+    pub length_is : length ways ≡ many
+    pub each : All (λ (s : Sender A K). slice_get ways (s.inner.book.by.0 - most_actors) ≡ Some s.inner.sends.items) senders
+
   -- all that ends and senders saw is among this
   abbrev pub HasAllSeen : Built A K → List Sight → Type 0
   HasAllSeen built log = All (λ (e : WorkerEnd A K). IsPart (known_by e.waker.pass).log log) built.ends.items

@@ -1,14 +1,20 @@
 -- Why there is no report.
-use Rattle.std.specs.Prelude.{◌≡◌, ℕ, ◌<◌}
-use Rattle.mb_gate.specs.Names.{actors_of}
+use Rattle.std.specs.Prelude.{◌≡◌, ℕ, ◌<◌, List}
+use Rattle.mb_actor.specs.Behaviour.{Moment, Reply}
+use Rattle.mb_gate.specs.Names.{actors_of, first_of}
 use Rattle.mb_gate.specs.Rule.{IsPart}
 use Rattle.mb_gate.specs.View.{View}
+use Rattle.mb_queue.specs.Passes.{Sending}
+use Rattle.mb_report.specs.declared.report.Report.{Report}
+use Rattle.mb_reckon.specs.Homes.{CameHome, Disagrees}
 use Rattle.mb_reckon.specs.Mismatched.{of_whom}
+use Rattle.mb_reckon.specs.Rooms.{AreCounted}
+use Rattle.mb_reckon.specs.declared.mismatch.Mismatch.{Mismatch as What}
 use Rattle.mb_reckon.specs.Settled.{AreSettledBy, IsUnsettled}
 use Rattle.mb_system.specs.Belonging.{senders_numbers}
 use Rattle.mb_system.specs.Members.{ends_numbers}
 use Rattle.mb_system.specs.declared.built.Built.{Built}
-use Rattle.mb_dispatch.specs.Belonging.{AreThere, HasRead, IsFoundSettled, IsLeastMissing}
+use Rattle.mb_dispatch.specs.Belonging.{AreThere, AreWays, HasAllSeen, HasRead, IsFoundSettled, IsLeastMissing}
 use Rattle.mb_dispatch.specs.declared.ending.FinishError.{FinishError}
 use Rattle.mb_dispatch.specs.declared.ending.FinishError.TheVariants.{MissingEnd, MissingSender, NotQuiet, NoMemory, Mismatch}
 
@@ -34,3 +40,28 @@ module _ {A K : Type 0} where
   IsRefusal built (NotQuiet id back) = IsComplete built × (id.0 < actors_of built.system.gates) × HasRead (FindsUnsettled id.0) built back
   IsRefusal built (NoMemory back) = IsComplete built × HasRead (FindsSettled (actors_of built.system.gates)) built back
   IsRefusal built (Mismatch what) = IsComplete built × IsFoundSettled built × (of_whom what < actors_of built.system.gates)
+
+  -- What does not agree is so by what the gates left, by the senders' passes and by the counts that were read; all that ends and senders saw was
+  -- known then.
+  pub record DisagreesAtEnd (gives : ℕ → Moment → Reply → Type 0) (built : Built A K) (what : What) : Type 0 where
+    pub view : View
+    pub seen : HasAllSeen built view.log
+    pub outside : List (List Sending)
+    pub ways : AreWays built.system.senders built.senders.items outside
+    pub waiting : List ℕ
+    pub counted : AreCounted view.log waiting
+    pub disagrees : Disagrees gives (first_of built.system.gates).value (actors_of built.system.gates) view outside waiting what
+
+  -- what is said not to agree does not
+  abbrev pub DisagreesIfSaid : (ℕ → Moment → Reply → Type 0) → Built A K → FinishError A K → Type 0
+  DisagreesIfSaid gives built (Mismatch what) = DisagreesAtEnd gives built what
+  DisagreesIfSaid gives built (MissingEnd number back) = Unit {0}
+  DisagreesIfSaid gives built (MissingSender number back) = Unit {0}
+  DisagreesIfSaid gives built (NotQuiet id back) = Unit {0}
+  DisagreesIfSaid gives built (NoMemory back) = Unit {0}
+
+  -- each home came, and the report counts all that each list gave; all that ends and senders saw was known then
+  pub record HasComeHome (gives : ℕ → Moment → Reply → Type 0) (built : Built A K) (report : Report) : Type 0 where
+    pub view : View
+    pub seen : HasAllSeen built view.log
+    pub home : CameHome gives (first_of built.system.gates).value (actors_of built.system.gates) view report

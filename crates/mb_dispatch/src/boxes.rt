@@ -24,10 +24,10 @@ pub enum WholeError {
     BadPlan(PlanError),
     /// There are fewer lists of orders than the plan has senders, or more. Nothing was done.
     Sends,
-    /// Memory was refused as the system was built, or as it was to end.
+    /// Memory was refused as the system was built, or as it was to end. The system is let go, with all that it did.
     NoMemory,
     /// What was to be sent could not be, or the run was broken off: `NoSuchActor` only where something was to be sent to an actor
-    /// that there is not, or an envelope to the guardian.
+    /// that there is not, or an envelope to the guardian. The system is let go, with all that it did.
     Run(RunError),
     /// This actor has something to run still.
     NotQuiet(ActorId),
@@ -38,8 +38,9 @@ pub enum WholeError {
 /// Builds a system from a plan and boxed actors of any kinds, sends by each sender outside what stands at its place, runs it on
 /// this thread alone until nothing is left to run, and ends it: the report. No message came to any of the actors yet.
 ///
-/// The actors come in the order of their numbers, from 1 on. There is one list of orders for each sender of the plan, an empty one
-/// for a sender that sends nothing. After an error all is let go.
+/// The actors come in the order of their numbers, from 1 on; 0 is the guardian's, to whom no envelope can be sent. There is one
+/// list of orders for each sender of the plan, an empty one for a sender that sends nothing. After an error all is let go. (This
+/// project's own profile: in Akka each part of it is a call of its own.)
 pub fn run_boxed<R: Wait>(
     rt: &R,
     alloc: Global,

@@ -4,12 +4,12 @@ ghost use Rattle.mb_fates.specs.declared.posting.Posting.{Posting};
 ghost use Rattle.mb_gate.specs.Names.{actors_of, first_of, known_by};
 ghost use Rattle.mb_gate.specs.Rule.{IsPart};
 ghost use Rattle.mb_gate.specs.View.{Sight};
-ghost use Rattle.mb_reckon.specs.Rooms.{IsRoom};
+ghost use Rattle.mb_reckon.specs.Rooms.{AreCounted, IsRoom, counted_in};
 ghost use Rattle.mb_reckon.specs.Settled.{AreSettledBy};
 ghost use Rattle.mb_system.specs.Belonging.{BelongsTogether};
 ghost use Rattle.mb_system.specs.Members.{IsEndOf};
 ghost use Rattle.mb_dispatch.specs.Belonging.{AreAnswers, HasAllSeen, HasRead, IsFoundSettled};
-ghost use Rattle.mb_dispatch.specs.Refused.{FindsUnsettled, IsComplete, IsRefusal};
+ghost use Rattle.mb_dispatch.specs.Refused.{DisagreesIfSaid, FindsUnsettled, HasComeHome, IsComplete, IsRefusal};
 ghost use Rattle.mb_reckon.specs.Seen.{GoesOnFromAll};
 ghost use Rattle.mb_reckon.specs.Whole.{IsWhole};
 
@@ -37,7 +37,8 @@ pub enum FinishError<A: Actor, K: Behaviours> {
     Mismatch(Mismatch),
 }
 
-/// Ends the system: what became of each actor and each envelope.
+/// Ends the system: what became of each actor, the guardian first, and of each envelope. (This project's own profile: Akka's
+/// `ActorSystem.terminate` stops the actors, and tells nothing of them.)
 ///
 /// It answers the least number of a worker whose end is missing; else of a sender that is; else the least actor that is scheduled
 /// or has something to run; else `NoMemory`. All comes back then, and the same call may be made again.
@@ -52,7 +53,9 @@ pub fn finish<A: Actor, K: Behaviours, R: Wait>(
     ensures quiet { IfOk result (λ _. IsComplete built × IsFoundSettled built) }
     ensures seen { IfOk result (λ report. All (λ e. GoesOnFromAll report (known_by e.waker.pass)) built.ends.items
         × All (λ s. GoesOnFromAll report (known_by s.inner.waker.pass)) built.senders.items) }
+    ensures home { IfOk result (HasComeHome K.gives built) }
     ensures refused { IfErr result (IsRefusal built) }
+    ensures why { IfErr result (DisagreesIfSaid K.gives built) }
 {
     if let Some(number) = missing_end(&built) {
         return Err(FinishError::MissingEnd(number, built));
@@ -93,6 +96,7 @@ fn room_of<A: Actor, K: Behaviours>(built: &mut Built<A, K>) -> Option<(Room<A, 
     ensures read { HasRead (λ before after. IsPart before.log after.log) built.old built.new }
     ensures room { IfSome result (λ made. IsRoom (actors_of built.old.system.gates) (length built.old.senders.items) made.0
         × (made.1.items ≡ []) × (length built.old.senders.items ≤ vec_capacity made.1)) }
+    ensures waiting { IfSome result (λ made. HasRead (λ _ after. AreCounted after.log (counted_in made.0)) built.old built.new) }
 {
     let system = &built.system;
     let senders = built.senders.len();

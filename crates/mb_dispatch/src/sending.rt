@@ -2,16 +2,15 @@
 ghost use Rattle.std.specs.Prelude.{◌≡◌, ◌≢◌, [], All, IfErr, OnOk, length, map};
 ghost use Rattle.mb_system.specs.Belonging.{BelongsTogether};
 ghost use Rattle.mb_system.specs.Faults.{BreaksSending};
-ghost use Rattle.mb_system.specs.Members.{IsSenderOf, ends_numbers};
-ghost use Rattle.mb_system.specs.Orders.{HasSent, OwesNobody};
-ghost use Rattle.mb_dispatch.specs.Sent.{BreaksOff, BreaksOne, FoundNothing, HaveSent, SeeOn};
+ghost use Rattle.mb_system.specs.Members.{IsSenderOf, SeeOn, ends_numbers};
+ghost use Rattle.mb_dispatch.specs.Sent.{BreaksOff, BreaksOne, FoundNothing, HasSentAndPaid, HaveSent};
 
 use mb_actor::{Actor, Behaviours};
 use mb_system::{Built, Order, RunError, Sender, System};
 use std::sync::Wait;
 
 /// Sends by each sender what stands at its place, and runs on this thread what there is to run. Nobody is owed a look then, by
-/// the senders or by the end that ran.
+/// the senders or by the end that ran, and that found the pool empty, where it looks.
 ///
 /// It stops at the first fault of a sender, in their order, and then of the run.
 pub(crate) fn send_and_run<A: Actor, K: Behaviours, R: Wait>(
@@ -28,7 +27,7 @@ pub(crate) fn send_and_run<A: Actor, K: Behaviours, R: Wait>(
     ensures sent { OnOk result (HaveSent built.old.system.gates (map (λ orders. orders.items) sends.now) built.old.senders.items
         built.new.senders.items) }
     ensures saw { OnOk result (SeeOn built.old.ends.items built.new.ends.items) }
-    ensures quiet { OnOk result (FoundNothing K.gives built.new.ends.items) }
+    ensures quiet { OnOk result (FoundNothing K.gives built.old.system.gates built.new.ends.items) }
     ensures fault { IfErr result (BreaksOff K.gives built.old.system (map (λ orders. orders.items) sends.now)) }
 {
     send_each(rt, &built.system, &mut built.senders, sends)?;
@@ -64,7 +63,7 @@ fn send_and_pay<A: Actor, K: Behaviours, R: Wait>(
 ) -> Result<(), RunError>
     requires ours { IsSenderOf system.now.gates sender.old.inner }
     ensures ours { IsSenderOf system.now.gates sender.new.inner }
-    ensures sent { OnOk result (HasSent orders.now sender.old sender.new × OwesNobody system.now.gates sender.new) }
+    ensures sent { OnOk result (HasSentAndPaid system.now.gates orders.now sender.old sender.new) }
     ensures fault { IfErr result (BreaksSending system.now.gates orders.now) }
 {
     sender.send_all(rt, system, orders)?;

@@ -1,3 +1,2 @@
 pub mod Casting
 pub mod Kept
-pub mod Nonempty

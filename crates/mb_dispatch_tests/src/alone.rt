@@ -1,21 +1,44 @@
 //! Whole runs on one thread: all is sent before anything is run.
+ghost use Rattle.std.specs.Prelude.{◌≡◌, [], All};
+
 use crate::player::players_of;
-use crate::story::{Story, orders_of, plan_of, text_of};
-use mb_dispatch::{WholeError, run_whole};
-use std::alloc::{AllocError, Global};
+use crate::sending::same_orders;
+use crate::story::{Story, plan_of, see, text_of};
+use crate::together::Run;
+use mb_actor::Actor;
+use mb_dispatch::run_whole;
+use std::alloc::Global;
+use std::process::Abort;
 use std::sync::Wait;
 
-/// The report's text of this story, or why there is no report. Nothing where memory was refused for its text.
-pub fn run_alone<R: Wait>(
+/// Plays each of these stories, and sees to it that its report has this text, or that this is why there is no report.
+pub fn play_alone<R: Abort + Wait>(rt: &R, alloc: Global, runs: &[Run]) {
+    for (story, report) in runs {
+        see(rt, &run_alone(rt, alloc, story), *report);
+    }
+}
+
+// The report's text of this story, or why there is no report. Nothing where memory was refused.
+fn run_alone<R: Wait>(rt: &R, alloc: Global, story: &Story<'_>) -> Option<String> {
+    match players_of(alloc, story.parts) {
+        Ok(players) => text_alone(rt, alloc, story, players),
+        Err(_) => None,
+    }
+}
+
+/// The same where these are the actors.
+pub fn text_alone<A: Actor, R: Wait>(
     rt: &R,
     alloc: Global,
     story: &Story<'_>,
-) -> Result<Result<Option<String>, WholeError>, AllocError> {
-    let plan = plan_of(alloc, story)?;
-    let players = players_of(alloc, story.parts)?;
-    let orders = orders_of(alloc, story.senders, story.orders)?;
-    match run_whole(rt, alloc, plan, players, &orders) {
-        Ok(report) => Ok(Ok(text_of(alloc, &report, story.parts.len()))),
-        Err(error) => Ok(Err(error)),
+    actors: Vec<A>,
+) -> Option<String>
+    requires unused { All (λ actor. A.content actor ≡ A.after actor []) actors.items }
+{
+    let plan = plan_of(alloc, story).ok()?;
+    let orders = same_orders(alloc, story.senders, story.sends).ok()?;
+    match run_whole(rt, alloc, plan, actors, &orders) {
+        Ok(report) => text_of(alloc, &report, story.parts.len()),
+        Err(error) => format!(in alloc; "{error:?}").ok(),
     }
 }

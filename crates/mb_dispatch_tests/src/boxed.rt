@@ -2,11 +2,13 @@
 ghost use Rattle.std.specs.Prelude.{◌≡◌, [], All, IfOk};
 
 use crate::player::{ADD, COUNTER, Player};
-use crate::story::{PLAIN, Story, orders_of, plan_of, said, text_of, told, words};
+use crate::sending::Sending::{self, Poison, Tell};
+use crate::sending::same_orders;
+use crate::story::{PLAIN, Story, plan_of, see, text_of};
 use crate::watcher::Watcher;
 use mb_actor::{Actor, Outbox};
 use mb_dispatch::run_boxed;
-use mb_msg::{ActorId, Body};
+use mb_msg::ActorId;
 use std::alloc::{AllocError, Global};
 use std::sync::Wait;
 use std::test::Fail;
@@ -19,6 +21,8 @@ a2 ended state 1 suspended 0 handled 2 left 0 dead 1 restarts 0
 sent 4 handled 3 left 0 dead 1
 ";
 
+const SENDS: &[Sending] = &[Tell(2, ADD, 1), Poison(2), Tell(2, ADD, 2)];
+
 /// The report of these two.
 fn run_both<R: Wait>(
     rt: &R,
@@ -30,13 +34,12 @@ fn run_both<R: Wait>(
         parts: &[COUNTER, COUNTER],
         ..PLAIN
     };
-    let orders = [told(2, ADD, 1), said(2, Body::PoisonPill), told(2, ADD, 2)];
     let plan = plan_of(alloc, &story).ok()?;
-    let sends = orders_of(alloc, 1, &orders).ok()?;
+    let orders = same_orders(alloc, 1, SENDS).ok()?;
     let Ok(actors) = fresh(alloc, first, second) else {
         return None;
     };
-    match run_boxed(rt, alloc, plan, actors, &sends) {
+    match run_boxed(rt, alloc, plan, actors, &orders) {
         Ok(report) => text_of(alloc, &report, 2),
         Err(_) => None,
     }
@@ -71,6 +74,6 @@ fn a_boxed_actor_watches_one_of_another_kind(rt: HostRuntime) -> Result<(), Fail
     let first: Box<dyn Actor + Send> = Box::new(rt.alloc(), Watcher { of: ActorId(2) })?;
     let second: Box<dyn Actor + Send> = Box::new(rt.alloc(), Player::new(COUNTER))?;
     let found = run_both(&rt, rt.alloc(), first, second);
-    assert_eq!(rt; words(&found), REPORT);
+    see(&rt, &found, REPORT);
     Ok(())
 }

@@ -1,7 +1,7 @@
 //! Systems whose ends and senders are led by hand, and whose end is refused.
 use crate::player::{ADD, COUNTER};
+use crate::sending::Sending::{Stop, Tell};
 use crate::story::{PLAIN, Story};
-use crate::tale::Sending::{Stop, Tell};
 use crate::tale::Step::{Finish, Journal, Look, LoseSenders, Put, Register, Run, Send, Turn, Work};
 use crate::tale::{Tale, play};
 
@@ -116,14 +116,16 @@ const FULL_JOURNAL: Tale = Tale {
     ],
 };
 
+const LED: &[Tale] = &[BY_HAND, PUT_BY_AN_OLD_TICKET, TOLD_AFTER_THE_END];
+
+const COMES_BACK: &[Tale] = &[NOT_QUIET, WITHOUT_A_SENDER, FULL_JOURNAL];
+
 #[test]
 fn an_end_and_a_sender_are_led_by_hand(rt: HostRuntime) {
-    let tales = [BY_HAND, PUT_BY_AN_OLD_TICKET, TOLD_AFTER_THE_END];
-    play(&rt, rt.alloc(), &tales)
+    play(&rt, rt.alloc(), LED)
 }
 
 #[test]
 fn a_system_that_may_not_end_comes_back(rt: HostRuntime) {
-    let tales = [NOT_QUIET, WITHOUT_A_SENDER, FULL_JOURNAL];
-    play(&rt, rt.alloc(), &tales)
+    play(&rt, rt.alloc(), COMES_BACK)
 }

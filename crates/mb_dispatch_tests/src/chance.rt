@@ -1,11 +1,12 @@
-//! Plans and orders by chance.
+//! Plans by chance, and what their senders are to send.
 use crate::dice::Dice;
 use crate::gambler::GREATEST;
 use crate::player::ADD;
-use crate::story::{said, told};
-use mb_dispatch::{Order, What};
+use crate::sending::Sending::{self, Control, Kill, Poison, Stop, Tell};
+use crate::sending::order_of;
+use mb_dispatch::Order;
 use mb_journal::{Pattern, Strategy};
-use mb_msg::{ActorId, Body, Directive};
+use mb_msg::{ActorId, Directive};
 use mb_plan::{ActorPlan, Kind, Plan, Pool, Rank};
 use std::alloc::{AllocError, Global};
 
@@ -88,29 +89,43 @@ fn directive(dice: &mut Dice) -> Directive {
     }
 }
 
-/// What each sender is to send, where there are so many actors.
-pub fn orders_by_chance(alloc: Global, seed: u64, actors: u32) -> Result<Vec<Order>, AllocError> {
-    let mut dice = Dice::new(seed.wrapping_add(1_000));
+/// What each of so many senders is to send to so many actors: each its own.
+pub fn sends_by_chance(
+    alloc: Global,
+    seed: u64,
+    senders: u32,
+    actors: u32,
+) -> Result<Vec<Vec<Order>>, AllocError> {
+    let mut sends = Vec::new(alloc);
+    for sender in 0..senders {
+        let own = seed
+            .wrapping_add(1_000)
+            .wrapping_mul(16)
+            .wrapping_add(u64::from(sender));
+        sends.push(orders_by_chance(alloc, own, actors)?)?;
+    }
+    Ok(sends)
+}
+
+fn orders_by_chance(alloc: Global, seed: u64, actors: u32) -> Result<Vec<Order>, AllocError> {
+    let mut dice = Dice::new(seed);
     let mut orders = Vec::new(alloc);
     for _ in 0..dice.roll(0, 40) {
         let to = dice.roll(1, actors);
-        orders.push(order(to, &mut dice))?;
+        orders.push(order_of(sending(to, &mut dice)))?;
     }
     Ok(orders)
 }
 
-fn order(to: u32, dice: &mut Dice) -> Order {
+fn sending(to: u32, dice: &mut Dice) -> Sending {
     let value = i64::from(dice.roll(0, 99));
     let kind = dice.roll(ADD, GREATEST);
     match dice.roll(1, 200) {
-        1 => Order {
-            to: ActorId(to),
-            what: What::Stop,
-        },
-        2 => said(to, Body::Kill),
-        3 => said(to, Body::PoisonPill),
-        4..=40 => said(to, Body::Control { kind, value }),
-        41..=80 => told(to, kind, value),
-        _ => told(to, ADD, value),
+        1 => Stop(to),
+        2 => Kill(to),
+        3 => Poison(to),
+        4..=40 => Control(to, kind, value),
+        41..=80 => Tell(to, kind, value),
+        _ => Tell(to, ADD, value),
     }
 }

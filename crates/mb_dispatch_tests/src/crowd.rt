@@ -1,8 +1,8 @@
 //! Sixteen workers, sixty-three actors and four senders, each on a thread of its own.
 use crate::player::{ADD, COUNTER};
-use crate::story::{PLAIN, Story, told, words};
+use crate::sending::Sending::{self, Tell};
+use crate::story::{PLAIN, Story, see, words};
 use crate::together::run_together;
-use mb_dispatch::Order;
 use mb_plan::Pool;
 use std::alloc::{AllocError, Global};
 use std::process::Abort;
@@ -15,12 +15,12 @@ const COUNTERS: u32 = 63;
 /// How many envelopes each sender sends: each to the next actor in turn.
 const ENVELOPES: u32 = 1_000;
 
-fn orders(alloc: Global) -> Result<Vec<Order>, AllocError> {
-    let mut orders = Vec::new(alloc);
+fn sends(alloc: Global) -> Result<Vec<Sending>, AllocError> {
+    let mut sends = Vec::new(alloc);
     for place in 0..ENVELOPES {
-        orders.push(told(1 + place % COUNTERS, ADD, 1))?;
+        sends.push(Tell(1 + place % COUNTERS, ADD, 1))?;
     }
-    Ok(orders)
+    Ok(sends)
 }
 
 /// The report: the first 55 actors got 16 from each sender, the others 15.
@@ -44,14 +44,14 @@ fn line(alloc: Global, number: u32, count: u32) -> Result<String, AllocError> {
 }
 
 fn count_in_a_crowd<R: Threads + Wait + Sync>(rt: &R, alloc: Global, pool: Pool) -> Option<String> {
-    let orders = orders(alloc).ok()?;
+    let sends = sends(alloc).ok()?;
     let story = Story {
         workers: 16,
         pool,
         senders: 4,
         journal_limit: 1_000,
         parts: &[COUNTER; 63],
-        orders: &orders,
+        sends: &sends,
         ..PLAIN
     };
     run_together(rt, alloc, &story)
@@ -60,7 +60,7 @@ fn count_in_a_crowd<R: Threads + Wait + Sync>(rt: &R, alloc: Global, pool: Pool)
 fn try_in_a_crowd<R: Abort + Threads + Wait + Sync>(rt: &R, alloc: Global, pool: Pool) {
     let expected = report(alloc).ok();
     assert!(rt; expected.is_some());
-    assert_eq!(rt; words(&count_in_a_crowd(rt, alloc, pool)), words(&expected));
+    see(rt, &count_in_a_crowd(rt, alloc, pool), words(&expected));
 }
 
 #[test]

@@ -1,119 +1,224 @@
-//! What is checked of reports, tried on reports by hand: on one that is right, and on others that have one thing wrong.
+//! What is looked at in reports, tried on reports by hand: on two that are right, and on others that have one thing wrong.
 ghost use Rattle.std.specs.Prelude.{OnOk, IsTrue};
 
 use crate::doubted::Twist::{
-    Cleaned, Dead, Elsewhere, Left, Nothing, SentMore, StartedLate, Suspended,
+    Cleaned, Dead, Elsewhere, Left, Nothing, Overlooked, SentMore, StartedLate, Stopped, Suspended,
 };
-use crate::lawful::are_actors_right;
+use crate::judged::is_right;
 use crate::player::{ADD, COUNTER};
-use crate::stood::are_envelopes_right;
-use crate::story::{PLAIN, Story, plan_of, told};
+use crate::sending::Sending::{self, Stop, Tell};
+use crate::sending::orders_of;
+use crate::story::{PLAIN, Story, plan_of};
 use mb_actor::Answer;
 use mb_actor::Phase::{self, Broken, Ended, Live};
+use mb_dispatch::Order;
 use mb_journal::Journal;
 use mb_msg::Why::{self, Closed, Full};
 use mb_msg::{ActorId, Body, DeadLetter, Envelope, SenderId, SysMsg};
 use mb_report::{ActorReport, Report, SenderReport};
 use std::alloc::{AllocError, Global};
+use std::process::Abort;
+
+/// An envelope to the only actor: its sender, its number and its value.
+type Letter = (u32, u64, i64);
+
+/// The first sender outside was to send this, and then 2.
+const ONE: Letter = (64, 0, 1);
+
+const TWO: Letter = (64, 1, 2);
+
+/// The other was to send this, and then 8.
+const FOUR: Letter = (65, 0, 4);
+
+const EIGHT: Letter = (65, 1, 8);
+
+const TWO_SENDERS: Story<'static> = Story {
+    senders: 2,
+    parts: &[COUNTER],
+    ..PLAIN
+};
+
+const FIRST: &[Sending] = &[Tell(1, ADD, 1), Tell(1, ADD, 2)];
+
+const OTHER: &[Sending] = &[Tell(1, ADD, 4), Tell(1, ADD, 8)];
+
+const OTHER_AND_STOP: &[Sending] = &[Tell(1, ADD, 4), Tell(1, ADD, 8), Stop(1)];
+
+const ALL: &[Letter] = &[ONE, FOUR, TWO, EIGHT];
+
+const WITHOUT_TWO: &[Letter] = &[ONE, FOUR, EIGHT];
 
 /// What else a report says.
 #[derive(Clone, Copy)]
 enum Twist {
     Nothing,
-    /// The second envelope is left.
+    /// The envelope with 2 is left.
     Left,
-    /// The second envelope was cleaned up.
+    /// The envelope with 2 was cleaned up.
     Cleaned,
-    /// The second envelope is dead.
+    /// The envelope with 2 is dead.
     Dead(Why),
-    /// The guardian handled the second envelope.
+    /// The guardian handled the envelope with 2.
     Elsewhere,
-    /// The status word was read before each envelope that tells of one suspension.
+    /// The status word that was read before each envelope tells of one suspension.
     Suspended,
-    /// One more was sent.
+    /// The first sender sent one more.
     SentMore,
     /// A system message came before the first, but is not there.
     StartedLate,
+    /// The other sender was to stop the actor, and it was stopped.
+    Stopped,
+    /// The other sender was to stop the actor, and nothing came.
+    Overlooked,
 }
 
-/// What a report says of an actor to which a sender outside sent 1 and then 2: the numbers of the envelopes that it handled, its
-/// state, its phase, and what else.
-type Claim = (&'static str, &'static [u64], i64, Phase, Twist);
+/// What a report says of an actor to which the two sent: the envelopes that it handled, its state, its phase, and what else.
+type Claim = (&'static str, &'static [Letter], i64, Phase, Twist);
 
-const RIGHT: Claim = ("right", &[0, 1], 3, Live, Nothing);
+const RIGHT: &[Claim] = &[
+    ("all is handled", ALL, 15, Live, Nothing),
+    ("all is handled before the end", ALL, 15, Ended, Stopped),
+];
 
-const WRONG: [Claim; 16] = [
-    ("one is lost", &[0], 1, Live, Nothing),
-    ("one is handled twice", &[0, 0], 2, Live, Nothing),
-    ("one is handled and dead", &[0, 1], 3, Live, Dead(Full)),
-    ("one was not sent", &[0, 1, 2], 5, Live, Nothing),
-    ("one is at another actor", &[0], 1, Live, Elsewhere),
-    ("two are exchanged", &[1, 0], 3, Live, Nothing),
-    ("a wrong number of envelopes", &[0, 1], 3, Live, SentMore),
-    ("a wrong state", &[0, 1], 4, Live, Nothing),
-    ("a wrong phase", &[0, 1], 3, Broken, Nothing),
-    ("an end that never came", &[0, 1], 3, Ended, Nothing),
-    ("left, but not suspended", &[0], 1, Live, Left),
-    ("cleaned up before an end", &[0], 1, Live, Cleaned),
-    ("closed before an end", &[0], 1, Live, Dead(Closed)),
-    ("full without a bound", &[0], 1, Live, Dead(Full)),
-    ("begun while suspended", &[0, 1], 3, Live, Suspended),
-    ("a system message is lost", &[0, 1], 3, Live, StartedLate),
+const WRONG: &[Claim] = &[
+    ("one is lost", WITHOUT_TWO, 13, Live, Nothing),
+    (
+        "one is handled twice",
+        &[ONE, FOUR, ONE, EIGHT],
+        14,
+        Live,
+        Nothing,
+    ),
+    ("one is handled and dead", ALL, 15, Live, Dead(Full)),
+    (
+        "one was not sent",
+        &[ONE, FOUR, TWO, EIGHT, (64, 2, 2)],
+        17,
+        Live,
+        Nothing,
+    ),
+    ("one is at another actor", WITHOUT_TWO, 13, Live, Elsewhere),
+    (
+        "one has another value",
+        &[ONE, FOUR, (64, 1, 3), EIGHT],
+        16,
+        Live,
+        Nothing,
+    ),
+    (
+        "two are exchanged",
+        &[TWO, FOUR, ONE, EIGHT],
+        15,
+        Live,
+        Nothing,
+    ),
+    (
+        "two senders sent one another's",
+        &[(65, 0, 1), (64, 0, 4), (65, 1, 2), (64, 1, 8)],
+        15,
+        Live,
+        Nothing,
+    ),
+    ("a wrong number of envelopes", ALL, 15, Live, SentMore),
+    ("a wrong state", ALL, 16, Live, Nothing),
+    ("a wrong phase", ALL, 15, Broken, Nothing),
+    ("an end that never came", ALL, 15, Ended, Nothing),
+    ("a stop that never came", ALL, 15, Live, Overlooked),
+    ("left, but not suspended", WITHOUT_TWO, 13, Live, Left),
+    ("cleaned up before an end", WITHOUT_TWO, 13, Live, Cleaned),
+    ("closed before an end", WITHOUT_TWO, 13, Live, Dead(Closed)),
+    ("full without a bound", WITHOUT_TWO, 13, Live, Dead(Full)),
+    ("begun while suspended", ALL, 15, Live, Suspended),
+    ("a system message is lost", ALL, 15, Live, StartedLate),
 ];
 
 /// Whether the claim is found right.
-fn is_found_right(alloc: Global, claim: Claim) -> Result<bool, AllocError> {
-    let orders = [told(1, ADD, 1), told(1, ADD, 2)];
-    let story = Story {
-        parts: &[COUNTER],
-        ..PLAIN
-    };
-    let plan = plan_of(alloc, &story)?;
+fn is_found_right(alloc: Global, claim: &Claim) -> Result<bool, AllocError> {
     let report = report_of(alloc, claim)?;
-    Ok(
-        are_envelopes_right(alloc, &report, &plan, &orders)?
-            && are_actors_right(alloc, &report, &plan)?,
-    )
+    let (_, _, _, _, twist) = *claim;
+    is_report_right(alloc, &report, twist)
 }
 
-fn report_of(alloc: Global, claim: Claim) -> Result<Report, AllocError> {
-    let (_, handled, state, phase, twist) = claim;
-    let mut guardian = actor(alloc, 0, None)?;
-    let mut one = actor(
-        alloc,
-        u64::from(matches!(twist, StartedLate)),
-        Some(Answer::Handled),
-    )?;
-    one.phase = phase;
-    one.state = Some(state);
-    let reading = if matches!(twist, Suspended) { 4 } else { 0 };
-    for number in handled {
-        handle(&mut one.journal, *number, reading)?;
-    }
-    let mut outside = silent(alloc);
-    outside.sent = 2;
-    match twist {
-        Left => one.left.push(envelope(1))?,
-        Cleaned => one.cleaned.push(envelope(1))?,
-        Dead(why) => outside.dead.push(DeadLetter {
-            envelope: envelope(1),
-            why,
-        })?,
-        Elsewhere => handle(&mut guardian.journal, 1, 0)?,
-        SentMore => outside.sent = 3,
-        Suspended | StartedLate | Nothing => {}
-    }
+fn is_report_right(alloc: Global, report: &Report, twist: Twist) -> Result<bool, AllocError> {
+    let plan = plan_of(alloc, &TWO_SENDERS)?;
+    let orders = orders(alloc, twist)?;
+    is_right(alloc, report, &plan, &orders)
+}
+
+/// What the two were to send.
+fn orders(alloc: Global, twist: Twist) -> Result<Vec<Vec<Order>>, AllocError> {
+    let other = match twist {
+        Stopped | Overlooked => OTHER_AND_STOP,
+        _ => OTHER,
+    };
+    let mut orders = Vec::new(alloc);
+    orders.push(orders_of(alloc, FIRST)?)?;
+    orders.push(orders_of(alloc, other)?)?;
+    Ok(orders)
+}
+
+fn report_of(alloc: Global, claim: &Claim) -> Result<Report, AllocError> {
+    let (_, handled, state, phase, twist) = *claim;
+    let guardian = guardian(alloc, twist)?;
+    let mut actor = receiver(alloc, handled, twist)?;
+    actor.phase = phase;
+    actor.state = Some(state);
+    let first = first_sender(alloc, twist)?;
     Ok(Report {
-        actors: vec![in alloc; guardian, one]?,
-        senders: vec![in alloc; silent(alloc), silent(alloc), outside]?,
+        actors: vec![in alloc; guardian, actor]?,
+        senders: vec![in alloc; sender(alloc, 0), sender(alloc, 0), first, sender(alloc, 2)]?,
     })
 }
 
+fn guardian(alloc: Global, twist: Twist) -> Result<ActorReport, AllocError> {
+    let mut guardian = started(alloc, 0, None)?;
+    if matches!(twist, Elsewhere) {
+        handle(&mut guardian.journal, TWO, 0)?;
+    }
+    Ok(guardian)
+}
+
+/// The actor that handled these.
+fn receiver(alloc: Global, handled: &[Letter], twist: Twist) -> Result<ActorReport, AllocError> {
+    let first = u64::from(matches!(twist, StartedLate));
+    let reading = if matches!(twist, Suspended) { 4 } else { 0 };
+    let mut actor = started(alloc, first, Some(Answer::Handled))?;
+    for letter in handled {
+        handle(&mut actor.journal, *letter, reading)?;
+    }
+    match twist {
+        Left => actor.left.push(envelope(TWO))?,
+        Cleaned => actor.cleaned.push(envelope(TWO))?,
+        Stopped => apply(&mut actor.journal, 1, SysMsg::Terminate, None)?,
+        _ => {}
+    }
+    Ok(actor)
+}
+
+fn first_sender(alloc: Global, twist: Twist) -> Result<SenderReport, AllocError> {
+    let mut first = sender(alloc, 2);
+    match twist {
+        Dead(why) => first.dead.push(DeadLetter {
+            envelope: envelope(TWO),
+            why,
+        })?,
+        SentMore => first.sent = 3,
+        _ => {}
+    }
+    Ok(first)
+}
+
+fn sender(alloc: Global, sent: u64) -> SenderReport {
+    SenderReport {
+        sent,
+        dead: Vec::new(alloc),
+    }
+}
+
 /// An actor that was started by the system message of this number, and did nothing else.
-fn actor(alloc: Global, number: u64, answer: Option<Answer>) -> Result<ActorReport, AllocError> {
+fn started(alloc: Global, number: u64, answer: Option<Answer>) -> Result<ActorReport, AllocError> {
     let mut journal = Journal::new(alloc, 100);
-    make_ready(&mut journal)?;
-    journal.push_system(number, SysMsg::Create, answer, &[]);
+    apply(&mut journal, number, SysMsg::Create, answer)?;
     Ok(ActorReport {
         phase: Live,
         count: 0,
@@ -126,10 +231,22 @@ fn actor(alloc: Global, number: u64, answer: Option<Answer>) -> Result<ActorRepo
     })
 }
 
-/// Adds that the envelope of this number was handled, before which this status word was read.
-fn handle(journal: &mut Journal, number: u64, reading: u64) -> Result<(), AllocError> {
+/// Adds that the system message of this number was applied.
+fn apply(
+    journal: &mut Journal,
+    number: u64,
+    message: SysMsg,
+    answer: Option<Answer>,
+) -> Result<(), AllocError> {
     make_ready(journal)?;
-    journal.push_handled(envelope(number), reading, Some(Answer::Handled), &[]);
+    journal.push_system(number, message, answer, &[]);
+    Ok(())
+}
+
+/// Adds that this was handled, before which this status word was read.
+fn handle(journal: &mut Journal, letter: Letter, reading: u64) -> Result<(), AllocError> {
+    make_ready(journal)?;
+    journal.push_handled(envelope(letter), reading, Some(Answer::Handled), &[]);
     Ok(())
 }
 
@@ -142,31 +259,29 @@ fn make_ready(journal: &mut Journal) -> Result<(), AllocError>
     }
 }
 
-/// A sender that sent nothing.
-fn silent(alloc: Global) -> SenderReport {
-    SenderReport {
-        sent: 0,
-        dead: Vec::new(alloc),
-    }
-}
-
-/// The envelope of this number: the first carries 1, all others 2.
-fn envelope(number: u64) -> Envelope {
-    let value = if number == 0 { 1 } else { 2 };
+fn envelope(letter: Letter) -> Envelope {
+    let (by, number, value) = letter;
     Envelope {
-        by: SenderId(64),
+        by: SenderId(by),
         to: ActorId(1),
         number,
         body: Body::User { kind: ADD, value },
     }
 }
 
+fn find_out<R: Abort>(rt: &R, alloc: Global, claims: &[Claim], is_right: bool) {
+    for claim in claims {
+        let (what, ..) = *claim;
+        let is_found_right = is_found_right(alloc, claim);
+        assert!(rt;
+            matches!(is_found_right, Ok(found) if found == is_right),
+            "{what}"
+        );
+    }
+}
+
 #[test]
 fn a_report_with_one_thing_wrong_is_found_out(rt: HostRuntime) {
-    assert!(rt; matches!(is_found_right(rt.alloc(), RIGHT), Ok(true)));
-    for claim in WRONG {
-        let (what, ..) = claim;
-        let is_right = is_found_right(rt.alloc(), claim);
-        assert!(rt; matches!(is_right, Ok(false)), "{what}");
-    }
+    find_out(&rt, rt.alloc(), RIGHT, true);
+    find_out(&rt, rt.alloc(), WRONG, false)
 }

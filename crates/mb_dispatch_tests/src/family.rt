@@ -1,9 +1,9 @@
 //! Parents and children that fail, turn by turn.
 use crate::deed::Deed::{Fail, Spawn};
 use crate::player::{ADD, COUNTER, FAIL, Part};
+use crate::sending::Sending::{self, Kill, Stop, Tell};
 use crate::story::{PLAIN, Story};
 use crate::supervised::{CHILD, ESCALATED, RESTARTED, RESUMED, STOPPED};
-use crate::tale::Sending::{self, Kill, Stop, Tell};
 use crate::tale::Step::{DeadSystem, Finish, Run, Send};
 use crate::tale::{Tale, play};
 use mb_journal::Pattern;
@@ -321,29 +321,32 @@ sent 1 handled 1 left 0 dead 0
     ],
 };
 
+const DECIDED: &[Tale] = &[RESTART, RESUME, STOP, ESCALATE, KILLED_AND_ESCALATED];
+
+const SHARED: &[Tale] = &[
+    STOPPED_PARENT,
+    ESCALATED_AMONG_THREE,
+    ALL_RESTARTED,
+    ALL_STOPPED,
+];
+
+const FAILED: &[Tale] = &[
+    FAILED_AT_ITS_START,
+    FAILED_AT_ITS_RESTART,
+    RESTARTED_AGAIN_AND_AGAIN,
+];
+
 #[test]
 fn a_parent_decides_about_a_child_that_failed(rt: HostRuntime) {
-    let tales = [RESTART, RESUME, STOP, ESCALATE, KILLED_AND_ESCALATED];
-    play(&rt, rt.alloc(), &tales)
+    play(&rt, rt.alloc(), DECIDED)
 }
 
 #[test]
 fn siblings_share_what_is_decided(rt: HostRuntime) {
-    let tales = [
-        STOPPED_PARENT,
-        ESCALATED_AMONG_THREE,
-        ALL_RESTARTED,
-        ALL_STOPPED,
-    ];
-    play(&rt, rt.alloc(), &tales)
+    play(&rt, rt.alloc(), SHARED)
 }
 
 #[test]
 fn a_start_and_a_restart_may_fail(rt: HostRuntime) {
-    let tales = [
-        FAILED_AT_ITS_START,
-        FAILED_AT_ITS_RESTART,
-        RESTARTED_AGAIN_AND_AGAIN,
-    ];
-    play(&rt, rt.alloc(), &tales)
+    play(&rt, rt.alloc(), FAILED)
 }

@@ -2,8 +2,8 @@
 use crate::deed::Deed;
 use crate::ended::WATCHED;
 use crate::player::{ADD, COUNTER, Part};
+use crate::sending::Sending::{Kill, Poison, Stop, Tell};
 use crate::story::{PLAIN, Story};
-use crate::tale::Sending::{Kill, Poison, Stop, Tell};
 use crate::tale::Step::{DeadSystem, Finish, Journal, Run, Send};
 use crate::tale::{Tale, play};
 
@@ -214,19 +214,21 @@ const GUARDIAN_STOPPED: Tale = Tale {
     ],
 };
 
+const WATCHES: &[Tale] = &[
+    KILLED,
+    WATCHED_TOO_LATE,
+    WATCHED_NO_MORE,
+    STOPPED_AND_WATCHED,
+];
+
+const ENDS: &[Tale] = &[LAST_WORDS, TALKATIVE, TOLD_TOO_LATE, GUARDIAN_STOPPED];
+
 #[test]
 fn who_watches_is_told_turn_by_turn(rt: HostRuntime) {
-    let tales = [
-        KILLED,
-        WATCHED_TOO_LATE,
-        WATCHED_NO_MORE,
-        STOPPED_AND_WATCHED,
-    ];
-    play(&rt, rt.alloc(), &tales)
+    play(&rt, rt.alloc(), WATCHES)
 }
 
 #[test]
 fn actors_end_turn_by_turn(rt: HostRuntime) {
-    let tales = [LAST_WORDS, TALKATIVE, TOLD_TOO_LATE, GUARDIAN_STOPPED];
-    play(&rt, rt.alloc(), &tales)
+    play(&rt, rt.alloc(), ENDS)
 }

@@ -34,6 +34,14 @@ pub fn are_actors_right(alloc: Global, report: &Report, plan: &Plan) -> Result<b
     Ok(true)
 }
 
+/// Whether the actor has ended.
+pub fn has_ended(report: &Report, id: ActorId) -> bool {
+    match report.actors.get(id.0 as usize) {
+        Some(actor) => actor.phase == Phase::Ended,
+        None => false,
+    }
+}
+
 /// Whom the guardian starts.
 fn below_guardian(plan: &Plan) -> Ids {
     let mut below = NOBODY;

@@ -34,6 +34,8 @@ mod guest;
 #[cfg(test)]
 mod ids;
 #[cfg(test)]
+mod judged;
+#[cfg(test)]
 mod lawful;
 #[cfg(test)]
 mod limited;
@@ -45,6 +47,8 @@ mod ordered;
 mod player;
 #[cfg(test)]
 mod refused;
+#[cfg(test)]
+mod sending;
 #[cfg(test)]
 mod sent;
 #[cfg(test)]
@@ -69,3 +73,5 @@ mod together;
 mod unbuilt;
 #[cfg(test)]
 mod watcher;
+#[cfg(test)]
+mod witness;

@@ -1,8 +1,14 @@
 //! Mailboxes and journals that are full, on one thread.
-use crate::alone::run_alone;
+use crate::alone::{play_alone, text_alone};
 use crate::player::{ADD, COUNTER, Mailbox, Part};
-use crate::story::{PLAIN, Story, told, words};
-use mb_dispatch::{RunError, WholeError};
+use crate::sending::Sending::{self, Tell};
+use crate::story::{PLAIN, Story, see};
+use crate::together::Run;
+use crate::witness::one_witness;
+use std::sync::Arc;
+use std::sync::atomic::AtomicI64;
+use std::sync::atomic::Ordering::SeqCst;
+use std::test::Fail;
 
 pub const TWO_PLACES: &str = "\
 guardian live state - suspended 0 handled 0 left 0 dead 0 restarts 0
@@ -16,35 +22,64 @@ a1 live state 1 suspended 0 handled 1 left 0 dead 2 restarts 0
 sent 3 handled 1 left 0 dead 2
 ";
 
+const THREE: &[Sending] = &[Tell(1, ADD, 1), Tell(1, ADD, 2), Tell(1, ADD, 3)];
+
+const FULL_MAILBOX: &[Run] = &[
+    (
+        Story {
+            parts: &[Part {
+                mailbox: Mailbox::Bounded(2),
+                ..COUNTER
+            }],
+            sends: THREE,
+            ..PLAIN
+        },
+        TWO_PLACES,
+    ),
+    (
+        Story {
+            parts: &[Part {
+                mailbox: Mailbox::Bounded(1),
+                ..COUNTER
+            }],
+            sends: THREE,
+            ..PLAIN
+        },
+        ONE_PLACE,
+    ),
+];
+
+/// There is room for the start and one message.
+const SHORT: Story<'static> = Story {
+    journal_limit: 2,
+    parts: &[COUNTER],
+    sends: &[Tell(1, ADD, 1), Tell(1, ADD, 2)],
+    ..PLAIN
+};
+
+const JOURNAL_FULL: &str = "Run(JournalFull)";
+
+const SHORT_JOURNAL: &[Run] = &[(SHORT, JOURNAL_FULL)];
+
 #[test]
 fn what_finds_a_full_mailbox_is_dead(rt: HostRuntime) {
-    for (capacity, report) in [(2, TWO_PLACES), (1, ONE_PLACE)] {
-        let bounded = Part {
-            mailbox: Mailbox::Bounded(capacity),
-            ..COUNTER
-        };
-        let story = Story {
-            parts: &[bounded],
-            orders: &[told(1, ADD, 1), told(1, ADD, 2), told(1, ADD, 3)],
-            ..PLAIN
-        };
-        let found = match run_alone(&rt, rt.alloc(), &story) {
-            Ok(Ok(text)) => text,
-            _ => None,
-        };
-        assert_eq!(rt; words(&found), report);
-    }
+    play_alone(&rt, rt.alloc(), FULL_MAILBOX)
 }
 
 #[test]
 fn what_finds_a_full_journal_is_not_handled(rt: HostRuntime) {
-    let story = Story {
-        journal_limit: 2,
-        parts: &[COUNTER],
-        orders: &[told(1, ADD, 1), told(1, ADD, 2)],
-        ..PLAIN
-    };
-    let found = run_alone(&rt, rt.alloc(), &story);
-    let is_full = matches!(found, Ok(Err(WholeError::Run(RunError::JournalFull))));
-    assert!(rt; is_full);
+    play_alone(&rt, rt.alloc(), SHORT_JOURNAL)
+}
+
+#[test]
+fn what_was_handled_before_stands(rt: HostRuntime) -> Result<(), Fail> {
+    let shown = Arc::new(rt.alloc(), AtomicI64::new(0))?;
+    let witnesses = one_witness(rt.alloc(), shown.clone()?)?;
+    see(
+        &rt,
+        &text_alone(&rt, rt.alloc(), &SHORT, witnesses),
+        JOURNAL_FULL,
+    );
+    assert_eq!(rt; shown.load(SeqCst), 1);
+    Ok(())
 }

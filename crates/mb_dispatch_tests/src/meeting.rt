@@ -1,8 +1,9 @@
 //! Two actors that wait for one another while they are called: two workers run at once.
 use crate::guest::{Guest, Hall, Silent};
 use crate::player::{ADD, COUNTER};
-use crate::story::{PLAIN, Story, plan_of, text_of, told, words};
-use crate::together::report_of;
+use crate::sending::Sending::Tell;
+use crate::story::{PLAIN, Story, see};
+use crate::together::text_together;
 use mb_plan::Pool;
 use std::alloc::{AllocError, Global};
 use std::sync::{Arc, Wait};
@@ -15,21 +16,22 @@ a2 live state 0 suspended 0 handled 1 left 0 dead 0 restarts 0
 sent 2 handled 2 left 0 dead 0
 ";
 
+const BY_SHARED: Story<'static> = Story {
+    parts: &[COUNTER, COUNTER],
+    sends: &[Tell(1, ADD, 1), Tell(2, ADD, 1)],
+    ..PLAIN
+};
+
+const BY_STEALING: Story<'static> = Story {
+    pool: Pool::Stealing,
+    ..BY_SHARED
+};
+
 /// The report of two guests that are sent a message each.
-fn meet<R: Threads + Wait + Sync>(rt: &R, alloc: Global, pool: Pool) -> Option<String> {
-    let story = Story {
-        pool,
-        parts: &[COUNTER, COUNTER],
-        ..PLAIN
-    };
-    let plan = plan_of(alloc, &story).ok()?;
-    let Ok(guests) = two_guests(alloc) else {
-        return None;
-    };
-    let orders = [told(1, ADD, 1), told(2, ADD, 1)];
-    match report_of::<Guest, Silent, R>(rt, alloc, plan, guests, &orders) {
-        Ok(Some(report)) => text_of(alloc, &report, 2),
-        _ => None,
+fn meet<R: Threads + Wait + Sync>(rt: &R, alloc: Global, story: &Story<'_>) -> Option<String> {
+    match two_guests(alloc) {
+        Ok(guests) => text_together::<Guest, Silent, R>(rt, alloc, story, guests),
+        Err(_) => None,
     }
 }
 
@@ -50,10 +52,10 @@ fn two_guests(alloc: Global) -> Result<Vec<Guest>, AllocError> {
 
 #[test]
 fn two_actors_meet_by_a_shared_pool(rt: HostRuntime) {
-    assert_eq!(rt; words(&meet(&rt, rt.alloc(), Pool::Shared)), REPORT);
+    see(&rt, &meet(&rt, rt.alloc(), &BY_SHARED), REPORT);
 }
 
 #[test]
 fn two_actors_meet_by_a_stealing_pool(rt: HostRuntime) {
-    assert_eq!(rt; words(&meet(&rt, rt.alloc(), Pool::Stealing)), REPORT);
+    see(&rt, &meet(&rt, rt.alloc(), &BY_STEALING), REPORT);
 }

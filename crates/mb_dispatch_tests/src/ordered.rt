@@ -2,8 +2,8 @@
 use crate::deed::Deed;
 use crate::limited::{ONE_PLACE, TWO_PLACES};
 use crate::player::{ADD, COUNTER, Mailbox, Part};
+use crate::sending::Sending::{Control, Tell};
 use crate::story::{PLAIN, Story};
-use crate::tale::Sending::{Control, Tell};
 use crate::tale::Step::{Finish, Journal, Run, Send};
 use crate::tale::{Tale, play};
 use mb_plan::Rank;
@@ -169,22 +169,21 @@ const THREE_FOR_ONE_PLACE: Tale = Tale {
     ],
 };
 
+const FIRST: &[Tale] = &[
+    BY_RANK,
+    CONTROL_BEFORE_OTHERS,
+    CONTROL_BY_AN_ACTOR,
+    CONTROL_IN_ORDER,
+];
+
+const FULL: &[Tale] = &[THREE_FOR_TWO_PLACES, THREE_FOR_ONE_PLACE];
+
 #[test]
 fn a_mailbox_gives_what_goes_first(rt: HostRuntime) {
-    let tales = [
-        BY_RANK,
-        CONTROL_BEFORE_OTHERS,
-        CONTROL_BY_AN_ACTOR,
-        CONTROL_IN_ORDER,
-    ];
-    play(&rt, rt.alloc(), &tales)
+    play(&rt, rt.alloc(), FIRST)
 }
 
 #[test]
 fn a_sender_is_told_of_a_full_mailbox(rt: HostRuntime) {
-    play(
-        &rt,
-        rt.alloc(),
-        &[THREE_FOR_TWO_PLACES, THREE_FOR_ONE_PLACE],
-    )
+    play(&rt, rt.alloc(), FULL)
 }

@@ -1,18 +1,15 @@
 //! A whole run on one thread, whose calls are made again where memory was refused: run this with each allocation refused in turn
 //! (`tools/refuse_each_allocation_of_a_system`).
-ghost use Rattle.std.specs.Prelude.{IfOk};
-ghost use Rattle.mb_system.specs.Belonging.{BelongsTogether};
-
+use crate::closing::{Refusal, Unfinished};
+use crate::company::Company;
 use crate::deed::Deed;
-use crate::player::{ADD, Adding, COUNTER, FAIL, Part, Player, players_of};
-use crate::story::{PLAIN, Story, plan_of, text_of, words};
-use crate::together::{begin, end};
-use mb_dispatch::{Built, FinishError, Put, RunError, Unsent, finish};
+use crate::player::{ADD, COUNTER, FAIL, Part};
+use crate::story::{PLAIN, Story, text_of};
+use mb_dispatch::{Put, RunError, Unsent};
 use mb_msg::{ActorId, Body, Why};
 use mb_plan::Pool;
 use mb_report::Report;
-use std::alloc::{AllocError, Global};
-use std::process::Abort;
+use std::alloc::Global;
 use std::sync::Wait;
 
 const PARENT: Part = Part {
@@ -23,11 +20,6 @@ const PARENT: Part = Part {
 const CHILD: Part = Part {
     parent: 1,
     ..COUNTER
-};
-
-const FAILURE: Body = Body::User {
-    kind: FAIL,
-    value: 0,
 };
 
 /// With ample memory. The same where the last envelope finds no memory: it is dead in any case.
@@ -75,158 +67,132 @@ sent 5 handled 4 left 0 dead 1
 ";
 
 /// What the child is sent, and the report where that finds no memory.
-fn sends() -> [(Body, &'static str); 5] {
-    [
-        (add(5), WITHOUT_5),
-        (FAILURE, WITHOUT_FAILURE),
-        (add(7), WITHOUT_7),
-        (Body::PoisonPill, WITHOUT_POISON),
-        (add(9), WITH_ALL),
-    ]
-}
-
-fn add(value: i64) -> Body {
-    Body::User { kind: ADD, value }
-}
+const SENDS: &[(Body, &str)] = &[
+    (
+        Body::User {
+            kind: ADD,
+            value: 5,
+        },
+        WITHOUT_5,
+    ),
+    (
+        Body::User {
+            kind: FAIL,
+            value: 0,
+        },
+        WITHOUT_FAILURE,
+    ),
+    (
+        Body::User {
+            kind: ADD,
+            value: 7,
+        },
+        WITHOUT_7,
+    ),
+    (Body::PoisonPill, WITHOUT_POISON),
+    (
+        Body::User {
+            kind: ADD,
+            value: 9,
+        },
+        WITH_ALL,
+    ),
+];
 
 /// A system of the two, built once more where memory was refused.
-fn build_at_last<R: Wait>(
-    rt: &R,
-    alloc: Global,
-    story: &Story<'_>,
-) -> Result<Built<Player, Adding>, AllocError>
-    ensures { IfOk result BelongsTogether }
-{
-    match build(rt, alloc, story) {
-        Ok(built) => Ok(built),
-        Err(_) => build(rt, alloc, story),
+fn build_at_last<R: Wait>(rt: &R, alloc: Global, story: &Story<'_>) -> Option<Company> {
+    match Company::new(rt, alloc, story) {
+        Ok(company) => Some(company),
+        Err(_) => Company::new(rt, alloc, story).ok(),
     }
 }
 
-fn build<R: Wait>(
-    rt: &R,
-    alloc: Global,
-    story: &Story<'_>,
-) -> Result<Built<Player, Adding>, AllocError>
-    ensures { IfOk result BelongsTogether }
-{
-    let plan = plan_of(alloc, story)?;
-    let players = players_of(alloc, story.parts)?;
-    begin::<Player, Adding, R>(rt, alloc, plan, players)
-}
-
-/// Sends all, once more where nothing was sent: the report that is due.
-fn tell_each<R: Wait>(rt: &R, built: &mut Built<Player, Adding>) -> Option<&'static str>
-    requires together { BelongsTogether built.old }
-    ensures together { BelongsTogether built.new }
-{
+/// Sends all: the report that is due.
+fn tell_each<R: Wait>(rt: &R, company: &mut Company) -> Option<&'static str> {
     let mut due = WITH_ALL;
-    for (body, without) in sends() {
-        let put = match tell(rt, built, body)? {
-            Err(Unsent::NoMemory) => tell(rt, built, body)?,
-            put => put,
-        };
-        match put {
+    for (body, without) in SENDS {
+        match tell_at_last(rt, company, *body)? {
             Ok(Put::Queued(_)) => {}
-            Ok(Put::Dead(_, Why::NoMemory)) => due = without,
+            Ok(Put::Dead(_, Why::NoMemory)) => due = *without,
             _ => return None,
         }
     }
     Some(due)
 }
 
-fn tell<R: Wait>(
-    rt: &R,
-    built: &mut Built<Player, Adding>,
-    body: Body,
-) -> Option<Result<Put, Unsent>>
-    requires together { BelongsTogether built.old }
-    ensures together { BelongsTogether built.new }
-{
-    if built.senders.is_empty() {
-        return None;
+/// Sends this, once more where nothing was sent.
+fn tell_at_last<R: Wait>(rt: &R, company: &mut Company, body: Body) -> Option<Result<Put, Unsent>> {
+    match company.tell(rt, ActorId(2), body)? {
+        Err(Unsent::NoMemory) => company.tell(rt, ActorId(2), body),
+        put => Some(put),
     }
-    Some(built.senders[0].tell(rt, &built.system, ActorId(2), body))
 }
 
 /// Runs all, once more where memory was refused: whether it ran.
-fn run_at_last<R: Wait>(rt: &R, built: &mut Built<Player, Adding>) -> bool
-    requires together { BelongsTogether built.old }
-    ensures together { BelongsTogether built.new }
-{
-    match run(rt, built) {
-        Err(RunError::NoMemory) => run(rt, built).is_ok(),
-        answer => answer.is_ok(),
-    }
-}
-
-fn run<R: Wait>(rt: &R, built: &mut Built<Player, Adding>) -> Result<(), RunError>
-    requires together { BelongsTogether built.old }
-    ensures together { BelongsTogether built.new }
-{
-    if built.ends.is_empty() {
-        return Ok(());
-    }
-    let _turns = built.ends[0].run_quietly(rt, &built.system)?;
-    Ok(())
+fn run_at_last<R: Wait>(rt: &R, company: &mut Company) -> bool {
+    let turns = match company.run_quietly(rt) {
+        Some(Err(RunError::NoMemory)) => company.run_quietly(rt),
+        turns => turns,
+    };
+    matches!(turns, Some(Ok(_)))
 }
 
 /// Ends the system, once more where memory was refused.
-fn finish_at_last<R: Wait>(rt: &R, built: Built<Player, Adding>) -> Option<Report>
-    requires together { BelongsTogether built }
-{
-    match finish(rt, built) {
+fn finish_at_last<R: Wait>(rt: &R, company: Company) -> Option<Report> {
+    match company.finish(rt) {
         Ok(report) => Some(report),
-        Err(FinishError::NoMemory(back)) => end(rt, back),
+        Err(
+            Unfinished {
+                why: Refusal::NoMemory,
+                back: Some(back),
+            },
+        ) => back.finish(rt).ok(),
         Err(_) => None,
     }
 }
 
-/// The report's text, and the one that is due.
-fn report_at_last<R: Wait>(
-    rt: &R,
-    alloc: Global,
-    pool: Pool,
-) -> Option<(Option<String>, &'static str)> {
-    let story = Story {
-        pool,
-        parts: &[PARENT, CHILD],
-        ..PLAIN
-    };
-    let Ok(mut built) = build_at_last(rt, alloc, &story) else {
-        return None;
-    };
-    let due = tell_each(rt, &mut built)?;
-    if !run_at_last(rt, &mut built) {
+/// Whether the report is the one that is due.
+fn is_as_due<R: Wait>(rt: &R, alloc: Global, company: Company) -> Option<bool> {
+    let mut company = company;
+    let due = tell_each(rt, &mut company)?;
+    if !run_at_last(rt, &mut company) {
         return None;
     }
-    let report = finish_at_last(rt, built)?;
-    let text = text_of(alloc, &report, 2);
-    Some((
-        if text.is_some() {
-            text
-        } else {
-            text_of(alloc, &report, 2)
-        },
-        due,
-    ))
+    let report = finish_at_last(rt, company)?;
+    let text = text_at_last(alloc, &report)?;
+    let text = text.as_str();
+    Some(text == due || due == WITH_ALL && text == LEFT)
 }
 
-fn try_at_last<R: Abort + Wait>(rt: &R, alloc: Global, pool: Pool) {
-    let found = report_at_last(rt, alloc, pool);
-    assert!(rt; found.is_some());
-    if let Some((text, due)) = found {
-        let is_left = due == WITH_ALL && words(&text) == LEFT;
-        assert!(rt; is_left || words(&text) == due, "{}", words(&text));
+fn text_at_last(alloc: Global, report: &Report) -> Option<String> {
+    match text_of(alloc, report, 2) {
+        Some(text) => Some(text),
+        None => text_of(alloc, report, 2),
     }
+}
+
+const BY_SHARED: Story<'static> = Story {
+    parts: &[PARENT, CHILD],
+    ..PLAIN
+};
+
+const BY_STEALING: Story<'static> = Story {
+    pool: Pool::Stealing,
+    ..BY_SHARED
+};
+
+fn try_at_last<R: Wait>(rt: &R, alloc: Global, story: &Story<'_>) -> Option<bool> {
+    is_as_due(rt, alloc, build_at_last(rt, alloc, story)?)
 }
 
 #[test]
 fn a_refused_call_of_a_system_with_a_shared_pool_can_be_made_again(rt: HostRuntime) {
-    try_at_last(&rt, rt.alloc(), Pool::Shared)
+    let is_as_due = try_at_last(&rt, rt.alloc(), &BY_SHARED);
+    assert_eq!(rt; is_as_due, Some(true));
 }
 
 #[test]
 fn a_refused_call_of_a_system_with_a_stealing_pool_can_be_made_again(rt: HostRuntime) {
-    try_at_last(&rt, rt.alloc(), Pool::Stealing)
+    let is_as_due = try_at_last(&rt, rt.alloc(), &BY_STEALING);
+    assert_eq!(rt; is_as_due, Some(true));
 }

@@ -49,23 +49,34 @@ impl Sent {
     }
 }
 
-/// What was sent by each actor, and then by each sender outside, all of which sent this.
+/// What was sent by each actor, and then by each sender outside, where each of these sent its own.
 pub fn all_sent(
     alloc: Global,
     report: &Report,
-    senders: u32,
-    orders: &[Order],
+    sends: &[Vec<Order>],
 ) -> Result<Vec<Sent>, AllocError> {
     let mut all = Vec::new(alloc);
+    add_actors(&mut all, alloc, report)?;
+    add_outside(&mut all, alloc, sends)?;
+    Ok(all)
+}
+
+fn add_actors(all: &mut Vec<Sent>, alloc: Global, report: &Report) -> Result<(), AllocError> {
     let mut number = 0;
     for actor in &report.actors {
         all.push(by_actor(alloc, number, &actor.journal)?)?;
         number = number.wrapping_add(1);
     }
-    for sender in 0..senders {
-        all.push(outside(alloc, OUTSIDE.saturating_add(sender), orders)?)?;
+    Ok(())
+}
+
+fn add_outside(all: &mut Vec<Sent>, alloc: Global, sends: &[Vec<Order>]) -> Result<(), AllocError> {
+    let mut number = OUTSIDE;
+    for orders in sends {
+        all.push(outside(alloc, number, orders)?)?;
+        number = number.wrapping_add(1);
     }
-    Ok(all)
+    Ok(())
 }
 
 /// What a sender outside sent, all of whose orders were carried out.

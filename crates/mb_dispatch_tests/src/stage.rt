@@ -2,12 +2,13 @@
 use crate::closing::Unfinished;
 use crate::company::Company;
 use crate::player::ADD;
+use crate::sending::{Sending, order_of};
 use crate::shown::{
     add, journal_text, look_text, put_text, run_text, stop_text, turn_text, turns_text,
 };
 use crate::story::{Story, text_of};
-use crate::tale::{Sending, Step};
-use mb_dispatch::{Look, Ticket};
+use crate::tale::Step;
+use mb_dispatch::{Look, Order, Ticket, What};
 use mb_msg::{ActorId, Body};
 use mb_report::{ActorReport, Report};
 use std::alloc::Global;
@@ -62,23 +63,12 @@ impl Stage {
     }
 
     fn send<R: Wait>(&mut self, rt: &R, sending: Sending) -> Option<String> {
-        match sending {
-            Sending::Tell(to, kind, value) => self.tell(rt, to, Body::User { kind, value }),
-            Sending::Control(to, kind, value) => self.tell(rt, to, Body::Control { kind, value }),
-            Sending::Poison(to) => self.tell(rt, to, Body::PoisonPill),
-            Sending::Kill(to) => self.tell(rt, to, Body::Kill),
-            Sending::Stop(to) => self.stop(rt, to),
+        let company = self.company.as_mut()?;
+        let Order { to, what } = order_of(sending);
+        match what {
+            What::Tell(body) => put_text(self.alloc, company.tell(rt, to, body)?).ok(),
+            What::Stop => stop_text(self.alloc, company.stop(rt, to)?).ok(),
         }
-    }
-
-    fn tell<R: Wait>(&mut self, rt: &R, to: u32, body: Body) -> Option<String> {
-        let put = self.company.as_mut()?.tell(rt, ActorId(to), body)?;
-        put_text(self.alloc, put).ok()
-    }
-
-    fn stop<R: Wait>(&mut self, rt: &R, to: u32) -> Option<String> {
-        let stopped = self.company.as_mut()?.stop(rt, ActorId(to))?;
-        stop_text(self.alloc, stopped).ok()
     }
 
     fn look(&mut self, to: ActorId) -> Option<String> {

@@ -1,22 +1,22 @@
 //! What must be true of the envelopes of a report, by code that shares nothing with the program's: each that was sent stands
 //! once, in its sender's order; what is dead is so for a reason.
+use crate::lawful::has_ended;
 use crate::sent::{Sent, all_sent};
-use mb_actor::Phase;
 use mb_dispatch::Order;
 use mb_journal::Arrival;
 use mb_msg::{ActorId, Body, DeadLetter, Envelope, SenderId, Why};
 use mb_plan::{Kind, Plan};
-use mb_report::{ActorReport, Report, SenderReport};
+use mb_report::{ActorReport, Report};
 use std::alloc::{AllocError, Global};
 
-/// Whether the envelopes of a report on this plan are right, where each sender outside sent this.
+/// Whether the envelopes of a report on this plan are right, where each sender outside sent its own of these.
 pub fn are_envelopes_right(
     alloc: Global,
     report: &Report,
     plan: &Plan,
-    orders: &[Order],
+    sends: &[Vec<Order>],
 ) -> Result<bool, AllocError> {
-    let all = all_sent(alloc, report, plan.senders, orders)?;
+    let all = all_sent(alloc, report, sends)?;
     Ok(
         are_senders_right(report, plan, &all)
             && are_receivers_right(alloc, report, plan, &all)?
@@ -46,10 +46,7 @@ fn are_senders_right(report: &Report, plan: &Plan, all: &[Sent]) -> bool {
 fn is_dead_for_a_reason(report: &Report, plan: &Plan, letter: &DeadLetter) -> bool {
     let to = letter.envelope.to;
     match letter.why {
-        Why::Closed => match report.actors.get(to.0 as usize) {
-            Some(actor) => actor.phase == Phase::Ended,
-            None => false,
-        },
+        Why::Closed => has_ended(report, to),
         Why::Full => matches!(mailbox_of(plan, to), Some(Kind::Bounded(_))),
         Why::NoMemory | Why::Cleaned => false,
     }
@@ -91,6 +88,11 @@ fn are_receivers_right(
 /// What became of the envelopes to an actor that were not refused: handled or dropped, cleaned up, left.
 fn fates_of(alloc: Global, actor: &ActorReport) -> Result<Vec<Envelope>, AllocError> {
     let mut fates = Vec::new(alloc);
+    push_fates_of(&mut fates, actor)?;
+    Ok(fates)
+}
+
+fn push_fates_of(fates: &mut Vec<Envelope>, actor: &ActorReport) -> Result<(), AllocError> {
     for place in 0..actor.journal.len() {
         match actor.journal.get(place).arrival {
             Arrival::Handled { envelope, .. } => fates.push(envelope)?,
@@ -99,8 +101,7 @@ fn fates_of(alloc: Global, actor: &ActorReport) -> Result<Vec<Envelope>, AllocEr
         }
     }
     fates.extend_from_slice(&actor.cleaned)?;
-    fates.extend_from_slice(&actor.left)?;
-    Ok(fates)
+    fates.extend_from_slice(&actor.left)
 }
 
 /// Whether this sender's are in order, where the mailbox keeps the order: all of them, or where control messages go first, these
@@ -128,24 +129,34 @@ fn are_in_order(fates: &[Envelope], by: SenderId, mailbox: Option<&Kind>) -> boo
 /// Each envelope that was sent stands once, among the fates of an actor or the dead letters, and nothing else stands there.
 fn does_each_stand_once(alloc: Global, report: &Report, all: &[Sent]) -> Result<bool, AllocError> {
     let mut sent = Vec::new(alloc);
-    for one in all {
-        sent.extend_from_slice(&one.envelopes)?;
-    }
     let mut stood = Vec::new(alloc);
-    for actor in &report.actors {
-        stood.extend_from_slice(&fates_of(alloc, actor)?)?;
-    }
-    for sender in &report.senders {
-        push_dead(&mut stood, sender)?;
-    }
+    push_sent(&mut sent, all)?;
+    push_fates(&mut stood, report)?;
+    push_dead(&mut stood, report)?;
     sent.sort()?;
     stood.sort()?;
     Ok(sent == stood)
 }
 
-fn push_dead(stood: &mut Vec<Envelope>, sender: &SenderReport) -> Result<(), AllocError> {
-    for letter in &sender.dead {
-        stood.push(letter.envelope)?;
+fn push_sent(sent: &mut Vec<Envelope>, all: &[Sent]) -> Result<(), AllocError> {
+    for one in all {
+        sent.extend_from_slice(&one.envelopes)?;
+    }
+    Ok(())
+}
+
+fn push_fates(stood: &mut Vec<Envelope>, report: &Report) -> Result<(), AllocError> {
+    for actor in &report.actors {
+        push_fates_of(stood, actor)?;
+    }
+    Ok(())
+}
+
+fn push_dead(stood: &mut Vec<Envelope>, report: &Report) -> Result<(), AllocError> {
+    for sender in &report.senders {
+        for letter in &sender.dead {
+            stood.push(letter.envelope)?;
+        }
     }
     Ok(())
 }

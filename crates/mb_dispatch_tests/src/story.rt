@@ -1,11 +1,12 @@
 //! What is played: who acts, and what is sent.
 use crate::player::{Mailbox, Part};
-use mb_dispatch::{Order, What};
+use crate::sending::Sending;
 use mb_journal::Strategy;
-use mb_msg::{ActorId, Body};
+use mb_msg::ActorId;
 use mb_plan::{ActorPlan, Kind, Plan, Pool};
 use mb_report::{Report, report_text};
 use std::alloc::{AllocError, Global};
+use std::process::Abort;
 
 /// A system of players, each of whose senders is to send the same.
 #[derive(Clone, Copy)]
@@ -16,7 +17,7 @@ pub struct Story<'a> {
     pub throughput: u32,
     pub journal_limit: u32,
     pub parts: &'a [Part],
-    pub orders: &'a [Order],
+    pub sends: &'a [Sending],
 }
 
 /// Nobody, with two workers and one sender.
@@ -27,21 +28,8 @@ pub const PLAIN: Story<'static> = Story {
     throughput: 5,
     journal_limit: 100,
     parts: &[],
-    orders: &[],
+    sends: &[],
 };
-
-/// A message of this kind and value.
-pub fn told(to: u32, kind: u32, value: i64) -> Order {
-    said(to, Body::User { kind, value })
-}
-
-/// This body.
-pub fn said(to: u32, body: Body) -> Order {
-    Order {
-        to: ActorId(to),
-        what: What::Tell(body),
-    }
-}
 
 /// The plan of a story.
 pub fn plan_of(alloc: Global, story: &Story<'_>) -> Result<Plan, AllocError> {
@@ -88,26 +76,6 @@ fn kind_of(alloc: Global, mailbox: Mailbox) -> Result<Kind, AllocError> {
     })
 }
 
-/// What each of so many senders is to send.
-pub fn orders_of(
-    alloc: Global,
-    senders: u32,
-    orders: &[Order],
-) -> Result<Vec<Vec<Order>>, AllocError> {
-    let mut all = Vec::new(alloc);
-    for _ in 0..senders {
-        all.push(copy_of(alloc, orders)?)?;
-    }
-    Ok(all)
-}
-
-/// The same orders.
-pub fn copy_of(alloc: Global, orders: &[Order]) -> Result<Vec<Order>, AllocError> {
-    let mut copy = Vec::new(alloc);
-    copy.extend_from_slice(orders)?;
-    Ok(copy)
-}
-
 /// The text of a report on so many actors, whose names are a1, a2 and so on. Nothing where they are not as many, or memory was
 /// refused.
 pub fn text_of(alloc: Global, report: &Report, count: usize) -> Option<String> {
@@ -131,6 +99,11 @@ fn names_of(alloc: Global, count: usize) -> Result<Vec<String>, AllocError> {
 fn name_of(alloc: Global, place: usize) -> Result<String, AllocError> {
     let number = place.wrapping_add(1);
     format!(in alloc; "a{number}")
+}
+
+/// Sees to it that this text was found.
+pub fn see<R: Abort>(rt: &R, found: &Option<String>, wanted: &str) {
+    assert_eq!(rt; words(found), wanted);
 }
 
 /// What was found, to be compared; "no report" if nothing was.

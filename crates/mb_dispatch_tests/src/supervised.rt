@@ -1,8 +1,9 @@
 //! Children that fail, on threads.
 use crate::deed::Deed;
 use crate::player::{ADD, COUNTER, FAIL, Part};
-use crate::story::{PLAIN, Story, told, words};
-use crate::together::run_together;
+use crate::sending::Sending::{self, Tell};
+use crate::story::{PLAIN, Story};
+use crate::together::{Run, play_together};
 use mb_journal::Pattern;
 use mb_msg::Directive;
 
@@ -60,41 +61,125 @@ a2 live state 0 suspended 0 handled 3 left 0 dead 0 restarts 3
 sent 3 handled 3 left 0 dead 0
 ";
 
+const THREE: &[Sending] = &[Tell(2, ADD, 5), Tell(2, FAIL, 0), Tell(2, ADD, 7)];
+
+const FAILURES: &[Sending] = &[Tell(2, FAIL, 0), Tell(2, FAIL, 0), Tell(2, FAIL, 0)];
+
+const PARENT: Part = Part {
+    start: &[Deed::Spawn(2)],
+    ..COUNTER
+};
+
+const DECIDED: &[Run] = &[
+    (
+        Story {
+            parts: &[
+                Part {
+                    rule: Some((Pattern::AnyError, Directive::Restart)),
+                    ..PARENT
+                },
+                CHILD,
+            ],
+            sends: THREE,
+            ..PLAIN
+        },
+        RESTARTED,
+    ),
+    (
+        Story {
+            parts: &[
+                Part {
+                    rule: Some((Pattern::AnyError, Directive::Resume)),
+                    ..PARENT
+                },
+                CHILD,
+            ],
+            sends: THREE,
+            ..PLAIN
+        },
+        RESUMED,
+    ),
+    (
+        Story {
+            parts: &[
+                Part {
+                    rule: Some((Pattern::AnyError, Directive::Stop)),
+                    ..PARENT
+                },
+                CHILD,
+            ],
+            sends: THREE,
+            ..PLAIN
+        },
+        STOPPED,
+    ),
+    (
+        Story {
+            parts: &[
+                Part {
+                    rule: Some((Pattern::AnyError, Directive::Escalate)),
+                    ..PARENT
+                },
+                CHILD,
+            ],
+            sends: THREE,
+            ..PLAIN
+        },
+        ESCALATED,
+    ),
+];
+
+const RETRIED: &[Run] = &[
+    (
+        Story {
+            parts: &[
+                Part {
+                    retries: 2,
+                    ..PARENT
+                },
+                CHILD,
+            ],
+            sends: FAILURES,
+            ..PLAIN
+        },
+        RETRIED_TWICE,
+    ),
+    (
+        Story {
+            parts: &[
+                Part {
+                    retries: 0,
+                    ..PARENT
+                },
+                CHILD,
+            ],
+            sends: FAILURES,
+            ..PLAIN
+        },
+        NEVER_RETRIED,
+    ),
+    (
+        Story {
+            parts: &[
+                Part {
+                    retries: -1,
+                    ..PARENT
+                },
+                CHILD,
+            ],
+            sends: FAILURES,
+            ..PLAIN
+        },
+        ALWAYS_RETRIED,
+    ),
+];
+
 #[test]
 fn a_child_that_fails_is_treated_as_its_parent_says(rt: HostRuntime) {
-    for (directive, report) in [
-        (Directive::Restart, RESTARTED),
-        (Directive::Resume, RESUMED),
-        (Directive::Stop, STOPPED),
-        (Directive::Escalate, ESCALATED),
-    ] {
-        let parent = Part {
-            start: &[Deed::Spawn(2)],
-            rule: Some((Pattern::AnyError, directive)),
-            ..COUNTER
-        };
-        let story = Story {
-            parts: &[parent, CHILD],
-            orders: &[told(2, ADD, 5), told(2, FAIL, 0), told(2, ADD, 7)],
-            ..PLAIN
-        };
-        assert_eq!(rt; words(&run_together(&rt, rt.alloc(), &story)), report);
-    }
+    play_together(&rt, rt.alloc(), DECIDED)
 }
 
 #[test]
 fn a_child_is_restarted_as_often_as_its_parent_says(rt: HostRuntime) {
-    for (retries, report) in [(2, RETRIED_TWICE), (0, NEVER_RETRIED), (-1, ALWAYS_RETRIED)] {
-        let parent = Part {
-            start: &[Deed::Spawn(2)],
-            retries,
-            ..COUNTER
-        };
-        let story = Story {
-            parts: &[parent, CHILD],
-            orders: &[told(2, FAIL, 0), told(2, FAIL, 0), told(2, FAIL, 0)],
-            ..PLAIN
-        };
-        assert_eq!(rt; words(&run_together(&rt, rt.alloc(), &story)), report);
-    }
+    play_together(&rt, rt.alloc(), RETRIED)
 }

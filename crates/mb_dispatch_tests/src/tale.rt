@@ -1,19 +1,10 @@
 //! Stories that go on step by step, on one thread.
+use crate::sending::Sending;
 use crate::stage::Stage;
-use crate::story::{Story, words};
+use crate::story::{Story, see};
 use std::alloc::Global;
 use std::process::Abort;
 use std::sync::Wait;
-
-/// What is sent to an actor: a message of a kind and a value, such a control message, or what ends it.
-#[derive(Clone, Copy)]
-pub enum Sending {
-    Tell(u32, u32, i64),
-    Control(u32, u32, i64),
-    Poison(u32),
-    Kill(u32),
-    Stop(u32),
-}
 
 /// What is done next; of actors by their numbers.
 #[derive(Clone, Copy)]
@@ -54,8 +45,7 @@ pub fn play<R: Abort + Wait>(rt: &R, alloc: Global, tales: &[Tale]) {
     for tale in tales {
         let mut stage = Stage::new(rt, alloc, &tale.story);
         for (step, answer) in tale.steps {
-            let found = stage.take(rt, *step);
-            assert_eq!(rt; words(&found), *answer);
+            see(rt, &stage.take(rt, *step), *answer);
         }
     }
 }

@@ -1,11 +1,12 @@
 //! A thousand plans by chance, run on threads: what must be true of a run is true of each report.
-use crate::chance::{actors_by_chance, orders_by_chance, plan_by_chance};
+use crate::chance::{actors_by_chance, plan_by_chance, sends_by_chance};
 use crate::gambler::{Gambler, gamblers};
-use crate::lawful::are_actors_right;
+use crate::judged::is_right;
 use crate::player::Adding;
-use crate::stood::are_envelopes_right;
 use crate::together::report_of;
-use mb_plan::Pool;
+use mb_dispatch::Order;
+use mb_plan::{Plan, Pool};
+use mb_report::Report;
 use std::alloc::{AllocError, Global};
 use std::process::Abort;
 use std::sync::Wait;
@@ -19,17 +20,34 @@ fn try_one<R: Threads + Wait + Sync>(
     pool: Pool,
 ) -> Result<bool, AllocError> {
     let actors = actors_by_chance(seed);
-    let orders = orders_by_chance(alloc, seed, actors)?;
     let gamblers = gamblers(alloc, seed, actors)?;
     let plan = plan_by_chance(alloc, seed, pool)?;
-    let Some(report) = report_of::<Gambler, Adding, R>(rt, alloc, plan, gamblers, &orders)? else {
+    let sends = sends_by_chance(alloc, seed, plan.senders, actors)?;
+    match report_of::<Gambler, Adding, R>(rt, alloc, plan, gamblers, &sends)? {
+        Some(report) => {
+            let plan = plan_by_chance(alloc, seed, pool)?;
+            is_right_of_these_alone(alloc, &report, &plan, sends)
+        }
+        None => Ok(false),
+    }
+}
+
+/// Whether the report is right where each sender was to send its own of these, and wrong if two of them had exchanged theirs.
+fn is_right_of_these_alone(
+    alloc: Global,
+    report: &Report,
+    plan: &Plan,
+    sends: Vec<Vec<Order>>,
+) -> Result<bool, AllocError> {
+    let mut sends = sends;
+    if !is_right(alloc, report, plan, &sends)? {
         return Ok(false);
-    };
-    let plan = plan_by_chance(alloc, seed, pool)?;
-    Ok(
-        are_envelopes_right(alloc, &report, &plan, &orders)?
-            && are_actors_right(alloc, &report, &plan)?,
-    )
+    }
+    if sends.len() < 2 {
+        return Ok(true);
+    }
+    sends.swap(0, 1);
+    Ok(!is_right(alloc, report, plan, &sends)?)
 }
 
 fn try_five_hundred<R: Abort + Threads + Wait + Sync>(rt: &R, alloc: Global, pool: Pool) {

@@ -1,7 +1,7 @@
 //! How much a run of a mailbox handles, turn by turn.
 use crate::player::{ADD, COUNTER, FAIL};
+use crate::sending::Sending::{self, Tell};
 use crate::story::{PLAIN, Story};
-use crate::tale::Sending::{self, Tell};
 use crate::tale::Step::{Finish, Run, Send};
 use crate::tale::{Tale, play};
 use mb_plan::Pool;
@@ -75,10 +75,27 @@ const SUSPENDED: Tale = Tale {
     ],
 };
 
+/// Once more by one end that steals.
+const ONE_AT_A_TIME_BY_STEALING: Tale = Tale {
+    story: Story {
+        workers: 1,
+        pool: Pool::Stealing,
+        throughput: 0,
+        ..BY_TWOS
+    },
+    ..ONE_AT_A_TIME
+};
+
+const AS_MANY: &[Tale] = &[
+    TWO_AT_A_TIME,
+    TWO_AT_A_TIME_BY_STEALING,
+    ONE_AT_A_TIME,
+    ONE_AT_A_TIME_BY_STEALING,
+];
+
 #[test]
 fn a_run_handles_as_many_as_the_throughput_says(rt: HostRuntime) {
-    let tales = [TWO_AT_A_TIME, TWO_AT_A_TIME_BY_STEALING, ONE_AT_A_TIME];
-    play(&rt, rt.alloc(), &tales)
+    play(&rt, rt.alloc(), AS_MANY)
 }
 
 #[test]

@@ -4,14 +4,26 @@ ghost use Rattle.mb_build.specs.Behaved.{AreBehaved};
 ghost use Rattle.mb_system.specs.Belonging.{BelongsTogether};
 
 use crate::player::{Adding, Player, players_of};
-use crate::story::{Story, copy_of, plan_of, text_of};
+use crate::sending::{orders_at, same_orders};
+use crate::story::{Story, plan_of, see, text_of};
 use mb_actor::{Actor, Behaviours};
 use mb_dispatch::{Built, Job, Order, Sender, System, finish};
 use mb_plan::Plan;
 use mb_report::Report;
 use std::alloc::{AllocError, Global};
+use std::process::Abort;
 use std::sync::Wait;
 use std::thread::Threads;
+
+/// A story, and the text of its report.
+pub type Run = (Story<'static>, &'static str);
+
+/// Plays each of these stories, and sees to it that its report has this text.
+pub fn play_together<R: Abort + Threads + Wait + Sync>(rt: &R, alloc: Global, runs: &[Run]) {
+    for (story, report) in runs {
+        see(rt, &run_together(rt, alloc, story), *report);
+    }
+}
 
 /// The report's text of this story; nothing where there is none.
 pub fn run_together<R: Threads + Wait + Sync>(
@@ -19,23 +31,36 @@ pub fn run_together<R: Threads + Wait + Sync>(
     alloc: Global,
     story: &Story<'_>,
 ) -> Option<String> {
+    match players_of(alloc, story.parts) {
+        Ok(players) => text_together::<Player, Adding, R>(rt, alloc, story, players),
+        Err(_) => None,
+    }
+}
+
+/// The text of the report of this story where these are its actors; nothing where there is none.
+pub fn text_together<A: Actor + Send, K: Behaviours + Send, R: Threads + Wait + Sync>(
+    rt: &R,
+    alloc: Global,
+    story: &Story<'_>,
+    actors: Vec<A>,
+) -> Option<String>
+    requires behaved { AreBehaved A.content A.after A.gives K.after K.gives 1 actors.items }
+{
     let plan = plan_of(alloc, story).ok()?;
-    let Ok(players) = players_of(alloc, story.parts) else {
-        return None;
-    };
-    match report_of::<Player, Adding, R>(rt, alloc, plan, players, story.orders) {
+    let orders = same_orders(alloc, story.senders, story.sends).ok()?;
+    match report_of::<A, K, R>(rt, alloc, plan, actors, &orders) {
         Ok(Some(report)) => text_of(alloc, &report, story.parts.len()),
         _ => None,
     }
 }
 
-/// The report of this plan, each of whose senders sends this; nothing where there is none.
+/// The report of this plan, each of whose senders sends its own of these; nothing where there is none.
 pub fn report_of<A: Actor + Send, K: Behaviours + Send, R: Threads + Wait + Sync>(
     rt: &R,
     alloc: Global,
     plan: Plan,
     actors: Vec<A>,
-    orders: &[Order],
+    orders: &[Vec<Order>],
 ) -> Result<Option<Report>, AllocError>
     requires behaved { AreBehaved A.content A.after A.gives K.after K.gives 1 actors.items }
 {
@@ -78,7 +103,7 @@ pub fn begin<A: Actor, K: Behaviours, R: Wait>(
 }
 
 // The report of a system that ends.
-pub(crate) fn end<A: Actor, K: Behaviours, R: Wait>(rt: &R, built: Built<A, K>) -> Option<Report>
+fn end<A: Actor, K: Behaviours, R: Wait>(rt: &R, built: Built<A, K>) -> Option<Report>
     requires together { BelongsTogether built }
 {
     match finish(rt, built) {
@@ -87,17 +112,18 @@ pub(crate) fn end<A: Actor, K: Behaviours, R: Wait>(rt: &R, built: Built<A, K>) 
     }
 }
 
-// A job for each sender, with these orders.
+// A job for each sender, with its own of these.
 fn jobs_of<A: Actor, K: Behaviours>(
     alloc: Global,
     senders: Vec<Sender<A, K>>,
-    orders: &[Order],
+    orders: &[Vec<Order>],
 ) -> Result<Vec<Job<A, K>>, AllocError>
     ensures { IfOk result (λ jobs. map (λ job. job.sender) jobs.items ≡ senders.items) }
 {
     let mut jobs = Vec::new(alloc);
     for sender in senders {
-        let sends = copy_of(alloc, orders)?;
+        let mut sends = Vec::new(alloc);
+        sends.extend_from_slice(orders_at(orders, jobs.len()))?;
         jobs.push(Job { sender, sends })?;
     }
     Ok(jobs)

@@ -5,11 +5,12 @@ use Rattle.std.specs.List.{All}
 use Rattle.std.proofs.lemmas.List.{length-append}
 use Rattle.std.proofs.lemmas.List.Elements.{All-nil, All-cons, All-head, All-tail}
 use Rattle.mb_msg.specs.declared.envelope.Envelope.{Envelope}
-use Rattle.mb_queue.specs.Fates.{InOrder}
+use Rattle.mb_queue.specs.Fates.{AllJoined, InOrder}
 use Rattle.mb_queue.specs.Passes.{IsOfQueue, Queue, Sending, Taking, Turns, first_in_first_out, control_first}
 use Rattle.mb_queue.specs.Takes.{EachOnce}
 use Rattle.mb_finish.specs.Came.{Came}
 use Rattle.mb_finish.specs.Joined.{AreOfDifferent, joined_by}
+use Rattle.mb_finish.specs.Parts.{IsControlsFirst}
 use Rattle.mb_finish.specs.Rest.{AreRests, IsRest}
 use Rattle.mb_finish.proofs.CameLemmas.{IsKnownBy, PartsOut, all-came, all-known, same-taken, same-turns}
 
@@ -32,12 +33,14 @@ came-first first last left taken turns accounts once in_order parts before passe
     (sym (accounts ∙ ap (λ (t : Taking). t.accounts) is)) (all-known before passes different) in
     subst (λ (x : Turns × List Envelope). All (Came x.0 x.1) passes) (λ i. (kind i, all i)) (all-came last passes once in_order parts known)
 
-pub is-rest : (first last : Taking) (left : List Envelope) → last.taken ≡ first.taken ++ left → SameQueue first last
+pub is-rest : (first last : Taking) (left : List Envelope) → (first.turns ≡ control_first → AllJoined first → IsControlsFirst left)
+    → last.taken ≡ first.taken ++ left → SameQueue first last
     → last.accounts ≡ first.accounts → EachOnce last → (last.turns ≡ first_in_first_out → InOrder last)
     → (last.turns ≡ control_first → PartsOut last) → All (IsOfQueue last.queue) last.taken → IsRest first left
-is-rest first last left taken same accounts once in_order parts known = record {
+is-rest first last left ordered taken same accounts once in_order parts known = record {
   known = subst (λ (x : Queue × List Envelope). All (IsOfQueue x.0) x.1) (λ i. (same.0 i, taken i)) known;
   came = came-first first last left taken same.1 accounts once in_order parts;
+  controls_first = ordered;
 }
 
 module _ {R : Type 0} where

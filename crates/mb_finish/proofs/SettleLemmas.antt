@@ -13,10 +13,11 @@ use Rattle.mb_fates.specs.declared.posting.Posting.{Posting}
 use Rattle.mb_fates.proofs.Counting.{stands-as-often}
 use Rattle.mb_fates.proofs.Naming.{kept-in-order, stands-once}
 use Rattle.mb_finish.specs.Came.{Came}
-use Rattle.mb_finish.specs.Parts.{ArePartsInOrder}
-use Rattle.mb_finish.specs.Joined.{AreOfDifferent, column, joined_by, joins_all}
+use Rattle.mb_finish.specs.Parts.{ArePartsInOrder, IsControlsFirst}
+use Rattle.mb_finish.specs.Joined.{AreOfAllSenders, AreOfDifferent, column, joined_by, joins_all}
 use Rattle.mb_finish.specs.Rest.{AreRests, IsOver, IsOverfull, IsRest}
-use Rattle.mb_finish.proofs.CameLemmas.{same-queue, same-taken}
+use Rattle.mb_finish.proofs.CameLemmas.{same-queue, same-taken, same-turns}
+use Rattle.mb_finish.proofs.LeftLemmas.{all-joined}
 use Rattle.mb_finish.proofs.QueuedLemmas.{queued-are}
 use Rattle.mb_finish.proofs.JoinLemmas.{length-joins_all, place-joins_all, refilled}
 
@@ -71,6 +72,11 @@ module _ (takes : List Taking) (rows : List (List Sending)) (lefts : List (List 
   known-at =
       subst (λ (x : Queue × List Envelope). All (IsOfQueue x.0) (x.1 ++ left))
       (λ i. (same-queue take (column place rows) i, same-taken take (column place rows) i)) rest-joined.known
+
+  pub ordered-at : AreOfDifferent (column place rows) → take.turns ≡ control_first → AreOfAllSenders take.queue (column place rows)
+      → IsControlsFirst left
+  ordered-at different kind all =
+      rest-joined.controls_first (same-turns take (column place rows) ∙ kind) (all-joined take (column place rows) different all)
 
 -- of receivers that took in all passes to them, one has no room for what was left
 module _ (takes : List Taking) (rows : List (List Sending)) (rooms : List (Vec Envelope Global)) (place : ℕ)

@@ -1,5 +1,5 @@
 -- Receivers that took in the passes of senders.
-use Rattle.std.specs.Prelude.{◌≡◌, ◌≢◌, ℕ, List, [], ◌∷◌, ◌++◌, All, map, option_to_list, slice_get, slice_set, Some}
+use Rattle.std.specs.Prelude.{◌≡◌, ◌≢◌, ℕ, List, [], ◌∷◌, ◌++◌, All, Contains, map, option_to_list, slice_get, slice_set, Some}
 use Rattle.mb_lane.specs.Ledger.{home}
 use Rattle.mb_queue.specs.Passes.{Queue, Sending, Taking}
 
@@ -45,3 +45,7 @@ joined_by t (p ∷ passes) = joined_by (joined t p) passes
 abbrev pub AreOfDifferent : List Sending → Type 0
 AreOfDifferent [] = Unit {0}
 AreOfDifferent (p ∷ passes) = All (λ (q : Sending). q.by ≢ p.by) passes × AreOfDifferent passes
+
+-- each sender of the queue has a pass among these
+abbrev pub AreOfAllSenders : Queue → List Sending → Type 0
+AreOfAllSenders queue passes = All (λ sender. Contains (map (λ (p : Sending). p.by) passes) sender) queue.senders

@@ -1,5 +1,5 @@
 -- The sender's order in a control-aware mailbox (`akka.dispatch.UnboundedControlAwareMailbox`), which has two parts: control messages, and all others.
-use Rattle.std.specs.Prelude.{◌≡◌, ℕ, List}
+use Rattle.std.specs.Prelude.{◌≡◌, ℕ, List, ◌++◌}
 use Rattle.mb_msg.specs.declared.envelope.Envelope.{Envelope}
 use Rattle.mb_queue.specs.Parts.{controls, others}
 use Rattle.mb_fates.specs.Accepted.{accepted, dead_letters, envelopes_of, sent_by, to_actor, without}
@@ -14,3 +14,7 @@ IsPartInOrder part by to postings fates =
 -- and so of each of the two parts
 abbrev pub ArePartsInOrder : ℕ → ℕ → List Posting → List Envelope → Type 0
 ArePartsInOrder by to postings fates = IsPartInOrder controls by to postings fates × IsPartInOrder others by to postings fates
+
+-- control messages stand before all others
+abbrev pub IsControlsFirst : List Envelope → Type 0
+IsControlsFirst envelopes = envelopes ≡ controls envelopes ++ others envelopes

@@ -3,7 +3,7 @@
 //!
 //! Of each sender and each receiver it is known then that what the one pushed came to the other, each envelope once, and in
 //! the sender's order where the mailbox is first in, first out; where it is control-aware, its control messages in its order, and
-//! so all others.
+//! so all others. Of such a mailbox control messages are left before all others.
 #![tactic(auto)]
 
 mod joining;

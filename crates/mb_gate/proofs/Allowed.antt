@@ -87,6 +87,7 @@ use Rattle.mb_gate.specs.View.{
   without_claim,
   copied,
   halving,
+  split_off,
   taking_over,
   taking_in,
   given_after,
@@ -146,8 +147,8 @@ use Rattle.mb_gate.proofs.WaitingSteps.{sends, unsends, takes_some, counts, look
 use Rattle.mb_gate.proofs.ListSteps.{is_shelved, is_lent, grips, enlists, unloads, refuses}
 use Rattle.mb_gate.proofs.Parting.{parts, takes_over, each_without, no_counts_on, no_counts_off, vouches_without}
 use Rattle.mb_gate.specs.Waiting.{on_by, off_by}
-use Rattle.mb_gate.specs.Turns.{got_by, back_by, IsOwnBalance}
-use Rattle.mb_gate.proofs.Whole.{own_balance}
+use Rattle.mb_gate.specs.Turns.{got_by, back_by, IsOwnBalance, WasHeldBy}
+use Rattle.mb_gate.proofs.Whole.{own_balance, was_held}
 use Rattle.mb_gate.specs.Lists.{may_grip}
 use Rattle.mb_gate.specs.Named.{NamesBelow}
 use Rattle.mb_rule.specs.Shares.{halved, half_of, amount}
@@ -164,6 +165,9 @@ some_half (d ∷ ds) has = refl
 
 no_more : (m k : ℕ) → k ≡ 0 → m + k ≡ m
 no_more m k is_none = omega arith
+
+swapped : (a b c : ℕ) → b + a ≡ c → a + b ≡ c
+swapped a b c e = omega arith
 
 none_more : (m : ℕ) → 0 + m ≡ m
 none_more m = omega arith
@@ -623,10 +627,12 @@ module _ {H : Type 0} (is_of : ℕ → H → Type 0) (journal : H → List Entry
         (λ x vs f at fits. let tell = Refuses (step slots (word_at actor 9) old old (some (Note m))) me (x.row Gate) in
         exchanged (x.row Gate) old old (λ k. Goes word_offset slot_offset (F n) actor id me Gate k tell x vs)
         (λ hit. subst (λ k. Goes word_offset slot_offset (F n) actor id me Gate k tell x vs) hit
-        (refuses is_of journal mailbox rested given_by closed_to n actor id me m tell x vs f at (ends_by x x.ghost.keeper f.shelf (ap
-        (λ k. k / 8 % 2) hit ∙ shut))
+        (let ended = ends_by x x.ghost.keeper f.shelf (ap (λ k. k / 8 % 2) hit ∙ shut) in
+        refuses is_of journal mailbox rested given_by closed_to n actor id me m tell x vs f at ended
         (λ a m' w said. let who : actor ≡ a = same_actor actor a 9 w in let what : m ≡ m' = note_same {H = H} m m' said in
-        ((λ _ z. (refusing (who z) (what z) me.0, me.1)), (λ miss. absurd (miss hit))))))
+        let had : WasHeldBy actor me.0 = (λ whole. was_held is_of journal mailbox rested given_by closed_to n actor x vs id me.0 f at whole
+        (f.ended ended)) in
+        ((λ _. ((λ z. (refusing (who z) (what z) me.0, me.1)), subst (λ b. WasHeldBy b me.0) who had)), (λ miss. absurd (miss hit))))))
         (λ miss. glances is_of journal mailbox rested given_by closed_to n actor id Gate me tell x vs f at (λ a m' w said. (
           (λ hit. absurd
               (miss hit)),
@@ -652,6 +658,24 @@ module _ {H : Type 0} (is_of : ℕ → H → Type 0) (journal : H → List Entry
               k.seen;
           said = k.said;
         }))
+
+    -- a pass that knows nothing is split off, with a half of the share
+    pub parts_allowed : (v : View) → v.claim ≡ None → v.list ≡ None → is_some_item v.share ≡ true → Splits (Rule n) id v (split_off v) (halving v)
+    parts_allowed v bare no_list share = splits word_offset slot_offset words_few slots_few n (F n) id v (split_off v) (halving v) (parts is_of
+        journal mailbox rested given_by closed_to n id v (split_off v) (halving v) (sym bare) bare no_list refl no_list refl
+        (λ a. record {
+          on = none_more (on_by a v);
+          off = none_more (off_by a v);
+          got = none_more (got_by a v);
+          back = none_more (back_by a v);
+        })
+        (λ e l r. record {
+          fits = halves_fit e v.share r;
+          amounts = swapped (amount e (half_of v.share)) (amount e (halved v.share)) (amount e v.share) (halves_amount e v.share r);
+        })
+        (λ a bare. absurd (no_share (half_of v.share) (some_half v.share share) bare)) (λ a bare. absurd (no_share (halved v.share) (some_halved
+        v.share share) bare))
+        (λ b p. p) (λ a x k. record { seen = tt; said = tt }) (λ a x k. record { seen = k.seen; said = k.said }))
 
     -- the claim gets a view of its own
     pub claims_allowed : (v : View) → v.list ≡ None → is_some_item v.share ≡ true → Splits (Rule n) id v (claim_alone v) (without_claim v)

@@ -3,6 +3,7 @@ use Rattle.std.proofs.Common.{
   ◌≡◌,
   ℕ,
   ◌+◌,
+  ◌<◌,
   ◌%◌,
   ◌^◌,
   ◌==◌,
@@ -70,6 +71,7 @@ use Rattle.mb_gate.specs.Rule.{
   IsBare,
   EachBare,
   AreTurns,
+  WasHeld,
   gate_word,
   Keeping,
   Shelving,
@@ -138,6 +140,22 @@ pub turns_less : (actor : ℕ) (old : Option (ℕ × Held)) (vs : List View) (id
 turns_less actor old vs id v w at same more one t = total_stays (got_by actor) vs id v w at same ∙ one_less (total (got_by actor) vs) (total
     (back_by actor) vs) (total (back_by actor) (set vs id w)) (claims_out old) (back_by actor v) (back_by actor w) (total_set (back_by actor) vs id v
     w at) more one t
+
+-- a closed actor was held still, where the one that changes got no claim, and the actor was closed before
+pub still_held : (actor old new : ℕ) (vs : List View) (id : ℕ) (v w : View) → get_elem? vs id ≡ some v → got_by actor w ≡ got_by actor v
+    → (new ≡ 1 → old ≡ 1) → WasHeld actor old vs → WasHeld actor new (set vs id w)
+still_held actor old new vs id v w at same before was one =
+    subst (λ k. 0 < k) (sym (total_stays (got_by actor) vs id v w at same)) (was (before one))
+
+-- and who is held now was held
+pub now_held : (actor new : ℕ) (holder : Option (ℕ × Held)) (vs : List View) (id : ℕ) (v w : View) → get_elem? vs id ≡ some v → got_by actor w ≡
+    got_by actor v → claims_out holder ≡ 1 → AreTurns actor holder vs → WasHeld actor new (set vs id w)
+now_held actor new holder vs id v w at same out turns one =
+    some_got (total (got_by actor) vs) (total (got_by actor) (set vs id w)) (total (back_by actor) vs) (claims_out holder)
+    (total_stays (got_by actor) vs id v w at same) out turns
+  where
+    some_got : (got now back k : ℕ) → now ≡ got → k ≡ 1 → got ≡ back + k → 0 < now
+    some_got got now back k is out t = omega arith
 
 -- and what a seat without a share has, where the one that changes has no more
 pub still_bare : (actor : ℕ) (vs : List View) (id : ℕ) (v w : View) → get_elem? vs id ≡ some v → SameAccount actor v w
@@ -262,6 +280,7 @@ module _ {H : Type 0} (is_of : ℕ → H → Type 0) (journal : H → List Entry
     named = f.named;
     balance = still_balanced actor (x.row Waiting) vs id v w at account f.balance;
     turns = still_turns actor x.ghost.holder x.ghost.holder vs id v w at account.got account.back refl f.turns;
+    held = still_held actor (x.row Status) (x.row Status) vs id v w at account.got (λ one. one) f.held;
     shares = shares_stay (λ (u : View). u.share) vs id v w at account.share f.shares;
     bare = still_bare actor vs id v w at account (λ c. sym claim ∙ c) (λ c. list ∙ c) f.bare;
     vouched = λ other. still_owed (Vouches other) (IsAmong other x.ghost.closed_to) (IsAmong other x.ghost.closed_to) vs id v w at (λ d. d) (λ _.

@@ -16,6 +16,7 @@ pub mod Starting
 pub mod ListCalls
 pub mod Shows
 pub mod Claimed
+pub mod Unclaimed
 pub mod Leaving
 pub mod RecordLemmas
 pub mod KnownLemmas

@@ -57,6 +57,7 @@ use Rattle.mb_gate.specs.declared.slot.Slot.TheVariants.{List as Listing}
 use Rattle.mb_gate.specs.View.{View, Sight, Read, Pushed, Held, Lent, owes, lending, enlisting, refusing, given_after, regiven, unloading}
 use Rattle.mb_gate.specs.Rule.{
   Word,
+  Status,
   Waiting,
   Gate,
   word_offset,
@@ -100,7 +101,7 @@ use Rattle.mb_gate.proofs.Views.{
   goes_on,
 }
 use Rattle.mb_gate.proofs.Numbers.{among_more, pushed_so, part_so, length_numbered}
-use Rattle.mb_gate.proofs.Facts.{still_kept, still_balanced, still_turns, still_bare, claimed_bare, gripper_bare, views_change, elsewhere, load_here}
+use Rattle.mb_gate.proofs.Facts.{still_kept, still_balanced, still_turns, still_held, still_bare, claimed_bare, gripper_bare, views_change, elsewhere, load_here}
 use Rattle.mb_gate.proofs.StatusSteps.{is_held}
 
 bits : (a b c : Bool) → ((if a then 2 else 0) + (if b then 4 else 0) + (if c then 8 else 0)) % 2 ≡ 0
@@ -184,6 +185,7 @@ module _ {H : Type 0} (is_of : ℕ → H → Type 0) (journal : H → List Entry
           balance = still_balanced actor (x.row Waiting) vs id v w at (record { on = refl; off = refl; share = refl; got = refl; back = refl })
               f.balance;
           turns = still_turns actor x.ghost.holder x.ghost.holder vs id v w at refl refl refl f.turns;
+          held = still_held actor (x.row Status) (x.row Status) vs id v w at refl (λ one. one) f.held;
           shares = shares_stay (λ (u : View). u.share) vs id v w at refl f.shares;
           bare = gripper_bare actor vs id v w at refl refl refl (refl, refl) may f.bare;
           vouched = λ b. still_owed (Vouches b) (IsAmong b x.ghost.closed_to) (IsAmong b x.ghost.closed_to) vs id v w at (λ d. d) (λ _ p. p)
@@ -265,6 +267,7 @@ module _ {H : Type 0} (is_of : ℕ → H → Type 0) (journal : H → List Entry
               (refl, refl) refl refl refl)
               f.balance;
           turns = still_turns actor x.ghost.holder x.ghost.holder vs id v w at refl refl refl f.turns;
+          held = still_held actor (x.row Status) (x.row Status) vs id v w at refl (λ one. one) f.held;
           shares = shares_stay (λ (u : View). u.share) vs id v w at refl f.shares;
           bare = still_bare actor vs id v w at (counts_no_more actor (Pushed actor (pushed l.listed) m) v w refl (refl, refl) refl refl refl)
               (λ c. c) (λ c. refl) f.bare;
@@ -360,6 +363,7 @@ module _ {H : Type 0} (is_of : ℕ → H → Type 0) (journal : H → List Entry
           named = subst (All (NamesBelow actors)) (sym empty) (All-nil (NamesBelow actors));
           balance = still_balanced actor (x.row Waiting) vs id v w at (counts_no_more actor s v w refl (uncounted actor) refl refl refl) f.balance;
           turns = still_turns actor x.ghost.holder (Some (id, c')) vs id v w at refl refl (sym (ap claims_out h.0)) f.turns;
+          held = still_held actor (x.row Status) (x.row Status) vs id v w at refl (λ one. one) f.held;
           shares = shares_stay (λ (u : View). u.share) vs id v w at refl f.shares;
           bare = claimed_bare actor vs id v w c' at (ap (λ z. held_of actor (regiven given gave z)) has ∙ held_here actor c' of) refl refl refl
               (counts_no_more actor s v w refl (uncounted actor) refl refl refl).on f.bare;

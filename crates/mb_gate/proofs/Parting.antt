@@ -3,6 +3,7 @@ use Rattle.std.proofs.Common.{
   ◌≡◌,
   ℕ,
   ◌+◌,
+  ◌<◌,
   ◌%◌,
   ◌^◌,
   ◌==◌,
@@ -240,6 +241,7 @@ module _ {H : Type 0} (is_of : ℕ → H → Type 0) (journal : H → List Entry
             actor).on) (total_splits (off_by actor) vs id v left right at (account actor).off) f.balance;
         turns = total_splits (got_by actor) vs id v left right at (account actor).got ∙ (f.turns ∙ sym (ap (λ n. n + claims_out x.ghost.holder)
             (total_splits (back_by actor) vs id v left right at (account actor).back)));
+        held = λ one. subst (λ k. 0 < k) (sym (total_splits (got_by actor) vs id v left right at (account actor).got)) (f.held one);
         shares = splits_shares (λ (u : View). u.share) vs id v left right at (λ e l r. let s = share e l r in (s.fits, s.amounts)) f.shares;
         bare = splits_seen (λ (u : View). u.share ≡ [] → IsBare actor u) vs id left right (bare_left actor) (bare_right actor) f.bare;
         vouched = λ b. splits_owed (Vouches b) (IsAmong b x.ghost.closed_to) vs id v left right at (λ p. inr (vouches b p)) (f.vouched b);
@@ -274,6 +276,8 @@ module _ {H : Type 0} (is_of : ℕ → H → Type 0) (journal : H → List Entry
         turns = total_joins (got_by actor) vs id other v w both blank at there (both_logs (λ a. if a == actor then 1 else 0) w.got v.got)
             ∙ (f.turns ∙ sym (ap (λ n. n + claims_out x.ghost.holder) (total_joins (back_by actor) vs id other v w both blank at there
             (both_logs (λ a. if a == actor then 1 else 0) w.returned v.returned))));
+        held = λ one. subst (λ k. 0 < k) (sym (total_joins (got_by actor) vs id other v w both blank at there
+            (both_logs (λ a. if a == actor then 1 else 0) w.got v.got))) (f.held one);
         shares = joins_shares (λ (u : View). u.share) vs id other v w both blank at apart there refl refl f.shares;
         bare = joins_seen (λ (u : View). u.share ≡ [] → IsBare actor u) vs id other both blank (λ none. absurd (no_share (w.share ++ v.share)
             (some_left w.share v.share sharer) none)) (λ _. record { got = refl; back = refl; on = refl; rest = λ _. (refl, refl) }) f.bare;

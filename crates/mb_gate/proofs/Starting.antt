@@ -171,6 +171,7 @@ module _ {H : Type 0} (is_of : ℕ → H → Type 0) (journal : H → List Entry
           named = All-nil (NamesBelow n);
           balance = ap (λ k. (k + total (off_by a) (alone ∷ [])) % 2 ^ 64) b.1.waiting;
           turns = refl;
+          held = λ one. absurd (let z = free_word m f.free in let s = b.1.status in omega arith);
           shares = first_shares (λ (u : View). u.share) alone refl;
           bare = only_alone (λ (u : View). u.share ≡ [] → IsBare a u) (λ empty. absurd (no_share (0 ∷ []) refl empty));
           vouched = λ other is. absurd (none_among other is);

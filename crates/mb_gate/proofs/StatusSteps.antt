@@ -98,6 +98,8 @@ use Rattle.mb_gate.proofs.Facts.{
   still_shelved,
   same_balance,
   still_turns,
+  still_held,
+  now_held,
   turns_more,
   turns_less,
   claimed_bare,
@@ -222,6 +224,7 @@ module _ {H : Type 0} (is_of : ℕ → H → Type 0) (journal : H → List Entry
           named = f.named;
           balance = same_balance actor (x.row Waiting) vs id v w at refl refl f.balance;
           turns = turns_more actor x.ghost.holder (id, c) vs id v w at (times_here actor v.got) refl (ap claims_out h.0) f.turns;
+          held = λ one. absurd (let z : old + 2 ≡ 1 = one in omega arith);
           shares = shares_stay (λ (u : View). u.share) vs id v w at refl f.shares;
           bare = sharer_bare actor vs id w share f.bare;
           vouched = λ b. still_owed (Vouches b) (IsAmong b x.ghost.closed_to) (IsAmong b x.ghost.closed_to) vs id v w at (λ d. d) (λ _ p. p)
@@ -277,6 +280,7 @@ module _ {H : Type 0} (is_of : ℕ → H → Type 0) (journal : H → List Entry
           named = f.named;
           balance = same_balance actor (x.row Waiting) vs id v w at refl refl f.balance;
           turns = still_turns actor x.ghost.holder (Some (id, d)) vs id v w at refl refl (sym (ap claims_out h.0)) f.turns;
+          held = now_held actor new x.ghost.holder vs id v w at refl (ap claims_out h.0) f.turns;
           shares = shares_stay (λ (u : View). u.share) vs id v w at refl f.shares;
           bare = claimed_bare actor vs id v w d at (ap (λ z. held_of actor (rewritten new z)) has ∙ held_here actor d of) refl refl refl refl f.bare;
           vouched = λ b. still_owed (Vouches b) (IsAmong b x.ghost.closed_to) (IsAmong b x.ghost.closed_to) vs id v w at (λ d. d) (λ _ p. p)
@@ -348,6 +352,7 @@ module _ {H : Type 0} (is_of : ℕ → H → Type 0) (journal : H → List Entry
           named = f.named;
           balance = same_balance actor (x.row Waiting) vs id v w at (none_more (on_by actor v)) (none_more (off_by actor v)) f.balance;
           turns = turns_less actor x.ghost.holder vs id v w at refl (times_here actor v.returned) (ap claims_out h.0) f.turns;
+          held = λ one. absurd (let z : new ≡ 1 = one in omega arith);
           shares = shares_stay (λ (u : View). u.share) vs id v w at refl f.shares;
           bare = sharer_bare actor vs id w share f.bare;
           vouched = vouches_home actor j v c x.ghost.closed_to (closed_to home) vs id at h.1.shut known f.vouched;
@@ -414,6 +419,7 @@ module _ {H : Type 0} (is_of : ℕ → H → Type 0) (journal : H → List Entry
           named = f.named;
           balance = same_balance actor (x.row Waiting) vs id v w at (none_more (on_by actor v)) (none_more (off_by actor v)) f.balance;
           turns = turns_less actor x.ghost.holder vs id v w at refl (times_here actor v.returned) (ap claims_out h.0) f.turns;
+          held = still_held actor (x.row Status) (x.row Status) vs id v w at refl (λ one. one) f.held;
           shares = shares_stay (λ (u : View). u.share) vs id v w at refl f.shares;
           bare = sharer_bare actor vs id w share f.bare;
           vouched = vouches_home actor j v c x.ghost.closed_to (closed_to home) vs id at h.1.shut known f.vouched;

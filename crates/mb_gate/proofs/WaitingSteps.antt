@@ -64,6 +64,7 @@ use Rattle.mb_gate.specs.View.{
 use Rattle.mb_gate.specs.Waiting.{counted_on, counted_off, on_by, off_by, IsBalance}
 use Rattle.mb_gate.specs.Rule.{
   Word,
+  Status,
   Gate,
   Waiting,
   word_offset,
@@ -97,7 +98,7 @@ use Rattle.mb_gate.proofs.Views.{
   goes_on,
 }
 use Rattle.mb_gate.proofs.Numbers.{among_more}
-use Rattle.mb_gate.proofs.Facts.{still_kept, still_shelved, still_turns, claimed_bare, sharer_bare, views_change, elsewhere, load_here}
+use Rattle.mb_gate.proofs.Facts.{still_kept, still_shelved, still_turns, still_held, claimed_bare, sharer_bare, views_change, elsewhere, load_here}
 use Rattle.mb_gate.proofs.StatusSteps.{is_held}
 use Rattle.std.proofs.lemmas.Bool.{eqb-true}
 
@@ -175,6 +176,7 @@ module _ {H : Type 0} (is_of : ℕ → H → Type 0) (journal : H → List Entry
           named = f.named;
           balance = balance;
           turns = still_turns actor x.ghost.holder x.ghost.holder vs id v w at refl refl refl f.turns;
+          held = still_held actor (x.row Status) (x.row Status) vs id v w at refl (λ one. one) f.held;
           shares = shares_stay (λ (u : View). u.share) vs id v w at refl f.shares;
           bare = sharer_bare actor vs id w share f.bare;
           vouched = λ b. still_owed (Vouches b) (IsAmong b x.ghost.closed_to) (IsAmong b x.ghost.closed_to) vs id v w at (λ d. d)
@@ -245,6 +247,7 @@ module _ {H : Type 0} (is_of : ℕ → H → Type 0) (journal : H → List Entry
           named = f.named;
           balance = balances_less actor k vs id v w at (x.row Waiting) n f.balance s refl refl refl less;
           turns = still_turns actor x.ghost.holder x.ghost.holder vs id v w at refl refl refl f.turns;
+          held = still_held actor (x.row Status) (x.row Status) vs id v w at refl (λ one. one) f.held;
           shares = shares_stay (λ (u : View). u.share) vs id v w at refl f.shares;
           bare = claimed_bare actor vs id v w c at (ap (held_of actor) has ∙ held_here actor c of) refl refl refl (none_more (on_by actor v)) f.bare;
           vouched = λ b. still_owed (Vouches b) (IsAmong b x.ghost.closed_to) (IsAmong b x.ghost.closed_to) vs id v w at (λ d. d)

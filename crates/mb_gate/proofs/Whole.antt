@@ -1,6 +1,6 @@
 -- What a seat with the whole knows of an actor: no other seat has anything of it, but its claim.
-use Rattle.std.proofs.Common.{◌≡◌, ◌≢◌, ◌⊎◌, ⊎_elim, ℕ, zero, suc, ◌+◌, ◌%◌, ◌^◌, if◌then◌else◌, Bool, List, [], ◌∷◌, sym, refl}
-use Rattle.std.proofs.Common.{ap, ◌∙◌, Option, Some, None, eq-eqb, arith}
+use Rattle.std.proofs.Common.{◌≡◌, ◌≢◌, ◌⊎◌, ⊎_elim, ℕ, zero, suc, ◌+◌, ◌<◌, ◌%◌, ◌^◌, if◌then◌else◌, Bool, List, [], ◌∷◌, sym, refl}
+use Rattle.std.proofs.Common.{ap, ◌∙◌, subst, Option, Some, None, eq-eqb, arith}
 use mathlib.Core.Logic.{dite}
 use mathlib.Core.Option.{some, some-injective}
 use native.Mathlib.Decide.{ℕ_discrete}
@@ -16,7 +16,7 @@ use Rattle.mb_gate.specs.declared.slot.Slot.{Slot}
 use Rattle.mb_gate.specs.View.{View, Held, Lent}
 use Rattle.mb_gate.specs.Waiting.{on_by, off_by}
 use Rattle.mb_gate.specs.Turns.{got_by, back_by, claims_out, IsOwnBalance}
-use Rattle.mb_gate.specs.Rule.{Word, Waiting, Shelf, Ghost, IsBare, lent_of, claim_for, list_for, Fact}
+use Rattle.mb_gate.specs.Rule.{Word, Status, Waiting, Shelf, Ghost, IsBare, lent_of, claim_for, list_for, Fact}
 
 -- who has a ticket is a seat that is there
 ticket_has : {T : Type 0} (ticket : View → Option T) (vs : List View) (q : ℕ) (t : T) → ticket_at ticket vs q ≡ Some t → (u : View) × (get_elem? vs q
@@ -29,7 +29,7 @@ one_out : (holder : Option (ℕ × Held)) → holder ≢ None → claims_out hol
 one_out None held = absurd (held refl)
 one_out (Some h) held = refl
 
-none_out : (holder : Option (ℕ × Held)) → claims_out holder ≡ 0 → holder ≡ None
+pub none_out : (holder : Option (ℕ × Held)) → claims_out holder ≡ 0 → holder ≡ None
 none_out None none = refl
 none_out (Some h) none = absurd (let one : 1 ≡ 0 = none in omega arith)
 
@@ -82,3 +82,14 @@ module _ {H : Type 0} (is_of : ℕ → H → Type 0) (journal : H → List Entry
       let on = total_alone (on_by actor) vs id v at (λ q u other there. (others_bare q u other there).on) in
       let off = total_alone (off_by actor) vs id v at (λ q u other there. ((others_bare q u other there).rest (unclaimed free q u there)).1) in
       ap (λ k. (x.row Waiting + k) % 2 ^ 64) (sym off) ∙ (f.balance ∙ ap (λ k. k % 2 ^ 64) on)
+
+  -- a closed actor was held by a claim that the seat itself got
+  pub was_held : x.row Status ≡ 1 → 0 < got_by actor v
+  was_held one = subst (λ k. 0 < k) (total_alone (got_by actor) vs id v at (λ q u other there. (others_bare q u other there).got)) (f.held one)
+
+  -- nobody holds an actor of which it got no claim
+  pub unheld : got_by actor v ≡ 0 → x.ghost.holder ≡ None
+  unheld none = none_out x.ghost.holder (no_part (got_by actor v) (back_by actor v) (claims_out x.ghost.holder) none own_turns)
+    where
+      no_part : (all back k : ℕ) → all ≡ 0 → all ≡ back + k → k ≡ 0
+      no_part all back k is sum = omega arith

@@ -41,7 +41,7 @@ use Rattle.mb_gate.specs.View.{
   draining,
   ending,
 }
-use Rattle.mb_gate.specs.Turns.{IsOwnBalance}
+use Rattle.mb_gate.specs.Turns.{IsOwnBalance, WasHeldBy}
 use Rattle.mb_gate.specs.Named.{NamesBelow}
 use Rattle.mb_gate.specs.Rule.{Extends, is_some_item, gate_word}
 
@@ -127,10 +127,10 @@ module _ {H : Type 0} where
   ) ∷ rest m.1
       → m' ≡ (enlisting actor (pushed l.listed) message m.0, rest m.1)
 
-  -- the list was found ended
+  -- the list was found ended, so that the actor was held
   abbrev pub Refuses : Step (Slot H) → Me (Slot H) View → ℕ → Me (Slot H) View → Type 0
   Refuses st m found m' = (actor : ℕ) (message : SysMsg) → st.word ≡ word_at actor 9 → st.said ≡ some (Note message)
-      → (found ≡ st.first → m' ≡ (refusing actor message m.0, m.1)) × (found ≢ st.first → m' ≡ m)
+      → (found ≡ st.first → (m' ≡ (refusing actor message m.0, m.1)) × WasHeldBy actor m.0) × (found ≢ st.first → m' ≡ m)
 
   -- what was listed names actors alone; a step does not know how many there are, so it is told of it by the number of slots
   abbrev pub NamesActors : Step (Slot H) → MessageList → Type 0

@@ -120,6 +120,10 @@ EachBare actor vs = EachView (λ (v : View). v.share ≡ [] → IsBare actor v) 
 abbrev pub AreTurns : ℕ → Option (ℕ × Held) → List View → Type 0
 AreTurns actor holder vs = total (got_by actor) vs ≡ total (back_by actor) vs + claims_out holder
 
+-- an actor with this status word that is closed was held: some seat got a claim of it
+abbrev pub WasHeld : ℕ → ℕ → List View → Type 0
+WasHeld actor status vs = status ≡ 1 → 0 < total (got_by actor) vs
+
 -- a journal goes on from another: newest first, it ends with the other
 pub record Extends (journal before : List Entry) : Type 0 where
   pub newer : List Entry
@@ -236,7 +240,7 @@ module _ {H : Type 0} (is_of : ℕ → H → Type 0) (journal : H → List Entry
   Shelving x (Some k) = IsLent x k.1
 
   -- All that holds of one actor among so many: who has its cell, who has its list, how many are counted as waiting, what is owed and what
-  -- was seen; what is listed names actors alone; and of each actor that its home says is closed some seat has seen it.
+  -- was seen; who is closed was held; what is listed names actors alone; and of each actor that its home says is closed some seat has seen it.
   pub record Fact (actors actor : ℕ) (x : Spot Word Shelf (Slot H) Ghost) (vs : List View) : Type 0 where
     pub valid : IsTrue (is_valid (x.row Status))
     pub claims : Locked (claim_for actor) x.ghost.holder vs
@@ -248,6 +252,7 @@ module _ {H : Type 0} (is_of : ℕ → H → Type 0) (journal : H → List Entry
     pub named : All (NamesBelow actors) x.ghost.listed.messages
     pub balance : IsBalance actor (x.row Waiting) vs
     pub turns : AreTurns actor x.ghost.holder vs
+    pub held : WasHeld actor (x.row Status) vs
     pub shares : AreShares (λ (v : View). v.share) vs
     pub bare : EachBare actor vs
     pub vouched : (other : ℕ) → Owed (IsAmong other x.ghost.closed_to) (Vouches other) vs

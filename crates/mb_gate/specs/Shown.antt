@@ -1,6 +1,6 @@
 -- The state of the machine that the table shows of an actor: its words, and all views by what they owe it. The envelopes are no part
 -- of the table.
-use Rattle.std.specs.Prelude.{◌≡◌, ◌↔◌, ◌⊎◌, ℕ, ◌^◌, ◌<◌, ◌≤◌, false, if◌then◌else◌, List, [], ◌++◌, length, map, Option, Some, None, IsNone}
+use Rattle.std.specs.Prelude.{◌≡◌, ◌≢◌, ◌↔◌, ◌⊎◌, ℕ, ◌^◌, ◌<◌, ◌≤◌, false, if◌then◌else◌, List, [], ◌++◌, length, map, Option, Some, None, IsNone}
 use mathlib.Core.Option.{some}
 use lib.ListN.{get_elem?}
 use Rattle.atomic_table.specs.Table.{State}
@@ -18,6 +18,7 @@ use Rattle.mb_gate.specs.declared.slot.Slot.{Slot}
 use Rattle.mb_gate.specs.declared.slot.Slot.TheVariants.{Home}
 use Rattle.mb_gate.specs.View.{View, Sight, Pushed, Drained, Ended, Held, owes, alone, copied, halving, idling, taking_in, taking_over}
 use Rattle.mb_gate.specs.Waiting.{on_by, off_by, IsBalance}
+use Rattle.mb_gate.specs.Turns.{got_by}
 use Rattle.mb_gate.specs.Leaves.{IsKept}
 use Rattle.mb_gate.specs.Rule.{Word, Status, Waiting, word_offset, Shelf, CellShelf, slot_offset, Ghost, IsAmong, claim_for, Fact}
 
@@ -86,6 +87,16 @@ ShowsClosed {H} is_of journal mailbox rested given_by closed_to =
     (actor other : ℕ)
     → actor < n → other < n → IsAmong other (spot_of word_offset slot_offset s r.ghosts actor).ghost.closed_to
     → (spot_of word_offset slot_offset s r.ghosts other).row Status ≡ 1
+
+-- An actor of which who has the whole of all shares got no claim is at home and open: in its slot is its own home, whose journal says the
+-- word, and neither the actor nor its list is closed.
+abbrev pub ShowsUnclaimed : {H : Type 0} → (ℕ → H → Type 0) → (H → List Entry) → (H → Mailbox) → (H → Type 0) → (H → ℕ) → (H → List ℕ) → Type 0
+ShowsUnclaimed {H} is_of journal mailbox rested given_by closed_to =
+    (n : ℕ) (s : State (Slot H) View) (r : Ruled word_offset slot_offset n (Fact is_of journal mailbox rested given_by closed_to n) s) (actor : ℕ)
+    → actor < n → (p : ℕ) (v : View) → get_elem? s.views p ≡ some v → IsWhole v.share → got_by actor v ≡ 0 →
+    (let x = spot_of word_offset slot_offset s r.ghosts actor in
+    ((home : H) × (x.slot CellShelf ≡ some (some (Home home))) × is_of actor home × (x.row Status ≡ word_of (mailbox home)))
+    × (x.row Status ≢ 1) × (x.ghost.listed.closed ≡ false))
 
 -- Between any two steps an actor's waiting number is what all passes and claims counted on less what they counted off, modulo 2^64.
 abbrev pub ShowsBalance : {H : Type 0} → (ℕ → H → Type 0) → (H → List Entry) → (H → Mailbox) → (H → Type 0) → (H → ℕ) → (H → List ℕ) → Type 0

@@ -1,5 +1,5 @@
 -- Who got claims, and who gave them back (this project's own profile: Akka's mailboxes keep no account of who knows what).
-use Rattle.std.specs.Prelude.{◌≡◌, ℕ, ◌+◌, ◌%◌, ◌^◌, ◌==◌, if◌then◌else◌, List, Option, Some, None}
+use Rattle.std.specs.Prelude.{◌≡◌, ℕ, ◌+◌, ◌%◌, ◌^◌, ◌<◌, ◌==◌, if◌then◌else◌, List, Option, Some, None}
 use Rattle.mb_rule.specs.Summed.{total}
 use Rattle.mb_rule.specs.Shares.{IsWhole}
 use Rattle.mb_gate.specs.View.{View, Held}
@@ -25,3 +25,7 @@ claims_out (Some h) = 1
 -- counted off, modulo 2^64.
 abbrev pub IsOwnBalance : ℕ → ℕ → View → Type 0
 IsOwnBalance actor waiting v = IsWhole v.share → got_by actor v ≡ back_by actor v → (waiting + off_by actor v) % 2 ^ 64 ≡ on_by actor v % 2 ^ 64
+
+-- It got a claim of the actor, where this is the view of the only pass.
+abbrev pub WasHeldBy : ℕ → View → Type 0
+WasHeldBy actor v = IsWhole v.share → 0 < got_by actor v

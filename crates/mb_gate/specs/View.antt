@@ -130,6 +130,10 @@ without_counts (s ∷ log) = s ∷ without_counts log
 abbrev pub copied : View → View
 copied v = record v { log = without_counts v.log; share = half_of v.share; got = []; returned = [] }
 
+-- what a pass knows that is split off a pass and knows nothing, with a half of a part of the share
+abbrev pub split_off : View → View
+split_off v = record blank { share = half_of v.share }
+
 abbrev pub halving : View → View
 halving v = record v { share = halved v.share }
 

@@ -1,5 +1,5 @@
 ghost use Rattle.mb_rule.specs.Ruled.{Ruled};
-ghost use Rattle.mb_gate.specs.View.{alone, blank, claim_alone, without_claim, copied, halving, taking_over, taking_in};
+ghost use Rattle.mb_gate.specs.View.{alone, blank, claim_alone, without_claim, copied, halving, split_off, taking_over, taking_in};
 ghost use Rattle.mb_gate.specs.Rule.{word_offset, slot_offset, Fact};
 ghost use Rattle.mb_gate.specs.Plays.{Reads, Writes, Sends, Unsends, CountsOff, Counts, Looks};
 ghost use Rattle.mb_gate.specs.Plays.{Grips, Enlists, Refuses, Drains, Ends, Glances, Schedules, Idles};
@@ -129,6 +129,15 @@ impl Split<Knowledge> for Twin {
     ghost left = { halving };
 
     ghost right = { copied };
+}
+
+/// The left knows nothing, and the right all that the one did.
+pub struct Apart;
+
+impl Split<Knowledge> for Apart {
+    ghost left = { split_off };
+
+    ghost right = { halving };
 }
 
 /// A claim's seat takes in a whole pass.

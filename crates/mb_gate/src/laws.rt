@@ -1,4 +1,4 @@
-ghost use Rattle.mb_gate.specs.Shown.{MakesWhole, ShowsMachine, ShowsClaims, ShowsSeen, ShowsClosed, ShowsBalance, ShowsNumbers, ReleasesAlike};
+ghost use Rattle.mb_gate.specs.Shown.{MakesWhole, ShowsMachine, ShowsClaims, ShowsSeen, ShowsClosed, ShowsUnclaimed, ShowsBalance, ShowsNumbers, ReleasesAlike};
 
 use crate::resident::Resident;
 
@@ -24,6 +24,12 @@ pub fn what_was_seen_is_so<H: Resident>()
 /// A law: between any two atomic steps each actor of which a home says that it is closed is closed.
 pub fn closed_receivers_are_closed<H: Resident>()
     ensures { (first : H) → ShowsClosed (H.is_of first) H.journal H.mailbox H.rested H.given H.closed_to }
+{}
+
+/// A law: between any two atomic steps an actor of which who has the whole share got no claim is at home, in its own home, and
+/// neither it nor its list is closed: only who has a claim closes an actor, and nobody else had one.
+pub fn what_nobody_claimed_is_open<H: Resident>()
+    ensures { (first : H) → ShowsUnclaimed (H.is_of first) H.journal H.mailbox H.rested H.given H.closed_to }
 {}
 
 /// A law: between any two atomic steps each actor's waiting number is what all passes and claims together counted as sent,

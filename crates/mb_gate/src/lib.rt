@@ -36,8 +36,8 @@ pub use claim::Claim;
 pub use gates::Gates;
 pub use laws::{
     a_number_names_one_message, claims_are_the_holders, closed_receivers_are_closed,
-    releases_are_alike, waiting_is_sent_less_taken, what_was_seen_is_so,
-    what_was_split_is_whole_again, words_show_the_machine,
+    releases_are_alike, waiting_is_sent_less_taken, what_nobody_claimed_is_open,
+    what_was_seen_is_so, what_was_split_is_whole_again, words_show_the_machine,
 };
 pub use left::Left;
 pub use new::NoGates;

@@ -9,6 +9,7 @@ ghost use Rattle.mb_gate.specs.View.{enlisting, refusing, draining, ending, give
 ghost use Rattle.mb_gate.specs.Rule.{is_some_item};
 ghost use Rattle.mb_gate.specs.Claims.{held_in};
 ghost use Rattle.mb_gate.specs.Named.{NamesBelow, EachNamesBelow};
+ghost use Rattle.mb_gate.specs.Turns.{WasHeldBy};
 ghost use Rattle.mb_gate.specs.Lists.{IsLentBy, IsOut, HasClaim, IsNumberedFrom, may_grip, with_listed, with_drained, with_ended};
 ghost use Rattle.mb_gate.specs.Names.{gates_id, pass_id, claim_id, actors_of, known_by};
 ghost use Rattle.mb_gate.specs.Names.{known_of, held_actor, status_of, taken_with, closed_with, gave_last, given_to};
@@ -96,6 +97,7 @@ impl<H: Resident> Gates<H> {
         requires ended { word / 8 % 2 ≡ 1 }
         ensures ours { seat.new.table_id ≡ seat.old.table_id }
         ensures answer { seat.new.me ≡ (if result then (refusing id.0 message seat.old.me.0, seat.old.me.1) else seat.old.me) }
+        ensures held { result ≡ true → WasHeldBy id.0 seat.old.me.0 }
     {
         let gate = word_index(id, GATE);
         let note = Slot::Note(message);
@@ -120,6 +122,7 @@ impl<H: Resident> Gates<H> {
         requires share { is_some_item seat.old.me.0.share ≡ true }
         ensures ours { seat.new.table_id ≡ seat.old.table_id }
         ensures refused { result ≡ None → seat.new.me ≡ (refusing id.0 message seat.old.me.0, seat.old.me.1) }
+        ensures held { result ≡ None → WasHeldBy id.0 seat.old.me.0 }
         ensures lent { IfSome result (λ got. IsLentBy id.0 got.0 got.1 seat.old.me seat.new.me × (got.1.closed ≡ false)) }
     {
         for _ in rt.forever() {
@@ -180,7 +183,8 @@ impl<H: Resident> Gates<H> {
     /// actor a look at it. It takes no memory, and may wait for the list's gate. The message names actors of these gates
     /// alone, so that who drains it can send to each that it names.
     ///
-    /// It answers `ListClosed` with the same node if the list is ended, and says that too.
+    /// It answers `ListClosed` with the same node if the list is ended, and says that too. A pass that has taken in all others,
+    /// or beside which there was never another, finds only a list ended of an actor of which it got a claim.
     pub fn sys_enqueue<R: Wait>(
         &self,
         rt: &R,
@@ -194,6 +198,7 @@ impl<H: Resident> Gates<H> {
         ensures ours { pass_id pass.new ≡ pass_id pass.old }
         ensures listed { IfOk result (λ number. known_by pass.new ≡ enlisting id.0 number node (known_by pass.old)) }
         ensures ended { IfErr result (λ refused. (refused.0 ≡ node) × (known_by pass.new ≡ refusing id.0 node (known_by pass.old))) }
+        ensures held { IfErr result (λ _. WasHeldBy id.0 (known_by pass.old)) }
     {
         match self.grip_open(rt, &mut pass.seat, id, node.msg()) {
             Some((word, list)) => Ok(self.enlist(&mut pass.seat, id, word, list, node)),
@@ -316,6 +321,26 @@ impl<H: Resident> Gates<H> {
         self.lay_list(seat, id, list);
         self.table.shared.store::<End>(seat, gate, new);
         chain
+    }
+
+    /// Whether nothing is listed of the claim's actor and the last drain gave nothing: then this one load is a drain that gives
+    /// nothing, as `sys_drain` makes it, and else nothing is changed (`systemQueue` that is empty). It waits for nobody.
+    #[inline]
+    pub fn sys_is_drained(&self, claim: &mut Claim<H>) -> bool
+        requires ours { claim_id claim.old ≡ gates_id self.now }
+        requires there { held_actor claim.old < actors_of self.now }
+        ensures ours { (claim_id claim.new ≡ claim_id claim.old) × (held_actor claim.new ≡ held_actor claim.old) }
+        ensures known { result ≡ true → known_of claim.new ≡ draining (held_actor claim.old) [] false (known_of claim.old) }
+        ensures same { (status_of claim.new ≡ status_of claim.old) × (claim.new.home ≡ claim.old.home) }
+        ensures taken { (taken_with claim.new ≡ taken_with claim.old) × (closed_with claim.new ≡ closed_with claim.old) }
+        ensures recorded { recorded_by claim.new ≡ recorded_by claim.old }
+        ensures given { result ≡ true → given_to claim.new ≡ given_after (given_to claim.old) [] }
+        ensures gave { result ≡ true → gave_last claim.new ≡ false }
+        ensures drained { result ≡ true → drained_by claim.new ≡ drained_by claim.old ++ [] }
+        ensures unchanged { result ≡ false → (known_of claim.new ≡ known_of claim.old) × (gave_last claim.new ≡ gave_last claim.old)
+            × (given_to claim.new ≡ given_to claim.old) × (drained_by claim.new ≡ drained_by claim.old) }
+    {
+        self.is_drained(&mut claim.seat, claim.actor)
     }
 
     /// Takes all system messages that are listed out of the list of the claim's actor, the earliest first, with their

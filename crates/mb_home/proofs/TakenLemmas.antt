@@ -12,21 +12,21 @@ use Rattle.mb_queue.specs.Takes.{IsTake}
 use Rattle.mb_home.specs.Carried.{LeadsOn}
 use Rattle.mb_home.specs.Contents.{Contents}
 use Rattle.mb_home.specs.Settled.{IsSettled}
-use Rattle.mb_home.specs.Steps.{most_tells, Begins, FindsNone}
+use Rattle.mb_home.specs.Steps.{most_tells, Begins, FindsNone, IsSamePass}
 use Rattle.mb_home.specs.Taken.{TakesOut}
 use Rattle.mb_home.proofs.LeadLemmas.{begun-leads}
-use Rattle.mb_home.proofs.SettleLemmas.{SameQueue, settled-take}
+use Rattle.mb_home.proofs.SettleLemmas.{settled-take}
 use Rattle.mb_home.proofs.TellSteps.{may-handle, settled-taken}
 
 -- by what the take pass says
-pub takes-out : (old : Contents) (take : Taking) (r : Option Envelope) → take.taken ≡ old.take.taken ++ option_to_list r → SameQueue take old.take →
+pub takes-out : (old : Contents) (take : Taking) (r : Option Envelope) → take.taken ≡ old.take.taken ++ option_to_list r → IsSamePass old.take take →
     IfSome r (λ e. Contains old.take.queue.senders e.by.0) → IfSome r (λ e. e.to.0 ≡ old.take.queue.to) →
     IsTake old.take.turns old.take r take → IfSome r (λ e. TakesOut old (record old { take = take }) e)
 takes-out old take None taken same sender addressed turn = tt
 takes-out old take (Some e) taken same sender addressed turn = record {
   took = taken;
   turn = turn;
-  queue = same;
+  pass = same;
   sender = sender;
   addressed = addressed;
   same = refl;
@@ -34,12 +34,12 @@ takes-out old take (Some e) taken same sender addressed turn = record {
 
 -- or none did
 pub finds-none : (old : Contents) (gives : Moment → Reply → Type 0) (take : Taking) (r : Option Envelope) →
-    take.taken ≡ old.take.taken ++ option_to_list r → SameQueue take old.take → IsTake old.take.turns old.take r take →
+    take.taken ≡ old.take.taken ++ option_to_list r → IsSamePass old.take take → IsTake old.take.turns old.take r take →
     IsSettled gives old.cell.acts old →
     IfNone r (FindsNone old (record old { take = take })) × IfNone r (IsSettled gives old.cell.acts (record old { take = take }))
 finds-none old gives take None taken same turn s =
     let none : take.taken ≡ old.take.taken = taken ∙ append-nil old.take.taken in
-    (record { took = none; turn = turn; same = refl }, settled-take old gives old.cell.acts take s same none)
+    (record { took = none; turn = turn; pass = same; same = refl }, settled-take old gives old.cell.acts take s (same.0, same.1) none)
 finds-none old gives take (Some e) taken same turn s = (tt, tt)
 
 -- what is known once it came out
@@ -63,6 +63,7 @@ module _ (b h : Contents) (e : Envelope) (reading : ℕ) (t : TakesOut b h e) wh
         envelope = e;
         took = ap (λ (k : Taking). k.taken) take ∙ t.took;
         turn = subst (λ (k : Taking). IsTake b.take.turns b.take (Some e) k) (sym take) t.turn;
+        pass = subst (IsSamePass b.take) (sym take) t.pass;
         taken = subst (λ (c : Seen). TakesEnvelope c new.cell e reading) same_cell took;
         same = is ∙ (ap (λ (x : Contents). record x { cell = new.cell }) t.same ∙ ap (λ (k : Taking). record b { cell = new.cell; take = k })
             (sym take));
@@ -83,4 +84,4 @@ module _ (b h : Contents) (e : Envelope) (reading : ℕ) (t : TakesOut b h e) wh
       subst (λ (x : Contents). IsSettled (gives new.who.this.0) new.acts (record x { cell = new })) (sym t.same)
       (settled-taken b gives new h.take e reading s (subst (λ (c : Seen). IsOpen c.who c.journal reading) same_cell is_open)
       (subst (λ n. most_tells ≤ n) (ap (λ (x : Contents). x.room) t.same) room)
-      (subst (λ (c : Seen). TakesEnvelope c new e reading) same_cell took) lawful t.queue t.took)
+      (subst (λ (c : Seen). TakesEnvelope c new e reading) same_cell took) lawful (t.pass.0, t.pass.1) t.took)

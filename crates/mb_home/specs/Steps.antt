@@ -116,11 +116,16 @@ pub record Delivers (old new : Contents) (place : ℕ) (e : Envelope) : Type 0 w
   pub was : slice_get old.sends place ≡ Some pass
   pub same : new ≡ record old { sends = slice_set old.sends place (with_pushed e pass); sent = (old.sent + 1) % 2 ^ 64 }
 
+-- the pass that takes is of the same queue, takes by the same order, and has the same accounts of senders
+abbrev pub IsSamePass : Taking → Taking → Type 0
+IsSamePass old new = (new.queue ≡ old.queue) × (new.turns ≡ old.turns) × (new.accounts ≡ old.accounts)
+
 -- an envelope was taken, and begun at this reading
 pub record Begins (old new : Contents) (reading : ℕ) : Type 0 where
   pub envelope : Envelope
   pub took : new.take.taken ≡ old.take.taken ++ envelope ∷ []
   pub turn : IsTake old.take.turns old.take (Some envelope) new.take
+  pub pass : IsSamePass old.take new.take
   pub taken : TakesEnvelope old.cell new.cell envelope reading
   pub same : new ≡ record old { cell = new.cell; take = new.take }
 
@@ -128,6 +133,7 @@ pub record Begins (old new : Contents) (reading : ℕ) : Type 0 where
 pub record FindsNone (old new : Contents) : Type 0 where
   pub took : new.take.taken ≡ old.take.taken
   pub turn : IsTake old.take.turns old.take None new.take
+  pub pass : IsSamePass old.take new.take
   pub same : new ≡ record old { take = new.take }
 
 -- an envelope was taken, and is among those that are cleaned up
@@ -135,4 +141,5 @@ pub record Cleans (old new : Contents) : Type 0 where
   pub envelope : Envelope
   pub took : new.take.taken ≡ old.take.taken ++ envelope ∷ []
   pub turn : IsTake old.take.turns old.take (Some envelope) new.take
+  pub pass : IsSamePass old.take new.take
   pub same : new ≡ record old { take = new.take; cleaned = old.cleaned ++ envelope ∷ [] }

@@ -3,12 +3,13 @@ use Rattle.std.specs.Prelude.{◌≡◌, [], ◌∷◌, ◌++◌, Contains, Some
 use Rattle.mb_msg.specs.declared.envelope.Envelope.{Envelope}
 use Rattle.mb_queue.specs.Takes.{IsTake}
 use Rattle.mb_home.specs.Contents.{Contents}
+use Rattle.mb_home.specs.Steps.{IsSamePass}
 
 -- it came out of the actor's queue, to which it was sent by one who may send
 pub record TakesOut (old new : Contents) (envelope : Envelope) : Type 0 where
   pub took : new.take.taken ≡ old.take.taken ++ envelope ∷ []
   pub turn : IsTake old.take.turns old.take (Some envelope) new.take
-  pub queue : (new.take.queue ≡ old.take.queue) × (new.take.turns ≡ old.take.turns)
+  pub pass : IsSamePass old.take new.take
   pub sender : Contains old.take.queue.senders envelope.by.0
   pub addressed : envelope.to.0 ≡ old.take.queue.to
   pub same : new ≡ record old { take = new.take }

@@ -24,7 +24,7 @@ pub enum Door<H: Resident> {
 
 impl<H: Resident> Door<H> {
     /// Puts the claim last, or gives it back.
-    #[inline]
+    #[inline(always)]
     pub fn push<R: Wait>(&mut self, rt: &R, claim: Claim<H>) -> Result<(), Refused<H>>
         requires share { 0 < (look_of self.old).ledger.shares }
         requires fit { IsUntouched H.is_of H.journal H.mailbox H.rested H.given H.closed_to (look_of self.old).ledger.gates claim }
@@ -42,7 +42,7 @@ impl<H: Resident> Door<H> {
     }
 
     /// Takes the first claim. `None` only if the place was empty at a moment of the call.
-    #[inline]
+    #[inline(always)]
     pub fn take<R: Wait>(&mut self, rt: &R) -> Option<Claim<H>>
         requires share { 0 < (look_of self.old).ledger.shares }
         ensures spot { (look_of self.new).spot ≡ (look_of self.old).spot }

@@ -1,6 +1,6 @@
 -- The passes of all senders to one receiver.
-use Rattle.std.proofs.Common.{◌≡◌, ◌≢◌, ℕ, zero, suc, ◌<◌, List, [], ◌∷◌, ◌++◌, refl, sym, ap, ◌∙◌, subst, arith, Option, Some, None}
-use Rattle.std.specs.Prelude.{All, option_to_list, slice_get}
+use Rattle.std.proofs.Common.{◌≡◌, ◌≢◌, ℕ, zero, suc, ◌<◌, List, [], ◌∷◌, ◌++◌, map, refl, sym, ap, ◌∙◌, subst, arith, Option, Some, None}
+use Rattle.std.specs.Prelude.{All, Contains, option_to_list, slice_get}
 use Rattle.std.proofs.lemmas.List.Elements.{All-nil, All-cons, All-head, All-tail, All-weaker}
 use Rattle.std.proofs.lemmas.Option.{none-some, same_Some}
 use Rattle.mb_queue.specs.Passes.{Sending}
@@ -30,6 +30,20 @@ in-column P i (r ∷ rows) (suc place) row p all there is = in-column P i rows p
     rest : (o : Option Sending) → All P (option_to_list o ++ column i rows) → All P (column i rows)
     rest None a = a
     rest (Some q) a = All-tail P q (column i rows) a
+
+-- a column has a pass of the sender of each pass of a row
+pub sender-in-column : (i : ℕ) (rows : List (List Sending)) (place : ℕ) (row : List Sending) (p : Sending) → slice_get rows place ≡ Some row
+    → slice_get row i ≡ Some p → Contains (map (λ (q : Sending). q.by) (column i rows)) p.by
+sender-in-column i [] place row p there is = absurd (none-some row there)
+sender-in-column i (r ∷ rows) zero row p there is =
+    subst (λ o. Contains (map (λ (q : Sending). q.by) (option_to_list o ++ column i rows)) p.by)
+    (sym (ap (λ l. slice_get l i) (same_Some r row there) ∙ is)) (0, omega arith, refl)
+sender-in-column i (r ∷ rows) (suc place) row p there is = later (slice_get r i) (sender-in-column i rows place row p there is)
+  where
+    later : (o : Option Sending) → Contains (map (λ (q : Sending). q.by) (column i rows)) p.by
+        → Contains (map (λ (q : Sending). q.by) (option_to_list o ++ column i rows)) p.by
+    later None at = at
+    later (Some q) at = let lt = at.1 in (suc at.0, omega (arith, lt), at.2)
 
 -- a pass of this sender before those of others
 different-more : (number : ℕ) (i : ℕ) (row rest : List Sending) → All (λ (p : Sending). p.by ≡ number) row

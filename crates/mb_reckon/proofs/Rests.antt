@@ -8,9 +8,10 @@ use Rattle.std.proofs.lemmas.List.Elements.{All-head, All-nil, All-tail}
 use Rattle.std.proofs.lemmas.Option.{none-some, same_Some}
 use borrow.Rule.Slice.PartMut.{post_of}
 use Rattle.mb_msg.specs.declared.envelope.Envelope.{Envelope}
-use Rattle.mb_queue.specs.Passes.{IsOfQueue, Queue, Sending, Taking}
+use Rattle.mb_queue.specs.Passes.{IsOfQueue, Queue, Sending, Taking, control_first}
 use Rattle.mb_finish.specs.Came.{Came}
-use Rattle.mb_finish.specs.Joined.{column}
+use Rattle.mb_finish.specs.Joined.{AreOfAllSenders, column}
+use Rattle.mb_finish.specs.Parts.{IsControlsFirst}
 use Rattle.mb_finish.specs.Rest.{IsOverfull}
 use Rattle.mb_reckon.specs.Mismatched.{IsTooMuchFor}
 use Rattle.mb_reckon.specs.Taken.{AreTaken}
@@ -65,18 +66,28 @@ pub are-taken : (takes ts : List Taking) (guardian last : Taking) (rows : List (
     → ((place : ℕ) (take : Taking) (left : List Envelope) → slice_get ts place ≡ Some take → slice_get lents place ≡ Some left
     → All (Came take.turns (take.taken ++ left)) (column place rows))
     → ((place : ℕ) (take : Taking) (left : List Envelope) → slice_get ts place ≡ Some take → slice_get lents place ≡ Some left
-    → All (IsOfQueue take.queue) (take.taken ++ left)) → AreTaken takes rows lefts
-are-taken takes ts guardian last rows lefts lents es takes_are queue taken own lefts_are empty many came known = record {
+    → All (IsOfQueue take.queue) (take.taken ++ left))
+    → ((place : ℕ) (take : Taking) (left : List Envelope) → slice_get ts place ≡ Some take → slice_get lents place ≡ Some left
+    → take.turns ≡ control_first → AreOfAllSenders take.queue (column place rows) → IsControlsFirst left) → AreTaken takes rows lefts
+are-taken takes ts guardian last rows lefts lents es takes_are queue taken own lefts_are empty many came known ordered = record {
   many = ap length lefts_are ∙ ap suc many ∙ sym (ap length takes_are);
   none_first = λ left is. same_Some left es (sym is ∙ ap (λ l. slice_get l 0) lefts_are) ∙ empty;
   known = λ place take left is found.
       known-at place take left (sym (ap (λ l. slice_get l place) takes_are) ∙ is) (sym (ap (λ l. slice_get l place) lefts_are) ∙ found);
-  came = λ place take left is found.
-      let next : place + 1 ≡ suc place = omega arith in
-      came place take left (sym (ap (λ l. slice_get l (place + 1)) takes_are ∙ ap (slice_get (guardian ∷ ts)) next) ∙ is)
-      (sym (ap (λ l. slice_get l (place + 1)) lefts_are ∙ ap (slice_get (es ∷ lents)) next) ∙ found);
+  came = λ place take left is found. came place take left (take-next place take is) (left-next place left found);
+  ordered = λ place take left is found. ordered place take left (take-next place take is) (left-next place left found);
 }
   where
+    take-next : (place : ℕ) (take : Taking) → slice_get takes (place + 1) ≡ Some take → slice_get ts place ≡ Some take
+    take-next place take is =
+        let next : place + 1 ≡ suc place = omega arith in
+        sym (ap (λ l. slice_get l (place + 1)) takes_are ∙ ap (slice_get (guardian ∷ ts)) next) ∙ is
+
+    left-next : (place : ℕ) (left : List Envelope) → slice_get lefts (place + 1) ≡ Some left → slice_get lents place ≡ Some left
+    left-next place left found =
+        let next : place + 1 ≡ suc place = omega arith in
+        sym (ap (λ l. slice_get l (place + 1)) lefts_are ∙ ap (slice_get (es ∷ lents)) next) ∙ found
+
     first : All (IsOfQueue guardian.queue) (guardian.taken ++ es)
     first =
         subst (λ (x : Queue × List Envelope). All (IsOfQueue x.0) x.1)

@@ -1,7 +1,7 @@
 -- What the report says of all.
 use Rattle.std.proofs.Common.{◌≡◌, ◌≢◌, ◌⊎◌, ℕ, zero, suc, ◌+◌, ◌%◌, ◌^◌, ◌<◌, ℤ, Bool, true, false, List, [], ◌∷◌, ◌++◌}
 use Rattle.std.proofs.Common.{length, map, get_or, refl, sym, ap, ◌∙◌, subst, arith, length-drop, Some, None}
-use Rattle.std.specs.Prelude.{All, if◌then◌else◌, slice_get}
+use Rattle.std.specs.Prelude.{All, Contains, if◌then◌else◌, slice_get}
 use Rattle.std.proofs.lemmas.List.Elements.{All-contains, All-weaker}
 use Rattle.std.proofs.lemmas.Option.{get_or_from_slice_get, same_Some}
 use Rattle.mb_msg.specs.declared.dead_letter.DeadLetter.{DeadLetter}
@@ -24,9 +24,10 @@ use Rattle.mb_fates.specs.Fates.{begun}
 use Rattle.mb_fates.specs.Pair.{IsInOrder, StandsAsOften, StandsOnce}
 use Rattle.mb_fates.specs.Told.{told}
 use Rattle.mb_fates.specs.declared.posting.Posting.{Posting}
-use Rattle.mb_queue.specs.Passes.{IsOfQueue, Sending, first_in_first_out, control_first}
+use Rattle.mb_queue.specs.Passes.{IsOfQueue, Queue, Sending, first_in_first_out, control_first}
 use Rattle.mb_finish.specs.Came.{Came}
-use Rattle.mb_finish.specs.Parts.{ArePartsInOrder}
+use Rattle.mb_finish.specs.Joined.{AreOfAllSenders, column}
+use Rattle.mb_finish.specs.Parts.{ArePartsInOrder, IsControlsFirst}
 use Rattle.mb_finish.proofs.SettleLemmas.{in_order, often, once, parts_in_order}
 use Rattle.mb_gate.specs.View.{Sight}
 use Rattle.mb_rule.specs.Seen.{Each}
@@ -47,7 +48,7 @@ use Rattle.mb_reckon.specs.Shown.{ShowsCell}
 use Rattle.mb_reckon.specs.Taken.{AreTaken}
 use Rattle.mb_reckon.specs.Whole.{CountsSystems, IsPutAmong, IsReportOf, IsRightReason, IsWhole, fates_in, sender_number}
 use Rattle.mb_reckon.specs.declared.outsider.Outsider.{Outsider}
-use Rattle.mb_reckon.proofs.Columns.{in-column}
+use Rattle.mb_reckon.proofs.Columns.{in-column, sender-in-column}
 use Rattle.mb_reckon.proofs.Gathering.{Gathered, IsShut}
 use Rattle.mb_reckon.proofs.Lists.{alike, at-place, from-mapped, length-mapped, mapped, there, within}
 use Rattle.mb_reckon.proofs.Parties.{HasReason, IsParty, Party}
@@ -170,6 +171,23 @@ module _ (after : ℕ → List Message → ℤ) (gives : ℕ → Moment → Repl
         let own = (stands id l found).own in
         same_Some e (enrolled_as l.home.value) (sym is ∙ (λ i. slice_get (sym own.roll i) (sym own.number i)) ∙ own.settled.own.enrolled)
 
+    -- the queue of an actor has senders alone that there are
+    senders-at : (id : ℕ) (l : Place) → slice_get lefts id ≡ Some l
+        → All (IsSenderAmong (length first.roll) (length outs)) l.home.value.take.queue.senders
+    senders-at id l found =
+        let e = there first.roll id (let lt = within lefts id l found in omega (arith, lt, many)) in
+        subst (λ (n : Enrolled). All (IsSenderAmong (length first.roll) (length outs)) n.queue.senders) (enrolled-at id e.0 l e.1 found)
+        (at-place (λ (n : Enrolled). All (IsSenderAmong (length first.roll) (length outs)) n.queue.senders) first.roll id e.0 known e.1)
+
+    take-at : (k : ℕ) (l : Place) → slice_get lefts (suc k) ≡ Some l
+        → slice_get (map (λ (l : Place). l.home.value.take) lefts) (k + 1) ≡ Some l.home.value.take
+    take-at k l found =
+        ap (slice_get (map (λ (l : Place). l.home.value.take) lefts)) (let e : k + 1 ≡ suc k = omega arith in e)
+        ∙ mapped (λ (l : Place). l.home.value.take) lefts (suc k) l found
+
+    envelopes-at : (k : ℕ) (left : List Envelope) → slice_get envelopes (suc k) ≡ Some left → slice_get envelopes (k + 1) ≡ Some left
+    envelopes-at k left found = ap (slice_get envelopes) (let e : k + 1 ≡ suc k = omega arith in e) ∙ found
+
     actor-clause : (id : ℕ) (e : Enrolled) (a : ActorReport) → slice_get first.roll id ≡ Some e → slice_get report.actors.items id ≡ Some a
         → IsReportOf after gives e.who a × CountsSystems log e.who a
     actor-clause id e a is found =
@@ -271,16 +289,11 @@ module _ (after : ℕ → List Message → ℤ) (gives : ℕ → Moment → Repl
       abbrev s : Sending
       s = pass-there.0
 
-      take-there : slice_get (map (λ (l : Place). l.home.value.take) lefts) (k + 1) ≡ Some x.l.home.value.take
-      take-there =
-          ap (slice_get (map (λ (l : Place). l.home.value.take) lefts)) (let e : k + 1 ≡ suc k = omega arith in e)
-          ∙ mapped (λ (l : Place). l.home.value.take) lefts (suc k) x.l x.there_is
-
       came : Came x.l.home.value.take.turns (x.l.home.value.take.taken ++ x.left) s
       came =
           let t = x.l.home.value.take in
           in-column (Came t.turns (t.taken ++ x.left)) k (map (λ (p : Party). p.row) g.parties) place p.row s
-          (taken.came k t x.left take-there (ap (slice_get envelopes) (let e : k + 1 ≡ suc k = omega arith in e) ∙ x.left_there))
+          (taken.came k t x.left (take-at k x.l x.there_is) (envelopes-at k x.left x.left_there))
           (mapped (λ (p : Party). p.row) g.parties place p p-there) pass-there.1
 
       by-is : s.by ≡ sender_number (length lefts) place
@@ -347,22 +360,51 @@ module _ (after : ℕ → List Message → ℤ) (gives : ℕ → Moment → Repl
         let x = at-actor (suc k) a found in
         pair-parts-in-order place k a lt found (sym (ap (λ (n : Enrolled). n.turns) (enrolled-at (suc k) e x.l is x.there_is)) ∙ kind)
 
+    -- ---- control messages are left before all others
+
+    module _ (k : ℕ) (a : ActorReport) (found : slice_get report.actors.items (suc k) ≡ Some a) where
+      abbrev ways : List Sending
+      ways = column k (map (λ (p : Party). p.row) g.parties)
+
+      -- each sender that there is has a pass to the actor
+      way-of : (sender : ℕ) → IsSenderAmong (length first.roll) (length outs) sender → Contains (map (λ (s : Sending). s.by) ways) sender
+      way-of sender is =
+          let among = is.within in
+          let lt : is.place < length report.senders.items = let m = many-senders in let n = g.many in omega (arith, among, m, n, many) in
+          let p = party-at is.place lt in let s = pass-there is.place k a lt found in
+          subst (λ n. Contains (map (λ (s : Sending). s.by) ways) n) (number-is is.place k a lt found ∙ sym is.number_is)
+          (sender-in-column k (map (λ (p : Party). p.row) g.parties) is.place p.0.row s.0
+          (mapped (λ (p : Party). p.row) g.parties is.place p.0 p.1) s.1)
+
+      ways-of-all : (queue : Queue) → All (IsSenderAmong (length first.roll) (length outs)) queue.senders → AreOfAllSenders queue ways
+      ways-of-all queue senders =
+          All-weaker (IsSenderAmong (length first.roll) (length outs)) (λ n. Contains (map (λ (s : Sending). s.by) ways) n) way-of queue.senders
+          senders
+
+    left-clause : (id : ℕ) (e : Enrolled) (a : ActorReport) → slice_get first.roll id ≡ Some e → slice_get report.actors.items id ≡ Some a
+        → e.turns ≡ control_first → IsControlsFirst a.left.items
+    left-clause zero e a is found kind =
+        let x = at-actor zero a found in
+        subst IsControlsFirst (sym (x.shows.left_is ∙ taken.none_first x.left x.left_there)) refl
+    left-clause (suc k) e a is found kind =
+        let x = at-actor (suc k) a found in let t = x.l.home.value.take in
+        subst IsControlsFirst (sym x.shows.left_is)
+        (taken.ordered k t x.left (take-at k x.l x.there_is) (envelopes-at k x.left x.left_there)
+        (sym (ap (λ (n : Enrolled). n.turns) (enrolled-at (suc k) e x.l is x.there_is)) ∙ kind)
+        (ways-of-all k a found t.queue (senders-at (suc k) x.l x.there_is)))
+
     -- ---- nothing else
 
     nothing-clause : (id : ℕ) (a : ActorReport) → slice_get report.actors.items id ≡ Some a
         → All (λ (e : Envelope). (place : ℕ) × (place < length report.senders.items) × (e.by.0 ≡ number_at place)) (fates_in a)
     nothing-clause id a found =
         let x = at-actor id a found in let t = x.l.home.value.take in
-        let e = there first.roll id (let lt = within lefts id x.l x.there_is in omega (arith, lt, many)) in
-        let senders : All (IsSenderAmong (length first.roll) (length outs)) t.queue.senders
-        = subst (λ (n : Enrolled). All (IsSenderAmong (length first.roll) (length outs)) n.queue.senders) (enrolled-at id e.0 x.l e.1 x.there_is)
-        (at-place (λ (n : Enrolled). All (IsSenderAmong (length first.roll) (length outs)) n.queue.senders) first.roll id e.0 known e.1) in
         subst (λ (l : List Envelope). All (λ (e : Envelope). (place : ℕ) × (place < length report.senders.items) × (e.by.0 ≡ number_at place)) l)
         (sym (fates-are id x.l (stands id x.l x.there_is) (done id x.l x.there_is) x.left a x.shows))
         (All-weaker (IsOfQueue t.queue)
         (λ (e : Envelope). (place : ℕ) × (place < length report.senders.items) × (e.by.0 ≡ number_at place))
         (λ e of.
-        let one = All-contains (IsSenderAmong (length first.roll) (length outs)) t.queue.senders e.by.0 senders of.0 in
+        let one = All-contains (IsSenderAmong (length first.roll) (length outs)) t.queue.senders e.by.0 (senders-at id x.l x.there_is) of.0 in
         let among = one.within in let m = many-senders in let n = g.many in
         (one.place, omega (arith, among, m, n, many), one.number_is)) (t.taken ++ x.left)
         (taken.known id t x.left (mapped (λ (l : Place). l.home.value.take) lefts id x.l x.there_is) x.left_there))
@@ -382,6 +424,7 @@ module _ (after : ℕ → List Message → ℤ) (gives : ℕ → Moment → Repl
       nothing_else = nothing-clause;
       in_order = order-clause;
       parts_in_order = parts-clause;
+      left_in_parts = left-clause;
       cleaned = λ id a found some.
           let x = at-actor id a found in
           cleaned-ended id x.l (stands id x.l x.there_is) (done id x.l x.there_is) x.left a x.shows some;

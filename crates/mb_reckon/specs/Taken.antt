@@ -1,12 +1,14 @@
 -- What is left for actors is taken out of their queues.
 use Rattle.std.specs.Prelude.{◌≡◌, ℕ, ◌+◌, List, [], ◌++◌, All, Some, length, slice_get}
 use Rattle.mb_msg.specs.declared.envelope.Envelope.{Envelope}
-use Rattle.mb_queue.specs.Passes.{IsOfQueue, Sending, Taking}
+use Rattle.mb_queue.specs.Passes.{IsOfQueue, Sending, Taking, control_first}
 use Rattle.mb_finish.specs.Came.{Came}
-use Rattle.mb_finish.specs.Joined.{column}
+use Rattle.mb_finish.specs.Joined.{AreOfAllSenders, column}
+use Rattle.mb_finish.specs.Parts.{IsControlsFirst}
 
 -- This was left for each actor, and nothing for the first, the guardian. With what was taken before, it is of the actor's queue alone; and of
--- each sender all that it pushed to the actor, by a pass of its row, is among that. The rows have no passes to the guardian.
+-- each sender all that it pushed to the actor, by a pass of its row, is among that. Where a control-aware queue has a pass of each of its senders
+-- there, control messages are left before all others. The rows have no passes to the guardian.
 pub record AreTaken (takes : List Taking) (rows : List (List Sending)) (lefts : List (List Envelope)) : Type 0 where
   pub many : length lefts ≡ length takes
   pub none_first : (left : List Envelope) → slice_get lefts 0 ≡ Some left → left ≡ []
@@ -14,3 +16,5 @@ pub record AreTaken (takes : List Taking) (rows : List (List Sending)) (lefts : 
       → All (IsOfQueue take.queue) (take.taken ++ left)
   pub came : (place : ℕ) (take : Taking) (left : List Envelope) → slice_get takes (place + 1) ≡ Some take
       → slice_get lefts (place + 1) ≡ Some left → All (Came take.turns (take.taken ++ left)) (column place rows)
+  pub ordered : (place : ℕ) (take : Taking) (left : List Envelope) → slice_get takes (place + 1) ≡ Some take
+      → slice_get lefts (place + 1) ≡ Some left → take.turns ≡ control_first → AreOfAllSenders take.queue (column place rows) → IsControlsFirst left

@@ -26,7 +26,7 @@ use Rattle.mb_rule.specs.Seen.{Each}
 use Rattle.mb_home.specs.Numbers.{applied_numbers, numbers_in, times}
 use Rattle.mb_home.specs.Roll.{Enrolled, IsBounded}
 use Rattle.mb_queue.specs.Passes.{first_in_first_out, control_first}
-use Rattle.mb_finish.specs.Parts.{ArePartsInOrder}
+use Rattle.mb_finish.specs.Parts.{ArePartsInOrder, IsControlsFirst}
 use Rattle.mb_report.specs.declared.report.ActorReport.{ActorReport}
 use Rattle.mb_report.specs.declared.report.Report.{Report}
 use Rattle.mb_report.specs.declared.report.SenderReport.{SenderReport}
@@ -110,6 +110,9 @@ module _ (after : ℕ → List Message → ℤ) (gives : ℕ → Moment → Repl
     pub parts_in_order : (place id : ℕ) (e : Enrolled) (a : ActorReport) → place < length report.senders.items → 0 < id → slice_get roll id ≡ Some e
         → slice_get report.actors.items id ≡ Some a → e.turns ≡ control_first
         → ArePartsInOrder (sender_number (length roll) place) id (answers place) (fates_in a)
+    -- and of such a mailbox control messages are left before all others
+    pub left_in_parts : (id : ℕ) (e : Enrolled) (a : ActorReport) → slice_get roll id ≡ Some e → slice_get report.actors.items id ≡ Some a
+        → e.turns ≡ control_first → IsControlsFirst a.left.items
     -- only an actor that ended is cleaned up, and only to one that ended or is suspended envelopes are left
     pub cleaned : (id : ℕ) (a : ActorReport) → slice_get report.actors.items id ≡ Some a → a.cleaned.items ≢ [] → a.phase ≡ EndedPhase
     pub left : (id : ℕ) (a : ActorReport) → slice_get report.actors.items id ≡ Some a → a.left.items ≢ [] → (a.phase ≡ EndedPhase) ⊎ (0 < a.count)

@@ -16,6 +16,7 @@ pub(crate) struct Performed {
 }
 
 /// Does the operations in order, up to the first that fails. An effect that the outbox refuses is left out.
+#[inline(always)]
 pub(crate) fn perform(
     operations: &[Operation],
     value: i64,

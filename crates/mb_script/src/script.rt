@@ -105,6 +105,7 @@ impl Script {
     }
 
     /// Does what the first row of the kind says.
+    #[inline(always)]
     fn do_kind(&mut self, kind: u32, value: i64, out: &mut Outbox) -> Answer
         ensures state { self.new ≡ record self.old { state = after_work self.old.state (work_of_kind self.old.script.rows kind value) } }
         ensures answer { result ≡ answer_with (work_of_kind self.old.script.rows kind value) }

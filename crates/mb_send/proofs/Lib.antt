@@ -4,3 +4,4 @@ pub mod Answering
 pub mod Vouching
 pub mod Bounding
 pub mod Crossing
+pub mod Owing

@@ -1,5 +1,5 @@
 //! Stopping an actor from outside.
-ghost use Rattle.std.specs.Prelude.{◌≡◌, ◌⊎◌, ◌+◌, ◌<◌, ◌≤◌, true, vec_len, IfOk, IsErrOf, OnErr, Some};
+ghost use Rattle.std.specs.Prelude.{◌≡◌, ◌⊎◌, ℕ, ◌+◌, ◌<◌, ◌≤◌, true, vec_len, IfOk, IsErrOf, OnErr, Some};
 ghost use Rattle.mb_core.specs.Actor.{nothing};
 ghost use Rattle.mb_gate.specs.View.{owes};
 ghost use Rattle.mb_gate.specs.Names.{gates_id, pass_id, actors_of, known_by};
@@ -21,7 +21,7 @@ impl<H: Resident, W: Way<H>> Sender<H, W> {
     /// ended: then the message went nowhere.
     ///
     /// It answers `NoSuchActor` for a number that no actor has, and else `NoMemory` if memory was refused: then nothing has
-    /// changed.
+    /// changed. Whom the sender owed a look, it owes one still.
     pub fn stop<R: Wait>(&mut self, rt: &R, gates: &Gates<H>, id: ActorId) -> Result<bool, Unsent>
         requires ours { (pass_id self.old.waker.pass ≡ gates_id gates.now) × (W.origin self.old.waker.way ≡ Some (origin_of gates.now)) }
         requires all { (vec_len self.old.sends + 1 ≡ actors_of gates.now) × (actors_of gates.now ≤ 64) }
@@ -29,6 +29,7 @@ impl<H: Resident, W: Way<H>> Sender<H, W> {
             ⊎ (IsErrOf result Unsent.NoMemory × (id.0 < actors_of gates.now)))) }
         ensures stopped { IfOk result (Stops id.0 (known_by self.old.waker.pass) (known_by self.new.waker.pass)) }
         ensures paid { IfOk result (λ _. (owes id.0 (known_by self.new.waker.pass) ≡ nothing) ⊎ (is_owed self.new.waker.owed id.0 ≡ true)) }
+        ensures still { (other : ℕ) → is_owed self.old.waker.owed other ≡ true → is_owed self.new.waker.owed other ≡ true }
         ensures ours { (pass_id self.new.waker.pass ≡ pass_id self.old.waker.pass) × (W.origin self.new.waker.way ≡ W.origin self.old.waker.way) }
         ensures same { (self.new.book ≡ self.old.book) × (self.new.sends ≡ self.old.sends) }
     {

@@ -1,5 +1,5 @@
 //! What a sender outside the actors sends to them.
-ghost use Rattle.std.specs.Prelude.{◌≡◌, ◌⊎◌, ◌+◌, ◌<◌, ◌≤◌, true, vec_len, IfOk, IsErrOf, OnErr, Some};
+ghost use Rattle.std.specs.Prelude.{◌≡◌, ◌⊎◌, ℕ, ◌+◌, ◌<◌, ◌≤◌, true, vec_len, IfOk, IsErrOf, OnErr, Some};
 ghost use Rattle.mb_core.specs.Actor.{nothing};
 ghost use Rattle.mb_gate.specs.View.{owes};
 ghost use Rattle.mb_gate.specs.Names.{gates_id, pass_id, actors_of, known_by};
@@ -25,7 +25,7 @@ impl<H: Resident, W: Way<H>> Sender<H, W> {
     /// queue refuses since it is full, or any for want of memory, is a dead letter, which takes a number too.
     ///
     /// It answers `NoMemory` if there was no room for the dead letter that it might become, or the sender's last number is
-    /// used up: then nothing is sent, and no number is used.
+    /// used up: then nothing is sent, and no number is used. Whom the sender owed a look, it owes one still.
     pub fn put<R: Wait>(
         &mut self,
         rt: &R,
@@ -42,6 +42,7 @@ impl<H: Resident, W: Way<H>> Sender<H, W> {
             self.old.sends.items (known_by self.old.waker.pass) (known_by self.new.waker.pass)) }
         ensures paid { IfOk result (λ _. (owes ticket.to.0 (known_by self.new.waker.pass) ≡ nothing) ⊎ (is_owed self.new.waker.owed ticket.to.0
             ≡ true)) }
+        ensures still { (id : ℕ) → is_owed self.old.waker.owed id ≡ true → is_owed self.new.waker.owed id ≡ true }
         ensures ours { (pass_id self.new.waker.pass ≡ pass_id self.old.waker.pass) × (W.origin self.new.waker.way ≡ W.origin self.old.waker.way) }
         ensures same { (self.new.book.by ≡ self.old.book.by) × (vec_len self.new.sends ≡ vec_len self.old.sends) }
         ensures queues { receiving_queues self.new.sends.items ≡ receiving_queues self.old.sends.items }
@@ -71,6 +72,7 @@ impl<H: Resident, W: Way<H>> Sender<H, W> {
     /// closed the envelope is a dead letter.
     ///
     /// It answers `NoSuchActor` as a look does, and else `NoMemory` as a put does: then nothing is sent, and no number is used.
+    /// Whom the sender owed a look, it owes one still.
     pub fn tell<R: Wait>(
         &mut self,
         rt: &R,
@@ -86,6 +88,7 @@ impl<H: Resident, W: Way<H>> Sender<H, W> {
         ensures told { IfOk result (IsTold self.old.book.by self.old.book.sent to body self.old.book.posted self.new.book.posted
             self.old.sends.items (known_by self.old.waker.pass) (known_by self.new.waker.pass)) }
         ensures paid { IfOk result (λ _. (owes to.0 (known_by self.new.waker.pass) ≡ nothing) ⊎ (is_owed self.new.waker.owed to.0 ≡ true)) }
+        ensures still { (id : ℕ) → is_owed self.old.waker.owed id ≡ true → is_owed self.new.waker.owed id ≡ true }
         ensures ours { (pass_id self.new.waker.pass ≡ pass_id self.old.waker.pass) × (W.origin self.new.waker.way ≡ W.origin self.old.waker.way) }
         ensures same { (self.new.book.by ≡ self.old.book.by) × (vec_len self.new.sends ≡ vec_len self.old.sends) }
         ensures queues { receiving_queues self.new.sends.items ≡ receiving_queues self.old.sends.items }

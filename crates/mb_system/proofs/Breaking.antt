@@ -11,6 +11,7 @@ use Rattle.mb_journal.specs.declared.error.ReadyError.{ReadyError}
 use Rattle.mb_journal.specs.declared.error.ReadyError.TheVariants as Ready
 use Rattle.mb_gate.specs.Names.{known_by}
 use Rattle.mb_gate.specs.Untouched.{origin_of}
+use Rattle.mb_gate.specs.View.{View}
 use Rattle.mb_gate.specs.declared.claim.Claim.{Claim}
 use Rattle.mb_gate.specs.declared.gates.Gates.{Gates}
 use Rattle.mb_home.specs.Contents.{Contents}
@@ -59,18 +60,19 @@ to-nobody P Q M (Err error) (p, inl q) memory e = q.1
 to-nobody P Q M (Err error) (p, inr m) memory e = absurd (subst IsOfMemory (sym (memory m) ∙ e) tt)
 
 module _ {A K : Type 0} (gives : ℕ → Moment → Reply → Type 0) (system : System A K) where
-  pub came-to-limit : (end : WorkerEnd A K) (claim : Claim (Box Contents)) → IsFreshClaim gives (Some (origin_of system.gates)) claim
+  pub came-to-limit : (before : View) (end : WorkerEnd A K) (claim : Claim (Box Contents)) → IsFreshClaim gives (Some (origin_of system.gates)) claim
       → (result : Result Turn ReadyError)
       → (journal : List Entry) × MatchResult result
       (λ turn. (stopped : Stopped) × HadRoom stopped
-      × LeavesRun system.throughput claim (known_by end.waker.pass) journal turn stopped)
-      (λ _. (turn : Turn) × LeavesRun system.throughput claim (known_by end.waker.pass) journal turn NoRoom
+      × LeavesRun system.throughput claim before (known_by end.waker.pass) journal turn stopped)
+      (λ _. (turn : Turn) × LeavesRun system.throughput claim before (known_by end.waker.pass) journal turn NoRoom
       × (IsErrOf result Ready.JournalFull → claim.home.value.cell.who.limit ≤ length journal))
       → result ≡ Err Ready.JournalFull → CameToLimit gives system end
-  came-to-limit end claim fresh (Ok turn) ran e = absurd (subst (λ (r : Result Turn ReadyError). OnErr r ⊥) e tt)
-  came-to-limit end claim fresh (Err error) (journal, ran) e = record {
+  came-to-limit before end claim fresh (Ok turn) ran e = absurd (subst (λ (r : Result Turn ReadyError). OnErr r ⊥) e tt)
+  came-to-limit before end claim fresh (Err error) (journal, ran) e = record {
     claim = claim;
     fresh = fresh;
+    before = before;
     journal = journal;
     turn = ran.0;
     left = ran.1;

@@ -28,9 +28,9 @@ module _ {A K : Type 0} (gates : Gates (Box Contents)) where
 
   led-by : (x e : WorkerEnd A K) (others : List (WorkerEnd A K)) (p : Pass (Box Contents)) (v : View) → e ≡ x → IsNewEnd gates 0 x
       → AreNewEnds gates 1 others → pass_id p ≡ pass_id e.waker.pass → IsCreated v
-      → (known_by p).log ≡ v.log ++ (known_by e.waker.pass).log
+      → (known_by p).log ≡ v.log ++ (known_by e.waker.pass).log → (known_by p).got ≡ v.got ++ (known_by e.waker.pass).got → v.got ≡ []
       → AreLedEnds gates (record e { waker = record e.waker { pass = p } } ∷ others)
-  led-by x e others p v is new are id created saw =
+  led-by x e others p v is new are id created saw got none =
       let mine : IsNewEnd gates 0 e = subst (IsNewEnd gates 0) (sym is) new in record {
         end = record e { waker = record e.waker { pass = p } };
         others = others;
@@ -39,11 +39,12 @@ module _ {A K : Type 0} (gates : Gates (Box Contents)) where
         ours = (id ∙ mine.ours.0, mine.ours.1, mine.ours.2);
         first_end = (mine.number_is, mine.nobody);
         created = (created.0, saw ∙ ap (λ l. v.log ++ l) mine.blank ∙ append-nil v.log ∙ created.1);
+        unclaimed = got ∙ ap (λ l. v.got ++ l) mine.unclaimed ∙ append-nil v.got ∙ none;
       }
 
   pub first-led : (ends : List (WorkerEnd A K)) (d e : WorkerEnd A K) (p : Pass (Box Contents)) (v : View) → e ≡ get_or ends 0 d
       → 0 < length ends → AreNewEnds gates 0 ends → pass_id p ≡ pass_id e.waker.pass → IsCreated v
-      → (known_by p).log ≡ v.log ++ (known_by e.waker.pass).log
+      → (known_by p).log ≡ v.log ++ (known_by e.waker.pass).log → (known_by p).got ≡ v.got ++ (known_by e.waker.pass).got → v.got ≡ []
       → AreLedEnds gates (set ends 0 (record e { waker = record e.waker { pass = p } }))
-  first-led [] d e p v is some are id created saw = absurd (omega (arith, some))
-  first-led (x ∷ others) d e p v is some are id created saw = led-by x e others p v is are.0 are.1 id created saw
+  first-led [] d e p v is some are id created saw got none = absurd (omega (arith, some))
+  first-led (x ∷ others) d e p v is some are id created saw got none = led-by x e others p v is are.0 are.1 id created saw got none

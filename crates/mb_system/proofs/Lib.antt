@@ -1,8 +1,10 @@
 pub mod Looking
+pub mod Debts
 pub mod Sending
 pub mod Right
 pub mod Building
 pub mod Opened
+pub mod Sharing
 pub mod Founded
 pub mod Led
 pub mod Crossing

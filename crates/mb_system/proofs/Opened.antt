@@ -4,7 +4,9 @@ use Rattle.std.specs.Global.{Box}
 use Rattle.std.proofs.lemmas.List.{length-append, length-drop, length_push, map_push}
 use Rattle.mb_msg.specs.declared.system.SysMsg.{SysMsg}
 use Rattle.mb_msg.specs.declared.system.SysMsg.TheVariants.{Create}
-use Rattle.mb_gate.specs.View.{Pushed, View, copied, enlisting, halving, without_counts}
+use Rattle.mb_rule.specs.Shares.{IsWhole}
+use Rattle.mb_gate.specs.Turns.{got_by, times}
+use Rattle.mb_gate.specs.View.{Pushed, View, enlisting}
 use Rattle.mb_gate.specs.declared.gates.Gates.{Gates}
 use Rattle.mb_home.specs.Contents.{Contents}
 use Rattle.mb_queue.specs.Passes.{Queue, Sending}
@@ -54,24 +56,20 @@ module _ {A K : Type 0} (gates : Gates (Box Contents)) where
       let sum : length ends ≡ 0 + length ends = omega arith in
       subst (AreNewEnds gates 0) (sym pushed) (ends-more gates 0 ends e are (subst (λ n. IsNewEnd gates n e) sum is))
 
--- a second pass of one that saw nothing saw nothing
-pub copied-blank : (v w : View) → w ≡ copied v → v.log ≡ [] → w.log ≡ []
-copied-blank v w is none = ap (λ (x : View). x.log) is ∙ ap without_counts none
-
-pub halving-blank : (v w : View) → w ≡ halving v → v.log ≡ [] → w.log ≡ []
-halving-blank v w is none = ap (λ (x : View). x.log) is ∙ none
-
--- and one of a pass that said nothing said nothing
-pub copied-silent : (v w : View) → w ≡ copied v → v.said ≡ [] → w.said ≡ []
-copied-silent v w is none = ap (λ (x : View). x.said) is ∙ none
-
-pub halving-silent : (v w : View) → w ≡ halving v → v.said ≡ [] → w.said ≡ []
-halving-silent v w is none = ap (λ (x : View). x.said) is ∙ none
-
 -- what was put first into the guardian's list
 pub created : (number : ℕ) (node : SysMsg) (v w : View) → w ≡ enlisting 0 number node v → node ≡ Create → v.log ≡ [] → IsCreated w
 created number node v w is made none =
     (number, ap (λ (x : View). x.log) is ∙ (λ i. Pushed 0 number (made i) ∷ none i))
+
+-- nobody got a claim of the guardian, who got none
+pub nobody-got : (v : View) → v.got ≡ [] → 0 < got_by 0 v → ⊥
+nobody-got v none some = let zero_got : got_by 0 v ≡ 0 = ap (times 0) none in omega (arith, some, zero_got)
+
+-- who put it there got no claim by that, and has the share that it had
+pub kept-whole : (number : ℕ) (node : SysMsg) (v w : View) → w ≡ enlisting 0 number node v → v.got ≡ [] → IsWhole v.share
+    → (w.got ≡ []) × IsWhole w.share
+kept-whole number node v w is none whole =
+    (ap (λ (x : View). x.got) is ∙ none, subst IsWhole (sym (ap (λ (x : View). x.share) is)) whole)
 
 -- there is one in this place for each that came before this one
 module _ {X Y : Type 0} where

@@ -30,6 +30,26 @@ module _ {T : Type 0} where
   as_many_after R (x ∷ xs) [] each = absurd each
   as_many_after R (x ∷ xs) (y ∷ ys) each = ap suc (as_many_after R xs ys each.1)
 
+  -- one thing after another was done with each
+  pub zip_then : (R S Q : T → T → Type 0) → ((x y z : T) → R x y → S y z → Q x z) → (xs ys zs : List T) → AllZip R xs ys → AllZip S ys zs
+      → AllZip Q xs zs
+  zip_then R S Q f [] [] [] p q = tt
+  zip_then R S Q f [] [] (z ∷ zs) p q = absurd q
+  zip_then R S Q f [] (y ∷ ys) zs p q = absurd p
+  zip_then R S Q f (x ∷ xs) [] zs p q = absurd p
+  zip_then R S Q f (x ∷ xs) (y ∷ ys) [] p q = absurd q
+  zip_then R S Q f (x ∷ xs) (y ∷ ys) (z ∷ zs) p q = (f x y z p.0 q.0, zip_then R S Q f xs ys zs p.1 q.1)
+
+  -- nothing was, or something with the first
+  pub zip_same : (R : T → T → Type 0) → ((x : T) → R x x) → (xs : List T) → AllZip R xs xs
+  zip_same R f [] = tt
+  zip_same R f (x ∷ xs) = (f x, zip_same R f xs)
+
+  pub zip_first : (R : T → T → Type 0) → ((x : T) → R x x) → (xs : List T) (old new : T) → old ≡ get_or xs 0 old → R old new
+      → AllZip R xs (set xs 0 new)
+  zip_first R f [] old new there did = tt
+  zip_first R f (x ∷ xs) old new there did = (subst (λ y. R y new) there did, zip_same R f xs)
+
   -- another stands first, of which this is the same
   pub same_first : {X : Type 0} (of : T → X) (xs : List T) (old new : T) → old ≡ get_or xs 0 old → of new ≡ of old → map of (set xs 0 new) ≡ map of xs
   same_first of [] old new there same = refl
@@ -71,6 +91,10 @@ module _ {E : Type 0} where
   on_ok : {P : Type 0} (r : Result (Unit {0}) E) → P → OnOk r P
   on_ok (Ok x) p = p
   on_ok (Err e) p = tt
+
+  pub on_ok_and : {T : Type 0} (P Q : Type 0) (r : Result T E) → OnOk r P → OnOk r Q → OnOk r (P × Q)
+  on_ok_and P Q (Ok x) p q = (p, q)
+  on_ok_and P Q (Err e) p q = tt
 
   pub ok_first : (P : Type 0) (a b r : Result (Unit {0}) E) → MatchResult a (λ _. r ≡ b) (λ _. r ≡ a) → OnOk a P → OnOk r P
   ok_first P (Ok x) b r is p = on_ok r p

@@ -1,6 +1,7 @@
 -- A system as it begins.
-use Rattle.std.specs.Prelude.{◌≡◌, ℕ, ◌+◌, List, [], ◌∷◌, length, map, slice_get, Some}
+use Rattle.std.specs.Prelude.{◌≡◌, ℕ, ◌+◌, List, [], ◌∷◌, ◌++◌, length, map, slice_get, Some}
 use Rattle.std.specs.Global.{Box}
+use Rattle.mb_rule.specs.Shares.{IsWhole}
 use Rattle.mb_msg.specs.Limits.{most_actors}
 use Rattle.mb_msg.specs.declared.system.SysMsg.TheVariants.{Create}
 use Rattle.mb_actor.specs.Behaviour.{Moment, Reply}
@@ -23,6 +24,7 @@ use Rattle.mb_build.specs.Kinds.{AreQueues}
 use Rattle.mb_send.specs.Sends.{AreRoutes, receiving_queues}
 use Rattle.mb_wake.specs.Owed.{IsNobody}
 use Rattle.mb_system.specs.Members.{IsEndOf, IsSenderOf}
+use Rattle.mb_system.specs.Shared.{shares_of_ends, shares_of_senders}
 use Rattle.mb_system.specs.Belonging.{BelongsTogether}
 use Rattle.mb_system.specs.declared.built.Built.{Built}
 use Rattle.mb_system.specs.declared.end.WorkerEnd.{WorkerEnd}
@@ -54,7 +56,8 @@ abbrev pub IsCreated : View → Type 0
 IsCreated view = (number : ℕ) × (view.log ≡ Pushed 0 number Create ∷ [])
 
 module _ {A K : Type 0} (gates : Gates (Box Contents)) where
-  -- a sender of this number: it sent nothing, was answered nothing, said nothing, saw nothing, owes nobody a look, and pushes by these passes
+  -- a sender of this number: it sent nothing, was answered nothing, said nothing, saw nothing, got no claim, owes nobody a look, and pushes
+  -- by these passes
   pub record IsNewSender (number : ℕ) (sends : List Sending) (s : Sender A K) : Type 0 where
     pub ours : IsSenderOf gates s.inner
     pub by : s.inner.book.by ≡ record { 0 = number }
@@ -63,6 +66,7 @@ module _ {A K : Type 0} (gates : Gates (Box Contents)) where
     pub nobody : IsNobody s.inner.waker.owed
     pub blank : (known_by s.inner.waker.pass).log ≡ []
     pub silent : (known_by s.inner.waker.pass).said ≡ []
+    pub unclaimed : (known_by s.inner.waker.pass).got ≡ []
 
   -- so are these, which are numbered on from this one
   abbrev pub AreNewSenders : ℕ → List (List Sending) → List (Sender A K) → Type 0
@@ -70,12 +74,13 @@ module _ {A K : Type 0} (gates : Gates (Box Contents)) where
   AreNewSenders number (sends ∷ rows) (s ∷ senders) = IsNewSender number sends s × AreNewSenders (number + 1) rows senders
   AreNewSenders number _ _ = ⊥
 
-  -- an end of this number, which saw nothing and owes nobody a look
+  -- an end of this number, which saw nothing, got no claim and owes nobody a look
   pub record IsNewEnd (number : ℕ) (e : WorkerEnd A K) : Type 0 where
     pub ours : IsEndOf gates e.waker
     pub number_is : e.number ≡ number
     pub nobody : IsNobody e.waker.owed
     pub blank : (known_by e.waker.pass).log ≡ []
+    pub unclaimed : (known_by e.waker.pass).got ≡ []
 
   -- so are these, which are numbered on from this one
   abbrev pub AreNewEnds : ℕ → List (WorkerEnd A K) → Type 0
@@ -91,10 +96,11 @@ module _ {A K : Type 0} (gates : Gates (Box Contents)) where
     pub ours : IsEndOf gates end.waker
     pub first_end : (end.number ≡ 0) × IsNobody end.waker.owed
     pub created : IsCreated (known_by end.waker.pass)
+    pub unclaimed : (known_by end.waker.pass).got ≡ []
 
 -- A system of this plan, as it begins: the actors' homes are as the plan says, its queues of the plan's kinds and empty, and its pool of the
 -- plan's kind; there are its ends and its senders, unused; and one Create, to the guardian, is all that anybody put into a list: the first
--- end put it there.
+-- end put it there. Nobody got a claim, and beside the passes that these have there is none.
 pub record IsBegun {A K : Type 0} (gives : ℕ → Moment → Reply → Type 0) (plan : Plan) (built : Built A K) : Type 0 where
   pub together : BelongsTogether built
   pub kinds : List Kind
@@ -114,3 +120,5 @@ pub record IsBegun {A K : Type 0} (gives : ℕ → Moment → Reply → Type 0) 
   pub others_are : AreNewEnds built.system.gates 1 others
   pub first_end : (end.number ≡ 0) × IsNobody end.waker.owed
   pub created : IsCreated (known_by end.waker.pass)
+  pub unclaimed : (known_by end.waker.pass).got ≡ []
+  pub whole : IsWhole (shares_of_ends built.ends.items ++ shares_of_senders built.senders.items)

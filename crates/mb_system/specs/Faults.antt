@@ -7,6 +7,7 @@ use Rattle.mb_journal.specs.Entry.{Entry}
 use Rattle.mb_journal.specs.Run.Stopped.{NoRoom}
 use Rattle.mb_gate.specs.Names.{actors_of, known_by}
 use Rattle.mb_gate.specs.Untouched.{origin_of}
+use Rattle.mb_gate.specs.View.{View}
 use Rattle.mb_gate.specs.declared.claim.Claim.{Claim}
 use Rattle.mb_gate.specs.declared.gates.Gates.{Gates}
 use Rattle.mb_home.specs.Contents.{Contents}
@@ -38,9 +39,10 @@ module _ {A K : Type 0} (gives : ℕ → Moment → Reply → Type 0) (system : 
   pub record CameToLimit (end : WorkerEnd A K) : Type 0 where
     pub claim : Claim (Box Contents)
     pub fresh : IsFreshClaim gives (Some (origin_of system.gates)) claim
+    pub before : View
     pub journal : List Entry
     pub turn : Turn
-    pub left : LeavesRun system.throughput claim (known_by end.waker.pass) journal turn NoRoom
+    pub left : LeavesRun system.throughput claim before (known_by end.waker.pass) journal turn NoRoom
     pub full : claim.home.value.cell.who.limit ≤ length journal
 
   -- the end is broken off for this fault: `JournalFull` only where a journal came to its limit

@@ -1,6 +1,8 @@
 pub mod Enrolled
 pub mod Members
+pub mod Debts
 pub mod Belonging
+pub mod Shared
 pub mod Begun
 pub mod Founded
 pub mod Unbuilt

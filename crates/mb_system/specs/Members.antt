@@ -1,9 +1,11 @@
 -- Who belongs to a system (this project's own profile: in Akka a dispatcher knows its own threads alone).
 use Rattle.std.specs.Prelude.{◌≡◌, ℕ, ◌+◌, ◌<◌, false, List, All, drop, map, vec_len}
 use Rattle.std.specs.Global.{Box}
+use Rattle.std.specs.List.{AllZip}
 use Rattle.mb_msg.specs.declared.id.SenderId.{SenderId}
 use Rattle.mb_gate.specs.declared.gates.Gates.{Gates}
-use Rattle.mb_gate.specs.Names.{actors_of, first_of}
+use Rattle.mb_gate.specs.Names.{actors_of, first_of, known_by}
+use Rattle.mb_gate.specs.Rule.{IsPart}
 use Rattle.mb_home.specs.Contents.{Contents}
 use Rattle.mb_home.specs.Roll.{queues_of}
 use Rattle.mb_pool.specs.Places.{gates_of, looks}
@@ -52,6 +54,10 @@ module _ {A K : Type 0} where
 
   abbrev pub AreJobsOf : Gates (Box Contents) → List (Job A K) → Type 0
   AreJobsOf gates = All (λ (j : Job A K). IsSenderOf gates j.sender.inner)
+
+  -- what each of these ends saw is still among what it sees
+  abbrev pub SeeOn : List (WorkerEnd A K) → List (WorkerEnd A K) → Type 0
+  SeeOn = AllZip (λ (old new : WorkerEnd A K). IsPart (known_by old.waker.pass).log (known_by new.waker.pass).log)
 
   -- none of these ends owes anybody a look
   abbrev pub ArePaid : Gates (Box Contents) → List (WorkerEnd A K) → Type 0

@@ -9,11 +9,14 @@ use Rattle.mb_msg.specs.declared.system.SysMsg.TheVariants.{Terminate}
 use Rattle.mb_fates.specs.declared.posting.Posting.{Posting}
 use Rattle.mb_fates.specs.Accepted.{accepted}
 use Rattle.mb_gate.specs.Names.{actors_of, known_by}
+use Rattle.mb_gate.specs.Rule.{IsPart}
 use Rattle.mb_gate.specs.View.{Said}
 use Rattle.mb_gate.specs.declared.gates.Gates.{Gates}
 use Rattle.mb_home.specs.Contents.{Contents}
 use Rattle.mb_wake.specs.Owed.{is_owed}
 use Rattle.std.specs.List.{AllZip}
+use Rattle.mb_system.specs.Debts.{KeepsDebts}
+use Rattle.mb_system.specs.Members.{sender_caller}
 use Rattle.mb_system.specs.declared.job.Job.{Job}
 use Rattle.mb_system.specs.declared.order.Order.{Order}
 use Rattle.mb_system.specs.declared.order.What.{What}
@@ -47,22 +50,25 @@ said_to = map (λ (s : Said). (s.to, s.message))
 
 module _ {A K : Type 0} where
   -- The sender was answered for these envelopes, in order, after all that it was answered for before, and for nothing else; and it put, or found
-  -- the list ended, these Terminates, in order, and said nothing else: what was said stands with the newest first.
+  -- the list ended, these Terminates, in order, and said nothing else: what was said stands with the newest first. What it saw before it sees
+  -- still.
   pub record HasSent (orders : List Order) (old new : Sender A K) : Type 0 where
     pub by : new.inner.book.by ≡ old.inner.book.by
     pub more : List Posting
     pub posted : new.inner.book.posted ≡ old.inner.book.posted ++ more
     pub accepted_are : addressed (accepted more) ≡ told_by orders
     pub said : said_to (known_by new.inner.waker.pass).said ≡ reverse (stopped_by orders) ++ said_to (known_by old.inner.waker.pass).said
+    pub saw : IsPart (known_by old.inner.waker.pass).log (known_by new.inner.waker.pass).log
 
   -- nobody is owed a look by it
   abbrev pub OwesNobody : Gates (Box Contents) → Sender A K → Type 0
   OwesNobody gates s = (id : ℕ) → id < actors_of gates → is_owed s.inner.waker.owed id ≡ false
 
-  -- the job was done, by the sender that it had
+  -- the job was done, by the sender that it had, which let no debt go
   pub record IsDone (gates : Gates (Box Contents)) (old new : Job A K) : Type 0 where
     pub sent : HasSent old.sends.items old.sender new.sender
     pub nobody : OwesNobody gates new.sender
+    pub debts : KeepsDebts (actors_of gates) (sender_caller old.sender.inner.waker) (sender_caller new.sender.inner.waker)
     pub sends : new.sends ≡ old.sends
 
   -- so was each of these

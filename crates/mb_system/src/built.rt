@@ -4,7 +4,8 @@ use crate::sender::Sender;
 use crate::system::System;
 use mb_actor::{Actor, Behaviours};
 
-/// A system with its workers' ends and its senders, each in the order of their numbers.
+/// A system with its workers' ends and its senders, each in the order of their numbers. (This project's own profile: in Akka a
+/// dispatcher has its threads to itself, and anybody may send.)
 #[derive(Drop)]
 pub struct Built<A: Actor, K: Behaviours> {
     /// The system.

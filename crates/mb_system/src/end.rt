@@ -1,11 +1,13 @@
 //! A worker's end of a system.
-ghost use Rattle.std.specs.Prelude.{◌≡◌, ◌<◌, ◌≤◌, ℕ, false, List, All, IfNone, IfSome, IsErrOf, MatchResult, OnErr, OnOk, Some, length};
+ghost use Rattle.std.specs.Prelude.{◌≡◌, ◌<◌, ◌≤◌, ℕ, false, true, List, All, IfNone, IfSome, IsErrOf, MatchResult, OnErr, OnOk, Some, length};
+ghost use Rattle.mb_core.specs.Actor.{nothing};
 ghost use Rattle.mb_journal.specs.Entry.{Entry};
 ghost use Rattle.mb_journal.specs.Run.{Stopped};
 ghost use Rattle.mb_journal.specs.Run.Stopped.{NoRoom};
 ghost use Rattle.mb_gate.specs.Names.{actors_of, held_actor, known_by};
 ghost use Rattle.mb_gate.specs.Rule.{IsPart};
 ghost use Rattle.mb_gate.specs.Untouched.{origin_of};
+ghost use Rattle.mb_gate.specs.View.{owes};
 ghost use Rattle.mb_pool.specs.Places.{gates_of, looks};
 ghost use Rattle.mb_pool.specs.Moves.{WasEmpty};
 ghost use Rattle.mb_turn.specs.Caller.{IsPaid, LeavesCaller};
@@ -15,6 +17,7 @@ ghost use Rattle.mb_turn.specs.declared.turn.Turn.{Turn as TurnType};
 ghost use Rattle.mb_wake.specs.Owed.{is_owed};
 ghost use Rattle.mb_wake.specs.Views.{LooksAfter};
 ghost use Rattle.mb_wake.specs.Waking.{IsWoken};
+ghost use Rattle.mb_system.specs.Debts.{HasPaid, KeepsDebts};
 ghost use Rattle.mb_system.specs.Members.{end_caller, IsEndOf};
 
 use crate::failure::{RunError, of_debts};
@@ -31,7 +34,9 @@ use std::sync::Wait;
 /// A worker's end of a system: with its way into the pool of claims, what it knows of the actors, and whom it owes a look. A
 /// thread of its own may have it.
 pub struct WorkerEnd<A: Actor, K: Behaviours> {
+    /// Its number among the system's ends, from 0 on.
     pub number: u32,
+    /// What it knows of the actors, its way into the pool, and whom it owes a look.
     pub waker: Waker<Place<A, K>, EndWay<Place<A, K>>>,
 }
 
@@ -61,7 +66,10 @@ impl<A: Actor, K: Behaviours> WorkerEnd<A, K> {
     }
 
     /// Gives the claim of the actor to the pool, where the actor has to be given to a worker
-    /// (`Dispatcher.registerForExecution`), and answers whether it did.
+    /// (`Dispatcher.registerForExecution`), and answers whether it did. `messages` and `systems` say that envelopes, or system
+    /// messages, wait for it, and each spares a look (`Mailbox.canBeScheduledForExecution`); `false` says nothing.
+    ///
+    /// Where the pool refuses the claim, it goes home, and the actor is owed a look.
     pub fn register<R: Wait>(
         &mut self,
         rt: &R,
@@ -83,10 +91,12 @@ impl<A: Actor, K: Behaviours> WorkerEnd<A, K> {
             .register(rt, &system.gates, id, messages, systems)
     }
 
-    /// Does so for all actors, in the order of their numbers.
+    /// Does so for all actors, in the order of their numbers. Each is owed nothing then, or a look.
     pub fn register_all<R: Wait>(&mut self, rt: &R, system: &System<A, K>)
         requires ours { IsEndOf system.now.gates self.old.waker }
         ensures ours { IsEndOf system.now.gates self.new.waker }
+        ensures leaves { LeavesCaller (end_caller self.old.waker) (end_caller self.new.waker) }
+        ensures paid { HasPaid (actors_of system.now.gates) (end_caller self.new.waker) }
         ensures number { self.new.number ≡ self.old.number }
         ensures saw { IsPart (known_by self.old.waker.pass).log (known_by self.new.waker.pass).log }
     {
@@ -95,17 +105,24 @@ impl<A: Actor, K: Behaviours> WorkerEnd<A, K> {
         }
     }
 
-    /// Takes a claim out of the pool; `None` only if each place in which it looks was empty at a moment.
+    /// Takes the claim of an actor out of the pool, as it was pushed: the actor's mailbox is to be run. `None` only if each place in
+    /// which it looks was empty at a moment; then the end is as it was.
+    #[inline(always)]
     pub fn take<R: Wait>(&mut self, rt: &R) -> Option<Claim<Place<A, K>>>
         ensures fit { IfSome result (IsFreshClaim K.gives (gates_of self.old.waker.way.end)) }
-        ensures none { IfNone result (All (WasEmpty (IsFreshClaim K.gives)) (looks self.old.waker.way.end)) }
+        ensures none { IfNone result ((self.new ≡ self.old) × All (WasEmpty (IsFreshClaim K.gives)) (looks self.old.waker.way.end)) }
         ensures same { (self.new.waker.pass ≡ self.old.waker.pass) × (self.new.waker.owed ≡ self.old.waker.owed)
             × (gates_of self.new.waker.way.end ≡ gates_of self.old.waker.way.end) × (self.new.number ≡ self.old.number) }
     {
         self.waker.way.take(rt)
     }
 
-    /// Runs the mailbox of the claim's actor (`Mailbox.run`).
+    /// Runs the mailbox of the claim's actor (`Mailbox.run`), and gives the claim home; then the actor is given to the pool again
+    /// where it has to be.
+    ///
+    /// It answers `JournalFull` or `NoMemory` if there was no room for the next message, or for an envelope of an actor that ended:
+    /// then the run ends there, and what it did stays done. The claim went home all the same, and the end may be used on.
+    #[inline(always)]
     pub fn run_mailbox<R: Wait>(
         &mut self,
         rt: &R,
@@ -118,9 +135,10 @@ impl<A: Actor, K: Behaviours> WorkerEnd<A, K> {
         ensures leaves { LeavesCaller (end_caller self.old.waker) (end_caller self.new.waker) }
         ensures paid { IsPaid (held_actor claim) (end_caller self.new.waker) }
         ensures ran { (journal : List Entry) × MatchResult result
-            (λ turn. (stopped : Stopped) × HadRoom stopped × LeavesRun system.now.throughput claim (known_by self.new.waker.pass) journal turn
-            stopped)
-            (λ _. (turn : TurnType) × LeavesRun system.now.throughput claim (known_by self.new.waker.pass) journal turn NoRoom
+            (λ turn. (stopped : Stopped) × HadRoom stopped
+            × LeavesRun system.now.throughput claim (known_by self.old.waker.pass) (known_by self.new.waker.pass) journal turn stopped)
+            (λ _. (turn : TurnType)
+            × LeavesRun system.now.throughput claim (known_by self.old.waker.pass) (known_by self.new.waker.pass) journal turn NoRoom
             × (IsErrOf result ReadyError.JournalFull → claim.home.value.cell.who.limit ≤ length journal)) }
         ensures number { self.new.number ≡ self.old.number }
     {
@@ -128,10 +146,15 @@ impl<A: Actor, K: Behaviours> WorkerEnd<A, K> {
     }
 
     /// Looks again after each actor that it owes a look.
+    ///
+    /// It answers `NoMemory` if the pool refused a claim again: then that actor, and those after it, are owed a look still.
     pub fn pay<R: Wait>(&mut self, rt: &R, system: &System<A, K>) -> Result<(), RunError>
         requires ours { IsEndOf system.now.gates self.old.waker }
         ensures ours { IsEndOf system.now.gates self.new.waker }
+        ensures paid { OnOk result ((id : ℕ) → id < actors_of system.now.gates → is_owed self.old.waker.owed id ≡ true
+            → owes id (known_by self.new.waker.pass) ≡ nothing) }
         ensures done { OnOk result ((id : ℕ) → id < actors_of system.now.gates → is_owed self.new.waker.owed id ≡ false) }
+        ensures debts { OnOk result (KeepsDebts (actors_of system.now.gates) (end_caller self.old.waker) (end_caller self.new.waker)) }
         ensures refused { OnErr result (IsErrOf result RunError.NoMemory) }
         ensures number { self.new.number ≡ self.old.number }
         ensures saw { IsPart (known_by self.old.waker.pass).log (known_by self.new.waker.pass).log }

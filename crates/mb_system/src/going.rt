@@ -2,7 +2,7 @@
 use std::sync::atomic::{AtomicUsize, Ordering};
 
 /// How many jobs are open, and how many workers are busy. Jobs write it when they begin and end, workers when they find no
-/// claim and when they find one again: no message does.
+/// claim and when they find one again: no message does. (This project's own profile: Akka's threads wait in their executor.)
 #[derive(Drop)]
 pub struct Going {
     jobs: AtomicUsize,

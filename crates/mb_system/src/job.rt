@@ -1,7 +1,9 @@
 //! What a sender is to send in a run.
 ghost use Rattle.std.specs.Prelude.{◌≡◌, IfErr, OnOk};
+ghost use Rattle.mb_gate.specs.Names.{actors_of};
+ghost use Rattle.mb_system.specs.Debts.{KeepsDebts};
 ghost use Rattle.mb_system.specs.Faults.{BreaksSending};
-ghost use Rattle.mb_system.specs.Members.{IsSenderOf};
+ghost use Rattle.mb_system.specs.Members.{IsSenderOf, sender_caller};
 ghost use Rattle.mb_system.specs.Orders.{HasSent, OwesNobody};
 
 use crate::beside::Task;
@@ -29,6 +31,8 @@ impl<A: Actor, K: Behaviours> Job<A, K> {
         ensures by { self.new.sender.inner.book.by ≡ self.old.sender.inner.book.by }
         ensures sends { self.new.sends ≡ self.old.sends }
         ensures sent { OnOk result (HasSent self.old.sends.items self.old.sender self.new.sender × OwesNobody system.now.gates self.new.sender) }
+        ensures debts { OnOk result (KeepsDebts (actors_of system.now.gates) (sender_caller self.old.sender.inner.waker)
+            (sender_caller self.new.sender.inner.waker)) }
         ensures fault { IfErr result (BreaksSending system.now.gates self.old.sends.items) }
     {
         let outcome = send_and_pay(rt, system, &mut self.sender, &self.sends);
@@ -72,6 +76,8 @@ fn send_and_pay<A: Actor, K: Behaviours, R: Wait>(
     ensures ours { IsSenderOf system.now.gates sender.new.inner }
     ensures by { sender.new.inner.book.by ≡ sender.old.inner.book.by }
     ensures sent { OnOk result (HasSent orders.now sender.old sender.new × OwesNobody system.now.gates sender.new) }
+    ensures debts { OnOk result (KeepsDebts (actors_of system.now.gates) (sender_caller sender.old.inner.waker)
+        (sender_caller sender.new.inner.waker)) }
     ensures fault { IfErr result (BreaksSending system.now.gates orders.now) }
 {
     sender.send_all(rt, system, orders)?;

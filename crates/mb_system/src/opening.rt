@@ -1,11 +1,13 @@
 //! The ends and the senders of a new system.
-ghost use Rattle.std.specs.Prelude.{◌≡◌, ◌<◌, ◌≤◌, [], All, IfOk, Some, drop, length, map};
+ghost use Rattle.std.specs.Prelude.{◌≡◌, ◌<◌, ◌≤◌, ◌++◌, [], All, IfOk, Some, drop, length, map};
 ghost use Rattle.mb_msg.specs.Limits.{most_actors};
+ghost use Rattle.mb_rule.specs.Shares.{IsWhole};
 ghost use Rattle.mb_gate.specs.Names.{actors_of, first_of, gates_id, known_by, pass_id};
 ghost use Rattle.mb_gate.specs.Untouched.{origin_of};
 ghost use Rattle.mb_home.specs.Roll.{queues_of};
 ghost use Rattle.mb_pool.specs.Places.{gates_of};
 ghost use Rattle.mb_system.specs.Begun.{AreLedEnds, AreNewEnds, AreNewSenders, AreUnused, IsCreated};
+ghost use Rattle.mb_system.specs.Shared.{KeepsWhole, shares_of_ends, shares_of_senders};
 
 use crate::end::WorkerEnd;
 use crate::sender::Sender;
@@ -31,6 +33,9 @@ pub(crate) struct Opened<A: Actor, K: Behaviours> {
 }
 
 /// The ends of a new system and its senders; its first end has put a Create into the guardian's list.
+///
+/// The pass is the only one of these gates, and puts the Create there before the others are split off it: so nobody has ended
+/// that list. The others know nothing of it.
 pub(crate) fn open<A: Actor, K: Behaviours, R: Wait>(
     rt: &R,
     alloc: Global,
@@ -41,7 +46,8 @@ pub(crate) fn open<A: Actor, K: Behaviours, R: Wait>(
     outside: Vec<Vec<SendPass>>,
 ) -> Result<Opened<A, K>, AllocError>
     requires ours { pass_id pass ≡ gates_id gates.now }
-    requires blank { ((known_by pass).log ≡ []) × ((known_by pass).said ≡ []) }
+    requires blank { ((known_by pass).log ≡ []) × ((known_by pass).got ≡ []) }
+    requires whole { IsWhole (known_by pass).share }
     requires actors { (0 < actors_of gates.now) × (actors_of gates.now ≤ 64) }
     requires some { (0 < length ends.items) × (length ends.items ≤ 16) }
     requires ends { All (λ e. gates_of e ≡ Some (origin_of gates.now)) ends.items }
@@ -52,10 +58,11 @@ pub(crate) fn open<A: Actor, K: Behaviours, R: Wait>(
     ensures many { IfOk result (λ opened. length opened.ends.items ≡ length ends.items) }
     ensures ends { IfOk result (λ opened. AreLedEnds gates.now opened.ends.items) }
     ensures senders { IfOk result (λ opened. AreNewSenders gates.now most_actors (map (λ row. row.items) outside.items) opened.senders.items) }
+    ensures whole { IfOk result (λ opened. IsWhole (shares_of_ends opened.ends.items ++ shares_of_senders opened.senders.items)) }
 {
+    start(rt, alloc, gates, &mut pass)?;
     let senders = open_senders(alloc, gates, &mut pass, feeds, outside)?;
     let mut ends = open_ends(alloc, gates, &mut pass, ends)?;
-    start(rt, alloc, gates, &mut pass)?;
     give_first(gates, &mut ends, pass);
     Ok(Opened { ends, senders })
 }
@@ -69,13 +76,13 @@ fn open_senders<A: Actor, K: Behaviours>(
     outside: Vec<Vec<SendPass>>,
 ) -> Result<Vec<Sender<A, K>>, AllocError>
     requires ours { (pass_id pass.old ≡ gates_id gates.now) × (actors_of gates.now ≤ 64) }
-    requires blank { ((known_by pass.old).log ≡ []) × ((known_by pass.old).said ≡ []) }
     requires feeds { All (λ f. gates_of f ≡ Some (origin_of gates.now)) feeds.items }
     requires many { (length feeds.items ≡ length outside.items) × (length feeds.items ≤ 16) }
     requires outside { AreUnused (drop 1 (queues_of (first_of gates.now).value.roll)) (actors_of gates.now) most_actors
         (map (λ row. row.items) outside.items) }
     ensures ours { pass_id pass.new ≡ pass_id pass.old }
-    ensures blank { (known_by pass.new).log ≡ [] }
+    ensures kept { ((known_by pass.new).log ≡ (known_by pass.old).log) × ((known_by pass.new).got ≡ (known_by pass.old).got) }
+    ensures shares { IfOk result (λ senders. KeepsWhole (known_by pass.old).share (known_by pass.new).share (shares_of_senders senders.items)) }
     ensures opened { IfOk result (λ senders. AreNewSenders gates.now most_actors (map (λ row. row.items) outside.items) senders.items) }
 {
     let mut senders = Vec::with_capacity(alloc, feeds.len())?;
@@ -85,7 +92,7 @@ fn open_senders<A: Actor, K: Behaviours>(
             unreachable!();
         };
         let waker = Waker {
-            pass: gates.another(pass),
+            pass: gates.apart(pass),
             way: FeedWay::new(feed),
             owed: Owed::none(),
         };
@@ -104,17 +111,17 @@ fn open_ends<A: Actor, K: Behaviours>(
     ends: Vec<mb_pool::WorkerEnd<Place<A, K>>>,
 ) -> Result<Vec<WorkerEnd<A, K>>, AllocError>
     requires ours { (pass_id pass.old ≡ gates_id gates.now) × (actors_of gates.now ≤ 64) }
-    requires blank { (known_by pass.old).log ≡ [] }
     requires ends { All (λ e. gates_of e ≡ Some (origin_of gates.now)) ends.items }
     requires few { length ends.items ≤ 16 }
     ensures ours { pass_id pass.new ≡ pass_id pass.old }
-    ensures blank { (known_by pass.new).log ≡ [] }
+    ensures kept { ((known_by pass.new).log ≡ (known_by pass.old).log) × ((known_by pass.new).got ≡ (known_by pass.old).got) }
+    ensures shares { IfOk result (λ opened. KeepsWhole (known_by pass.old).share (known_by pass.new).share (shares_of_ends opened.items)) }
     ensures opened { IfOk result (λ opened. (length opened.items ≡ length ends.items) × AreNewEnds gates.now 0 opened.items) }
 {
     let mut opened = Vec::with_capacity(alloc, ends.len())?;
     for end in ends {
         let waker = Waker {
-            pass: gates.another(pass),
+            pass: gates.apart(pass),
             way: EndWay::new(end),
             owed: Owed::none(),
         };
@@ -124,7 +131,7 @@ fn open_ends<A: Actor, K: Behaviours>(
     Ok(opened)
 }
 
-// Puts a Create into the guardian's list. That the list of new gates is not ended is their rule, which is not known here.
+// Puts a Create into the guardian's list by the only pass that there is: it got no claim, so that the list is not ended.
 fn start<A: Actor, K: Behaviours, R: Wait>(
     rt: &R,
     alloc: Global,
@@ -132,17 +139,16 @@ fn start<A: Actor, K: Behaviours, R: Wait>(
     pass: &mut Pass<Place<A, K>>,
 ) -> Result<(), AllocError>
     requires ours { (pass_id pass.old ≡ gates_id gates.now) × (0 < actors_of gates.now) }
-    requires blank { (known_by pass.old).log ≡ [] }
+    requires blank { ((known_by pass.old).log ≡ []) × ((known_by pass.old).got ≡ []) }
+    requires whole { IsWhole (known_by pass.old).share }
     ensures ours { pass_id pass.new ≡ pass_id pass.old }
     ensures created { IfOk result (λ _. IsCreated (known_by pass.new)) }
+    ensures kept { IfOk result (λ _. ((known_by pass.new).got ≡ []) × IsWhole (known_by pass.new).share) }
 {
     let node = Node::new(alloc, SysMsg::Create)?;
     match gates.sys_enqueue(rt, pass, ActorId(0), node) {
         Ok(_) => Ok(()),
-        Err(_) => {
-            for _ in rt.forever() {}
-            unreachable!()
-        }
+        Err(_) => unreachable!(),
     }
 }
 
@@ -154,10 +160,12 @@ fn give_first<A: Actor, K: Behaviours>(
 )
     requires ours { pass_id pass ≡ gates_id gates.now }
     requires created { IsCreated (known_by pass) }
+    requires unclaimed { (known_by pass).got ≡ [] }
     requires some { 0 < length ends.old }
     requires ends { AreNewEnds gates.now 0 ends.old }
     ensures many { length ends.new ≡ length ends.old }
     ensures first { AreLedEnds gates.now ends.new }
+    ensures shares { shares_of_ends ends.new ≡ (known_by pass).share ++ shares_of_ends ends.old }
 {
     gates.absorb(&mut ends[0].waker.pass, pass);
 }

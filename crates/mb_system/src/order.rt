@@ -1,7 +1,9 @@
 //! What a sender outside the actors is to send.
 ghost use Rattle.std.specs.Prelude.{◌≡◌, [], ◌∷◌, IfErr, OnOk};
 ghost use Rattle.mb_system.specs.Faults.{BreaksSending};
-ghost use Rattle.mb_system.specs.Members.{IsSenderOf};
+ghost use Rattle.mb_gate.specs.Names.{actors_of};
+ghost use Rattle.mb_system.specs.Debts.{KeepsDebts};
+ghost use Rattle.mb_system.specs.Members.{IsSenderOf, sender_caller};
 ghost use Rattle.mb_system.specs.Orders.{HasSent};
 
 use crate::failure::{RunError, of_sending};
@@ -14,23 +16,24 @@ use std::sync::Wait;
 /// What is to be sent.
 #[derive(Clone, Copy, Debug, PartialEq, Eq)]
 pub enum What {
-    /// An envelope with this body.
+    /// An envelope with this body (`ActorRef.tell`).
     Tell(Body),
-    /// A Terminate.
+    /// A Terminate (`ActorSystem.stop`).
     Stop,
 }
 
 /// One thing that is to be sent.
 #[derive(Clone, Copy, Debug, PartialEq, Eq)]
 pub struct Order {
-    /// To whom.
+    /// To whom: an envelope to an actor from number 1 on, a Terminate also to the guardian.
     pub to: ActorId,
     /// What.
     pub what: What,
 }
 
 impl<A: Actor, K: Behaviours> Sender<A, K> {
-    /// Sends all this, in order. It stops at the first fault: `NoSuchActor` or `NoMemory` as a tell or a stop answers it.
+    /// Sends all this, in order. It stops at the first fault: `NoSuchActor` or `NoMemory` as a tell or a stop answers it. What was
+    /// sent before stays sent. Whom the sender owes a look then, a `pay` looks after.
     pub fn send_all<R: Wait>(
         &mut self,
         rt: &R,
@@ -41,6 +44,8 @@ impl<A: Actor, K: Behaviours> Sender<A, K> {
         ensures ours { IsSenderOf system.now.gates self.new.inner }
         ensures by { self.new.inner.book.by ≡ self.old.inner.book.by }
         ensures sent { OnOk result (HasSent orders.now self.old self.new) }
+        ensures debts { OnOk result (KeepsDebts (actors_of system.now.gates) (sender_caller self.old.inner.waker)
+            (sender_caller self.new.inner.waker)) }
         ensures fault { IfErr result (BreaksSending system.now.gates orders.now) }
     {
         for order in orders {
@@ -55,6 +60,8 @@ impl<A: Actor, K: Behaviours> Sender<A, K> {
         ensures ours { IsSenderOf system.now.gates self.new.inner }
         ensures by { self.new.inner.book.by ≡ self.old.inner.book.by }
         ensures sent { OnOk result (HasSent (order ∷ []) self.old self.new) }
+        ensures debts { OnOk result (KeepsDebts (actors_of system.now.gates) (sender_caller self.old.inner.waker)
+            (sender_caller self.new.inner.waker)) }
         ensures fault { IfErr result (BreaksSending system.now.gates (order ∷ [])) }
     {
         match order.what {

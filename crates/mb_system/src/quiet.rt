@@ -1,15 +1,14 @@
 //! Running on one thread alone.
 ghost use Rattle.std.specs.Prelude.{◌≡◌, All, IfErr, OnOk};
-ghost use Rattle.std.specs.Global.{Box};
-ghost use Rattle.mb_gate.specs.Names.{known_by};
+ghost use Rattle.mb_gate.specs.Names.{actors_of, known_by};
 ghost use Rattle.mb_gate.specs.Rule.{IsPart};
-ghost use Rattle.mb_home.specs.Contents.{Contents};
 ghost use Rattle.mb_pool.specs.Moves.{WasEmpty};
-ghost use Rattle.mb_pool.specs.Places.{Way, gates_of, looks};
+ghost use Rattle.mb_pool.specs.Places.{looks};
 ghost use Rattle.mb_turn.specs.Fresh.{IsFreshClaim};
 ghost use Rattle.mb_wake.specs.Owed.{IsNobody};
+ghost use Rattle.mb_system.specs.Debts.{OwesNothing};
 ghost use Rattle.mb_system.specs.Faults.{BreaksWork};
-ghost use Rattle.mb_system.specs.Members.{IsEndOf};
+ghost use Rattle.mb_system.specs.Members.{end_caller, IsEndOf};
 
 use crate::end::WorkerEnd;
 use crate::failure::RunError;
@@ -19,7 +18,9 @@ use mb_turn::Turn;
 use std::sync::Wait;
 
 impl<A: Actor, K: Behaviours> WorkerEnd<A, K> {
-    /// Runs claims on this thread alone, until none is there: the turns, in order. All actors are registered first.
+    /// Runs claims on this thread alone, until none is there: the turns, in order. All actors are registered first. By its last
+    /// take each place in which the end looks was empty at a moment, and the end owes no actor anything. (This project's own
+    /// profile: Akka's dispatchers have threads.)
     ///
     /// It answers `JournalFull` or `NoMemory` as a turn does, and `NoMemory` also if there was no room for one more turn, or the
     /// pool refused a claim again. What was done stays done, and the same call goes on.
@@ -31,8 +32,8 @@ impl<A: Actor, K: Behaviours> WorkerEnd<A, K> {
         requires ours { IsEndOf system.now.gates self.old.waker }
         ensures ours { IsEndOf system.now.gates self.new.waker }
         ensures paid { OnOk result (IsNobody self.new.waker.owed) }
-        ensures empty { OnOk result ((end : Way (Box Contents)) × (gates_of end ≡ gates_of self.new.waker.way.end)
-            × All (WasEmpty (IsFreshClaim K.gives)) (looks end)) }
+        ensures settled { OnOk result (OwesNothing (actors_of system.now.gates) (end_caller self.new.waker)) }
+        ensures empty { OnOk result (All (WasEmpty (IsFreshClaim K.gives)) (looks self.new.waker.way.end)) }
         ensures number { self.new.number ≡ self.old.number }
         ensures saw { IsPart (known_by self.old.waker.pass).log (known_by self.new.waker.pass).log }
         ensures fault { IfErr result (BreaksWork K.gives system.now self.new) }

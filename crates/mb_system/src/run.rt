@@ -1,7 +1,8 @@
 //! A run of all workers and some senders, each on a thread of its own.
 ghost use Rattle.std.specs.Prelude.{◌≡◌, IfErr, OnOk, length};
+ghost use Rattle.mb_system.specs.Debts.{KeepAllDebts};
 ghost use Rattle.mb_system.specs.Faults.{BreaksRun};
-ghost use Rattle.mb_system.specs.Members.{AreEndsOf, AreJobsOf, ArePaid, ends_numbers, jobs_senders};
+ghost use Rattle.mb_system.specs.Members.{AreEndsOf, AreJobsOf, ArePaid, SeeOn, ends_numbers, jobs_senders};
 ghost use Rattle.mb_system.specs.Orders.{AreDone};
 
 use crate::beside::{all_beside, first_of};
@@ -29,7 +30,9 @@ impl<A: Actor + Send, K: Behaviours + Send> System<A, K> {
         ensures ends { AreEndsOf self.now.gates ends.new × (ends_numbers ends.new ≡ ends_numbers ends.old) }
         ensures jobs { AreJobsOf self.now.gates jobs.new × (length jobs.new ≡ length jobs.old) }
         ensures by { jobs_senders jobs.new ≡ jobs_senders jobs.old }
+        ensures saw { SeeOn ends.old ends.new }
         ensures paid { OnOk result (ArePaid self.now.gates ends.new) }
+        ensures debts { OnOk result (KeepAllDebts self.now.gates ends.old ends.new) }
         ensures done { OnOk result (AreDone self.now.gates jobs.old jobs.new) }
         ensures fault { IfErr result (BreaksRun K.gives self.now ends.new jobs.old) }
     {
@@ -47,7 +50,9 @@ fn register_by_first<A: Actor, K: Behaviours, R: Wait>(
     ends: &mut [WorkerEnd<A, K>],
 )
     requires { AreEndsOf system.now.gates ends.old }
-    ensures { AreEndsOf system.now.gates ends.new × (ends_numbers ends.new ≡ ends_numbers ends.old) }
+    ensures ends { AreEndsOf system.now.gates ends.new × (ends_numbers ends.new ≡ ends_numbers ends.old) }
+    ensures saw { SeeOn ends.old ends.new }
+    ensures debts { KeepAllDebts system.now.gates ends.old ends.new }
 {
     if let Some(first) = ends.first_mut() {
         first.register_all(rt, system);

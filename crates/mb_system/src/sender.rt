@@ -1,12 +1,14 @@
 //! A sender outside the actors.
-ghost use Rattle.std.specs.Prelude.{◌≡◌, ◌⊎◌, ◌<◌, ◌≤◌, true, false, IfOk, IsErrOf, OnErr, OnOk};
+ghost use Rattle.std.specs.Prelude.{◌≡◌, ◌⊎◌, ℕ, ◌<◌, ◌≤◌, true, false, IfOk, IsErrOf, OnErr, OnOk};
 ghost use Rattle.mb_core.specs.Actor.{nothing};
 ghost use Rattle.mb_gate.specs.Names.{actors_of, known_by};
+ghost use Rattle.mb_gate.specs.Rule.{IsPart};
 ghost use Rattle.mb_gate.specs.View.{owes};
 ghost use Rattle.mb_send.specs.Answers.{IsSeen, IsSent, IsTold, Stops};
 ghost use Rattle.mb_send.specs.declared.unsent.Unsent.TheVariants as Refusal;
 ghost use Rattle.mb_wake.specs.Owed.{is_owed};
-ghost use Rattle.mb_system.specs.Members.{IsSenderOf};
+ghost use Rattle.mb_system.specs.Debts.{KeepsDebts};
+ghost use Rattle.mb_system.specs.Members.{IsSenderOf, sender_caller};
 ghost use Rattle.mb_system.specs.Orders.{OwesNobody};
 
 use crate::failure::{RunError, of_debts};
@@ -23,6 +25,7 @@ use std::sync::Wait;
 
 /// A sender outside the actors of a system. A thread of its own may have it.
 pub struct Sender<A: Actor, K: Behaviours> {
+    /// Its passes into the actors' queues, what it was answered, what it knows of the actors, and whom it owes a look.
     pub inner: mb_send::Sender<Place<A, K>, FeedWay<Place<A, K>>>,
 }
 
@@ -64,6 +67,8 @@ impl<A: Actor, K: Behaviours> Sender<A, K> {
     }
 
     /// Looks whether the receiver is open, by one reading of its status.
+    ///
+    /// It answers `NoSuchActor` for the guardian and for a number that no actor has; nothing is read then.
     pub fn look(&mut self, system: &System<A, K>, to: ActorId) -> Result<Look, Unsent>
         requires ours { IsSenderOf system.now.gates self.old.inner }
         ensures ours { IsSenderOf system.now.gates self.new.inner }
@@ -78,7 +83,11 @@ impl<A: Actor, K: Behaviours> Sender<A, K> {
         self.inner.look(&system.gates, to)
     }
 
-    /// Sends this body to the receiver of the ticket.
+    /// Sends this body to the receiver of the ticket, which may be used again. What a bounded queue refuses since it is full, or any
+    /// for want of memory, is a dead letter, which takes a number too.
+    ///
+    /// It answers `NoMemory` if there was no room for the dead letter that it might become, or the sender's last number is used up:
+    /// then nothing is sent, and no number is used.
     pub fn put<R: Wait>(
         &mut self,
         rt: &R,
@@ -96,11 +105,15 @@ impl<A: Actor, K: Behaviours> Sender<A, K> {
             self.new.inner.book.posted self.old.inner.sends.items (known_by self.old.inner.waker.pass) (known_by self.new.inner.waker.pass)) }
         ensures paid { IfOk result (λ _. (owes ticket.to.0 (known_by self.new.inner.waker.pass) ≡ nothing)
             ⊎ (is_owed self.new.inner.waker.owed ticket.to.0 ≡ true)) }
+        ensures still { (id : ℕ) → is_owed self.old.inner.waker.owed id ≡ true → is_owed self.new.inner.waker.owed id ≡ true }
     {
         self.inner.put(rt, &system.gates, ticket, body)
     }
 
-    /// Looks, and puts where the receiver was seen open (`ActorRef.tell`).
+    /// Looks, and puts where the receiver was seen open (`ActorRef.tell`). To one that was seen closed the envelope is a dead
+    /// letter.
+    ///
+    /// It answers `NoSuchActor` as a look does, and else `NoMemory` as a put does: then nothing is sent, and no number is used.
     pub fn tell<R: Wait>(
         &mut self,
         rt: &R,
@@ -118,11 +131,15 @@ impl<A: Actor, K: Behaviours> Sender<A, K> {
             self.new.inner.book.posted self.old.inner.sends.items (known_by self.old.inner.waker.pass) (known_by self.new.inner.waker.pass)) }
         ensures paid { IfOk result (λ _. (owes to.0 (known_by self.new.inner.waker.pass) ≡ nothing)
             ⊎ (is_owed self.new.inner.waker.owed to.0 ≡ true)) }
+        ensures still { (id : ℕ) → is_owed self.old.inner.waker.owed id ≡ true → is_owed self.new.inner.waker.owed id ≡ true }
     {
         self.inner.tell(rt, &system.gates, to, body)
     }
 
-    /// Sends a Terminate to the actor, which may be the guardian (`ActorSystem.stop`); `false` if its list is ended.
+    /// Sends a Terminate to the actor, which may be the guardian (`ActorSystem.stop`); `false` if its list is ended: then the
+    /// message went nowhere.
+    ///
+    /// It answers `NoSuchActor` for a number that no actor has, and else `NoMemory` if memory was refused: then nothing has changed.
     pub fn stop<R: Wait>(
         &mut self,
         rt: &R,
@@ -138,16 +155,24 @@ impl<A: Actor, K: Behaviours> Sender<A, K> {
         ensures same { (self.new.inner.book ≡ self.old.inner.book) × (self.new.inner.sends ≡ self.old.inner.sends) }
         ensures paid { IfOk result (λ _. (owes id.0 (known_by self.new.inner.waker.pass) ≡ nothing)
             ⊎ (is_owed self.new.inner.waker.owed id.0 ≡ true)) }
+        ensures still { (other : ℕ) → is_owed self.old.inner.waker.owed other ≡ true → is_owed self.new.inner.waker.owed other ≡ true }
     {
         self.inner.stop(rt, &system.gates, id)
     }
 
     /// Looks again after each actor that it owes a look.
+    ///
+    /// It answers `NoMemory` if the pool refused a claim again: then that actor, and those after it, are owed a look still.
     pub fn pay<R: Wait>(&mut self, rt: &R, system: &System<A, K>) -> Result<(), RunError>
         requires ours { IsSenderOf system.now.gates self.old.inner }
         ensures ours { IsSenderOf system.now.gates self.new.inner }
         ensures by { self.new.inner.book.by ≡ self.old.inner.book.by }
+        ensures paid { OnOk result ((id : ℕ) → id < actors_of system.now.gates → is_owed self.old.inner.waker.owed id ≡ true
+            → owes id (known_by self.new.inner.waker.pass) ≡ nothing) }
         ensures done { OnOk result (OwesNobody system.now.gates self.new) }
+        ensures debts { OnOk result (KeepsDebts (actors_of system.now.gates) (sender_caller self.old.inner.waker)
+            (sender_caller self.new.inner.waker)) }
+        ensures saw { IsPart (known_by self.old.inner.waker.pass).log (known_by self.new.inner.waker.pass).log }
         ensures refused { OnErr result (IsErrOf result RunError.NoMemory) }
         ensures same { ((known_by self.new.inner.waker.pass).said ≡ (known_by self.old.inner.waker.pass).said)
             × (self.new.inner.book ≡ self.old.inner.book) × (self.new.inner.sends ≡ self.old.inner.sends) }

@@ -3,10 +3,12 @@ ghost use Rattle.std.specs.Prelude.{◌≡◌, ◌<◌, ℕ, false, true, IfErr,
 ghost use Rattle.mb_gate.specs.Names.{actors_of, known_by};
 ghost use Rattle.mb_gate.specs.Rule.{IsPart};
 ghost use Rattle.mb_gate.specs.Untouched.{origin_of};
+ghost use Rattle.mb_turn.specs.Caller.{LeavesCaller};
 ghost use Rattle.mb_turn.specs.Fresh.{IsFreshClaim};
 ghost use Rattle.mb_wake.specs.Owed.{is_owed};
+ghost use Rattle.mb_system.specs.Debts.{KeepsDebts};
 ghost use Rattle.mb_system.specs.Faults.{BreaksWork};
-ghost use Rattle.mb_system.specs.Members.{IsEndOf};
+ghost use Rattle.mb_system.specs.Members.{IsEndOf, end_caller};
 
 use crate::beside::Task;
 use crate::end::WorkerEnd;
@@ -19,15 +21,17 @@ use mb_turn::{Place, Turn};
 use std::sync::Wait;
 
 impl<A: Actor, K: Behaviours> WorkerEnd<A, K> {
-    /// Runs claims until no claim exists and no job of a run is open.
+    /// Runs claims until no claim exists and no job of a run is open. Whom it owed a look then, it looked after again.
     ///
     /// It stops at the first fault: `JournalFull` or `NoMemory` as a turn answers it, and `NoMemory` if the pool refused a claim
-    /// again.
+    /// again. What was done stays done.
     pub fn work<R: Wait>(&mut self, rt: &R, system: &System<A, K>) -> Result<(), RunError>
         requires ours { IsEndOf system.now.gates self.old.waker }
         ensures ours { IsEndOf system.now.gates self.new.waker }
         ensures paid { OnOk result ((id : ℕ) → id < actors_of system.now.gates → is_owed self.new.waker.owed id ≡ false) }
+        ensures debts { OnOk result (KeepsDebts (actors_of system.now.gates) (end_caller self.old.waker) (end_caller self.new.waker)) }
         ensures number { self.new.number ≡ self.old.number }
+        ensures saw { IsPart (known_by self.old.waker.pass).log (known_by self.new.waker.pass).log }
         ensures fault { IfErr result (BreaksWork K.gives system.now self.new) }
     {
         system.going.enter();
@@ -41,7 +45,9 @@ impl<A: Actor, K: Behaviours> WorkerEnd<A, K> {
         requires ours { IsEndOf system.now.gates self.old.waker }
         ensures ours { IsEndOf system.now.gates self.new.waker }
         ensures paid { OnOk result ((id : ℕ) → id < actors_of system.now.gates → is_owed self.new.waker.owed id ≡ false) }
+        ensures debts { OnOk result (KeepsDebts (actors_of system.now.gates) (end_caller self.old.waker) (end_caller self.new.waker)) }
         ensures number { self.new.number ≡ self.old.number }
+        ensures saw { IsPart (known_by self.old.waker.pass).log (known_by self.new.waker.pass).log }
         ensures fault { IfErr result (BreaksWork K.gives system.now self.new) }
     {
         for _ in rt.forever() {
@@ -58,7 +64,9 @@ impl<A: Actor, K: Behaviours> WorkerEnd<A, K> {
         requires ours { IsEndOf system.now.gates self.old.waker }
         ensures ours { IsEndOf system.now.gates self.new.waker }
         ensures paid { OnOk result ((id : ℕ) → id < actors_of system.now.gates → is_owed self.new.waker.owed id ≡ false) }
+        ensures debts { OnOk result (KeepsDebts (actors_of system.now.gates) (end_caller self.old.waker) (end_caller self.new.waker)) }
         ensures number { self.new.number ≡ self.old.number }
+        ensures saw { IsPart (known_by self.old.waker.pass).log (known_by self.new.waker.pass).log }
         ensures fault { IfErr result (BreaksWork K.gives system.now self.new) }
     {
         for _ in rt.forever() {
@@ -80,8 +88,8 @@ impl<A: Actor, K: Behaviours> WorkerEnd<A, K> {
         requires ours { IsEndOf system.now.gates self.old.waker }
         requires untouched { IsFreshClaim K.gives (Some (origin_of system.now.gates)) claim }
         ensures ours { IsEndOf system.now.gates self.new.waker }
+        ensures leaves { LeavesCaller (end_caller self.old.waker) (end_caller self.new.waker) }
         ensures number { self.new.number ≡ self.old.number }
-        ensures saw { IsPart (known_by self.old.waker.pass).log (known_by self.new.waker.pass).log }
         ensures fault { IfErr result (BreaksWork K.gives system.now self.new) }
     {
         match self.run_mailbox(rt, system, claim) {
@@ -96,7 +104,9 @@ impl<A: Actor, K: Behaviours> WorkerEnd<A, K> {
         requires paid { (id : ℕ) → id < actors_of system.now.gates → is_owed self.old.waker.owed id ≡ false }
         ensures ours { IsEndOf system.now.gates self.new.waker }
         ensures paid { OnOk result (result ≡ Ok true → (id : ℕ) → id < actors_of system.now.gates → is_owed self.new.waker.owed id ≡ false) }
+        ensures debts { OnOk result (KeepsDebts (actors_of system.now.gates) (end_caller self.old.waker) (end_caller self.new.waker)) }
         ensures number { self.new.number ≡ self.old.number }
+        ensures saw { IsPart (known_by self.old.waker.pass).log (known_by self.new.waker.pass).log }
         ensures fault { IfErr result (BreaksWork K.gives system.now self.new) }
     {
         system.going.leave();
@@ -120,23 +130,29 @@ impl<A: Actor, K: Behaviours> WorkerEnd<A, K> {
 
 impl<A: Actor, K: Behaviours> Task<System<A, K>> for WorkerEnd<A, K> {
     ghost use Rattle.std.specs.Prelude.{◌≡◌, ◌<◌, ℕ, false, IfErr, OnOk};
-    ghost use Rattle.mb_gate.specs.Names.{actors_of};
+    ghost use Rattle.mb_gate.specs.Names.{actors_of, known_by};
+    ghost use Rattle.mb_gate.specs.Rule.{IsPart};
     ghost use Rattle.mb_wake.specs.Owed.{is_owed};
+    ghost use Rattle.mb_system.specs.Debts.{KeepsDebts};
     ghost use Rattle.mb_system.specs.Faults.{BreaksWork};
-    ghost use Rattle.mb_system.specs.Members.{IsEndOf};
+    ghost use Rattle.mb_system.specs.Members.{IsEndOf, end_caller};
 
     ghost ready = { λ system end. IsEndOf system.gates end.waker };
 
-    ghost keeps = { λ system old new. IsEndOf system.gates new.waker × (new.number ≡ old.number) };
+    ghost keeps = { λ system old new. IsEndOf system.gates new.waker × (new.number ≡ old.number)
+        × IsPart (known_by old.waker.pass).log (known_by new.waker.pass).log };
 
-    ghost done = { λ system old new. (id : ℕ) → id < actors_of system.gates → is_owed new.waker.owed id ≡ false };
+    ghost done = { λ system old new. ((id : ℕ) → id < actors_of system.gates → is_owed new.waker.owed id ≡ false)
+        × KeepsDebts (actors_of system.gates) (end_caller old.waker) (end_caller new.waker) };
 
     ghost fails = { λ system old new fault. BreaksWork K.gives system new fault };
 
     fn perform<R: Wait>(&mut self, rt: &R, shared: &System<A, K>) -> Result<(), RunError>
         requires ready { IsEndOf shared.now.gates self.old.waker }
-        ensures keeps { IsEndOf shared.now.gates self.new.waker × (self.new.number ≡ self.old.number) }
-        ensures done { OnOk result ((id : ℕ) → id < actors_of shared.now.gates → is_owed self.new.waker.owed id ≡ false) }
+        ensures keeps { IsEndOf shared.now.gates self.new.waker × (self.new.number ≡ self.old.number)
+            × IsPart (known_by self.old.waker.pass).log (known_by self.new.waker.pass).log }
+        ensures done { OnOk result (((id : ℕ) → id < actors_of shared.now.gates → is_owed self.new.waker.owed id ≡ false)
+            × KeepsDebts (actors_of shared.now.gates) (end_caller self.old.waker) (end_caller self.new.waker)) }
         ensures fails { IfErr result (BreaksWork K.gives shared.now self.new) }
     {
         self.work(rt, shared)

@@ -15,6 +15,7 @@ use Rattle.mb_turn.specs.Hold.{Hold}
 use Rattle.mb_turn.specs.Ran.{IsTurning}
 use Rattle.mb_turn.specs.Running.{IsRunning, IsBeside, KeepsJournal, SameRun, counted_by}
 use Rattle.mb_turn.proofs.BesideLemmas.{beside-home, same-run-then}
+use Rattle.mb_turn.proofs.EmptiedLemmas.{takes-same}
 use Rattle.mb_turn.proofs.RunningSteps.{running-same}
 use Rattle.mb_turn.proofs.TurningLemmas.{systems-few, turns-few}
 
@@ -49,6 +50,7 @@ module _ (h : Hold) (new : Contents) (ready : Bool) (room : ℕ)
       actor = refl;
       who = who;
       before = refl;
+      takes = takes-same _ _ (ap (λ (x : Contents). x.take) same);
       counted = ap (λ (x : Contents). length x.take.taken + counted_by h) same;
     };
     journal = journal;

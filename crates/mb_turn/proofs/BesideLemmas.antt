@@ -9,6 +9,7 @@ use Rattle.mb_home.specs.Contents.{Contents}
 use Rattle.mb_home.specs.Steps.{IsRested}
 use Rattle.mb_turn.specs.Hold.{Hold}
 use Rattle.mb_turn.specs.Running.{IsBeside, KeepsJournal, SameRun, counted_by}
+use Rattle.mb_turn.proofs.EmptiedLemmas.{takes-same, takes-then}
 
 pub match-both : (b : Bool) (P Q P' Q' : Type 0) → (P → P') → (Q → Q') → MatchBool b P Q → MatchBool b P' Q'
 match-both true P Q P' Q' f g p = f p
@@ -54,7 +55,10 @@ beside-closed h shut count none = record {
 
 -- a run that keeps the journal, step after step
 pub keeps-same : (h : Hold) → KeepsJournal h h
-keeps-same h = record { same = record { actor = refl; who = refl; before = refl; counted = refl }; journal = refl }
+keeps-same h = record {
+  same = record { actor = refl; who = refl; before = refl; takes = takes-same _ _ refl; counted = refl };
+  journal = refl;
+}
 
 -- as many were counted as came out, first and then
 pub counted-then : (a b c x y z : ℕ) → b + x ≡ a + y → c + y ≡ b + z → c + x ≡ a + z
@@ -66,6 +70,7 @@ keeps-then a b c p q = record {
     actor = q.same.actor ∙ p.same.actor;
     who = q.same.who ∙ p.same.who;
     before = q.same.before ∙ p.same.before;
+    takes = takes-then _ _ _ p.same.takes q.same.takes;
     counted = counted-then _ _ _ (counted_by a) (counted_by b) (counted_by c) p.same.counted q.same.counted;
   };
   journal = q.journal ∙ p.journal;
@@ -76,5 +81,6 @@ same-run-then a b c p q = record {
   actor = q.actor ∙ p.actor;
   who = q.who ∙ p.who;
   before = q.before ∙ p.before;
+  takes = takes-then _ _ _ p.takes q.takes;
   counted = counted-then _ _ _ (counted_by a) (counted_by b) (counted_by c) p.counted q.counted;
 }

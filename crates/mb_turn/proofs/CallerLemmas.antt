@@ -2,16 +2,16 @@
 use Rattle.std.proofs.Common.{◌≡◌, ◌≢◌, ◌==◌, ◌||◌, ◌⊎◌, inl, inr, ℕ, Bool, true, false, List, [], ◌∷◌, ◌++◌}
 use Rattle.std.proofs.Common.{refl, sym, ap, ◌∙◌, subst, arith, append_assoc, append-nil}
 use Rattle.std.proofs.lemmas.Bool.Decides.{nat_tests}
+use Rattle.mb_rule.proofs.SeenLemmas.{each_append}
 use Rattle.mb_gate.specs.declared.claim.Claim.{Claim}
 use Rattle.mb_gate.specs.Names.{held_actor}
 use Rattle.mb_gate.specs.Rule.{IsAmong}
 use Rattle.mb_gate.specs.View.{View, Sight, Said, owes}
 use Rattle.mb_gate.proofs.Numbers.{among_first, among_left, among_right}
 use Rattle.mb_wake.specs.Owed.{is_owed}
-use Rattle.mb_wake.specs.Views.{Does}
 use Rattle.mb_wake.specs.Waking.{Account, WasRefused, IsWoken}
 use Rattle.mb_wake.proofs.Bits.{same_or_other}
-use Rattle.mb_turn.specs.Caller.{Caller, OwesForRefusals, IsPaid, GoesFurther}
+use Rattle.mb_turn.specs.Caller.{Caller, OwesForRefusals, IsNoTake, IsPaid, GoesFurther}
 
 -- it was owed a look before, or its claim was refused
 abbrev OwedOr : {H : Type 0} → Account H → List (Claim H) → ℕ → Type 0
@@ -67,11 +67,12 @@ module _ {H : Type 0} where
   account-woken id a b false (inr refused) = from-refused id a b refused
 
   pub further-none : (c : Caller H) → GoesFurther c c
-  further-none c = record { more = []; log = refl; account = account-none c.account; debts = λ id. inr refl; share = refl }
+  further-none c = record { more = []; took_none = tt; log = refl; account = account-none c.account; debts = λ id. inr refl; share = refl }
 
   pub further-then : (a b c : Caller H) → GoesFurther a b → GoesFurther b c → GoesFurther a c
   further-then a b c p q = record {
     more = q.more ++ p.more;
+    took_none = each_append IsNoTake q.more p.more q.took_none p.took_none;
     log = q.log ∙ ap (λ l. q.more ++ l) p.log ∙ sym (append_assoc q.more p.more a.view.log);
     account = account-then a.account b.account c.account p.account q.account;
     debts = λ id. by_last id (q.debts id);
@@ -88,25 +89,11 @@ module _ {H : Type 0} where
       by_last id (inl paid) = inl paid
       by_last id (inr kept) = by_first id kept (p.debts id)
 
-  -- something was done at one actor, which was woken then
-  pub further-by : (id : ℕ) (did : List Sight) (told : List Said) (a b : Caller H) → Does id did told a.view b.view →
-      OwesForRefusals a.account b.account → IsPaid id b → GoesFurther a b
-  further-by id did told a b does account paid = record {
-    more = does.looks ++ did;
-    log = does.log;
-    account = account;
-    debts = λ other. by_actor other (same_or_other other id);
-    share = does.share;
-  }
-    where
-      by_actor : (other : ℕ) → (other ≡ id) ⊎ (other ≢ id) → IsPaid other b ⊎ (owes other b.view ≡ owes other a.view)
-      by_actor other (inl same) = inl (subst (λ n. IsPaid n b) (sym same) paid)
-      by_actor other (inr apart) = inr (does.others other apart)
-
   -- it only said something
   pub further-said : (said : List Said) (a b : Caller H) → b.view ≡ record a.view { said = said } → b.account ≡ a.account → GoesFurther a b
   further-said said a b same account = record {
     more = [];
+    took_none = tt;
     log = ap (λ (v : View). v.log) same;
     account = subst (OwesForRefusals a.account) (sym account) (account-none a.account);
     debts = λ id. inr (ap (owes id) same);

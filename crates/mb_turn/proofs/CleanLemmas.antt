@@ -23,10 +23,12 @@ use Rattle.mb_home.specs.AtHome.{given_of, mailbox_at}
 use Rattle.mb_home.specs.Contents.{Contents}
 use Rattle.mb_home.specs.Settled.{IsSettled}
 use Rattle.mb_turn.specs.Dry.{DrainedLast, WasEnded}
+use Rattle.mb_turn.specs.Emptied.{TakesOn}
 use Rattle.mb_turn.specs.Hold.{Hold, hold_of}
 use Rattle.mb_turn.specs.Notice.{IsAnswered}
 use Rattle.mb_turn.specs.Running.{IsRunning, KeepsJournal, SameRun}
 use Rattle.mb_turn.proofs.CountLemmas.{counted-still, counted-more, counts-one}
+use Rattle.mb_turn.proofs.EmptiedLemmas.{takes-same}
 use Rattle.mb_turn.proofs.HoldLemmas.{hold-taken, hold-ended, hold-recorded}
 use Rattle.mb_turn.proofs.LeadLemmas.{leads-closed}
 use Rattle.mb_turn.proofs.RunningSteps.{running-same, running-dropped_first, running-parting, running-taken, running-ended}
@@ -109,7 +111,7 @@ module _ (c new : Claim (Box Contents)) (ours : (claim_id new ≡ claim_id c) ×
 
   -- it came out of the queue just before
   module _ (before : Contents) (who : c.home.value.cell.who ≡ before.cell.who)
-      (more : length c.home.value.take.taken ≡ length before.take.taken + 1) where
+      (more : length c.home.value.take.taken ≡ length before.take.taken + 1) (takes : TakesOn before.take c.home.value.take) where
     pub same-taken : SameRun (record (hold_of c) { home = before }) (hold_of new)
     same-taken =
         subst (SameRun (record (hold_of c) { home = before })) (sym hold-one)
@@ -117,6 +119,7 @@ module _ (c new : Claim (Box Contents)) (ours : (claim_id new ≡ claim_id c) ×
           actor = refl;
           who = who;
           before = refl;
+          takes = takes;
           counted = counted-more _ _ (total (counted_off (held_actor c)) (known_of c).log) _ more (counts-one (held_actor c));
         })
 
@@ -155,6 +158,7 @@ module _ (c new : Claim (Box Contents)) (ours : (claim_id new ≡ claim_id c) ×
           actor = refl;
           who = refl;
           before = refl;
+          takes = takes-same _ _ refl;
           counted = counted-still _ _ (total (counted_off (held_actor c)) (known_of c).log) refl;
         };
         journal = refl;

@@ -24,6 +24,7 @@ use Rattle.mb_turn.specs.Hold.{Hold, hold_of}
 use Rattle.mb_turn.specs.Ran.{IsDrained}
 use Rattle.mb_turn.specs.Running.{IsRunning, IsBeside, KeepsJournal}
 use Rattle.mb_turn.proofs.CountLemmas.{counted-still}
+use Rattle.mb_turn.proofs.EmptiedLemmas.{takes-same}
 use Rattle.mb_turn.proofs.HoldLemmas.{hold-drained}
 use Rattle.mb_turn.proofs.RunningSteps.{running-drained, running-kept}
 use Rattle.mb_turn.proofs.TellingLemmas.{settled-here}
@@ -65,6 +66,7 @@ module _ (c mid : Claim (Box Contents)) (ours : (claim_id mid ≡ claim_id c) ×
           actor = refl;
           who = ap (λ (x : Seen). x.who) cell;
           before = refl;
+          takes = takes-same _ _ (ap (λ (x : Contents). x.take) kept_here);
           counted = counted-still _ _ (total (counted_off (held_actor c)) (known_of c).log) (ap (λ (x : Contents). length x.take.taken) kept_here);
         };
         journal = ap (λ (x : Seen). x.journal) cell;

@@ -1,6 +1,6 @@
 -- Why a run takes no envelope more, and what one that was taken makes of it.
 use Rattle.std.proofs.Common.{◌≡◌, ◌⊎◌, inl, inr, ℕ, ◌*◌, ◌<◌, Bool, true, false, List, [], refl, sym, ap, ◌∙◌, subst}
-use Rattle.std.specs.Prelude.{not, nat_lt, ◌&&◌}
+use Rattle.std.specs.Prelude.{not, nat_lt, ◌&&◌, OnOk, Result}
 use Rattle.std.specs.Global.{Box}
 use Rattle.mb_status.specs.Mailbox.{word_of, should_process}
 use Rattle.mb_actor.specs.Behaviour.{Moment, Reply}
@@ -11,31 +11,41 @@ use Rattle.mb_journal.specs.Suspension.{count}
 use Rattle.mb_cell.specs.Seen.{Seen}
 use Rattle.mb_gate.specs.Untouched.{Origin}
 use Rattle.mb_gate.specs.View.{Sight}
+use Rattle.mb_queue.specs.Passes.{Taking}
 use Rattle.mb_home.specs.Contents.{Contents}
 use Rattle.mb_home.specs.Settled.{IsSettled}
 use Rattle.mb_home.specs.Steps.{FindsNone}
+use Rattle.mb_turn.specs.Emptied.{TakesOn}
 use Rattle.mb_turn.specs.Hold.{Hold}
-use Rattle.mb_turn.specs.Ran.{IsDrained, IsEnough, EndsDrained, HadRoom}
+use Rattle.mb_turn.specs.Ran.{AsksInVain, IsDrained, IsEnough, EndsDrained, HadRoom}
 use Rattle.mb_turn.specs.Running.{IsRunning}
 use Rattle.mb_turn.proofs.CleanLemmas.{running-within, ended-closed}
+use Rattle.mb_turn.proofs.EmptiedLemmas.{finds-one, finds-then, ok-so, take-none}
 use Rattle.mb_turn.proofs.ReadingLemmas.{open-reading, shut-reading}
 use Rattle.mb_turn.proofs.RunningMoves.{status-at}
 
--- this was a reason to take no envelope more, and the run's last step at the list was a drain that gave nothing, unless it is closed
-abbrev pub IsWhy : Hold → Type 0
-IsWhy h = (stopped : Stopped) × IsEnough h.home.cell.who h.home.cell.journal stopped × EndsDrained h.actor h.log stopped
+-- this was a reason to take no envelope more, where the pass was this one before, and the run's last step at the list was a drain that gave
+-- nothing, unless it is closed
+abbrev pub IsWhy : Taking → Hold → Type 0
+IsWhy from h = (stopped : Stopped) × IsEnough h.home.cell.who h.home.cell.journal stopped × EndsDrained h.actor h.log stopped
+    × AsksInVain from h.home.take stopped
+
+-- the run stopped, for this reason
+abbrev pub HasStopped : Taking → Hold → ℕ → ℕ → Type 0
+HasStopped from h throughput n = (stopped : Stopped) × HadRoom stopped × EndsDrained h.actor h.log stopped × AsksInVain from h.home.take stopped
+    × IsReason h.home.cell.who throughput n h.home.cell.journal stopped
 
 module _ (gives : ℕ → Moment → Reply → Type 0) (origin : Origin (Box Contents)) (seen : List Sight) (h : Hold)
     (r : IsRunning gives origin [] seen h) where
-  at-closing : h.status.closed ≡ true → IsWhy h
-  at-closing shut = (AtClosing, ended-closed gives origin seen h [] shut r, tt)
+  at-closing : h.status.closed ≡ true → IsWhy h.home.take h
+  at-closing shut = (AtClosing, ended-closed gives origin seen h [] shut r, tt, tt)
 
   -- the status was not open
-  pub why-not-open : (h.status.closed ≡ true) ⊎ IsDrained h → should_process h.status ≡ false → IsWhy h
+  pub why-not-open : (h.status.closed ≡ true) ⊎ IsDrained h → should_process h.status ≡ false → IsWhy h.home.take h
   why-not-open (inl shut) not_open = at-closing shut
   why-not-open (inr drained) not_open = by_test h.status.closed refl
     where
-      by_test : (b : Bool) → h.status.closed ≡ b → IsWhy h
+      by_test : (b : Bool) → h.status.closed ≡ b → IsWhy h.home.take h
       by_test true shut = at-closing shut
       by_test false open_yet = (
         NotOpen (4 * count h.home.cell.who h.home.cell.journal),
@@ -45,6 +55,7 @@ module _ (gives : ℕ → Moment → Reply → Type 0) (origin : Origin (Box Con
           drained.none,
         ),
         drained.last,
+        tt,
       )
 
   -- it was, so that the run drained all
@@ -60,12 +71,8 @@ module _ (gives : ℕ → Moment → Reply → Type 0) (origin : Origin (Box Con
   drained-open (inr drained) t = drained
 
   -- no envelope was there
-  pub why-none : IsDrained h → should_process h.status ≡ true → IsWhy h
-  why-none drained t = (
-    NoEnvelope (word_of h.status),
-    (open-reading h.status h.home.cell.who h.home.cell.journal (status-at h r.leads) t, drained.none),
-    drained.last,
-  )
+  none-there : IsDrained h → should_process h.status ≡ true → IsEnough h.home.cell.who h.home.cell.journal (NoEnvelope (word_of h.status))
+  none-there drained t = (open-reading h.status h.home.cell.who h.home.cell.journal (status-at h r.leads) t, drained.none)
 
   -- the home has another pass for its queue
   module _ (new : Contents) (f : FindsNone h.home new) (none : h.home.cell.acts ≡ []) where
@@ -76,9 +83,15 @@ module _ (gives : ℕ → Moment → Reply → Type 0) (origin : Origin (Box Con
         (running-within gives origin seen h (subst (λ l. IsRunning gives origin l seen h) (sym none) r) new cell
         (ap (λ (x : Contents). x.roll) f.same) (ap (λ (x : Contents). x.dead) f.same) settled (ap (λ (x : Contents). x.rest) f.same))
 
-  -- where the cell stays, so does the reason
-  pub why-same : (new : Contents) → new.cell ≡ h.home.cell → IsWhy h → IsWhy (record h { home = new })
-  why-same new cell w = (w.0, subst (λ (c : Seen). IsEnough c.who c.journal w.0) (sym cell) w.1, w.2)
+    -- and this is why the run stops
+    pub why-none : IsDrained h → should_process h.status ≡ true → IsWhy h.home.take (record h { home = new })
+    why-none drained t =
+        let word = word_of h.status in (
+          NoEnvelope word,
+          subst (λ (x : Contents). IsEnough x.cell.who x.cell.journal (NoEnvelope word)) (sym f.same) (none-there drained t),
+          drained.last,
+          finds-one h.home.take new.take (take-none h.home new f),
+        )
 
 -- a drain that gave nothing is the last still
 pub drained-home : (h : Hold) (new : Contents) → new.cell.who ≡ h.home.cell.who → new.cell.journal ≡ h.home.cell.journal → IsDrained h →
@@ -88,21 +101,35 @@ drained-home h new who journal d = record { last = d.last; none = (λ i. next_fr
 -- ---- why a run stopped
 
 -- by now, with fewer envelopes than the throughput allows
-pub reason-why : (h : Hold) (throughput n : ℕ) → n < most_envelopes throughput → IsWhy h →
-    (stopped : Stopped) × HadRoom stopped × EndsDrained h.actor h.log stopped × IsReason h.home.cell.who throughput n h.home.cell.journal stopped
-reason-why h throughput n less w = by_reason w.0 w.1 w.2
+pub reason-why : (from before : Taking) (h : Hold) (throughput n : ℕ) → n < most_envelopes throughput → TakesOn from before → IsWhy before h →
+    HasStopped from h throughput n
+reason-why from before h throughput n less takes w = by_reason w.0 w.1 w.2 w.3
   where
     by_reason : (stopped : Stopped) → IsEnough h.home.cell.who h.home.cell.journal stopped → EndsDrained h.actor h.log stopped →
-        (s : Stopped) × HadRoom s × EndsDrained h.actor h.log s × IsReason h.home.cell.who throughput n h.home.cell.journal s
-    by_reason UsedUp enough ends = absurd enough
-    by_reason (NotOpen word) enough ends = (NotOpen word, tt, ends, (less, enough.0, enough.1))
-    by_reason (NoEnvelope word) enough ends = (NoEnvelope word, tt, ends, (less, enough.0, enough.1))
-    by_reason AtClosing enough ends = (AtClosing, tt, ends, enough)
-    by_reason NoRoom enough ends = absurd enough
+        AsksInVain before h.home.take stopped → HasStopped from h throughput n
+    by_reason UsedUp enough ends asked = absurd enough
+    by_reason (NotOpen word) enough ends asked = (NotOpen word, tt, ends, tt, (less, enough.0, enough.1))
+    by_reason (NoEnvelope word) enough ends asked =
+        (NoEnvelope word, tt, ends, finds-then from before h.home.take takes asked, (less, enough.0, enough.1))
+    by_reason AtClosing enough ends asked = (AtClosing, tt, ends, tt, enough)
+    by_reason NoRoom enough ends asked = absurd enough
 
 -- with as many
-pub reason-used : (gives : ℕ → Moment → Reply → Type 0) (origin : Origin (Box Contents)) (seen : List Sight) (h : Hold) (throughput n : ℕ) →
-    IsRunning gives origin [] seen h → n ≡ most_envelopes throughput → (h.status.closed ≡ true) ⊎ IsDrained h →
-    (stopped : Stopped) × HadRoom stopped × EndsDrained h.actor h.log stopped × IsReason h.home.cell.who throughput n h.home.cell.journal stopped
-reason-used gives origin seen h throughput n r all (inl shut) = (AtClosing, tt, tt, ended-closed gives origin seen h [] shut r)
-reason-used gives origin seen h throughput n r all (inr drained) = (UsedUp, tt, drained.last, (all, drained.none))
+pub reason-used : (gives : ℕ → Moment → Reply → Type 0) (origin : Origin (Box Contents)) (seen : List Sight) (from : Taking) (h : Hold)
+    (throughput n : ℕ) → IsRunning gives origin [] seen h → n ≡ most_envelopes throughput → (h.status.closed ≡ true) ⊎ IsDrained h →
+    HasStopped from h throughput n
+reason-used gives origin seen from h throughput n r all (inl shut) = (AtClosing, tt, tt, tt, ended-closed gives origin seen h [] shut r)
+reason-used gives origin seen from h throughput n r all (inr drained) = (UsedUp, tt, drained.last, tt, (all, drained.none))
+
+-- the takes of a run begin before
+pub stopped-from : {T E : Type 0} (from before : Taking) (h : Hold) (throughput n : ℕ) → TakesOn from before → (r : Result T E) →
+    OnOk r (HasStopped before h throughput n) → OnOk r (HasStopped from h throughput n)
+stopped-from from before h throughput n takes r = ok-so r (λ s. by_reason s.0 s.1 s.2 s.3 s.4)
+  where
+    by_reason : (stopped : Stopped) → HadRoom stopped → EndsDrained h.actor h.log stopped → AsksInVain before h.home.take stopped →
+        IsReason h.home.cell.who throughput n h.home.cell.journal stopped → HasStopped from h throughput n
+    by_reason UsedUp had ends asked reason = (UsedUp, had, ends, tt, reason)
+    by_reason (NotOpen word) had ends asked reason = (NotOpen word, had, ends, tt, reason)
+    by_reason (NoEnvelope word) had ends asked reason = (NoEnvelope word, had, ends, finds-then from before h.home.take takes asked, reason)
+    by_reason AtClosing had ends asked reason = (AtClosing, had, ends, tt, reason)
+    by_reason NoRoom had ends asked reason = (NoRoom, had, ends, tt, reason)

@@ -3,7 +3,6 @@ use Rattle.std.proofs.Common.{◌≡◌, inl, ℕ, false, List, [], ◌∷◌, �
 use Rattle.std.specs.Prelude.{MatchBool}
 use Rattle.std.specs.Global.{Box}
 use Rattle.mb_status.specs.Mailbox.{Mailbox}
-use Rattle.mb_msg.specs.declared.envelope.Envelope.{Envelope}
 use Rattle.mb_actor.specs.Behaviour.{Moment, Reply}
 use Rattle.mb_journal.specs.Life.{closed}
 use Rattle.mb_journal.specs.Run.{IsTurns}
@@ -77,14 +76,13 @@ module _ (gives : ℕ → Moment → Reply → Type 0) (origin : Origin (Box Con
     log-fresh = ap (λ (v : View). v.log) u.known
 
     -- and all that came out of the queue was begun
-    pub taken-begun : length c.home.value.take.taken ≡ length (begun c.home.value.cell.journal)
+    pub taken-begun : c.home.value.take.taken ≡ begun c.home.value.cell.journal
     taken-begun =
         let h = c.home.value in
         let same = same-word (mailbox_at h.cell.who h.cell.journal) (status_of c) refl u.open_yet u.word in
         let open_yet : closed h.cell.who h.cell.journal ≡ false = sym (ap (λ (m : Mailbox). m.closed) same) ∙ u.open_yet in
-        ap (λ (l : List Envelope). length l)
-        (u.ours.own.settled.taken ∙ ap (λ l. begun h.cell.journal ++ l) (u.ours.own.settled.open_keeps open_yet)
-        ∙ append-nil (begun h.cell.journal))
+        u.ours.own.settled.taken ∙ ap (λ l. begun h.cell.journal ++ l) (u.ours.own.settled.open_keeps open_yet)
+        ∙ append-nil (begun h.cell.journal)
 
     pub running-fresh : (seen : List Sight) → length origin.first.value.roll ≡ origin.actors → IsRunning gives origin [] seen (hold_of c)
     running-fresh seen many =

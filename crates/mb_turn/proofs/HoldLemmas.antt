@@ -47,6 +47,24 @@ module _ (c new : Claim (Box Contents)) (ours : (claim_id new ≡ claim_id c) ×
     share = (known i).share;
   }
 
+  -- nothing was changed
+  pub hold-same : status_of new ≡ status_of c → (taken_with new ≡ taken_with c) × (closed_with new ≡ closed_with c) → recorded_by new ≡ recorded_by c →
+      known_of new ≡ known_of c → gave_last new ≡ gave_last c → given_to new ≡ given_to c → hold_of new ≡ hold_of c
+  hold-same status taken recorded known gave given = λ i. record {
+    gates = ours.0 i;
+    actor = ours.1 i;
+    status = status i;
+    home = (home i).value;
+    before = taken.0 i;
+    closed_to = taken.1 i;
+    gave = gave i;
+    given = given i;
+    recorded = recorded i;
+    log = (known i).log;
+    debts = (known i).debts;
+    share = (known i).share;
+  }
+
   module _ (status : status_of new ≡ status_of c) (taken : (taken_with new ≡ taken_with c) × (closed_with new ≡ closed_with c))
       (recorded : recorded_by new ≡ recorded_by c) (result : List (ℕ × SysMsg)) (given : given_to new ≡ given_after (given_to c) result) where
     -- the list was drained

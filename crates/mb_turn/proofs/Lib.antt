@@ -8,6 +8,7 @@ pub mod SettledLemmas
 pub mod RunningSteps
 pub mod BesideLemmas
 pub mod CountLemmas
+pub mod EmptiedLemmas
 pub mod RunningMoves
 pub mod AnswerLemmas
 pub mod NamedLemmas

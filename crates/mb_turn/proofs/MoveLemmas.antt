@@ -1,23 +1,49 @@
 -- What a caller did at one actor and saw there, step after step.
 use Rattle.std.proofs.Common.{◌≡◌, ◌≢◌, ◌⊎◌, inl, inr, ℕ, List, ◌++◌, sym, ap, ◌∙◌, subst, append_assoc}
+use Rattle.mb_rule.specs.Seen.{Each}
+use Rattle.mb_rule.proofs.SeenLemmas.{each_append, each_weaker}
 use Rattle.mb_gate.specs.View.{View, Sight, Said, owes}
-use Rattle.mb_wake.specs.Views.{Does}
+use Rattle.mb_gate.specs.View.{Read, Saw, Counted, Looked, Sent, Unsent, Took, Pushed, Drained, Ended}
+use Rattle.mb_wake.specs.Views.{Does, IsLook}
 use Rattle.mb_wake.proofs.Bits.{same_or_other}
-use Rattle.mb_turn.specs.Caller.{Caller, OwesForRefusals, IsPaid, GoesFurther}
+use Rattle.mb_turn.specs.Caller.{Caller, OwesForRefusals, IsNoTake, IsPaid, GoesFurther}
 
 -- it saw more, has the share that it had, and owes every other actor what it owed before
 pub record Moves (id : ℕ) (old new : View) : Type 0 where
   pub more : List Sight
+  pub took_none : Each IsNoTake more
   pub log : new.log ≡ more ++ old.log
   pub others : (other : ℕ) → other ≢ id → owes other new ≡ owes other old
   pub share : new.share ≡ old.share
 
-pub moves-does : (id : ℕ) (did : List Sight) (told : List Said) (a b : View) → Does id did told a b → Moves id a b
-moves-does id did told a b d = record { more = d.looks ++ did; log = d.log; others = d.others; share = d.share }
+look-takes-none : (id : ℕ) (s : Sight) → IsLook id s → IsNoTake s
+look-takes-none id (Read a word) look = tt
+look-takes-none id (Saw a journal) look = tt
+look-takes-none id (Counted a waiting) look = tt
+look-takes-none id (Looked a has_work) look = tt
+look-takes-none id (Sent a n) look = tt
+look-takes-none id (Unsent a n) look = tt
+look-takes-none id (Took a n) look = look
+look-takes-none id (Pushed a number message) look = tt
+look-takes-none id (Drained a given) look = tt
+look-takes-none id (Ended a given) look = tt
+
+pub looks-take-none : (id : ℕ) (looks : List Sight) → Each (IsLook id) looks → Each IsNoTake looks
+looks-take-none id looks = each_weaker (IsLook id) IsNoTake looks (look-takes-none id)
+
+pub moves-does : (id : ℕ) (did : List Sight) (told : List Said) (a b : View) → Each IsNoTake did → Does id did told a b → Moves id a b
+moves-does id did told a b none d = record {
+  more = d.looks ++ did;
+  took_none = each_append IsNoTake d.looks did (looks-take-none id d.looks d.only) none;
+  log = d.log;
+  others = d.others;
+  share = d.share;
+}
 
 pub moves-then : (id : ℕ) (a b c : View) → Moves id a b → Moves id b c → Moves id a c
 moves-then id a b c p q = record {
   more = q.more ++ p.more;
+  took_none = each_append IsNoTake q.more p.more q.took_none p.took_none;
   log = q.log ∙ ap (λ l. q.more ++ l) p.log ∙ sym (append_assoc q.more p.more a.log);
   others = λ other apart. q.others other apart ∙ p.others other apart;
   share = q.share ∙ p.share;
@@ -28,6 +54,7 @@ pub further-moves : {H : Type 0} (id : ℕ) (a b : Caller H) → Moves id a.view
     GoesFurther a b
 further-moves id a b m account paid = record {
   more = m.more;
+  took_none = m.took_none;
   log = m.log;
   account = account;
   debts = λ other. by_actor other (same_or_other other id);

@@ -18,6 +18,7 @@ use Rattle.mb_turn.specs.Notice.{IsAnswered, IsNotified, asker}
 use Rattle.mb_turn.specs.Running.{IsRunning, IsBeside, KeepsJournal}
 use Rattle.mb_turn.proofs.AnswerLemmas.{asker-told, running-answer}
 use Rattle.mb_turn.proofs.BesideLemmas.{beside-recorded, keeps-same}
+use Rattle.mb_turn.proofs.EmptiedLemmas.{takes-same}
 use Rattle.mb_turn.proofs.HoldLemmas.{hold-recorded}
 use Rattle.mb_turn.proofs.RunningSteps.{running-seen, running-listed}
 
@@ -40,7 +41,10 @@ module _ (c new : Claim (Box Contents)) (said : Said) (r : IsRecorded c new said
   pub keeps-recorded : KeepsJournal (hold_of c) (hold_of new)
   keeps-recorded =
       subst (KeepsJournal (hold_of c)) (sym (hold-recorded c new said r))
-      (record { same = record { actor = refl; who = refl; before = refl; counted = refl }; journal = refl })
+      (record {
+        same = record { actor = refl; who = refl; before = refl; takes = takes-same _ _ refl; counted = refl };
+        journal = refl;
+      })
 
   pub beside-said : IsBeside (hold_of c) → IsBeside (hold_of new)
   beside-said s = subst IsBeside (sym (hold-recorded c new said r)) (beside-recorded (hold_of c) s (recorded_by c ++ said ∷ []))

@@ -13,6 +13,7 @@ use Rattle.mb_home.specs.Contents.{Contents}
 use Rattle.mb_turn.specs.Hold.{Hold, hold_of}
 use Rattle.mb_turn.specs.Running.{IsRunning, IsBeside, KeepsJournal}
 use Rattle.mb_turn.proofs.BesideLemmas.{beside-status}
+use Rattle.mb_turn.proofs.EmptiedLemmas.{takes-same}
 use Rattle.mb_turn.proofs.HoldLemmas.{hold-written}
 use Rattle.mb_turn.proofs.RunningSteps.{running-suspend, running-resume, running-close}
 
@@ -24,7 +25,10 @@ module _ (c new : Claim (Box Contents)) (m : Mailbox) (word : ℕ) (ours : (clai
   pub keeps-written : KeepsJournal (hold_of c) (hold_of new)
   keeps-written =
       subst (KeepsJournal (hold_of c)) (sym hold-status)
-      (record { same = record { actor = refl; who = refl; before = refl; counted = refl }; journal = refl })
+      (record {
+        same = record { actor = refl; who = refl; before = refl; takes = takes-same _ _ refl; counted = refl };
+        journal = refl;
+      })
 
   pub beside-written : m.closed ≡ (status_of c).closed → IsBeside (hold_of c) → IsBeside (hold_of new)
   beside-written same s = subst IsBeside (sym hold-status) (beside-status (hold_of c) s m same)

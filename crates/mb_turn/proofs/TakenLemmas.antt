@@ -21,6 +21,7 @@ use Rattle.mb_turn.specs.Running.{IsRunning, IsBeside, SameRun}
 use Rattle.mb_turn.specs.declared.turn.Turn.{Turn}
 use Rattle.mb_turn.proofs.BesideLemmas.{beside-log}
 use Rattle.mb_turn.proofs.CountLemmas.{counted-more, counts-one, one-more}
+use Rattle.mb_turn.proofs.EmptiedLemmas.{take-begun, takes-one}
 use Rattle.mb_turn.proofs.RunningMoves.{running-begun, beside-begun}
 use Rattle.mb_turn.proofs.RunningSteps.{running-taken}
 use Rattle.mb_turn.proofs.TurningLemmas.{turning-begun}
@@ -39,6 +40,7 @@ module _ (h : Hold) (after : Contents) (counted : Claim (Box Contents))
         actor = refl;
         who = ap (λ (x : Seen). x.who) b.taken.adds;
         before = refl;
+        takes = takes-one _ _ _ (take-begun h.home new reading b);
         counted = counted-more _ _ (total (counted_off h.actor) h.log) _ (one-more new.take.taken h.home.take.taken b.envelope b.took)
             (counts-one h.actor);
       })

@@ -20,15 +20,18 @@ use Rattle.mb_rule.specs.Seen.{Each}
 use Rattle.mb_gate.specs.Untouched.{Origin}
 use Rattle.mb_gate.specs.View.{View, Sight, Read, owes, seeing, reading}
 use Rattle.mb_home.specs.AtHome.{closed_receivers, receiver_if_closed}
+use Rattle.mb_queue.specs.Passes.{Taking}
 use Rattle.mb_home.specs.Contents.{Contents}
 use Rattle.mb_home.specs.Settled.{IsSettled}
 use Rattle.mb_home.specs.Steps.{Pushes, Buries, next_envelope, reason_of}
 use Rattle.mb_home.proofs.SettleLemmas.{many-sends}
 use Rattle.mb_home.proofs.TellSteps.{told-there}
 use Rattle.mb_wake.proofs.Views.{owes-same}
+use Rattle.mb_turn.specs.Emptied.{TakesOn}
 use Rattle.mb_turn.specs.Hold.{Hold}
 use Rattle.mb_turn.specs.Running.{IsRunning, IsBeside, KeepsJournal, IsShutTo, counted_by}
 use Rattle.mb_turn.proofs.BesideLemmas.{beside-home}
+use Rattle.mb_turn.proofs.EmptiedLemmas.{takes-same}
 use Rattle.mb_turn.proofs.RunningSteps.{running-seen, running-same, running-told}
 use Rattle.mb_turn.proofs.ShutLemmas.{shut-buried, shut-read}
 
@@ -62,16 +65,21 @@ paid-closed id m a b shut known =
 -- ---- a home whose cell and whose drained messages stay
 
 module _ (h : Hold) (new : Contents) (cell : new.cell ≡ h.home.cell) where
-  pub keeps-home : new.take.taken ≡ h.home.take.taken → KeepsJournal h (record h { home = new })
-  keeps-home taken = record {
+  -- and whose pass takes, but gives nothing
+  pub keeps-asked : new.take.taken ≡ h.home.take.taken → TakesOn h.home.take new.take → KeepsJournal h (record h { home = new })
+  keeps-asked taken takes = record {
     same = record {
       actor = refl;
       who = ap (λ (c : Seen). c.who) cell;
       before = refl;
+      takes = takes;
       counted = ap (λ (l : List Envelope). length l + counted_by h) taken;
     };
     journal = ap (λ (c : Seen). c.journal) cell;
   }
+
+  pub keeps-home : new.take ≡ h.home.take → KeepsJournal h (record h { home = new })
+  keeps-home take = keeps-asked (ap (λ (k : Taking). k.taken) take) (takes-same _ _ take)
 
   pub beside-cell : new.rest ≡ h.home.rest → new.dropped ≡ h.home.dropped → IsBeside h → IsBeside (record h { home = new })
   beside-cell rest dropped s =
@@ -85,6 +93,7 @@ module _ (h : Hold) (new : Contents) (same : new ≡ record h.home { cell = reco
       actor = refl;
       who = ap (λ (x : Contents). x.cell.who) same;
       before = refl;
+      takes = takes-same _ _ (ap (λ (x : Contents). x.take) same);
       counted = ap (λ (x : Contents). length x.take.taken + counted_by h) same;
     };
     journal = ap (λ (x : Contents). x.cell.journal) same;

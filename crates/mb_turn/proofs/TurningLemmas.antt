@@ -16,6 +16,7 @@ use Rattle.mb_turn.specs.declared.turn.Turn.{Turn}
 use Rattle.mb_turn.specs.Hold.{Hold}
 use Rattle.mb_turn.specs.Ran.{IsTurning, systems_in}
 use Rattle.mb_turn.specs.Running.{KeepsJournal, SameRun, counted_by}
+use Rattle.mb_turn.proofs.EmptiedLemmas.{takes-same}
 
 -- no more than there are entries
 pub systems-few : (journal : List Entry) → systems_in journal ≤ length journal
@@ -85,5 +86,6 @@ module _ (h : Hold) (new : Contents) (turn : Turn) (t : IsTurning h turn) where
     actor = refl;
     who = ap (λ (c : Seen). c.who) a.taken.adds;
     before = refl;
+    takes = takes-same _ _ (ap (λ (x : Contents). x.take) a.same);
     counted = ap (λ (x : Contents). length x.take.taken + counted_by h) a.same;
   }

@@ -1,6 +1,7 @@
 pub mod Hold
 pub mod Told
 pub mod Dry
+pub mod Emptied
 pub mod Running
 pub mod Caller
 pub mod Ran

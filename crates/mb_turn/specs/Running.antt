@@ -16,6 +16,7 @@ use Rattle.mb_home.specs.Settled.{IsSettled}
 use Rattle.mb_home.specs.Steps.{IsRested}
 use Rattle.mb_gate.specs.Untouched.{Origin}
 use Rattle.mb_turn.specs.Dry.{TakesDry}
+use Rattle.mb_turn.specs.Emptied.{TakesOn}
 use Rattle.mb_turn.specs.Hold.{Hold}
 use Rattle.mb_turn.specs.Told.{IsSaidBut}
 
@@ -55,11 +56,13 @@ pub record IsBeside (hold : Hold) : Type 0 where
 abbrev pub counted_by : Hold → ℕ
 counted_by hold = total (counted_off hold.actor) hold.log
 
--- The run is of the same actor, and goes on from the same journal; as many envelopes were counted as taken as came out of the queue.
+-- The run is of the same actor, and goes on from the same journal; its pass takes, and as many envelopes were counted as taken as came out
+-- of the queue.
 pub record SameRun (old new : Hold) : Type 0 where
   pub actor : new.actor ≡ old.actor
   pub who : new.home.cell.who ≡ old.home.cell.who
   pub before : new.before ≡ old.before
+  pub takes : TakesOn old.home.take new.home.take
   pub counted : length new.home.take.taken + counted_by old ≡ length old.home.take.taken + counted_by new
 
 -- carrying out changes no journal

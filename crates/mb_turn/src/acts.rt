@@ -1,10 +1,11 @@
 //! The acts of a message.
-ghost use Rattle.std.specs.Prelude.{◌≡◌, [], ◌∷◌, IsErrOf, OnErr};
+ghost use Rattle.std.specs.Prelude.{◌≡◌, [], ◌∷◌, true, IsErrOf, OnErr, OnOk};
 ghost use Rattle.mb_books.specs.ActQueue.{act_of};
 ghost use Rattle.mb_journal.specs.Acts.Act.{CloseSelf};
 ghost use Rattle.mb_gate.specs.Names.{known_by};
 ghost use Rattle.mb_gate.specs.Untouched.{origin_of};
 ghost use Rattle.mb_turn.specs.Caller.{IsWakerOf, caller_of, GoesFurther};
+ghost use Rattle.mb_turn.specs.Emptied.{FindsNoMore, IsCleared};
 ghost use Rattle.mb_turn.specs.Hold.{hold_of};
 ghost use Rattle.mb_turn.specs.Running.{IsRunning, IsBeside, KeepsJournal};
 
@@ -22,6 +23,7 @@ use std::sync::Wait;
 
 /// Carries out the acts of the last message, in order. It answers `NoMemory` if a place for an envelope of an actor that
 /// ended was refused; the other acts are carried out all the same.
+#[inline(always)]
 pub(crate) fn carry_out<A: Actor, K: Behaviours, W: Way<Place<A, K>>, R: Wait>(
     rt: &R,
     gates: &Gates<Place<A, K>>,
@@ -36,6 +38,7 @@ pub(crate) fn carry_out<A: Actor, K: Behaviours, W: Way<Place<A, K>>, R: Wait>(
     ensures beside { IsBeside (hold_of claim.new) }
     ensures carried_out { claim.new.home.value.cell.acts ≡ [] }
     ensures same { KeepsJournal (hold_of claim.old) (hold_of claim.new) }
+    ensures cleared { OnOk result (IsCleared (hold_of claim.old) (hold_of claim.new)) }
     ensures goes { GoesFurther (caller_of W.pushed W.refused waker.old) (caller_of W.pushed W.refused waker.new) }
     ensures refused { OnErr result (IsErrOf result ReadyError.NoMemory) }
 {
@@ -48,7 +51,8 @@ pub(crate) fn carry_out<A: Actor, K: Behaviours, W: Way<Place<A, K>>, R: Wait>(
 
 // What is answered.
 fn answer_of(is_clean: bool) -> Result<(), ReadyError>
-    ensures { OnErr result (IsErrOf result ReadyError.NoMemory) }
+    ensures refused { OnErr result (IsErrOf result ReadyError.NoMemory) }
+    ensures clean { OnOk result (is_clean ≡ true) }
 {
     if is_clean {
         Ok(())
@@ -74,6 +78,7 @@ fn carry<A: Actor, K: Behaviours, W: Way<Place<A, K>>, R: Wait>(
     ensures beside { IsBeside (hold_of claim.new) }
     ensures left { claim.new.home.value.cell.acts ≡ claim.old.home.value.cell.acts }
     ensures same { KeepsJournal (hold_of claim.old) (hold_of claim.new) }
+    ensures cleared { OnOk result (IsCleared (hold_of claim.old) (hold_of claim.new)) }
     ensures goes { GoesFurther (caller_of W.pushed W.refused waker.old) (caller_of W.pushed W.refused waker.new) }
 {
     match act {
@@ -113,6 +118,7 @@ fn close<A: Actor, K: Behaviours, W: Way<Place<A, K>>, R: Wait>(
     ensures beside { IsBeside (hold_of claim.new) }
     ensures left { claim.new.home.value.cell.acts ≡ claim.old.home.value.cell.acts }
     ensures same { KeepsJournal (hold_of claim.old) (hold_of claim.new) }
+    ensures emptied { OnOk result (FindsNoMore claim.old.home.value.take claim.new.home.value.take) }
     ensures goes { GoesFurther (caller_of W.pushed W.refused waker.old) (caller_of W.pushed W.refused waker.new) }
 {
     gates.close_mailbox(claim);

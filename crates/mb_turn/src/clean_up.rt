@@ -1,11 +1,12 @@
 //! What is done with what is left when an actor ends (`Mailbox.cleanUp`).
-ghost use Rattle.std.specs.Prelude.{◌≡◌, [], true, List};
+ghost use Rattle.std.specs.Prelude.{◌≡◌, [], true, List, OnOk};
 ghost use Rattle.mb_gate.specs.Names.{known_by, known_of, held_actor, status_of, given_to};
 ghost use Rattle.mb_gate.specs.View.{Sight};
 ghost use Rattle.mb_home.specs.AtHome.{given_of};
 ghost use Rattle.mb_gate.specs.Untouched.{origin_of};
 ghost use Rattle.mb_turn.specs.Caller.{IsWakerOf, caller_of, GoesFurther};
 ghost use Rattle.mb_turn.specs.Dry.{WasEnded};
+ghost use Rattle.mb_turn.specs.Emptied.{FindsNoMore};
 ghost use Rattle.mb_turn.specs.Hold.{hold_of};
 ghost use Rattle.mb_turn.specs.Running.{IsRunning, IsBeside, KeepsJournal};
 
@@ -35,6 +36,7 @@ pub(crate) fn clean_up<A: Actor, K: Behaviours, W: Way<Place<A, K>>, R: Wait>(
     ensures beside { IsBeside (hold_of claim.new) }
     ensures left { claim.new.home.value.cell ≡ claim.old.home.value.cell }
     ensures same { KeepsJournal (hold_of claim.old) (hold_of claim.new) }
+    ensures emptied { OnOk result (FindsNoMore claim.old.home.value.take claim.new.home.value.take) }
     ensures goes { GoesFurther (caller_of W.pushed W.refused waker.old) (caller_of W.pushed W.refused waker.new) }
 {
     let listed = gates.sys_close(rt, claim);
@@ -88,6 +90,7 @@ fn clean_envelopes<A: Actor, K: Behaviours, R: Wait>(
     ensures given { (given_of claim.new.home.value ≡ given_of claim.old.home.value) × (given_to claim.new ≡ given_to claim.old) }
     ensures left { claim.new.home.value.cell ≡ claim.old.home.value.cell }
     ensures same { KeepsJournal (hold_of claim.old) (hold_of claim.new) }
+    ensures emptied { OnOk result (FindsNoMore claim.old.home.value.take claim.new.home.value.take) }
 {
     for _ in rt.forever() {
         if !claim.home.clean_next(rt)? {

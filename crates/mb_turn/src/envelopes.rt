@@ -1,12 +1,13 @@
 //! Envelopes.
-ghost use Rattle.std.specs.Prelude.{◌≡◌, ◌⊎◌, ◌≤◌, ◌+◌, [], true, length, IfOk, IsErrOf, MatchBool};
+ghost use Rattle.std.specs.Prelude.{◌≡◌, ◌⊎◌, ◌≤◌, ◌+◌, [], true, length, IfOk, IsErrOf, MatchBool, OnOk};
 ghost use Rattle.mb_journal.specs.Run.{Stopped, IsReason, most_envelopes};
 ghost use Rattle.mb_gate.specs.Names.{status_of, held_actor, known_of};
 ghost use Rattle.mb_gate.specs.Names.{known_by};
 ghost use Rattle.mb_gate.specs.Untouched.{origin_of};
 ghost use Rattle.mb_turn.specs.Caller.{IsWakerOf, caller_of, GoesFurther};
+ghost use Rattle.mb_turn.specs.Emptied.{IsCleared};
 ghost use Rattle.mb_turn.specs.Hold.{hold_of};
-ghost use Rattle.mb_turn.specs.Ran.{IsTurning, IsDrained, IsEnough, HadRoom, EndsDrained};
+ghost use Rattle.mb_turn.specs.Ran.{IsTurning, IsDrained, IsEnough, HadRoom, AsksInVain, EndsDrained};
 ghost use Rattle.mb_turn.specs.Running.{IsRunning, IsBeside, SameRun};
 
 use crate::acts::carry_out;
@@ -40,9 +41,11 @@ pub(crate) fn apply_envelopes<A: Actor, K: Behaviours, W: Way<Place<A, K>>, R: W
     ensures beside { IsBeside (hold_of claim.new) }
     ensures carried_out { claim.new.home.value.cell.acts ≡ [] }
     ensures turning { IsTurning (hold_of claim.new) turn.new × SameRun (hold_of claim.old) (hold_of claim.new) }
+    ensures cleared { OnOk result (IsCleared (hold_of claim.old) (hold_of claim.new)) }
     ensures goes { GoesFurther (caller_of W.pushed W.refused waker.old) (caller_of W.pushed W.refused waker.new) }
     ensures few { turn.new.envelopes ≤ most_envelopes throughput }
     ensures ended { IfOk result (λ _. (stopped : Stopped) × HadRoom stopped × EndsDrained (held_actor claim.new) (known_of claim.new).log stopped
+        × AsksInVain claim.old.home.value.take claim.new.home.value.take stopped
         × IsReason claim.new.home.value.cell.who throughput turn.new.envelopes claim.new.home.value.cell.journal stopped) }
     ensures full { IsErrOf result ReadyError.JournalFull → claim.new.home.value.cell.who.limit ≤ length claim.new.home.value.cell.journal }
 {
@@ -75,10 +78,12 @@ fn apply_envelope<A: Actor, K: Behaviours, W: Way<Place<A, K>>, R: Wait>(
     ensures beside { IsBeside (hold_of claim.new) }
     ensures carried_out { claim.new.home.value.cell.acts ≡ [] }
     ensures turning { IsTurning (hold_of claim.new) turn.new × SameRun (hold_of claim.old) (hold_of claim.new) }
+    ensures cleared { OnOk result (IsCleared (hold_of claim.old) (hold_of claim.new)) }
     ensures goes { GoesFurther (caller_of W.pushed W.refused waker.old) (caller_of W.pushed W.refused waker.new) }
     ensures took { IfOk result (λ took. MatchBool took (turn.new.envelopes ≡ turn.old.envelopes + 1)
         ((turn.new ≡ turn.old) × ((stopped : Stopped) × IsEnough claim.new.home.value.cell.who claim.new.home.value.cell.journal stopped
-        × EndsDrained (held_actor claim.new) (known_of claim.new).log stopped))) }
+        × EndsDrained (held_actor claim.new) (known_of claim.new).log stopped
+        × AsksInVain claim.old.home.value.take claim.new.home.value.take stopped))) }
     ensures few { turn.new.envelopes ≤ turn.old.envelopes + 1 }
     ensures full { IsErrOf result ReadyError.JournalFull → claim.new.home.value.cell.who.limit ≤ length claim.new.home.value.cell.journal }
 {

@@ -1,14 +1,15 @@
 //! One run.
-ghost use Rattle.std.specs.Prelude.{◌≡◌, ◌≤◌, [], length, List, MatchResult, IfOk, IsErrOf, Some};
+ghost use Rattle.std.specs.Prelude.{◌≡◌, ◌≤◌, [], length, List, MatchResult, IfOk, IsErrOf, OnOk, Some};
 ghost use Rattle.mb_journal.specs.Entry.{Entry};
 ghost use Rattle.mb_journal.specs.Run.{Stopped, IsReason, most_envelopes};
 ghost use Rattle.mb_journal.specs.Run.Stopped.{NoRoom};
 ghost use Rattle.mb_gate.specs.Names.{actors_of, first_of, known_by, known_of, held_actor};
 ghost use Rattle.mb_gate.specs.Untouched.{origin_of};
 ghost use Rattle.mb_turn.specs.Caller.{IsWakerOf, caller_of, GoesFurther, IsPaid, LeavesCaller};
+ghost use Rattle.mb_turn.specs.Emptied.{IsCleared};
 ghost use Rattle.mb_turn.specs.Fresh.{IsFreshClaim};
 ghost use Rattle.mb_turn.specs.Hold.{hold_of};
-ghost use Rattle.mb_turn.specs.Ran.{IsTurning, EndsDrained, HadRoom, LeavesRun};
+ghost use Rattle.mb_turn.specs.Ran.{IsTurning, AsksInVain, EndsDrained, HadRoom, LeavesRun};
 ghost use Rattle.mb_turn.specs.Running.{IsRunning, IsBeside, SameRun};
 ghost use Rattle.mb_turn.specs.declared.turn.Turn.{Turn};
 
@@ -42,8 +43,9 @@ pub fn run_mailbox<A: Actor, K: Behaviours, W: Way<Place<A, K>>, R: Wait>(
     ensures goes { LeavesCaller (caller_of W.pushed W.refused waker.old) (caller_of W.pushed W.refused waker.new) }
     ensures paid { IsPaid (held_actor claim) (caller_of W.pushed W.refused waker.new) }
     ensures ran { (journal : List Entry) × MatchResult result
-        (λ turn. (stopped : Stopped) × HadRoom stopped × LeavesRun throughput claim (known_by waker.new.pass) journal turn stopped)
-        (λ _. (turn : Turn) × LeavesRun throughput claim (known_by waker.new.pass) journal turn NoRoom
+        (λ turn. (stopped : Stopped) × HadRoom stopped
+        × LeavesRun throughput claim (known_by waker.old.pass) (known_by waker.new.pass) journal turn stopped)
+        (λ _. (turn : Turn) × LeavesRun throughput claim (known_by waker.old.pass) (known_by waker.new.pass) journal turn NoRoom
         × (IsErrOf result ReadyError.JournalFull → claim.home.value.cell.who.limit ≤ length journal)) }
 {
     let mut claim = claim;
@@ -81,9 +83,11 @@ fn run_claim<A: Actor, K: Behaviours, W: Way<Place<A, K>>, R: Wait>(
     ensures beside { IsBeside (hold_of claim.new) }
     ensures carried_out { claim.new.home.value.cell.acts ≡ [] }
     ensures turning { IsTurning (hold_of claim.new) turn.new × SameRun (hold_of claim.old) (hold_of claim.new) }
+    ensures cleared { OnOk result (IsCleared (hold_of claim.old) (hold_of claim.new)) }
     ensures goes { GoesFurther (caller_of W.pushed W.refused waker.old) (caller_of W.pushed W.refused waker.new) }
     ensures few { turn.new.envelopes ≤ most_envelopes throughput }
     ensures ended { IfOk result (λ _. (stopped : Stopped) × HadRoom stopped × EndsDrained (held_actor claim.new) (known_of claim.new).log stopped
+        × AsksInVain claim.old.home.value.take claim.new.home.value.take stopped
         × IsReason claim.new.home.value.cell.who throughput turn.new.envelopes claim.new.home.value.cell.journal stopped) }
     ensures full { IsErrOf result ReadyError.JournalFull → claim.new.home.value.cell.who.limit ≤ length claim.new.home.value.cell.journal }
 {

@@ -5,6 +5,7 @@ ghost use Rattle.mb_gate.specs.Names.{actors_of, known_by};
 ghost use Rattle.mb_gate.specs.Named.{NamesBelow};
 ghost use Rattle.mb_gate.specs.Untouched.{origin_of};
 ghost use Rattle.mb_turn.specs.Caller.{IsWakerOf, caller_of, GoesFurther};
+ghost use Rattle.mb_turn.specs.Emptied.{IsCleared};
 ghost use Rattle.mb_turn.specs.Hold.{hold_of};
 ghost use Rattle.mb_turn.specs.Notice.{IsAnswered, IsNotified, asker};
 ghost use Rattle.mb_turn.specs.Running.{IsRunning, IsBeside, KeepsJournal};
@@ -37,6 +38,7 @@ pub(crate) fn say<A: Actor, K: Behaviours, W: Way<Place<A, K>>, R: Wait>(
     ensures beside { IsBeside (hold_of claim.new) }
     ensures left { claim.new.home ≡ claim.old.home }
     ensures same { KeepsJournal (hold_of claim.old) (hold_of claim.new) }
+    ensures cleared { IsCleared (hold_of claim.old) (hold_of claim.new) }
     ensures goes { GoesFurther (caller_of W.pushed W.refused waker.old) (caller_of W.pushed W.refused waker.new) }
 {
     match gates.sys_enqueue_in_run(rt, &mut waker.pass, claim, to, node) {

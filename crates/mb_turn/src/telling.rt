@@ -4,6 +4,7 @@ ghost use Rattle.mb_journal.specs.Acts.Act.{Tell};
 ghost use Rattle.mb_gate.specs.Names.{known_by};
 ghost use Rattle.mb_gate.specs.Untouched.{origin_of};
 ghost use Rattle.mb_turn.specs.Caller.{IsWakerOf, caller_of, GoesFurther};
+ghost use Rattle.mb_turn.specs.Emptied.{IsCleared};
 ghost use Rattle.mb_turn.specs.Hold.{hold_of};
 ghost use Rattle.mb_turn.specs.Running.{IsRunning, IsBeside, KeepsJournal};
 
@@ -33,6 +34,7 @@ pub(crate) fn tell<A: Actor, K: Behaviours, W: Way<Place<A, K>>, R: Wait>(
     ensures beside { IsBeside (hold_of claim.new) }
     ensures left { claim.new.home.value.cell ≡ claim.old.home.value.cell }
     ensures same { KeepsJournal (hold_of claim.old) (hold_of claim.new) }
+    ensures cleared { IsCleared (hold_of claim.old) (hold_of claim.new) }
     ensures goes { GoesFurther (caller_of W.pushed W.refused waker.old) (caller_of W.pushed W.refused waker.new) }
 {
     let status = gates.status(&mut waker.pass, to);

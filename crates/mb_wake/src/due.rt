@@ -11,6 +11,7 @@ use mb_msg::ActorId;
 use std::sync::Wait;
 
 /// Whether the actor has system work, as a hint says or a look shows.
+#[inline(always)]
 fn has_system<H: Resident>(gates: &Gates<H>, pass: &mut Pass<H>, id: ActorId, hint: bool) -> bool
     requires ours { pass_id pass.old ≡ gates_id gates.now }
     requires there { id.0 < actors_of gates.now }
@@ -26,6 +27,7 @@ fn has_system<H: Resident>(gates: &Gates<H>, pass: &mut Pass<H>, id: ActorId, hi
 }
 
 /// Whether envelopes wait for the actor, as a hint says or their number shows.
+#[inline(always)]
 fn has_messages<H: Resident>(gates: &Gates<H>, pass: &mut Pass<H>, id: ActorId, hint: bool) -> bool
     requires ours { pass_id pass.old ≡ gates_id gates.now }
     requires there { id.0 < actors_of gates.now }
@@ -41,8 +43,10 @@ fn has_messages<H: Resident>(gates: &Gates<H>, pass: &mut Pass<H>, id: ActorId, 
     waiting != 0
 }
 
-/// Whether the actor has to be given to a worker (`Mailbox.canBeScheduledForExecution`): it has system work, or envelopes
-/// that it may handle. A hint says that it has, and spares the look. Where the answer is no, the pass owes it nothing.
+/// Whether the actor has to be given to a worker (`Mailbox.canBeScheduledForExecution`): no worker holds it, and it has
+/// system work, or envelopes that it may handle. A hint says that it has, and spares the look. Where the answer is no, the
+/// pass owes it nothing.
+#[inline(always)]
 pub(crate) fn is_due<H: Resident>(
     gates: &Gates<H>,
     pass: &mut Pass<H>,
@@ -57,12 +61,18 @@ pub(crate) fn is_due<H: Resident>(
     ensures paid { result ≡ false → owes id.0 (known_by pass.new) ≡ nothing }
 {
     let status = gates.status(pass, id);
+    if status.closed() || status.scheduled() {
+        return false;
+    }
+    if messages && status.should_process() {
+        return true;
+    }
     let system = has_system(gates, pass, id, system);
     let messages = has_messages(gates, pass, id, messages);
     status.can_schedule(messages, system)
 }
 
-/// The claim of the actor, where it is due. `None` where it is not, or a worker holds it already, or it is closed: then the
+/// The claim of an actor that is due. `None` where a worker took it first, or it was closed, or is due no longer: then the
 /// pass owes it nothing. A lost exchange is tried again.
 pub(crate) fn take_due<H: Resident, R: Wait>(
     rt: &R,
@@ -81,14 +91,14 @@ pub(crate) fn take_due<H: Resident, R: Wait>(
         × IsUntouched H.is_of H.journal H.mailbox H.rested H.given H.closed_to (Some (origin_of gates.now)) claim) }
 {
     for _ in rt.forever() {
-        if !is_due(gates, pass, id, messages, system) {
-            return None;
-        }
         match gates.try_schedule(pass, id) {
             Tried::Got(claim) => return Some(claim),
             Tried::Already => return None,
             Tried::Closed => return None,
             Tried::Lost(_) => {}
+        }
+        if !is_due(gates, pass, id, messages, system) {
+            return None;
         }
     }
     unreachable!()

@@ -7,7 +7,7 @@ ghost use Rattle.mb_wake.specs.Owed.{is_owed};
 ghost use Rattle.mb_wake.specs.Views.{LooksAfter};
 ghost use Rattle.mb_wake.specs.Waking.{IsWoken};
 
-use crate::due::take_due;
+use crate::due::{is_due, take_due};
 use crate::owed::Owed;
 use crate::untouched::give_home;
 use crate::way::{Refused, Way};
@@ -32,7 +32,33 @@ impl<H: Resident, W: Way<H>> Waker<H, W> {
     /// work, and spares the look.
     ///
     /// Where the pool refuses the claim, it goes home, and the actor is owed a look.
+    #[inline(always)]
     pub fn register<R: Wait>(
+        &mut self,
+        rt: &R,
+        gates: &Gates<H>,
+        id: ActorId,
+        messages: bool,
+        system: bool,
+    ) -> bool
+        requires ours { (pass_id self.old.pass ≡ gates_id gates.now) × (W.origin self.old.way ≡ Some (origin_of gates.now)) }
+        requires there { (id.0 < actors_of gates.now) × (id.0 < 64) }
+        ensures ours { (pass_id self.new.pass ≡ pass_id self.old.pass) × (W.origin self.new.way ≡ W.origin self.old.way) }
+        ensures looks { LooksAfter id.0 (known_by self.old.pass) (known_by self.new.pass) }
+        ensures paid { (owes id.0 (known_by self.new.pass) ≡ nothing) ⊎ (is_owed self.new.owed id.0 ≡ true) }
+        ensures woken { IsWoken id.0
+            (record { pushed = W.pushed self.old.way; refused = W.refused self.old.way; owed = self.old.owed })
+            (record { pushed = W.pushed self.new.way; refused = W.refused self.new.way; owed = self.new.owed }) result }
+    {
+        if !is_due(gates, &mut self.pass, id, messages, system) {
+            return false;
+        }
+        self.wake(rt, gates, id, messages, system)
+    }
+
+    // Gives the claim of an actor that is due to the pool. It stands apart, so that where none is due nothing is called that
+    // may wait.
+    fn wake<R: Wait>(
         &mut self,
         rt: &R,
         gates: &Gates<H>,

@@ -36,6 +36,6 @@ module _ {H : Type 0} (IsFit : Option (Origin H) → Claim H → Type 0) where
   taken-same A (Some c) old new h = takes-first old new c h
 
 -- what an answer of none tells
-pub none-tells : {X : Type 0} (A B : Type 0) (P : X → Type 0) (r : Option X) → MatchOption r (A × B) P → IfNone r B
-none-tells A B P None h = h.1
-none-tells A B P (Some x) h = tt
+pub none-tells : {X : Type 0} (A B C : Type 0) (P : X → Type 0) (r : Option X) → (A → C) → MatchOption r (A × B) P → IfNone r (C × B)
+none-tells A B C P None f h = (f h.0, h.1)
+none-tells A B C P (Some x) f h = tt

@@ -34,11 +34,12 @@ impl<H: Resident> EndWay<H> {
     }
 
     /// Takes a claim out of the pool, as it was pushed; `None` only where each place in which the end looks was empty at a moment of
-    /// the call.
-    #[inline]
+    /// the call, and then the end is as it was.
+    #[inline(always)]
     pub fn take<R: Wait>(&mut self, rt: &R) -> Option<Claim<H>>
         ensures fit { IfSome result (IsUntouched H.is_of H.journal H.mailbox H.rested H.given H.closed_to (gates_of self.old.end)) }
-        ensures none { IfNone result (All (WasEmpty (IsUntouched H.is_of H.journal H.mailbox H.rested H.given H.closed_to)) (looks self.old.end)) }
+        ensures none { IfNone result ((self.new ≡ self.old)
+            × All (WasEmpty (IsUntouched H.is_of H.journal H.mailbox H.rested H.given H.closed_to)) (looks self.old.end)) }
         ensures same { (gates_of self.new.end ≡ gates_of self.old.end) × (pushed_first (looks self.new.end) ≡ pushed_first (looks self.old.end))
             × (self.new.refused ≡ self.old.refused) }
     {
@@ -58,6 +59,7 @@ impl<H: Resident> Way<H> for EndWay<H> {
 
     ghost refused = { λ way. map (λ claim. claim.value) way.refused };
 
+    #[inline(always)]
     fn push<R: Wait>(&mut self, rt: &R, claim: Claim<H>) -> Result<(), Refused<H>>
         requires untouched { IsUntouched H.is_of H.journal H.mailbox H.rested H.given H.closed_to (gates_of self.old.end) claim }
         ensures same { gates_of self.new.end ≡ gates_of self.old.end }

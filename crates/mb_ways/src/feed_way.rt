@@ -42,6 +42,7 @@ impl<H: Resident> Way<H> for FeedWay<H> {
 
     ghost refused = { λ way. map (λ claim. claim.value) way.refused };
 
+    #[inline(always)]
     fn push<R: Wait>(&mut self, rt: &R, claim: Claim<H>) -> Result<(), Refused<H>>
         requires untouched { IsUntouched H.is_of H.journal H.mailbox H.rested H.given H.closed_to (gates_of self.old.feed) claim }
         ensures same { gates_of self.new.feed ≡ gates_of self.old.feed }

@@ -37,6 +37,7 @@ impl<A: Actor, K: Behaviours> Home<A, K> {
     ///
     /// It answers `JournalFull` if the journal has as many entries as it may have, and else `NoMemory` if memory was refused.
     /// Nothing but room has changed then.
+    #[inline(always)]
     pub fn ready(&mut self) -> Result<(), ReadyError>
         ensures full { IsErrOf result ReadyError.JournalFull ↔ (self.old.cell.who.limit ≤ length self.old.cell.journal) }
         ensures ok { OnOk result (IsTrue self.new.cell.is_ready × (most_tells ≤ self.new.room)) }
@@ -49,6 +50,7 @@ impl<A: Actor, K: Behaviours> Home<A, K> {
     }
 
     /// Makes that room.
+    #[inline(always)]
     fn make_room(&mut self) -> Result<(), ReadyError>
         ensures full { IsErrOf result ReadyError.JournalFull ↔ (self.old.cell.who.limit ≤ length self.old.cell.journal) }
         ensures ok { OnOk result (IsTrue self.new.cell.is_ready × (most_tells ≤ self.new.room)) }

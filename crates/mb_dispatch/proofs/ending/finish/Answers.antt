@@ -3,15 +3,17 @@ use Rattle.std.specs.Global.{Box}
 use Rattle.mb_gate.specs.Names.{actors_of, first_of, known_by}
 use Rattle.mb_gate.specs.declared.gates.Gates.{Gates}
 use Rattle.mb_home.specs.Contents.{Contents}
+use Rattle.mb_reckon.specs.Homes.{CameHome, Disagrees}
 use Rattle.mb_reckon.specs.Mismatched.{of_whom}
+use Rattle.mb_reckon.specs.Rooms.{counted_in}
 use Rattle.mb_reckon.specs.Settled.{AreSettledBy}
 use Rattle.mb_reckon.specs.Whole.{IsWhole}
 use Rattle.mb_reckon.specs.declared.outsider.Outsider.{Outsider}
 use Rattle.mb_system.specs.Belonging.{senders_numbers}
 use Rattle.mb_system.specs.Members.{ends_numbers}
 use Rattle.mb_dispatch.specs.Belonging.{AreThere, HasRead}
-use Rattle.mb_dispatch.proofs.Back.{back-complete, back-ends, back-some, back-together, settled-then-read, some-end}
-use Rattle.mb_dispatch.proofs.Closing.{as-many-outside, came-answers, came-known, came-outside, came-room, gathered, goes-on}
+use Rattle.mb_dispatch.proofs.Back.{counted-all, back-complete, back-ends, back-some, back-together, settled-then-read, some-end}
+use Rattle.mb_dispatch.proofs.Closing.{as-many-outside, came-answers, came-known, came-outside, came-room, came-ways, gathered, goes-on}
 use Rattle.mb_dispatch.proofs.Places.{as-many-senders, outside-all}
 use Rattle.mb_dispatch.proofs.ending.finish.Goals as goal
 
@@ -162,3 +164,43 @@ returns-in-Err-clause-refused g c =
       came.settled,
       subst (λ (h : Gates (Box Contents)). of_whom c.in-Err.mismatch < actors_of h) came.gates_are c.in-Err.ensures.whom,
     )
+
+pub returns-in-Ok-clause-home : goal.returns-in-Ok-clause-home
+returns-in-Ok-clause-home g c =
+    let built = c.args.built in let b1 = c.unsettled.new.built in let b2 = c.room_of.new.built in
+    let ends : AreThere built.system.workers (ends_numbers built.ends.items) = c.in_default.ensures in
+    let senders : AreThere built.system.senders (senders_numbers built.senders.items) = c.in_default-missing_sender.ensures in
+    let settled : HasRead (AreSettledBy 0 (actors_of built.system.gates)) built b1 = c.in_default-unsettled.ensures in
+    let found = settled-then-read (actors_of built.system.gates) built b1 b2 settled c.room_of.ensures.read in
+    let gates = c.gather-gates.result.0 in let v = known_by c.gather-gates.result.1 in let log = v.log in
+    let outside = c.gather-gates.new.outside.items in
+    let came = gathered built b2 gates log outside found c.gather-gates.ensures.gates.0 c.gather-gates.ensures.seen c.gather-gates.ensures.outside in
+    record {
+      view = v;
+      seen = came.seen;
+      home = subst (λ (h : Gates (Box Contents)). CameHome g.K.Behaviours.gives (first_of h).value (actors_of h) v c.in-Ok.report) came.gates_are
+          c.in-Ok.ensures.home;
+    }
+
+pub returns-in-Err-clause-why : goal.returns-in-Err-clause-why
+returns-in-Err-clause-why g c =
+    let built = c.args.built in let b1 = c.unsettled.new.built in let b2 = c.room_of.new.built in
+    let ends : AreThere built.system.workers (ends_numbers built.ends.items) = c.in_default.ensures in
+    let senders : AreThere built.system.senders (senders_numbers built.senders.items) = c.in_default-missing_sender.ensures in
+    let settled : HasRead (AreSettledBy 0 (actors_of built.system.gates)) built b1 = c.in_default-unsettled.ensures in
+    let found = settled-then-read (actors_of built.system.gates) built b1 b2 settled c.room_of.ensures.read in
+    let gates = c.gather-gates.result.0 in let v = known_by c.gather-gates.result.1 in let log = v.log in
+    let outside = c.gather-gates.new.outside.items in
+    let came = gathered built b2 gates log outside found c.gather-gates.ensures.gates.0 c.gather-gates.ensures.seen c.gather-gates.ensures.outside in
+    let waiting = counted_in c.in-Some-room_of.room in let ways = map (λ (o : Outsider). o.sends.items) outside in
+    record {
+      view = v;
+      seen = came.seen;
+      outside = ways;
+      ways = came-ways built gates log outside c.requires.together (ends, senders) came;
+      waiting = waiting;
+      counted = counted-all b1 b2 log waiting c.in-Some-room_of.ensures.waiting c.gather-gates.ensures.seen.0;
+      disagrees =
+          subst (λ (h : Gates (Box Contents)). Disagrees g.K.Behaviours.gives (first_of h).value (actors_of h) v ways waiting c.in-Err.mismatch)
+          came.gates_are c.in-Err.ensures.why;
+    }

@@ -14,7 +14,8 @@ use Rattle.mb_dispatch.proofs.sending.send_and_run.Goals as goal
 pub returns-clause-quiet : goal.returns-clause-quiet
 returns-clause-quiet g c =
     let ran = c.in_ok-_turns.ensures in
-    found-nothing g.K.Behaviours.gives c.args.built.now.ends.items c.run_quietly.new.self c.requires.some ran.paid ran.empty.0 ran.empty.1 ran.empty.2
+    found-nothing g.K.Behaviours.gives c.args.built.now.system.gates c.args.built.now.ends.items c.run_quietly.new.self c.requires.some ran.paid
+    ran.settled ran.empty
 
 pub returns-clause-sent : goal.returns-clause-sent
 returns-clause-sent g c =

@@ -3,8 +3,7 @@ use Rattle.std.specs.Prelude.{slice_get}
 use Rattle.std.proofs.lemmas.List.Elements.{All-set}
 use Rattle.std.proofs.lemmas.Option.{slice_get-get_or}
 use Rattle.mb_system.specs.Members.{IsSenderOf}
-use Rattle.mb_system.specs.Orders.{HasSent, OwesNobody}
-use Rattle.mb_dispatch.specs.Sent.{BreaksOne}
+use Rattle.mb_dispatch.specs.Sent.{BreaksOne, HasSentAndPaid}
 use Rattle.mb_dispatch.proofs.Sent.{Did, all-sent, err-of, one-done, orders-at, orders-here, orders_of}
 use Rattle.mb_dispatch.proofs.sending.send_each.Goals as goal
 
@@ -19,7 +18,7 @@ loop-place-preserved g c =
     let here : slice_get at.senders place ≡ Some old = slice_get-get_or at.senders place c.index-senders-place.result in_senders in (
       All-set (λ s. IsSenderOf gates s.inner) at.senders place new one.ours at.invariant.0,
       one-done (Did gates (orders_of c.args.sends.now)) place c.args.senders.now at.senders old new at.invariant.1 here (λ of there.
-          subst (λ l. HasSent l old new × OwesNobody gates new)
+          subst (λ l. HasSentAndPaid gates l old new)
           (orders-at c.args.sends.now place orders of c.deref.result.now in_sends c.index-sends-place.is c.deref.ensures.value there) one.sent),
     )
 

@@ -1,4 +1,4 @@
 use Rattle.mb_dispatch_tests.proofs.alone.run_alone.Goals as goal
 
-pub run_whole-requires : goal.run_whole-requires
-run_whole-requires g c = record { unused = c.in_ok-players.ensures }
+pub text_alone-requires : goal.text_alone-requires
+text_alone-requires g c = record { unused = c.in-Ok.ensures }

@@ -3,6 +3,6 @@ use Rattle.mb_dispatch_tests.proofs.Casting.{alike-behaved}
 use Rattle.mb_dispatch_tests.specs.declared.player.Player.{Player}
 use Rattle.mb_dispatch_tests.proofs.together.run_together.Goals as goal
 
-pub report_of-requires-clause-behaved : goal.report_of-requires-clause-behaved
-report_of-requires-clause-behaved g c κs within =
+pub text_together-requires-clause-behaved : goal.text_together-requires-clause-behaved
+text_together-requires-clause-behaved g c κs within =
     alike-behaved (λ (p : Player). p.sum) sum_of (λ moment reply. Unit {0}) 1 c.in-Ok.players.items c.in-Ok.ensures

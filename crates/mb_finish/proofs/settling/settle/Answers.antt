@@ -1,5 +1,5 @@
 use Rattle.std.proofs.Common.{rules, map}
-use Rattle.mb_finish.proofs.SettleLemmas.{came-at, err-each, known-at, ok-then, overfull, over-refilled, rests-refilled}
+use Rattle.mb_finish.proofs.SettleLemmas.{came-at, err-each, known-at, ok-then, ordered-at, overfull, over-refilled, rests-refilled}
 use Rattle.mb_finish.specs.Rest.{IsOver, IsOverfull}
 use Rattle.mb_finish.proofs.settling.settle.Goals as goal
 
@@ -20,6 +20,15 @@ returns-clause-known g c =
     known-at v.items rows lefts place take left
     (rests-refilled rows lefts v.items c.deref_mut.result.now c.join_all.new.takes v.len (search rules) c.join_all.ensures (search rules) rests)
     there found) c.take_rests.ensures.rests
+
+pub returns-clause-ordered : goal.returns-clause-ordered
+returns-clause-ordered g c =
+    let rows = map (λ row. row.items) c.args.senders.items in let lefts = map (λ room. room.items) c.take_rests.new.rooms in
+    let v = c.args.takes in
+    ok-then c.take_rests.result (λ rests place take left there found.
+    ordered-at v.items rows lefts place take left
+    (rests-refilled rows lefts v.items c.deref_mut.result.now c.join_all.new.takes v.len (search rules) c.join_all.ensures (search rules) rests)
+    there found (c.requires.different place)) c.take_rests.ensures.rests
 
 pub returns-clause-over : goal.returns-clause-over
 returns-clause-over g c =

@@ -27,7 +27,7 @@ returns-clause-taken g c =
     (map (λ room. room.items) rooms) [] takes_are c.take.ensures.same.0 none c.take.ensures.known
     (rooms-of (λ room. room.items) c.args.lefts.now.items rooms (omega (arith, some, many_lefts)) c.requires.empty) refl
     (length-mapped (λ room. room.items) rooms ∙ omega (arith, many_rooms, many_now, many_takes)) c.in_default.ensures.came
-    c.in_default.ensures.known)
+    c.in_default.ensures.known c.in_default.ensures.ordered)
 
 pub returns-then-is_some-clause-over : goal.returns-then-is_some-clause-over
 returns-then-is_some-clause-over g c =

@@ -2,6 +2,8 @@ use Rattle.std.proofs.Common.{◌≡◌, ◌+◌, length, map, refl, sym, ap, �
 use Rattle.std.specs.Prelude.{All, Some}
 use Rattle.std.proofs.lemmas.List.{length-map}
 use Rattle.mb_msg.specs.Limits.{most_actors}
+use Rattle.mb_rule.specs.Shares.{IsWhole}
+use Rattle.mb_rule.proofs.SharesLemmas.{whole_one}
 use Rattle.mb_gate.specs.View.{View}
 use Rattle.mb_pool.specs.Made.{IsOfKind}
 use Rattle.mb_pool.specs.Places.{gates_of}
@@ -34,7 +36,8 @@ open-requires g c =
     let fed : length feeds ≡ c.args.plan.senders = feeds_are.1 ∙ pool.feeds_are in
     let rows = sym (length-map outside.items (λ row. row.items)) ∙ founded.rows in let senders = right.senders in record {
       ours = c.in_ok-gates.ensures.pass.0;
-      blank = (ap (λ (v : View). v.log) c.in_ok-gates.ensures.pass.1, ap (λ (v : View). v.said) c.in_ok-gates.ensures.pass.1);
+      blank = (ap (λ (v : View). v.log) c.in_ok-gates.ensures.pass.1, ap (λ (v : View). v.got) c.in_ok-gates.ensures.pass.1);
+      whole = subst (λ (v : View). IsWhole v.share) (sym c.in_ok-gates.ensures.pass.1) whole_one;
       actors = (omega (arith, actors), omega (arith, actors, few));
       some = (omega (arith, as_many, some), omega (arith, as_many, workers));
       ends = subst (λ o. All (λ e. gates_of e ≡ Some o) ends) pool.gates ends_are.0;
@@ -75,6 +78,8 @@ returns g c =
       others_are = opened.ends.others_are;
       first_end = opened.ends.first_end;
       created = opened.ends.created;
+      unclaimed = opened.ends.unclaimed;
+      whole = opened.whole;
     }
 
 pub invariant_of-system : goal.invariant_of-system

@@ -3,6 +3,7 @@ use Rattle.std.proofs.lemmas.List.{length-set}
 use Rattle.mb_gate.specs.Names.{known_by}
 use Rattle.mb_gate.specs.View.{View}
 use Rattle.mb_system.proofs.Led.{first-led, first-ours}
+use Rattle.mb_system.proofs.Sharing.{first-shares}
 use Rattle.mb_system.proofs.opening.give_first.Goals as goal
 
 pub absorb-requires : goal.absorb-requires
@@ -16,3 +17,9 @@ pub returns-clause-first : goal.returns-clause-first
 returns-clause-first g c =
     first-led c.args.gates.now c.args.ends.now _ _ c.absorb.new.pass (known_by c.args.pass) refl c.requires.some c.requires.ends
     c.absorb.ensures.ours c.requires.created (ap (λ (v : View). v.log) c.absorb.ensures.known)
+    (ap (λ (v : View). v.got) c.absorb.ensures.known) c.requires.unclaimed
+
+pub returns-clause-shares : goal.returns-clause-shares
+returns-clause-shares g c =
+    first-shares c.args.ends.now _ _ c.absorb.new.pass (known_by c.args.pass).share refl c.requires.some
+    (ap (λ (v : View). v.share) c.absorb.ensures.known)

@@ -1,6 +1,8 @@
 use Rattle.std.proofs.Common.{rules, ◌≡◌, length, sym, ap, ◌∙◌, subst, arith}
 use Rattle.mb_build.proofs.QueueLemmas.{refilled}
 use Rattle.mb_system.specs.Begun.{AreLedEnds, AreNewEnds}
+use Rattle.mb_system.specs.Shared.{shares_of_ends}
+use Rattle.mb_system.proofs.Sharing.{whole-with}
 use Rattle.mb_system.proofs.opening.open.Goals as goal
 
 pub give_first-requires : goal.give_first-requires
@@ -8,8 +10,9 @@ give_first-requires g c =
     let ends = c.in_ok-ends.ends.items in let lent : c.deref_mut.result.now ≡ ends = search rules in
     let many : length c.deref_mut.result.now ≡ length c.args.ends.items = ap length lent ∙ c.in_ok-ends.ensures.opened.0 in
     let some = c.requires.some.0 in record {
-      ours = c.start.ensures.ours ∙ c.open_ends.ensures.ours ∙ c.open_senders.ensures.ours ∙ c.requires.ours;
-      created = c.in_ok-start.ensures.created;
+      ours = c.open_ends.ensures.ours ∙ c.open_senders.ensures.ours ∙ c.start.ensures.ours ∙ c.requires.ours;
+      created = let is = c.in_ok-start.ensures.created in (is.0, c.open_ends.ensures.kept.0 ∙ c.open_senders.ensures.kept.0 ∙ is.1);
+      unclaimed = c.open_ends.ensures.kept.1 ∙ c.open_senders.ensures.kept.1 ∙ c.in_ok-start.ensures.kept.0;
       some = omega (arith, many, some);
       ends = subst (AreNewEnds c.args.gates.now 0) (sym lent) c.in_ok-ends.ensures.opened.1;
     }
@@ -25,3 +28,10 @@ returns-clause-ends g c =
     let v = c.in_ok-ends.ends in let lent : c.deref_mut.result.now ≡ v.items = search rules in
     let new = c.give_first.new.ends in let count : length new ≡ v.len = c.give_first.ensures.many ∙ ap length lent ∙ sym v.ok.0 in
     subst (AreLedEnds c.args.gates.now) (sym (refilled v.len v.items new count)) c.give_first.ensures.first
+
+pub returns-clause-whole : goal.returns-clause-whole
+returns-clause-whole g c =
+    let v = c.in_ok-ends.ends in let lent : c.deref_mut.result.now ≡ v.items = search rules in
+    let new = c.give_first.new.ends in let count : length new ≡ v.len = c.give_first.ensures.many ∙ ap length lent ∙ sym v.ok.0 in
+    whole-with _ _ _ _ _ _ _ c.in_ok-start.ensures.kept.1 c.in_ok-senders.ensures.shares c.in_ok-ends.ensures.shares
+    (ap shares_of_ends (refilled v.len v.items new count) ∙ c.give_first.ensures.shares) (ap shares_of_ends lent)

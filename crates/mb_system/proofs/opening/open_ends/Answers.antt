@@ -4,10 +4,13 @@ use Rattle.std.specs.Vec.Iter.{into_iter_items}
 use Rattle.std.proofs.lemmas.List.{append-nil, length_push, nil_from_length}
 use Rattle.std.proofs.lemmas.List.Elements.{All-head, All-rest}
 use Rattle.mb_gate.specs.Names.{known_by}
+use Rattle.mb_gate.specs.View.{View}
 use Rattle.mb_gate.specs.Untouched.{origin_of}
 use Rattle.mb_pool.specs.Places.{gates_of}
 use Rattle.mb_system.specs.Begun.{AreNewEnds}
-use Rattle.mb_system.proofs.Opened.{copied-blank, ends-next, halving-blank}
+use Rattle.mb_system.specs.Shared.{KeepsWhole, share_of_end, shares_of_ends}
+use Rattle.mb_system.proofs.Opened.{ends-next}
+use Rattle.mb_system.proofs.Sharing.{keeps-next, keeps-none}
 use Rattle.mb_system.proofs.opening.open_ends.Goals as goal
 
 pub loop-end-init : goal.loop-end-init
@@ -18,7 +21,9 @@ loop-end-init g c =
       ends = subst (All (λ e. gates_of e ≡ Some (origin_of c.args.gates.now))) (sym all) c.requires.ends;
       count = ap length none;
       ours = refl;
-      blank = c.requires.blank;
+      kept = (refl, refl);
+      shares = subst (λ l. KeepsWhole (known_by c.args.pass.now).share (known_by c.args.pass.now).share (shares_of_ends l)) (sym none)
+          (keeps-none (known_by c.args.pass.now).share);
       opened = subst (AreNewEnds c.args.gates.now 0) (sym none) tt;
     }
 
@@ -33,17 +38,23 @@ loop-end-preserved g c =
       whole = append_assoc at.yielded (end ∷ []) rest ∙ ap (λ l. at.yielded ++ l) (sym steps) ∙ at.invariant.whole;
       ends = All-rest (λ e. gates_of e ≡ Some (origin_of gates)) end rest (into_iter_items at.end-iterator) steps at.invariant.ends;
       count = omega (arith, longer, further, count);
-      ours = c.another.ensures.ours.0 ∙ at.invariant.ours;
-      blank = halving-blank (known_by at.pass) _ c.another.ensures.known.0 at.invariant.blank;
+      ours = c.apart.ensures.ours.0 ∙ at.invariant.ours;
+      kept = (
+        ap (λ (v : View). v.log) c.apart.ensures.known.0 ∙ at.invariant.kept.0,
+        ap (λ (v : View). v.got) c.apart.ensures.known.0 ∙ at.invariant.kept.1,
+      );
+      shares = keeps-next share_of_end (known_by c.args.pass.now).share (known_by at.pass).share _ at.opened.items _ _
+          (ap (λ (v : View). v.share) c.apart.ensures.known.0) pushed (ap (λ (v : View). v.share) c.apart.ensures.known.1) at.invariant.shares;
       opened = ends-next gates at.opened.items _ _ pushed at.invariant.opened (record {
         ours = (
-          c.another.ensures.ours.1 ∙ at.invariant.ours ∙ c.requires.ours.0,
+          c.apart.ensures.ours.1 ∙ at.invariant.ours ∙ c.requires.ours.0,
           ap gates_of c.new.ensures ∙ All-head (λ e. gates_of e ≡ Some (origin_of gates)) end rest these,
           c.requires.ours.1,
         );
         number_is = place;
         nobody = c.none.ensures;
-        blank = copied-blank (known_by at.pass) _ c.another.ensures.known.1 at.invariant.blank;
+        blank = ap (λ (v : View). v.log) c.apart.ensures.known.1;
+        unclaimed = ap (λ (v : View). v.got) c.apart.ensures.known.1;
       });
     }
 

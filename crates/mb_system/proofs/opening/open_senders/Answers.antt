@@ -6,13 +6,16 @@ use Rattle.std.proofs.lemmas.List.Elements.{All-head, All-rest}
 use Rattle.mb_msg.specs.Limits.{most_actors}
 use Rattle.mb_gate.specs.Names.{actors_of, first_of, known_by, pass_id}
 use Rattle.mb_gate.specs.Untouched.{origin_of}
+use Rattle.mb_gate.specs.View.{View}
 use Rattle.mb_home.specs.Roll.{queues_of}
 use Rattle.mb_pool.specs.Places.{gates_of}
 use Rattle.mb_send.specs.Sends.{AreRoutes, receiving_queues}
 use Rattle.mb_wake.specs.Owed.{IsNobody}
 use Rattle.mb_build.proofs.RollLemmas.{drop-next}
 use Rattle.mb_system.specs.Begun.{AreNewSenders}
-use Rattle.mb_system.proofs.Opened.{copied-blank, copied-silent, halving-blank, halving-silent, none-left, place-left, senders-next, unused-there}
+use Rattle.mb_system.specs.Shared.{KeepsWhole, share_of_sender, shares_of_senders}
+use Rattle.mb_system.proofs.Opened.{none-left, place-left, senders-next, unused-there}
+use Rattle.mb_system.proofs.Sharing.{keeps-next, keeps-none}
 use Rattle.mb_system.proofs.opening.open_senders.Goals as goal
 
 pub loop-feed-init : goal.loop-feed-init
@@ -24,8 +27,9 @@ loop-feed-init g c =
       count = ap length none;
       rows = c.into_iter-outside.ensures.rest ∙ ap (λ l. drop (length l) c.args.outside.items) (sym none);
       ours = refl;
-      blank = c.requires.blank.0;
-      silent = c.requires.blank.1;
+      kept = (refl, refl);
+      shares = subst (λ l. KeepsWhole (known_by c.args.pass.now).share (known_by c.args.pass.now).share (shares_of_senders l)) (sym none)
+          (keeps-none (known_by c.args.pass.now).share);
       opened = subst (λ l. AreNewSenders c.args.gates.now most_actors (map (λ row. row.items) (take (length l) c.args.outside.items)) l)
           (sym none) tt;
     }
@@ -75,13 +79,18 @@ loop-feed-preserved g c =
       feeds = All-rest (λ f. gates_of f ≡ Some (origin_of gates)) feed rest (into_iter_items at.feed-iterator) steps at.invariant.feeds;
       count = omega (arith, longer, further, count);
       rows = sym (drop-next place outside sends left here) ∙ ap (λ n. drop n outside) next;
-      ours = c.another.ensures.ours.0 ∙ at.invariant.ours;
-      blank = halving-blank (known_by at.pass) _ c.another.ensures.known.0 at.invariant.blank;
-      silent = halving-silent (known_by at.pass) _ c.another.ensures.known.0 at.invariant.silent;
+      ours = c.apart.ensures.ours.0 ∙ at.invariant.ours;
+      kept = (
+        ap (λ (v : View). v.log) c.apart.ensures.known.0 ∙ at.invariant.kept.0,
+        ap (λ (v : View). v.got) c.apart.ensures.known.0 ∙ at.invariant.kept.1,
+      );
+      shares = keeps-next share_of_sender (known_by c.args.pass.now).share (known_by at.pass).share _ at.senders.items _ _
+          (ap (λ (v : View). v.share) c.apart.ensures.known.0) pushed
+          (ap (λ w. (known_by w.pass).share) parts.0 ∙ ap (λ (v : View). v.share) c.apart.ensures.known.1) at.invariant.shares;
       opened = senders-next (λ r. r.items) gates most_actors at.senders.items _ _ outside sends left pushed here at.invariant.opened (record {
         ours = record {
           ours = (
-            ap (λ w. pass_id w.pass) parts.0 ∙ c.another.ensures.ours.1 ∙ at.invariant.ours ∙ c.requires.ours.0,
+            ap (λ w. pass_id w.pass) parts.0 ∙ c.apart.ensures.ours.1 ∙ at.invariant.ours ∙ c.requires.ours.0,
             ap (λ w. gates_of w.way.feed) parts.0 ∙ ap gates_of c.new.ensures ∙ All-head (λ f. gates_of f ≡ Some (origin_of gates)) feed rest these,
             c.requires.ours.1,
           );
@@ -92,8 +101,9 @@ loop-feed-preserved g c =
         posted = book.2;
         sends_are = ap (λ v. v.items) parts.1;
         nobody = subst (λ w. IsNobody w.owed) (sym parts.0) c.none.ensures;
-        blank = ap (λ w. (known_by w.pass).log) parts.0 ∙ copied-blank (known_by at.pass) _ c.another.ensures.known.1 at.invariant.blank;
-        silent = ap (λ w. (known_by w.pass).said) parts.0 ∙ copied-silent (known_by at.pass) _ c.another.ensures.known.1 at.invariant.silent;
+        blank = ap (λ w. (known_by w.pass).log) parts.0 ∙ ap (λ (v : View). v.log) c.apart.ensures.known.1;
+        silent = ap (λ w. (known_by w.pass).said) parts.0 ∙ ap (λ (v : View). v.said) c.apart.ensures.known.1;
+        unclaimed = ap (λ w. (known_by w.pass).got) parts.0 ∙ ap (λ (v : View). v.got) c.apart.ensures.known.1;
       });
     }
 

@@ -10,6 +10,7 @@ use Rattle.mb_home.specs.Contents.{Contents}
 use Rattle.mb_turn.specs.Hold.{hold_of}
 use Rattle.mb_turn.specs.Running.{IsRunning}
 use Rattle.mb_turn.proofs.CallerLemmas.{further-none}
+use Rattle.mb_turn.proofs.EmptiedLemmas.{cleared-found, cleared-same, ok-so}
 use Rattle.mb_turn.proofs.RunningSteps.{running-suspend, suspend-closed}
 use Rattle.mb_turn.proofs.StatusLemmas.{keeps-written, beside-written, running-suspended, running-resumed}
 use Rattle.mb_turn.proofs.acts.carry.Goals as goal
@@ -21,6 +22,12 @@ returns-in-Tell-clause-left g c = ap (λ (x : Seen). x.acts) c.tell.ensures.left
 
 pub returns-in-Sys-clause-left : goal.returns-in-Sys-clause-left
 returns-in-Sys-clause-left g c = ap (λ (b : Box Contents). b.value.cell.acts) c.say.ensures.left
+
+pub returns-in-Tell-clause-cleared : goal.returns-in-Tell-clause-cleared
+returns-in-Tell-clause-cleared g c = c.tell.ensures.cleared
+
+pub returns-in-Sys-clause-cleared : goal.returns-in-Sys-clause-cleared
+returns-in-Sys-clause-cleared g c = c.say.ensures.cleared
 
 -- ---- a suspension
 
@@ -58,6 +65,12 @@ returns-in-SuspendSelf-clause-same g c =
     let old = c.args.claim.now in let new = c.suspend.new.claim in let did = c.suspend.ensures in
     keeps-written old new (status_of new) (word_of (status_of new)) did.ours did.home did.known did.taken refl
 
+pub returns-in-SuspendSelf-clause-cleared : goal.returns-in-SuspendSelf-clause-cleared
+returns-in-SuspendSelf-clause-cleared g c =
+    let old = c.args.claim.now in let did = c.suspend.ensures in
+    cleared-same (hold_of old) (hold_of c.suspend.new.claim) (ap (λ (m : Mailbox). m.closed) did.status ∙ suspend-closed (status_of old))
+    (ap (λ (b : Box Contents). b.value.take) did.home)
+
 pub returns-in-SuspendSelf-clause-goes : goal.returns-in-SuspendSelf-clause-goes
 returns-in-SuspendSelf-clause-goes g c = further-none _
 
@@ -91,5 +104,17 @@ returns-in-ResumeSelf-clause-same g c =
     let old = c.args.claim.now in let new = c.resume.new.claim in let did = c.resume.ensures in
     keeps-written old new (status_of new) (word_of (status_of new)) did.ours did.home did.known did.taken refl
 
+pub returns-in-ResumeSelf-clause-cleared : goal.returns-in-ResumeSelf-clause-cleared
+returns-in-ResumeSelf-clause-cleared g c =
+    let did = c.resume.ensures in
+    cleared-same (hold_of c.args.claim.now) (hold_of c.resume.new.claim) (ap (λ (m : Mailbox). m.closed) did.status)
+    (ap (λ (b : Box Contents). b.value.take) did.home)
+
 pub returns-in-ResumeSelf-clause-goes : goal.returns-in-ResumeSelf-clause-goes
 returns-in-ResumeSelf-clause-goes g c = further-none _
+
+-- ---- the end
+
+pub returns-in-CloseSelf-clause-cleared : goal.returns-in-CloseSelf-clause-cleared
+returns-in-CloseSelf-clause-cleared g c =
+    ok-so c.close.result (cleared-found (hold_of c.args.claim.now) (hold_of c.close.new.claim)) c.close.ensures.emptied

@@ -1,19 +1,27 @@
-use Rattle.std.proofs.Common.{◌≡◌, ◌∷◌, [], List, length, sym, ap, ◌∙◌, subst, arith}
+use Rattle.std.proofs.Common.{◌≡◌, ◌∷◌, [], List, length, refl, sym, ap, ◌∙◌, subst, arith}
 use Rattle.mb_books.specs.ActQueue.{act_of}
 use Rattle.mb_journal.specs.Acts.{Act}
 use Rattle.mb_gate.specs.Names.{known_by}
 use Rattle.mb_gate.specs.Untouched.{origin_of}
 use Rattle.mb_home.specs.Contents.{Contents}
 use Rattle.mb_home.specs.Settled.{IsSettled}
-use Rattle.mb_turn.specs.Hold.{hold_of}
+use Rattle.mb_turn.specs.Hold.{Hold, hold_of}
 use Rattle.mb_turn.specs.Running.{IsRunning}
 use Rattle.mb_turn.proofs.BesideLemmas.{keeps-same, keeps-then}
 use Rattle.mb_turn.proofs.CallerLemmas.{further-none, further-then}
+use Rattle.mb_turn.proofs.EmptiedLemmas.{and-both, cleared-same, cleared-then, ok-so, ok-then}
 use Rattle.mb_turn.proofs.TellingLemmas.{running-own, running-next, beside-next, keeps-next}
 use Rattle.mb_turn.proofs.acts.carry_out.Goals as goal
 
 pub loop-act-init : goal.loop-act-init
-loop-act-init g c = (c.requires.ours, c.requires.running, c.requires.beside, keeps-same _, further-none _)
+loop-act-init g c = (
+  c.requires.ours,
+  c.requires.running,
+  c.requires.beside,
+  keeps-same _,
+  further-none _,
+  λ clean. cleared-same (hold_of c.args.claim.now) (hold_of c.args.claim.now) refl refl,
+)
 
 pub next_act-requires : goal.next_act-requires
 next_act-requires g c = record {
@@ -50,6 +58,13 @@ loop-act-preserved g c =
       c.carry.ensures.beside,
       keeps-then _ _ _ c.loop-act.invariant.3 (keeps-then _ _ _ (keeps-next (hold_of c.loop-act.claim) new same) c.carry.ensures.same),
       further-then _ _ _ c.loop-act.invariant.4 c.carry.ensures.goes,
+      λ clean. let both = and-both c.loop-act.is_clean c.is_ok-is_clean.result clean in
+          let before = hold_of c.loop-act.claim in
+          let next : Hold = record before { home = new } in
+          let carried = ok-then c.carry.result (sym c.is_ok-is_clean.ensures.value ∙ both.1) c.carry.ensures.cleared in
+          cleared-then (hold_of c.args.claim.now) before (hold_of c.carry.new.claim) c.loop-act.invariant.3.same.takes (c.loop-act.invariant.5 both.0)
+          (cleared-then before next (hold_of c.carry.new.claim) (keeps-next before new same).same.takes
+          (cleared-same before next refl (ap (λ (x : Contents). x.take) same)) carried),
     )
 
 pub loop-act-smaller : goal.loop-act-smaller
@@ -89,3 +104,14 @@ returns-clause-same g c =
     let same = subst (λ (x : Contents). new ≡ record x { cell = record x.cell { acts = new.cell.acts } }) c.deref_mut.ensures.value
     c.next_act.ensures.same in
     keeps-then _ _ _ c.loop-act.invariant.3 (keeps-next (hold_of c.loop-act.claim) new same)
+
+pub returns-clause-cleared : goal.returns-clause-cleared
+returns-clause-cleared g c =
+    let new : Contents = c.next_act.new.self in
+    let same = subst (λ (x : Contents). new ≡ record x { cell = record x.cell { acts = new.cell.acts } }) c.deref_mut.ensures.value
+    c.next_act.ensures.same in
+    let before = hold_of c.loop-act.claim in
+    ok-so c.answer_of.result
+    (λ clean. cleared-then (hold_of c.args.claim.now) before (record before { home = new }) c.loop-act.invariant.3.same.takes
+    (c.loop-act.invariant.5 clean)
+    (cleared-same before (record before { home = new }) refl (ap (λ (x : Contents). x.take) same))) c.answer_of.ensures.clean

@@ -1,7 +1,8 @@
-use Rattle.std.proofs.Common.{length}
+use Rattle.std.proofs.Common.{◌≡◌, true, length}
 use Rattle.mb_gate.specs.Names.{known_by}
 use Rattle.mb_gate.specs.Untouched.{origin_of}
 use Rattle.mb_turn.specs.Caller.{IsWakerOf, caller_of, GoesFurther}
+use Rattle.mb_turn.specs.Emptied.{IsCleared}
 use Rattle.mb_turn.specs.Hold.{hold_of}
 use Rattle.mb_turn.specs.Running.{IsRunning, IsBeside, KeepsJournal}
 use Rattle.mb_turn.proofs.acts.carry_out.Given as goal
@@ -13,6 +14,7 @@ invariant-loop-act g l =
     × IsBeside (hold_of l.claim)
     × KeepsJournal (hold_of l.initial.claim) (hold_of l.claim)
     × GoesFurther (caller_of g.W.Way.pushed g.W.Way.refused l.initial.waker) (caller_of g.W.Way.pushed g.W.Way.refused l.waker)
+    × (l.is_clean ≡ true → IsCleared (hold_of l.initial.claim) (hold_of l.claim))
 
 abbrev pub decreases-loop-act : goal.decreases-loop-act
 decreases-loop-act g l = length l.claim.home.value.cell.acts

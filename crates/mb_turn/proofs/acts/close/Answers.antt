@@ -1,10 +1,13 @@
-use Rattle.std.proofs.Common.{refl, ap, ◌∙◌}
+use Rattle.std.proofs.Common.{refl, ap, ◌∙◌, subst}
+use Rattle.std.specs.Prelude.{OnOk}
 use Rattle.std.specs.Global.{Box}
 use Rattle.mb_status.specs.Mailbox.{Mailbox, word_of}
 use Rattle.mb_gate.specs.Names.{known_by, status_of}
 use Rattle.mb_gate.specs.Untouched.{origin_of}
 use Rattle.mb_cell.specs.Seen.{Seen}
+use Rattle.mb_queue.specs.Passes.{Taking}
 use Rattle.mb_home.specs.Contents.{Contents}
+use Rattle.mb_turn.specs.Emptied.{FindsNoMore}
 use Rattle.mb_turn.proofs.BesideLemmas.{keeps-then}
 use Rattle.mb_turn.proofs.StatusLemmas.{keeps-written, count-written, running-closed}
 use Rattle.mb_turn.proofs.acts.close.Goals as goal
@@ -38,3 +41,8 @@ returns-clause-same g c =
     let old = c.args.claim.now in let new = c.close_mailbox.new.claim in let did = c.close_mailbox.ensures in
     keeps-then _ _ _ (keeps-written old new (status_of new) (word_of (status_of new)) did.ours did.home did.known did.taken refl)
     c.clean_up.ensures.same
+
+pub returns-clause-emptied : goal.returns-clause-emptied
+returns-clause-emptied g c =
+    subst (λ (k : Taking). OnOk c.clean_up.result (FindsNoMore k c.clean_up.new.claim.home.value.take))
+    (ap (λ (b : Box Contents). b.value.take) c.close_mailbox.ensures.home) c.clean_up.ensures.emptied

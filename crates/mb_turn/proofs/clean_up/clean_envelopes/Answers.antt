@@ -15,7 +15,8 @@ use Rattle.mb_turn.proofs.BesideLemmas.{keeps-same, keeps-then}
 use Rattle.mb_cell.specs.Seen.{Seen}
 use Rattle.mb_turn.proofs.CountLemmas.{one-more}
 use Rattle.mb_turn.proofs.CleanLemmas.{running-within, ended-closed, running-counted, ended-taken, keeps-taken}
-use Rattle.mb_turn.proofs.TellingLemmas.{running-own, keeps-home}
+use Rattle.mb_turn.proofs.EmptiedLemmas.{finds-one, finds-then, take-cleaned, take-none, takes-one}
+use Rattle.mb_turn.proofs.TellingLemmas.{running-own, keeps-home, keeps-asked}
 use Rattle.mb_turn.proofs.clean_up.clean_envelopes.Goals as goal
 
 pub loop-init : goal.loop-init
@@ -73,7 +74,7 @@ returns-in_err-clean_next-clause-same g c =
     keeps-then _ _ _ c.loop.invariant.9
     (keeps-home (hold_of c.loop.claim) c.clean_next.new.self
     (ap (λ (x : Contents). x.cell) (c.in_err-clean_next.ensures.refused ∙ c.deref_mut.ensures.value))
-    (ap (λ (x : Contents). x.take.taken) (c.in_err-clean_next.ensures.refused ∙ c.deref_mut.ensures.value)))
+    (ap (λ (x : Contents). x.take) (c.in_err-clean_next.ensures.refused ∙ c.deref_mut.ensures.value)))
 
 -- ---- none was there
 
@@ -94,7 +95,16 @@ returns-then-not-branch-clause-same g c =
     let found = subst (λ b. MatchBool b (Cleans c.loop.claim.home.value c.clean_next.new.self) (FindsNone c.loop.claim.home.value
     c.clean_next.new.self)) c.if-not-branch.true at_home in
     keeps-then _ _ _ c.loop.invariant.9
-    (keeps-home (hold_of c.loop.claim) c.clean_next.new.self (ap (λ (x : Contents). x.cell) found.same) found.took)
+    (keeps-asked (hold_of c.loop.claim) c.clean_next.new.self (ap (λ (x : Contents). x.cell) found.same) found.took
+    (takes-one _ _ _ (take-none _ _ found)))
+
+pub returns-then-not-branch-clause-emptied : goal.returns-then-not-branch-clause-emptied
+returns-then-not-branch-clause-emptied g c =
+    let at_home = subst (λ (x : Contents). MatchBool c.in_ok-clean_next.field-0 (Cleans x c.clean_next.new.self) (FindsNone x
+    c.clean_next.new.self)) c.deref_mut.ensures.value c.in_ok-clean_next.ensures.cleaned in
+    let found = subst (λ b. MatchBool b (Cleans c.loop.claim.home.value c.clean_next.new.self) (FindsNone c.loop.claim.home.value
+    c.clean_next.new.self)) c.if-not-branch.true at_home in
+    finds-then _ _ _ c.loop.invariant.9.same.takes (finds-one _ _ (take-none _ _ found))
 
 -- ---- one was cleaned up
 
@@ -125,5 +135,6 @@ loop-preserved g c =
       ap (λ (b : Box Contents). b.value.cell) did.same.1 ∙ cell ∙ inv.8,
       keeps-then _ _ _ inv.9
           (keeps-taken _ new ours did.same.1 did.same.0 did.known did.taken l.home.value (ap (λ (x : Seen). x.who) cell)
-          (one-more mid.take.taken l.home.value.take.taken found.envelope found.took) (ap (λ (x : Seen). x.journal) cell)),
+          (one-more mid.take.taken l.home.value.take.taken found.envelope found.took)
+          (takes-one _ _ _ (take-cleaned _ _ found)) (ap (λ (x : Seen). x.journal) cell)),
     )

@@ -16,6 +16,7 @@ use Rattle.mb_turn.specs.Running.{IsRunning}
 use Rattle.mb_turn.proofs.BesideLemmas.{beside-closed, keeps-then}
 use Rattle.mb_turn.proofs.CallerLemmas.{further-then}
 use Rattle.mb_turn.proofs.CleanLemmas.{keeps-ended, running-end, was-ended}
+use Rattle.mb_turn.proofs.EmptiedLemmas.{finds-then, ok-so, takes-same, takes-then}
 use Rattle.mb_turn.proofs.RunningSteps.{running-kept}
 use Rattle.mb_turn.proofs.TellingLemmas.{running-own, keeps-home, settled-here}
 use Rattle.mb_turn.proofs.clean_up.clean_up.Goals as goal
@@ -106,12 +107,23 @@ returns-clause-same g c =
     let first = c.sys_close-listed.new.claim in
     let mid = c.drop_systems.new.claim in
     let cell = ap (λ (x : Contents). x.cell) c.keep.ensures.kept ∙ ap (λ (x : Contents). x.cell) c.deref_mut.ensures.value in
-    let taken = ap (λ (x : Contents). x.take.taken) c.keep.ensures.kept ∙ ap (λ (x : Contents). x.take.taken) c.deref_mut.ensures.value in
+    let take = ap (λ (x : Contents). x.take) c.keep.ensures.kept ∙ ap (λ (x : Contents). x.take) c.deref_mut.ensures.value in
     keeps-then _ _ _
     (keeps-ended c.args.claim.now first did.ours did.same did.taken did.recorded c.sys_close-listed.result did.given did.known did.gave)
     (keeps-then _ _ _ c.drop_systems.ensures.same
-    (keeps-then _ _ _ (keeps-home (hold_of mid) c.keep.new.self cell taken)
+    (keeps-then _ _ _ (keeps-home (hold_of mid) c.keep.new.self cell take)
     (keeps-then _ _ _ c.drop_systems-2.ensures.same c.clean_envelopes.ensures.same)))
+
+-- ---- the queue is empty
+
+pub returns-clause-emptied : goal.returns-clause-emptied
+returns-clause-emptied g c =
+    let kept : c.keep.new.self.take ≡ c.drop_systems.new.claim.home.value.take =
+    ap (λ (x : Contents). x.take) c.keep.ensures.kept ∙ ap (λ (x : Contents). x.take) c.deref_mut.ensures.value in
+    let before = takes-then _ _ _ (takes-same _ _ (ap (λ (b : Box Contents). b.value.take) c.sys_close-listed.ensures.same.1))
+    (takes-then _ _ _ c.drop_systems.ensures.same.same.takes
+    (takes-then _ _ _ (takes-same _ _ kept) c.drop_systems-2.ensures.same.same.takes)) in
+    ok-so c.clean_envelopes.result (finds-then _ _ _ before) c.clean_envelopes.ensures.emptied
 
 pub returns-clause-goes : goal.returns-clause-goes
 returns-clause-goes g c = further-then _ _ _ c.drop_systems.ensures.goes c.drop_systems-2.ensures.goes

@@ -97,7 +97,7 @@ loop-node-preserved g c =
       ap (λ (b : Box Contents). b.value.cell) home ∙ cell ∙ inv.5,
       ap (λ (v : View). v.log) known ∙ inv.6,
       keeps-then _ _ _ inv.7
-          (keeps-then _ _ _ (keeps-home (hold_of l) mid cell (ap (λ (x : Contents). x.take.taken) same))
+          (keeps-then _ _ _ (keeps-home (hold_of l) mid cell (ap (λ (x : Contents). x.take) same))
           (keeps-answered c.actor-actor.result.0 _ new asked told)),
       further-then _ _ _ inv.8 c.answer.ensures.goes,
     )
@@ -144,5 +144,5 @@ returns-clause-left g c =
 pub returns-clause-same : goal.returns-clause-same
 returns-clause-same g c =
     let cell = ap (λ (x : Contents). x.cell) c.in_default.ensures.same ∙ ap (λ (x : Contents). x.cell) c.deref_mut.ensures.value in
-    let taken = ap (λ (x : Contents). x.take.taken) c.in_default.ensures.same ∙ ap (λ (x : Contents). x.take.taken) c.deref_mut.ensures.value in
-    keeps-then _ _ _ c.loop-node.invariant.7 (keeps-home (hold_of c.loop-node.claim) c.drop_next.new.self cell taken)
+    let take = ap (λ (x : Contents). x.take) c.in_default.ensures.same ∙ ap (λ (x : Contents). x.take) c.deref_mut.ensures.value in
+    keeps-then _ _ _ c.loop-node.invariant.7 (keeps-home (hold_of c.loop-node.claim) c.drop_next.new.self cell take)

@@ -9,6 +9,7 @@ use Rattle.mb_cell.specs.Seen.{Seen}
 use Rattle.mb_gate.specs.Names.{known_by}
 use Rattle.mb_gate.specs.Untouched.{origin_of}
 use Rattle.mb_home.specs.Carried.{LeadsOn}
+use Rattle.mb_queue.specs.Passes.{Taking}
 use Rattle.mb_home.specs.Contents.{Contents}
 use Rattle.mb_home.specs.Settled.{IsSettled}
 use Rattle.mb_home.specs.Steps.{most_tells, Begins, FindsNone}
@@ -19,11 +20,12 @@ use Rattle.mb_turn.proofs.AppliedLemmas.{same-keeps, same-fault, not-full, acts-
 use Rattle.mb_turn.proofs.BesideLemmas.{keeps-same, keeps-then, same-run-then}
 use Rattle.mb_turn.proofs.CallerLemmas.{further-none}
 use Rattle.mb_turn.proofs.CleanLemmas.{hold-one}
-use Rattle.mb_turn.proofs.EnvelopeLemmas.{why-not-open, why-none, why-same, is-open, drained-open, drained-home, running-found}
+use Rattle.mb_turn.proofs.EmptiedLemmas.{cleared-open, cleared-same, cleared-then, take-begun, take-none, takes-one, takes-same, takes-then}
+use Rattle.mb_turn.proofs.EnvelopeLemmas.{IsWhy, why-not-open, why-none, is-open, drained-open, drained-home, running-found}
 use Rattle.mb_turn.proofs.ReadingLemmas.{open-reading, count-none}
 use Rattle.mb_turn.proofs.RunningMoves.{status-at}
 use Rattle.mb_turn.proofs.TakenLemmas.{same-begun, turning-counted, running-counted-begun, beside-counted-begun}
-use Rattle.mb_turn.proofs.TellingLemmas.{keeps-home, beside-cell}
+use Rattle.mb_turn.proofs.TellingLemmas.{keeps-asked, beside-cell}
 use Rattle.mb_turn.proofs.TurningLemmas.{turning-keeps}
 use Rattle.mb_turn.proofs.envelopes.apply_envelope.Goals as goal
 
@@ -42,6 +44,9 @@ returns-then-not-should_process-clause-took g c = (
       c.requires.running c.requires.whole
       (sym (c.should_process.ensures ∙ ap should_process c.status-status.ensures) ∙ c.if-not-should_process.true),
 )
+
+pub returns-then-not-should_process-clause-cleared : goal.returns-then-not-should_process-clause-cleared
+returns-then-not-should_process-clause-cleared g c = cleared-same (hold_of c.args.claim.now) (hold_of c.args.claim.now) refl refl
 
 -- ---- there was no room
 
@@ -155,8 +160,15 @@ returns-in_default-clause-turning g c =
     let new : Contents = c.take_next.new.self in
     let found = subst (λ (x : Contents). FindsNone x new) c.deref_mut-2.ensures.value c.in_default.ensures.none in
     let keeps = keeps-then old (record old { home = mid }) (record old { home = new }) (keeps-ready old mid _ _ same)
-    (keeps-home (record old { home = mid }) new (ap (λ (x : Contents). x.cell) found.same) found.took) in
+    (keeps-asked (record old { home = mid }) new (ap (λ (x : Contents). x.cell) found.same) found.took
+    (takes-one _ _ _ (take-none _ _ found))) in
     (turning-keeps old (record old { home = new }) c.args.turn.now keeps c.requires.turning, keeps.same)
+
+pub returns-in_default-clause-cleared : goal.returns-in_default-clause-cleared
+returns-in_default-clause-cleared g c =
+    let t = sym (c.should_process.ensures ∙ ap should_process c.status-status.ensures) ∙ c.if-not-should_process.false in
+    cleared-open (hold_of c.args.claim.now) (record (hold_of c.args.claim.now) { home = c.take_next.new.self })
+    (is-open g.K.Behaviours.gives (origin_of c.args.gates.now) (known_by c.args.waker.now.pass).log (hold_of c.args.claim.now) c.requires.running t)
 
 pub returns-in_default-clause-goes : goal.returns-in_default-clause-goes
 returns-in_default-clause-goes g c = further-none _
@@ -180,8 +192,11 @@ returns-in_default-clause-took g c =
     let t = sym (c.should_process.ensures ∙ ap should_process c.status-status.ensures) ∙ c.if-not-should_process.false in
     let found = subst (λ (x : Contents). FindsNone x new) c.deref_mut-2.ensures.value c.in_default.ensures.none in
     let drained = drained-home old mid (ap (λ (x : Contents). x.cell.who) same)
-    (ap (λ (x : Contents). x.cell.journal) same) (drained-open gives origin seen old c.requires.running c.requires.whole t) in
-    (refl, why-same gives origin seen h r new (ap (λ (x : Contents). x.cell) found.same) (why-none gives origin seen h r drained t))
+    (ap (λ (x : Contents). x.cell.journal) same) (drained-open gives origin seen old c.requires.running c.requires.whole t) in (
+      refl,
+      subst (λ (k : Taking). IsWhy k (record h { home = new })) (ap (λ (x : Contents). x.take) same)
+          (why-none gives origin seen h r new found (acts-ready old mid _ _ same ∙ c.requires.carried_out) drained t),
+    )
 
 -- ---- one was
 
@@ -330,6 +345,26 @@ returns-in-Ok-clause-turning g c =
       turning-keeps _ _ _ c.carry_out.ensures.same turned,
       same-keeps _ _ _ (same-run-then _ _ _ before.same took) c.carry_out.ensures.same,
     )
+
+pub returns-in-Ok-clause-cleared : goal.returns-in-Ok-clause-cleared
+returns-in-Ok-clause-cleared g c =
+    let same = subst (λ (x : Contents). c.ready.new.self
+    ≡ record x { cell = record x.cell { is_ready = c.ready.new.self.cell.is_ready }; room = c.ready.new.self.room }) c.deref_mut.ensures.value
+    c.ready.ensures.same in
+    let out = subst (λ (x : Contents). TakesOut x c.take_next.new.self c.in-Some.envelope) c.deref_mut-2.ensures.value c.in-Some.ensures.took in
+    let here = c.deref_mut-3.ensures.value ∙ ap (λ (x : Box Contents). x.value) c.note_taken.ensures.same.1 in
+    let old = hold_of c.args.claim.now in
+    let mid : Contents = c.ready.new.self in
+    let new : Contents = c.begin.new.self in
+    let t = sym (c.should_process.ensures ∙ ap should_process c.status-status.ensures) ∙ c.if-not-should_process.false in
+    let begun : Begins mid new (word_of c.status-status.result) =
+    c.begin.ensures.begun mid (subst (λ (x : Contents). TakesOut mid x c.in-Some.envelope) (sym here) out) in
+    let begun_hold : Hold = record (hold_of c.note_taken.new.claim) { home = new } in
+    let open_yet = is-open g.K.Behaviours.gives (origin_of c.args.gates.now) (known_by c.args.waker.now.pass).log old c.requires.running t in
+    let takes = takes-then _ _ _ (takes-same _ _ (ap (λ (x : Contents). x.take) same)) (takes-one _ _ _ (take-begun mid new _ begun)) in
+    cleared-then old begun_hold (hold_of c.carry_out.new.claim) takes
+    (cleared-open old begun_hold (ap (λ (m : Mailbox). m.closed) c.note_taken.ensures.same.0 ∙ open_yet))
+    c.in-Ok.ensures.cleared
 
 pub returns-in-Err-clause-turning : goal.returns-in-Err-clause-turning
 returns-in-Err-clause-turning g c =

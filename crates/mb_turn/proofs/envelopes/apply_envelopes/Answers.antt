@@ -1,4 +1,4 @@
-use Rattle.std.proofs.Common.{◌≡◌, ◌<◌, ◌+◌, ap, ◌∙◌, subst, arith}
+use Rattle.std.proofs.Common.{◌≡◌, ◌<◌, ◌+◌, refl, ap, ◌∙◌, subst, arith}
 use Rattle.std.specs.Prelude.{MatchBool}
 use Rattle.mb_journal.specs.Run.{most_envelopes}
 use Rattle.mb_gate.specs.Names.{known_by}
@@ -7,6 +7,7 @@ use Rattle.mb_turn.specs.declared.turn.Turn.{Turn}
 use Rattle.mb_turn.specs.Hold.{hold_of}
 use Rattle.mb_turn.proofs.BesideLemmas.{keeps-same, same-run-then}
 use Rattle.mb_turn.proofs.CallerLemmas.{further-none, further-then}
+use Rattle.mb_turn.proofs.EmptiedLemmas.{cleared-same, cleared-then}
 use Rattle.mb_turn.proofs.EnvelopeLemmas.{IsWhy, reason-why, reason-used}
 use Rattle.mb_turn.proofs.envelopes.apply_envelopes.Goals as goal
 
@@ -21,6 +22,7 @@ loop-handled-init g c = (
   c.requires.turning.1,
   c.requires.whole,
   further-none _,
+  cleared-same (hold_of c.args.claim.now) (hold_of c.args.claim.now) refl refl,
 )
 
 pub returns-in_err-took-clause-turning : goal.returns-in_err-took-clause-turning
@@ -37,17 +39,24 @@ returns-then-not-took-clause-turning g c =
 pub returns-then-not-took-clause-goes : goal.returns-then-not-took-clause-goes
 returns-then-not-took-clause-goes g c = further-then _ _ _ c.loop-handled.invariant.8 c.apply_envelope.ensures.goes
 
+pub returns-then-not-took-clause-cleared : goal.returns-then-not-took-clause-cleared
+returns-then-not-took-clause-cleared g c =
+    cleared-then (hold_of c.args.claim.now) (hold_of c.loop-handled.claim) (hold_of c.apply_envelope.new.claim) c.loop-handled.invariant.5.takes
+    c.loop-handled.invariant.9
+    c.in_ok-took.ensures.cleared
+
 -- why no envelope was taken
 pub returns-then-not-took-clause-ended : goal.returns-then-not-took-clause-ended
 returns-then-not-took-clause-ended g c =
     let h = hold_of c.apply_envelope.new.claim in
     let old = c.loop-handled.turn in
     let new = c.apply_envelope.new.turn in
-    let found = subst (λ b. MatchBool b (new.envelopes ≡ old.envelopes + 1) ((new ≡ old) × IsWhy h)) c.if-not-took.true
+    let before = c.loop-handled.claim.home.value.take in
+    let found = subst (λ b. MatchBool b (new.envelopes ≡ old.envelopes + 1) ((new ≡ old) × IsWhy before h)) c.if-not-took.true
     c.in_ok-took.ensures.took in
     let same : new.envelopes ≡ old.envelopes = ap (λ (t : Turn). t.envelopes) found.0 in
     let less : new.envelopes < most_envelopes c.args.throughput = omega (arith, same, c.loop-handled.invariant.6, c.loop-handled-test.true) in
-    reason-why h c.args.throughput new.envelopes less found.1
+    reason-why c.args.claim.now.home.value.take before h c.args.throughput new.envelopes less c.loop-handled.invariant.5.takes found.1
 
 pub returns-in_err-apply_systems-clause-turning : goal.returns-in_err-apply_systems-clause-turning
 returns-in_err-apply_systems-clause-turning g c = (
@@ -64,7 +73,8 @@ loop-handled-preserved g c =
     let h = hold_of c.apply_envelope.new.claim in
     let old = c.loop-handled.turn in
     let new = c.apply_envelope.new.turn in
-    let more = subst (λ b. MatchBool b (new.envelopes ≡ old.envelopes + 1) ((new ≡ old) × IsWhy h)) c.if-not-took.false
+    let before = c.loop-handled.claim.home.value.take in
+    let more = subst (λ b. MatchBool b (new.envelopes ≡ old.envelopes + 1) ((new ≡ old) × IsWhy before h)) c.if-not-took.false
     c.in_ok-took.ensures.took in (
       c.apply_systems.ensures.ours,
       c.apply_systems.ensures.running,
@@ -75,6 +85,10 @@ loop-handled-preserved g c =
       c.apply_systems.ensures.envelopes ∙ more ∙ ap (λ n. n + 1) c.loop-handled.invariant.6,
       c.in_ok-apply_systems.ensures.whole,
       further-then _ _ _ c.loop-handled.invariant.8 (further-then _ _ _ c.apply_envelope.ensures.goes c.apply_systems.ensures.goes),
+      cleared-then (hold_of c.args.claim.now) (hold_of c.loop-handled.claim) (hold_of c.apply_systems.new.claim) c.loop-handled.invariant.5.takes
+          c.loop-handled.invariant.9
+          (cleared-then (hold_of c.loop-handled.claim) h (hold_of c.apply_systems.new.claim) c.apply_envelope.ensures.turning.1.takes
+          c.in_ok-took.ensures.cleared c.in_ok-apply_systems.ensures.cleared),
     )
 
 -- the throughput was used up
@@ -82,5 +96,8 @@ pub returns-clause-ended : goal.returns-clause-ended
 returns-clause-ended g c =
     let n = c.loop-handled.turn.envelopes in
     let all : n ≡ most_envelopes c.args.throughput = omega (arith, c.loop-handled.invariant.6, c.loop-handled-test.false) in
-    reason-used g.K.Behaviours.gives (origin_of c.args.gates.now) (known_by c.loop-handled.waker.pass).log (hold_of c.loop-handled.claim)
-    c.args.throughput n c.loop-handled.invariant.1 all c.loop-handled.invariant.7
+    reason-used g.K.Behaviours.gives (origin_of c.args.gates.now) (known_by c.loop-handled.waker.pass).log c.args.claim.now.home.value.take
+    (hold_of c.loop-handled.claim) c.args.throughput n c.loop-handled.invariant.1 all c.loop-handled.invariant.7
+
+pub returns-clause-cleared : goal.returns-clause-cleared
+returns-clause-cleared g c = c.loop-handled.invariant.9

@@ -2,6 +2,7 @@ use Rattle.std.proofs.Common.{◌≡◌, ◌⊎◌, [], true}
 use Rattle.mb_gate.specs.Names.{known_by, status_of}
 use Rattle.mb_gate.specs.Untouched.{origin_of}
 use Rattle.mb_turn.specs.Caller.{IsWakerOf, caller_of, GoesFurther}
+use Rattle.mb_turn.specs.Emptied.{IsCleared}
 use Rattle.mb_turn.specs.Hold.{hold_of}
 use Rattle.mb_turn.specs.Ran.{IsTurning, IsDrained}
 use Rattle.mb_turn.specs.Running.{IsRunning, IsBeside, SameRun}
@@ -16,3 +17,4 @@ invariant-loop-handled g l =
     × (l.turn.envelopes ≡ l._handled)
     × (((status_of l.claim).closed ≡ true) ⊎ IsDrained (hold_of l.claim))
     × GoesFurther (caller_of g.W.Way.pushed g.W.Way.refused l.initial.waker) (caller_of g.W.Way.pushed g.W.Way.refused l.waker)
+    × IsCleared (hold_of l.initial.claim) (hold_of l.claim)

@@ -1,17 +1,21 @@
 use Rattle.std.proofs.Common.{◌≡◌, ◌<◌, ◌≤◌, length, refl, sym, ap, ◌∙◌, subst, arith}
-use Rattle.std.specs.Prelude.{IfOk, Result, Err}
+use Rattle.std.specs.Prelude.{OnOk, Result, Err}
 use Rattle.mb_journal.specs.declared.error.ReadyError.{ReadyError}
 use Rattle.mb_journal.specs.Identity.{Identity}
-use Rattle.mb_journal.specs.Run.{IsReason, Stopped}
+use Rattle.mb_journal.specs.Life.{closed}
+use Rattle.mb_journal.specs.Run.{IsReason}
 use Rattle.mb_journal.specs.Run.Stopped.{NoRoom}
 use Rattle.mb_gate.specs.Names.{known_by, known_of, held_actor, actors_of}
 use Rattle.mb_gate.specs.Untouched.{origin_of}
 use Rattle.mb_wake.specs.Views.{LooksAfter}
 use Rattle.mb_turn.specs.Caller.{IsPaid, caller_of}
-use Rattle.mb_turn.specs.Ran.{EndsDrained, HadRoom}
+use Rattle.mb_turn.specs.Emptied.{IsCleared}
+use Rattle.mb_turn.specs.Hold.{hold_of}
 use Rattle.mb_turn.proofs.AppliedLemmas.{same-fault}
 use Rattle.mb_turn.proofs.CallerLemmas.{account-woken}
+use Rattle.mb_turn.proofs.EnvelopeLemmas.{HasStopped}
 use Rattle.mb_turn.proofs.FinishLemmas.{home-own, home-longer, home-fold, home-told, home-rest, saw-journal, steps-taken, leaves-caller, leaves-run}
+use Rattle.mb_turn.proofs.FinishLemmas.{ends-cleared, ends-empty}
 use Rattle.mb_turn.proofs.FreshLemmas.{taken-fresh, log-fresh, taken-begun, running-fresh, beside-fresh, turning-fresh}
 use Rattle.mb_turn.proofs.run.run_mailbox.Goals as goal
 
@@ -113,20 +117,30 @@ returns-in-Ok-clause-ran g c =
     let saw = saw-journal (held_actor last) journal (known_of last) (known_by run.new.waker.pass) (known_by c.release.new.pass)
     run.ensures.running.owes_nothing c.release.ensures.known (known_by c.register.new.self.pass) looks in
     let part = steps-taken (held_actor last) journal (known_of last) (known_by run.new.waker.pass) (known_by c.release.new.pass)
-    run.ensures.running.owes_nothing c.release.ensures.known (known_by c.register.new.self.pass) looks in
+    run.ensures.running.owes_nothing c.release.ensures.known (known_by c.register.new.self.pass) looks
+    (caller_of g.W.Way.pushed g.W.Way.refused c.args.waker.now) (caller_of g.W.Way.pushed g.W.Way.refused run.new.waker) refl run.ensures.goes in
     let taken = taken-fresh g.K.Behaviours.gives (origin_of c.args.gates.now) c.args.claim c.requires.untouched in
     let fresh = log-fresh g.K.Behaviours.gives (origin_of c.args.gates.now) c.args.claim c.requires.untouched in
     let at_first = taken-begun g.K.Behaviours.gives (origin_of c.args.gates.now) c.args.claim c.requires.untouched in
-    let ended = subst (λ (o : Result (Unit {0}) ReadyError). IfOk o (λ _. (stopped : Stopped) × HadRoom stopped × EndsDrained (held_actor last)
-    (known_of last).log stopped × IsReason last.home.value.cell.who c.args.throughput turn.envelopes journal stopped)) c.in-Ok.is
-    run.ensures.ended in (
+    let origin = origin_of c.args.gates.now in
+    let first = hold_of c.args.claim in
+    let now = hold_of last in
+    let ended = subst (λ (o : Result (Unit {0}) ReadyError). OnOk o (HasStopped first.home.take now c.args.throughput turn.envelopes)) c.in-Ok.is
+    run.ensures.ended in
+    let cleared = subst (λ (o : Result (Unit {0}) ReadyError). OnOk o (IsCleared first now)) c.in-Ok.is run.ensures.cleared in
+    let who : now.home.cell.who ≡ first.home.cell.who = run.ensures.turning.1.who in
+    let empty = ends-empty first.home.cell.who c.args.throughput turn.envelopes ended.0 first.home.take now ended.1 ended.3
+    (subst (λ (w : Identity). IsReason w c.args.throughput turn.envelopes journal ended.0) who ended.4)
+    (λ shut. ends-cleared g.K.Behaviours.gives origin (known_by run.new.waker.pass).log first now c.requires.untouched.open_yet run.ensures.running
+    cleared (ap (λ (w : Identity). closed w journal) who ∙ shut)) in (
       journal,
       (
         ended.0,
         ended.1,
-        leaves-run c.args.throughput c.args.claim last (known_by c.register.new.self.pass) turn ended.0 taken run.ensures.turning.1
-            run.ensures.turning.0 run.ensures.few ended.3 ended.2 run.ensures.running.dry saw part fresh at_first
-            run.ensures.running.settled.taken run.ensures.running.settled.open_keeps,
+        leaves-run c.args.throughput c.args.claim last (known_by c.args.waker.now.pass) (known_by c.register.new.self.pass) turn ended.0
+            taken run.ensures.turning.1
+            run.ensures.turning.0 run.ensures.few ended.4 ended.2 run.ensures.running.dry saw part fresh at_first
+            run.ensures.running.settled.taken run.ensures.running.settled.open_keeps empty,
       ),
     )
 
@@ -142,16 +156,18 @@ returns-in-Err-clause-ran g c =
     let saw = saw-journal (held_actor last) journal (known_of last) (known_by run.new.waker.pass) (known_by c.release.new.pass)
     run.ensures.running.owes_nothing c.release.ensures.known (known_by c.register.new.self.pass) looks in
     let part = steps-taken (held_actor last) journal (known_of last) (known_by run.new.waker.pass) (known_by c.release.new.pass)
-    run.ensures.running.owes_nothing c.release.ensures.known (known_by c.register.new.self.pass) looks in
+    run.ensures.running.owes_nothing c.release.ensures.known (known_by c.register.new.self.pass) looks
+    (caller_of g.W.Way.pushed g.W.Way.refused c.args.waker.now) (caller_of g.W.Way.pushed g.W.Way.refused run.new.waker) refl run.ensures.goes in
     let taken = taken-fresh g.K.Behaviours.gives (origin_of c.args.gates.now) c.args.claim c.requires.untouched in
     let fresh = log-fresh g.K.Behaviours.gives (origin_of c.args.gates.now) c.args.claim c.requires.untouched in
     let at_first = taken-begun g.K.Behaviours.gives (origin_of c.args.gates.now) c.args.claim c.requires.untouched in (
       journal,
       (
         turn,
-        leaves-run c.args.throughput c.args.claim last (known_by c.register.new.self.pass) turn NoRoom taken run.ensures.turning.1
+        leaves-run c.args.throughput c.args.claim last (known_by c.args.waker.now.pass) (known_by c.register.new.self.pass) turn NoRoom
+            taken run.ensures.turning.1
             run.ensures.turning.0 run.ensures.few tt tt run.ensures.running.dry saw part fresh at_first
-            run.ensures.running.settled.taken run.ensures.running.settled.open_keeps,
+            run.ensures.running.settled.taken run.ensures.running.settled.open_keeps (λ ends. absurd ends),
         λ full. subst (λ (w : Identity). w.limit ≤ length journal) run.ensures.turning.1.who
             (run.ensures.full (c.in-Err.is ∙ ap (λ (f : ReadyError). Err f) (same-fault c.in-Err.fault full))),
       ),

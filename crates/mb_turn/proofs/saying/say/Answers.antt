@@ -1,12 +1,17 @@
-use Rattle.std.proofs.Common.{◌<◌, Some, sym, refl, ◌∙◌, subst}
+use Rattle.std.proofs.Common.{◌<◌, Some, sym, refl, ap, ◌∙◌, subst}
+use Rattle.std.specs.Global.{Box}
+use Rattle.mb_status.specs.Mailbox.{Mailbox}
 use Rattle.mb_gate.specs.Named.{NamesBelow}
 use Rattle.mb_gate.specs.Names.{actors_of, known_by}
 use Rattle.mb_gate.specs.Untouched.{origin_of}
+use Rattle.mb_home.specs.Contents.{Contents}
 use Rattle.mb_wake.proofs.Views.{does-then, does-enlisting}
 use Rattle.mb_turn.specs.Hold.{hold_of}
 use Rattle.mb_turn.specs.Notice.{asker}
 use Rattle.mb_turn.proofs.BesideLemmas.{keeps-then}
 use Rattle.mb_turn.proofs.CallerLemmas.{account-woken, further-said, further-then}
+use Rattle.mb_turn.proofs.CleanLemmas.{status-answered}
+use Rattle.mb_turn.proofs.EmptiedLemmas.{cleared-same}
 use Rattle.mb_turn.proofs.MoveLemmas.{moves-does, further-moves}
 use Rattle.mb_turn.proofs.SayLemmas.{running-goes, running-said, running-refused, keeps-recorded, keeps-answered, beside-said, beside-answered}
 use Rattle.mb_turn.proofs.SayLemmas.{home-answered}
@@ -25,7 +30,7 @@ returns-in-Ok-clause-goes g c =
     let id = c.args.to.0 in
     let a = known_by c.args.waker.now.pass in let b = known_by c.sys_enqueue_in_run.new.pass in let d = known_by c.register.new.self.pass in
     further-moves id _ _
-    (moves-does id _ _ a d
+    (moves-does id _ _ a d (tt, tt)
     (does-then id _ _ a b d (does-enlisting id c.in-Ok.field-0 c.args.node a b c.in-Ok.ensures.listed) c.register.ensures.looks))
     (account-woken id _ _ c.register.result c.register.ensures.woken) c.register.ensures.paid
 
@@ -47,6 +52,12 @@ returns-in-Ok-clause-left g c = c.in-Ok.ensures.recorded.home
 
 pub returns-in-Ok-clause-same : goal.returns-in-Ok-clause-same
 returns-in-Ok-clause-same g c = keeps-recorded c.args.claim.now c.sys_enqueue_in_run.new.claim _ c.in-Ok.ensures.recorded
+
+pub returns-in-Ok-clause-cleared : goal.returns-in-Ok-clause-cleared
+returns-in-Ok-clause-cleared g c =
+    let said = c.in-Ok.ensures.recorded in
+    cleared-same (hold_of c.args.claim.now) (hold_of c.sys_enqueue_in_run.new.claim) (ap (λ (m : Mailbox). m.closed) said.status)
+    (ap (λ (b : Box Contents). b.value.take) said.home)
 
 -- ---- it found its list ended
 
@@ -93,3 +104,14 @@ returns-in-Err-clause-same g c =
     let mid = c.sys_enqueue_in_run.new.claim in
     keeps-then _ _ _ (keeps-recorded c.args.claim.now mid _ c.in-Err.ensures.recorded)
     (keeps-answered c.args.to.0 mid c.answer.new.claim (asker (Some c.actor-parent.result) c.in-Err.field-0.0) c.answer.ensures.answered)
+
+pub returns-in-Err-clause-cleared : goal.returns-in-Err-clause-cleared
+returns-in-Err-clause-cleared g c =
+    let mid = c.sys_enqueue_in_run.new.claim in
+    let new = c.answer.new.claim in
+    let said = c.in-Err.ensures.recorded in
+    let asked = asker (Some c.actor-parent.result) c.in-Err.field-0.0 in
+    let told = c.answer.ensures.answered in
+    cleared-same (hold_of c.args.claim.now) (hold_of new)
+    (ap (λ (m : Mailbox). m.closed) (status-answered c.args.to.0 mid new asked told ∙ said.status))
+    (ap (λ (b : Box Contents). b.value.take) (home-answered c.args.to.0 mid new asked told ∙ said.home))

@@ -13,6 +13,7 @@ use Rattle.mb_turn.specs.Running.{IsRunning}
 use Rattle.mb_turn.proofs.AppliedLemmas.{same-keeps, not-full, acts-ready, keeps-ready, beside-ready, running-ready, systems-fit}
 use Rattle.mb_turn.proofs.BesideLemmas.{same-run-then}
 use Rattle.mb_turn.proofs.CallerLemmas.{further-none}
+use Rattle.mb_turn.proofs.EmptiedLemmas.{cleared-open, cleared-then, ok-so, takes-same}
 use Rattle.mb_turn.proofs.RunningMoves.{journal-open, running-applied, beside-applied}
 use Rattle.mb_turn.proofs.TurningLemmas.{turning-keeps, turning-applied, same-applied}
 use Rattle.mb_turn.proofs.systems.apply_one.Goals as goal
@@ -152,6 +153,19 @@ returns-clause-turning g c =
       same-keeps old (record h { home = new }) _ (same-run-then old h (record h { home = new }) keeps.same (same-applied h new c.args.turn.now
           (turning-keeps old h c.args.turn.now keeps c.requires.turning) a)) c.carry_out.ensures.same,
     )
+
+pub returns-clause-cleared : goal.returns-clause-cleared
+returns-clause-cleared g c =
+    let same = subst (λ (x : Contents). c.ready.new.self
+    ≡ record x { cell = record x.cell { is_ready = c.ready.new.self.cell.is_ready }; room = c.ready.new.self.room }) c.deref_mut.ensures.value
+    c.ready.ensures.same in
+    let applied = subst (λ (x : Contents). AppliesNext x c.apply_next.new.self) c.deref_mut-2.ensures.value c.apply_next.ensures.applied in
+    let old = hold_of c.args.claim.now in
+    let mid : Hold = record old { home = c.apply_next.new.self } in
+    let take : mid.home.take ≡ old.home.take = ap (λ (x : Contents). x.take) applied.same ∙ ap (λ (x : Contents). x.take) same in
+    ok-so c.carry_out.result
+    (cleared-then old mid (hold_of c.carry_out.new.claim) (takes-same _ _ take) (cleared-open old mid c.requires.not_closed))
+    c.carry_out.ensures.cleared
 
 pub returns-clause-full : goal.returns-clause-full
 returns-clause-full g c = λ full. absurd (not-full _ c.carry_out.ensures.refused full)

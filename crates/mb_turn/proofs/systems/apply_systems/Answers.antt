@@ -1,103 +1,53 @@
-use Rattle.std.proofs.Common.{inl, inr, refl, sym, ap, ◌∙◌, subst}
-use Rattle.std.specs.Prelude.{MatchBool}
-use Rattle.mb_status.specs.Mailbox.{Mailbox}
+use Rattle.std.proofs.Common.{inr, ap, ◌∙◌}
 use Rattle.mb_cell.specs.Seen.{Seen}
 use Rattle.mb_gate.specs.Names.{known_by}
-use Rattle.mb_home.specs.Contents.{Contents}
-use Rattle.mb_home.specs.Steps.{HasNext, IsRested}
-use Rattle.mb_turn.proofs.AppliedLemmas.{same-keeps}
-use Rattle.mb_turn.proofs.BesideLemmas.{keeps-same, same-run-then}
-use Rattle.mb_turn.proofs.CallerLemmas.{further-none, further-then}
+use Rattle.mb_turn.specs.Hold.{hold_of}
+use Rattle.mb_turn.proofs.BesideLemmas.{same-run-then}
+use Rattle.mb_turn.proofs.CallerLemmas.{further-none}
+use Rattle.mb_turn.proofs.EmptiedLemmas.{cleared-then, ok-so}
 use Rattle.mb_turn.proofs.TurningLemmas.{turning-keeps}
 use Rattle.mb_turn.proofs.systems.apply_systems.Goals as goal
 
-pub loop-init : goal.loop-init
-loop-init g c = (
-  tt,
-  tt,
-  c.requires.ours,
-  c.requires.running,
-  c.requires.beside,
-  c.requires.carried_out,
-  c.requires.turning,
-  (keeps-same _).same,
-  refl,
-  further-none _,
-)
+pub is_quiet-requires-clause-running : goal.is_quiet-requires-clause-running
+is_quiet-requires-clause-running g c = ((known_by c.args.waker.now.pass).log, c.requires.running)
 
-pub returns-then-closed-clause-whole : goal.returns-then-closed-clause-whole
-returns-then-closed-clause-whole g c = inl (sym (c.closed.ensures ∙ ap (λ (m : Mailbox). m.closed) c.status.ensures) ∙ c.if-closed.true)
+-- ---- no system message is due
 
--- ---- a system message is due
+pub returns-then-is_quiet-clause-running : goal.returns-then-is_quiet-clause-running
+returns-then-is_quiet-clause-running g c = c.is_quiet.ensures.running (known_by c.args.waker.now.pass).log c.requires.running
 
-pub apply_one-requires-clause-due : goal.apply_one-requires-clause-due
-apply_one-requires-clause-due g c =
-    let at_home = subst (λ (x : Contents). MatchBool c.has_next.result (HasNext x) (IsRested x)) c.deref.ensures c.has_next.ensures in
-    subst (λ b. MatchBool b (HasNext c.loop.claim.home.value) (IsRested c.loop.claim.home.value)) c.if-has_next.true at_home
+pub returns-then-is_quiet-clause-carried_out : goal.returns-then-is_quiet-clause-carried_out
+returns-then-is_quiet-clause-carried_out g c = ap (λ (x : Seen). x.acts) c.is_quiet.ensures.left ∙ c.requires.carried_out
 
-pub apply_one-requires-clause-not_closed : goal.apply_one-requires-clause-not_closed
-apply_one-requires-clause-not_closed g c = sym (c.closed.ensures ∙ ap (λ (m : Mailbox). m.closed) c.status.ensures) ∙ c.if-closed.false
+pub returns-then-is_quiet-clause-turning : goal.returns-then-is_quiet-clause-turning
+returns-then-is_quiet-clause-turning g c =
+    (turning-keeps _ _ _ c.is_quiet.ensures.same c.requires.turning, c.is_quiet.ensures.same.same)
 
-pub returns-in_err-apply_one-clause-turning : goal.returns-in_err-apply_one-clause-turning
-returns-in_err-apply_one-clause-turning g c =
-    (c.apply_one.ensures.turning.0, same-run-then _ _ _ c.loop.invariant.7 c.apply_one.ensures.turning.1)
+pub returns-then-is_quiet-clause-whole : goal.returns-then-is_quiet-clause-whole
+returns-then-is_quiet-clause-whole g c = inr (c.is_quiet.ensures.drained c.if-is_quiet.true)
 
-pub returns-in_err-apply_one-clause-envelopes : goal.returns-in_err-apply_one-clause-envelopes
-returns-in_err-apply_one-clause-envelopes g c = c.apply_one.ensures.envelopes ∙ c.loop.invariant.8
+pub returns-then-is_quiet-clause-cleared : goal.returns-then-is_quiet-clause-cleared
+returns-then-is_quiet-clause-cleared g c = c.is_quiet.ensures.cleared
 
-pub returns-in_err-apply_one-clause-goes : goal.returns-in_err-apply_one-clause-goes
-returns-in_err-apply_one-clause-goes g c = further-then _ _ _ c.loop.invariant.9 c.apply_one.ensures.goes
+pub returns-then-is_quiet-clause-goes : goal.returns-then-is_quiet-clause-goes
+returns-then-is_quiet-clause-goes g c = further-none _
 
-pub loop-preserved-then-has_next : goal.loop-preserved-then-has_next
-loop-preserved-then-has_next g c = (
-  tt,
-  tt,
-  c.apply_one.ensures.ours,
-  c.apply_one.ensures.running,
-  c.apply_one.ensures.beside,
-  c.apply_one.ensures.carried_out,
-  c.apply_one.ensures.turning.0,
-  same-run-then _ _ _ c.loop.invariant.7 c.apply_one.ensures.turning.1,
-  c.apply_one.ensures.envelopes ∙ c.loop.invariant.8,
-  further-then _ _ _ c.loop.invariant.9 c.apply_one.ensures.goes,
-)
+-- ---- there may be one
 
--- ---- none is: the list is drained
+pub apply_all-requires-clause-running : goal.apply_all-requires-clause-running
+apply_all-requires-clause-running g c = c.is_quiet.ensures.running (known_by c.args.waker.now.pass).log c.requires.running
 
-pub drain-requires-clause-rested : goal.drain-requires-clause-rested
-drain-requires-clause-rested g c =
-    let at_home = subst (λ (x : Contents). MatchBool c.has_next.result (HasNext x) (IsRested x)) c.deref.ensures c.has_next.ensures in
-    subst (λ b. MatchBool b (HasNext c.loop.claim.home.value) (IsRested c.loop.claim.home.value)) c.if-has_next.false at_home
+pub apply_all-requires-clause-carried_out : goal.apply_all-requires-clause-carried_out
+apply_all-requires-clause-carried_out g c = ap (λ (x : Seen). x.acts) c.is_quiet.ensures.left ∙ c.requires.carried_out
 
-pub drain-requires-clause-not_closed : goal.drain-requires-clause-not_closed
-drain-requires-clause-not_closed g c = sym (c.closed.ensures ∙ ap (λ (m : Mailbox). m.closed) c.status.ensures) ∙ c.if-closed.false
+pub apply_all-requires-clause-turning : goal.apply_all-requires-clause-turning
+apply_all-requires-clause-turning g c = turning-keeps _ _ _ c.is_quiet.ensures.same c.requires.turning
 
-pub drain-requires-clause-running : goal.drain-requires-clause-running
-drain-requires-clause-running g c = ((known_by c.loop.waker.pass).log, c.loop.invariant.3)
+pub returns-clause-turning : goal.returns-clause-turning
+returns-clause-turning g c = (c.apply_all.ensures.turning.0, same-run-then _ _ _ c.is_quiet.ensures.same.same c.apply_all.ensures.turning.1)
 
-pub returns-then-not-drain-clause-running : goal.returns-then-not-drain-clause-running
-returns-then-not-drain-clause-running g c = c.drain.ensures.running (known_by c.loop.waker.pass).log c.loop.invariant.3
-
-pub returns-then-not-drain-clause-carried_out : goal.returns-then-not-drain-clause-carried_out
-returns-then-not-drain-clause-carried_out g c = ap (λ (x : Seen). x.acts) c.drain.ensures.left ∙ c.loop.invariant.5
-
-pub returns-then-not-drain-clause-turning : goal.returns-then-not-drain-clause-turning
-returns-then-not-drain-clause-turning g c =
-    (turning-keeps _ _ _ c.drain.ensures.same c.loop.invariant.6, same-keeps _ _ _ c.loop.invariant.7 c.drain.ensures.same)
-
-pub returns-then-not-drain-clause-whole : goal.returns-then-not-drain-clause-whole
-returns-then-not-drain-clause-whole g c = inr (c.drain.ensures.drained c.if-not-drain.true)
-
-pub loop-preserved : goal.loop-preserved
-loop-preserved g c = (
-  tt,
-  tt,
-  c.loop.invariant.2,
-  c.drain.ensures.running (known_by c.loop.waker.pass).log c.loop.invariant.3,
-  c.drain.ensures.beside,
-  ap (λ (x : Seen). x.acts) c.drain.ensures.left ∙ c.loop.invariant.5,
-  turning-keeps _ _ _ c.drain.ensures.same c.loop.invariant.6,
-  same-keeps _ _ _ c.loop.invariant.7 c.drain.ensures.same,
-  c.loop.invariant.8,
-  c.loop.invariant.9,
-)
+pub returns-clause-cleared : goal.returns-clause-cleared
+returns-clause-cleared g c =
+    ok-so c.apply_all.result
+    (cleared-then (hold_of c.args.claim.now) (hold_of c.is_quiet.new.claim) (hold_of c.apply_all.new.claim) c.is_quiet.ensures.same.same.takes
+    c.is_quiet.ensures.cleared) c.apply_all.ensures.cleared

@@ -1,5 +1,6 @@
 use Rattle.std.proofs.Common.{◌≡◌, List, refl, sym, ap, ◌∙◌, subst}
 use Rattle.std.specs.Global.{Box}
+use Rattle.mb_status.specs.Mailbox.{Mailbox}
 use Rattle.mb_journal.specs.Acts.{Act}
 use Rattle.mb_gate.specs.Lists.{IsNumberedFrom}
 use Rattle.mb_gate.specs.Untouched.{origin_of}
@@ -8,6 +9,7 @@ use Rattle.mb_home.specs.Contents.{Contents}
 use Rattle.mb_home.specs.Settled.{IsSettled}
 use Rattle.mb_turn.specs.Hold.{hold_of}
 use Rattle.mb_turn.proofs.DrainingLemmas.{none-kept, keeps-drained, drained-from, beside-drained, is-drained, running-drain}
+use Rattle.mb_turn.proofs.EmptiedLemmas.{cleared-open}
 use Rattle.mb_turn.proofs.TellingLemmas.{running-own}
 use Rattle.mb_turn.proofs.systems.drain.Goals as goal
 
@@ -120,3 +122,17 @@ returns-then-is_empty-clause-drained g c =
     let kept = none-kept mid.home.value c.sys_drain-drained.result (ap (λ (x : Contents). x.rest) here ∙ c.requires.rested.no_rest) none in
     λ _. is-drained old mid did.ours did.same did.taken did.recorded c.sys_drain-drained.result did.given did.known did.gave mid.home.value kept
     c.requires.rested none
+
+-- ---- the mailbox is as it was
+
+pub returns-clause-cleared : goal.returns-clause-cleared
+returns-clause-cleared g c =
+    let did = c.sys_drain-drained.ensures in
+    cleared-open (hold_of c.args.claim.now) (record (hold_of c.sys_drain-drained.new.claim) { home = c.keep.new.self })
+    (ap (λ (m : Mailbox). m.closed) did.same.0 ∙ c.requires.not_closed)
+
+pub returns-then-is_empty-clause-cleared : goal.returns-then-is_empty-clause-cleared
+returns-then-is_empty-clause-cleared g c =
+    let did = c.sys_drain-drained.ensures in
+    cleared-open (hold_of c.args.claim.now) (hold_of c.sys_drain-drained.new.claim)
+    (ap (λ (m : Mailbox). m.closed) did.same.0 ∙ c.requires.not_closed)

@@ -1,4 +1,4 @@
-use Rattle.std.proofs.Common.{inl, [], ◌∷◌, List, sym, ap, ◌∙◌, subst, arith}
+use Rattle.std.proofs.Common.{inl, [], ◌∷◌, List, refl, sym, ap, ◌∙◌, subst, arith}
 use Rattle.mb_status.specs.Mailbox.{word_of}
 use Rattle.mb_msg.specs.declared.dead_letter.Why.TheVariants.{Closed}
 use Rattle.mb_journal.specs.Acts.Act.{Tell}
@@ -12,6 +12,7 @@ use Rattle.mb_wake.proofs.Views.{looks-read, does-then, does-sending, does-unsen
 use Rattle.mb_turn.specs.Hold.{hold_of}
 use Rattle.mb_turn.specs.Running.{IsRunning}
 use Rattle.mb_turn.proofs.CallerLemmas.{account-none, account-woken}
+use Rattle.mb_turn.proofs.EmptiedLemmas.{cleared-same}
 use Rattle.mb_turn.proofs.MoveLemmas.{moves-does, moves-then, further-moves}
 use Rattle.mb_turn.proofs.SayLemmas.{running-goes}
 use Rattle.mb_turn.proofs.TellingLemmas.{running-own, told-below, log-closed, paid-closed, keeps-home, beside-cell}
@@ -83,7 +84,14 @@ returns-then-closed-clause-same g c =
     let buried = subst (λ (x : Contents). Buries x c.bury_closed.new.self c.args.to c.args.body Closed) c.deref_mut.ensures.value
     c.bury_closed.ensures.buried in
     keeps-home (hold_of c.args.claim.now) c.bury_closed.new.self (ap (λ (x : Contents). x.cell) buried.same)
-    (ap (λ (x : Contents). x.take.taken) buried.same)
+    (ap (λ (x : Contents). x.take) buried.same)
+
+pub returns-then-closed-clause-cleared : goal.returns-then-closed-clause-cleared
+returns-then-closed-clause-cleared g c =
+    let buried = subst (λ (x : Contents). Buries x c.bury_closed.new.self c.args.to c.args.body Closed) c.deref_mut.ensures.value
+    c.bury_closed.ensures.buried in
+    cleared-same (hold_of c.args.claim.now) (record (hold_of c.args.claim.now) { home = c.bury_closed.new.self }) refl
+    (ap (λ (x : Contents). x.take) buried.same)
 
 pub returns-then-closed-clause-goes : goal.returns-then-closed-clause-goes
 returns-then-closed-clause-goes g c =
@@ -91,7 +99,7 @@ returns-then-closed-clause-goes g c =
     let a = known_by c.args.waker.now.pass in let b = known_by c.status-status.new.pass in
     let known = c.status-status.ensures.known in
     let shut = sym c.closed.ensures ∙ c.if-closed.true in
-    further-moves id _ _ (moves-does id [] [] a b (looks-read id (word_of c.status-status.result) a b known)) (account-none _)
+    further-moves id _ _ (moves-does id [] [] a b tt (looks-read id (word_of c.status-status.result) a b known)) (account-none _)
     (inl (paid-closed id c.status-status.result a b shut known))
 
 -- ---- it was pushed
@@ -102,8 +110,8 @@ returns-in-Ok-clause-goes g c =
     let a = known_by c.args.waker.now.pass in let b = known_by c.status-status.new.pass in
     let d = known_by c.note_sent.new.pass in let e = known_by c.register.new.self.pass in
     further-moves id _ _
-    (moves-then id a b e (moves-does id [] [] a b (looks-read id (word_of c.status-status.result) a b c.status-status.ensures.known))
-    (moves-does id _ [] b e (does-then id _ [] b d e (does-sending id b d c.note_sent.ensures.known) c.register.ensures.looks)))
+    (moves-then id a b e (moves-does id [] [] a b tt (looks-read id (word_of c.status-status.result) a b c.status-status.ensures.known))
+    (moves-does id _ [] b e (tt, tt) (does-then id _ [] b d e (does-sending id b d c.note_sent.ensures.known) c.register.ensures.looks)))
     (account-woken id _ _ c.register.result c.register.ensures.woken) c.register.ensures.paid
 
 pub returns-in-Ok-clause-running : goal.returns-in-Ok-clause-running
@@ -133,7 +141,13 @@ pub returns-in-Ok-clause-same : goal.returns-in-Ok-clause-same
 returns-in-Ok-clause-same g c =
     let pushed = subst (λ (x : Contents). Pushes x c.push.new.self c.args.to c.args.body) c.deref_mut-2.ensures.value c.in-Ok.ensures.pushed in
     keeps-home (hold_of c.args.claim.now) c.push.new.self (ap (λ (x : Contents). x.cell) pushed.same)
-    (ap (λ (x : Contents). x.take.taken) pushed.same)
+    (ap (λ (x : Contents). x.take) pushed.same)
+
+pub returns-in-Ok-clause-cleared : goal.returns-in-Ok-clause-cleared
+returns-in-Ok-clause-cleared g c =
+    let pushed = subst (λ (x : Contents). Pushes x c.push.new.self c.args.to c.args.body) c.deref_mut-2.ensures.value c.in-Ok.ensures.pushed in
+    cleared-same (hold_of c.args.claim.now) (record (hold_of c.args.claim.now) { home = c.push.new.self }) refl
+    (ap (λ (x : Contents). x.take) pushed.same)
 
 -- ---- it was refused
 
@@ -144,8 +158,8 @@ returns-in-Err-clause-goes g c =
     let d = known_by c.note_sent.new.pass in let e = known_by c.note_unsent.new.pass in
     let f = known_by c.register-in-Err.new.self.pass in
     further-moves id _ _
-    (moves-then id a b f (moves-does id [] [] a b (looks-read id (word_of c.status-status.result) a b c.status-status.ensures.known))
-    (moves-does id _ [] b f (does-then id _ [] b e f (does-unsending id b d e c.note_sent.ensures.known c.note_unsent.ensures.known)
+    (moves-then id a b f (moves-does id [] [] a b tt (looks-read id (word_of c.status-status.result) a b c.status-status.ensures.known))
+    (moves-does id _ [] b f (tt, (tt, tt)) (does-then id _ [] b e f (does-unsending id b d e c.note_sent.ensures.known c.note_unsent.ensures.known)
     c.register-in-Err.ensures.looks)))
     (account-woken id _ _ c.register-in-Err.result c.register-in-Err.ensures.woken) c.register-in-Err.ensures.paid
 
@@ -180,4 +194,11 @@ returns-in-Err-clause-same g c =
     let buried = subst (λ (x : Contents). Buries x c.push.new.self c.args.to c.args.body (reason_of c.in-Err.field-0)) c.deref_mut-2.ensures.value
     c.in-Err.ensures.pushed.1 in
     keeps-home (hold_of c.args.claim.now) c.push.new.self (ap (λ (x : Contents). x.cell) buried.same)
-    (ap (λ (x : Contents). x.take.taken) buried.same)
+    (ap (λ (x : Contents). x.take) buried.same)
+
+pub returns-in-Err-clause-cleared : goal.returns-in-Err-clause-cleared
+returns-in-Err-clause-cleared g c =
+    let buried = subst (λ (x : Contents). Buries x c.push.new.self c.args.to c.args.body (reason_of c.in-Err.field-0)) c.deref_mut-2.ensures.value
+    c.in-Err.ensures.pushed.1 in
+    cleared-same (hold_of c.args.claim.now) (record (hold_of c.args.claim.now) { home = c.push.new.self }) refl
+    (ap (λ (x : Contents). x.take) buried.same)

@@ -32,3 +32,13 @@ returns-clause-paid g c idle =
     paid status c.has_messages-messages.result c.has_system-system.result (owes id a) (owes id b) (owes id d) (owes id e) read
     c.has_system-system.ensures.some c.has_system-system.ensures.none c.has_messages-messages.ensures.some c.has_messages-messages.ensures.none
     (sym c.can_schedule.ensures ∙ idle)
+
+pub returns-then-closed-clause-looks : goal.returns-then-closed-clause-looks
+returns-then-closed-clause-looks g c =
+    subst (LooksAfter c.args.id.0 (known_by c.args.pass.now)) (sym c.status-status.ensures.known)
+    (looks-reading c.args.id.0 (word_of c.status-status.result) (known_by c.args.pass.now))
+
+pub returns-then-should_process-clause-looks : goal.returns-then-should_process-clause-looks
+returns-then-should_process-clause-looks g c =
+    subst (LooksAfter c.args.id.0 (known_by c.args.pass.now)) (sym c.status-status.ensures.known)
+    (looks-reading c.args.id.0 (word_of c.status-status.result) (known_by c.args.pass.now))

@@ -4,39 +4,36 @@ use Rattle.mb_gate.specs.Names.{known_by}
 use Rattle.mb_wake.proofs.Views.{looks-then, looks-read, looks-read-twice, looks-read-won}
 use Rattle.mb_wake.proofs.due.take_due.Goals as goal
 
-pub returns-then-not-is_due-clause-looks : goal.returns-then-not-is_due-clause-looks
-returns-then-not-is_due-clause-looks g c =
-    looks-then c.args.id.0 (known_by c.args.pass.now) (known_by c.loop.pass) (known_by c.is_due.new.pass) c.loop.invariant.3 c.is_due.ensures.looks
-
 pub returns-in-Got-clause-looks : goal.returns-in-Got-clause-looks
 returns-in-Got-clause-looks g c =
-    let id = c.args.id.0 in let a = known_by c.args.pass.now in let b = known_by c.loop.pass in
-    let d = known_by c.is_due.new.pass in let e = known_by c.try_schedule.new.pass in
-    let before = looks-then id a b d c.loop.invariant.3 c.is_due.ensures.looks in
+    let id = c.args.id.0 in let a = known_by c.args.pass.now in let b = known_by c.loop.pass in let d = known_by c.try_schedule.new.pass in
     let got = c.in-Got.ensures.answer in
-    looks-then id a d e before (looks-read-won id (word_of got.0) d e got.1.pass)
+    looks-then id a b d c.loop.invariant.3 (looks-read-won id (word_of got.0) b d got.1.pass)
 
 pub returns-in-Already-clause-looks : goal.returns-in-Already-clause-looks
 returns-in-Already-clause-looks g c =
-    let id = c.args.id.0 in let a = known_by c.args.pass.now in let b = known_by c.loop.pass in
-    let d = known_by c.is_due.new.pass in let e = known_by c.try_schedule.new.pass in
-    let before = looks-then id a b d c.loop.invariant.3 c.is_due.ensures.looks in
+    let id = c.args.id.0 in let a = known_by c.args.pass.now in let b = known_by c.loop.pass in let d = known_by c.try_schedule.new.pass in
     let tried = c.in-Already.ensures.answer in
-    looks-then id a d e before (looks-read id (word_of tried.0) d e tried.1.2)
+    looks-then id a b d c.loop.invariant.3 (looks-read id (word_of tried.0) b d tried.1.2)
 
 pub returns-in-Closed-clause-looks : goal.returns-in-Closed-clause-looks
 returns-in-Closed-clause-looks g c =
-    let id = c.args.id.0 in let a = known_by c.args.pass.now in let b = known_by c.loop.pass in
-    let d = known_by c.is_due.new.pass in let e = known_by c.try_schedule.new.pass in
-    let before = looks-then id a b d c.loop.invariant.3 c.is_due.ensures.looks in
+    let id = c.args.id.0 in let a = known_by c.args.pass.now in let b = known_by c.loop.pass in let d = known_by c.try_schedule.new.pass in
     let tried = c.in-Closed.ensures.answer in
-    looks-then id a d e before (looks-read id (word_of tried.0) d e tried.1.1)
+    looks-then id a b d c.loop.invariant.3 (looks-read id (word_of tried.0) b d tried.1.1)
+
+pub returns-then-not-is_due-clause-looks : goal.returns-then-not-is_due-clause-looks
+returns-then-not-is_due-clause-looks g c =
+    let id = c.args.id.0 in let a = known_by c.args.pass.now in let b = known_by c.loop.pass in
+    let d = known_by c.try_schedule.new.pass in let e = known_by c.is_due.new.pass in
+    let tried = c.in-Lost.ensures.answer in
+    let lost = looks-then id a b d c.loop.invariant.3 (looks-read-twice id (word_of tried.0) (word_of c.in-Lost.field-0) b d tried.1.2) in
+    looks-then id a d e lost c.is_due.ensures.looks
 
 pub loop-preserved : goal.loop-preserved
 loop-preserved g c =
     let id = c.args.id.0 in let a = known_by c.args.pass.now in let b = known_by c.loop.pass in
-    let d = known_by c.is_due.new.pass in let e = known_by c.try_schedule.new.pass in
-    let before = looks-then id a b d c.loop.invariant.3 c.is_due.ensures.looks in
+    let d = known_by c.try_schedule.new.pass in let e = known_by c.is_due.new.pass in
     let tried = c.in-Lost.ensures.answer in
-    let looks = looks-then id a d e before (looks-read-twice id (word_of tried.0) (word_of c.in-Lost.field-0) d e tried.1.2) in
-    (tt, tt, c.in-Lost.ensures.ours.0 ∙ c.is_due.ensures.ours ∙ c.loop.invariant.2, looks)
+    let lost = looks-then id a b d c.loop.invariant.3 (looks-read-twice id (word_of tried.0) (word_of c.in-Lost.field-0) b d tried.1.2) in
+    (tt, tt, c.is_due.ensures.ours ∙ c.in-Lost.ensures.ours.0 ∙ c.loop.invariant.2, looks-then id a d e lost c.is_due.ensures.looks)

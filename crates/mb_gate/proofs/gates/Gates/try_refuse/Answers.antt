@@ -1,4 +1,5 @@
 use Rattle.std.proofs.Common.{rules, refl, arith}
+use Rattle.std.proofs.lemmas.Bool.{eqb-true}
 use Rattle.mb_gate.specs.Names.{first_of}
 use Rattle.mb_gate.proofs.Allowed.{refuses_allowed}
 use Rattle.mb_gate.proofs.ListCalls.{choose}
@@ -16,4 +17,8 @@ compare_exchange_with-found-requires g c = (
 
 pub returns-clause-answer : goal.returns-clause-answer
 returns-clause-answer g c = let told = c.compare_exchange_with-found.ensures.2 _ c.args.message c.word_index-gate.ensures refl in choose _ _ _ _
-    _ told.0 told.1
+    _ (λ hit. (told.0 hit).0) told.1
+
+pub returns-clause-held : goal.returns-clause-held
+returns-clause-held g c = λ yes. let told = c.compare_exchange_with-found.ensures.2 _ c.args.message c.word_index-gate.ensures refl in
+    (told.0 (eqb-true _ _ yes)).1

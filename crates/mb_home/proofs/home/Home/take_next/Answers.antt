@@ -18,6 +18,7 @@ returns-clause-took g c =
     (takes-out h new r (c.take.ensures.taken ∙ ap (λ (x : Contents). x.take.taken ++ option_to_list r) c.self.view_is) (
       c.take.ensures.same.0 ∙ ap (λ (x : Contents). x.take.queue) c.self.view_is,
       c.take.ensures.same.1 ∙ ap (λ (x : Contents). x.take.turns) c.self.view_is,
+      c.take.ensures.same.2 ∙ ap (λ (x : Contents). x.take.accounts) c.self.view_is,
     )
     (subst (λ (x : Contents). IfSome r (λ (e : Envelope). Contains x.take.queue.senders e.by.0)) c.self.view_is c.take.ensures.sender)
     (subst (λ (x : Contents). IfSome r (λ (e : Envelope). e.to.0 ≡ x.take.queue.to)) c.self.view_is c.take.ensures.addressed)
@@ -33,6 +34,7 @@ returns-clause-none g c =
     (c.take.ensures.taken ∙ ap (λ (x : Contents). x.take.taken ++ option_to_list r) c.self.view_is) (
       c.take.ensures.same.0 ∙ ap (λ (x : Contents). x.take.queue) c.self.view_is,
       c.take.ensures.same.1 ∙ ap (λ (x : Contents). x.take.turns) c.self.view_is,
+      c.take.ensures.same.2 ∙ ap (λ (x : Contents). x.take.accounts) c.self.view_is,
     )
     (subst (λ (x : Contents). IsTake x.take.turns x.take r new) c.self.view_is c.take.ensures.turn) c.requires.settled).0
 
@@ -47,5 +49,6 @@ returns-clause-settled g c =
     (c.take.ensures.taken ∙ ap (λ (x : Contents). x.take.taken ++ option_to_list r) c.self.view_is) (
       c.take.ensures.same.0 ∙ ap (λ (x : Contents). x.take.queue) c.self.view_is,
       c.take.ensures.same.1 ∙ ap (λ (x : Contents). x.take.turns) c.self.view_is,
+      c.take.ensures.same.2 ∙ ap (λ (x : Contents). x.take.accounts) c.self.view_is,
     )
     (subst (λ (x : Contents). IsTake x.take.turns x.take r new) c.self.view_is c.take.ensures.turn) c.requires.settled).1

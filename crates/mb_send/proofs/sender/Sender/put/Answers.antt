@@ -11,6 +11,7 @@ use Rattle.mb_send.specs.Bounded.{are_of_bounded, may_be_refused, queue_to}
 use Rattle.mb_send.proofs.Bounding.{bounded-queued, bounded-dead, may-find-full}
 use Rattle.mb_gate.specs.Names.{known_by}
 use Rattle.mb_send.proofs.Answering.{why-told}
+use Rattle.mb_send.proofs.Owing.{still-woken}
 use Rattle.mb_wake.proofs.Views.{does-then, does-sending, does-unsending}
 use Rattle.mb_queue.specs.Passes.{Queue, Sending}
 use Rattle.mb_send.proofs.Routes.{routes-more, routes-dead, queue-there, queues-set}
@@ -148,3 +149,9 @@ invariant_of-self-in-Err g c =
           (may-find-full (receiving_queues items) k old c.in-Err.refused why (queue-there items k old there) c.in-Err.ensures.refused
           c.why_of-why.ensures)) c.args.self.now.bounded);
     }
+
+pub returns-in-Ok-clause-still : goal.returns-in-Ok-clause-still
+returns-in-Ok-clause-still g c = still-woken _ _ _ _ c.register.ensures.woken
+
+pub returns-in-Err-clause-still : goal.returns-in-Err-clause-still
+returns-in-Err-clause-still g c = still-woken _ _ _ _ c.register-in-Err.ensures.woken

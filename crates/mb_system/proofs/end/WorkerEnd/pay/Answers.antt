@@ -1,3 +1,6 @@
+use Rattle.mb_gate.specs.Names.{actors_of}
+use Rattle.mb_system.specs.Members.{end_caller}
+use Rattle.mb_system.proofs.Debts.{debts-paid}
 use Rattle.mb_system.proofs.Saw.{saw-more}
 use Rattle.mb_system.proofs.end.WorkerEnd.pay.Goals as goal
 
@@ -6,3 +9,11 @@ returns-in-Ok-clause-saw g c = saw-more c.pay.ensures.looks.looks _ _ c.pay.ensu
 
 pub returns-in-Err-clause-saw : goal.returns-in-Err-clause-saw
 returns-in-Err-clause-saw g c = saw-more c.pay.ensures.looks.looks _ _ c.pay.ensures.looks.log
+
+pub returns-in-Ok-clause-paid : goal.returns-in-Ok-clause-paid
+returns-in-Ok-clause-paid g c = c.in-Ok.ensures.paid
+
+pub returns-in-Ok-clause-debts : goal.returns-in-Ok-clause-debts
+returns-in-Ok-clause-debts g c =
+    debts-paid (actors_of c.args.system.now.gates) (end_caller c.args.self.now.waker) (end_caller c.pay.new.self) c.pay.ensures.looks
+    c.in-Ok.ensures.paid

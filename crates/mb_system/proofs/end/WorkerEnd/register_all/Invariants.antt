@@ -1,10 +1,10 @@
 use Rattle.std.proofs.Common.{◌≡◌}
-use Rattle.mb_gate.specs.Names.{known_by}
-use Rattle.mb_gate.specs.Rule.{IsPart}
-use Rattle.mb_system.specs.Members.{IsEndOf}
+use Rattle.mb_turn.specs.Caller.{LeavesCaller}
+use Rattle.mb_system.specs.Debts.{HasPaid}
+use Rattle.mb_system.specs.Members.{IsEndOf, end_caller}
 use Rattle.mb_system.proofs.end.WorkerEnd.register_all.Given as goal
 
 abbrev pub invariant-loop-number : goal.invariant-loop-number
 invariant-loop-number g l =
     IsEndOf l.system.gates l.self.waker × (l.self.number ≡ l.fn.self.number)
-    × IsPart (known_by l.fn.self.waker.pass).log (known_by l.self.waker.pass).log
+    × LeavesCaller (end_caller l.fn.self.waker) (end_caller l.self.waker) × HasPaid l.number (end_caller l.self.waker)

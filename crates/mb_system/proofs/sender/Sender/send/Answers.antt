@@ -1,6 +1,10 @@
-use Rattle.std.proofs.Common.{◌∙◌, Err, ap, subst, sym}
+use Rattle.std.proofs.Common.{◌∙◌, ◌∷◌, [], Err, ap, subst, sym}
+use Rattle.mb_gate.specs.Names.{actors_of}
 use Rattle.mb_system.specs.Faults.{IsToNobody}
 use Rattle.mb_system.proofs.Breaking.{breaks-one, to-nobody}
+use Rattle.mb_system.specs.Orders.{HasSent}
+use Rattle.mb_system.specs.declared.order.What.{What}
+use Rattle.mb_system.proofs.Sending.{debts-stopped, debts-told, sent-stopped, sent-told}
 use Rattle.mb_system.proofs.sender.Sender.send.Goals as goal
 
 pub returns-in-Err-clause-fault : goal.returns-in-Err-clause-fault
@@ -19,3 +23,25 @@ returns-in-Err-stop-clause-fault g c =
     (λ unknown. subst (λ what. IsToNobody gates c.args.order.to what) (sym c.in-Stop.is)
     (to-nobody _ _ _ c.stop.result c.stop.ensures.refused (λ memory. memory.0) (c.in-Err-stop.is ∙ ap Err (failed.ensures.unknown unknown))))
     failed.ensures.sending
+
+pub returns-in-Ok-clause-debts : goal.returns-in-Ok-clause-debts
+returns-in-Ok-clause-debts g c =
+    debts-told (actors_of c.args.system.now.gates) c.args.order.to c.args.self.now c.tell.new.self c.in-Ok.ensures.paid c.tell.ensures.still _ _
+    c.in-Ok.ensures.told
+
+pub returns-in-Ok-stop-clause-debts : goal.returns-in-Ok-stop-clause-debts
+returns-in-Ok-stop-clause-debts g c =
+    debts-stopped (actors_of c.args.system.now.gates) c.args.order.to c.args.self.now c.stop.new.self c.in-Ok-stop.ensures.paid
+    c.stop.ensures.still _ c.in-Ok-stop.ensures.stopped
+
+pub returns-in-Ok-clause-sent : goal.returns-in-Ok-clause-sent
+returns-in-Ok-clause-sent g c =
+    let to = c.args.order.to in let old = c.args.self.now in let new = c.tell.new.self in
+    subst (λ (what : What). HasSent (record { to = to; what = what } ∷ []) old new) (sym c.in-Tell.is)
+    (sent-told to c.in-Tell.body _ old new c.tell.ensures.by c.in-Ok.ensures.told)
+
+pub returns-in-Ok-stop-clause-sent : goal.returns-in-Ok-stop-clause-sent
+returns-in-Ok-stop-clause-sent g c =
+    let to = c.args.order.to in let old = c.args.self.now in let new = c.stop.new.self in
+    subst (λ (what : What). HasSent (record { to = to; what = what } ∷ []) old new) (sym c.in-Stop.is)
+    (sent-stopped to _ old new c.stop.ensures.same.0 c.in-Ok-stop.ensures.stopped)

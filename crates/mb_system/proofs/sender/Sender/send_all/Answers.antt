@@ -1,14 +1,24 @@
-use Rattle.std.proofs.Common.{subst, sym}
+use Rattle.std.proofs.Common.{refl, subst, sym}
 use Rattle.std.proofs.lemmas.List.{take_more}
+use Rattle.mb_gate.specs.Names.{actors_of}
+use Rattle.mb_system.specs.Members.{sender_caller}
 use Rattle.mb_system.specs.Orders.{HasSent}
-use Rattle.mb_system.proofs.Sending.{sent-then}
+use Rattle.mb_system.proofs.Debts.{debts-same, debts-then}
+use Rattle.mb_system.proofs.Sending.{sent-none, sent-then}
 use Rattle.mb_system.proofs.sender.Sender.send_all.Goals as goal
+
+pub loop-order-init : goal.loop-order-init
+loop-order-init g c =
+    let first = c.args.self.now in let caller = sender_caller first.inner.waker in
+    (c.requires.ours, sent-none first, debts-same (actors_of c.args.system.now.gates) caller caller refl refl)
 
 pub loop-order-preserved : goal.loop-order-preserved
 loop-order-preserved g c =
-    let at = c.loop-order in (
+    let at = c.loop-order in let one = c.in_ok-send.ensures in (
       c.send.ensures.ours,
       subst (λ xs. HasSent xs c.args.self.now c.send.new.self)
           (sym (take_more c.args.orders.now at.order-index _ c.loop-order-test.true))
-          (sent-then _ _ _ _ _ at.invariant.1 c.in_ok-send.ensures.sent),
+          (sent-then _ _ _ _ _ at.invariant.1 one.sent),
+      debts-then (actors_of c.args.system.now.gates) (sender_caller c.args.self.now.inner.waker) (sender_caller at.self.inner.waker)
+          (sender_caller c.send.new.self.inner.waker) at.invariant.2 one.debts,
     )

@@ -1,8 +1,12 @@
 use Rattle.std.proofs.Common.{◌∙◌}
 use Rattle.std.proofs.lemmas.Result.{IfErr-weaker, on_ok_weaker}
+use Rattle.mb_gate.specs.Names.{actors_of}
+use Rattle.mb_system.specs.Members.{end_caller}
 use Rattle.mb_system.proofs.Breaking.{breaks-by-end, breaks-by-job}
 use Rattle.mb_system.proofs.Crossing.{end_send, job_send, passed_send, passed_sync, system_sync}
-use Rattle.mb_system.proofs.Sides.{all_after, as_many_after, err_of, ok_first, ok_rest, same_after}
+use Rattle.mb_system.proofs.Sides.{all_after, as_many_after, err_of, ok_first, ok_rest, same_after, zip_then}
+use Rattle.mb_system.proofs.Debts.{debts-then}
+use Rattle.mb_system.proofs.Saw.{saw-then}
 use Rattle.mb_system.proofs.system.System.run.Goals as goal
 
 pub all_beside-of_jobs-requires-sync-S : goal.all_beside-of_jobs-requires-sync-S
@@ -21,7 +25,7 @@ pub returns-clause-ends : goal.returns-clause-ends
 returns-clause-ends g c =
     let each = c.all_beside-of_jobs.ensures.keeps.1 in (
       all_after _ _ (λ old new kept. kept.0) _ _ each,
-      same_after _ _ (λ old new kept. kept.1) _ _ each ∙ c.register_by_first.ensures.1,
+      same_after _ _ (λ old new kept. kept.1) _ _ each ∙ c.register_by_first.ensures.ends.1,
     )
 
 pub returns-clause-jobs : goal.returns-clause-jobs
@@ -35,7 +39,7 @@ pub returns-clause-paid : goal.returns-clause-paid
 returns-clause-paid g c =
     let of = c.all_beside-of_jobs.result in
     ok_first _ of.1 of.0 c.first_of.result c.first_of.ensures
-    (on_ok_weaker _ (all_after _ _ (λ old new paid. paid) _ _) c.all_beside-of_jobs.ensures.done.1)
+    (on_ok_weaker _ (all_after _ _ (λ old new did. did.0) _ _) c.all_beside-of_jobs.ensures.done.1)
 
 pub returns-clause-done : goal.returns-clause-done
 returns-clause-done g c =
@@ -48,3 +52,16 @@ returns-clause-fault g c =
     let fails = c.all_beside-of_jobs.ensures.fails in
     err_of _ of.1 of.0 c.first_of.result c.first_of.ensures (IfErr-weaker _ _ _ (λ fault. breaks-by-end _ _ _ _ _ fault) fails.1)
     (IfErr-weaker _ _ _ (λ fault. breaks-by-job _ _ _ _ _ fault) fails.0)
+
+pub returns-clause-saw : goal.returns-clause-saw
+returns-clause-saw g c =
+    zip_then _ _ _ (λ x y z saw kept. saw-then _ _ _ saw kept.2) _ _ _ c.register_by_first.ensures.saw c.all_beside-of_jobs.ensures.keeps.1
+
+pub returns-clause-debts : goal.returns-clause-debts
+returns-clause-debts g c =
+    let of = c.all_beside-of_jobs.result in let actors = actors_of c.args.self.now.gates in
+    ok_first _ of.1 of.0 c.first_of.result c.first_of.ensures
+    (on_ok_weaker _
+    (zip_then _ _ _ (λ x y z p q. debts-then actors (end_caller x.waker) (end_caller y.waker) (end_caller z.waker) p q.1) _ _ _
+    c.register_by_first.ensures.debts)
+    c.all_beside-of_jobs.ensures.done.1)

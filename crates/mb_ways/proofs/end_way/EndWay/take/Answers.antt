@@ -1,10 +1,11 @@
-use Rattle.std.proofs.Common.{refl}
+use Rattle.std.proofs.Common.{ap, refl}
 use Rattle.mb_gate.specs.Untouched.{IsUntouched}
 use Rattle.mb_ways.proofs.WayLemmas.{none-tells, same-gates, taken-same}
 use Rattle.mb_ways.proofs.end_way.EndWay.take.Goals as goal
 
 pub returns-clause-none : goal.returns-clause-none
-returns-clause-none g c = none-tells _ _ _ c.take.result c.take.ensures.taken
+returns-clause-none g c =
+    none-tells _ _ _ _ c.take.result (λ same. ap (λ way. record c.args.self.now { end = way }) same) c.take.ensures.taken
 
 pub returns-clause-same : goal.returns-clause-same
 returns-clause-same g c = (

@@ -2,10 +2,11 @@ use Rattle.std.proofs.Common.{◌≡◌, []}
 use Rattle.mb_gate.specs.Names.{known_by}
 use Rattle.mb_gate.specs.Untouched.{origin_of}
 use Rattle.mb_turn.specs.Caller.{IsWakerOf, caller_of, GoesFurther}
+use Rattle.mb_turn.specs.Emptied.{IsCleared}
 use Rattle.mb_turn.specs.Hold.{hold_of}
 use Rattle.mb_turn.specs.Ran.{IsTurning}
 use Rattle.mb_turn.specs.Running.{IsRunning, IsBeside, SameRun}
-use Rattle.mb_turn.proofs.systems.apply_systems.Given as goal
+use Rattle.mb_turn.proofs.systems.apply_all.Given as goal
 
 abbrev pub invariant-loop : goal.invariant-loop
 invariant-loop g l =
@@ -16,3 +17,4 @@ invariant-loop g l =
     × IsTurning (hold_of l.claim) l.turn × SameRun (hold_of l.initial.claim) (hold_of l.claim)
     × (l.turn.envelopes ≡ l.initial.turn.envelopes)
     × GoesFurther (caller_of g.W.Way.pushed g.W.Way.refused l.initial.waker) (caller_of g.W.Way.pushed g.W.Way.refused l.waker)
+    × IsCleared (hold_of l.initial.claim) (hold_of l.claim)

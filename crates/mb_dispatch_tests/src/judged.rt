@@ -1,0 +1,42 @@
+//! What must be true of a report, where it is known what each sender outside was to send, by code that shares nothing with the
+//! program's. Of each sender outside this is looked at:
+//!
+//! - It sent as many envelopes as its own orders say, those to stop an actor left out.
+//! - Each of its own orders but these stands once under its number, the first under 0 and so on, with its receiver and its body; and
+//!   nothing else stands under it. So two senders that sent one another's orders are found out.
+//! - At each receiver its envelopes stand in their order, where the mailbox keeps it.
+//! - Its dead letters are its own, and dead for a reason.
+//! - Whom it was to stop has ended.
+//!
+//! What is looked at of an actor's own envelopes is the same, where its journal says what it sent, and more of the actor itself.
+use crate::lawful::{are_actors_right, has_ended};
+use crate::stood::are_envelopes_right;
+use mb_dispatch::{Order, What};
+use mb_plan::Plan;
+use mb_report::Report;
+use std::alloc::{AllocError, Global};
+
+/// Whether the report of a run of this plan is right, where each sender outside was to send its own of these.
+pub fn is_right(
+    alloc: Global,
+    report: &Report,
+    plan: &Plan,
+    sends: &[Vec<Order>],
+) -> Result<bool, AllocError> {
+    Ok(
+        are_envelopes_right(alloc, report, plan, sends)?
+            && are_actors_right(alloc, report, plan)?
+            && are_stops_done(report, sends),
+    )
+}
+
+fn are_stops_done(report: &Report, sends: &[Vec<Order>]) -> bool {
+    for orders in sends {
+        for order in orders {
+            if order.what == What::Stop && !has_ended(report, order.to) {
+                return false;
+            }
+        }
+    }
+    true
+}

@@ -1,0 +1,43 @@
+use Rattle.std.proofs.Common.{◌∙◌, ap, refl, subst}
+use Rattle.std.proofs.lemmas.Result.{on_ok_weaker}
+use Rattle.mb_gate.specs.Names.{actors_of, known_by}
+use Rattle.mb_gate.specs.Rule.{IsPart}
+use Rattle.mb_system.specs.Members.{end_caller}
+use Rattle.mb_system.proofs.Debts.{debts-from, debts-left, debts-same}
+use Rattle.mb_system.proofs.Saw.{saw-same, saw-then}
+use Rattle.mb_system.proofs.end.WorkerEnd.run_all.Goals as goal
+
+pub loop-init : goal.loop-init
+loop-init g c =
+    let caller = end_caller c.args.self.now.waker in
+    (c.requires.ours, refl, saw-same _, debts-same (actors_of c.args.system.now.gates) caller caller refl refl)
+
+pub loop-preserved : goal.loop-preserved
+loop-preserved g c =
+    let did = c.run_one.ensures in let same = c.take.ensures.same in let actors = actors_of c.args.system.now.gates in
+    let first = end_caller c.args.self.now.waker in let old = end_caller c.loop.self.waker in
+    let between = end_caller c.take.new.self.waker in let new = end_caller c.run_one.new.self.waker in (
+      did.ours,
+      did.number ∙ same.3 ∙ c.loop.invariant.1,
+      saw-then _ _ _ c.loop.invariant.2
+          (subst (λ p. IsPart (known_by p).log (known_by c.run_one.new.self.waker.pass).log) same.0 did.leaves.log),
+      debts-from actors first old between new c.loop.invariant.3 (ap known_by same.0) same.1 (debts-left actors between new did.leaves),
+    )
+
+pub returns-in_default-clause-saw : goal.returns-in_default-clause-saw
+returns-in_default-clause-saw g c =
+    saw-then _ _ _ c.loop.invariant.2
+    (subst (λ p. IsPart (known_by p).log (known_by c.pay.new.self.waker.pass).log) c.take.ensures.same.0 c.pay.ensures.saw)
+
+pub returns-in_default-clause-debts : goal.returns-in_default-clause-debts
+returns-in_default-clause-debts g c =
+    let same = c.take.ensures.same in
+    on_ok_weaker _
+    (debts-from (actors_of c.args.system.now.gates) (end_caller c.args.self.now.waker) (end_caller c.loop.self.waker)
+    (end_caller c.take.new.self.waker) (end_caller c.pay.new.self.waker) c.loop.invariant.3 (ap known_by same.0) same.1)
+    c.pay.ensures.debts
+
+pub returns-in_err-run_one-clause-saw : goal.returns-in_err-run_one-clause-saw
+returns-in_err-run_one-clause-saw g c =
+    saw-then _ _ _ c.loop.invariant.2
+    (subst (λ p. IsPart (known_by p).log (known_by c.run_one.new.self.waker.pass).log) c.take.ensures.same.0 c.run_one.ensures.leaves.log)

@@ -1,0 +1,42 @@
+use Rattle.std.proofs.Common.{◌∙◌, refl}
+use Rattle.mb_gate.specs.Names.{actors_of}
+use Rattle.mb_system.specs.Members.{end_caller}
+use Rattle.mb_system.proofs.Debts.{debts-same, debts-then}
+use Rattle.mb_system.proofs.Saw.{saw-same, saw-then}
+use Rattle.mb_system.proofs.end.WorkerEnd.work_on.Goals as goal
+
+pub loop-init : goal.loop-init
+loop-init g c =
+    let caller = end_caller c.args.self.now.waker in
+    (c.requires.ours, refl, saw-same _, debts-same (actors_of c.args.system.now.gates) caller caller refl refl)
+
+pub loop-preserved : goal.loop-preserved
+loop-preserved g c =
+    let at = c.loop.invariant in let actors = actors_of c.args.system.now.gates in
+    let first = end_caller c.args.self.now.waker in let old = end_caller c.loop.self.waker in
+    let between = end_caller c.run_all.new.self.waker in let new = end_caller c.is_over.new.self.waker in (
+      c.is_over.ensures.ours,
+      c.is_over.ensures.number ∙ c.run_all.ensures.number ∙ at.1,
+      saw-then _ _ _ (saw-then _ _ _ at.2 c.run_all.ensures.saw) c.is_over.ensures.saw,
+      debts-then actors first between new (debts-then actors first old between at.3 c.in_ok-run_all.ensures.debts)
+          c.in_ok-is_over.ensures.debts,
+    )
+
+pub returns-then-branch-clause-saw : goal.returns-then-branch-clause-saw
+returns-then-branch-clause-saw g c =
+    saw-then _ _ _ (saw-then _ _ _ c.loop.invariant.2 c.run_all.ensures.saw) c.is_over.ensures.saw
+
+pub returns-then-branch-clause-debts : goal.returns-then-branch-clause-debts
+returns-then-branch-clause-debts g c =
+    let actors = actors_of c.args.system.now.gates in
+    let first = end_caller c.args.self.now.waker in let old = end_caller c.loop.self.waker in
+    let between = end_caller c.run_all.new.self.waker in let new = end_caller c.is_over.new.self.waker in
+    debts-then actors first between new (debts-then actors first old between c.loop.invariant.3 c.in_ok-run_all.ensures.debts)
+    c.in_ok-is_over.ensures.debts
+
+pub returns-in_err-run_all-clause-saw : goal.returns-in_err-run_all-clause-saw
+returns-in_err-run_all-clause-saw g c = saw-then _ _ _ c.loop.invariant.2 c.run_all.ensures.saw
+
+pub returns-in_err-is_over-clause-saw : goal.returns-in_err-is_over-clause-saw
+returns-in_err-is_over-clause-saw g c =
+    saw-then _ _ _ (saw-then _ _ _ c.loop.invariant.2 c.run_all.ensures.saw) c.is_over.ensures.saw

@@ -1,0 +1,31 @@
+use Rattle.std.proofs.Common.{◌∙◌, ℕ, refl, subst, ap, inr}
+use Rattle.mb_gate.specs.Names.{known_by, held_actor}
+use Rattle.mb_gate.specs.declared.claim.Claim.{Claim}
+use Rattle.mb_wake.specs.Views.{LooksAfter}
+use Rattle.mb_wake.proofs.Views.{looks-then}
+use Rattle.mb_wake.proofs.waker.Waker.wake.Goals as goal
+
+pub returns-in-Ok-clause-woken : goal.returns-in-Ok-clause-woken
+returns-in-Ok-clause-woken g c = record {
+  claim = c.in-Some.claim;
+  of = c.in-Some.ensures.claim.0;
+  pushed = c.in-Ok.ensures.pushed.0;
+  refused = c.in-Ok.ensures.pushed.1;
+  owed = refl;
+}
+
+pub returns-in-Err-clause-looks : goal.returns-in-Err-clause-looks
+returns-in-Err-clause-looks g c =
+    let id = c.args.id.0 in
+    let a = known_by c.args.self.now.pass in let b = known_by c.take_due.new.pass in let d = known_by c.give_home.new.pass in
+    let here = ap (λ (k : Claim _). held_actor k) c.in-Err.ensures.pushed.0 ∙ c.in-Some.ensures.claim.0 in
+    looks-then id a b d c.take_due.ensures.looks (subst (λ (n : ℕ). LooksAfter n b d) here c.give_home.ensures.looks)
+
+pub returns-in-Err-clause-woken : goal.returns-in-Err-clause-woken
+returns-in-Err-clause-woken g c = inr (record {
+  claim = c.in-Some.claim;
+  of = c.in-Some.ensures.claim.0;
+  pushed = c.in-Err.ensures.pushed.1;
+  refused = c.in-Err.ensures.pushed.2;
+  owed = c.insert.ensures;
+})
