@@ -1,6 +1,6 @@
 //! What is played: who acts, and what is sent.
 use crate::player::{Mailbox, Part};
-use mb_dispatch::{Order, What};
+use mb_dispatch::{Order, Repeat, What};
 use mb_journal::Strategy;
 use mb_msg::{ActorId, Body};
 use mb_plan::{ActorPlan, Kind, Plan, Pool};
@@ -106,6 +106,18 @@ pub fn copy_of(alloc: Global, orders: &[Order]) -> Result<Vec<Order>, AllocError
     let mut copy = Vec::new(alloc);
     copy.extend_from_slice(orders)?;
     Ok(copy)
+}
+
+/// A row for each of these orders, which is sent once.
+pub fn each_once(alloc: Global, orders: &[Order]) -> Result<Vec<Repeat>, AllocError> {
+    let mut repeats = Vec::new(alloc);
+    for order in orders {
+        repeats.push(Repeat {
+            order: *order,
+            times: 1,
+        })?;
+    }
+    Ok(repeats)
 }
 
 /// The text of a report on so many actors, whose names are a1, a2 and so on. Nothing where they are not as many, or memory was

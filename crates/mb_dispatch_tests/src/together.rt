@@ -4,7 +4,7 @@ ghost use Rattle.mb_build.specs.Behaved.{AreBehaved};
 ghost use Rattle.mb_system.specs.Belonging.{BelongsTogether};
 
 use crate::player::{Adding, Player, players_of};
-use crate::story::{Story, copy_of, plan_of, text_of};
+use crate::story::{Story, each_once, plan_of, text_of};
 use mb_actor::{Actor, Behaviours};
 use mb_dispatch::{Built, Job, Order, Sender, System, finish};
 use mb_plan::Plan;
@@ -97,7 +97,7 @@ fn jobs_of<A: Actor, K: Behaviours>(
 {
     let mut jobs = Vec::new(alloc);
     for sender in senders {
-        let sends = copy_of(alloc, orders)?;
+        let sends = each_once(alloc, orders)?;
         jobs.push(Job { sender, sends })?;
     }
     Ok(jobs)
