@@ -14,12 +14,12 @@ loop-one-preserved g c =
     let at = c.loop-one in let one = c.in-Some.one in let left = c.in-Some-next.left in let k : ℕ = length at.actors.items in
     let rest = into_iter_items c.next.new.self in let rest' = into_iter_items c.next-in-loop-one.new.self in
     let steps : one ∷ rest ≡ drop k c.args.ended.items = sym c.in-Some.ensures.steps.0 ∙ at.invariant.0 in
-    let steps' : left ∷ rest' ≡ drop k c.args.lefts.items = search (rules, at.invariant.1) in
+    let steps' : left ∷ rest' ≡ drop k c.args.lefts.items = sym c.in-Some-next.ensures.items ∙ at.invariant.1 in
     let longer : length c.push_reserved.new.self.items ≡ suc k
     = ap length c.push_reserved.ensures.items ∙ length-append at.actors.items (c.actor_report.result ∷ []) ∙ (omega arith) in
     let below = within c.args.ended.items k one (drop-first c.args.ended.items k one rest steps) in
     let agreed = c.if-not-agrees.ensures in
-    let same : c.deref.result.now ≡ left.items = search rules in
+    let same : c.deref.result.now ≡ left.items = c.deref.ensures.value in
     let here : c.len-place.result ≡ k = search rules in
     let inside : k < length c.args.waiting.now
     = let b = c.requires.many in omega (arith, below, b) in
@@ -58,9 +58,9 @@ returns-then-not-agrees-clause-differs g c =
     let at = c.loop-one in let one = c.in-Some.one in let left = c.in-Some-next.left in let k : ℕ = length at.actors.items in
     let rest = into_iter_items c.next.new.self in let rest' = into_iter_items c.next-in-loop-one.new.self in
     let steps : one ∷ rest ≡ drop k c.args.ended.items = sym c.in-Some.ensures.steps.0 ∙ at.invariant.0 in
-    let steps' : left ∷ rest' ≡ drop k c.args.lefts.items = search (rules, at.invariant.1) in
+    let steps' : left ∷ rest' ≡ drop k c.args.lefts.items = sym c.in-Some-next.ensures.items ∙ at.invariant.1 in
     let below = within c.args.ended.items k one (drop-first c.args.ended.items k one rest steps) in
-    let same : c.deref.result.now ≡ left.items = search rules in
+    let same : c.deref.result.now ≡ left.items = c.deref.ensures.value in
     let here : c.len-place.result ≡ k = search rules in
     let inside : k < length c.args.waiting.now = let b = c.requires.many in omega (arith, below, b) in
     let count = get_or c.args.waiting.now k 0 in
