@@ -1,5 +1,8 @@
 //! The actors' homes.
-ghost use Rattle.std.specs.Prelude.{◌≡◌, ℕ, ◌+◌, ◌<◌, ◌≤◌, [], ◌∷◌, List, IfOk, drop, length, map};
+ghost use Rattle.std.specs.Prelude.{◌≡◌, ℕ, ◌+◌, ◌++◌, ◌<◌, ◌≤◌, [], ◌∷◌, List, IfOk, drop, length, map};
+ghost use Rattle.std.specs.Global.{Box as Owned};
+ghost use Rattle.std.specs.Vec.Iter.{into_iter_items};
+ghost use Rattle.mb_home.specs.Contents.{Contents};
 ghost use Rattle.mb_queue.specs.declared.kind.Kind.{Kind};
 ghost use Rattle.mb_build.specs.Behaved.{AreBehaved};
 ghost use Rattle.mb_build.specs.Housed.{enrolled, AreAtFirst, AreFresh, IsHoused};
@@ -20,8 +23,8 @@ use mb_msg::ActorId;
 use mb_plan::ActorPlan;
 use mb_queue::{SendPass, TakePass};
 use std::alloc::{AllocError, Global};
-use std::mem;
 use std::snapshot::Snapshot;
+use std::{mem, vec};
 
 /// What a system begins with.
 pub struct Housed<A: Actor, K: Behaviours> {
@@ -124,11 +127,32 @@ fn homes<A: Actor, K: Behaviours>(
             unreachable!();
         };
         let home = Home::new(alloc, ActorId(homes.len() as u32), cell, take, sends, roll);
-        homes.push(Box::new(alloc, home)?)?;
+        add(alloc, &mut homes, home)?;
     }
-    let mut outside = Vec::with_capacity(alloc, senders.len())?;
-    for sends in senders {
-        outside.push(sends)?;
-    }
+    let outside = left(alloc, senders)?;
     Ok(Housed { homes, outside })
+}
+
+// One home more.
+fn add<A: Actor, K: Behaviours>(
+    alloc: Global,
+    homes: &mut Vec<Box<Home<A, K>>>,
+    home: Home<A, K>,
+) -> Result<(), AllocError>
+    ensures { IfOk result (λ _. (own : Owned Contents) × (own.value ≡ home) × (homes.new.items ≡ homes.old.items ++ own ∷ [])) }
+{
+    let home = Box::new(alloc, home)?;
+    homes.push(home)?;
+    Ok(())
+}
+
+// The rows that are left.
+fn left(alloc: Global, rows: vec::IntoIter<Vec<SendPass>>) -> Result<Vec<Vec<SendPass>>, AllocError>
+    ensures { IfOk result (λ left. left.items ≡ into_iter_items rows) }
+{
+    let mut left = Vec::with_capacity(alloc, rows.len())?;
+    for row in rows {
+        left.push(row)?;
+    }
+    Ok(left)
 }

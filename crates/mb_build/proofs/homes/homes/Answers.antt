@@ -140,9 +140,9 @@ loop-cell-preserved g c =
     let lines : into_iter_items at.senders ≡ sends ∷ into_iter_items c.next-in-loop-cell-2.new.self = c.in-Some-next.ensures.cases.0 in
     let row : drop place rows ≡ sends.items ∷ map (λ r. r.items) (into_iter_items c.next-in-loop-cell-2.new.self) =
     drop-map (λ r. r.items) place c.args.senders.items ∙ ap (map (λ r. r.items)) (sym at.invariant.senders ∙ lines) in
-    let new = c.push.new.self.items in let box = c.in_ok-new.field-0 in let home = c.new-home.result in
+    let new = c.add.new.homes.items in let added = c.in_ok-add.ensures in let box = added.0 in let home = c.new-home.result in
     let roll = enrolled (whose cells) ways in
-    let pushed : new ≡ at.homes.items ++ box ∷ [] = c.in_ok-push.ensures.items in
+    let pushed : new ≡ at.homes.items ++ box ∷ [] = added.2 in
     let longer : length new ≡ place + 1 = ap length pushed ∙ length_push at.homes.items box in
     let further : length (at.yielded ++ cell ∷ []) ≡ length at.yielded + 1 = length_push at.yielded cell in
     let count = at.invariant.count in
@@ -157,7 +157,7 @@ loop-cell-preserved g c =
     let planned = here.planned-here cells made.0 made.1 guardian takes rows c.requires.cells.0 c.requires.cells.1 made.2 made.4
     at.yielded cell rest place all at.invariant.count in
     let sum : place ≡ 0 + place = omega arith in
-    let same : box.value ≡ home = c.in_ok-new.ensures.ok in
+    let same : box.value ≡ home = added.1 in
     let settled = subst (λ n. IsSettled (g.K.Behaviours.gives n) [] home) (ap (λ (x : ActorId). x.0) planned.this ∙ sum)
     c.new-home.ensures.settled in
     let homes_first = first-more roll takes 0 (whose at.yielded) cell.who (take place ways) take' at.homes.items box at.invariant.first
@@ -201,8 +201,10 @@ returns-clause-fresh g c =
 
 pub returns-clause-outside : goal.returns-clause-outside
 returns-clause-outside g c =
-    let at = c.loop-sends in let n = length c.args.cells.items in
-    let none : into_iter_items at.sends-iterator ≡ [] =
-    nil_from_length (into_iter_items at.sends-iterator) (sym at.sends-iterator.rest.ok.0 ∙ c.in-None-sends.ensures.steps.0) in
-    ap (map (λ r. r.items)) (sym (append-nil at.outside.items) ∙ ap (λ l. at.outside.items ++ l) (sym none) ∙ at.invariant)
-    ∙ sym (drop-map (λ r. r.items) n c.args.senders.items)
+    let at = c.loop-cell in let cells = c.args.cells.items in
+    let none : into_iter_items at.cell-iterator ≡ [] =
+    nil_from_length (into_iter_items at.cell-iterator) (sym at.cell-iterator.rest.ok.0 ∙ c.in-None.ensures.steps.0) in
+    let all : at.yielded ≡ cells = sym (append-nil at.yielded) ∙ ap (λ l. at.yielded ++ l) (sym none) ∙ at.invariant.cells in
+    let many : length at.homes.items ≡ length cells = at.invariant.count ∙ ap length all in
+    ap (map (λ r. r.items)) (c.in_ok-outside.ensures ∙ at.invariant.senders ∙ ap (λ n. drop n c.args.senders.items) many)
+    ∙ sym (drop-map (λ r. r.items) (length cells) c.args.senders.items)

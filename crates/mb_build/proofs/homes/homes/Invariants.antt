@@ -17,7 +17,3 @@ invariant-loop-cell g l = record {
       (take (length l.homes.items) (l.fn.guardian ∷ l.fn.takes.items)) l.homes.items;
   settled : AreSettled g.K.Behaviours.gives 0 l.homes.items;
 }
-
-abbrev pub invariant-loop-sends : goal.invariant-loop-sends
-invariant-loop-sends g l =
-    l.outside.items ++ into_iter_items l.sends-iterator ≡ drop (length l.fn.cells.items) l.fn.senders.items
