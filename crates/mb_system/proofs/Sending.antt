@@ -51,13 +51,17 @@ stopped-append (o ∷ xs) ys =
     ap (λ l. stopped_by_one o.to o.what ++ l) (stopped-append xs ys)
     ∙ sym (append_assoc (stopped_by_one o.to o.what) (stopped_by xs) (stopped_by ys))
 
--- what the next of these comes to stands behind what those before it come to
+-- what one more of these comes to stands behind what all before it come to
+pub repeated-push : (repeats : List Repeat) (r : Repeat) → repeated (repeats ++ r ∷ []) ≡ repeated repeats ++ replicate r.times r.order
+repeated-push repeats r =
+    let each : Repeat → List Order = λ r. replicate r.times r.order in
+    flat_map-append each repeats (r ∷ []) ∙ ap (λ l. repeated repeats ++ l) (append-nil (each r))
+
+-- and so of the next, taken one by one
 pub repeated-next : (repeats : List Repeat) (i : ℕ) (d : Repeat) → i < length repeats
     → repeated (take (i + 1) repeats) ≡ repeated (take i repeats) ++ replicate (get_or repeats i d).times (get_or repeats i d).order
 repeated-next repeats i d lt =
-    let each : Repeat → List Order = λ r. replicate r.times r.order in
-    ap repeated (take_more repeats i d lt) ∙ flat_map-append each (take i repeats) (get_or repeats i d ∷ [])
-    ∙ ap (λ l. repeated (take i repeats) ++ l) (append-nil (each (get_or repeats i d)))
+    ap repeated (take_more repeats i d lt) ∙ repeated-push (take i repeats) (get_or repeats i d)
 
 module _ {A K : Type 0} where
   -- nothing was to be sent
