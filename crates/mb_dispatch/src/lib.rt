@@ -16,5 +16,7 @@ pub use ending::{FinishError, finish};
 pub use mb_build::PlanError;
 pub use mb_reckon::Mismatch;
 pub use mb_send::{Look, Put, Ticket, Unsent};
-pub use mb_system::{BuildError, Built, Job, Order, RunError, Sender, System, What, WorkerEnd};
+pub use mb_system::{
+    BuildError, Built, Job, Order, Repeat, RunError, Sender, System, What, WorkerEnd,
+};
 pub use mb_turn::Turn;

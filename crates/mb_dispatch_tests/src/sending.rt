@@ -1,5 +1,5 @@
 //! What senders outside are to send.
-use mb_dispatch::{Order, What};
+use mb_dispatch::{Order, Repeat, What};
 use mb_msg::{ActorId, Body};
 use std::alloc::{AllocError, Global};
 
@@ -62,4 +62,16 @@ pub fn orders_at(orders: &[Vec<Order>], place: usize) -> &[Order] {
         Some(own) => own.as_slice(),
         None => &[],
     }
+}
+
+/// A row for each of these orders, which is sent once.
+pub fn each_once(alloc: Global, orders: &[Order]) -> Result<Vec<Repeat>, AllocError> {
+    let mut repeats = Vec::new(alloc);
+    for order in orders {
+        repeats.push(Repeat {
+            order: *order,
+            times: 1,
+        })?;
+    }
+    Ok(repeats)
 }

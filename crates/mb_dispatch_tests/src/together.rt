@@ -4,7 +4,7 @@ ghost use Rattle.mb_build.specs.Behaved.{AreBehaved};
 ghost use Rattle.mb_system.specs.Belonging.{BelongsTogether};
 
 use crate::player::{Adding, Player, players_of};
-use crate::sending::{orders_at, same_orders};
+use crate::sending::{each_once, orders_at, same_orders};
 use crate::story::{Story, plan_of, see, text_of};
 use mb_actor::{Actor, Behaviours};
 use mb_dispatch::{Built, Job, Order, Sender, System, finish};
@@ -122,8 +122,7 @@ fn jobs_of<A: Actor, K: Behaviours>(
 {
     let mut jobs = Vec::new(alloc);
     for sender in senders {
-        let mut sends = Vec::new(alloc);
-        sends.extend_from_slice(orders_at(orders, jobs.len()))?;
+        let sends = each_once(alloc, orders_at(orders, jobs.len()))?;
         jobs.push(Job { sender, sends })?;
     }
     Ok(jobs)

@@ -11,6 +11,7 @@ use Rattle.mb_gate.specs.declared.gates.Gates.{Gates}
 use Rattle.mb_home.specs.Contents.{Contents}
 use Rattle.mb_reader.specs.declared.scenario.Sending.{Sending}
 use Rattle.mb_system.specs.Faults.{BreaksRun, BreaksSending, BreaksWork, IsToNobody}
+use Rattle.mb_system.specs.Orders.{repeated}
 use Rattle.mb_system.specs.declared.end.WorkerEnd.{WorkerEnd}
 use Rattle.mb_system.specs.declared.failure.RunError.{RunError}
 use Rattle.mb_system.specs.declared.failure.RunError.TheVariants as error
@@ -89,12 +90,12 @@ module _ {A K : Type 0} (gives : ℕ → Moment → Reply → Type 0) (system : 
 
   orderable-job : (orders : ℕ → List Order) (number : ℕ) (senders : List (Sender A K)) (jobs : List (Job A K)) → AreJobs orders number senders jobs
       → ((n : ℕ) → All (IsOrderable (actors_of system.gates)) (orders n))
-      → All (λ (j : Job A K). All (IsOrderable (actors_of system.gates)) j.sends.items) jobs
-  orderable-job orders number [] [] are all = All-nil (λ (j : Job A K). All (IsOrderable (actors_of system.gates)) j.sends.items)
+      → All (λ (j : Job A K). All (IsOrderable (actors_of system.gates)) (repeated j.sends.items)) jobs
+  orderable-job orders number [] [] are all = All-nil (λ (j : Job A K). All (IsOrderable (actors_of system.gates)) (repeated j.sends.items))
   orderable-job orders number [] (j ∷ jobs) are all = absurd are
   orderable-job orders number (s ∷ senders) [] are all = absurd are
   orderable-job orders number (s ∷ senders) (j ∷ jobs) are all =
-      All-cons (λ (j : Job A K). All (IsOrderable (actors_of system.gates)) j.sends.items) j jobs
+      All-cons (λ (j : Job A K). All (IsOrderable (actors_of system.gates)) (repeated j.sends.items)) j jobs
       (subst (All (IsOrderable (actors_of system.gates))) (sym are.1) (all number)) (orderable-job orders (number + 1) senders jobs are.2 all)
 
   pub run-for-somebody : (orders : ℕ → List Order) (senders : List (Sender A K)) (jobs : List (Job A K)) (ends : List (WorkerEnd A K)) (e : RunError)
@@ -102,8 +103,8 @@ module _ {A K : Type 0} (gives : ℕ → Moment → Reply → Type 0) (system : 
       → e ≢ error.NoSuchActor
   run-for-somebody orders senders jobs ends e are all broken same =
       let one : BreaksRun gives system ends jobs error.NoSuchActor = subst (BreaksRun gives system ends jobs) same broken in
-      not-for-nobody system.gates one.0.sends.items
-      (All-contains (λ (j : Job A K). All (IsOrderable (actors_of system.gates)) j.sends.items) jobs one.0 (orderable-job orders 0 senders jobs are all)
+      not-for-nobody system.gates (repeated one.0.sends.items)
+      (All-contains (λ (j : Job A K). All (IsOrderable (actors_of system.gates)) (repeated j.sends.items)) jobs one.0 (orderable-job orders 0 senders jobs are all)
       one.1) one.2
 
   pub told-of-run : (ends : List (WorkerEnd A K)) (jobs : List (Job A K)) (e : RunError) (fault : RunFault) → BreaksRun gives system ends jobs e

@@ -3,7 +3,7 @@ use Rattle.std.proofs.Common.{◌≡◌, ℕ, zero, suc, ◌+◌, ◌<◌, ◌�
 use Rattle.std.proofs.Common.{replicate, get_or, set, take, zero-add}
 use Rattle.std.specs.Prelude.{All, pos, slice_get}
 use Rattle.std.specs.Global.{Box}
-use Rattle.std.proofs.lemmas.List.{append-nil, replicate_more}
+use Rattle.std.proofs.lemmas.List.{append-nil}
 use Rattle.std.proofs.lemmas.List.Elements.{All-cons, All-nil}
 use Rattle.std.proofs.lemmas.Option.{none-some, same_Some, slice_get-get_or}
 use Rattle.mb_msg.specs.declared.envelope.Body.TheVariants.{User}
@@ -25,12 +25,6 @@ abbrev pub no-sending : Planned
 no-sending = record { from = 0; to = record { 0 = 0 }; what = Envelope (User 0 (pos 0)); times = 0 }
 
 module _ {A K : Type 0} where
-  -- one more of the same was sent
-  pub sent-again : (order : Order) (n : ℕ) (a b c : Sender A K) → HasSent (replicate n order) a b → HasSent (order ∷ []) b c
-      → HasSent (replicate (n + 1) order) a c
-  sent-again order n a b c before more =
-      subst (λ orders. HasSent orders a c) (replicate_more n order) (sent-then (replicate n order) (order ∷ []) a b c before more)
-
   module _ (gates : Gates (Box Contents)) where
     -- the sender sent more
     pub all-then : (number : ℕ) (xs ys : List Order) (s t : Sender A K) → HasSentAll gates number xs s → HasSent ys s t → IsSenderOf gates t.inner

@@ -6,7 +6,7 @@ use Rattle.mb_gate.specs.Names.{known_by}
 use Rattle.mb_gate.specs.declared.gates.Gates.{Gates}
 use Rattle.mb_home.specs.Contents.{Contents}
 use Rattle.mb_system.specs.Members.{IsSenderOf}
-use Rattle.mb_system.specs.Orders.{HasSent}
+use Rattle.mb_system.specs.Orders.{HasSent, repeated}
 use Rattle.mb_system.specs.declared.job.Job.{Job}
 use Rattle.mb_system.specs.declared.order.Order.{Order}
 use Rattle.mb_system.specs.declared.sender.Sender.{Sender}
@@ -30,5 +30,5 @@ module _ {A K : Type 0} (orders : ℕ → List Order) where
   -- the jobs of senders that are numbered on from this one: each is to send what stands at its number
   abbrev pub AreJobs : ℕ → List (Sender A K) → List (Job A K) → Type 0
   AreJobs number [] [] = Unit {0}
-  AreJobs number (s ∷ senders) (j ∷ jobs) = (j.sender ≡ s) × (j.sends.items ≡ orders number) × AreJobs (number + 1) senders jobs
+  AreJobs number (s ∷ senders) (j ∷ jobs) = (j.sender ≡ s) × (repeated j.sends.items ≡ orders number) × AreJobs (number + 1) senders jobs
   AreJobs number _ _ = ⊥

@@ -1,37 +1,39 @@
 //! What the sends of a scenario are to a sender.
 ghost use Rattle.std.specs.Prelude.{◌≡◌, ◌++◌, [], ◌∷◌, IfOk, OnOk};
+ghost use Rattle.mb_system.specs.Orders.{repeated};
 ghost use Rattle.mb_run.specs.Orders.{order_of, orders_of};
 
-use mb_dispatch::{Order, What};
+use mb_dispatch::{Order, Repeat, What};
 use mb_reader::{Sending, What as Said};
 use std::alloc::{AllocError, Global};
 
-/// All that this sender is to send, in the order of the text, each as often as it says.
-pub(crate) fn orders_of(
+/// All that this sender is to send, in the order of the text: a row for each send, with how often it says.
+pub(crate) fn repeats_of(
     alloc: Global,
     from: u32,
     sends: &[Sending],
-) -> Result<Vec<Order>, AllocError>
-    ensures { IfOk result (λ orders. orders.items ≡ orders_of from sends.now) }
+) -> Result<Vec<Repeat>, AllocError>
+    ensures { IfOk result (λ repeats. repeated repeats.items ≡ orders_of from sends.now) }
 {
-    let mut orders = Vec::new(alloc);
+    let mut repeats = Vec::new(alloc);
     for sending in sends {
-        add_own(&mut orders, from, sending)?;
+        add_own(&mut repeats, from, sending)?;
     }
-    Ok(orders)
+    Ok(repeats)
 }
 
 /// What one send is to this sender: nothing, where it is another's.
-fn add_own(orders: &mut Vec<Order>, from: u32, sending: &Sending) -> Result<(), AllocError>
-    ensures { OnOk result (orders.new.items ≡ orders.old.items ++ orders_of from (sending.now ∷ [])) }
+fn add_own(repeats: &mut Vec<Repeat>, from: u32, sending: &Sending) -> Result<(), AllocError>
+    ensures { OnOk result (repeated repeats.new.items ≡ repeated repeats.old.items ++ orders_of from (sending.now ∷ [])) }
 {
     if sending.from != from {
         return Ok(());
     }
     let order = order_of(sending);
-    for _ in 0..sending.times {
-        orders.push(order)?;
-    }
+    repeats.push(Repeat {
+        order,
+        times: sending.times,
+    })?;
     Ok(())
 }
 

@@ -8,7 +8,7 @@ ghost use Rattle.mb_run.specs.Ready.{IsReady};
 ghost use Rattle.mb_run.specs.Senders.{AreJobs};
 
 use crate::fault::{RunFault, of_run};
-use crate::orders::orders_of;
+use crate::orders::repeats_of;
 use mb_actor::{Actor, Behaviours};
 use mb_dispatch::{Built, Job, Sender};
 use mb_reader::Sending;
@@ -57,7 +57,7 @@ fn jobs_of<A: Actor, K: Behaviours>(
 {
     let mut jobs = Vec::with_capacity(alloc, senders.len())?;
     for sender in senders {
-        let sends = orders_of(alloc, jobs.len() as u32, sends)?;
+        let sends = repeats_of(alloc, jobs.len() as u32, sends)?;
         jobs.push(Job { sender, sends })?;
     }
     Ok(jobs)

@@ -1,8 +1,8 @@
 -- For which faults sending, work and a whole run are broken off.
-use Rattle.std.proofs.Common.{◌≡◌, ◌≤◌, ℕ, List, [], ◌∷◌, length, refl, subst, sym, ◌∙◌, arith, inl, inr}
-use Rattle.std.specs.Prelude.{◌≢◌, ◌⊎◌, ⊤, Contains, Err, IsErrOf, MatchResult, Ok, OnErr, Result, Some}
+use Rattle.std.proofs.Common.{◌≡◌, ◌≤◌, ℕ, List, [], ◌∷◌, ◌<◌, zero, suc, length, refl, subst, sym, ◌∙◌, arith, inl, inr, get_or}
+use Rattle.std.specs.Prelude.{◌≢◌, ◌⊎◌, ⊤, Contains, replicate, Err, IsErrOf, MatchResult, Ok, OnErr, Result, Some}
 use Rattle.std.specs.Global.{Box}
-use Rattle.std.proofs.lemmas.List.Elements.{All-cons, All-contains, All-nil}
+use Rattle.std.proofs.lemmas.List.Elements.{All-cons, All-contains, All-nil, Contains-append_left, Contains-append_right}
 use Rattle.mb_actor.specs.Behaviour.{Moment, Reply}
 use Rattle.mb_journal.specs.Entry.{Entry}
 use Rattle.mb_journal.specs.Run.{Stopped}
@@ -22,11 +22,13 @@ use Rattle.mb_turn.specs.Ran.{HadRoom, LeavesRun}
 use Rattle.mb_turn.specs.declared.turn.Turn.{Turn}
 use Rattle.mb_system.specs.Beside.{AnyZip}
 use Rattle.mb_system.specs.Faults.{BreaksRun, BreaksSending, BreaksWork, CameToLimit, IsToNobody}
+use Rattle.mb_system.specs.Orders.{repeated}
 use Rattle.mb_system.specs.declared.end.WorkerEnd.{WorkerEnd}
 use Rattle.mb_system.specs.declared.failure.RunError.{RunError}
 use Rattle.mb_system.specs.declared.failure.RunError.TheVariants.{JournalFull, NoMemory, NoSuchActor}
 use Rattle.mb_system.specs.declared.job.Job.{Job}
 use Rattle.mb_system.specs.declared.order.Order.{Order}
+use Rattle.mb_system.specs.declared.order.Repeat.{Repeat}
 use Rattle.mb_system.specs.declared.system.System.{System}
 use Rattle.mb_system.proofs.Sides.{one_after, one_before}
 
@@ -46,6 +48,27 @@ module _ (gates : Gates (Box Contents)) where
   breaks-many orders order NoSuchActor there breaks =
       let P : Order → Type 0 = λ o. Contains orders o in
       (breaks.0, All-contains P (order ∷ []) breaks.0 (All-cons P order [] there (All-nil P)) breaks.1, breaks.2)
+
+  -- it is sent more than once
+  pub breaks-often : (order : Order) (times : ℕ) (fault : RunError) → 0 < times → BreaksSending gates (order ∷ []) fault
+      → BreaksSending gates (replicate times order) fault
+  breaks-often order zero fault some breaks = absurd (omega (arith, some))
+  breaks-often order (suc n) fault some breaks =
+      breaks-many (replicate (suc n) order) order fault (0, omega arith, refl) breaks
+
+  among-repeated : (repeats : List Repeat) (i : ℕ) (d : Repeat) (order : Order) → i < length repeats
+      → Contains (replicate (get_or repeats i d).times (get_or repeats i d).order) order → Contains (repeated repeats) order
+  among-repeated [] i d order lt there = absurd (omega (arith, lt))
+  among-repeated (r ∷ repeats) zero d order lt there = Contains-append_left (replicate r.times r.order) (repeated repeats) order there
+  among-repeated (r ∷ repeats) (suc i) d order lt there =
+      Contains-append_right (replicate r.times r.order) (repeated repeats) order (among-repeated repeats i d order (omega (arith, lt)) there)
+
+  -- and it is one of those that are sent more than once
+  pub breaks-repeated : (repeats : List Repeat) (i : ℕ) (d : Repeat) (fault : RunError) → i < length repeats
+      → BreaksSending gates (replicate (get_or repeats i d).times (get_or repeats i d).order) fault → BreaksSending gates (repeated repeats) fault
+  breaks-repeated repeats i d NoMemory lt breaks = tt
+  breaks-repeated repeats i d JournalFull lt breaks = breaks
+  breaks-repeated repeats i d NoSuchActor lt breaks = (breaks.0, among-repeated repeats i d breaks.0 lt breaks.1, breaks.2)
 
 -- a tell, or a stop, was refused
 IsOfMemory : {T : Type 0} → Result T Unsent → Type 0
@@ -95,9 +118,9 @@ module _ {A K : Type 0} (gives : ℕ → Moment → Reply → Type 0) (system : 
   breaks-by-end before ends jobs NoSuchActor any = absurd (one_after (λ old new. ⊥) (λ new. ⊥) (λ old new is. is) before ends any).2
 
   pub breaks-by-job : (ends : List (WorkerEnd A K)) (jobs after : List (Job A K)) (fault : RunError)
-      → AnyZip (λ old new. BreaksSending system.gates old.sends.items fault) jobs after → BreaksRun gives system ends jobs fault
+      → AnyZip (λ old new. BreaksSending system.gates (repeated old.sends.items) fault) jobs after → BreaksRun gives system ends jobs fault
   breaks-by-job ends jobs after NoMemory any = tt
   breaks-by-job ends jobs after JournalFull any = absurd (one_before (λ old new. ⊥) (λ old. ⊥) (λ old new is. is) jobs after any).2
   breaks-by-job ends jobs after NoSuchActor any =
-      let P : Job A K → Type 0 = λ job. BreaksSending system.gates job.sends.items NoSuchActor in
+      let P : Job A K → Type 0 = λ job. BreaksSending system.gates (repeated job.sends.items) NoSuchActor in
       one_before (λ old new. P old) P (λ old new is. is) jobs after any

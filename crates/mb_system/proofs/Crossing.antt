@@ -25,7 +25,6 @@ use Rattle.mb_ways.specs.contracts.end_way.EndWay as end_way
 use Rattle.mb_ways.specs.contracts.feed_way.FeedWay as feed_way
 use Rattle.mb_ways.proofs.Crossing.{end_way_send, feed_way_send}
 use Rattle.mb_system.proofs.going.Going.TheSendSync as going
-use Rattle.mb_system.proofs.order.Order.TheSendSync as order
 use Rattle.mb_system.specs.contracts.end.WorkerEnd as end
 use Rattle.mb_system.specs.contracts.job.Job as job
 use Rattle.mb_system.specs.contracts.sender.Sender as sender
@@ -69,7 +68,7 @@ module _ (A K : RattleType) (gA : actor.Ghosts A.Denot) (gK : behaviours.Ghosts 
   )
 
   pub job_send : IsSend (job.the_row A K gA gK)
-  job_send = declared_send (job.the_type A K gA gK) (sender_send, (search (sendable, std_crosses, order.the_send) depth 20, tt))
+  job_send = declared_send (job.the_type A K gA gK) (sender_send, (search (sendable, std_crosses) depth 20, tt))
 
   pub system_sync : IsSync (system.the_row A K gA gK)
   system_sync = declared_sync (system.the_type A K gA gK) (

@@ -1,7 +1,9 @@
 -- What a sender did of its orders, one after another.
 use Rattle.std.proofs.Common.{◌≡◌, ◌≢◌, ◌⊎◌, List, [], ◌∷◌, ◌++◌, Bool, true, false, ℕ, ap, sym, refl, ◌∙◌, subst, append_assoc, Option}
+use Rattle.std.proofs.Common.{◌+◌, ◌<◌, length, replicate, get_or, take}
 use Rattle.std.specs.Prelude.{reverse}
-use Rattle.std.proofs.lemmas.List.{append-nil, map-append, reverse-append}
+use Rattle.std.proofs.lemmas.Grind.{flat_map-append}
+use Rattle.std.proofs.lemmas.List.{append-nil, map-append, replicate_more, reverse-append, take_more}
 use Rattle.mb_msg.specs.declared.dead_letter.Why.{Why}
 use Rattle.mb_msg.specs.declared.envelope.Body.{Body}
 use Rattle.mb_msg.specs.declared.envelope.Envelope.{Envelope}
@@ -26,8 +28,9 @@ use Rattle.mb_send.specs.declared.ticket.Look.{Look}
 use Rattle.mb_send.specs.declared.ticket.Look.TheVariants.{Open, Closed}
 use Rattle.mb_system.specs.Debts.{KeepsDebts}
 use Rattle.mb_system.specs.Members.{sender_caller}
-use Rattle.mb_system.specs.Orders.{HasSent, addressed, said_to, stopped_by, stopped_by_one, told_by, told_by_one}
+use Rattle.mb_system.specs.Orders.{HasSent, addressed, repeated, said_to, stopped_by, stopped_by_one, told_by, told_by_one}
 use Rattle.mb_system.specs.declared.order.Order.{Order}
+use Rattle.mb_system.specs.declared.order.Repeat.{Repeat}
 use Rattle.mb_system.specs.declared.order.What.TheVariants.{Tell, Stop}
 use Rattle.mb_system.specs.declared.sender.Sender.{Sender}
 use Rattle.mb_system.proofs.Debts.{debts-at}
@@ -48,6 +51,18 @@ stopped-append (o ∷ xs) ys =
     ap (λ l. stopped_by_one o.to o.what ++ l) (stopped-append xs ys)
     ∙ sym (append_assoc (stopped_by_one o.to o.what) (stopped_by xs) (stopped_by ys))
 
+-- what one more of these comes to stands behind what all before it come to
+pub repeated-push : (repeats : List Repeat) (r : Repeat) → repeated (repeats ++ r ∷ []) ≡ repeated repeats ++ replicate r.times r.order
+repeated-push repeats r =
+    let each : Repeat → List Order = λ r. replicate r.times r.order in
+    flat_map-append each repeats (r ∷ []) ∙ ap (λ l. repeated repeats ++ l) (append-nil (each r))
+
+-- and so of the next, taken one by one
+pub repeated-next : (repeats : List Repeat) (i : ℕ) (d : Repeat) → i < length repeats
+    → repeated (take (i + 1) repeats) ≡ repeated (take i repeats) ++ replicate (get_or repeats i d).times (get_or repeats i d).order
+repeated-next repeats i d lt =
+    ap repeated (take_more repeats i d lt) ∙ repeated-push (take i repeats) (get_or repeats i d)
+
 module _ {A K : Type 0} where
   -- nothing was to be sent
   pub sent-none : (s : Sender A K) → HasSent [] s s
@@ -66,6 +81,12 @@ module _ {A K : Type 0} where
         (sym (reverse-append (stopped_by xs) (stopped_by ys)) ∙ ap reverse (sym (stopped-append xs ys)));
     saw = saw-then _ _ _ p.saw q.saw;
   }
+
+  -- one more of the same was sent
+  pub sent-again : (order : Order) (n : ℕ) (a b c : Sender A K) → HasSent (replicate n order) a b → HasSent (order ∷ []) b c
+      → HasSent (replicate (n + 1) order) a c
+  sent-again order n a b c before more =
+      subst (λ orders. HasSent orders a c) (replicate_more n order) (sent-then (replicate n order) (order ∷ []) a b c before more)
 
   -- it sent and said nothing since
   pub sent-still : (xs : List Order) (a b c : Sender A K) → c.inner.book ≡ b.inner.book

@@ -14,6 +14,7 @@ use Rattle.mb_home.specs.Contents.{Contents}
 use Rattle.mb_turn.specs.Fresh.{IsFreshClaim}
 use Rattle.mb_turn.specs.Ran.{LeavesRun}
 use Rattle.mb_turn.specs.declared.turn.Turn.{Turn}
+use Rattle.mb_system.specs.Orders.{repeated}
 use Rattle.mb_system.specs.declared.end.WorkerEnd.{WorkerEnd}
 use Rattle.mb_system.specs.declared.failure.RunError.{RunError}
 use Rattle.mb_system.specs.declared.failure.RunError.TheVariants.{JournalFull, NoMemory, NoSuchActor}
@@ -55,4 +56,4 @@ module _ {A K : Type 0} (gives : ℕ → Moment → Reply → Type 0) (system : 
   abbrev pub BreaksRun : List (WorkerEnd A K) → List (Job A K) → RunError → Type 0
   BreaksRun ends jobs NoMemory = Unit {0}
   BreaksRun ends jobs JournalFull = (end : WorkerEnd A K) × Contains ends end × CameToLimit end
-  BreaksRun ends jobs NoSuchActor = (job : Job A K) × Contains jobs job × BreaksSending system.gates job.sends.items NoSuchActor
+  BreaksRun ends jobs NoSuchActor = (job : Job A K) × Contains jobs job × BreaksSending system.gates (repeated job.sends.items) NoSuchActor

@@ -1,5 +1,5 @@
 -- What a sender did of what it was to send.
-use Rattle.std.specs.Prelude.{◌≡◌, ℕ, ◌<◌, false, List, [], ◌∷◌, ◌++◌, map, reverse}
+use Rattle.std.specs.Prelude.{◌≡◌, ℕ, ◌<◌, false, List, [], ◌∷◌, ◌++◌, map, replicate, reverse}
 use Rattle.std.specs.Global.{Box}
 use Rattle.mb_msg.specs.declared.envelope.Body.{Body}
 use Rattle.mb_msg.specs.declared.envelope.Envelope.{Envelope}
@@ -14,11 +14,12 @@ use Rattle.mb_gate.specs.View.{Said}
 use Rattle.mb_gate.specs.declared.gates.Gates.{Gates}
 use Rattle.mb_home.specs.Contents.{Contents}
 use Rattle.mb_wake.specs.Owed.{is_owed}
-use Rattle.std.specs.List.{AllZip}
+use Rattle.std.specs.List.{AllZip, flat_map}
 use Rattle.mb_system.specs.Debts.{KeepsDebts}
 use Rattle.mb_system.specs.Members.{sender_caller}
 use Rattle.mb_system.specs.declared.job.Job.{Job}
 use Rattle.mb_system.specs.declared.order.Order.{Order}
+use Rattle.mb_system.specs.declared.order.Repeat.{Repeat}
 use Rattle.mb_system.specs.declared.order.What.{What}
 use Rattle.mb_system.specs.declared.order.What.TheVariants.{Tell, Stop}
 use Rattle.mb_system.specs.declared.sender.Sender.{Sender}
@@ -40,6 +41,10 @@ stopped_by_one to Stop = (to.0, Terminate) ∷ []
 abbrev pub stopped_by : List Order → List (ℕ × SysMsg)
 stopped_by [] = []
 stopped_by (o ∷ orders) = stopped_by_one o.to o.what ++ stopped_by orders
+
+-- what these come to: each as often as it says, one after the other
+abbrev pub repeated : List Repeat → List Order
+repeated = flat_map (λ (r : Repeat). replicate r.times r.order)
 
 -- to whom, and what
 abbrev pub addressed : List Envelope → List (ActorId × Body)
@@ -66,7 +71,7 @@ module _ {A K : Type 0} where
 
   -- the job was done, by the sender that it had, which let no debt go
   pub record IsDone (gates : Gates (Box Contents)) (old new : Job A K) : Type 0 where
-    pub sent : HasSent old.sends.items old.sender new.sender
+    pub sent : HasSent (repeated old.sends.items) old.sender new.sender
     pub nobody : OwesNobody gates new.sender
     pub debts : KeepsDebts (actors_of gates) (sender_caller old.sender.inner.waker) (sender_caller new.sender.inner.waker)
     pub sends : new.sends ≡ old.sends

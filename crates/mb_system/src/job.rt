@@ -4,11 +4,11 @@ ghost use Rattle.mb_gate.specs.Names.{actors_of};
 ghost use Rattle.mb_system.specs.Debts.{KeepsDebts};
 ghost use Rattle.mb_system.specs.Faults.{BreaksSending};
 ghost use Rattle.mb_system.specs.Members.{IsSenderOf, sender_caller};
-ghost use Rattle.mb_system.specs.Orders.{HasSent, OwesNobody};
+ghost use Rattle.mb_system.specs.Orders.{HasSent, OwesNobody, repeated};
 
 use crate::beside::Task;
 use crate::failure::RunError;
-use crate::order::Order;
+use crate::order::Repeat;
 use crate::sender::Sender;
 use crate::system::System;
 use mb_actor::{Actor, Behaviours};
@@ -19,8 +19,8 @@ use std::sync::Wait;
 pub struct Job<A: Actor, K: Behaviours> {
     /// The sender.
     pub sender: Sender<A, K>,
-    /// What it is to send.
-    pub sends: Vec<Order>,
+    /// What it is to send, each as often as it says.
+    pub sends: Vec<Repeat>,
 }
 
 impl<A: Actor, K: Behaviours> Job<A, K> {
@@ -30,10 +30,10 @@ impl<A: Actor, K: Behaviours> Job<A, K> {
         ensures ours { IsSenderOf system.now.gates self.new.sender.inner }
         ensures by { self.new.sender.inner.book.by ≡ self.old.sender.inner.book.by }
         ensures sends { self.new.sends ≡ self.old.sends }
-        ensures sent { OnOk result (HasSent self.old.sends.items self.old.sender self.new.sender × OwesNobody system.now.gates self.new.sender) }
+        ensures sent { OnOk result (HasSent (repeated self.old.sends.items) self.old.sender self.new.sender × OwesNobody system.now.gates self.new.sender) }
         ensures debts { OnOk result (KeepsDebts (actors_of system.now.gates) (sender_caller self.old.sender.inner.waker)
             (sender_caller self.new.sender.inner.waker)) }
-        ensures fault { IfErr result (BreaksSending system.now.gates self.old.sends.items) }
+        ensures fault { IfErr result (BreaksSending system.now.gates (repeated self.old.sends.items)) }
     {
         let outcome = send_and_pay(rt, system, &mut self.sender, &self.sends);
         system.going.close_job();
@@ -45,7 +45,7 @@ impl<A: Actor, K: Behaviours> Task<System<A, K>> for Job<A, K> {
     ghost use Rattle.std.specs.Prelude.{◌≡◌, IfErr, OnOk};
     ghost use Rattle.mb_system.specs.Faults.{BreaksSending};
     ghost use Rattle.mb_system.specs.Members.{IsSenderOf};
-    ghost use Rattle.mb_system.specs.Orders.{IsDone};
+    ghost use Rattle.mb_system.specs.Orders.{IsDone, repeated};
 
     ghost ready = { λ system job. IsSenderOf system.gates job.sender.inner };
 
@@ -53,13 +53,13 @@ impl<A: Actor, K: Behaviours> Task<System<A, K>> for Job<A, K> {
 
     ghost done = { λ system old new. IsDone system.gates old new };
 
-    ghost fails = { λ system old new fault. BreaksSending system.gates old.sends.items fault };
+    ghost fails = { λ system old new fault. BreaksSending system.gates (repeated old.sends.items) fault };
 
     fn perform<R: Wait>(&mut self, rt: &R, shared: &System<A, K>) -> Result<(), RunError>
         requires ready { IsSenderOf shared.now.gates self.old.sender.inner }
         ensures keeps { IsSenderOf shared.now.gates self.new.sender.inner × (self.new.sender.inner.book.by ≡ self.old.sender.inner.book.by) }
         ensures done { OnOk result (IsDone shared.now.gates self.old self.new) }
-        ensures fails { IfErr result (BreaksSending shared.now.gates self.old.sends.items) }
+        ensures fails { IfErr result (BreaksSending shared.now.gates (repeated self.old.sends.items)) }
     {
         self.do_all(rt, shared)
     }
@@ -70,16 +70,16 @@ fn send_and_pay<A: Actor, K: Behaviours, R: Wait>(
     rt: &R,
     system: &System<A, K>,
     sender: &mut Sender<A, K>,
-    orders: &[Order],
+    repeats: &[Repeat],
 ) -> Result<(), RunError>
     requires ours { IsSenderOf system.now.gates sender.old.inner }
     ensures ours { IsSenderOf system.now.gates sender.new.inner }
     ensures by { sender.new.inner.book.by ≡ sender.old.inner.book.by }
-    ensures sent { OnOk result (HasSent orders.now sender.old sender.new × OwesNobody system.now.gates sender.new) }
+    ensures sent { OnOk result (HasSent (repeated repeats.now) sender.old sender.new × OwesNobody system.now.gates sender.new) }
     ensures debts { OnOk result (KeepsDebts (actors_of system.now.gates) (sender_caller sender.old.inner.waker)
         (sender_caller sender.new.inner.waker)) }
-    ensures fault { IfErr result (BreaksSending system.now.gates orders.now) }
+    ensures fault { IfErr result (BreaksSending system.now.gates (repeated repeats.now)) }
 {
-    sender.send_all(rt, system, orders)?;
+    sender.send_repeats(rt, system, repeats)?;
     sender.pay(rt, system)
 }

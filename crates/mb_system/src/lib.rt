@@ -27,6 +27,6 @@ pub use end::WorkerEnd;
 pub use failure::RunError;
 pub use going::Going;
 pub use job::Job;
-pub use order::{Order, What};
+pub use order::{Order, Repeat, What};
 pub use sender::Sender;
 pub use system::System;

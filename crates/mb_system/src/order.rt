@@ -1,10 +1,10 @@
 //! What a sender outside the actors is to send.
-ghost use Rattle.std.specs.Prelude.{◌≡◌, [], ◌∷◌, IfErr, OnOk};
+ghost use Rattle.std.specs.Prelude.{◌≡◌, [], ◌∷◌, IfErr, OnOk, replicate};
 ghost use Rattle.mb_system.specs.Faults.{BreaksSending};
 ghost use Rattle.mb_gate.specs.Names.{actors_of};
 ghost use Rattle.mb_system.specs.Debts.{KeepsDebts};
 ghost use Rattle.mb_system.specs.Members.{IsSenderOf, sender_caller};
-ghost use Rattle.mb_system.specs.Orders.{HasSent};
+ghost use Rattle.mb_system.specs.Orders.{HasSent, repeated};
 
 use crate::failure::{RunError, of_sending};
 use crate::sender::Sender;
@@ -31,7 +31,59 @@ pub struct Order {
     pub what: What,
 }
 
+/// One thing that is to be sent so many times, one after the other.
+#[derive(Clone, Copy, Debug, PartialEq, Eq)]
+pub struct Repeat {
+    /// What is to be sent each time.
+    pub order: Order,
+    /// How often.
+    pub times: u32,
+}
+
 impl<A: Actor, K: Behaviours> Sender<A, K> {
+    /// Sends each of these as often as it says, in order. It stops at the first fault, as `send_all` does.
+    pub(crate) fn send_repeats<R: Wait>(
+        &mut self,
+        rt: &R,
+        system: &System<A, K>,
+        repeats: &[Repeat],
+    ) -> Result<(), RunError>
+        requires ours { IsSenderOf system.now.gates self.old.inner }
+        ensures ours { IsSenderOf system.now.gates self.new.inner }
+        ensures by { self.new.inner.book.by ≡ self.old.inner.book.by }
+        ensures sent { OnOk result (HasSent (repeated repeats.now) self.old self.new) }
+        ensures debts { OnOk result (KeepsDebts (actors_of system.now.gates) (sender_caller self.old.inner.waker)
+            (sender_caller self.new.inner.waker)) }
+        ensures fault { IfErr result (BreaksSending system.now.gates (repeated repeats.now)) }
+    {
+        for repeat in repeats {
+            self.send_often(rt, system, repeat.order, repeat.times)?;
+        }
+        Ok(())
+    }
+
+    // Sends one thing so many times.
+    fn send_often<R: Wait>(
+        &mut self,
+        rt: &R,
+        system: &System<A, K>,
+        order: Order,
+        times: u32,
+    ) -> Result<(), RunError>
+        requires ours { IsSenderOf system.now.gates self.old.inner }
+        ensures ours { IsSenderOf system.now.gates self.new.inner }
+        ensures by { self.new.inner.book.by ≡ self.old.inner.book.by }
+        ensures sent { OnOk result (HasSent (replicate times order) self.old self.new) }
+        ensures debts { OnOk result (KeepsDebts (actors_of system.now.gates) (sender_caller self.old.inner.waker)
+            (sender_caller self.new.inner.waker)) }
+        ensures fault { IfErr result (BreaksSending system.now.gates (replicate times order)) }
+    {
+        for _ in 0..times {
+            self.send(rt, system, order)?;
+        }
+        Ok(())
+    }
+
     /// Sends all this, in order. It stops at the first fault: `NoSuchActor` or `NoMemory` as a tell or a stop answers it. What was
     /// sent before stays sent. Whom the sender owes a look then, a `pay` looks after.
     pub fn send_all<R: Wait>(
@@ -55,6 +107,7 @@ impl<A: Actor, K: Behaviours> Sender<A, K> {
     }
 
     // Sends one thing.
+    #[inline(always)]
     fn send<R: Wait>(&mut self, rt: &R, system: &System<A, K>, order: Order) -> Result<(), RunError>
         requires ours { IsSenderOf system.now.gates self.old.inner }
         ensures ours { IsSenderOf system.now.gates self.new.inner }

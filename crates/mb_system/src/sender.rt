@@ -115,6 +115,7 @@ impl<A: Actor, K: Behaviours> Sender<A, K> {
     /// letter.
     ///
     /// It answers `NoSuchActor` as a look does, and else `NoMemory` as a put does: then nothing is sent, and no number is used.
+    #[inline(always)]
     pub fn tell<R: Wait>(
         &mut self,
         rt: &R,

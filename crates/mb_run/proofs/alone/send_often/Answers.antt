@@ -1,7 +1,7 @@
 use Rattle.std.proofs.Common.{[], ◌∷◌}
 use Rattle.mb_system.proofs.Sending.{sent-none}
 use Rattle.mb_run.proofs.FaultLemmas.{one-for-somebody, told-of-sending}
-use Rattle.mb_run.proofs.SenderLemmas.{sent-again}
+use Rattle.mb_system.proofs.Sending.{sent-again}
 use Rattle.mb_run.proofs.alone.send_often.Goals as goal
 
 pub loop-init : goal.loop-init

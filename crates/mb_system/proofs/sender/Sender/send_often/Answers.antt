@@ -1,0 +1,20 @@
+use Rattle.std.proofs.Common.{refl}
+use Rattle.mb_gate.specs.Names.{actors_of}
+use Rattle.mb_system.specs.Members.{sender_caller}
+use Rattle.mb_system.proofs.Debts.{debts-same, debts-then}
+use Rattle.mb_system.proofs.Sending.{sent-again, sent-none}
+use Rattle.mb_system.proofs.sender.Sender.send_often.Goals as goal
+
+pub loop-init : goal.loop-init
+loop-init g c =
+    let first = c.args.self.now in let caller = sender_caller first.inner.waker in
+    (c.requires.ours, sent-none first, debts-same (actors_of c.args.system.now.gates) caller caller refl refl)
+
+pub loop-preserved : goal.loop-preserved
+loop-preserved g c =
+    let one = c.in_ok-send.ensures in (
+      c.send.ensures.ours,
+      sent-again c.args.order c.loop.counter c.args.self.now c.loop.self c.send.new.self c.loop.invariant.1 one.sent,
+      debts-then (actors_of c.args.system.now.gates) (sender_caller c.args.self.now.inner.waker) (sender_caller c.loop.self.inner.waker)
+          (sender_caller c.send.new.self.inner.waker) c.loop.invariant.2 one.debts,
+    )

@@ -1,0 +1,11 @@
+use Rattle.std.proofs.Common.{replicate}
+use Rattle.mb_gate.specs.Names.{actors_of}
+use Rattle.mb_system.specs.Debts.{KeepsDebts}
+use Rattle.mb_system.specs.Members.{IsSenderOf, sender_caller}
+use Rattle.mb_system.specs.Orders.{HasSent}
+use Rattle.mb_system.proofs.sender.Sender.send_often.Given as goal
+
+abbrev pub invariant-loop : goal.invariant-loop
+invariant-loop g l =
+    IsSenderOf l.system.gates l.self.inner × HasSent (replicate l.counter l.order) l.fn.self l.self
+    × KeepsDebts (actors_of l.system.gates) (sender_caller l.fn.self.inner.waker) (sender_caller l.self.inner.waker)
