@@ -17,8 +17,6 @@ mod history;
 mod message;
 mod outbox;
 mod phase;
-#[cfg(test)]
-mod tests;
 
 pub use actor::Actor;
 pub use answer::Answer;

@@ -15,6 +15,3 @@ pub use error::ReadyError;
 pub use failed_by::FailedBy;
 pub use journal::Journal;
 pub use strategy::{Pattern, Strategy, by_default};
-
-#[cfg(test)]
-mod tests;

@@ -7,8 +7,6 @@ mod id;
 pub mod limits;
 mod supervision;
 mod system;
-#[cfg(test)]
-mod tests;
 
 pub use dead_letter::{DeadLetter, Why};
 pub use envelope::{Body, Envelope};

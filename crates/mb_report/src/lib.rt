@@ -8,8 +8,6 @@ mod counts;
 mod line;
 mod lines;
 mod report;
-#[cfg(test)]
-mod tests;
 mod text;
 mod totals;
 

@@ -5,8 +5,6 @@ mod index;
 mod operation;
 mod perform;
 mod script;
-#[cfg(test)]
-mod tests;
 
 pub use operation::{Operation, Row};
 pub use script::{Hooks, Script};

@@ -5,7 +5,5 @@
 #![tactic(auto)]
 
 mod status;
-#[cfg(test)]
-mod tests;
 
 pub use status::{MOST_SUSPENSIONS, Status};

@@ -12,6 +12,3 @@ mod node;
 pub use chain::Chain;
 pub use list::{ListClosed, SysList};
 pub use node::Node;
-
-#[cfg(test)]
-mod tests;

@@ -1,7 +1,8 @@
+//! A list of system messages gives the earliest first, goes on numbering, and may be long and go to another thread.
 ghost use Rattle.std.specs.Prelude.{◌≡◌};
 
-use super::*;
 use mb_msg::{ActorId, Cause, SysMsg};
+use mb_syslist::{Chain, ListClosed, Node, SysList};
 use std::alloc::Global;
 use std::process::Abort;
 use std::test::Fail;

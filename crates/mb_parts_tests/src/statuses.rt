@@ -1,6 +1,6 @@
 //! Each transition on the first words of a mailbox, by the table of `akka.dispatch.Mailbox`.
 
-use crate::Status;
+use mb_status::Status;
 
 /// A word, and what each call gives on it.
 struct Row {

@@ -3,7 +3,7 @@
 ghost use Rattle.std.specs.Prelude.{◌≡◌, []};
 
 use super::holds;
-use crate::{Actor, Answer, Called, Effect, Message, Outbox};
+use mb_actor::{Actor, Answer, Called, Effect, Message, Outbox};
 use mb_msg::{ActorId, Cause};
 use std::alloc::Global;
 use std::process::Abort;

@@ -1,6 +1,6 @@
 //! The limits, each at its last place and one past it.
 
-use crate::{Body, Envelope, SenderId, limits};
+use mb_msg::{Body, Envelope, SenderId, limits};
 
 #[test]
 fn outside_senders(rt: HostRuntime) {

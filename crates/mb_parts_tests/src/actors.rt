@@ -4,7 +4,7 @@ mod asking;
 mod calls;
 mod refusals;
 
-use crate::{Effect, Outbox};
+use mb_actor::{Effect, Outbox};
 use std::process::Abort;
 
 /// Compares what an outbox holds with what is expected.

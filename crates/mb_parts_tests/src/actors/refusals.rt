@@ -1,7 +1,7 @@
 //! The refusals of an outbox, each at its limit and one past it.
 
 use super::holds;
-use crate::{Effect, Outbox, OutboxError};
+use mb_actor::{Effect, Outbox, OutboxError};
 use mb_msg::ActorId;
 use std::process::Abort;
 use std::test::Fail;

@@ -1,7 +1,7 @@
 //! An actor with effects, proved against what it states of them.
 
 use super::holds;
-use crate::{Actor, Answer, Called, Effect, Message, Outbox};
+use mb_actor::{Actor, Answer, Called, Effect, Message, Outbox};
 use mb_msg::{ActorId, Cause};
 use std::process::Abort;
 use std::test::Fail;

@@ -1,9 +1,10 @@
+//! The text of a report of three actors, also where memory is refused.
 ghost use Rattle.std.specs.Prelude.{◌≡◌, ◌+◌, IfSome, length};
 
-use super::*;
 use mb_actor::{Answer, Phase};
 use mb_journal::Journal;
 use mb_msg::{ActorId, Body, Cause, DeadLetter, Envelope, SenderId, SysMsg, Why};
+use mb_report::{ActorReport, Report, SenderReport, report_text};
 use std::alloc::{AllocError, Global};
 use std::test::Fail;
 

@@ -1,7 +1,8 @@
+//! A journal is read back entry by entry, keeps to its limit, and a strategy decides by its first row that matches.
 ghost use Rattle.std.specs.Prelude.{◌≡◌, true};
 
-use super::*;
 use mb_actor::{Answer, Effect};
+use mb_journal::{Arrival, Journal, Pattern, ReadyError, Strategy};
 use mb_msg::{ActorId, Body, Cause, Directive, Envelope, SenderId, SysMsg};
 use std::process::Abort;
 use std::test::Fail;

@@ -1,8 +1,9 @@
+//! What a script does at each call, and among how many rows it finds the one of a message.
 ghost use Rattle.std.specs.Prelude.{◌≡◌, ◌<◌, [], ◌∷◌, IfOk};
 
-use super::*;
 use mb_actor::{Actor, Answer, Effect, Message, Outbox};
 use mb_msg::{ActorId, Cause};
+use mb_script::{Hooks, Operation, Row, Script};
 use std::alloc::{AllocError, Global};
 use std::test::Fail;
 

@@ -1,0 +1,18 @@
+//! The tests of the small crates that all others stand on: statuses, names and limits, outboxes and calls of an actor, lists of
+//! system messages, journals, scripts and reports.
+#![tactic(auto)]
+
+#[cfg(test)]
+mod actors;
+#[cfg(test)]
+mod journals;
+#[cfg(test)]
+mod lists;
+#[cfg(test)]
+mod messages;
+#[cfg(test)]
+mod reports;
+#[cfg(test)]
+mod scripts;
+#[cfg(test)]
+mod statuses;
