@@ -9,3 +9,4 @@ pub mod Settling
 pub mod Bringing
 pub mod Back
 pub mod Closing
+pub mod Wholly

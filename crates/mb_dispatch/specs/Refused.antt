@@ -41,6 +41,14 @@ module _ {A K : Type 0} where
   IsRefusal built (NoMemory back) = IsComplete built × HasRead (FindsSettled (actors_of built.system.gates)) built back
   IsRefusal built (Mismatch what) = IsComplete built × IsFoundSettled built × (of_whom what < actors_of built.system.gates)
 
+  -- nothing is missing, and whoever is named is one of so many actors
+  abbrev pub IsOfWhole : ℕ → FinishError A K → Type 0
+  IsOfWhole actors (MissingEnd number back) = ⊥
+  IsOfWhole actors (MissingSender number back) = ⊥
+  IsOfWhole actors (NotQuiet id back) = id.0 < actors
+  IsOfWhole actors (NoMemory back) = Unit {0}
+  IsOfWhole actors (Mismatch what) = of_whom what < actors
+
   -- What does not agree is so by what the gates left, by the senders' passes and by the counts that were read; all that ends and senders saw was
   -- known then.
   pub record DisagreesAtEnd (gives : ℕ → Moment → Reply → Type 0) (built : Built A K) (what : What) : Type 0 where

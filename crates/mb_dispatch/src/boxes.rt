@@ -1,6 +1,10 @@
 //! A whole run on one thread, also of boxed actors of mixed kinds.
-ghost use Rattle.std.specs.Prelude.{◌≡◌, [], All, IfErr, IfOk, MatchResult, OnOk, length, map};
+ghost use Rattle.std.specs.Prelude.{◌≡◌, ℕ, [], All, IfErr, IfOk, List, MatchResult, OnOk, length, map};
 ghost use Rattle.mb_build.specs.Behaved.{AreBehaved};
+ghost use Rattle.mb_plan.specs.declared.plan.Plan.{Plan};
+ghost use Rattle.mb_system.specs.Begun.{actors_in};
+ghost use Rattle.mb_system.specs.declared.order.Order.{Order};
+ghost use Rattle.mb_dispatch.specs.Refused.{IsOfWhole};
 ghost use Rattle.mb_dispatch.specs.Story.{IsStory, after_at, gives_at};
 ghost use Rattle.mb_dispatch.specs.Untold.{IsNoStory, IsRight};
 
@@ -98,12 +102,22 @@ fn run_planned<A: Actor, K: Behaviours, R: Wait>(
     }
     match finish(rt, built) {
         Ok(report) => Ok(report),
-        Err(FinishError::NotQuiet(id, _)) => Err(WholeError::NotQuiet(id)),
-        Err(FinishError::Mismatch(mismatch)) => Err(WholeError::Mismatch(mismatch)),
-        Err(FinishError::NoMemory(_)) => Err(WholeError::NoMemory),
-        // The system has all ends and senders that it began with.
-        Err(FinishError::MissingEnd(_, _)) => unreachable!(),
-        Err(FinishError::MissingSender(_, _)) => unreachable!(),
+        Err(error) => Err(without_report(&error)),
+    }
+}
+
+// Why there is no report of a system that has all ends and senders that it began with.
+fn without_report<A: Actor, K: Behaviours>(error: &FinishError<A, K>) -> WholeError
+    requires { (actors : ℕ) × IsOfWhole actors error.now }
+    ensures { (plan : Plan) (actors : ℕ) (orders : List (List Order)) → IsRight plan actors orders
+        → IsOfWhole (length (actors_in plan)) error.now → IsNoStory plan actors orders result }
+{
+    match error {
+        FinishError::NotQuiet(id, _) => WholeError::NotQuiet(*id),
+        FinishError::Mismatch(mismatch) => WholeError::Mismatch(*mismatch),
+        FinishError::NoMemory(_) => WholeError::NoMemory,
+        FinishError::MissingEnd(_, _) => unreachable!(),
+        FinishError::MissingSender(_, _) => unreachable!(),
     }
 }
 
