@@ -1,8 +1,10 @@
 //! The queues of all actors, and for each sender its passes into them.
-ghost use Rattle.std.specs.Prelude.{◌≡◌, ◌+◌, ◌≤◌, ◌<◌, [], ◌++◌, All, IfOk, length, map, replicate};
-ghost use Rattle.mb_queue.specs.Made.{IsMakeable, numbers_of};
-ghost use Rattle.mb_build.specs.Handed.{handed};
-ghost use Rattle.mb_build.specs.Made.{AreMade};
+ghost use Rattle.std.specs.Prelude.{◌≡◌, ◌≢◌, ℕ, ◌+◌, ◌≤◌, ◌<◌, [], ◌∷◌, ◌++◌, All, AllPairs, IfOk, length, map, replicate};
+ghost use Rattle.mb_lane.specs.Ledger.{lent};
+ghost use Rattle.mb_queue.specs.Made.{IsEmpty, IsMakeable, numbers_of, unused};
+ghost use Rattle.mb_queue.specs.Passes.{Taking};
+ghost use Rattle.mb_build.specs.Handed.{handed, passes_of};
+ghost use Rattle.mb_build.specs.Made.{AreEmpty, AreMade};
 ghost use Rattle.mb_build.specs.Numbers.{numbers, sender_numbers};
 
 use mb_msg::limits::ACTORS;
@@ -31,20 +33,56 @@ pub(crate) fn make_queues(
 {
     let actors = kinds.len() as u32 + 1;
     let senders = senders(alloc, actors, outside)?;
-    let mut rows = rows(alloc, senders.len())?;
-    let mut takes = Vec::with_capacity(alloc, kinds.len())?;
+    let (takes, rows) = queues_of(alloc, kinds, &senders)?;
     let (guardian, _) = MailQueue::new(alloc, Kind::Unbounded, ActorId(0), &[])?;
-    for kind in kinds {
-        let to = ActorId(takes.len() as u32 + 1);
-        let (take, sends) = MailQueue::new(alloc, kind, to, &senders)?;
-        takes.push(take)?;
-        hand_out(&mut rows, sends)?;
-    }
     Ok(Queues {
         guardian,
         takes,
         senders: rows,
     })
+}
+
+/// Empty queues of these kinds, of the actors from 1 on; and for each sender its passes into them.
+fn queues_of(
+    alloc: Global,
+    kinds: Vec<Kind>,
+    senders: &[SenderId],
+) -> Result<(Vec<TakePass>, Vec<Vec<SendPass>>), AllocError>
+    requires few { length kinds.items < 64 }
+    requires kinds { All IsMakeable kinds.items }
+    requires distinct { AllPairs (λ (a b : ℕ). a ≢ b) (numbers_of senders.now) }
+    ensures empty { IfOk result (λ made. AreEmpty kinds.items 1 (numbers_of senders.now) made.0.items) }
+    ensures passes { IfOk result (λ made. map (λ row. row.items) made.1.items ≡ map (passes_of made.0.items) (numbers_of senders.now)) }
+{
+    let mut rows = rows(alloc, senders.len())?;
+    let mut takes = Vec::with_capacity(alloc, kinds.len())?;
+    for kind in kinds {
+        add_queue(alloc, kind, senders, &mut takes, &mut rows)?;
+    }
+    Ok((takes, rows))
+}
+
+/// The queue of one actor more.
+fn add_queue(
+    alloc: Global,
+    kind: Kind,
+    senders: &[SenderId],
+    takes: &mut Vec<TakePass>,
+    rows: &mut [Vec<SendPass>],
+) -> Result<(), AllocError>
+    requires few { length takes.old.items < 64 }
+    requires kind { IsMakeable kind }
+    requires distinct { AllPairs (λ (a b : ℕ). a ≢ b) (numbers_of senders.now) }
+    requires many { length rows.old ≡ length senders.now }
+    ensures many { length rows.new ≡ length rows.old }
+    ensures made { IfOk result (λ _. (take : Taking) × (takes.new.items ≡ takes.old.items ++ take ∷ [])
+        × (IsEmpty kind (length takes.old.items + 1) (numbers_of senders.now) take × (take.accounts ≡ map lent (numbers_of senders.now)))
+        × (map (λ row. row.items) rows.new ≡ handed (map (λ row. row.items) rows.old) (map (unused take.queue) (numbers_of senders.now)))) }
+{
+    let to = ActorId(takes.len() as u32 + 1);
+    let (take, sends) = MailQueue::new(alloc, kind, to, senders)?;
+    takes.push(take)?;
+    hand_out(rows, sends)
 }
 
 /// Who sends: as many actors, and as many senders outside.
