@@ -1,9 +1,9 @@
 //! The whole run.
-ghost use Rattle.std.specs.Prelude.{◌≡◌, ◌+◌, IfErr, IfOk, [], length};
+ghost use Rattle.std.specs.Prelude.{◌≡◌, ℕ, ◌+◌, IfErr, IfOk, [], length};
 ghost use Rattle.mb_build.specs.Behaved.{AreBehaved};
 ghost use Rattle.mb_gate.specs.Names.{actors_of};
 ghost use Rattle.mb_system.specs.Belonging.{BelongsTogether};
-ghost use Rattle.mb_dispatch.specs.Refused.{IsComplete};
+ghost use Rattle.mb_dispatch.specs.Refused.{IsComplete, IsOfWhole};
 ghost use Rattle.mb_run.specs.Broken.{IsBrokenOff, IsUnended};
 ghost use Rattle.mb_run.specs.Faults.{IsFaultOf};
 ghost use Rattle.mb_run.specs.Given.{AreSendable, CanRun};
@@ -83,10 +83,20 @@ fn report_of<A: Actor, K: Behaviours, R: Wait>(
 {
     match finish(rt, built) {
         Ok(report) => Ok(report),
-        Err(FinishError::NotQuiet(id, _)) => Err(RunFault::NotQuiet(id)),
-        Err(FinishError::NoMemory(_)) => Err(RunFault::NoMemory),
-        Err(FinishError::Mismatch(_)) => Err(RunFault::Mismatch),
-        Err(FinishError::MissingEnd(_, _)) => unreachable!(),
-        Err(FinishError::MissingSender(_, _)) => unreachable!(),
+        Err(error) => Err(fault_of(&error)),
+    }
+}
+
+/// How it is told that there is no report of a system of which nothing is missing.
+fn fault_of<A: Actor, K: Behaviours>(error: &FinishError<A, K>) -> RunFault
+    requires { (actors : ℕ) × IsOfWhole actors error.now }
+    ensures { (actors : ℕ) → IsOfWhole actors error.now → IsUnended actors result }
+{
+    match error {
+        FinishError::NotQuiet(id, _) => RunFault::NotQuiet(*id),
+        FinishError::NoMemory(_) => RunFault::NoMemory,
+        FinishError::Mismatch(_) => RunFault::Mismatch,
+        FinishError::MissingEnd(_, _) => unreachable!(),
+        FinishError::MissingSender(_, _) => unreachable!(),
     }
 }
