@@ -1,13 +1,17 @@
 -- Those that are owed a look are paid one after another.
-use Rattle.std.proofs.Common.{◌≡◌, ◌≢◌, ◌⊎◌, inl, inr, ℕ, ◌+◌, ◌<◌, ◌≤◌, Bool, true, false, [], ◌++◌}
-use Rattle.std.proofs.Common.{refl, sym, ap, ◌∙◌, subst, arith, append_assoc, append-nil}
+use Rattle.std.proofs.Common.{◌≡◌, ◌≢◌, ◌⊎◌, inl, inr, ℕ, ◌+◌, ◌<◌, ◌≤◌, ◌==◌, ◌||◌, Bool, true, false, List, [], ◌∷◌, ◌++◌}
+use Rattle.std.proofs.Common.{Result, Ok, Err, IsErrAnd, MatchResult, refl, sym, ap, ◌∙◌, subst, arith, append_assoc, append-nil}
 use Rattle.std.proofs.lemmas.Bool.{cases_lt}
+use Rattle.std.proofs.lemmas.Bool.Decides.{nat_tests}
 use Rattle.mb_core.specs.Actor.{nothing}
 use Rattle.mb_rule.proofs.SeenLemmas.{each_append, each_weaker}
+use Rattle.mb_gate.specs.Names.{held_actor}
 use Rattle.mb_gate.specs.View.{View, Sight, owes}
+use Rattle.mb_gate.specs.declared.claim.Claim.{Claim}
 use Rattle.mb_wake.specs.declared.owed.Owed.{Owed}
 use Rattle.mb_wake.specs.Owed.{is_owed}
 use Rattle.mb_wake.specs.Views.{LooksAfter, LooksAmong, IsLook}
+use Rattle.mb_wake.specs.Waking.{Account, IsWoken, StopsAt}
 use Rattle.mb_wake.proofs.Bits.{same_or_other}
 
 true_or_false : (b : Bool) → (b ≡ true) ⊎ (b ≡ false)
@@ -16,6 +20,27 @@ true_or_false false = inr refl
 
 never-both : {A : Type 0} (b : Bool) → b ≡ true → b ≡ false → A
 never-both b a c = let e : true ≡ false = sym a ∙ c in absurd (cc)
+
+-- what holds of each failure, of a result that is one
+pub on-failure : {T E : Type 0} {Told : E → Type 0} (P : T → Type 0) (Q : Type 0) (r : Result T E) → IsErrAnd r Told → Q
+    → MatchResult r P (λ _. Q)
+on-failure P Q (Ok x) failed q = absurd failed
+on-failure P Q (Err e) failed q = q
+
+-- whether the pool refused a claim is seen by whether the actor is owed a look
+module _ {H : Type 0} (id : ℕ) (old new : Account H) where
+  pub refused-one : (result : Bool) → IsWoken id old new result → is_owed old.owed id ≡ false → is_owed new.owed id ≡ true
+      → (claim : Claim H) × (held_actor claim ≡ id) × (new.refused ≡ old.refused ++ claim ∷ [])
+  refused-one true went out still = never-both (is_owed new.owed id) still (ap (λ o. is_owed o id) went.owed ∙ out)
+  refused-one false (inl same) out still = never-both (is_owed new.owed id) still (ap (λ (a : Account H). is_owed a.owed id) same ∙ out)
+  refused-one false (inr was) out still = (was.claim, was.of, was.refused)
+
+  pub refused-none : (result : Bool) → IsWoken id old new result → is_owed new.owed id ≡ false → new.refused ≡ old.refused
+  refused-none true went out = went.refused
+  refused-none false (inl same) out = ap (λ (a : Account H). a.refused) same
+  refused-none false (inr was) out =
+      let itself : (id == id) ≡ true = grind (arith, nat_tests) in
+      never-both (is_owed new.owed id) (was.owed id ∙ ap (λ b. b || is_owed old.owed id) itself) out
 
 module _ (among : ℕ → Bool) where
   pub among-none : (v : View) → LooksAmong among v v
@@ -57,6 +82,15 @@ paid-none owed v = record {
   later = λ id from few. refl;
 }
 
+-- whoever was owed a look is owed nothing, or a look still
+pub kept-below : (n : ℕ) (before now : Owed) (u v : View) → IsPaidBelow n before now u v → (id : ℕ) → id < 64 → is_owed before id ≡ true
+    → (owes id v ≡ nothing) ⊎ (is_owed now id ≡ true)
+kept-below n before now u v p id small owed = by_order (cases_lt id n)
+  where
+    by_order : (id < n) ⊎ (n ≤ id) → (owes id v ≡ nothing) ⊎ (is_owed now id ≡ true)
+    by_order (inl below) = inl (p.paid id below owed)
+    by_order (inr from) = inr (p.later id from small ∙ owed)
+
 module _ (n : ℕ) (before mid now : Owed) (u v w : View) (few : n < 64) (p : IsPaidBelow n before mid u v)
     (none : is_owed mid n ≡ false → (now ≡ mid) × (w ≡ v)) (looks : LooksAfter n v w)
     (others : (other : ℕ) → other < 64 → other ≢ n → is_owed now other ≡ is_owed mid other) where
@@ -81,6 +115,41 @@ module _ (n : ℕ) (before mid now : Owed) (u v w : View) (few : n < 64) (p : Is
           let miss : is_owed mid n ≡ false = ap (is_owed mid) (sym same) ∙ was_out in
           ap (λ o. is_owed o id) (none miss).0 ∙ was_out
       by_place (inr other) = others id small other ∙ was_out
+
+  pub kept-on : (is_owed mid n ≡ true → (owes n w ≡ nothing) ⊎ (is_owed now n ≡ true)) → (id : ℕ) → id < 64 → is_owed before id ≡ true
+      → (owes id w ≡ nothing) ⊎ (is_owed now id ≡ true)
+  kept-on pays id small owed = by_place (same_or_other id n)
+    where
+      by_order : id ≢ n → (id < n) ⊎ (n ≤ id) → (owes id w ≡ nothing) ⊎ (is_owed now id ≡ true)
+      by_order other (inl below) = inl (looks.others id other ∙ p.paid id below owed)
+      by_order other (inr from) = inr (others id small other ∙ p.later id from small ∙ owed)
+
+      by_place : (id ≡ n) ⊎ (id ≢ n) → (owes id w ≡ nothing) ⊎ (is_owed now id ≡ true)
+      by_place (inl same) =
+          subst (λ i. (owes i w ≡ nothing) ⊎ (is_owed now i ≡ true)) (sym same) (pays (at ∙ ap (is_owed before) (sym same) ∙ owed))
+      by_place (inr other) = by_order other (cases_lt id n)
+
+  pub stops : {H : Type 0} (pushed_before pushed_now refused_before refused_now : List (Claim H)) → (is_owed mid n ≡ true) × (is_owed now n ≡ true)
+      → (claim : Claim H) × (held_actor claim ≡ n) × (refused_now ≡ refused_before ++ claim ∷ [])
+      → StopsAt (record { pushed = pushed_before; refused = refused_before; owed = before })
+      (record { pushed = pushed_now; refused = refused_now; owed = now })
+  stops pushed_before pushed_now refused_before refused_now still one = record {
+    claim = one.0;
+    owed = ap (is_owed before) of ∙ was;
+    refused = one.2;
+    before = λ id below. others id (omega (arith, below, of, few)) (λ same. omega (arith, below, of, same)) ∙ p.done id (omega (arith, below, of));
+    after = λ id from small. as_before id (omega (arith, from, of)) small (same_or_other id n);
+  }
+    where
+      of : held_actor one.0 ≡ n
+      of = one.1
+
+      was : is_owed before n ≡ true
+      was = sym at ∙ still.0
+
+      as_before : (id : ℕ) → n ≤ id → id < 64 → (id ≡ n) ⊎ (id ≢ n) → is_owed now id ≡ is_owed before id
+      as_before id from small (inl same) = ap (is_owed now) same ∙ still.1 ∙ sym (ap (is_owed before) same ∙ was)
+      as_before id from small (inr other) = others id small other ∙ p.later id from small
 
   pub paid-next : is_owed now n ≡ false → (is_owed mid n ≡ true → (owes n w ≡ nothing) ⊎ (is_owed now n ≡ true)) →
       IsPaidBelow (n + 1) before now u w

@@ -1,5 +1,5 @@
 -- What a caller does who wakes an actor (`Dispatcher.registerForExecution`).
-use Rattle.std.specs.Prelude.{◌≡◌, ℕ, ◌==◌, ◌||◌, ◌⊎◌, Bool, MatchBool, List, [], ◌∷◌, ◌++◌}
+use Rattle.std.specs.Prelude.{◌≡◌, ℕ, ◌<◌, ◌≤◌, ◌==◌, ◌||◌, ◌⊎◌, Bool, true, false, MatchBool, List, [], ◌∷◌, ◌++◌}
 use Rattle.mb_gate.specs.declared.claim.Claim.{Claim}
 use Rattle.mb_gate.specs.Names.{held_actor}
 use Rattle.mb_wake.specs.declared.owed.Owed.{Owed}
@@ -35,3 +35,12 @@ module _ {H : Type 0} (id : ℕ) (old new : Account H) where
   -- whether the actor's claim went to the pool
   abbrev pub IsWoken : Bool → Type 0
   IsWoken result = MatchBool result Went (AsBefore ⊎ WasRefused)
+
+-- A payment stops: the pool refused the claim of an actor that was owed a look, and no claim was given to it after that. Whoever comes before
+-- this actor is owed no look any more; it and whoever comes after it are owed one as before.
+pub record StopsAt {H : Type 0} (old new : Account H) : Type 0 where
+  pub claim : Claim H
+  pub owed : is_owed old.owed (held_actor claim) ≡ true
+  pub refused : new.refused ≡ old.refused ++ claim ∷ []
+  pub before : (id : ℕ) → id < held_actor claim → is_owed new.owed id ≡ false
+  pub after : (id : ℕ) → held_actor claim ≤ id → id < 64 → is_owed new.owed id ≡ is_owed old.owed id

@@ -7,3 +7,4 @@ abbrev pub invariant-loop-number : goal.invariant-loop-number
 invariant-loop-number g l =
     (pass_id l.self.pass ≡ pass_id l.initial.self.pass) × (g.W.Way.origin l.self.way ≡ g.W.Way.origin l.initial.self.way)
     × IsPaidBelow l.number l.initial.self.owed l.self.owed (known_by l.initial.self.pass) (known_by l.self.pass)
+    × (g.W.Way.refused l.self.way ≡ g.W.Way.refused l.initial.self.way)
