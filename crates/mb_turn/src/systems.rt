@@ -1,5 +1,5 @@
 //! System messages.
-ghost use Rattle.std.specs.Prelude.{◌≡◌, ◌⊎◌, ◌≤◌, [], true, false, length, List, IfOk, IsErrOf, OnOk};
+ghost use Rattle.std.specs.Prelude.{◌≡◌, ◌≢◌, ◌⊎◌, ◌≤◌, [], true, false, length, List, IfOk, IsErrOf, OnOk};
 ghost use Rattle.mb_gate.specs.View.{Sight};
 ghost use Rattle.mb_gate.specs.Names.{status_of};
 ghost use Rattle.mb_home.specs.Steps.{HasNext, IsRested};
@@ -167,6 +167,7 @@ fn drain<A: Actor, K: Behaviours, R: Wait>(
     ensures same { KeepsJournal (hold_of claim.old) (hold_of claim.new) }
     ensures cleared { IsCleared (hold_of claim.old) (hold_of claim.new) }
     ensures drained { result ≡ false → IsDrained (hold_of claim.new) }
+    ensures some { result ≡ true → claim.new.home.value.rest ≢ [] }
 {
     let drained = gates.sys_drain(rt, claim);
     if drained.is_empty() {

@@ -1,4 +1,4 @@
-use Rattle.std.proofs.Common.{◌≡◌, List, refl, sym, ap, ◌∙◌, subst}
+use Rattle.std.proofs.Common.{◌≡◌, List, true≢false, refl, sym, ap, ◌∙◌, subst}
 use Rattle.std.specs.Global.{Box}
 use Rattle.mb_status.specs.Mailbox.{Mailbox}
 use Rattle.mb_journal.specs.Acts.{Act}
@@ -70,6 +70,12 @@ returns-clause-same g c =
     c.keep.ensures.kept in
     keeps-drained c.args.claim.now c.sys_drain-drained.new.claim did.ours did.same did.taken did.recorded c.sys_drain-drained.result did.given
     did.known did.gave c.keep.new.self kept
+
+pub returns-clause-some : goal.returns-clause-some
+returns-clause-some g c =
+    let kept = subst (λ (x : Contents). c.keep.new.self ≡ record x { rest = c.sys_drain-drained.result }) c.deref_mut.ensures.value
+    c.keep.ensures.kept in
+    λ _ none. true≢false (sym (c.is_empty.ensures.1 (sym (ap (λ (x : Contents). x.rest) kept) ∙ none)) ∙ c.if-is_empty.false)
 
 -- ---- nothing was drained
 
