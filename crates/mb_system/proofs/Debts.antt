@@ -1,5 +1,5 @@
 -- No debt is let go, step after step.
-use Rattle.std.proofs.Common.{◌≡◌, ◌≢◌, ◌⊎◌, inl, inr, ℕ, ◌+◌, ◌<◌, Bool, true, false, refl, sym, ap, ◌∙◌, subst, arith}
+use Rattle.std.proofs.Common.{◌≡◌, ◌≢◌, ◌⊎◌, inl, inr, ℕ, ◌+◌, ◌<◌, ◌≤◌, Bool, true, false, refl, sym, ap, ◌∙◌, subst, arith}
 use Rattle.mb_core.specs.Actor.{nothing}
 use Rattle.mb_gate.specs.View.{owes}
 use Rattle.mb_turn.specs.Caller.{Caller, IsPaid, LeavesCaller}
@@ -52,13 +52,13 @@ module _ {H : Type 0} (actors : ℕ) where
       by_look (inr same) (inr free) = inr (free, same)
 
   -- nor does one who pays
-  pub debts-paid : (a b : Caller H) → LooksAmong (is_owed a.account.owed) a.view b.view
-      → ((id : ℕ) → id < actors → is_owed a.account.owed id ≡ true → owes id b.view ≡ nothing) → KeepsDebts actors a b
-  debts-paid a b looks paid id lt = by_look (true-or-false (is_owed a.account.owed id))
+  pub debts-paid : (a b : Caller H) → actors ≤ 64 → LooksAmong (is_owed a.account.owed) a.view b.view
+      → ((id : ℕ) → id < 64 → is_owed a.account.owed id ≡ true → IsPaid id b) → KeepsDebts actors a b
+  debts-paid a b few looks kept id lt = by_look (true-or-false (is_owed a.account.owed id))
     where
       by_look : (is_owed a.account.owed id ≡ true) ⊎ (is_owed a.account.owed id ≡ false)
           → IsPaid id b ⊎ ((is_owed a.account.owed id ≡ false) × (owes id b.view ≡ owes id a.view))
-      by_look (inl owed_it) = inl (inl (paid id lt owed_it))
+      by_look (inl owed_it) = inl (kept id (omega (arith, lt, few)) owed_it)
       by_look (inr free) = inr (free, looks.others id free)
 
   -- nor who does something at one actor, and looks after it

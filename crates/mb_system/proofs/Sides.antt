@@ -88,7 +88,7 @@ module _ {A K : Type 0} (gates : Gates (Box Contents)) where
 
 -- r is the first fault of a and b
 module _ {E : Type 0} where
-  on_ok : {P : Type 0} (r : Result (Unit {0}) E) → P → OnOk r P
+  pub on_ok : {P : Type 0} (r : Result (Unit {0}) E) → P → OnOk r P
   on_ok (Ok x) p = p
   on_ok (Err e) p = tt
 

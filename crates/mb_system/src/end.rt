@@ -16,7 +16,7 @@ ghost use Rattle.mb_turn.specs.Ran.{HadRoom, LeavesRun};
 ghost use Rattle.mb_turn.specs.declared.turn.Turn.{Turn as TurnType};
 ghost use Rattle.mb_wake.specs.Owed.{is_owed};
 ghost use Rattle.mb_wake.specs.Views.{LooksAfter};
-ghost use Rattle.mb_wake.specs.Waking.{IsWoken};
+ghost use Rattle.mb_wake.specs.Waking.{IsWoken, StopsAt};
 ghost use Rattle.mb_system.specs.Debts.{HasPaid, KeepsDebts};
 ghost use Rattle.mb_system.specs.Members.{end_caller, IsEndOf};
 
@@ -147,14 +147,18 @@ impl<A: Actor, K: Behaviours> WorkerEnd<A, K> {
 
     /// Looks again after each actor that it owes a look.
     ///
-    /// It answers `NoMemory` if the pool refused a claim again: then that actor, and those after it, are owed a look still.
+    /// It answers `NoMemory` if the pool refused a claim again, and then alone: then that actor, and those after it, are owed a look
+    /// still. Whatever is answered, no debt is let go.
     pub fn pay<R: Wait>(&mut self, rt: &R, system: &System<A, K>) -> Result<(), RunError>
         requires ours { IsEndOf system.now.gates self.old.waker }
         ensures ours { IsEndOf system.now.gates self.new.waker }
         ensures paid { OnOk result ((id : ℕ) → id < actors_of system.now.gates → is_owed self.old.waker.owed id ≡ true
             → owes id (known_by self.new.waker.pass) ≡ nothing) }
         ensures done { OnOk result ((id : ℕ) → id < actors_of system.now.gates → is_owed self.new.waker.owed id ≡ false) }
-        ensures debts { OnOk result (KeepsDebts (actors_of system.now.gates) (end_caller self.old.waker) (end_caller self.new.waker)) }
+        ensures debts { KeepsDebts (actors_of system.now.gates) (end_caller self.old.waker) (end_caller self.new.waker) }
+        ensures stops { MatchResult result
+            (λ _. (end_caller self.new.waker).account.refused ≡ (end_caller self.old.waker).account.refused)
+            (λ _. StopsAt (end_caller self.old.waker).account (end_caller self.new.waker).account) }
         ensures refused { OnErr result (IsErrOf result RunError.NoMemory) }
         ensures number { self.new.number ≡ self.old.number }
         ensures saw { IsPart (known_by self.old.waker.pass).log (known_by self.new.waker.pass).log }

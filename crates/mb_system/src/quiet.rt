@@ -6,7 +6,7 @@ ghost use Rattle.mb_pool.specs.Moves.{WasEmpty};
 ghost use Rattle.mb_pool.specs.Places.{looks};
 ghost use Rattle.mb_turn.specs.Fresh.{IsFreshClaim};
 ghost use Rattle.mb_wake.specs.Owed.{IsNobody};
-ghost use Rattle.mb_system.specs.Debts.{OwesNothing};
+ghost use Rattle.mb_system.specs.Debts.{HasPaid, OwesNothing};
 ghost use Rattle.mb_system.specs.Faults.{BreaksWork};
 ghost use Rattle.mb_system.specs.Members.{end_caller, IsEndOf};
 
@@ -32,6 +32,7 @@ impl<A: Actor, K: Behaviours> WorkerEnd<A, K> {
         requires ours { IsEndOf system.now.gates self.old.waker }
         ensures ours { IsEndOf system.now.gates self.new.waker }
         ensures paid { OnOk result (IsNobody self.new.waker.owed) }
+        ensures debts { HasPaid (actors_of system.now.gates) (end_caller self.new.waker) }
         ensures settled { OnOk result (OwesNothing (actors_of system.now.gates) (end_caller self.new.waker)) }
         ensures empty { OnOk result (All (WasEmpty (IsFreshClaim K.gives)) (looks self.new.waker.way.end)) }
         ensures number { self.new.number ≡ self.old.number }

@@ -32,7 +32,7 @@ impl<A: Actor + Send, K: Behaviours + Send> System<A, K> {
         ensures by { jobs_senders jobs.new ≡ jobs_senders jobs.old }
         ensures saw { SeeOn ends.old ends.new }
         ensures paid { OnOk result (ArePaid self.now.gates ends.new) }
-        ensures debts { OnOk result (KeepAllDebts self.now.gates ends.old ends.new) }
+        ensures debts { KeepAllDebts self.now.gates ends.old ends.new }
         ensures done { OnOk result (AreDone self.now.gates jobs.old jobs.new) }
         ensures fault { IfErr result (BreaksRun K.gives self.now ends.new jobs.old) }
     {

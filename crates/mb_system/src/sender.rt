@@ -1,5 +1,5 @@
 //! A sender outside the actors.
-ghost use Rattle.std.specs.Prelude.{◌≡◌, ◌⊎◌, ℕ, ◌<◌, ◌≤◌, true, false, IfOk, IsErrOf, OnErr, OnOk};
+ghost use Rattle.std.specs.Prelude.{◌≡◌, ◌⊎◌, ℕ, ◌<◌, ◌≤◌, true, false, IfOk, IsErrOf, MatchResult, OnErr, OnOk};
 ghost use Rattle.mb_core.specs.Actor.{nothing};
 ghost use Rattle.mb_gate.specs.Names.{actors_of, known_by};
 ghost use Rattle.mb_gate.specs.Rule.{IsPart};
@@ -7,6 +7,7 @@ ghost use Rattle.mb_gate.specs.View.{owes};
 ghost use Rattle.mb_send.specs.Answers.{IsSeen, IsSent, IsTold, Stops};
 ghost use Rattle.mb_send.specs.declared.unsent.Unsent.TheVariants as Refusal;
 ghost use Rattle.mb_wake.specs.Owed.{is_owed};
+ghost use Rattle.mb_wake.specs.Waking.{StopsAt};
 ghost use Rattle.mb_system.specs.Debts.{KeepsDebts};
 ghost use Rattle.mb_system.specs.Members.{IsSenderOf, sender_caller};
 ghost use Rattle.mb_system.specs.Orders.{OwesNobody};
@@ -162,7 +163,8 @@ impl<A: Actor, K: Behaviours> Sender<A, K> {
 
     /// Looks again after each actor that it owes a look.
     ///
-    /// It answers `NoMemory` if the pool refused a claim again: then that actor, and those after it, are owed a look still.
+    /// It answers `NoMemory` if the pool refused a claim again, and then alone: then that actor, and those after it, are owed a look
+    /// still. Whatever is answered, no debt is let go.
     pub fn pay<R: Wait>(&mut self, rt: &R, system: &System<A, K>) -> Result<(), RunError>
         requires ours { IsSenderOf system.now.gates self.old.inner }
         ensures ours { IsSenderOf system.now.gates self.new.inner }
@@ -170,8 +172,10 @@ impl<A: Actor, K: Behaviours> Sender<A, K> {
         ensures paid { OnOk result ((id : ℕ) → id < actors_of system.now.gates → is_owed self.old.inner.waker.owed id ≡ true
             → owes id (known_by self.new.inner.waker.pass) ≡ nothing) }
         ensures done { OnOk result (OwesNobody system.now.gates self.new) }
-        ensures debts { OnOk result (KeepsDebts (actors_of system.now.gates) (sender_caller self.old.inner.waker)
-            (sender_caller self.new.inner.waker)) }
+        ensures debts { KeepsDebts (actors_of system.now.gates) (sender_caller self.old.inner.waker) (sender_caller self.new.inner.waker) }
+        ensures stops { MatchResult result
+            (λ _. (sender_caller self.new.inner.waker).account.refused ≡ (sender_caller self.old.inner.waker).account.refused)
+            (λ _. StopsAt (sender_caller self.old.inner.waker).account (sender_caller self.new.inner.waker).account) }
         ensures saw { IsPart (known_by self.old.inner.waker.pass).log (known_by self.new.inner.waker.pass).log }
         ensures refused { OnErr result (IsErrOf result RunError.NoMemory) }
         ensures same { ((known_by self.new.inner.waker.pass).said ≡ (known_by self.old.inner.waker.pass).said)

@@ -29,7 +29,7 @@ impl<A: Actor, K: Behaviours> WorkerEnd<A, K> {
         requires ours { IsEndOf system.now.gates self.old.waker }
         ensures ours { IsEndOf system.now.gates self.new.waker }
         ensures paid { OnOk result ((id : ℕ) → id < actors_of system.now.gates → is_owed self.new.waker.owed id ≡ false) }
-        ensures debts { OnOk result (KeepsDebts (actors_of system.now.gates) (end_caller self.old.waker) (end_caller self.new.waker)) }
+        ensures debts { KeepsDebts (actors_of system.now.gates) (end_caller self.old.waker) (end_caller self.new.waker) }
         ensures number { self.new.number ≡ self.old.number }
         ensures saw { IsPart (known_by self.old.waker.pass).log (known_by self.new.waker.pass).log }
         ensures fault { IfErr result (BreaksWork K.gives system.now self.new) }
@@ -45,7 +45,7 @@ impl<A: Actor, K: Behaviours> WorkerEnd<A, K> {
         requires ours { IsEndOf system.now.gates self.old.waker }
         ensures ours { IsEndOf system.now.gates self.new.waker }
         ensures paid { OnOk result ((id : ℕ) → id < actors_of system.now.gates → is_owed self.new.waker.owed id ≡ false) }
-        ensures debts { OnOk result (KeepsDebts (actors_of system.now.gates) (end_caller self.old.waker) (end_caller self.new.waker)) }
+        ensures debts { KeepsDebts (actors_of system.now.gates) (end_caller self.old.waker) (end_caller self.new.waker) }
         ensures number { self.new.number ≡ self.old.number }
         ensures saw { IsPart (known_by self.old.waker.pass).log (known_by self.new.waker.pass).log }
         ensures fault { IfErr result (BreaksWork K.gives system.now self.new) }
@@ -64,7 +64,7 @@ impl<A: Actor, K: Behaviours> WorkerEnd<A, K> {
         requires ours { IsEndOf system.now.gates self.old.waker }
         ensures ours { IsEndOf system.now.gates self.new.waker }
         ensures paid { OnOk result ((id : ℕ) → id < actors_of system.now.gates → is_owed self.new.waker.owed id ≡ false) }
-        ensures debts { OnOk result (KeepsDebts (actors_of system.now.gates) (end_caller self.old.waker) (end_caller self.new.waker)) }
+        ensures debts { KeepsDebts (actors_of system.now.gates) (end_caller self.old.waker) (end_caller self.new.waker) }
         ensures number { self.new.number ≡ self.old.number }
         ensures saw { IsPart (known_by self.old.waker.pass).log (known_by self.new.waker.pass).log }
         ensures fault { IfErr result (BreaksWork K.gives system.now self.new) }
@@ -104,7 +104,7 @@ impl<A: Actor, K: Behaviours> WorkerEnd<A, K> {
         requires paid { (id : ℕ) → id < actors_of system.now.gates → is_owed self.old.waker.owed id ≡ false }
         ensures ours { IsEndOf system.now.gates self.new.waker }
         ensures paid { OnOk result (result ≡ Ok true → (id : ℕ) → id < actors_of system.now.gates → is_owed self.new.waker.owed id ≡ false) }
-        ensures debts { OnOk result (KeepsDebts (actors_of system.now.gates) (end_caller self.old.waker) (end_caller self.new.waker)) }
+        ensures debts { KeepsDebts (actors_of system.now.gates) (end_caller self.old.waker) (end_caller self.new.waker) }
         ensures number { self.new.number ≡ self.old.number }
         ensures saw { IsPart (known_by self.old.waker.pass).log (known_by self.new.waker.pass).log }
         ensures fault { IfErr result (BreaksWork K.gives system.now self.new) }
@@ -140,19 +140,19 @@ impl<A: Actor, K: Behaviours> Task<System<A, K>> for WorkerEnd<A, K> {
     ghost ready = { λ system end. IsEndOf system.gates end.waker };
 
     ghost keeps = { λ system old new. IsEndOf system.gates new.waker × (new.number ≡ old.number)
-        × IsPart (known_by old.waker.pass).log (known_by new.waker.pass).log };
-
-    ghost done = { λ system old new. ((id : ℕ) → id < actors_of system.gates → is_owed new.waker.owed id ≡ false)
+        × IsPart (known_by old.waker.pass).log (known_by new.waker.pass).log
         × KeepsDebts (actors_of system.gates) (end_caller old.waker) (end_caller new.waker) };
+
+    ghost done = { λ system old new. (id : ℕ) → id < actors_of system.gates → is_owed new.waker.owed id ≡ false };
 
     ghost fails = { λ system old new fault. BreaksWork K.gives system new fault };
 
     fn perform<R: Wait>(&mut self, rt: &R, shared: &System<A, K>) -> Result<(), RunError>
         requires ready { IsEndOf shared.now.gates self.old.waker }
         ensures keeps { IsEndOf shared.now.gates self.new.waker × (self.new.number ≡ self.old.number)
-            × IsPart (known_by self.old.waker.pass).log (known_by self.new.waker.pass).log }
-        ensures done { OnOk result (((id : ℕ) → id < actors_of shared.now.gates → is_owed self.new.waker.owed id ≡ false)
-            × KeepsDebts (actors_of shared.now.gates) (end_caller self.old.waker) (end_caller self.new.waker)) }
+            × IsPart (known_by self.old.waker.pass).log (known_by self.new.waker.pass).log
+            × KeepsDebts (actors_of shared.now.gates) (end_caller self.old.waker) (end_caller self.new.waker) }
+        ensures done { OnOk result ((id : ℕ) → id < actors_of shared.now.gates → is_owed self.new.waker.owed id ≡ false) }
         ensures fails { IfErr result (BreaksWork K.gives shared.now self.new) }
     {
         self.work(rt, shared)

@@ -4,6 +4,7 @@ use Rattle.mb_system.specs.Members.{sender_caller}
 use Rattle.mb_system.specs.Orders.{HasSent, OwesNobody}
 use Rattle.mb_system.proofs.Debts.{debts-then}
 use Rattle.mb_system.proofs.Sending.{sent-still}
+use Rattle.mb_system.proofs.Sides.{on_ok}
 use Rattle.mb_system.proofs.job.send_and_pay.Goals as goal
 
 pub returns-clause-sent : goal.returns-clause-sent
@@ -16,7 +17,6 @@ returns-clause-sent g c =
 
 pub returns-clause-debts : goal.returns-clause-debts
 returns-clause-debts g c =
-    on_ok_weaker _
+    on_ok c.pay.result
     (debts-then (actors_of c.args.system.now.gates) (sender_caller c.args.sender.now.inner.waker) (sender_caller c.send_all.new.self.inner.waker)
-    (sender_caller c.pay.new.self.inner.waker) c.in_ok-send_all.ensures.debts)
-    c.pay.ensures.debts
+    (sender_caller c.pay.new.self.inner.waker) c.in_ok-send_all.ensures.debts c.pay.ensures.debts)

@@ -15,5 +15,16 @@ returns-in-Ok-clause-paid g c = c.in-Ok.ensures.paid
 
 pub returns-in-Ok-clause-debts : goal.returns-in-Ok-clause-debts
 returns-in-Ok-clause-debts g c =
-    debts-paid (actors_of c.args.system.now.gates) (end_caller c.args.self.now.waker) (end_caller c.pay.new.self) c.pay.ensures.looks
-    c.in-Ok.ensures.paid
+    debts-paid (actors_of c.args.system.now.gates) (end_caller c.args.self.now.waker) (end_caller c.pay.new.self) c.requires.ours.2
+    c.pay.ensures.looks c.pay.ensures.kept
+
+pub returns-in-Err-clause-debts : goal.returns-in-Err-clause-debts
+returns-in-Err-clause-debts g c =
+    debts-paid (actors_of c.args.system.now.gates) (end_caller c.args.self.now.waker) (end_caller c.pay.new.self) c.requires.ours.2
+    c.pay.ensures.looks c.pay.ensures.kept
+
+pub returns-in-Ok-clause-stops : goal.returns-in-Ok-clause-stops
+returns-in-Ok-clause-stops g c = c.in-Ok.ensures.refused
+
+pub returns-in-Err-clause-stops : goal.returns-in-Err-clause-stops
+returns-in-Err-clause-stops g c = c.in-Err.ensures.refused

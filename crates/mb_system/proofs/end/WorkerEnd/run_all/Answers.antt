@@ -1,5 +1,4 @@
 use Rattle.std.proofs.Common.{◌∙◌, ap, refl, subst}
-use Rattle.std.proofs.lemmas.Result.{on_ok_weaker}
 use Rattle.mb_gate.specs.Names.{actors_of, known_by}
 use Rattle.mb_gate.specs.Rule.{IsPart}
 use Rattle.mb_system.specs.Members.{end_caller}
@@ -32,10 +31,15 @@ returns-in_default-clause-saw g c =
 pub returns-in_default-clause-debts : goal.returns-in_default-clause-debts
 returns-in_default-clause-debts g c =
     let same = c.take.ensures.same in
-    on_ok_weaker _
-    (debts-from (actors_of c.args.system.now.gates) (end_caller c.args.self.now.waker) (end_caller c.loop.self.waker)
-    (end_caller c.take.new.self.waker) (end_caller c.pay.new.self.waker) c.loop.invariant.3 (ap known_by same.0) same.1)
-    c.pay.ensures.debts
+    debts-from (actors_of c.args.system.now.gates) (end_caller c.args.self.now.waker) (end_caller c.loop.self.waker)
+    (end_caller c.take.new.self.waker) (end_caller c.pay.new.self.waker) c.loop.invariant.3 (ap known_by same.0) same.1 c.pay.ensures.debts
+
+pub returns-in_err-run_one-clause-debts : goal.returns-in_err-run_one-clause-debts
+returns-in_err-run_one-clause-debts g c =
+    let same = c.take.ensures.same in let actors = actors_of c.args.system.now.gates in
+    let between = end_caller c.take.new.self.waker in let new = end_caller c.run_one.new.self.waker in
+    debts-from actors (end_caller c.args.self.now.waker) (end_caller c.loop.self.waker) between new c.loop.invariant.3 (ap known_by same.0) same.1
+    (debts-left actors between new c.run_one.ensures.leaves)
 
 pub returns-in_err-run_one-clause-saw : goal.returns-in_err-run_one-clause-saw
 returns-in_err-run_one-clause-saw g c =

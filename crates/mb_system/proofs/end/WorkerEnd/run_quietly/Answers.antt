@@ -36,7 +36,7 @@ loop-preserved g c =
       saw-then _ _ _ c.loop.invariant.2 (subst (λ p. IsPart (known_by p).log (known_by c.pay.new.self.waker.pass).log) same.0 did.saw),
       paid-still actors between new
           (paid-still actors old between c.loop.invariant.3 (debts-same actors old between (ap known_by same.0) same.1))
-          c.in_ok-pay-in-None-take.ensures.debts,
+          did.debts,
     )
 
 pub returns-in_err-run_one-in-Some-take-clause-saw : goal.returns-in_err-run_one-in-Some-take-clause-saw
@@ -48,6 +48,30 @@ pub returns-in_err-pay-in-None-take-clause-saw : goal.returns-in_err-pay-in-None
 returns-in_err-pay-in-None-take-clause-saw g c =
     saw-then _ _ _ c.loop.invariant.2
     (subst (λ p. IsPart (known_by p).log (known_by c.pay.new.self.waker.pass).log) c.take.ensures.same.0 c.pay.ensures.saw)
+
+pub returns-then-clause-debts : goal.returns-then-clause-debts
+returns-then-clause-debts g c = c.loop.invariant.3
+
+pub returns-in_err-run_one-in-Some-take-clause-debts : goal.returns-in_err-run_one-in-Some-take-clause-debts
+returns-in_err-run_one-in-Some-take-clause-debts g c =
+    let same = c.take.ensures.same in let actors = actors_of c.args.system.now.gates in
+    let old = end_caller c.loop.self.waker in let between = end_caller c.take.new.self.waker in let new = end_caller c.run_one.new.self.waker in
+    paid-still actors between new
+    (paid-still actors old between c.loop.invariant.3 (debts-same actors old between (ap known_by same.0) same.1))
+    (debts-left actors between new c.run_one.ensures.leaves)
+
+pub returns-in_err-pay-in-None-take-clause-debts : goal.returns-in_err-pay-in-None-take-clause-debts
+returns-in_err-pay-in-None-take-clause-debts g c =
+    let same = c.take.ensures.same in let actors = actors_of c.args.system.now.gates in
+    let old = end_caller c.loop.self.waker in let between = end_caller c.take.new.self.waker in let new = end_caller c.pay.new.self.waker in
+    paid-still actors between new
+    (paid-still actors old between c.loop.invariant.3 (debts-same actors old between (ap known_by same.0) same.1)) c.pay.ensures.debts
+
+pub returns-then-is_empty-clause-debts : goal.returns-then-is_empty-clause-debts
+returns-then-is_empty-clause-debts g c =
+    let same = c.take.ensures.same in let actors = actors_of c.args.system.now.gates in
+    let old = end_caller c.loop.self.waker in let new = end_caller c.take.new.self.waker in
+    paid-still actors old new c.loop.invariant.3 (debts-same actors old new (ap known_by same.0) same.1)
 
 pub returns-then-is_empty-clause-empty : goal.returns-then-is_empty-clause-empty
 returns-then-is_empty-clause-empty g c =

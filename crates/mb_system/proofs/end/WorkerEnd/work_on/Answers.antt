@@ -18,8 +18,8 @@ loop-preserved g c =
       c.is_over.ensures.ours,
       c.is_over.ensures.number ∙ c.run_all.ensures.number ∙ at.1,
       saw-then _ _ _ (saw-then _ _ _ at.2 c.run_all.ensures.saw) c.is_over.ensures.saw,
-      debts-then actors first between new (debts-then actors first old between at.3 c.in_ok-run_all.ensures.debts)
-          c.in_ok-is_over.ensures.debts,
+      debts-then actors first between new (debts-then actors first old between at.3 c.run_all.ensures.debts)
+          c.is_over.ensures.debts,
     )
 
 pub returns-then-branch-clause-saw : goal.returns-then-branch-clause-saw
@@ -31,8 +31,8 @@ returns-then-branch-clause-debts g c =
     let actors = actors_of c.args.system.now.gates in
     let first = end_caller c.args.self.now.waker in let old = end_caller c.loop.self.waker in
     let between = end_caller c.run_all.new.self.waker in let new = end_caller c.is_over.new.self.waker in
-    debts-then actors first between new (debts-then actors first old between c.loop.invariant.3 c.in_ok-run_all.ensures.debts)
-    c.in_ok-is_over.ensures.debts
+    debts-then actors first between new (debts-then actors first old between c.loop.invariant.3 c.run_all.ensures.debts)
+    c.is_over.ensures.debts
 
 pub returns-in_err-run_all-clause-saw : goal.returns-in_err-run_all-clause-saw
 returns-in_err-run_all-clause-saw g c = saw-then _ _ _ c.loop.invariant.2 c.run_all.ensures.saw
@@ -40,3 +40,15 @@ returns-in_err-run_all-clause-saw g c = saw-then _ _ _ c.loop.invariant.2 c.run_
 pub returns-in_err-is_over-clause-saw : goal.returns-in_err-is_over-clause-saw
 returns-in_err-is_over-clause-saw g c =
     saw-then _ _ _ (saw-then _ _ _ c.loop.invariant.2 c.run_all.ensures.saw) c.is_over.ensures.saw
+
+pub returns-in_err-run_all-clause-debts : goal.returns-in_err-run_all-clause-debts
+returns-in_err-run_all-clause-debts g c =
+    debts-then (actors_of c.args.system.now.gates) (end_caller c.args.self.now.waker) (end_caller c.loop.self.waker)
+    (end_caller c.run_all.new.self.waker) c.loop.invariant.3 c.run_all.ensures.debts
+
+pub returns-in_err-is_over-clause-debts : goal.returns-in_err-is_over-clause-debts
+returns-in_err-is_over-clause-debts g c =
+    let actors = actors_of c.args.system.now.gates in
+    let first = end_caller c.args.self.now.waker in let old = end_caller c.loop.self.waker in
+    let between = end_caller c.run_all.new.self.waker in let new = end_caller c.is_over.new.self.waker in
+    debts-then actors first between new (debts-then actors first old between c.loop.invariant.3 c.run_all.ensures.debts) c.is_over.ensures.debts

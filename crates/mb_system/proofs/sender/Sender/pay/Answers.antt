@@ -26,7 +26,18 @@ returns-in-Ok-clause-paid g c = c.in-Ok.ensures.paid
 pub returns-in-Ok-clause-debts : goal.returns-in-Ok-clause-debts
 returns-in-Ok-clause-debts g c =
     debts-paid (actors_of c.args.system.now.gates) (sender_caller c.args.self.now.inner.waker) (sender_caller c.pay.new.self)
-    c.pay.ensures.looks c.in-Ok.ensures.paid
+    c.requires.ours.ours.2 c.pay.ensures.looks c.pay.ensures.kept
+
+pub returns-in-Err-clause-debts : goal.returns-in-Err-clause-debts
+returns-in-Err-clause-debts g c =
+    debts-paid (actors_of c.args.system.now.gates) (sender_caller c.args.self.now.inner.waker) (sender_caller c.pay.new.self)
+    c.requires.ours.ours.2 c.pay.ensures.looks c.pay.ensures.kept
+
+pub returns-in-Ok-clause-stops : goal.returns-in-Ok-clause-stops
+returns-in-Ok-clause-stops g c = c.in-Ok.ensures.refused
+
+pub returns-in-Err-clause-stops : goal.returns-in-Err-clause-stops
+returns-in-Err-clause-stops g c = c.in-Err.ensures.refused
 
 pub returns-in-Ok-clause-saw : goal.returns-in-Ok-clause-saw
 returns-in-Ok-clause-saw g c = saw-more c.pay.ensures.looks.looks _ _ c.pay.ensures.looks.log

@@ -39,7 +39,7 @@ pub returns-clause-paid : goal.returns-clause-paid
 returns-clause-paid g c =
     let of = c.all_beside-of_jobs.result in
     ok_first _ of.1 of.0 c.first_of.result c.first_of.ensures
-    (on_ok_weaker _ (all_after _ _ (λ old new did. did.0) _ _) c.all_beside-of_jobs.ensures.done.1)
+    (on_ok_weaker _ (all_after _ _ (λ old new did. did) _ _) c.all_beside-of_jobs.ensures.done.1)
 
 pub returns-clause-done : goal.returns-clause-done
 returns-clause-done g c =
@@ -59,9 +59,6 @@ returns-clause-saw g c =
 
 pub returns-clause-debts : goal.returns-clause-debts
 returns-clause-debts g c =
-    let of = c.all_beside-of_jobs.result in let actors = actors_of c.args.self.now.gates in
-    ok_first _ of.1 of.0 c.first_of.result c.first_of.ensures
-    (on_ok_weaker _
-    (zip_then _ _ _ (λ x y z p q. debts-then actors (end_caller x.waker) (end_caller y.waker) (end_caller z.waker) p q.1) _ _ _
-    c.register_by_first.ensures.debts)
-    c.all_beside-of_jobs.ensures.done.1)
+    let actors = actors_of c.args.self.now.gates in
+    zip_then _ _ _ (λ x y z p kept. debts-then actors (end_caller x.waker) (end_caller y.waker) (end_caller z.waker) p kept.3) _ _ _
+    c.register_by_first.ensures.debts c.all_beside-of_jobs.ensures.keeps.1
