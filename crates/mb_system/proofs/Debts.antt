@@ -82,12 +82,12 @@ module _ {H : Type 0} (actors : ℕ) where
       by_last (inr kept) (inr owed) = not-both (is_owed a.account.owed id) owed kept.0
 
   -- and where it owes nobody a look, it owes nothing
-  pub owes-nothing : (a : Caller H) → HasPaid actors a → ((id : ℕ) → is_owed a.account.owed id ≡ false) → OwesNothing actors a
+  pub owes-nothing : (a : Caller H) → HasPaid actors a → ((id : ℕ) → id < actors → is_owed a.account.owed id ≡ false) → OwesNothing actors a
   owes-nothing a p nobody id lt = by_debt (p id lt)
     where
       by_debt : IsPaid id a → owes id a.view ≡ nothing
       by_debt (inl none) = none
-      by_debt (inr owed) = not-both (is_owed a.account.owed id) owed (nobody id)
+      by_debt (inr owed) = not-both (is_owed a.account.owed id) owed (nobody id lt)
 
 -- one actor after another was looked after
 pub paid-more : {H : Type 0} (many : ℕ) (a b : Caller H) → HasPaid many a → LeavesCaller a b → IsPaid many b → HasPaid (many + 1) b

@@ -6,9 +6,11 @@ pub mod Building
 pub mod Opened
 pub mod Sharing
 pub mod Founded
+pub mod Owing
 pub mod Led
 pub mod Crossing
 pub mod Sides
+pub mod Firsts
 pub mod Breaking
 pub mod Saw
 pub mod Alike

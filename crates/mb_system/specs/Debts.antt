@@ -1,5 +1,5 @@
 -- What becomes of what ends and senders owe the actors of a system (this project's own profile).
-use Rattle.std.specs.Prelude.{◌≡◌, ◌⊎◌, ℕ, ◌<◌, false, List}
+use Rattle.std.specs.Prelude.{◌≡◌, ◌⊎◌, ℕ, ◌<◌, false, List, [], ◌∷◌}
 use Rattle.std.specs.Global.{Box}
 use Rattle.std.specs.List.{AllZip}
 use Rattle.mb_core.specs.Actor.{nothing}
@@ -30,3 +30,12 @@ module _ {H : Type 0} (actors : ℕ) where
 abbrev pub KeepAllDebts : {A K : Type 0} → Gates (Box Contents) → List (WorkerEnd A K) → List (WorkerEnd A K) → Type 0
 KeepAllDebts {A} {K} gates =
     AllZip (λ (old new : WorkerEnd A K). KeepsDebts (actors_of gates) (end_caller old.waker) (end_caller new.waker))
+
+-- the first of these ends owes each actor nothing, or a look; or it owes none of them anything
+abbrev pub FirstHasPaid : {A K : Type 0} → Gates (Box Contents) → List (WorkerEnd A K) → Type 0
+FirstHasPaid gates [] = Unit {0}
+FirstHasPaid gates (end ∷ ends) = HasPaid (actors_of gates) (end_caller end.waker)
+
+abbrev pub FirstOwesNothing : {A K : Type 0} → Gates (Box Contents) → List (WorkerEnd A K) → Type 0
+FirstOwesNothing gates [] = Unit {0}
+FirstOwesNothing gates (end ∷ ends) = OwesNothing (actors_of gates) (end_caller end.waker)

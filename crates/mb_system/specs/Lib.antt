@@ -9,3 +9,4 @@ pub mod Unbuilt
 pub mod Orders
 pub mod Beside
 pub mod Faults
+pub mod Found

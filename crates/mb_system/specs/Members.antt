@@ -8,7 +8,7 @@ use Rattle.mb_gate.specs.Names.{actors_of, first_of, known_by}
 use Rattle.mb_gate.specs.Rule.{IsPart}
 use Rattle.mb_home.specs.Contents.{Contents}
 use Rattle.mb_home.specs.Roll.{queues_of}
-use Rattle.mb_pool.specs.Places.{gates_of, looks}
+use Rattle.mb_pool.specs.Places.{Way, gates_of, looks}
 use Rattle.mb_send.specs.Sends.{receiving_queues}
 use Rattle.mb_send.specs.declared.sender.Sender.{Sender}
 use Rattle.mb_turn.specs.Caller.{Caller, caller_of, IsWakerOf}
@@ -19,6 +19,7 @@ use Rattle.mb_ways.specs.declared.end_way.EndWay.{EndWay}
 use Rattle.mb_ways.specs.declared.feed_way.FeedWay.{FeedWay}
 use Rattle.mb_system.specs.declared.end.WorkerEnd.{WorkerEnd}
 use Rattle.mb_system.specs.declared.job.Job.{Job}
+use Rattle.mb_system.specs.declared.sender.Sender.{Sender as OutsideSender}
 
 -- the end's pass and its way into the pool are of these gates
 abbrev pub IsEndOf : Gates (Box Contents) → Waker (Box Contents) (EndWay (Box Contents)) → Type 0
@@ -47,6 +48,13 @@ module _ {A K : Type 0} where
   -- who the senders of these jobs are
   abbrev pub jobs_senders : List (Job A K) → List SenderId
   jobs_senders = map (λ (j : Job A K). j.sender.inner.book.by)
+
+  -- the ends of the pool that these ends have, and the feeds that these senders have
+  abbrev pub ways_of_ends : List (WorkerEnd A K) → List (Way (Box Contents))
+  ways_of_ends = map (λ (e : WorkerEnd A K). e.waker.way.end)
+
+  abbrev pub ways_of_senders : List (OutsideSender A K) → List (Way (Box Contents))
+  ways_of_senders = map (λ (s : OutsideSender A K). s.inner.waker.way.feed)
 
   -- all these ends are of the gates; and so are the senders of these jobs
   abbrev pub AreEndsOf : Gates (Box Contents) → List (WorkerEnd A K) → Type 0

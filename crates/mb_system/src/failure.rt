@@ -20,6 +20,7 @@ pub enum RunError {
 /// Why a turn was broken off.
 pub fn of_turn(error: ReadyError) -> RunError
     ensures full { result ≡ RunError.JournalFull → error ≡ ReadyError.JournalFull }
+    ensures told { result ≡ RunError.NoMemory → error ≡ ReadyError.NoMemory }
     ensures known { result ≢ RunError.NoSuchActor }
 {
     match error {
@@ -31,6 +32,7 @@ pub fn of_turn(error: ReadyError) -> RunError
 /// Why a job was.
 pub fn of_sending(error: Unsent) -> RunError
     ensures unknown { result ≡ RunError.NoSuchActor → error ≡ Refusal.NoSuchActor }
+    ensures told { result ≡ RunError.NoMemory → error ≡ Refusal.NoMemory }
     ensures sending { result ≢ RunError.JournalFull }
 {
     match error {

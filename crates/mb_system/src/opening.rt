@@ -6,7 +6,8 @@ ghost use Rattle.mb_gate.specs.Names.{actors_of, first_of, gates_id, known_by, p
 ghost use Rattle.mb_gate.specs.Untouched.{origin_of};
 ghost use Rattle.mb_home.specs.Roll.{queues_of};
 ghost use Rattle.mb_pool.specs.Places.{gates_of};
-ghost use Rattle.mb_system.specs.Begun.{AreLedEnds, AreNewEnds, AreNewSenders, AreUnused, IsCreated};
+ghost use Rattle.mb_system.specs.Begun.{AreLedEnds, AreNewEnds, AreNewSenders, AreUnused, IsCreated, OwesFirstRun};
+ghost use Rattle.mb_system.specs.Members.{ways_of_ends, ways_of_senders};
 ghost use Rattle.mb_system.specs.Shared.{KeepsWhole, shares_of_ends, shares_of_senders};
 
 use crate::end::WorkerEnd;
@@ -46,7 +47,7 @@ pub(crate) fn open<A: Actor, K: Behaviours, R: Wait>(
     outside: Vec<Vec<SendPass>>,
 ) -> Result<Opened<A, K>, AllocError>
     requires ours { pass_id pass ≡ gates_id gates.now }
-    requires blank { ((known_by pass).log ≡ []) × ((known_by pass).got ≡ []) }
+    requires blank { ((known_by pass).log ≡ []) × ((known_by pass).got ≡ []) × ((known_by pass).debts ≡ []) }
     requires whole { IsWhole (known_by pass).share }
     requires actors { (0 < actors_of gates.now) × (actors_of gates.now ≤ 64) }
     requires some { (0 < length ends.items) × (length ends.items ≤ 16) }
@@ -59,6 +60,7 @@ pub(crate) fn open<A: Actor, K: Behaviours, R: Wait>(
     ensures ends { IfOk result (λ opened. AreLedEnds gates.now opened.ends.items) }
     ensures senders { IfOk result (λ opened. AreNewSenders gates.now most_actors (map (λ row. row.items) outside.items) opened.senders.items) }
     ensures whole { IfOk result (λ opened. IsWhole (shares_of_ends opened.ends.items ++ shares_of_senders opened.senders.items)) }
+    ensures ways { IfOk result (λ opened. (ways_of_ends opened.ends.items ≡ ends.items) × (ways_of_senders opened.senders.items ≡ feeds.items)) }
 {
     start(rt, alloc, gates, &mut pass)?;
     let senders = open_senders(alloc, gates, &mut pass, feeds, outside)?;
@@ -81,9 +83,11 @@ fn open_senders<A: Actor, K: Behaviours>(
     requires outside { AreUnused (drop 1 (queues_of (first_of gates.now).value.roll)) (actors_of gates.now) most_actors
         (map (λ row. row.items) outside.items) }
     ensures ours { pass_id pass.new ≡ pass_id pass.old }
-    ensures kept { ((known_by pass.new).log ≡ (known_by pass.old).log) × ((known_by pass.new).got ≡ (known_by pass.old).got) }
+    ensures kept { ((known_by pass.new).log ≡ (known_by pass.old).log) × ((known_by pass.new).got ≡ (known_by pass.old).got)
+        × ((known_by pass.new).debts ≡ (known_by pass.old).debts) }
     ensures shares { IfOk result (λ senders. KeepsWhole (known_by pass.old).share (known_by pass.new).share (shares_of_senders senders.items)) }
     ensures opened { IfOk result (λ senders. AreNewSenders gates.now most_actors (map (λ row. row.items) outside.items) senders.items) }
+    ensures ways { IfOk result (λ senders. ways_of_senders senders.items ≡ feeds.items) }
 {
     let mut senders = Vec::with_capacity(alloc, feeds.len())?;
     let mut outside = outside.into_iter();
@@ -114,9 +118,11 @@ fn open_ends<A: Actor, K: Behaviours>(
     requires ends { All (λ e. gates_of e ≡ Some (origin_of gates.now)) ends.items }
     requires few { length ends.items ≤ 16 }
     ensures ours { pass_id pass.new ≡ pass_id pass.old }
-    ensures kept { ((known_by pass.new).log ≡ (known_by pass.old).log) × ((known_by pass.new).got ≡ (known_by pass.old).got) }
+    ensures kept { ((known_by pass.new).log ≡ (known_by pass.old).log) × ((known_by pass.new).got ≡ (known_by pass.old).got)
+        × ((known_by pass.new).debts ≡ (known_by pass.old).debts) }
     ensures shares { IfOk result (λ opened. KeepsWhole (known_by pass.old).share (known_by pass.new).share (shares_of_ends opened.items)) }
     ensures opened { IfOk result (λ opened. (length opened.items ≡ length ends.items) × AreNewEnds gates.now 0 opened.items) }
+    ensures ways { IfOk result (λ opened. ways_of_ends opened.items ≡ ends.items) }
 {
     let mut opened = Vec::with_capacity(alloc, ends.len())?;
     for end in ends {
@@ -139,10 +145,10 @@ fn start<A: Actor, K: Behaviours, R: Wait>(
     pass: &mut Pass<Place<A, K>>,
 ) -> Result<(), AllocError>
     requires ours { (pass_id pass.old ≡ gates_id gates.now) × (0 < actors_of gates.now) }
-    requires blank { ((known_by pass.old).log ≡ []) × ((known_by pass.old).got ≡ []) }
+    requires blank { ((known_by pass.old).log ≡ []) × ((known_by pass.old).got ≡ []) × ((known_by pass.old).debts ≡ []) }
     requires whole { IsWhole (known_by pass.old).share }
     ensures ours { pass_id pass.new ≡ pass_id pass.old }
-    ensures created { IfOk result (λ _. IsCreated (known_by pass.new)) }
+    ensures created { IfOk result (λ _. IsCreated (known_by pass.new) × OwesFirstRun (known_by pass.new)) }
     ensures kept { IfOk result (λ _. ((known_by pass.new).got ≡ []) × IsWhole (known_by pass.new).share) }
 {
     let node = Node::new(alloc, SysMsg::Create)?;
@@ -159,13 +165,14 @@ fn give_first<A: Actor, K: Behaviours>(
     pass: Pass<Place<A, K>>,
 )
     requires ours { pass_id pass ≡ gates_id gates.now }
-    requires created { IsCreated (known_by pass) }
+    requires created { IsCreated (known_by pass) × OwesFirstRun (known_by pass) }
     requires unclaimed { (known_by pass).got ≡ [] }
     requires some { 0 < length ends.old }
     requires ends { AreNewEnds gates.now 0 ends.old }
     ensures many { length ends.new ≡ length ends.old }
     ensures first { AreLedEnds gates.now ends.new }
     ensures shares { shares_of_ends ends.new ≡ (known_by pass).share ++ shares_of_ends ends.old }
+    ensures ways { ways_of_ends ends.new ≡ ways_of_ends ends.old }
 {
     gates.absorb(&mut ends[0].waker.pass, pass);
 }

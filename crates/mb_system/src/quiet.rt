@@ -1,13 +1,11 @@
 //! Running on one thread alone.
-ghost use Rattle.std.specs.Prelude.{◌≡◌, All, IfErr, OnOk};
+ghost use Rattle.std.specs.Prelude.{◌≡◌, IfErr, OnOk};
 ghost use Rattle.mb_gate.specs.Names.{actors_of, known_by};
 ghost use Rattle.mb_gate.specs.Rule.{IsPart};
-ghost use Rattle.mb_pool.specs.Moves.{WasEmpty};
-ghost use Rattle.mb_pool.specs.Places.{looks};
-ghost use Rattle.mb_turn.specs.Fresh.{IsFreshClaim};
 ghost use Rattle.mb_wake.specs.Owed.{IsNobody};
 ghost use Rattle.mb_system.specs.Debts.{HasPaid, OwesNothing};
 ghost use Rattle.mb_system.specs.Faults.{BreaksWork};
+ghost use Rattle.mb_system.specs.Found.{FoundEmpty};
 ghost use Rattle.mb_system.specs.Members.{end_caller, IsEndOf};
 
 use crate::end::WorkerEnd;
@@ -23,7 +21,8 @@ impl<A: Actor, K: Behaviours> WorkerEnd<A, K> {
     /// profile: Akka's dispatchers have threads.)
     ///
     /// It answers `JournalFull` or `NoMemory` as a turn does, and `NoMemory` also if there was no room for one more turn, or the
-    /// pool refused a claim again. What was done stays done, and the same call goes on.
+    /// pool refused a claim again. What was done stays done, and the same call goes on; whatever is answered, the end owes each actor
+    /// nothing, or a look.
     pub fn run_quietly<R: Wait>(
         &mut self,
         rt: &R,
@@ -34,7 +33,7 @@ impl<A: Actor, K: Behaviours> WorkerEnd<A, K> {
         ensures paid { OnOk result (IsNobody self.new.waker.owed) }
         ensures debts { HasPaid (actors_of system.now.gates) (end_caller self.new.waker) }
         ensures settled { OnOk result (OwesNothing (actors_of system.now.gates) (end_caller self.new.waker)) }
-        ensures empty { OnOk result (All (WasEmpty (IsFreshClaim K.gives)) (looks self.new.waker.way.end)) }
+        ensures empty { OnOk result (FoundEmpty K.gives self.new) }
         ensures number { self.new.number ≡ self.old.number }
         ensures saw { IsPart (known_by self.old.waker.pass).log (known_by self.new.waker.pass).log }
         ensures fault { IfErr result (BreaksWork K.gives system.now self.new) }

@@ -8,6 +8,7 @@ ghost use Rattle.mb_turn.specs.Fresh.{IsFreshClaim};
 ghost use Rattle.mb_wake.specs.Owed.{is_owed};
 ghost use Rattle.mb_system.specs.Debts.{KeepsDebts};
 ghost use Rattle.mb_system.specs.Faults.{BreaksWork};
+ghost use Rattle.mb_system.specs.Found.{FoundEmpty};
 ghost use Rattle.mb_system.specs.Members.{IsEndOf, end_caller};
 
 use crate::beside::Task;
@@ -21,14 +22,16 @@ use mb_turn::{Place, Turn};
 use std::sync::Wait;
 
 impl<A: Actor, K: Behaviours> WorkerEnd<A, K> {
-    /// Runs claims until no claim exists and no job of a run is open. Whom it owed a look then, it looked after again.
+    /// Runs claims until no claim exists and no job of a run is open. Whom it owed a look then, it looked after again; and its last
+    /// look for a claim found the pool empty.
     ///
     /// It stops at the first fault: `JournalFull` or `NoMemory` as a turn answers it, and `NoMemory` if the pool refused a claim
-    /// again. What was done stays done.
+    /// again. What was done stays done, and no debt is let go.
     pub fn work<R: Wait>(&mut self, rt: &R, system: &System<A, K>) -> Result<(), RunError>
         requires ours { IsEndOf system.now.gates self.old.waker }
         ensures ours { IsEndOf system.now.gates self.new.waker }
         ensures paid { OnOk result ((id : ℕ) → id < actors_of system.now.gates → is_owed self.new.waker.owed id ≡ false) }
+        ensures empty { OnOk result (FoundEmpty K.gives self.new) }
         ensures debts { KeepsDebts (actors_of system.now.gates) (end_caller self.old.waker) (end_caller self.new.waker) }
         ensures number { self.new.number ≡ self.old.number }
         ensures saw { IsPart (known_by self.old.waker.pass).log (known_by self.new.waker.pass).log }
@@ -45,6 +48,7 @@ impl<A: Actor, K: Behaviours> WorkerEnd<A, K> {
         requires ours { IsEndOf system.now.gates self.old.waker }
         ensures ours { IsEndOf system.now.gates self.new.waker }
         ensures paid { OnOk result ((id : ℕ) → id < actors_of system.now.gates → is_owed self.new.waker.owed id ≡ false) }
+        ensures empty { OnOk result (FoundEmpty K.gives self.new) }
         ensures debts { KeepsDebts (actors_of system.now.gates) (end_caller self.old.waker) (end_caller self.new.waker) }
         ensures number { self.new.number ≡ self.old.number }
         ensures saw { IsPart (known_by self.old.waker.pass).log (known_by self.new.waker.pass).log }
@@ -104,6 +108,7 @@ impl<A: Actor, K: Behaviours> WorkerEnd<A, K> {
         requires paid { (id : ℕ) → id < actors_of system.now.gates → is_owed self.old.waker.owed id ≡ false }
         ensures ours { IsEndOf system.now.gates self.new.waker }
         ensures paid { OnOk result (result ≡ Ok true → (id : ℕ) → id < actors_of system.now.gates → is_owed self.new.waker.owed id ≡ false) }
+        ensures empty { OnOk result (result ≡ Ok true → FoundEmpty K.gives self.new) }
         ensures debts { KeepsDebts (actors_of system.now.gates) (end_caller self.old.waker) (end_caller self.new.waker) }
         ensures number { self.new.number ≡ self.old.number }
         ensures saw { IsPart (known_by self.old.waker.pass).log (known_by self.new.waker.pass).log }
@@ -135,6 +140,7 @@ impl<A: Actor, K: Behaviours> Task<System<A, K>> for WorkerEnd<A, K> {
     ghost use Rattle.mb_wake.specs.Owed.{is_owed};
     ghost use Rattle.mb_system.specs.Debts.{KeepsDebts};
     ghost use Rattle.mb_system.specs.Faults.{BreaksWork};
+    ghost use Rattle.mb_system.specs.Found.{FoundEmpty};
     ghost use Rattle.mb_system.specs.Members.{IsEndOf, end_caller};
 
     ghost ready = { λ system end. IsEndOf system.gates end.waker };
@@ -143,7 +149,8 @@ impl<A: Actor, K: Behaviours> Task<System<A, K>> for WorkerEnd<A, K> {
         × IsPart (known_by old.waker.pass).log (known_by new.waker.pass).log
         × KeepsDebts (actors_of system.gates) (end_caller old.waker) (end_caller new.waker) };
 
-    ghost done = { λ system old new. (id : ℕ) → id < actors_of system.gates → is_owed new.waker.owed id ≡ false };
+    ghost done = { λ system old new. ((id : ℕ) → id < actors_of system.gates → is_owed new.waker.owed id ≡ false)
+        × FoundEmpty K.gives new };
 
     ghost fails = { λ system old new fault. BreaksWork K.gives system new fault };
 
@@ -152,7 +159,8 @@ impl<A: Actor, K: Behaviours> Task<System<A, K>> for WorkerEnd<A, K> {
         ensures keeps { IsEndOf shared.now.gates self.new.waker × (self.new.number ≡ self.old.number)
             × IsPart (known_by self.old.waker.pass).log (known_by self.new.waker.pass).log
             × KeepsDebts (actors_of shared.now.gates) (end_caller self.old.waker) (end_caller self.new.waker) }
-        ensures done { OnOk result ((id : ℕ) → id < actors_of shared.now.gates → is_owed self.new.waker.owed id ≡ false) }
+        ensures done { OnOk result (((id : ℕ) → id < actors_of shared.now.gates → is_owed self.new.waker.owed id ≡ false)
+            × FoundEmpty K.gives self.new) }
         ensures fails { IfErr result (BreaksWork K.gives shared.now self.new) }
     {
         self.work(rt, shared)

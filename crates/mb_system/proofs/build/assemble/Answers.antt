@@ -1,12 +1,13 @@
-use Rattle.std.proofs.Common.{◌≡◌, ◌+◌, length, map, refl, sym, ap, ◌∙◌, subst, arith}
+use Rattle.std.proofs.Common.{◌≡◌, ◌+◌, ◌++◌, length, map, refl, sym, ap, ◌∙◌, subst, arith}
 use Rattle.std.specs.Prelude.{All, Some}
 use Rattle.std.proofs.lemmas.List.{length-map}
 use Rattle.mb_msg.specs.Limits.{most_actors}
 use Rattle.mb_rule.specs.Shares.{IsWhole}
 use Rattle.mb_rule.proofs.SharesLemmas.{whole_one}
 use Rattle.mb_gate.specs.View.{View}
-use Rattle.mb_pool.specs.Made.{IsOfKind}
-use Rattle.mb_pool.specs.Places.{gates_of}
+use Rattle.mb_pool.specs.Made.{AreUnused, IsOfKind}
+use Rattle.mb_pool.specs.Places.{AreEnds, AreFeeds, gates_of}
+use Rattle.mb_system.specs.Members.{ways_of_senders}
 use Rattle.mb_system.proofs.Founded.{all-numbered, all-once, all-senders, as-many-senders, ends-gates, feeds-gates}
 use Rattle.mb_system.proofs.Right.{right-plan}
 use Rattle.mb_system.proofs.Led.{all-led}
@@ -36,7 +37,8 @@ open-requires g c =
     let fed : length feeds ≡ c.args.plan.senders = feeds_are.1 ∙ pool.feeds_are in
     let rows = sym (length-map outside.items (λ row. row.items)) ∙ founded.rows in let senders = right.senders in record {
       ours = c.in_ok-gates.ensures.pass.0;
-      blank = (ap (λ (v : View). v.log) c.in_ok-gates.ensures.pass.1, ap (λ (v : View). v.got) c.in_ok-gates.ensures.pass.1);
+      blank = let known = c.in_ok-gates.ensures.pass.1 in
+          (ap (λ (v : View). v.log) known, ap (λ (v : View). v.got) known, ap (λ (v : View). v.debts) known);
       whole = subst (λ (v : View). IsWhole v.share) (sym c.in_ok-gates.ensures.pass.1) whole_one;
       actors = (omega (arith, actors), omega (arith, actors, few));
       some = (omega (arith, as_many, some), omega (arith, as_many, workers));
@@ -71,6 +73,12 @@ returns g c =
       senders = opened.senders;
       numbers = (refl, refl, refl);
       pool = subst (λ k. IsOfKind k c.in_ok-pool.pool) c.kind_of.ensures pool.kind_is;
+      of_pool = (
+        subst (AreEnds c.in_ok-pool.pool) (sym opened.ways.0) pool.are_ends,
+        subst (AreFeeds c.in_ok-pool.pool) (sym opened.ways.1) pool.are_feeds,
+      );
+      unused = subst (λ ways. AreUnused (ways ++ ways_of_senders senders)) (sym opened.ways.0)
+          (subst (λ ways. AreUnused (c.in_ok-pool.ends.items ++ ways)) (sym opened.ways.1) pool.unused);
       many = opened.many ∙ ends_are.1 ∙ pool.ends_are;
       end = opened.ends.end;
       others = opened.ends.others;
@@ -78,6 +86,7 @@ returns g c =
       others_are = opened.ends.others_are;
       first_end = opened.ends.first_end;
       created = opened.ends.created;
+      settled = opened.ends.settled;
       unclaimed = opened.ends.unclaimed;
       whole = opened.whole;
     }

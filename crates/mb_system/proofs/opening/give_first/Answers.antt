@@ -2,7 +2,7 @@ use Rattle.std.proofs.Common.{refl, ap}
 use Rattle.std.proofs.lemmas.List.{length-set}
 use Rattle.mb_gate.specs.Names.{known_by}
 use Rattle.mb_gate.specs.View.{View}
-use Rattle.mb_system.proofs.Led.{first-led, first-ours}
+use Rattle.mb_system.proofs.Led.{first-led, first-ours, first-ways}
 use Rattle.mb_system.proofs.Sharing.{first-shares}
 use Rattle.mb_system.proofs.opening.give_first.Goals as goal
 
@@ -17,7 +17,10 @@ pub returns-clause-first : goal.returns-clause-first
 returns-clause-first g c =
     first-led c.args.gates.now c.args.ends.now _ _ c.absorb.new.pass (known_by c.args.pass) refl c.requires.some c.requires.ends
     c.absorb.ensures.ours c.requires.created (ap (λ (v : View). v.log) c.absorb.ensures.known)
-    (ap (λ (v : View). v.got) c.absorb.ensures.known) c.requires.unclaimed
+    (ap (λ (v : View). v.got) c.absorb.ensures.known) c.requires.unclaimed (ap (λ (v : View). v.debts) c.absorb.ensures.known)
+
+pub returns-clause-ways : goal.returns-clause-ways
+returns-clause-ways g c = first-ways c.args.gates.now c.args.ends.now _ _ c.absorb.new.pass refl
 
 pub returns-clause-shares : goal.returns-clause-shares
 returns-clause-shares g c =

@@ -1,7 +1,9 @@
 use Rattle.std.proofs.Common.{rules, ◌≡◌, length, sym, ap, ◌∙◌, subst, arith}
 use Rattle.mb_build.proofs.QueueLemmas.{refilled}
 use Rattle.mb_system.specs.Begun.{AreLedEnds, AreNewEnds}
+use Rattle.mb_system.specs.Members.{ways_of_ends}
 use Rattle.mb_system.specs.Shared.{shares_of_ends}
+use Rattle.mb_system.proofs.Owing.{owes-same}
 use Rattle.mb_system.proofs.Sharing.{whole-with}
 use Rattle.mb_system.proofs.opening.open.Goals as goal
 
@@ -11,7 +13,11 @@ give_first-requires g c =
     let many : length c.deref_mut.result.now ≡ length c.args.ends.items = ap length lent ∙ c.in_ok-ends.ensures.opened.0 in
     let some = c.requires.some.0 in record {
       ours = c.open_ends.ensures.ours ∙ c.open_senders.ensures.ours ∙ c.start.ensures.ours ∙ c.requires.ours;
-      created = let is = c.in_ok-start.ensures.created in (is.0, c.open_ends.ensures.kept.0 ∙ c.open_senders.ensures.kept.0 ∙ is.1);
+      created =
+          let is = c.in_ok-start.ensures.created in (
+            (is.0.0, c.open_ends.ensures.kept.0 ∙ c.open_senders.ensures.kept.0 ∙ is.0.1),
+            owes-same _ _ (c.open_ends.ensures.kept.2 ∙ c.open_senders.ensures.kept.2) is.1,
+          );
       unclaimed = c.open_ends.ensures.kept.1 ∙ c.open_senders.ensures.kept.1 ∙ c.in_ok-start.ensures.kept.0;
       some = omega (arith, many, some);
       ends = subst (AreNewEnds c.args.gates.now 0) (sym lent) c.in_ok-ends.ensures.opened.1;
@@ -35,3 +41,11 @@ returns-clause-whole g c =
     let new = c.give_first.new.ends in let count : length new ≡ v.len = c.give_first.ensures.many ∙ ap length lent ∙ sym v.ok.0 in
     whole-with _ _ _ _ _ _ _ c.in_ok-start.ensures.kept.1 c.in_ok-senders.ensures.shares c.in_ok-ends.ensures.shares
     (ap shares_of_ends (refilled v.len v.items new count) ∙ c.give_first.ensures.shares) (ap shares_of_ends lent)
+
+pub returns-clause-ways : goal.returns-clause-ways
+returns-clause-ways g c =
+    let v = c.in_ok-ends.ends in let lent : c.deref_mut.result.now ≡ v.items = search rules in
+    let new = c.give_first.new.ends in let count : length new ≡ v.len = c.give_first.ensures.many ∙ ap length lent ∙ sym v.ok.0 in (
+      ap ways_of_ends (refilled v.len v.items new count) ∙ c.give_first.ensures.ways ∙ ap ways_of_ends lent ∙ c.in_ok-ends.ensures.ways,
+      c.in_ok-senders.ensures.ways,
+    )

@@ -1,14 +1,16 @@
 use Rattle.std.proofs.Common.{rules, ◌≡◌, ◌++◌, ◌∷◌, [], length, refl, sym, ap, ◌∙◌, subst, append_assoc, arith}
 use Rattle.std.specs.Prelude.{All, Some}
 use Rattle.std.specs.Vec.Iter.{into_iter_items}
-use Rattle.std.proofs.lemmas.List.{append-nil, length_push, nil_from_length}
+use Rattle.std.proofs.lemmas.List.{append-nil, length_push, map_push, nil_from_length}
 use Rattle.std.proofs.lemmas.List.Elements.{All-head, All-rest}
 use Rattle.mb_gate.specs.Names.{known_by}
-use Rattle.mb_gate.specs.View.{View}
+use Rattle.mb_gate.specs.View.{View, owes}
 use Rattle.mb_gate.specs.Untouched.{origin_of}
 use Rattle.mb_pool.specs.Places.{gates_of}
 use Rattle.mb_system.specs.Begun.{AreNewEnds}
+use Rattle.mb_system.specs.Members.{ways_of_ends}
 use Rattle.mb_system.specs.Shared.{KeepsWhole, share_of_end, shares_of_ends}
+use Rattle.mb_system.specs.declared.end.WorkerEnd.{WorkerEnd}
 use Rattle.mb_system.proofs.Opened.{ends-next}
 use Rattle.mb_system.proofs.Sharing.{keeps-next, keeps-none}
 use Rattle.mb_system.proofs.opening.open_ends.Goals as goal
@@ -21,10 +23,11 @@ loop-end-init g c =
       ends = subst (All (λ e. gates_of e ≡ Some (origin_of c.args.gates.now))) (sym all) c.requires.ends;
       count = ap length none;
       ours = refl;
-      kept = (refl, refl);
+      kept = (refl, refl, refl);
       shares = subst (λ l. KeepsWhole (known_by c.args.pass.now).share (known_by c.args.pass.now).share (shares_of_ends l)) (sym none)
           (keeps-none (known_by c.args.pass.now).share);
       opened = subst (AreNewEnds c.args.gates.now 0) (sym none) tt;
+      ways = ap ways_of_ends none;
     }
 
 pub loop-end-preserved : goal.loop-end-preserved
@@ -42,6 +45,7 @@ loop-end-preserved g c =
       kept = (
         ap (λ (v : View). v.log) c.apart.ensures.known.0 ∙ at.invariant.kept.0,
         ap (λ (v : View). v.got) c.apart.ensures.known.0 ∙ at.invariant.kept.1,
+        ap (λ (v : View). v.debts) c.apart.ensures.known.0 ∙ at.invariant.kept.2,
       );
       shares = keeps-next share_of_end (known_by c.args.pass.now).share (known_by at.pass).share _ at.opened.items _ _
           (ap (λ (v : View). v.share) c.apart.ensures.known.0) pushed (ap (λ (v : View). v.share) c.apart.ensures.known.1) at.invariant.shares;
@@ -53,9 +57,12 @@ loop-end-preserved g c =
         );
         number_is = place;
         nobody = c.none.ensures;
+        settled = λ id. ap (owes id) c.apart.ensures.known.1;
         blank = ap (λ (v : View). v.log) c.apart.ensures.known.1;
         unclaimed = ap (λ (v : View). v.got) c.apart.ensures.known.1;
       });
+      ways = ap ways_of_ends pushed ∙ map_push (λ (e : WorkerEnd _ _). e.waker.way.end) at.opened.items _
+          ∙ (λ i. at.invariant.ways i ++ c.new.ensures i ∷ []);
     }
 
 pub returns-clause-opened : goal.returns-clause-opened
@@ -65,3 +72,10 @@ returns-clause-opened g c =
     nil_from_length (into_iter_items at.end-iterator) (sym at.end-iterator.rest.ok.0 ∙ c.in-None.ensures.steps.0) in
     let all : at.yielded ≡ c.args.ends.items = sym (append-nil at.yielded) ∙ ap (λ l. at.yielded ++ l) (sym none) ∙ at.invariant.whole in
     (at.invariant.count ∙ ap length all, at.invariant.opened)
+
+pub returns-clause-ways : goal.returns-clause-ways
+returns-clause-ways g c =
+    let at = c.loop-end in
+    let none : into_iter_items at.end-iterator ≡ [] =
+    nil_from_length (into_iter_items at.end-iterator) (sym at.end-iterator.rest.ok.0 ∙ c.in-None.ensures.steps.0) in
+    at.invariant.ways ∙ sym (append-nil at.yielded) ∙ ap (λ l. at.yielded ++ l) (sym none) ∙ at.invariant.whole

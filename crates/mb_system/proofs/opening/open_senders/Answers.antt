@@ -1,19 +1,21 @@
 use Rattle.std.proofs.Common.{rules, ◌≡◌, ◌+◌, ◌++◌, ◌∷◌, [], length, drop, map, take, suc, refl, sym, ap, ◌∙◌, subst, append_assoc, arith}
 use Rattle.std.specs.Prelude.{All, Some, vec_len}
 use Rattle.std.specs.Vec.Iter.{into_iter_items}
-use Rattle.std.proofs.lemmas.List.{append-nil, drop-map, length_push, nil_from_length, take_all}
+use Rattle.std.proofs.lemmas.List.{append-nil, drop-map, length_push, map_push, nil_from_length, take_all}
 use Rattle.std.proofs.lemmas.List.Elements.{All-head, All-rest}
 use Rattle.mb_msg.specs.Limits.{most_actors}
 use Rattle.mb_gate.specs.Names.{actors_of, first_of, known_by, pass_id}
 use Rattle.mb_gate.specs.Untouched.{origin_of}
-use Rattle.mb_gate.specs.View.{View}
+use Rattle.mb_gate.specs.View.{View, owes}
 use Rattle.mb_home.specs.Roll.{queues_of}
 use Rattle.mb_pool.specs.Places.{gates_of}
 use Rattle.mb_send.specs.Sends.{AreRoutes, receiving_queues}
 use Rattle.mb_wake.specs.Owed.{IsNobody}
 use Rattle.mb_build.proofs.RollLemmas.{drop-next}
 use Rattle.mb_system.specs.Begun.{AreNewSenders}
+use Rattle.mb_system.specs.Members.{ways_of_senders}
 use Rattle.mb_system.specs.Shared.{KeepsWhole, share_of_sender, shares_of_senders}
+use Rattle.mb_system.specs.declared.sender.Sender.{Sender}
 use Rattle.mb_system.proofs.Opened.{none-left, place-left, senders-next, unused-there}
 use Rattle.mb_system.proofs.Sharing.{keeps-next, keeps-none}
 use Rattle.mb_system.proofs.opening.open_senders.Goals as goal
@@ -27,11 +29,12 @@ loop-feed-init g c =
       count = ap length none;
       rows = c.into_iter-outside.ensures.rest ∙ ap (λ l. drop (length l) c.args.outside.items) (sym none);
       ours = refl;
-      kept = (refl, refl);
+      kept = (refl, refl, refl);
       shares = subst (λ l. KeepsWhole (known_by c.args.pass.now).share (known_by c.args.pass.now).share (shares_of_senders l)) (sym none)
           (keeps-none (known_by c.args.pass.now).share);
       opened = subst (λ l. AreNewSenders c.args.gates.now most_actors (map (λ row. row.items) (take (length l) c.args.outside.items)) l)
           (sym none) tt;
+      ways = ap ways_of_senders none;
     }
 
 pub unreachable-requires : goal.unreachable-requires
@@ -83,6 +86,7 @@ loop-feed-preserved g c =
       kept = (
         ap (λ (v : View). v.log) c.apart.ensures.known.0 ∙ at.invariant.kept.0,
         ap (λ (v : View). v.got) c.apart.ensures.known.0 ∙ at.invariant.kept.1,
+        ap (λ (v : View). v.debts) c.apart.ensures.known.0 ∙ at.invariant.kept.2,
       );
       shares = keeps-next share_of_sender (known_by c.args.pass.now).share (known_by at.pass).share _ at.senders.items _ _
           (ap (λ (v : View). v.share) c.apart.ensures.known.0) pushed
@@ -101,10 +105,13 @@ loop-feed-preserved g c =
         posted = book.2;
         sends_are = ap (λ v. v.items) parts.1;
         nobody = subst (λ w. IsNobody w.owed) (sym parts.0) c.none.ensures;
+        settled = λ id. ap (λ w. owes id (known_by w.pass)) parts.0 ∙ ap (owes id) c.apart.ensures.known.1;
         blank = ap (λ w. (known_by w.pass).log) parts.0 ∙ ap (λ (v : View). v.log) c.apart.ensures.known.1;
         silent = ap (λ w. (known_by w.pass).said) parts.0 ∙ ap (λ (v : View). v.said) c.apart.ensures.known.1;
         unclaimed = ap (λ w. (known_by w.pass).got) parts.0 ∙ ap (λ (v : View). v.got) c.apart.ensures.known.1;
       });
+      ways = ap ways_of_senders pushed ∙ map_push (λ (s : Sender _ _). s.inner.waker.way.feed) at.senders.items _
+          ∙ (λ i. at.invariant.ways i ++ (ap (λ w. w.way.feed) parts.0 ∙ c.new.ensures) i ∷ []);
     }
 
 pub returns-clause-opened : goal.returns-clause-opened
@@ -116,3 +123,10 @@ returns-clause-opened g c =
     let is = ap length all in let count = at.invariant.count in let many = c.requires.many.0 in
     subst (λ l. AreNewSenders c.args.gates.now most_actors (map (λ r. r.items) l) at.senders.items)
     (take_all (length at.senders.items) outside (omega (arith, is, count, many))) at.invariant.opened
+
+pub returns-clause-ways : goal.returns-clause-ways
+returns-clause-ways g c =
+    let at = c.loop-feed in
+    let none : into_iter_items at.feed-iterator ≡ [] =
+    nil_from_length (into_iter_items at.feed-iterator) (sym at.feed-iterator.rest.ok.0 ∙ c.in-None.ensures.steps.0) in
+    at.invariant.ways ∙ sym (append-nil at.yielded) ∙ ap (λ l. at.yielded ++ l) (sym none) ∙ at.invariant.whole

@@ -6,6 +6,7 @@ use Rattle.mb_gate.specs.Names.{known_by, pass_id}
 use Rattle.mb_gate.specs.Untouched.{origin_of}
 use Rattle.mb_pool.specs.Places.{gates_of}
 use Rattle.mb_system.specs.Begun.{AreNewSenders}
+use Rattle.mb_system.specs.Members.{ways_of_senders}
 use Rattle.mb_system.specs.Shared.{KeepsWhole, shares_of_senders}
 use Rattle.mb_system.proofs.opening.open_senders.Given as goal
 
@@ -16,7 +17,9 @@ invariant-loop-feed g l = record {
   count : length l.senders.items ≡ length l.yielded;
   rows : into_iter_items l.outside ≡ drop (length l.senders.items) l.fn.outside.items;
   ours : pass_id l.pass ≡ pass_id l.initial.pass;
-  kept : ((known_by l.pass).log ≡ (known_by l.initial.pass).log) × ((known_by l.pass).got ≡ (known_by l.initial.pass).got);
+  kept : ((known_by l.pass).log ≡ (known_by l.initial.pass).log) × ((known_by l.pass).got ≡ (known_by l.initial.pass).got)
+      × ((known_by l.pass).debts ≡ (known_by l.initial.pass).debts);
   shares : KeepsWhole (known_by l.initial.pass).share (known_by l.pass).share (shares_of_senders l.senders.items);
   opened : AreNewSenders l.gates most_actors (map (λ row. row.items) (take (length l.senders.items) l.fn.outside.items)) l.senders.items;
+  ways : ways_of_senders l.senders.items ≡ l.yielded;
 }

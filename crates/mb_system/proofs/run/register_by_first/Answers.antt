@@ -2,6 +2,7 @@ use Rattle.std.proofs.Common.{refl}
 use Rattle.mb_gate.specs.Names.{actors_of, known_by}
 use Rattle.mb_system.specs.Members.{end_caller}
 use Rattle.mb_system.proofs.Debts.{debts-left, debts-same}
+use Rattle.mb_system.proofs.Firsts.{first-paid}
 use Rattle.mb_system.proofs.Saw.{saw-same}
 use Rattle.mb_system.proofs.Sides.{first_changed, zip_first}
 use Rattle.mb_system.proofs.run.register_by_first.Goals as goal
@@ -21,3 +22,7 @@ returns-in-Some-clause-debts g c =
     let actors = actors_of c.args.system.now.gates in let old = c.in-Some.first.now in let new = c.register_all.new.self in
     zip_first _ (λ x. debts-same actors (end_caller x.waker) (end_caller x.waker) refl refl) c.args.ends.now old new
     c.in-Some.ensures.item.1 (debts-left actors (end_caller old.waker) (end_caller new.waker) c.register_all.ensures.leaves)
+
+pub returns-in-Some-clause-paid : goal.returns-in-Some-clause-paid
+returns-in-Some-clause-paid g c =
+    first-paid c.args.system.now.gates c.args.ends.now c.register_all.new.self c.register_all.ensures.paid

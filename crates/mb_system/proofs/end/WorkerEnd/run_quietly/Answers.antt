@@ -1,10 +1,7 @@
 use Rattle.std.proofs.Common.{◌∙◌, ap, subst, sym}
-use Rattle.std.specs.Prelude.{All}
 use Rattle.mb_gate.specs.Names.{actors_of, known_by}
 use Rattle.mb_gate.specs.Rule.{IsPart}
-use Rattle.mb_pool.specs.Moves.{WasEmpty}
-use Rattle.mb_pool.specs.Places.{looks}
-use Rattle.mb_turn.specs.Fresh.{IsFreshClaim}
+use Rattle.mb_system.specs.Found.{FoundEmpty}
 use Rattle.mb_system.specs.Members.{end_caller}
 use Rattle.mb_system.proofs.Debts.{debts-left, debts-same, owes-nothing, paid-still}
 use Rattle.mb_system.proofs.Saw.{saw-then}
@@ -75,12 +72,11 @@ returns-then-is_empty-clause-debts g c =
 
 pub returns-then-is_empty-clause-empty : goal.returns-then-is_empty-clause-empty
 returns-then-is_empty-clause-empty g c =
-    let none = c.in-None-take.ensures.none in
-    subst (λ end. All (WasEmpty (IsFreshClaim g.K.Behaviours.gives)) (looks end.waker.way.end)) (sym none.0) none.1
+    let none = c.in-None-take.ensures.none in subst (FoundEmpty g.K.Behaviours.gives) (sym none.0) none.1
 
 pub returns-then-is_empty-clause-settled : goal.returns-then-is_empty-clause-settled
 returns-then-is_empty-clause-settled g c =
     let same = c.take.ensures.same in let actors = actors_of c.args.system.now.gates in
     let old = end_caller c.loop.self.waker in let new = end_caller c.take.new.self.waker in
     owes-nothing actors new (paid-still actors old new c.loop.invariant.3 (debts-same actors old new (ap known_by same.0) same.1))
-    (c.is_empty.ensures.nobody c.if-is_empty.true)
+    (λ id lt. c.is_empty.ensures.nobody c.if-is_empty.true id)

@@ -6,6 +6,7 @@ use Rattle.mb_system.proofs.Breaking.{breaks-by-end, breaks-by-job}
 use Rattle.mb_system.proofs.Crossing.{end_send, job_send, passed_send, passed_sync, system_sync}
 use Rattle.mb_system.proofs.Sides.{all_after, as_many_after, err_of, ok_first, ok_rest, same_after, zip_then}
 use Rattle.mb_system.proofs.Debts.{debts-then}
+use Rattle.mb_system.proofs.Firsts.{first-settled}
 use Rattle.mb_system.proofs.Saw.{saw-then}
 use Rattle.mb_system.proofs.system.System.run.Goals as goal
 
@@ -39,7 +40,7 @@ pub returns-clause-paid : goal.returns-clause-paid
 returns-clause-paid g c =
     let of = c.all_beside-of_jobs.result in
     ok_first _ of.1 of.0 c.first_of.result c.first_of.ensures
-    (on_ok_weaker _ (all_after _ _ (λ old new did. did) _ _) c.all_beside-of_jobs.ensures.done.1)
+    (on_ok_weaker _ (all_after _ _ (λ old new did. did.0) _ _) c.all_beside-of_jobs.ensures.done.1)
 
 pub returns-clause-done : goal.returns-clause-done
 returns-clause-done g c =
@@ -62,3 +63,18 @@ returns-clause-debts g c =
     let actors = actors_of c.args.self.now.gates in
     zip_then _ _ _ (λ x y z p kept. debts-then actors (end_caller x.waker) (end_caller y.waker) (end_caller z.waker) p kept.3) _ _ _
     c.register_by_first.ensures.debts c.all_beside-of_jobs.ensures.keeps.1
+
+pub returns-clause-empty : goal.returns-clause-empty
+returns-clause-empty g c =
+    let of = c.all_beside-of_jobs.result in
+    ok_first _ of.1 of.0 c.first_of.result c.first_of.ensures
+    (on_ok_weaker _ (all_after _ _ (λ old new did. did.1) _ _) c.all_beside-of_jobs.ensures.done.1)
+
+pub returns-clause-settled : goal.returns-clause-settled
+returns-clause-settled g c =
+    let of = c.all_beside-of_jobs.result in let did = c.all_beside-of_jobs.ensures in
+    ok_first _ of.1 of.0 c.first_of.result c.first_of.ensures
+    (on_ok_weaker _
+    (λ done. first-settled c.args.self.now.gates _ (λ x y kept. kept.3) _ _ c.register_by_first.ensures.paid did.keeps.1
+    (all_after _ _ (λ old new did. did.0) _ _ done))
+    did.done.1)
