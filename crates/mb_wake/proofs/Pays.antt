@@ -1,5 +1,5 @@
 -- Those that are owed a look are paid one after another.
-use Rattle.std.proofs.Common.{◌≡◌, ◌≢◌, ◌⊎◌, inl, inr, ℕ, ◌+◌, ◌<◌, ◌≤◌, ◌==◌, ◌||◌, Bool, true, false, List, [], ◌∷◌, ◌++◌}
+use Rattle.std.proofs.Common.{◌≡◌, ◌≢◌, ◌⊎◌, inl, inr, ℕ, ◌+◌, ◌<◌, ◌≤◌, ◌==◌, ◌||◌, ◌&&◌, not, Bool, true, false, List, [], ◌∷◌, ◌++◌}
 use Rattle.std.proofs.Common.{Result, Ok, Err, IsErrAnd, MatchResult, refl, sym, ap, ◌∙◌, subst, arith, append_assoc, append-nil}
 use Rattle.std.proofs.lemmas.Bool.{cases_lt}
 use Rattle.std.proofs.lemmas.Bool.Decides.{nat_tests}
@@ -22,10 +22,15 @@ never-both : {A : Type 0} (b : Bool) → b ≡ true → b ≡ false → A
 never-both b a c = let e : true ≡ false = sym a ∙ c in absurd (cc)
 
 -- what holds of each failure, of a result that is one
-pub on-failure : {T E : Type 0} {Told : E → Type 0} (P : T → Type 0) (Q : Type 0) (r : Result T E) → IsErrAnd r Told → Q
+pub on-failure : {T E : Type 0} (Told : E → Type 0) (P : T → Type 0) (Q : Type 0) (r : Result T E) → IsErrAnd r Told → Q
     → MatchResult r P (λ _. Q)
-on-failure P Q (Ok x) failed q = absurd failed
-on-failure P Q (Err e) failed q = q
+on-failure Told P Q (Ok x) failed q = absurd failed
+on-failure Told P Q (Err e) failed q = q
+
+-- who was taken out is owed no look
+pub taken-out : (id : ℕ) (before now : Owed) → is_owed now id ≡ (not (id == id) && is_owed before id) → is_owed now id ≡ false
+taken-out id before now is =
+    let itself : (id == id) ≡ true = grind (arith, nat_tests) in is ∙ ap (λ b. not b && is_owed before id) itself
 
 -- whether the pool refused a claim is seen by whether the actor is owed a look
 module _ {H : Type 0} (id : ℕ) (old new : Account H) where

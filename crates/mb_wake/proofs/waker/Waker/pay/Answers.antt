@@ -27,8 +27,8 @@ loop-number-preserved g c =
       c.in_ok-pay_one.ensures.refused ∙ c.loop-number.invariant.3,
     )
 
-pub returns-then-clause-kept : goal.returns-then-clause-kept
-returns-then-clause-kept g c =
+pub returns-then-number-actors-clause-kept : goal.returns-then-number-actors-clause-kept
+returns-then-number-actors-clause-kept g c =
     let old = c.args.self.now in let at = c.loop-number in
     kept-below at.number old.owed at.self.owed (known_by old.pass) (known_by at.self.pass) at.invariant.2
 
@@ -53,7 +53,7 @@ returns-in_err-pay_one-clause-refused g c =
     let n = c.loop-number.number in
     let few : n < 64 = omega (arith, c.loop-number-test.true) in
     let paid = c.pay_one.ensures in let failed = c.in_err-pay_one.ensures in let one = failed.refused in
-    on-failure _ _ c.from_residual.result c.from_residual.ensures.1
+    on-failure _ _ _ c.from_residual.result c.from_residual.ensures.1
     (stops n old.owed mid.owed now.owed (known_by old.pass) (known_by mid.pass) (known_by now.pass) few c.loop-number.invariant.2
     (λ out. (ap (λ (w : Waker _ _). w.owed) (paid.none out), ap (λ (w : Waker _ _). known_by w.pass) (paid.none out))) paid.looks paid.others
     _ _ _ _ failed.left (one.0, one.1, one.2 ∙ ap (λ l. l ++ one.0 ∷ []) c.loop-number.invariant.3))

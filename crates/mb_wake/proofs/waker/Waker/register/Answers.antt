@@ -1,4 +1,3 @@
-use Rattle.std.proofs.Common.{ℕ}
 use Rattle.mb_gate.specs.Names.{known_by}
 use Rattle.mb_wake.proofs.Views.{looks-then}
 use Rattle.mb_wake.proofs.waker.Waker.register.Goals as goal
