@@ -1,11 +1,12 @@
 -- What the first end of a run owes.
-use Rattle.std.proofs.Common.{List, [], ◌∷◌, set}
+use Rattle.std.proofs.Common.{◌≡◌, ◌<◌, ℕ, false, List, [], ◌∷◌, set}
 use Rattle.std.specs.Global.{Box}
 use Rattle.std.specs.List.{AllZip}
 use Rattle.std.proofs.lemmas.List.Elements.{All-head}
 use Rattle.mb_gate.specs.Names.{actors_of}
 use Rattle.mb_gate.specs.declared.gates.Gates.{Gates}
 use Rattle.mb_home.specs.Contents.{Contents}
+use Rattle.mb_wake.specs.Owed.{is_owed}
 use Rattle.mb_system.specs.Debts.{FirstHasPaid, FirstOwesNothing, HasPaid, KeepsDebts}
 use Rattle.mb_system.specs.Members.{ArePaid, end_caller}
 use Rattle.mb_system.specs.declared.end.WorkerEnd.{WorkerEnd}
@@ -27,4 +28,4 @@ module _ {A K : Type 0} (gates : Gates (Box Contents)) where
   first-settled R keeps (x ∷ old) (y ∷ new) first each paid =
       let actors = actors_of gates in
       owes-nothing actors (end_caller y.waker) (paid-still actors (end_caller x.waker) (end_caller y.waker) first (keeps x y each.0))
-      (All-head _ y new paid)
+      (All-head (λ (e : WorkerEnd A K). (id : ℕ) → id < actors → is_owed e.waker.owed id ≡ false) y new paid)

@@ -1,4 +1,5 @@
 use Rattle.std.proofs.Common.{rules, ◌≡◌, length, sym, ap, ◌∙◌, subst, arith}
+use Rattle.mb_gate.specs.Names.{known_by}
 use Rattle.mb_build.proofs.QueueLemmas.{refilled}
 use Rattle.mb_system.specs.Begun.{AreLedEnds, AreNewEnds}
 use Rattle.mb_system.specs.Members.{ways_of_ends}
@@ -16,7 +17,8 @@ give_first-requires g c =
       created =
           let is = c.in_ok-start.ensures.created in (
             (is.0.0, c.open_ends.ensures.kept.0 ∙ c.open_senders.ensures.kept.0 ∙ is.0.1),
-            owes-same _ _ (c.open_ends.ensures.kept.2 ∙ c.open_senders.ensures.kept.2) is.1,
+            owes-same (known_by c.start.new.pass) (known_by c.open_ends.new.pass)
+                (c.open_ends.ensures.kept.2 ∙ c.open_senders.ensures.kept.2) is.1,
           );
       unclaimed = c.open_ends.ensures.kept.1 ∙ c.open_senders.ensures.kept.1 ∙ c.in_ok-start.ensures.kept.0;
       some = omega (arith, many, some);

@@ -11,4 +11,4 @@ returns-then-is_over-clause-saw g c =
 
 pub returns-then-is_over-clause-empty : goal.returns-then-is_over-clause-empty
 returns-then-is_over-clause-empty g c =
-    let none = c.in_else.ensures.none in λ over. subst (FoundEmpty g.K.Behaviours.gives) (sym none.0) none.1
+    let none = c.in_default.ensures.none in λ over. subst (FoundEmpty g.K.Behaviours.gives) (sym none.0) none.1

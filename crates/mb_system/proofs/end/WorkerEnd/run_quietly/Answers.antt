@@ -46,9 +46,6 @@ returns-in_err-pay-in-None-take-clause-saw g c =
     saw-then _ _ _ c.loop.invariant.2
     (subst (λ p. IsPart (known_by p).log (known_by c.pay.new.self.waker.pass).log) c.take.ensures.same.0 c.pay.ensures.saw)
 
-pub returns-then-clause-debts : goal.returns-then-clause-debts
-returns-then-clause-debts g c = c.loop.invariant.3
-
 pub returns-in_err-run_one-in-Some-take-clause-debts : goal.returns-in_err-run_one-in-Some-take-clause-debts
 returns-in_err-run_one-in-Some-take-clause-debts g c =
     let same = c.take.ensures.same in let actors = actors_of c.args.system.now.gates in
