@@ -1,12 +1,12 @@
 //! Whole runs on one thread: all is sent before anything is run.
 ghost use Rattle.std.specs.Prelude.{◌≡◌, [], All};
 
-use crate::player::players_of;
-use crate::sending::same_orders;
-use crate::story::{Story, plan_of, see, text_of};
+use crate::orders::all_orders;
+use crate::seen::see;
 use crate::together::Run;
 use mb_actor::Actor;
 use mb_dispatch::run_whole;
+use mb_trial::{Story, plan_of, players_of, same_sends, text_of};
 use std::alloc::Global;
 use std::process::Abort;
 use std::sync::Wait;
@@ -36,7 +36,8 @@ pub fn text_alone<A: Actor, R: Wait>(
     requires unused { All (λ actor. A.content actor ≡ A.after actor []) actors.items }
 {
     let plan = plan_of(alloc, story).ok()?;
-    let orders = same_orders(alloc, story.senders, story.sends).ok()?;
+    let sends = same_sends(alloc, story.senders, story.sends).ok()?;
+    let orders = all_orders(alloc, &sends).ok()?;
     match run_whole(rt, alloc, plan, actors, &orders) {
         Ok(report) => text_of(alloc, &report, story.parts.len()),
         Err(error) => format!(in alloc; "{error:?}").ok(),

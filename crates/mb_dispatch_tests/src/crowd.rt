@@ -1,9 +1,9 @@
 //! Sixteen workers, sixty-three actors and four senders, each on a thread of its own.
-use crate::player::{ADD, COUNTER};
-use crate::sending::Sending::{self, Tell};
-use crate::story::{PLAIN, Story, see, words};
+use crate::seen::see;
 use crate::together::run_together;
 use mb_plan::Pool;
+use mb_trial::Sending::Tell;
+use mb_trial::{ADD, COUNTER, PLAIN, Sending, Story, words};
 use std::alloc::{AllocError, Global};
 use std::process::Abort;
 use std::sync::Wait;

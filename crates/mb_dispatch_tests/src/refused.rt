@@ -2,13 +2,11 @@
 //! (`tools/refuse_each_allocation_of_a_system`).
 use crate::closing::{Refusal, Unfinished};
 use crate::company::Company;
-use crate::deed::Deed;
-use crate::player::{ADD, COUNTER, FAIL, Part};
-use crate::story::{PLAIN, Story, text_of};
 use mb_dispatch::{Put, RunError, Unsent};
 use mb_msg::{ActorId, Body, Why};
 use mb_plan::Pool;
 use mb_report::Report;
+use mb_trial::{ADD, COUNTER, Deed, FAIL, PLAIN, Part, Story, text_of};
 use std::alloc::Global;
 use std::sync::Wait;
 

@@ -1,16 +1,13 @@
 //! A stage on which a story goes on step by step.
 use crate::closing::Unfinished;
 use crate::company::Company;
-use crate::player::ADD;
-use crate::sending::{Sending, order_of};
-use crate::shown::{
-    add, journal_text, look_text, put_text, run_text, stop_text, turn_text, turns_text,
-};
-use crate::story::{Story, text_of};
+use crate::orders::order_of;
+use crate::shown::{look_text, put_text, run_text, stop_text, turn_text, turns_text};
 use crate::tale::Step;
 use mb_dispatch::{Look, Order, Ticket, What};
 use mb_msg::{ActorId, Body};
 use mb_report::{ActorReport, Report};
+use mb_trial::{ADD, Sending, Story, add, journal_text, text_of};
 use std::alloc::Global;
 use std::sync::Wait;
 

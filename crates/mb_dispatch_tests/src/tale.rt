@@ -1,7 +1,7 @@
 //! Stories that go on step by step, on one thread.
-use crate::sending::Sending;
+use crate::seen::see;
 use crate::stage::Stage;
-use crate::story::{Story, see};
+use mb_trial::{Sending, Story};
 use std::alloc::Global;
 use std::process::Abort;
 use std::sync::Wait;

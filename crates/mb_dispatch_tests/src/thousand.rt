@@ -1,12 +1,10 @@
 //! A thousand plans by chance, run on threads: what must be true of a run is true of each report.
-use crate::chance::{actors_by_chance, plan_by_chance, sends_by_chance};
-use crate::gambler::{Gambler, gamblers};
-use crate::judged::is_right;
-use crate::player::Adding;
 use crate::together::report_of;
-use mb_dispatch::Order;
 use mb_plan::{Plan, Pool};
 use mb_report::Report;
+use mb_trial::{
+    Adding, Gambler, Sending, actors_by_chance, gamblers, is_right, plan_by_chance, sends_by_chance,
+};
 use std::alloc::{AllocError, Global};
 use std::process::Abort;
 use std::sync::Wait;
@@ -37,7 +35,7 @@ fn is_right_of_these_alone(
     alloc: Global,
     report: &Report,
     plan: &Plan,
-    sends: Vec<Vec<Order>>,
+    sends: Vec<Vec<Sending>>,
 ) -> Result<bool, AllocError> {
     let mut sends = sends;
     if !is_right(alloc, report, plan, &sends)? {

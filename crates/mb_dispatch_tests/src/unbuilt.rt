@@ -1,8 +1,7 @@
 //! Plans of which no system is built.
-use crate::player::{Adding, COUNTER, Mailbox, Part, Player, players_of};
-use crate::story::{PLAIN, Story, plan_of};
 use mb_dispatch::{BuildError, PlanError, System};
 use mb_msg::ActorId;
+use mb_trial::{Adding, COUNTER, Mailbox, PLAIN, Part, Player, Story, plan_of, players_of};
 use std::alloc::{AllocError, Global};
 use std::process::Abort;
 use std::sync::Wait;

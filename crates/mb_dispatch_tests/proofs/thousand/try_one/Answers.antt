@@ -1,6 +1,6 @@
-use Rattle.mb_dispatch_tests.specs.Sum.{sum_of}
+use Rattle.mb_trial.specs.Sum.{sum_of}
 use Rattle.mb_dispatch_tests.proofs.Casting.{alike-behaved}
-use Rattle.mb_dispatch_tests.specs.declared.gambler.Gambler.{Gambler}
+use Rattle.mb_trial.specs.declared.gambler.Gambler.{Gambler}
 use Rattle.mb_dispatch_tests.proofs.thousand.try_one.Goals as goal
 
 pub report_of-requires-clause-behaved : goal.report_of-requires-clause-behaved

@@ -1,8 +1,8 @@
 //! What must be true of the envelopes of a report, by code that shares nothing with the program's: each that was sent stands
 //! once, in its sender's order; what is dead is so for a reason.
 use crate::lawful::has_ended;
+use crate::sending::Sending;
 use crate::sent::{Sent, all_sent};
-use mb_dispatch::Order;
 use mb_journal::Arrival;
 use mb_msg::{ActorId, Body, DeadLetter, Envelope, SenderId, Why};
 use mb_plan::{Kind, Plan};
@@ -14,7 +14,7 @@ pub fn are_envelopes_right(
     alloc: Global,
     report: &Report,
     plan: &Plan,
-    sends: &[Vec<Order>],
+    sends: &[Vec<Sending>],
 ) -> Result<bool, AllocError> {
     let all = all_sent(alloc, report, sends)?;
     Ok(

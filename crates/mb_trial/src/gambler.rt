@@ -14,13 +14,13 @@ pub const GREATEST: u32 = 4;
 /// It knows how many actors there are.
 #[derive(Drop)]
 pub struct Gambler {
-    pub(crate) dice: Dice,
-    pub(crate) actors: u32,
-    pub(crate) sum: i64,
+    pub dice: Dice,
+    pub actors: u32,
+    pub sum: i64,
 }
 
 impl Actor for Gambler {
-    ghost use Rattle.mb_dispatch_tests.specs.Sum.{sum_of};
+    ghost use Rattle.mb_trial.specs.Sum.{sum_of};
 
     ghost after = { λ _. sum_of };
 

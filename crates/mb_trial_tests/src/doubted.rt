@@ -4,18 +4,14 @@ ghost use Rattle.std.specs.Prelude.{OnOk, IsTrue};
 use crate::doubted::Twist::{
     Cleaned, Dead, Elsewhere, Left, Nothing, Overlooked, SentMore, StartedLate, Stopped, Suspended,
 };
-use crate::judged::is_right;
-use crate::player::{ADD, COUNTER};
-use crate::sending::Sending::{self, Stop, Tell};
-use crate::sending::orders_of;
-use crate::story::{PLAIN, Story, plan_of};
 use mb_actor::Answer;
 use mb_actor::Phase::{self, Broken, Ended, Live};
-use mb_dispatch::Order;
 use mb_journal::Journal;
 use mb_msg::Why::{self, Closed, Full};
 use mb_msg::{ActorId, Body, DeadLetter, Envelope, SenderId, SysMsg};
 use mb_report::{ActorReport, Report, SenderReport};
+use mb_trial::Sending::{Stop, Tell};
+use mb_trial::{ADD, COUNTER, PLAIN, Sending, Story, is_right, plan_of, sends_of};
 use std::alloc::{AllocError, Global};
 use std::process::Abort;
 
@@ -141,20 +137,20 @@ fn is_found_right(alloc: Global, claim: &Claim) -> Result<bool, AllocError> {
 
 fn is_report_right(alloc: Global, report: &Report, twist: Twist) -> Result<bool, AllocError> {
     let plan = plan_of(alloc, &TWO_SENDERS)?;
-    let orders = orders(alloc, twist)?;
-    is_right(alloc, report, &plan, &orders)
+    let sends = sends(alloc, twist)?;
+    is_right(alloc, report, &plan, &sends)
 }
 
 /// What the two were to send.
-fn orders(alloc: Global, twist: Twist) -> Result<Vec<Vec<Order>>, AllocError> {
+fn sends(alloc: Global, twist: Twist) -> Result<Vec<Vec<Sending>>, AllocError> {
     let other = match twist {
         Stopped | Overlooked => OTHER_AND_STOP,
         _ => OTHER,
     };
-    let mut orders = Vec::new(alloc);
-    orders.push(orders_of(alloc, FIRST)?)?;
-    orders.push(orders_of(alloc, other)?)?;
-    Ok(orders)
+    let mut sends = Vec::new(alloc);
+    sends.push(sends_of(alloc, FIRST)?)?;
+    sends.push(sends_of(alloc, other)?)?;
+    Ok(sends)
 }
 
 fn report_of(alloc: Global, claim: &Claim) -> Result<Report, AllocError> {

@@ -1,7 +1,7 @@
-//! What each sender sent: of a sender outside its orders say it, of an actor its journal.
+//! What each sender sent: of a sender outside it is known what it was to send, of an actor its journal.
 use crate::ids::{Ids, NOBODY};
+use crate::sending::Sending;
 use mb_actor::Effect;
-use mb_dispatch::{Order, What};
 use mb_journal::{Arrival, Journal, Record};
 use mb_msg::{ActorId, Body, Envelope, SenderId, SysMsg};
 use mb_report::Report;
@@ -53,7 +53,7 @@ impl Sent {
 pub fn all_sent(
     alloc: Global,
     report: &Report,
-    sends: &[Vec<Order>],
+    sends: &[Vec<Sending>],
 ) -> Result<Vec<Sent>, AllocError> {
     let mut all = Vec::new(alloc);
     add_actors(&mut all, alloc, report)?;
@@ -70,21 +70,25 @@ fn add_actors(all: &mut Vec<Sent>, alloc: Global, report: &Report) -> Result<(),
     Ok(())
 }
 
-fn add_outside(all: &mut Vec<Sent>, alloc: Global, sends: &[Vec<Order>]) -> Result<(), AllocError> {
+fn add_outside(
+    all: &mut Vec<Sent>,
+    alloc: Global,
+    sends: &[Vec<Sending>],
+) -> Result<(), AllocError> {
     let mut number = OUTSIDE;
-    for orders in sends {
-        all.push(outside(alloc, number, orders)?)?;
+    for own in sends {
+        all.push(outside(alloc, number, own)?)?;
         number = number.wrapping_add(1);
     }
     Ok(())
 }
 
-/// What a sender outside sent, all of whose orders were carried out.
-fn outside(alloc: Global, by: u32, orders: &[Order]) -> Result<Sent, AllocError> {
+/// What a sender outside sent that sent all that it was to send.
+fn outside(alloc: Global, by: u32, own: &[Sending]) -> Result<Sent, AllocError> {
     let mut sent = Sent::nothing(alloc, by);
-    for order in orders {
-        if let What::Tell(body) = order.what {
-            sent.send(order.to, body)?;
+    for sending in own {
+        if let Some(body) = sending.body() {
+            sent.send(sending.to(), body)?;
         }
     }
     Ok(sent)

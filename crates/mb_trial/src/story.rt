@@ -6,7 +6,6 @@ use mb_msg::ActorId;
 use mb_plan::{ActorPlan, Kind, Plan, Pool};
 use mb_report::{Report, report_text};
 use std::alloc::{AllocError, Global};
-use std::process::Abort;
 
 /// A system of players, each of whose senders is to send the same.
 #[derive(Clone, Copy)]
@@ -99,17 +98,4 @@ fn names_of(alloc: Global, count: usize) -> Result<Vec<String>, AllocError> {
 fn name_of(alloc: Global, place: usize) -> Result<String, AllocError> {
     let number = place.wrapping_add(1);
     format!(in alloc; "a{number}")
-}
-
-/// Sees to it that this text was found.
-pub fn see<R: Abort>(rt: &R, found: &Option<String>, wanted: &str) {
-    assert_eq!(rt; words(found), wanted);
-}
-
-/// What was found, to be compared; "no report" if nothing was.
-pub fn words(found: &Option<String>) -> &str {
-    match found {
-        Some(text) => text.as_str(),
-        None => "no report",
-    }
 }
