@@ -1,11 +1,9 @@
 use Rattle.std.proofs.lemmas.Result.{on_ok_weaker}
 use Rattle.mb_gate.specs.Names.{actors_of}
-use Rattle.mb_system.specs.Debts.{KeepsDebts}
 use Rattle.mb_system.specs.Members.{sender_caller}
 use Rattle.mb_system.specs.Orders.{OwesNobody}
 use Rattle.mb_system.proofs.Debts.{debts-then}
 use Rattle.mb_system.proofs.Sending.{sent-still}
-use Rattle.mb_system.proofs.Sides.{on_ok_and}
 use Rattle.mb_dispatch.specs.Sent.{HasSentAndPaid}
 use Rattle.mb_dispatch.proofs.sending.send_and_pay.Goals as goal
 
@@ -14,11 +12,10 @@ returns-clause-sent g c =
     let sent = c.in_ok-send_all.ensures in let paid = c.pay.ensures in let gates = c.args.system.now.gates in
     let orders = c.args.orders.now in let old = c.args.sender.now in let between = c.send_all.new.self in let new = c.pay.new.self in
     let actors = actors_of gates in let caller = sender_caller in
-    let kept : Type 0 = KeepsDebts actors (caller between.inner.waker) (caller new.inner.waker) in
-    let both : OwesNobody gates new × kept → HasSentAndPaid gates orders old new =
-    λ did. (
+    let both : OwesNobody gates new → HasSentAndPaid gates orders old new =
+    λ nobody. (
       sent-still orders old between new paid.same.1 paid.same.0 paid.saw sent.sent,
-      did.0,
-      debts-then actors (caller old.inner.waker) (caller between.inner.waker) (caller new.inner.waker) sent.debts did.1,
+      nobody,
+      debts-then actors (caller old.inner.waker) (caller between.inner.waker) (caller new.inner.waker) sent.debts paid.debts,
     ) in
-    on_ok_weaker _ both (on_ok_and _ _ _ paid.done paid.debts)
+    on_ok_weaker _ both paid.done
