@@ -18,11 +18,7 @@ pub fn plan_by_chance(alloc: Global, seed: u64, pool: Pool) -> Result<Plan, Allo
     let mut dice = Dice::new(seed);
     let mut actors = Vec::new(alloc);
     for number in 1..=dice.roll(1, 6) {
-        actors.push(ActorPlan {
-            parent: ActorId(dice.roll(0, number.saturating_sub(1))),
-            mailbox: mailbox(alloc, &mut dice)?,
-            strategy: strategy(alloc, &mut dice)?,
-        })?;
+        actors.push(actor_by_chance(alloc, &mut dice, number)?)?;
     }
     Ok(Plan {
         throughput: dice.roll(0, 3),
@@ -31,6 +27,14 @@ pub fn plan_by_chance(alloc: Global, seed: u64, pool: Pool) -> Result<Plan, Allo
         senders: dice.roll(1, 4),
         journal_limit: 100_000,
         actors,
+    })
+}
+
+fn actor_by_chance(alloc: Global, dice: &mut Dice, number: u32) -> Result<ActorPlan, AllocError> {
+    Ok(ActorPlan {
+        parent: ActorId(dice.roll(0, number.saturating_sub(1))),
+        mailbox: mailbox(alloc, dice)?,
+        strategy: strategy(alloc, dice)?,
     })
 }
 

@@ -3,6 +3,7 @@
 #![tactic(auto)]
 
 mod chance;
+mod crowd;
 mod deed;
 mod dice;
 mod gambler;
@@ -20,6 +21,7 @@ mod watcher;
 mod witness;
 
 pub use chance::{actors_by_chance, plan_by_chance, sends_by_chance};
+pub use crowd::{crowd_report, crowd_sends};
 pub use deed::{Deed, Habits};
 pub use gambler::{Gambler, gamblers};
 pub use guest::{Guest, Silent, two_guests};

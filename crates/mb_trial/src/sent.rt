@@ -35,6 +35,31 @@ impl Sent {
         Ok(())
     }
 
+    fn send_own(&mut self, own: &[Sending]) -> Result<(), AllocError> {
+        for sending in own {
+            if let Some(body) = sending.body() {
+                self.send(sending.to(), body)?;
+            }
+        }
+        Ok(())
+    }
+
+    // Sends what this actor sent by its journal.
+    fn send_by(&mut self, this: ActorId, journal: &Journal) -> Result<(), AllocError> {
+        let mut watched = NOBODY;
+        for place in 0..journal.len() {
+            let record = journal.get(place);
+            if let Some(who) = ended(&record) {
+                if watched.has(who) {
+                    self.send(this, Body::Terminated(who))?;
+                }
+            }
+            self.send_each(record.effects)?;
+            watched = watched_after(watched, this, &record);
+        }
+        Ok(())
+    }
+
     fn send_each(&mut self, effects: &[Effect]) -> Result<(), AllocError> {
         for effect in effects {
             match *effect {
@@ -86,29 +111,14 @@ fn add_outside(
 /// What a sender outside sent that sent all that it was to send.
 fn outside(alloc: Global, by: u32, own: &[Sending]) -> Result<Sent, AllocError> {
     let mut sent = Sent::nothing(alloc, by);
-    for sending in own {
-        if let Some(body) = sending.body() {
-            sent.send(sending.to(), body)?;
-        }
-    }
+    sent.send_own(own)?;
     Ok(sent)
 }
 
 /// What an actor sent: by its effects, and to itself that one has ended that it watched.
 fn by_actor(alloc: Global, by: u32, journal: &Journal) -> Result<Sent, AllocError> {
-    let this = ActorId(by);
     let mut sent = Sent::nothing(alloc, by);
-    let mut watched = NOBODY;
-    for place in 0..journal.len() {
-        let record = journal.get(place);
-        if let Some(who) = ended(&record) {
-            if watched.has(who) {
-                sent.send(this, Body::Terminated(who))?;
-            }
-        }
-        sent.send_each(record.effects)?;
-        watched = watched_after(watched, this, &record);
-    }
+    sent.send_by(ActorId(by), journal)?;
     Ok(sent)
 }
 

@@ -1,5 +1,5 @@
 //! What is looked at in reports, tried on reports by hand: on two that are right, and on others that have one thing wrong.
-ghost use Rattle.std.specs.Prelude.{OnOk, IsTrue};
+ghost use Rattle.std.specs.Prelude.{◌≡◌, OnOk, IfOk, IsTrue, length};
 
 use crate::doubted::Twist::{
     Cleaned, Dead, Elsewhere, Left, Nothing, Overlooked, SentMore, StartedLate, Stopped, Suspended,
@@ -154,16 +154,27 @@ fn sends(alloc: Global, twist: Twist) -> Result<Vec<Vec<Sending>>, AllocError> {
 }
 
 fn report_of(alloc: Global, claim: &Claim) -> Result<Report, AllocError> {
-    let (_, handled, state, phase, twist) = *claim;
-    let guardian = guardian(alloc, twist)?;
-    let mut actor = receiver(alloc, handled, twist)?;
-    actor.phase = phase;
-    actor.state = Some(state);
-    let first = first_sender(alloc, twist)?;
     Ok(Report {
-        actors: vec![in alloc; guardian, actor]?,
-        senders: vec![in alloc; sender(alloc, 0), sender(alloc, 0), first, sender(alloc, 2)]?,
+        actors: actors(alloc, claim)?,
+        senders: senders(alloc, claim)?,
     })
+}
+
+fn actors(alloc: Global, claim: &Claim) -> Result<Vec<ActorReport>, AllocError>
+    ensures { IfOk result (λ actors. length actors.items ≡ 2) }
+{
+    let (_, _, _, _, twist) = *claim;
+    let guardian = guardian(alloc, twist)?;
+    let actor = receiver(alloc, claim)?;
+    vec![in alloc; guardian, actor]
+}
+
+fn senders(alloc: Global, claim: &Claim) -> Result<Vec<SenderReport>, AllocError>
+    ensures { IfOk result (λ senders. length senders.items ≡ 4) }
+{
+    let (_, _, _, _, twist) = *claim;
+    let first = first_sender(alloc, twist)?;
+    vec![in alloc; sender(alloc, 0), sender(alloc, 0), first, sender(alloc, 2)]
 }
 
 fn guardian(alloc: Global, twist: Twist) -> Result<ActorReport, AllocError> {
@@ -174,21 +185,29 @@ fn guardian(alloc: Global, twist: Twist) -> Result<ActorReport, AllocError> {
     Ok(guardian)
 }
 
-/// The actor that handled these.
-fn receiver(alloc: Global, handled: &[Letter], twist: Twist) -> Result<ActorReport, AllocError> {
+/// The actor that handled what is claimed.
+fn receiver(alloc: Global, claim: &Claim) -> Result<ActorReport, AllocError> {
+    let (_, _, state, phase, twist) = *claim;
     let first = u64::from(matches!(twist, StartedLate));
-    let reading = if matches!(twist, Suspended) { 4 } else { 0 };
     let mut actor = started(alloc, first, Some(Answer::Handled))?;
+    actor.phase = phase;
+    actor.state = Some(state);
+    handle_all(&mut actor, claim)?;
+    Ok(actor)
+}
+
+fn handle_all(actor: &mut ActorReport, claim: &Claim) -> Result<(), AllocError> {
+    let (_, handled, _, _, twist) = *claim;
+    let reading = if matches!(twist, Suspended) { 4 } else { 0 };
     for letter in handled {
         handle(&mut actor.journal, *letter, reading)?;
     }
     match twist {
-        Left => actor.left.push(envelope(TWO))?,
-        Cleaned => actor.cleaned.push(envelope(TWO))?,
-        Stopped => apply(&mut actor.journal, 1, SysMsg::Terminate, None)?,
-        _ => {}
+        Left => actor.left.push(envelope(TWO)),
+        Cleaned => actor.cleaned.push(envelope(TWO)),
+        Stopped => apply(&mut actor.journal, 1, SysMsg::Terminate, None),
+        _ => Ok(()),
     }
-    Ok(actor)
 }
 
 fn first_sender(alloc: Global, twist: Twist) -> Result<SenderReport, AllocError> {
