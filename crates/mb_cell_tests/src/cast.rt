@@ -17,13 +17,14 @@ use std::alloc::{AllocError, Global};
 /// `start spawn 2, tell 4`; `ends`, the like of it where it is told the end of another; its strategy: `rules` as `restart error,
 /// stop error 1`, `retries 2`, `all for one`; and `limit 10`, how many entries its journal may have.
 pub(crate) fn cast(alloc: Global, head: &str) -> Result<Stage<Player, Counting>, Trouble> {
-    let prepared = children_of(alloc, part(head, "children "))?;
-    let strategy = strategy_of(alloc, head)?;
     let limit = limit_of(head)?;
-    let Some((this, parent)) = place_of(head)? else {
+    let place = place_of(head)?;
+    let plan = plan_of(head)?;
+    let strategy = strategy_of(alloc, head)?;
+    let prepared = children_of(alloc, part(head, "children "))?;
+    let Some((this, parent)) = place else {
         return Ok(Stage::of_guardian(alloc, prepared, strategy, limit));
     };
-    let plan = plan_of(head)?;
     let player = Player { plan, count: 0 };
     Ok(Stage::of(alloc, this, parent, player, prepared, strategy, limit))
 }

@@ -113,7 +113,8 @@ fn play_all<R: Abort>(
     let mut story = gathered(alloc, rules)?;
     let cases = spread(alloc, cases)?;
     story.push_str(cases.as_str())?;
-    assert_eq!(rt; play(rt, alloc, story.as_str())?, count, "cases");
+    let (found, _) = play(rt, alloc, story.as_str())?;
+    assert_eq!(rt; found, count, "cases");
     Ok(())
 }
 

@@ -1,7 +1,6 @@
 //! Memory that is refused: run this with each allocation refused in turn (`tools/refuse_each_allocation_of_a_cell`).
 
-use crate::cast::cast;
-use crate::story::{go_through, head_of};
+use crate::story;
 use crate::words::Trouble;
 use std::alloc::Global;
 use std::process::Abort;
@@ -30,7 +29,7 @@ died 3 | none | close, 0: died 1, 4: died 1 | ended 0 42
 ";
 
 /// The whole story, with 40 messages between.
-fn story(alloc: Global) -> Result<String, Trouble> {
+fn whole_story(alloc: Global) -> Result<String, Trouble> {
     let mut story = String::from_str(alloc, FILLED)?;
     for messages in 3..43u32 {
         let case = format!(in alloc; "user add | handled | - | live 0 {messages}\n")?;
@@ -42,12 +41,10 @@ fn story(alloc: Global) -> Result<String, Trouble> {
 
 /// Goes through the story, and answers whether a `ready` was refused.
 fn play<R: Abort>(rt: &R, alloc: Global) -> Result<bool, Trouble> {
-    let story = story(alloc)?;
-    let head = head_of(story.as_str());
-    let mut stage = cast(alloc, head)?;
-    let count = go_through(rt, alloc, &mut stage, head, story.as_str())?;
-    assert_eq!(rt; count, 53, "cases");
-    Ok(stage.was_refused())
+    let story = whole_story(alloc)?;
+    let (cases, was_refused) = story::play(rt, alloc, story.as_str())?;
+    assert_eq!(rt; cases, 53, "cases");
+    Ok(was_refused)
 }
 
 /// Goes through it again where memory was refused but to a `ready`, which is made again at once.

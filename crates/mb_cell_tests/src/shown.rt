@@ -22,6 +22,12 @@ pub(crate) fn add(list: &mut String, item: &str) -> Result<(), AllocError> {
     list.push_str(item)
 }
 
+/// Adds one more column to a case.
+pub(crate) fn add_column(case: &mut String, column: String) -> Result<(), AllocError> {
+    case.push_str(" | ")?;
+    case.push_str(column.as_str())
+}
+
 /// A list of nothing is a dash.
 pub(crate) fn or_dash(mut list: String) -> Result<String, AllocError> {
     if list.is_empty() {

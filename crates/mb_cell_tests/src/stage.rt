@@ -6,7 +6,8 @@ ghost use Rattle.mb_msg.specs.Limits.{most_actors};
 ghost use Rattle.mb_actor.specs.Behaviour.{AllowsSame};
 
 use crate::shown::{
-    Given, act_shown, add, aside_shown, effects_shown, or_dash, outcome_shown, phase_shown,
+    Given, act_shown, add, add_column, aside_shown, effects_shown, or_dash, outcome_shown,
+    phase_shown,
 };
 use crate::words::{Trouble, body_of, first_word, number, system_of};
 use mb_actor::{Actor, Behaviours, Phase};
@@ -152,14 +153,20 @@ impl<A: Actor, K: Behaviours> Stage<A, K> {
     /// Gives it again the message that goes before all others, which is to be this one.
     fn front<R: Abort>(&mut self, rt: &R, due: &str) -> Result<Given, Trouble> {
         let (due_number, due_message) = first_word(due);
-        let due = (u64::from(number(due_number)?), system_of(due_message)?);
+        let due_number = u64::from(number(due_number)?);
+        let due_message = system_of(due_message)?;
+        Ok(self.next_front(rt, due_number, due_message))
+    }
+
+    fn next_front<R: Abort>(&mut self, rt: &R, due_number: u64, due_message: SysMsg) -> Given {
         self.was_refused |= make_ready(rt, &mut self.cell);
         assert!(rt; !matches!(self.cell.phase(), Phase::Ended));
         let (number, message) = self.cell.next_front().expect(rt, "a message that waits");
-        assert_eq!(rt; (number, message), due);
+        assert_eq!(rt; number, due_number);
+        assert_eq!(rt; message, due_message);
         assert!(rt; number < self.next);
         self.cell.apply_system(number, message);
-        Ok(Given::System(number, message))
+        Given::System(number, message)
     }
 
     /// Gives it an envelope with this body.
@@ -186,15 +193,21 @@ impl<A: Actor, K: Behaviours> Stage<A, K> {
         message: &str,
         given: Given,
     ) -> Result<String, AllocError> {
-        let entry = entry_shown(rt, alloc, &self.cell, given)?;
-        let acts = or_dash(acts_shown(alloc, &mut self.cell)?)?;
-        let stands = self.stands_shown(alloc)?;
+        let mut case = String::from_str(alloc, message)?;
+        add_column(&mut case, entry_shown(rt, alloc, &self.cell, given)?)?;
+        self.add_standing(alloc, &mut case)?;
+        Ok(case)
+    }
+
+    /// Adds the columns of what the cell asks for, and of how it stands then.
+    fn add_standing(&mut self, alloc: Global, case: &mut String) -> Result<(), AllocError> {
+        add_column(case, or_dash(acts_shown(alloc, &mut self.cell)?)?)?;
+        add_column(case, self.stands_shown(alloc)?)?;
         let aside = aside_shown(alloc, self.cell.aside())?;
         if aside.is_empty() {
-            format!(in alloc; "{message} | {entry} | {acts} | {stands}")
-        } else {
-            format!(in alloc; "{message} | {entry} | {acts} | {stands} | {aside}")
+            return Ok(());
         }
+        add_column(case, aside)
     }
 
     /// Whether memory was refused to make room, so far.
@@ -219,25 +232,24 @@ fn make_ready<R: Abort, A: Actor, K: Behaviours>(rt: &R, cell: &mut Cell<A, K>) 
     ensures { cell.new ≡ record cell.old { acts = []; is_ready = true } }
 {
     assert!(rt; cell.next_act().is_none(), "an act that is left");
-    let before = (
-        cell.journal().len(),
-        cell.phase(),
-        cell.count(),
-        cell.state(),
-    );
+    let before = standing(cell);
     if let Err(error) = cell.ready() {
-        assert_eq!(rt; error, ReadyError::NoMemory);
-        let after = (
-            cell.journal().len(),
-            cell.phase(),
-            cell.count(),
-            cell.state(),
-        );
-        assert_eq!(rt; before, after);
+        assert!(rt; matches!(error, ReadyError::NoMemory));
+        assert!(rt; standing(cell) == before, "the cell is as before");
         cell.ready().expect(rt, "there is memory again");
         return true;
     }
     false
+}
+
+/// How many entries a cell's journal has, and its phase, count of suspensions and content.
+fn standing<A: Actor, K: Behaviours>(cell: &Cell<A, K>) -> (usize, Phase, u64, Option<i64>) {
+    (
+        cell.journal().len(),
+        cell.phase(),
+        cell.count(),
+        cell.state(),
+    )
 }
 
 /// What the newest entry says: what became of what was given, and the effects of it; or that there is no room for one.

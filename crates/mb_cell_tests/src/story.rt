@@ -17,21 +17,23 @@ pub(crate) fn each_case<R: Abort>(
 ) -> Result<(), Trouble> {
     let mut found: u32 = 0;
     for story in stories.split("\n\n") {
-        found = found.wrapping_add(play(rt, alloc, story)?);
+        let (cases, _) = play(rt, alloc, story)?;
+        found = found.wrapping_add(cases);
     }
     assert_eq!(rt; found, count, "cases");
     Ok(())
 }
 
-/// Sees to it that each case of one story is as it says, and answers how many it has.
-pub(crate) fn play<R: Abort>(rt: &R, alloc: Global, story: &str) -> Result<u32, Trouble> {
+/// Sees to it that each case of one story is as it says, and answers how many it has, and whether a `ready` was refused.
+pub(crate) fn play<R: Abort>(rt: &R, alloc: Global, story: &str) -> Result<(u32, bool), Trouble> {
     let head = head_of(story);
     let mut stage = cast(alloc, head)?;
-    go_through(rt, alloc, &mut stage, head, story)
+    let cases = go_through(rt, alloc, &mut stage, head, story)?;
+    Ok((cases, stage.was_refused()))
 }
 
 /// The line that says whose story it is.
-pub(crate) fn head_of(story: &str) -> &str {
+fn head_of(story: &str) -> &str {
     for line in story.lines() {
         if line.starts_with("actor ") || line.starts_with("guardian") {
             return line;
@@ -41,7 +43,7 @@ pub(crate) fn head_of(story: &str) -> &str {
 }
 
 /// Goes through the cases of a story on a cell to which nothing came yet.
-pub(crate) fn go_through<R: Abort, A: Actor, K: Behaviours>(
+fn go_through<R: Abort, A: Actor, K: Behaviours>(
     rt: &R,
     alloc: Global,
     stage: &mut Stage<A, K>,
@@ -54,9 +56,22 @@ pub(crate) fn go_through<R: Abort, A: Actor, K: Behaviours>(
     for line in story.lines() {
         if line.contains(" | ") {
             count = count.wrapping_add(1);
-            let told = stage.told(rt, alloc, line)?;
-            assert_eq!(rt; told.as_str(), line, "case {count} of {head}");
+            check_case(rt, alloc, stage, line, head, count)?;
         }
     }
     Ok(count)
+}
+
+/// Sees to it that a case, which is the one of this number, is as it says.
+fn check_case<R: Abort, A: Actor, K: Behaviours>(
+    rt: &R,
+    alloc: Global,
+    stage: &mut Stage<A, K>,
+    case: &str,
+    head: &str,
+    number: u32,
+) -> Result<(), Trouble> {
+    let told = stage.told(rt, alloc, case)?;
+    assert_eq!(rt; told.as_str(), case, "case {number} of {head}");
+    Ok(())
 }

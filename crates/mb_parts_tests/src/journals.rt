@@ -2,7 +2,7 @@
 ghost use Rattle.std.specs.Prelude.{◌≡◌, true};
 
 use mb_actor::{Answer, Effect};
-use mb_journal::{Arrival, Journal, Pattern, ReadyError, Strategy};
+use mb_journal::{Arrival, Journal, Pattern, ReadyError, Record, Strategy};
 use mb_msg::{ActorId, Body, Cause, Directive, Envelope, SenderId, SysMsg};
 use std::process::Abort;
 use std::test::Fail;
@@ -28,82 +28,106 @@ fn make_ready(rt: &impl Abort, journal: &mut Journal)
     }
 }
 
+/// The first of some envelopes.
+const ADDED: Envelope = Envelope {
+    by: SenderId(64),
+    number: 0,
+    to: ActorId(1),
+    body: Body::User { kind: 1, value: 7 },
+};
+
+/// An entry, with its effects.
+type Told = (Arrival, &'static [Effect]);
+
+/// One of each kind.
+const ENTRIES: &[Told] = &[
+    (
+        Arrival::System {
+            number: 0,
+            message: SysMsg::Create,
+            answer: Some(Answer::Handled),
+        },
+        &[Effect::Spawn(ActorId(2)), Effect::Watch(ActorId(2))],
+    ),
+    (
+        Arrival::Handled {
+            envelope: ADDED,
+            reading: 2,
+            answer: Some(Answer::Failed(3)),
+        },
+        &[],
+    ),
+    (
+        Arrival::SetAside {
+            number: 1,
+            message: SysMsg::Failed(ActorId(2), Cause::Error(1)),
+        },
+        &[],
+    ),
+    (
+        Arrival::Handled {
+            envelope: Envelope {
+                number: 1,
+                body: Body::User { kind: 1, value: 8 },
+                ..ADDED
+            },
+            reading: 0,
+            answer: Some(Answer::Unhandled),
+        },
+        &[Effect::Stop(ActorId(3))],
+    ),
+    (
+        Arrival::Dropped {
+            envelope: Envelope {
+                number: 2,
+                body: Body::User { kind: 1, value: 9 },
+                ..ADDED
+            },
+        },
+        &[],
+    ),
+];
+
+/// Adds this entry.
+fn push(rt: &impl Abort, journal: &mut Journal, told: &Told) {
+    let (arrival, effects) = *told;
+    assert!(rt; effects.len() <= 16);
+    make_ready(rt, journal);
+    match arrival {
+        Arrival::Handled {
+            envelope,
+            reading,
+            answer,
+        } => journal.push_handled(envelope, reading, answer, effects),
+        Arrival::System {
+            number,
+            message,
+            answer,
+        } => journal.push_system(number, message, answer, effects),
+        Arrival::SetAside { number, message } => journal.push_set_aside(number, message),
+        Arrival::Dropped { envelope } => journal.push_dropped(envelope),
+    }
+}
+
+/// Sees to it that an entry is as it was added.
+fn is_read_back(rt: &impl Abort, entry: &Record<'_>, told: &Told) {
+    let (arrival, effects) = *told;
+    assert!(rt; entry.arrival == arrival, "{entry:?}");
+    assert!(rt; entry.effects == effects, "{entry:?}");
+}
+
 #[test]
 fn entries_are_read_back(rt: HostRuntime) {
     let mut journal = Journal::new(rt.alloc(), 100);
     assert!(rt; journal.is_empty() && !journal.is_full());
-    make_ready(&rt, &mut journal);
-    journal.push_system(
-        0,
-        SysMsg::Create,
-        Some(Answer::Handled),
-        &[Effect::Spawn(ActorId(2)), Effect::Watch(ActorId(2))],
-    );
-    make_ready(&rt, &mut journal);
-    journal.push_handled(add(0, 7), 2, Some(Answer::Failed(3)), &[]);
-    make_ready(&rt, &mut journal);
-    journal.push_set_aside(1, SysMsg::Failed(ActorId(2), Cause::Error(1)));
-    make_ready(&rt, &mut journal);
-    journal.push_handled(
-        add(1, 8),
-        0,
-        Some(Answer::Unhandled),
-        &[Effect::Stop(ActorId(3))],
-    );
-    make_ready(&rt, &mut journal);
-    journal.push_dropped(add(2, 9));
+    for told in ENTRIES {
+        push(&rt, &mut journal, told);
+    }
     assert_eq!(rt; journal.len(), 5);
-
-    let first = journal.get(0);
-    assert_eq!(rt;
-        first.arrival,
-        Arrival::System {
-            number: 0,
-            message: SysMsg::Create,
-            answer: Some(Answer::Handled)
-        }
-    );
-    assert_eq!(rt;
-        first.effects,
-        [Effect::Spawn(ActorId(2)), Effect::Watch(ActorId(2))].as_slice()
-    );
-    let second = journal.get(1);
-    assert_eq!(rt;
-        second.arrival,
-        Arrival::Handled {
-            envelope: add(0, 7),
-            reading: 2,
-            answer: Some(Answer::Failed(3))
-        }
-    );
-    assert!(rt; second.effects.is_empty());
-    let third = journal.get(2);
-    assert_eq!(rt;
-        third.arrival,
-        Arrival::SetAside {
-            number: 1,
-            message: SysMsg::Failed(ActorId(2), Cause::Error(1))
-        }
-    );
-    assert!(rt; third.effects.is_empty());
-    let fourth = journal.get(3);
-    assert_eq!(rt;
-        fourth.arrival,
-        Arrival::Handled {
-            envelope: add(1, 8),
-            reading: 0,
-            answer: Some(Answer::Unhandled)
-        }
-    );
-    assert_eq!(rt; fourth.effects, [Effect::Stop(ActorId(3))].as_slice());
-    let fifth = journal.get(4);
-    assert_eq!(rt;
-        fifth.arrival,
-        Arrival::Dropped {
-            envelope: add(2, 9)
-        }
-    );
-    assert!(rt; fifth.effects.is_empty());
+    for (index, told) in ENTRIES.iter().enumerate() {
+        assert!(rt; index < journal.len());
+        is_read_back(&rt, &journal.get(index), told);
+    }
 }
 
 #[test]
@@ -129,38 +153,32 @@ fn a_long_journal_keeps_its_entries(rt: HostRuntime) {
     let mut journal = Journal::new(rt.alloc(), 4_294_967_295);
     for number in 0..200 {
         make_ready(&rt, &mut journal);
-        journal.push_handled(
-            add(number, 5),
-            2,
-            Some(Answer::Handled),
-            &[Effect::Tell {
-                to: ActorId(2),
-                kind: 4,
-                value: 6,
-            }],
-        );
+        journal.push_handled(add(number, 5), 2, Some(Answer::Handled), TOLD);
     }
     assert_eq!(rt; journal.len(), 200);
     for index in 0..journal.len() {
-        let record = journal.get(index);
-        assert_eq!(rt;
-            record.arrival,
-            Arrival::Handled {
-                envelope: add(index as u64, 5),
-                reading: 2,
-                answer: Some(Answer::Handled)
-            }
-        );
-        assert_eq!(rt;
-            record.effects,
-            [Effect::Tell {
-                to: ActorId(2),
-                kind: 4,
-                value: 6
-            }]
-            .as_slice()
-        );
+        tells_of(&rt, &journal.get(index), index as u64);
     }
+}
+
+/// One effect.
+const TOLD: &[Effect] = &[Effect::Tell {
+    to: ActorId(2),
+    kind: 4,
+    value: 6,
+}];
+
+/// Sees to it that an entry tells of the envelope of this number, and of this effect.
+fn tells_of(rt: &impl Abort, entry: &Record<'_>, number: u64) {
+    assert_eq!(rt;
+        entry.arrival,
+        Arrival::Handled {
+            envelope: add(number, 5),
+            reading: 2,
+            answer: Some(Answer::Handled)
+        }
+    );
+    assert_eq!(rt; entry.effects, TOLD);
 }
 
 #[test]

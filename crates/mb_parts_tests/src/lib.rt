@@ -5,6 +5,8 @@
 #[cfg(test)]
 mod actors;
 #[cfg(test)]
+mod course;
+#[cfg(test)]
 mod journals;
 #[cfg(test)]
 mod lists;

@@ -23,22 +23,24 @@ fn node_of(rt: &impl Abort, alloc: Global, message: SysMsg) -> Node
 
 /// Pushes a node, whose number has to be this one.
 fn push(rt: &impl Abort, list: &mut SysList, node: Node, number: u64) {
-    let message = node.msg();
-    match list.push(node) {
-        Ok(answer) => assert_eq!(rt; answer, number),
-        Err(ListClosed(_)) => panic!(rt; "{message:?} met a closed list"),
-    }
+    let answer = list.push(node).ok();
+    assert_eq!(rt; answer, Some(number));
 }
 
 /// Takes a node out of a chain, which has to have this number and this message.
 fn take(rt: &impl Abort, chain: &mut Chain, number: u64, message: SysMsg) {
-    match chain.next() {
-        Some((its_number, node)) => {
-            assert_eq!(rt; its_number, number);
-            assert_eq!(rt; node.msg(), message);
-        }
-        None => panic!(rt; "{message:?} is not in the chain"),
-    }
+    let (its_number, its_message) = next_of(chain).expect(rt, "a node that is left");
+    assert_eq!(rt; its_number, number);
+    assert!(rt;
+        its_message == message,
+        "{its_message:?} in place of {message:?}"
+    );
+}
+
+/// The number and the message of the next node of a chain.
+fn next_of(chain: &mut Chain) -> Option<(u64, SysMsg)> {
+    let (number, node) = chain.next()?;
+    Some((number, node.msg()))
 }
 
 /// A list of many nodes.
@@ -51,36 +53,48 @@ fn long_list(rt: &impl Abort, alloc: Global) -> SysList {
     list
 }
 
-#[test]
-fn the_earliest_comes_first(rt: HostRuntime) {
-    let messages = [
-        SysMsg::Create,
-        SysMsg::Suspend,
-        SysMsg::Resume { of_failure: false },
-    ];
-    let mut list = SysList::new();
-    assert!(rt; list.is_empty() && list.given() == 0);
-    for (number, message) in (0..).zip(messages) {
-        let node = node_of(&rt, rt.alloc(), message);
-        push(&rt, &mut list, node, number);
-    }
-    assert!(rt; !list.is_empty() && list.given() == 0);
+/// What is listed first.
+const MESSAGES: [SysMsg; 3] = [
+    SysMsg::Create,
+    SysMsg::Suspend,
+    SysMsg::Resume { of_failure: false },
+];
 
-    let mut chain = list.drain();
-    assert!(rt; list.is_empty() && list.given() == 3);
-    for (number, message) in (0..).zip(messages) {
+/// Pushes these messages, from number 0 on.
+fn push_each(rt: &impl Abort, alloc: Global, list: &mut SysList) {
+    for (number, message) in (0..).zip(MESSAGES) {
+        push(rt, list, node_of(rt, alloc, message), number);
+    }
+}
+
+/// Takes them.
+fn take_each(rt: &impl Abort, chain: &mut Chain) {
+    for (number, message) in (0..).zip(MESSAGES) {
         assert!(rt; !chain.is_empty());
-        take(&rt, &mut chain, number, message);
+        take(rt, chain, number, message);
     }
     assert!(rt; chain.is_empty() && chain.next().is_none());
+}
 
-    assert!(rt; list.close().is_empty() && list.given() == 3);
-    let node = node_of(&rt, rt.alloc(), SysMsg::Terminate);
-    match list.push(node) {
-        Ok(number) => panic!(&rt; "a closed list took a node as {number}"),
-        Err(ListClosed(node)) => assert_eq!(rt; node.msg(), SysMsg::Terminate),
+/// Sees to it that a list that is closed gives a node back, and stays empty.
+fn takes_none(rt: &impl Abort, alloc: Global, list: &mut SysList) {
+    match list.push(node_of(rt, alloc, SysMsg::Terminate)) {
+        Ok(number) => panic!(rt; "a closed list took a node as {number}"),
+        Err(ListClosed(node)) => assert!(rt; node.msg() == SysMsg::Terminate),
     }
     assert!(rt; list.is_empty() && list.drain().is_empty() && list.given() == 3);
+}
+
+#[test]
+fn the_earliest_comes_first(rt: HostRuntime) {
+    let mut list = SysList::new();
+    assert!(rt; list.is_empty() && list.given() == 0);
+    push_each(&rt, rt.alloc(), &mut list);
+    assert!(rt; !list.is_empty() && list.given() == 0);
+    take_each(&rt, &mut list.drain());
+    assert!(rt; list.is_empty() && list.given() == 3);
+    assert!(rt; list.close().is_empty() && list.given() == 3);
+    takes_none(&rt, rt.alloc(), &mut list);
 }
 
 #[test]

@@ -52,53 +52,81 @@ fn journal_of_one_restart(alloc: Global) -> Option<Journal> {
     Some(journal)
 }
 
+/// An actor that has ended, of which an envelope was cleaned up.
+fn ended(alloc: Global) -> Option<ActorReport> {
+    let journal = journal_of_one_restart(alloc)?;
+    let mut actor = quiet(alloc, Phase::Ended, Some(i64::MIN), journal);
+    actor.cleaned.push(envelope(1, 2)).ok()?;
+    Some(actor)
+}
+
+/// A broken actor, to which two envelopes are left.
+fn broken(alloc: Global) -> Option<ActorReport> {
+    let mut actor = quiet(alloc, Phase::Broken, Some(7), Journal::new(alloc, 9));
+    actor.count = 3;
+    actor.left.push(envelope(2, 5)).ok()?;
+    actor.left.push(envelope(2, 6)).ok()?;
+    Some(actor)
+}
+
+/// The guardian and two actors.
+fn actors(alloc: Global) -> Option<Vec<ActorReport>>
+    ensures { IfSome result (λ made. length made.items ≡ 3) }
+{
+    let first = ended(alloc)?;
+    let second = broken(alloc)?;
+    let guardian = quiet(alloc, Phase::Live, None, Journal::new(alloc, 9));
+    vec![in alloc; guardian, first, second].ok()
+}
+
+/// A dead letter to an actor.
+fn dead(to: u32, number: u64, why: Why) -> DeadLetter {
+    DeadLetter {
+        envelope: envelope(to, number),
+        why,
+    }
+}
+
+/// A sender that sent eight envelopes, of which three are dead.
+fn senders(alloc: Global) -> Option<Vec<SenderReport>>
+    ensures { IfSome result (λ made. length made.items ≡ 1) }
+{
+    let dead = vec![in alloc;
+        dead(1, 3, Why::Closed),
+        dead(2, 4, Why::Full),
+        dead(1, 7, Why::NoMemory),
+    ]
+    .ok()?;
+    vec![in alloc; SenderReport { sent: 8, dead }].ok()
+}
+
+/// The names of the two actors.
+fn names(alloc: Global) -> Option<Vec<String>>
+    ensures { IfSome result (λ made. length made.items ≡ 2) }
+{
+    let first = String::from_str(alloc, "a").ok()?;
+    let second = String::from_str(alloc, "b_2").ok()?;
+    vec![in alloc; first, second].ok()
+}
+
 /// A report of the guardian and of two actors, and the names of these.
 fn reported(alloc: Global) -> Option<(Report, Vec<String>)>
     ensures { IfSome result (λ made. length made.0.actors.items ≡ length made.1.items + 1) }
 {
-    let guardian = quiet(alloc, Phase::Live, None, Journal::new(alloc, 9));
-    let mut first = quiet(
-        alloc,
-        Phase::Ended,
-        Some(i64::MIN),
-        journal_of_one_restart(alloc)?,
-    );
-    first.cleaned.push(envelope(1, 2)).ok()?;
-    let mut second = quiet(alloc, Phase::Broken, Some(7), Journal::new(alloc, 9));
-    second.count = 3;
-    second.left.push(envelope(2, 5)).ok()?;
-    second.left.push(envelope(2, 6)).ok()?;
-    let refused = vec![in alloc;
-        DeadLetter {
-            envelope: envelope(1, 3),
-            why: Why::Closed
-        },
-        DeadLetter {
-            envelope: envelope(2, 4),
-            why: Why::Full
-        },
-        DeadLetter {
-            envelope: envelope(1, 7),
-            why: Why::NoMemory
-        },
-    ]
-    .ok()?;
-    let report = Report {
-        actors: vec![in alloc; guardian, first, second].ok()?,
-        senders: vec![in alloc;
-            SenderReport {
-                sent: 8,
-                dead: refused
-            },
-        ]
-        .ok()?,
-    };
-    let names = vec![in alloc;
-        String::from_str(alloc, "a").ok()?,
-        String::from_str(alloc, "b_2").ok()?,
-    ]
-    .ok()?;
-    Some((report, names))
+    let names = names(alloc)?;
+    let senders = senders(alloc)?;
+    let actors = actors(alloc)?;
+    Some((Report { actors, senders }, names))
+}
+
+/// The same, made again where memory was refused.
+fn reported_at_last(alloc: Global) -> Option<(Report, Vec<String>)>
+    ensures { IfSome result (λ made. length made.0.actors.items ≡ length made.1.items + 1) }
+{
+    match reported(alloc) {
+        Some(made) => Some(made),
+        None => reported(alloc),
+    }
 }
 
 /// Its text.
@@ -108,32 +136,32 @@ b_2 broken state 7 suspended 3 handled 0 left 2 dead 1 restarts 0
 sent 8 handled 2 left 2 dead 4
 ";
 
-#[test]
-fn prints_the_queries_of_its_lists(rt: HostRuntime) -> Result<(), Fail> {
-    let alloc = rt.alloc();
-    let (report, names) = reported(alloc).ok_or(AllocError)?;
-    assert_eq!(rt; report_text(alloc, &report, &names)?.as_str(), TEXT);
-    Ok(())
+/// Its text as it is printed.
+fn printed(alloc: Global) -> Option<String> {
+    let (report, names) = reported(alloc)?;
+    report_text(alloc, &report, &names).ok()
 }
 
-/// The text, written again where memory was refused.
-fn text_at_last(alloc: Global, report: &Report, names: &[String]) -> Result<String, AllocError>
-    requires { length report.now.actors.items ≡ length names.now + 1 }
-{
-    match report_text(alloc, report, names) {
-        Ok(text) => Ok(text),
-        Err(_) => report_text(alloc, report, names),
+/// The same, made and written again where memory was refused.
+fn printed_at_last(alloc: Global) -> Option<String> {
+    let (report, names) = reported_at_last(alloc)?;
+    match report_text(alloc, &report, &names) {
+        Ok(text) => Some(text),
+        Err(_) => report_text(alloc, &report, &names).ok(),
     }
+}
+
+#[test]
+fn prints_the_queries_of_its_lists(rt: HostRuntime) -> Result<(), Fail> {
+    let text = printed(rt.alloc()).ok_or(AllocError)?;
+    assert_eq!(rt; text.as_str(), TEXT);
+    Ok(())
 }
 
 /// Run with each allocation refused in turn (`tools/refuse_each_allocation_of_scenarios`).
 #[test]
 fn a_refused_text_can_be_written_again(rt: HostRuntime) -> Result<(), Fail> {
-    let alloc = rt.alloc();
-    let (report, names) = match reported(alloc) {
-        Some(made) => made,
-        None => reported(alloc).ok_or(AllocError)?,
-    };
-    assert_eq!(rt; text_at_last(alloc, &report, &names)?.as_str(), TEXT);
+    let text = printed_at_last(rt.alloc()).ok_or(AllocError)?;
+    assert_eq!(rt; text.as_str(), TEXT);
     Ok(())
 }

@@ -1,11 +1,16 @@
 //! What a script does at each call, and among how many rows it finds the one of a message.
 ghost use Rattle.std.specs.Prelude.{◌≡◌, ◌<◌, [], ◌∷◌, IfOk};
 
-use mb_actor::{Actor, Answer, Effect, Message, Outbox};
+use crate::course::{Step, each_call};
+use mb_actor::{Actor, Answer, Call, Effect, Message, Outbox};
 use mb_msg::{ActorId, Cause};
 use mb_script::{Hooks, Operation, Row, Script};
 use std::alloc::{AllocError, Global};
 use std::test::Fail;
+
+const HANDLED: Option<Answer> = Some(Answer::Handled);
+
+const UNHANDLED: Option<Answer> = Some(Answer::Unhandled);
 
 fn user(kind: u32, value: i64) -> Message {
     Message::User { kind, value }
@@ -47,90 +52,108 @@ fn does_the_first_row_of_a_kind(rt: HostRuntime) -> Result<(), Fail> {
             operations: Vec::new(alloc)
         },
     ]?;
-    let mut script = with_rows(alloc, 10, rows)?;
-    let mut out = outbox(alloc)?;
-    assert_eq!(rt; script.start(&mut out), Answer::Handled);
-    out.clear();
-    assert_eq!(rt; script.receive(&user(2, 3), &mut out), Answer::Handled);
-    assert_eq!(rt; script.state(), 16);
-    out.clear();
-    assert_eq!(rt;
-        script.receive(
-            &Message::Control {
-                kind: 1,
-                value: i64::MAX
-            },
-            &mut out
-        ),
-        Answer::Handled
-    );
-    assert_eq!(rt; script.state(), i64::MAX);
-    out.clear();
-    assert_eq!(rt; script.receive(&user(3, 3), &mut out), Answer::Unhandled);
-    out.clear();
-    assert_eq!(rt;
-        script.receive(&Message::Terminated(ActorId(1)), &mut out),
-        Answer::Unhandled
-    );
-    assert_eq!(rt; script.state(), i64::MAX);
-    out.clear();
-    assert_eq!(rt; script.restart(Cause::Killed, &mut out), Answer::Handled);
-    assert_eq!(rt; script.state(), 10);
+    let script = with_rows(alloc, 10, rows)?;
+    each_call(&rt, script, &mut outbox(alloc)?, BY_KIND);
     Ok(())
 }
+
+/// What comes of it. The first row of kind 2 adds twice; nothing is done for kind 3, or at the end of another.
+const BY_KIND: &[Step] = &[
+    (Call::Start, HANDLED, &[], 10),
+    (
+        Call::Receive(Message::User { kind: 2, value: 3 }),
+        HANDLED,
+        &[],
+        16,
+    ),
+    (
+        Call::Receive(Message::Control {
+            kind: 1,
+            value: i64::MAX,
+        }),
+        HANDLED,
+        &[],
+        i64::MAX,
+    ),
+    (
+        Call::Receive(Message::User { kind: 3, value: 3 }),
+        UNHANDLED,
+        &[],
+        i64::MAX,
+    ),
+    (
+        Call::Receive(Message::Terminated(ActorId(1))),
+        UNHANDLED,
+        &[],
+        i64::MAX,
+    ),
+    (Call::Restart(Cause::Killed), HANDLED, &[], 10),
+];
 
 #[test]
 fn does_each_operation(rt: HostRuntime) -> Result<(), Fail> {
     let alloc = rt.alloc();
-    let id = ActorId(1);
-    let child = ActorId(2);
-    let operations = vec![in alloc;
-        Operation::Add,
-        Operation::Ignore,
-        Operation::Tell { to: id, kind: 5 },
-        Operation::Control { to: id, kind: 6 },
-        Operation::Watch(id),
-        Operation::Unwatch(id),
-        Operation::Stop(ActorId(9)),
-        Operation::Stop(id),
-        Operation::Spawn(child),
-        Operation::Spawn(child),
-        Operation::Fail(7),
-        Operation::Add,
-        Operation::Watch(id),
-    ]?;
-    let mut script = with_rows(
-        alloc,
-        0,
-        vec![in alloc;
-            Row {
-                kind: 1,
-                operations
-            },
-        ]?,
-    )?;
-    let mut out = outbox(alloc)?;
-    assert_eq!(rt; script.receive(&user(1, 4), &mut out), Answer::Failed(7));
-    assert_eq!(rt; script.state(), 4);
-    let expected = [
-        Effect::Tell {
-            to: id,
-            kind: 5,
-            value: 4,
-        },
-        Effect::Control {
-            to: id,
-            kind: 6,
-            value: 4,
-        },
-        Effect::Watch(id),
-        Effect::Unwatch(id),
-        Effect::Stop(id),
-        Effect::Spawn(child),
-    ];
-    assert_eq!(rt; out.effects(), expected.as_slice());
+    let script = with_row(alloc, EACH)?;
+    each_call(&rt, script, &mut outbox(alloc)?, BY_EACH);
     Ok(())
 }
+
+/// An actor that does this at a message of kind 1.
+fn with_row(alloc: Global, operations: &[Operation]) -> Result<Script, AllocError> {
+    let operations = operations.to_vec(alloc)?;
+    let row = Row {
+        kind: 1,
+        operations,
+    };
+    with_rows(alloc, 0, vec![in alloc; row]?)
+}
+
+/// The actor that is told, watched and stopped.
+const OTHER: ActorId = ActorId(1);
+
+const CHILD: ActorId = ActorId(2);
+
+/// Each operation; one is refused, a second of a kind too, and what comes behind a failure is not done.
+const EACH: &[Operation] = &[
+    Operation::Add,
+    Operation::Ignore,
+    Operation::Tell { to: OTHER, kind: 5 },
+    Operation::Control { to: OTHER, kind: 6 },
+    Operation::Watch(OTHER),
+    Operation::Unwatch(OTHER),
+    Operation::Stop(ActorId(9)),
+    Operation::Stop(OTHER),
+    Operation::Spawn(CHILD),
+    Operation::Spawn(CHILD),
+    Operation::Fail(7),
+    Operation::Add,
+    Operation::Watch(OTHER),
+];
+
+const BY_EACH: &[Step] = &[(
+    Call::Receive(Message::User { kind: 1, value: 4 }),
+    Some(Answer::Failed(7)),
+    ASKED,
+    4,
+)];
+
+/// What is asked for.
+const ASKED: &[Effect] = &[
+    Effect::Tell {
+        to: OTHER,
+        kind: 5,
+        value: 4,
+    },
+    Effect::Control {
+        to: OTHER,
+        kind: 6,
+        value: 4,
+    },
+    Effect::Watch(OTHER),
+    Effect::Unwatch(OTHER),
+    Effect::Stop(OTHER),
+    Effect::Spawn(CHILD),
+];
 
 #[test]
 fn does_what_its_hooks_say(rt: HostRuntime) -> Result<(), Fail> {
@@ -142,48 +165,45 @@ fn does_what_its_hooks_say(rt: HostRuntime) -> Result<(), Fail> {
         stop: vec![in alloc; Operation::Tell { to: id, kind: 2 }]?,
         terminated: Some(vec![in alloc; Operation::Tell { to: id, kind: 3 }]?),
     };
-    let mut script = Script::new(alloc, 5, hooks, Vec::new(alloc))?;
-    let mut out = outbox(alloc)?;
-    assert_eq!(rt; script.start(&mut out), Answer::Handled);
-    assert_eq!(rt;
-        out.effects(),
-        [Effect::Tell {
-            to: id,
-            kind: 1,
-            value: 0
-        }]
-        .as_slice()
-    );
-    out.clear();
-    assert_eq!(rt; script.restart(Cause::Init, &mut out), Answer::Failed(3));
-    assert_eq!(rt; script.state(), 5);
-    out.clear();
-    assert_eq!(rt;
-        script.receive(&Message::Terminated(ActorId(2)), &mut out),
-        Answer::Handled
-    );
-    assert_eq!(rt;
-        out.effects(),
-        [Effect::Tell {
-            to: id,
-            kind: 3,
-            value: 2
-        }]
-        .as_slice()
-    );
-    out.clear();
-    script.stop(&mut out);
-    assert_eq!(rt;
-        out.effects(),
-        [Effect::Tell {
-            to: id,
-            kind: 2,
-            value: 0
-        }]
-        .as_slice()
-    );
+    let script = Script::new(alloc, 5, hooks, Vec::new(alloc))?;
+    each_call(&rt, script, &mut outbox(alloc)?, BY_HOOK);
     Ok(())
 }
+
+/// What comes of it: the value of what is told is 0, and the number of the one that has ended.
+const BY_HOOK: &[Step] = &[
+    (
+        Call::Start,
+        HANDLED,
+        &[Effect::Tell {
+            to: OTHER,
+            kind: 1,
+            value: 0,
+        }],
+        5,
+    ),
+    (Call::Restart(Cause::Init), Some(Answer::Failed(3)), &[], 5),
+    (
+        Call::Receive(Message::Terminated(ActorId(2))),
+        HANDLED,
+        &[Effect::Tell {
+            to: OTHER,
+            kind: 3,
+            value: 2,
+        }],
+        5,
+    ),
+    (
+        Call::Stop,
+        None,
+        &[Effect::Tell {
+            to: OTHER,
+            kind: 2,
+            value: 0,
+        }],
+        5,
+    ),
+];
 
 /// An actor with two rows of a kind, of which the first adds, and with one of another kind.
 fn adder(alloc: Global) -> Result<Script, AllocError> {
@@ -204,27 +224,55 @@ fn adder(alloc: Global) -> Result<Script, AllocError> {
     with_rows(alloc, 1, rows)
 }
 
+/// The same, made again where memory was refused.
+fn adder_at_last(alloc: Global) -> Result<Script, AllocError> {
+    match adder(alloc) {
+        Ok(script) => Ok(script),
+        Err(_) => adder(alloc),
+    }
+}
+
+/// An outbox, made again where memory was refused.
+fn outbox_at_last(alloc: Global) -> Result<Outbox, AllocError>
+    ensures { IfOk result (λ out. out ≡ record { effects = []; actors = 3; unspawned = (record { 0 = 2 }) ∷ [] }) }
+{
+    match outbox(alloc) {
+        Ok(out) => Ok(out),
+        Err(_) => outbox(alloc),
+    }
+}
+
 /// Run with each allocation refused in turn (`tools/refuse_each_allocation_of_scenarios`).
 #[test]
 fn a_refused_script_can_be_made_again(rt: HostRuntime) -> Result<(), Fail> {
     let alloc = rt.alloc();
-    let mut script = match adder(alloc) {
-        Ok(script) => script,
-        Err(_) => adder(alloc)?,
-    };
-    let mut out = match outbox(alloc) {
-        Ok(out) => out,
-        Err(_) => outbox(alloc)?,
-    };
-    assert_eq!(rt; script.receive(&user(7, 2), &mut out), Answer::Handled);
-    out.clear();
-    assert_eq!(rt; script.receive(&user(0, 2), &mut out), Answer::Handled);
-    out.clear();
-    assert_eq!(rt; script.receive(&user(1, 2), &mut out), Answer::Unhandled);
-    assert_eq!(rt; script.state(), 3);
-    assert_eq!(rt; (script.rows().len(), script.hooks().start.len()), (3, 0));
+    let script = adder_at_last(alloc)?;
+    assert_eq!(rt; script.rows().len(), 3);
+    assert_eq!(rt; script.hooks().start.len(), 0);
+    each_call(&rt, script, &mut outbox_at_last(alloc)?, BY_ADDER);
     Ok(())
 }
+
+const BY_ADDER: &[Step] = &[
+    (
+        Call::Receive(Message::User { kind: 7, value: 2 }),
+        HANDLED,
+        &[],
+        3,
+    ),
+    (
+        Call::Receive(Message::User { kind: 0, value: 2 }),
+        HANDLED,
+        &[],
+        3,
+    ),
+    (
+        Call::Receive(Message::User { kind: 1, value: 2 }),
+        UNHANDLED,
+        &[],
+        3,
+    ),
+];
 
 /// The state of an actor with so many rows, each of which adds, after a million messages of all kinds in turn.
 fn after_a_million(alloc: Global, kinds: u32) -> Result<i64, Fail>

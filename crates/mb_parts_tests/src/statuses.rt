@@ -1,6 +1,7 @@
 //! Each transition on the first words of a mailbox, by the table of `akka.dispatch.Mailbox`.
 
 use mb_status::Status;
+use std::process::Abort;
 
 /// A word, and what each call gives on it.
 struct Row {
@@ -27,36 +28,60 @@ const ROWS: [Row; 5] = [
 #[test]
 fn transitions(rt: HostRuntime) {
     for row in ROWS.iter() {
-        let word = row.word;
-        let status = Status::of(word).expect(&rt, "a valid word");
-        assert_eq!(rt;
-            status.with_scheduled().map(|s| s.word()),
-            row.with_scheduled,
-            "at {word}"
-        );
-        assert_eq!(rt; status.idle().word(), row.idle, "at {word}");
-        let mut suspended = status;
-        assert!(rt; suspended.count() < 2);
-        let first = suspended.suspend();
-        assert_eq!(rt; (suspended.word(), first), row.suspend, "at {word}");
-        let mut resumed = status;
-        let last = resumed.resume();
-        assert_eq!(rt; (resumed.word(), last), row.resume, "at {word}");
-        let mut closed = status;
-        let closes = closed.close();
-        assert_eq!(rt; (closed.word(), closes), (1, row.close), "at {word}");
-        assert_eq!(rt; status.should_process(), row.should_process, "at {word}");
-        assert_eq!(rt;
-            status.can_schedule(true, false),
-            row.by_messages,
-            "at {word}"
-        );
-        assert_eq!(rt;
-            status.can_schedule(false, true),
-            row.by_system,
-            "at {word}"
-        );
+        let status = Status::of(row.word).expect(&rt, "a valid word");
+        is_scheduled(&rt, row, status);
+        is_suspended_and_resumed(&rt, row, status);
+        is_closed(&rt, row, status);
+        is_asked(&rt, row, status);
     }
+}
+
+fn is_scheduled(rt: &impl Abort, row: &Row, status: Status) {
+    let word = row.word;
+    let scheduled = status.with_scheduled().map(|s| s.word());
+    assert!(rt; scheduled == row.with_scheduled, "{scheduled:?} at {word}");
+    let idle = status.idle().word();
+    assert!(rt; idle == row.idle, "idle {idle} at {word}");
+}
+
+fn is_suspended_and_resumed(rt: &impl Abort, row: &Row, status: Status) {
+    let word = row.word;
+    let mut suspended = status;
+    assert!(rt; suspended.count() < 2);
+    let first = suspended.suspend();
+    assert!(rt;
+        (suspended.word(), first) == row.suspend,
+        "suspended at {word}"
+    );
+    let mut resumed = status;
+    let last = resumed.resume();
+    assert!(rt; (resumed.word(), last) == row.resume, "resumed at {word}");
+}
+
+fn is_closed(rt: &impl Abort, row: &Row, status: Status) {
+    let word = row.word;
+    let mut closed = status;
+    let closes = closed.close();
+    assert!(rt;
+        (closed.word(), closes) == (1, row.close),
+        "closed at {word}"
+    );
+}
+
+fn is_asked(rt: &impl Abort, row: &Row, status: Status) {
+    let word = row.word;
+    assert!(rt;
+        status.should_process() == row.should_process,
+        "to process at {word}"
+    );
+    assert!(rt;
+        status.can_schedule(true, false) == row.by_messages,
+        "by messages at {word}"
+    );
+    assert!(rt;
+        status.can_schedule(false, true) == row.by_system,
+        "by system messages at {word}"
+    );
 }
 
 #[test]

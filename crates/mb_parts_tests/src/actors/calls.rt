@@ -1,9 +1,9 @@
 //! Each call of an actor makes one call of it, the same, boxed or not.
 
-ghost use Rattle.std.specs.Prelude.{◌≡◌, []};
+ghost use Rattle.std.specs.Prelude.{◌≡◌};
 
-use super::holds;
-use mb_actor::{Actor, Answer, Called, Effect, Message, Outbox};
+use crate::course::{Step, each_call};
+use mb_actor::{Actor, Answer, Call, Called, Effect, Message, Outbox};
 use mb_msg::{ActorId, Cause};
 use std::alloc::Global;
 use std::process::Abort;
@@ -92,79 +92,101 @@ impl Actor for Counting {
     }
 }
 
-/// The effect that tells of this call of this hook.
-fn told(hook: u32, call: i64) -> Effect {
-    Effect::Tell {
-        to: PROBE,
-        kind: hook,
-        value: call,
-    }
-}
-
-/// Compares the effects, and makes the outbox ready for the next call.
-fn took(rt: &impl Abort, out: &mut Outbox, expected: &[Effect])
-    ensures empty { out.new.effects ≡ [] }
-{
-    holds(rt, out, expected);
-    out.clear();
-}
-
-/// Makes each call of an actor that counts them.
-fn call_each<A: Actor>(rt: &impl Abort, alloc: Global, actor: A) {
-    let mut out = Outbox::new(2, &Vec::new(alloc));
-    let mut called = Called::new(actor);
-    assert_eq!(rt; called.state(), 0);
-    assert_eq!(rt; called.start(&mut out), Answer::Handled);
-    took(rt, &mut out, &[told(START, 1)]);
-    assert_eq!(rt;
-        called.receive(&Message::User { kind: 7, value: -9 }, &mut out),
-        Answer::Handled
-    );
-    took(
-        rt,
-        &mut out,
+/// Each call of an actor that counts them.
+const CALLS: &[Step] = &[
+    (
+        Call::Start,
+        Some(Answer::Handled),
+        &[Effect::Tell {
+            to: PROBE,
+            kind: START,
+            value: 1,
+        }],
+        0,
+    ),
+    (
+        Call::Receive(Message::User { kind: 7, value: -9 }),
+        Some(Answer::Handled),
         &[
-            told(RECEIVE, 2),
+            Effect::Tell {
+                to: PROBE,
+                kind: RECEIVE,
+                value: 2,
+            },
             Effect::Tell {
                 to: PROBE,
                 kind: 7,
                 value: -9,
             },
         ],
-    );
-    assert_eq!(rt;
-        called.receive(&Message::Control { kind: 8, value: 3 }, &mut out),
-        Answer::Failed(8)
-    );
-    took(
-        rt,
-        &mut out,
+        1,
+    ),
+    (
+        Call::Receive(Message::Control { kind: 8, value: 3 }),
+        Some(Answer::Failed(8)),
         &[
-            told(RECEIVE, 3),
+            Effect::Tell {
+                to: PROBE,
+                kind: RECEIVE,
+                value: 3,
+            },
             Effect::Control {
                 to: PROBE,
                 kind: 8,
                 value: 3,
             },
         ],
-    );
-    assert_eq!(rt;
-        called.receive(&Message::Terminated(PROBE), &mut out),
-        Answer::Unhandled
-    );
-    took(rt, &mut out, &[told(RECEIVE, 4), Effect::Unwatch(PROBE)]);
-    assert_eq!(rt; called.state(), 3);
-    assert_eq!(rt;
-        called.restart(Cause::Error(6), &mut out),
-        Answer::Failed(6)
-    );
-    took(rt, &mut out, &[told(RESTART, 5)]);
-    assert_eq!(rt; called.state(), 0);
-    assert_eq!(rt; called.restart(Cause::Killed, &mut out), Answer::Handled);
-    took(rt, &mut out, &[told(RESTART, 6)]);
-    called.stop(&mut out);
-    took(rt, &mut out, &[told(STOP, 7)]);
-    assert_eq!(rt; called.state(), 0);
+        2,
+    ),
+    (
+        Call::Receive(Message::Terminated(PROBE)),
+        Some(Answer::Unhandled),
+        &[
+            Effect::Tell {
+                to: PROBE,
+                kind: RECEIVE,
+                value: 4,
+            },
+            Effect::Unwatch(PROBE),
+        ],
+        3,
+    ),
+    (
+        Call::Restart(Cause::Error(6)),
+        Some(Answer::Failed(6)),
+        &[Effect::Tell {
+            to: PROBE,
+            kind: RESTART,
+            value: 5,
+        }],
+        0,
+    ),
+    (
+        Call::Restart(Cause::Killed),
+        Some(Answer::Handled),
+        &[Effect::Tell {
+            to: PROBE,
+            kind: RESTART,
+            value: 6,
+        }],
+        0,
+    ),
+    (
+        Call::Stop,
+        None,
+        &[Effect::Tell {
+            to: PROBE,
+            kind: STOP,
+            value: 7,
+        }],
+        0,
+    ),
+];
+
+/// Makes each call of this actor, to which none was made.
+fn make_each<A: Actor>(rt: &impl Abort, alloc: Global, actor: A) {
+    assert_eq!(rt; actor.state(), 0);
+    each_call(rt, actor, &mut Outbox::new(2, &Vec::new(alloc)), CALLS);
 }
 
 /// What may go to another thread.
@@ -172,7 +194,7 @@ fn is_sent<T: Send>(_value: &T) {}
 
 #[test]
 fn each_call_is_made_once(rt: HostRuntime) {
-    call_each(
+    make_each(
         &rt,
         rt.alloc(),
         Counting {
@@ -195,6 +217,6 @@ fn each_call_of_a_box_is_made_once(rt: HostRuntime) -> Result<(), Fail> {
             messages: 0,
         },
     )?;
-    call_each(&rt, rt.alloc(), boxed);
+    make_each(&rt, rt.alloc(), boxed);
     Ok(())
 }

@@ -113,30 +113,46 @@ fn the_seventeenth_effect_finds_it_full(rt: HostRuntime) -> Result<(), Fail> {
 fn no_such_actor(rt: HostRuntime) -> Result<(), Fail> {
     let prepared = vec![in rt.alloc(); ActorId(3), ActorId(4)]?;
     let mut out = Outbox::new(4, &prepared);
-    for id in [ActorId(0), ActorId(4), ActorId(64), ActorId(u32::MAX)] {
-        ask_all(&rt, &mut out, &all_kinds(id), Err(OutboxError::NoSuchActor));
+    for id in [0, 4, 64, u32::MAX] {
+        ask_all(
+            &rt,
+            &mut out,
+            &all_kinds(ActorId(id)),
+            Err(OutboxError::NoSuchActor),
+        );
     }
-    assert_eq!(rt; out.spawn(ActorId(2)), Err(OutboxError::NoSuchActor));
+    ask_all(
+        &rt,
+        &mut out,
+        &[Effect::Spawn(ActorId(2))],
+        Err(OutboxError::NoSuchActor),
+    );
     holds(&rt, &out, &[]);
     ask_all(&rt, &mut out, &all_kinds(ActorId(3)), Ok(()));
     Ok(())
+}
+
+/// Asks to spawn this child, and compares the answer.
+fn spawns(rt: &impl Abort, out: &mut Outbox, child: u32, expected: Result<(), OutboxError>) {
+    ask_all(rt, out, &[Effect::Spawn(ActorId(child))], expected);
 }
 
 #[test]
 fn a_child_is_spawned_once(rt: HostRuntime) -> Result<(), Fail> {
     let prepared = vec![in rt.alloc(); ActorId(3), ActorId(2)]?;
     let mut out = Outbox::new(4, &prepared);
-    assert_eq!(rt; out.spawn(ActorId(3)), Ok(()));
-    assert_eq!(rt; out.spawn(ActorId(3)), Err(OutboxError::NoSuchActor));
+    let refused = Err(OutboxError::NoSuchActor);
+    spawns(&rt, &mut out, 3, Ok(()));
+    spawns(&rt, &mut out, 3, refused);
     out.clear();
     holds(&rt, &out, &[]);
-    assert_eq!(rt; out.spawn(ActorId(3)), Ok(()));
+    spawns(&rt, &mut out, 3, Ok(()));
     out.settle();
     holds(&rt, &out, &[]);
-    assert_eq!(rt; out.spawn(ActorId(3)), Err(OutboxError::NoSuchActor));
-    assert_eq!(rt; out.spawn(ActorId(2)), Ok(()));
+    spawns(&rt, &mut out, 3, refused);
+    spawns(&rt, &mut out, 2, Ok(()));
     holds(&rt, &out, &[Effect::Spawn(ActorId(2))]);
     out.settle();
-    assert_eq!(rt; out.spawn(ActorId(2)), Err(OutboxError::NoSuchActor));
+    spawns(&rt, &mut out, 2, refused);
     Ok(())
 }

@@ -1,0 +1,32 @@
+//! Calls of an actor, which are data.
+use mb_actor::{Actor, Answer, Call, Called, Effect, Outbox};
+use std::process::Abort;
+
+/// A call, what it answers, what is asked for, and the state then.
+pub(crate) type Step = (Call, Option<Answer>, &'static [Effect], i64);
+
+/// Makes each of these calls of the actor, and sees to it that all comes of it as it says.
+pub(crate) fn each_call<A: Actor>(rt: &impl Abort, actor: A, out: &mut Outbox, steps: &[Step]) {
+    let mut called = Called::new(actor);
+    for step in steps {
+        let (call, answer, effects, state) = *step;
+        let found = make(&mut called, &call, out);
+        assert!(rt; found == answer, "{found:?} at {call:?}");
+        assert!(rt; out.effects() == effects, "the effects at {call:?}");
+        assert!(rt; called.state() == state, "the state at {call:?}");
+    }
+}
+
+/// Makes a call: its answer, if it has one.
+fn make<A: Actor>(called: &mut Called<A>, call: &Call, out: &mut Outbox) -> Option<Answer> {
+    out.clear();
+    match call {
+        Call::Start => Some(called.start(out)),
+        Call::Receive(message) => Some(called.receive(message, out)),
+        Call::Restart(cause) => Some(called.restart(*cause, out)),
+        Call::Stop => {
+            called.stop(out);
+            None
+        }
+    }
+}
