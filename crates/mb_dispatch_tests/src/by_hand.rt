@@ -1,9 +1,8 @@
 //! Systems whose ends and senders are led by hand, and whose end is refused.
-use crate::player::{ADD, COUNTER};
-use crate::sending::Sending::{Stop, Tell};
-use crate::story::{PLAIN, Story};
 use crate::tale::Step::{Finish, Journal, Look, LoseSenders, Put, Register, Run, Send, Turn, Work};
 use crate::tale::{Tale, play};
+use mb_trial::Sending::{Stop, Tell};
+use mb_trial::{ADD, COUNTER, PLAIN, Story};
 
 const ONE: Story<'static> = Story {
     parts: &[COUNTER],

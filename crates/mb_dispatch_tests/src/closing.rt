@@ -2,9 +2,9 @@
 ghost use Rattle.mb_system.specs.Belonging.{BelongsTogether};
 
 use crate::company::Company;
-use crate::player::{Adding, Player};
 use mb_dispatch::{Built, FinishError, Mismatch, finish};
 use mb_report::Report;
+use mb_trial::{Adding, Player};
 use std::sync::Wait;
 
 /// Why there is no report.

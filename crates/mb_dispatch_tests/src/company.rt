@@ -4,11 +4,10 @@
 ghost use Rattle.mb_system.specs.Belonging.{BelongsTogether};
 ghost use Rattle.mb_system.specs.Members.{IsEndOf};
 
-use crate::player::{Adding, Player, players_of};
-use crate::story::{Story, plan_of};
 use crate::together::begin;
 use mb_dispatch::{Built, Look, Put, RunError, Sender, System, Ticket, Turn, Unsent, WorkerEnd};
 use mb_msg::{ActorId, Body};
+use mb_trial::{Adding, Player, Story, plan_of, players_of};
 use std::alloc::{AllocError, Global};
 use std::marker::Model;
 use std::sync::Wait;

@@ -1,10 +1,8 @@
 //! Actors that end, and who is told of it, on threads.
-use crate::deed::Deed;
 use crate::farewell::ALL_ENDED;
-use crate::player::{ADD, COUNTER, Part};
-use crate::sending::Sending::{Kill, Poison, Stop, Tell};
-use crate::story::{PLAIN, Story};
 use crate::together::{Run, play_together};
+use mb_trial::Sending::{Kill, Poison, Stop, Tell};
+use mb_trial::{ADD, COUNTER, Deed, PLAIN, Part, Story};
 
 const POISONED: &str = "\
 guardian live state - suspended 0 handled 0 left 0 dead 0 restarts 0

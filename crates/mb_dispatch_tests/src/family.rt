@@ -1,13 +1,12 @@
 //! Parents and children that fail, turn by turn.
-use crate::deed::Deed::{Fail, Spawn};
-use crate::player::{ADD, COUNTER, FAIL, Part};
-use crate::sending::Sending::{self, Kill, Stop, Tell};
-use crate::story::{PLAIN, Story};
 use crate::supervised::{CHILD, ESCALATED, RESTARTED, RESUMED, STOPPED};
 use crate::tale::Step::{DeadSystem, Finish, Run, Send};
 use crate::tale::{Tale, play};
 use mb_journal::Pattern;
 use mb_msg::Directive;
+use mb_trial::Deed::{Fail, Spawn};
+use mb_trial::Sending::{Kill, Stop, Tell};
+use mb_trial::{ADD, COUNTER, FAIL, PLAIN, Part, Sending, Story};
 
 const PARENT: Part = Part {
     start: &[Spawn(2)],

@@ -1,11 +1,9 @@
 //! How actors end and who is told of it, turn by turn.
-use crate::deed::Deed;
 use crate::ended::WATCHED;
-use crate::player::{ADD, COUNTER, Part};
-use crate::sending::Sending::{Kill, Poison, Stop, Tell};
-use crate::story::{PLAIN, Story};
 use crate::tale::Step::{DeadSystem, Finish, Journal, Run, Send};
 use crate::tale::{Tale, play};
+use mb_trial::Sending::{Kill, Poison, Stop, Tell};
+use mb_trial::{ADD, COUNTER, Deed, PLAIN, Part, Story};
 
 const KILLED: Tale = Tale {
     story: Story {

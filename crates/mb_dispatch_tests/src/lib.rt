@@ -8,19 +8,11 @@ mod boxed;
 #[cfg(test)]
 mod by_hand;
 #[cfg(test)]
-mod chance;
-#[cfg(test)]
 mod closing;
 #[cfg(test)]
 mod company;
 #[cfg(test)]
 mod crowd;
-#[cfg(test)]
-mod deed;
-#[cfg(test)]
-mod dice;
-#[cfg(test)]
-mod doubted;
 #[cfg(test)]
 mod ended;
 #[cfg(test)]
@@ -28,37 +20,21 @@ mod family;
 #[cfg(test)]
 mod farewell;
 #[cfg(test)]
-mod gambler;
-#[cfg(test)]
-mod guest;
-#[cfg(test)]
-mod ids;
-#[cfg(test)]
-mod judged;
-#[cfg(test)]
-mod lawful;
-#[cfg(test)]
 mod limited;
 #[cfg(test)]
 mod meeting;
 #[cfg(test)]
 mod ordered;
 #[cfg(test)]
-mod player;
+mod orders;
 #[cfg(test)]
 mod refused;
 #[cfg(test)]
-mod sending;
-#[cfg(test)]
-mod sent;
+mod seen;
 #[cfg(test)]
 mod shown;
 #[cfg(test)]
 mod stage;
-#[cfg(test)]
-mod stood;
-#[cfg(test)]
-mod story;
 #[cfg(test)]
 mod supervised;
 #[cfg(test)]
@@ -71,7 +47,3 @@ mod throughput;
 mod together;
 #[cfg(test)]
 mod unbuilt;
-#[cfg(test)]
-mod watcher;
-#[cfg(test)]
-mod witness;

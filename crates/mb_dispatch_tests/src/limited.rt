@@ -1,10 +1,9 @@
 //! Mailboxes and journals that are full, on one thread.
 use crate::alone::{play_alone, text_alone};
-use crate::player::{ADD, COUNTER, Mailbox, Part};
-use crate::sending::Sending::{self, Tell};
-use crate::story::{PLAIN, Story, see};
+use crate::seen::see;
 use crate::together::Run;
-use crate::witness::one_witness;
+use mb_trial::Sending::Tell;
+use mb_trial::{ADD, COUNTER, Mailbox, PLAIN, Part, Sending, Story, one_witness};
 use std::sync::Arc;
 use std::sync::atomic::AtomicI64;
 use std::sync::atomic::Ordering::SeqCst;

@@ -1,12 +1,11 @@
 //! Two actors that wait for one another while they are called: two workers run at once.
-use crate::guest::{Guest, Hall, Silent};
-use crate::player::{ADD, COUNTER};
-use crate::sending::Sending::Tell;
-use crate::story::{PLAIN, Story, see};
+use crate::seen::see;
 use crate::together::text_together;
 use mb_plan::Pool;
-use std::alloc::{AllocError, Global};
-use std::sync::{Arc, Wait};
+use mb_trial::Sending::Tell;
+use mb_trial::{ADD, COUNTER, Guest, PLAIN, Silent, Story, two_guests};
+use std::alloc::Global;
+use std::sync::Wait;
 use std::thread::Threads;
 
 const REPORT: &str = "\
@@ -33,21 +32,6 @@ fn meet<R: Threads + Wait + Sync>(rt: &R, alloc: Global, story: &Story<'_>) -> O
         Ok(guests) => text_together::<Guest, Silent, R>(rt, alloc, story, guests),
         Err(_) => None,
     }
-}
-
-// Two guests of one hall.
-fn two_guests(alloc: Global) -> Result<Vec<Guest>, AllocError> {
-    let hall = Arc::new(alloc, Hall::new())?;
-    let mut guests = Vec::new(alloc);
-    guests.push(Guest {
-        hall: hall.clone()?,
-        is_first: true,
-    })?;
-    guests.push(Guest {
-        hall,
-        is_first: false,
-    })?;
-    Ok(guests)
 }
 
 #[test]

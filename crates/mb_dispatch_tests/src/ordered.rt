@@ -1,12 +1,10 @@
 //! In which order mailboxes give their envelopes.
-use crate::deed::Deed;
 use crate::limited::{ONE_PLACE, TWO_PLACES};
-use crate::player::{ADD, COUNTER, Mailbox, Part};
-use crate::sending::Sending::{Control, Tell};
-use crate::story::{PLAIN, Story};
 use crate::tale::Step::{Finish, Journal, Run, Send};
 use crate::tale::{Tale, play};
 use mb_plan::Rank;
+use mb_trial::Sending::{Control, Tell};
+use mb_trial::{ADD, COUNTER, Deed, Mailbox, PLAIN, Part, Story};
 
 /// A kind that goes before all others.
 const URGENT: u32 = 9;

@@ -1,16 +1,7 @@
-//! Answers as texts.
+//! Answers of the dispatcher as texts.
 use mb_dispatch::{Look, Put, RunError, Turn, Unsent};
-use mb_journal::{Arrival, Journal};
-use mb_msg::Body;
+use mb_trial::add;
 use std::alloc::{AllocError, Global};
-
-/// One more at the end, apart from what is there.
-pub fn add(text: &mut String, between: &str, more: &str) -> Result<(), AllocError> {
-    if !text.is_empty() {
-        text.push_str(between)?;
-    }
-    text.push_str(more)
-}
 
 /// A turn: its actor; its system messages and its envelopes.
 pub fn turn_text(alloc: Global, turn: &Turn) -> Result<String, AllocError> {
@@ -23,8 +14,16 @@ pub fn turn_text(alloc: Global, turn: &Turn) -> Result<String, AllocError> {
     format!(in alloc; "({number};{system},{envelopes})")
 }
 
-/// The turns, one after another.
-pub fn turns_text(alloc: Global, turns: &[Turn]) -> Result<String, AllocError> {
+/// The turns of a run, or why it was broken off.
+pub fn turns_text(alloc: Global, run: Result<Vec<Turn>, RunError>) -> Result<String, AllocError> {
+    match run {
+        Ok(turns) => each_turn_text(alloc, &turns),
+        Err(error) => run_text(alloc, Err(error)),
+    }
+}
+
+// The turns, one after another.
+fn each_turn_text(alloc: Global, turns: &[Turn]) -> Result<String, AllocError> {
     let mut text = String::new(alloc);
     for turn in turns {
         let one = turn_text(alloc, turn)?;
@@ -63,37 +62,5 @@ pub fn look_text(alloc: Global, look: Result<Look, Unsent>) -> Result<String, Al
         Ok(Look::Open(_)) => String::from_str(alloc, "Open"),
         Ok(Look::Closed) => String::from_str(alloc, "Closed"),
         Err(why) => format!(in alloc; "{why:?}"),
-    }
-}
-
-/// What came to an actor, in order.
-pub fn journal_text(alloc: Global, journal: &Journal) -> Result<String, AllocError> {
-    let mut text = String::new(alloc);
-    for place in 0..journal.len() {
-        let one = arrival_text(alloc, journal.get(place).arrival)?;
-        add(&mut text, ", ", one.as_str())?;
-    }
-    Ok(text)
-}
-
-fn arrival_text(alloc: Global, arrival: Arrival) -> Result<String, AllocError> {
-    match arrival {
-        Arrival::Handled { envelope, .. } => body_text(alloc, envelope.body),
-        Arrival::System {
-            number,
-            message,
-            ..
-        } => format!(in alloc; "{number} {message:?}"),
-        Arrival::SetAside { number, message } => format!(in alloc; "{number} {message:?} aside"),
-        Arrival::Dropped { .. } => String::from_str(alloc, "dropped"),
-    }
-}
-
-// A message as its kind and its value.
-fn body_text(alloc: Global, body: Body) -> Result<String, AllocError> {
-    match body {
-        Body::User { kind, value } => format!(in alloc; "({kind},{value})"),
-        Body::Control { kind, value } => format!(in alloc; "control ({kind},{value})"),
-        _ => format!(in alloc; "{body:?}"),
     }
 }

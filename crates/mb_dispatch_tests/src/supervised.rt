@@ -1,11 +1,9 @@
 //! Children that fail, on threads.
-use crate::deed::Deed;
-use crate::player::{ADD, COUNTER, FAIL, Part};
-use crate::sending::Sending::{self, Tell};
-use crate::story::{PLAIN, Story};
 use crate::together::{Run, play_together};
 use mb_journal::Pattern;
 use mb_msg::Directive;
+use mb_trial::Sending::Tell;
+use mb_trial::{ADD, COUNTER, Deed, FAIL, PLAIN, Part, Sending, Story};
 
 pub const CHILD: Part = Part {
     parent: 1,

@@ -1,10 +1,9 @@
 //! How much a run of a mailbox handles, turn by turn.
-use crate::player::{ADD, COUNTER, FAIL};
-use crate::sending::Sending::{self, Tell};
-use crate::story::{PLAIN, Story};
 use crate::tale::Step::{Finish, Run, Send};
 use crate::tale::{Tale, play};
 use mb_plan::Pool;
+use mb_trial::Sending::Tell;
+use mb_trial::{ADD, COUNTER, FAIL, PLAIN, Sending, Story};
 
 const ONE: Sending = Tell(1, ADD, 1);
 

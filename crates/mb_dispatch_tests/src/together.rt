@@ -3,13 +3,13 @@ ghost use Rattle.std.specs.Prelude.{◌≡◌, IfOk, map};
 ghost use Rattle.mb_build.specs.Behaved.{AreBehaved};
 ghost use Rattle.mb_system.specs.Belonging.{BelongsTogether};
 
-use crate::player::{Adding, Player, players_of};
-use crate::sending::{each_once, orders_at, same_orders};
-use crate::story::{Story, plan_of, see, text_of};
+use crate::orders::each_once;
+use crate::seen::see;
 use mb_actor::{Actor, Behaviours};
-use mb_dispatch::{Built, Job, Order, Sender, System, finish};
+use mb_dispatch::{Built, Job, Sender, System, finish};
 use mb_plan::Plan;
 use mb_report::Report;
+use mb_trial::{Adding, Player, Sending, Story, plan_and_sends, players_of, sends_at, text_of};
 use std::alloc::{AllocError, Global};
 use std::process::Abort;
 use std::sync::Wait;
@@ -46,9 +46,8 @@ pub fn text_together<A: Actor + Send, K: Behaviours + Send, R: Threads + Wait + 
 ) -> Option<String>
     requires behaved { AreBehaved A.content A.after A.gives K.after K.gives 1 actors.items }
 {
-    let plan = plan_of(alloc, story).ok()?;
-    let orders = same_orders(alloc, story.senders, story.sends).ok()?;
-    match report_of::<A, K, R>(rt, alloc, plan, actors, &orders) {
+    let (plan, sends) = plan_and_sends(alloc, story).ok()?;
+    match report_of::<A, K, R>(rt, alloc, plan, actors, &sends) {
         Ok(Some(report)) => text_of(alloc, &report, story.parts.len()),
         _ => None,
     }
@@ -60,7 +59,7 @@ pub fn report_of<A: Actor + Send, K: Behaviours + Send, R: Threads + Wait + Sync
     alloc: Global,
     plan: Plan,
     actors: Vec<A>,
-    orders: &[Vec<Order>],
+    sends: &[Vec<Sending>],
 ) -> Result<Option<Report>, AllocError>
     requires behaved { AreBehaved A.content A.after A.gives K.after K.gives 1 actors.items }
 {
@@ -70,20 +69,18 @@ pub fn report_of<A: Actor + Send, K: Behaviours + Send, R: Threads + Wait + Sync
         mut ends,
         senders,
     } = built;
-    let mut jobs = jobs_of(alloc, senders, orders)?;
+    let mut jobs = jobs_of(alloc, senders, sends)?;
     let workers = ends.as_mut_slice();
     let tasks = jobs.as_mut_slice();
-    match system.run(rt, workers, tasks) {
-        Ok(()) => {}
-        Err(_) => return Ok(None),
-    }
+    let has_run = system.run(rt, workers, tasks).is_ok();
     let senders = senders_of(alloc, jobs)?;
     let ended = Built {
         system,
         ends,
         senders,
     };
-    Ok(end(rt, ended))
+    let report = finish(rt, ended).ok();
+    Ok(if has_run { report } else { None })
 }
 
 /// The system of this plan, which is right.
@@ -102,28 +99,18 @@ pub fn begin<A: Actor, K: Behaviours, R: Wait>(
     }
 }
 
-// The report of a system that ends.
-fn end<A: Actor, K: Behaviours, R: Wait>(rt: &R, built: Built<A, K>) -> Option<Report>
-    requires together { BelongsTogether built }
-{
-    match finish(rt, built) {
-        Ok(report) => Some(report),
-        Err(_) => None,
-    }
-}
-
 // A job for each sender, with its own of these.
 fn jobs_of<A: Actor, K: Behaviours>(
     alloc: Global,
     senders: Vec<Sender<A, K>>,
-    orders: &[Vec<Order>],
+    sends: &[Vec<Sending>],
 ) -> Result<Vec<Job<A, K>>, AllocError>
     ensures { IfOk result (λ jobs. map (λ job. job.sender) jobs.items ≡ senders.items) }
 {
     let mut jobs = Vec::new(alloc);
     for sender in senders {
-        let sends = each_once(alloc, orders_at(orders, jobs.len()))?;
-        jobs.push(Job { sender, sends })?;
+        let own = each_once(alloc, sends_at(sends, jobs.len()))?;
+        jobs.push(Job { sender, sends: own })?;
     }
     Ok(jobs)
 }

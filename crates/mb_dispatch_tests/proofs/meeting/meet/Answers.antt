@@ -1,6 +1,6 @@
 use Rattle.std.proofs.Common.{pos, refl}
 use Rattle.mb_dispatch_tests.proofs.Casting.{alike-behaved}
-use Rattle.mb_dispatch_tests.specs.declared.guest.Guest.{Guest}
+use Rattle.mb_trial.specs.declared.guest.Guest.{Guest}
 use Rattle.mb_dispatch_tests.proofs.meeting.meet.Goals as goal
 
 pub text_together-requires-clause-behaved : goal.text_together-requires-clause-behaved

@@ -1,6 +1,6 @@
-use Rattle.mb_dispatch_tests.specs.Sum.{sum_of}
+use Rattle.mb_trial.specs.Sum.{sum_of}
 use Rattle.mb_dispatch_tests.proofs.Casting.{alike-behaved}
-use Rattle.mb_dispatch_tests.specs.declared.player.Player.{Player}
+use Rattle.mb_trial.specs.declared.player.Player.{Player}
 use Rattle.mb_dispatch_tests.proofs.unbuilt.refusal.Goals as goal
 
 pub build-requires : goal.build-requires

@@ -1,6 +1,6 @@
 //! An actor that plays a part, and shows the sum of the values of kind 1 that it got. A message of kind 2 makes most of them fail.
 ghost use Rattle.std.specs.Prelude.{◌≡◌, pos, All, IfOk};
-ghost use Rattle.mb_dispatch_tests.specs.Sum.{sum_with, sum_with_value};
+ghost use Rattle.mb_trial.specs.Sum.{sum_with, sum_with_value};
 
 use crate::deed::{Deed, Habits, do_all, hear};
 use mb_actor::{Actor, Answer, Behaviours, Message, Outbox};
@@ -56,8 +56,8 @@ pub const COUNTER: Part = Part {
 /// It plays its part.
 #[derive(Drop)]
 pub struct Player {
-    pub(crate) part: Part,
-    pub(crate) sum: i64,
+    pub part: Part,
+    pub sum: i64,
 }
 
 /// Actors that add up what they get.
@@ -65,7 +65,7 @@ pub struct Player {
 pub struct Adding {}
 
 impl Behaviours for Adding {
-    ghost use Rattle.mb_dispatch_tests.specs.Sum.{sum_of};
+    ghost use Rattle.mb_trial.specs.Sum.{sum_of};
 
     ghost after = { λ _. sum_of };
 
@@ -82,7 +82,7 @@ impl Player {
 }
 
 impl Actor for Player {
-    ghost use Rattle.mb_dispatch_tests.specs.Sum.{sum_of};
+    ghost use Rattle.mb_trial.specs.Sum.{sum_of};
 
     ghost after = { λ _. sum_of };
 

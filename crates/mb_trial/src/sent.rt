@@ -1,7 +1,7 @@
-//! What each sender sent: of a sender outside its orders say it, of an actor its journal.
+//! What each sender sent: of a sender outside it is known what it was to send, of an actor its journal.
 use crate::ids::{Ids, NOBODY};
+use crate::sending::Sending;
 use mb_actor::Effect;
-use mb_dispatch::{Order, What};
 use mb_journal::{Arrival, Journal, Record};
 use mb_msg::{ActorId, Body, Envelope, SenderId, SysMsg};
 use mb_report::Report;
@@ -35,6 +35,31 @@ impl Sent {
         Ok(())
     }
 
+    fn send_own(&mut self, own: &[Sending]) -> Result<(), AllocError> {
+        for sending in own {
+            if let Some(body) = sending.body() {
+                self.send(sending.to(), body)?;
+            }
+        }
+        Ok(())
+    }
+
+    // Sends what this actor sent by its journal.
+    fn send_by(&mut self, this: ActorId, journal: &Journal) -> Result<(), AllocError> {
+        let mut watched = NOBODY;
+        for place in 0..journal.len() {
+            let record = journal.get(place);
+            if let Some(who) = ended(&record) {
+                if watched.has(who) {
+                    self.send(this, Body::Terminated(who))?;
+                }
+            }
+            self.send_each(record.effects)?;
+            watched = watched_after(watched, this, &record);
+        }
+        Ok(())
+    }
+
     fn send_each(&mut self, effects: &[Effect]) -> Result<(), AllocError> {
         for effect in effects {
             match *effect {
@@ -53,7 +78,7 @@ impl Sent {
 pub fn all_sent(
     alloc: Global,
     report: &Report,
-    sends: &[Vec<Order>],
+    sends: &[Vec<Sending>],
 ) -> Result<Vec<Sent>, AllocError> {
     let mut all = Vec::new(alloc);
     add_actors(&mut all, alloc, report)?;
@@ -70,41 +95,30 @@ fn add_actors(all: &mut Vec<Sent>, alloc: Global, report: &Report) -> Result<(),
     Ok(())
 }
 
-fn add_outside(all: &mut Vec<Sent>, alloc: Global, sends: &[Vec<Order>]) -> Result<(), AllocError> {
+fn add_outside(
+    all: &mut Vec<Sent>,
+    alloc: Global,
+    sends: &[Vec<Sending>],
+) -> Result<(), AllocError> {
     let mut number = OUTSIDE;
-    for orders in sends {
-        all.push(outside(alloc, number, orders)?)?;
+    for own in sends {
+        all.push(outside(alloc, number, own)?)?;
         number = number.wrapping_add(1);
     }
     Ok(())
 }
 
-/// What a sender outside sent, all of whose orders were carried out.
-fn outside(alloc: Global, by: u32, orders: &[Order]) -> Result<Sent, AllocError> {
+/// What a sender outside sent that sent all that it was to send.
+fn outside(alloc: Global, by: u32, own: &[Sending]) -> Result<Sent, AllocError> {
     let mut sent = Sent::nothing(alloc, by);
-    for order in orders {
-        if let What::Tell(body) = order.what {
-            sent.send(order.to, body)?;
-        }
-    }
+    sent.send_own(own)?;
     Ok(sent)
 }
 
 /// What an actor sent: by its effects, and to itself that one has ended that it watched.
 fn by_actor(alloc: Global, by: u32, journal: &Journal) -> Result<Sent, AllocError> {
-    let this = ActorId(by);
     let mut sent = Sent::nothing(alloc, by);
-    let mut watched = NOBODY;
-    for place in 0..journal.len() {
-        let record = journal.get(place);
-        if let Some(who) = ended(&record) {
-            if watched.has(who) {
-                sent.send(this, Body::Terminated(who))?;
-            }
-        }
-        sent.send_each(record.effects)?;
-        watched = watched_after(watched, this, &record);
-    }
+    sent.send_by(ActorId(by), journal)?;
     Ok(sent)
 }
 

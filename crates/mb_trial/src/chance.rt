@@ -3,8 +3,6 @@ use crate::dice::Dice;
 use crate::gambler::GREATEST;
 use crate::player::ADD;
 use crate::sending::Sending::{self, Control, Kill, Poison, Stop, Tell};
-use crate::sending::order_of;
-use mb_dispatch::Order;
 use mb_journal::{Pattern, Strategy};
 use mb_msg::{ActorId, Directive};
 use mb_plan::{ActorPlan, Kind, Plan, Pool, Rank};
@@ -20,11 +18,7 @@ pub fn plan_by_chance(alloc: Global, seed: u64, pool: Pool) -> Result<Plan, Allo
     let mut dice = Dice::new(seed);
     let mut actors = Vec::new(alloc);
     for number in 1..=dice.roll(1, 6) {
-        actors.push(ActorPlan {
-            parent: ActorId(dice.roll(0, number.saturating_sub(1))),
-            mailbox: mailbox(alloc, &mut dice)?,
-            strategy: strategy(alloc, &mut dice)?,
-        })?;
+        actors.push(actor_by_chance(alloc, &mut dice, number)?)?;
     }
     Ok(Plan {
         throughput: dice.roll(0, 3),
@@ -33,6 +27,14 @@ pub fn plan_by_chance(alloc: Global, seed: u64, pool: Pool) -> Result<Plan, Allo
         senders: dice.roll(1, 4),
         journal_limit: 100_000,
         actors,
+    })
+}
+
+fn actor_by_chance(alloc: Global, dice: &mut Dice, number: u32) -> Result<ActorPlan, AllocError> {
+    Ok(ActorPlan {
+        parent: ActorId(dice.roll(0, number.saturating_sub(1))),
+        mailbox: mailbox(alloc, dice)?,
+        strategy: strategy(alloc, dice)?,
     })
 }
 
@@ -95,26 +97,26 @@ pub fn sends_by_chance(
     seed: u64,
     senders: u32,
     actors: u32,
-) -> Result<Vec<Vec<Order>>, AllocError> {
+) -> Result<Vec<Vec<Sending>>, AllocError> {
     let mut sends = Vec::new(alloc);
     for sender in 0..senders {
         let own = seed
             .wrapping_add(1_000)
             .wrapping_mul(16)
             .wrapping_add(u64::from(sender));
-        sends.push(orders_by_chance(alloc, own, actors)?)?;
+        sends.push(own_by_chance(alloc, own, actors)?)?;
     }
     Ok(sends)
 }
 
-fn orders_by_chance(alloc: Global, seed: u64, actors: u32) -> Result<Vec<Order>, AllocError> {
+fn own_by_chance(alloc: Global, seed: u64, actors: u32) -> Result<Vec<Sending>, AllocError> {
     let mut dice = Dice::new(seed);
-    let mut orders = Vec::new(alloc);
+    let mut sends = Vec::new(alloc);
     for _ in 0..dice.roll(0, 40) {
         let to = dice.roll(1, actors);
-        orders.push(order_of(sending(to, &mut dice)))?;
+        sends.push(sending(to, &mut dice))?;
     }
-    Ok(orders)
+    Ok(sends)
 }
 
 fn sending(to: u32, dice: &mut Dice) -> Sending {

@@ -1,5 +1,5 @@
 use Rattle.std.proofs.Common.{◌≡◌}
-use Rattle.mb_dispatch_tests.proofs.gambler.spawn_all.Given as goal
+use Rattle.mb_trial.proofs.gambler.spawn_all.Given as goal
 
 abbrev pub invariant-loop-number : goal.invariant-loop-number
 invariant-loop-number l = record {

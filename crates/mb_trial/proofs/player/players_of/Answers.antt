@@ -1,8 +1,8 @@
 use Rattle.std.proofs.Common.{pos, ◌≡◌}
 use Rattle.std.proofs.lemmas.List.Elements.{All-push, All-same}
 use Rattle.std.proofs.Common.{[], ◌∷◌, ◌++◌}
-use Rattle.mb_dispatch_tests.specs.declared.player.Player.{Player}
-use Rattle.mb_dispatch_tests.proofs.player.players_of.Goals as goal
+use Rattle.mb_trial.specs.declared.player.Player.{Player}
+use Rattle.mb_trial.proofs.player.players_of.Goals as goal
 
 pub loop-part-preserved : goal.loop-part-preserved
 loop-part-preserved c =

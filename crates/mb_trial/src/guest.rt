@@ -3,6 +3,7 @@ ghost use Rattle.std.specs.Prelude.{◌≡◌};
 
 use mb_actor::{Actor, Answer, Behaviours, Message, Outbox};
 use mb_msg::Cause;
+use std::alloc::{AllocError, Global};
 use std::sync::Arc;
 use std::sync::atomic::AtomicBool;
 use std::sync::atomic::Ordering::SeqCst;
@@ -20,8 +21,8 @@ pub struct Hall {
 /// It says that it is there, looks for the other, and fails if that does not come.
 #[derive(Drop)]
 pub struct Guest {
-    pub hall: Arc<Hall>,
-    pub is_first: bool,
+    hall: Arc<Hall>,
+    is_first: bool,
 }
 
 /// Actors that show nothing.
@@ -92,4 +93,19 @@ impl Actor for Guest {
     fn state(&self) -> i64 {
         0
     }
+}
+
+/// Two guests of one hall.
+pub fn two_guests(alloc: Global) -> Result<Vec<Guest>, AllocError> {
+    let hall = Arc::new(alloc, Hall::new())?;
+    let mut guests = Vec::new(alloc);
+    guests.push(Guest {
+        hall: hall.clone()?,
+        is_first: true,
+    })?;
+    guests.push(Guest {
+        hall,
+        is_first: false,
+    })?;
+    Ok(guests)
 }

@@ -14,13 +14,13 @@ pub const GREATEST: u32 = 4;
 /// It knows how many actors there are.
 #[derive(Drop)]
 pub struct Gambler {
-    pub(crate) dice: Dice,
-    pub(crate) actors: u32,
-    pub(crate) sum: i64,
+    pub dice: Dice,
+    pub actors: u32,
+    pub sum: i64,
 }
 
 impl Actor for Gambler {
-    ghost use Rattle.mb_dispatch_tests.specs.Sum.{sum_of};
+    ghost use Rattle.mb_trial.specs.Sum.{sum_of};
 
     ghost after = { λ _. sum_of };
 
@@ -38,20 +38,9 @@ impl Actor for Gambler {
     fn receive(&mut self, message: &Message, out: &mut Outbox) -> Answer {
         self.sum = with(self.sum, message);
         match *message {
-            Message::User { kind: ADD, .. } | Message::Control { kind: ADD, .. } => Answer::Handled,
-            Message::User { kind, .. } | Message::Control { kind, .. } => {
-                let less = kind.saturating_sub(1);
-                act(&mut self.dice, self.actors, less, out);
-                act(&mut self.dice, self.actors, less, out);
-                fail_once_in(3, &mut self.dice)
-            }
-            Message::Terminated(_) => {
-                if self.dice.is_one_of(3) {
-                    Answer::Unhandled
-                } else {
-                    Answer::Handled
-                }
-            }
+            Message::User { kind, .. } => hear(&mut self.dice, self.actors, kind, out),
+            Message::Control { kind, .. } => hear(&mut self.dice, self.actors, kind, out),
+            Message::Terminated(_) => leave_once_in(3, &mut self.dice),
         }
     }
 
@@ -80,6 +69,20 @@ fn spawn_all(actors: u32, out: &mut Outbox)
     }
 }
 
+/// Does what a message of this kind makes a gambler do: what is answered.
+fn hear(dice: &mut Dice, actors: u32, kind: u32, out: &mut Outbox) -> Answer
+    ensures actors { out.new.actors ≡ out.old.actors }
+    ensures unspawned { out.new.unspawned ≡ out.old.unspawned }
+{
+    if kind == ADD {
+        return Answer::Handled;
+    }
+    let less = kind.saturating_sub(1);
+    act(dice, actors, less, out);
+    act(dice, actors, less, out);
+    fail_once_in(3, dice)
+}
+
 /// Asks for one thing; a message that is told is of this kind.
 fn act(dice: &mut Dice, actors: u32, kind: u32, out: &mut Outbox)
     ensures actors { out.new.actors ≡ out.old.actors }
@@ -99,6 +102,14 @@ fn act(dice: &mut Dice, actors: u32, kind: u32, out: &mut Outbox)
 fn fail_once_in(sides: u32, dice: &mut Dice) -> Answer {
     if dice.is_one_of(sides) {
         Answer::Failed(4)
+    } else {
+        Answer::Handled
+    }
+}
+
+fn leave_once_in(sides: u32, dice: &mut Dice) -> Answer {
+    if dice.is_one_of(sides) {
+        Answer::Unhandled
     } else {
         Answer::Handled
     }

@@ -1,8 +1,8 @@
 //! What must be true of the envelopes of a report, by code that shares nothing with the program's: each that was sent stands
 //! once, in its sender's order; what is dead is so for a reason.
 use crate::lawful::has_ended;
+use crate::sending::Sending;
 use crate::sent::{Sent, all_sent};
-use mb_dispatch::Order;
 use mb_journal::Arrival;
 use mb_msg::{ActorId, Body, DeadLetter, Envelope, SenderId, Why};
 use mb_plan::{Kind, Plan};
@@ -14,13 +14,22 @@ pub fn are_envelopes_right(
     alloc: Global,
     report: &Report,
     plan: &Plan,
-    sends: &[Vec<Order>],
+    sends: &[Vec<Sending>],
 ) -> Result<bool, AllocError> {
     let all = all_sent(alloc, report, sends)?;
+    do_all_stand(alloc, report, plan, &all)
+}
+
+fn do_all_stand(
+    alloc: Global,
+    report: &Report,
+    plan: &Plan,
+    all: &[Sent],
+) -> Result<bool, AllocError> {
     Ok(
-        are_senders_right(report, plan, &all)
-            && are_receivers_right(alloc, report, plan, &all)?
-            && does_each_stand_once(alloc, report, &all)?,
+        are_senders_right(report, plan, all)
+            && are_receivers_right(alloc, report, plan, all)?
+            && does_each_stand_once(alloc, report, all)?,
     )
 }
 
@@ -30,13 +39,20 @@ fn are_senders_right(report: &Report, plan: &Plan, all: &[Sent]) -> bool {
         return false;
     }
     for (sender, sent) in report.senders.iter().zip(all) {
-        if sender.sent != sent.envelopes.len() as u64 {
+        if sender.sent != sent.envelopes.len() as u64
+            || !are_letters_right(report, plan, sent.by, &sender.dead)
+        {
             return false;
         }
-        for letter in &sender.dead {
-            if letter.envelope.by != sent.by || !is_dead_for_a_reason(report, plan, letter) {
-                return false;
-            }
+    }
+    true
+}
+
+/// These dead letters are this sender's, and dead for a reason.
+fn are_letters_right(report: &Report, plan: &Plan, by: SenderId, dead: &[DeadLetter]) -> bool {
+    for letter in dead {
+        if letter.envelope.by != by || !is_dead_for_a_reason(report, plan, letter) {
+            return false;
         }
     }
     true
@@ -70,19 +86,30 @@ fn are_receivers_right(
     let mut id = ActorId(0);
     for actor in &report.actors {
         let fates = fates_of(alloc, actor)?;
-        for envelope in &fates {
-            if envelope.to != id {
-                return Ok(false);
-            }
-        }
-        for sent in all {
-            if !are_in_order(&fates, sent.by, mailbox_of(plan, id)) {
-                return Ok(false);
-            }
+        if !are_all_to(&fates, id) || !are_all_in_order(&fates, all, mailbox_of(plan, id)) {
+            return Ok(false);
         }
         id = ActorId(id.0.wrapping_add(1));
     }
     Ok(true)
+}
+
+fn are_all_to(fates: &[Envelope], id: ActorId) -> bool {
+    for envelope in fates {
+        if envelope.to != id {
+            return false;
+        }
+    }
+    true
+}
+
+fn are_all_in_order(fates: &[Envelope], all: &[Sent], mailbox: Option<&Kind>) -> bool {
+    for sent in all {
+        if !are_in_order(fates, sent.by, mailbox) {
+            return false;
+        }
+    }
+    true
 }
 
 /// What became of the envelopes to an actor that were not refused: handled or dropped, cleaned up, left.
@@ -94,14 +121,21 @@ fn fates_of(alloc: Global, actor: &ActorReport) -> Result<Vec<Envelope>, AllocEr
 
 fn push_fates_of(fates: &mut Vec<Envelope>, actor: &ActorReport) -> Result<(), AllocError> {
     for place in 0..actor.journal.len() {
-        match actor.journal.get(place).arrival {
-            Arrival::Handled { envelope, .. } => fates.push(envelope)?,
-            Arrival::Dropped { envelope } => fates.push(envelope)?,
-            Arrival::System { .. } | Arrival::SetAside { .. } => {}
+        if let Some(envelope) = envelope_of(actor.journal.get(place).arrival) {
+            fates.push(envelope)?;
         }
     }
     fates.extend_from_slice(&actor.cleaned)?;
     fates.extend_from_slice(&actor.left)
+}
+
+/// The envelope that came, if it was one.
+fn envelope_of(arrival: Arrival) -> Option<Envelope> {
+    match arrival {
+        Arrival::Handled { envelope, .. } => Some(envelope),
+        Arrival::Dropped { envelope } => Some(envelope),
+        Arrival::System { .. } | Arrival::SetAside { .. } => None,
+    }
 }
 
 /// Whether this sender's are in order, where the mailbox keeps the order: all of them, or where control messages go first, these
@@ -129,20 +163,25 @@ fn are_in_order(fates: &[Envelope], by: SenderId, mailbox: Option<&Kind>) -> boo
 /// Each envelope that was sent stands once, among the fates of an actor or the dead letters, and nothing else stands there.
 fn does_each_stand_once(alloc: Global, report: &Report, all: &[Sent]) -> Result<bool, AllocError> {
     let mut sent = Vec::new(alloc);
-    let mut stood = Vec::new(alloc);
     push_sent(&mut sent, all)?;
-    push_fates(&mut stood, report)?;
-    push_dead(&mut stood, report)?;
-    sent.sort()?;
-    stood.sort()?;
+    let mut stood = Vec::new(alloc);
+    push_stood(&mut stood, report)?;
     Ok(sent == stood)
 }
 
+/// All that were sent, sorted.
 fn push_sent(sent: &mut Vec<Envelope>, all: &[Sent]) -> Result<(), AllocError> {
     for one in all {
         sent.extend_from_slice(&one.envelopes)?;
     }
-    Ok(())
+    sent.sort()
+}
+
+/// All that stand somewhere, sorted.
+fn push_stood(stood: &mut Vec<Envelope>, report: &Report) -> Result<(), AllocError> {
+    push_fates(stood, report)?;
+    push_dead(stood, report)?;
+    stood.sort()
 }
 
 fn push_fates(stood: &mut Vec<Envelope>, report: &Report) -> Result<(), AllocError> {

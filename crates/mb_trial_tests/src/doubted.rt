@@ -1,21 +1,17 @@
 //! What is looked at in reports, tried on reports by hand: on two that are right, and on others that have one thing wrong.
-ghost use Rattle.std.specs.Prelude.{OnOk, IsTrue};
+ghost use Rattle.std.specs.Prelude.{◌≡◌, OnOk, IfOk, IsTrue, length};
 
 use crate::doubted::Twist::{
     Cleaned, Dead, Elsewhere, Left, Nothing, Overlooked, SentMore, StartedLate, Stopped, Suspended,
 };
-use crate::judged::is_right;
-use crate::player::{ADD, COUNTER};
-use crate::sending::Sending::{self, Stop, Tell};
-use crate::sending::orders_of;
-use crate::story::{PLAIN, Story, plan_of};
 use mb_actor::Answer;
 use mb_actor::Phase::{self, Broken, Ended, Live};
-use mb_dispatch::Order;
 use mb_journal::Journal;
 use mb_msg::Why::{self, Closed, Full};
 use mb_msg::{ActorId, Body, DeadLetter, Envelope, SenderId, SysMsg};
 use mb_report::{ActorReport, Report, SenderReport};
+use mb_trial::Sending::{Stop, Tell};
+use mb_trial::{ADD, COUNTER, PLAIN, Sending, Story, is_right, plan_of, sends_of};
 use std::alloc::{AllocError, Global};
 use std::process::Abort;
 
@@ -141,33 +137,44 @@ fn is_found_right(alloc: Global, claim: &Claim) -> Result<bool, AllocError> {
 
 fn is_report_right(alloc: Global, report: &Report, twist: Twist) -> Result<bool, AllocError> {
     let plan = plan_of(alloc, &TWO_SENDERS)?;
-    let orders = orders(alloc, twist)?;
-    is_right(alloc, report, &plan, &orders)
+    let sends = sends(alloc, twist)?;
+    is_right(alloc, report, &plan, &sends)
 }
 
 /// What the two were to send.
-fn orders(alloc: Global, twist: Twist) -> Result<Vec<Vec<Order>>, AllocError> {
+fn sends(alloc: Global, twist: Twist) -> Result<Vec<Vec<Sending>>, AllocError> {
     let other = match twist {
         Stopped | Overlooked => OTHER_AND_STOP,
         _ => OTHER,
     };
-    let mut orders = Vec::new(alloc);
-    orders.push(orders_of(alloc, FIRST)?)?;
-    orders.push(orders_of(alloc, other)?)?;
-    Ok(orders)
+    let mut sends = Vec::new(alloc);
+    sends.push(sends_of(alloc, FIRST)?)?;
+    sends.push(sends_of(alloc, other)?)?;
+    Ok(sends)
 }
 
 fn report_of(alloc: Global, claim: &Claim) -> Result<Report, AllocError> {
-    let (_, handled, state, phase, twist) = *claim;
-    let guardian = guardian(alloc, twist)?;
-    let mut actor = receiver(alloc, handled, twist)?;
-    actor.phase = phase;
-    actor.state = Some(state);
-    let first = first_sender(alloc, twist)?;
     Ok(Report {
-        actors: vec![in alloc; guardian, actor]?,
-        senders: vec![in alloc; sender(alloc, 0), sender(alloc, 0), first, sender(alloc, 2)]?,
+        actors: actors(alloc, claim)?,
+        senders: senders(alloc, claim)?,
     })
+}
+
+fn actors(alloc: Global, claim: &Claim) -> Result<Vec<ActorReport>, AllocError>
+    ensures { IfOk result (λ actors. length actors.items ≡ 2) }
+{
+    let (_, _, _, _, twist) = *claim;
+    let guardian = guardian(alloc, twist)?;
+    let actor = receiver(alloc, claim)?;
+    Ok(vec![in alloc; guardian, actor]?)
+}
+
+fn senders(alloc: Global, claim: &Claim) -> Result<Vec<SenderReport>, AllocError>
+    ensures { IfOk result (λ senders. length senders.items ≡ 4) }
+{
+    let (_, _, _, _, twist) = *claim;
+    let first = first_sender(alloc, twist)?;
+    Ok(vec![in alloc; sender(alloc, 0), sender(alloc, 0), first, sender(alloc, 2)]?)
 }
 
 fn guardian(alloc: Global, twist: Twist) -> Result<ActorReport, AllocError> {
@@ -178,11 +185,20 @@ fn guardian(alloc: Global, twist: Twist) -> Result<ActorReport, AllocError> {
     Ok(guardian)
 }
 
-/// The actor that handled these.
-fn receiver(alloc: Global, handled: &[Letter], twist: Twist) -> Result<ActorReport, AllocError> {
+/// The actor that handled what is claimed.
+fn receiver(alloc: Global, claim: &Claim) -> Result<ActorReport, AllocError> {
+    let (_, _, state, phase, twist) = *claim;
     let first = u64::from(matches!(twist, StartedLate));
-    let reading = if matches!(twist, Suspended) { 4 } else { 0 };
     let mut actor = started(alloc, first, Some(Answer::Handled))?;
+    actor.phase = phase;
+    actor.state = Some(state);
+    handle_all(&mut actor, claim)?;
+    Ok(actor)
+}
+
+fn handle_all(actor: &mut ActorReport, claim: &Claim) -> Result<(), AllocError> {
+    let (_, handled, _, _, twist) = *claim;
+    let reading = if matches!(twist, Suspended) { 4 } else { 0 };
     for letter in handled {
         handle(&mut actor.journal, *letter, reading)?;
     }
@@ -192,7 +208,7 @@ fn receiver(alloc: Global, handled: &[Letter], twist: Twist) -> Result<ActorRepo
         Stopped => apply(&mut actor.journal, 1, SysMsg::Terminate, None)?,
         _ => {}
     }
-    Ok(actor)
+    Ok(())
 }
 
 fn first_sender(alloc: Global, twist: Twist) -> Result<SenderReport, AllocError> {

@@ -1,8 +1,8 @@
 use Rattle.std.proofs.Common.{pos, ◌≡◌, refl}
 use Rattle.std.proofs.lemmas.List.Elements.{All-push, All-same}
 use Rattle.std.proofs.Common.{[], ◌∷◌, ◌++◌}
-use Rattle.mb_dispatch_tests.specs.declared.gambler.Gambler.{Gambler}
-use Rattle.mb_dispatch_tests.proofs.gambler.gamblers.Goals as goal
+use Rattle.mb_trial.specs.declared.gambler.Gambler.{Gambler}
+use Rattle.mb_trial.proofs.gambler.gamblers.Goals as goal
 
 pub loop-number-preserved : goal.loop-number-preserved
 loop-number-preserved c =

@@ -12,12 +12,12 @@ use std::sync::atomic::Ordering::SeqCst;
 /// What it shows stands here too.
 #[derive(Drop)]
 pub struct Witness {
-    pub(crate) sum: i64,
-    pub(crate) shown: Arc<AtomicI64>,
+    pub sum: i64,
+    pub shown: Arc<AtomicI64>,
 }
 
 impl Actor for Witness {
-    ghost use Rattle.mb_dispatch_tests.specs.Sum.{sum_of};
+    ghost use Rattle.mb_trial.specs.Sum.{sum_of};
 
     ghost after = { λ _. sum_of };
 

@@ -1,12 +1,11 @@
 //! What is played: who acts, and what is sent.
 use crate::player::{Mailbox, Part};
-use crate::sending::Sending;
+use crate::sending::{Sending, same_sends};
 use mb_journal::Strategy;
 use mb_msg::ActorId;
 use mb_plan::{ActorPlan, Kind, Plan, Pool};
 use mb_report::{Report, report_text};
 use std::alloc::{AllocError, Global};
-use std::process::Abort;
 
 /// A system of players, each of whose senders is to send the same.
 #[derive(Clone, Copy)]
@@ -45,6 +44,16 @@ pub fn plan_of(alloc: Global, story: &Story<'_>) -> Result<Plan, AllocError> {
         journal_limit: story.journal_limit,
         actors,
     })
+}
+
+/// The plan of a story, and what each of its senders is to send.
+pub fn plan_and_sends(
+    alloc: Global,
+    story: &Story<'_>,
+) -> Result<(Plan, Vec<Vec<Sending>>), AllocError> {
+    let plan = plan_of(alloc, story)?;
+    let sends = same_sends(alloc, story.senders, story.sends)?;
+    Ok((plan, sends))
 }
 
 fn actor_plan(alloc: Global, part: &Part) -> Result<ActorPlan, AllocError> {
@@ -99,17 +108,4 @@ fn names_of(alloc: Global, count: usize) -> Result<Vec<String>, AllocError> {
 fn name_of(alloc: Global, place: usize) -> Result<String, AllocError> {
     let number = place.wrapping_add(1);
     format!(in alloc; "a{number}")
-}
-
-/// Sees to it that this text was found.
-pub fn see<R: Abort>(rt: &R, found: &Option<String>, wanted: &str) {
-    assert_eq!(rt; words(found), wanted);
-}
-
-/// What was found, to be compared; "no report" if nothing was.
-pub fn words(found: &Option<String>) -> &str {
-    match found {
-        Some(text) => text.as_str(),
-        None => "no report",
-    }
 }
