@@ -1,4 +1,4 @@
-use Rattle.std.proofs.Common.{◌≡◌, ◌∙◌, ◌++◌, ap, sym, replicate}
+use Rattle.std.proofs.Common.{◌∙◌, ◌++◌, ap, sym, replicate}
 use Rattle.mb_system.specs.Orders.{repeated}
 use Rattle.mb_system.proofs.Sending.{repeated-push}
 use Rattle.mb_run.proofs.OrderLemmas.{orders-own}
