@@ -155,6 +155,10 @@ impl<A: Actor, K: Behaviours> Stage<A, K> {
         let (due_number, due_message) = first_word(due);
         let due_number = u64::from(number(due_number)?);
         let due_message = system_of(due_message)?;
+        Ok(self.next_front(rt, due_number, due_message))
+    }
+
+    fn next_front<R: Abort>(&mut self, rt: &R, due_number: u64, due_message: SysMsg) -> Given {
         self.was_refused |= make_ready(rt, &mut self.cell);
         assert!(rt; !matches!(self.cell.phase(), Phase::Ended));
         let (number, message) = self.cell.next_front().expect(rt, "a message that waits");
@@ -162,7 +166,7 @@ impl<A: Actor, K: Behaviours> Stage<A, K> {
         assert_eq!(rt; message, due_message);
         assert!(rt; number < self.next);
         self.cell.apply_system(number, message);
-        Ok(Given::System(number, message))
+        Given::System(number, message)
     }
 
     /// Gives it an envelope with this body.
@@ -191,13 +195,19 @@ impl<A: Actor, K: Behaviours> Stage<A, K> {
     ) -> Result<String, AllocError> {
         let mut case = String::from_str(alloc, message)?;
         add_column(&mut case, entry_shown(rt, alloc, &self.cell, given)?)?;
-        add_column(&mut case, or_dash(acts_shown(alloc, &mut self.cell)?)?)?;
-        add_column(&mut case, self.stands_shown(alloc)?)?;
-        let aside = aside_shown(alloc, self.cell.aside())?;
-        if !aside.is_empty() {
-            add_column(&mut case, aside)?;
-        }
+        self.add_standing(alloc, &mut case)?;
         Ok(case)
+    }
+
+    /// Adds the columns of what the cell asks for, and of how it stands then.
+    fn add_standing(&mut self, alloc: Global, case: &mut String) -> Result<(), AllocError> {
+        add_column(case, or_dash(acts_shown(alloc, &mut self.cell)?)?)?;
+        add_column(case, self.stands_shown(alloc)?)?;
+        let aside = aside_shown(alloc, self.cell.aside())?;
+        if aside.is_empty() {
+            return Ok(());
+        }
+        add_column(case, aside)
     }
 
     /// Whether memory was refused to make room, so far.

@@ -56,9 +56,22 @@ fn go_through<R: Abort, A: Actor, K: Behaviours>(
     for line in story.lines() {
         if line.contains(" | ") {
             count = count.wrapping_add(1);
-            let told = stage.told(rt, alloc, line)?;
-            assert_eq!(rt; told.as_str(), line, "case {count} of {head}");
+            check_case(rt, alloc, stage, line, head, count)?;
         }
     }
     Ok(count)
+}
+
+/// Sees to it that a case, which is the one of this number, is as it says.
+fn check_case<R: Abort, A: Actor, K: Behaviours>(
+    rt: &R,
+    alloc: Global,
+    stage: &mut Stage<A, K>,
+    case: &str,
+    head: &str,
+    number: u32,
+) -> Result<(), Trouble> {
+    let told = stage.told(rt, alloc, case)?;
+    assert_eq!(rt; told.as_str(), case, "case {number} of {head}");
+    Ok(())
 }
