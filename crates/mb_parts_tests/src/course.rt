@@ -8,11 +8,12 @@ pub(crate) type Step = (Call, Option<Answer>, &'static [Effect], i64);
 /// Makes each of these calls of the actor, and sees to it that all comes of it as it says.
 pub(crate) fn each_call<A: Actor>(rt: &impl Abort, actor: A, out: &mut Outbox, steps: &[Step]) {
     let mut called = Called::new(actor);
-    for (call, answer, effects, state) in steps {
-        let found = make(&mut called, call, out);
-        assert!(rt; found == *answer, "{found:?} at {call:?}");
-        assert!(rt; out.effects() == *effects, "the effects at {call:?}");
-        assert!(rt; called.state() == *state, "the state at {call:?}");
+    for step in steps {
+        let (call, answer, effects, state) = *step;
+        let found = make(&mut called, &call, out);
+        assert!(rt; found == answer, "{found:?} at {call:?}");
+        assert!(rt; out.effects() == effects, "the effects at {call:?}");
+        assert!(rt; called.state() == state, "the state at {call:?}");
     }
 }
 

@@ -110,10 +110,10 @@ fn push(rt: &impl Abort, journal: &mut Journal, told: &Told) {
 }
 
 /// Sees to it that an entry is as it was added.
-fn is_read_back(rt: &impl Abort, record: &Record<'_>, told: &Told) {
+fn is_read_back(rt: &impl Abort, entry: &Record<'_>, told: &Told) {
     let (arrival, effects) = *told;
-    assert!(rt; record.arrival == arrival, "{record:?}");
-    assert!(rt; record.effects == effects, "{record:?}");
+    assert!(rt; entry.arrival == arrival, "{entry:?}");
+    assert!(rt; entry.effects == effects, "{entry:?}");
 }
 
 #[test]
@@ -169,16 +169,16 @@ const TOLD: &[Effect] = &[Effect::Tell {
 }];
 
 /// Sees to it that an entry tells of the envelope of this number, and of this effect.
-fn tells_of(rt: &impl Abort, record: &Record<'_>, number: u64) {
+fn tells_of(rt: &impl Abort, entry: &Record<'_>, number: u64) {
     assert_eq!(rt;
-        record.arrival,
+        entry.arrival,
         Arrival::Handled {
             envelope: add(number, 5),
             reading: 2,
             answer: Some(Answer::Handled)
         }
     );
-    assert_eq!(rt; record.effects, TOLD);
+    assert_eq!(rt; entry.effects, TOLD);
 }
 
 #[test]

@@ -88,7 +88,9 @@ fn dead(to: u32, number: u64, why: Why) -> DeadLetter {
 }
 
 /// A sender that sent eight envelopes, of which three are dead.
-fn senders(alloc: Global) -> Option<Vec<SenderReport>> {
+fn senders(alloc: Global) -> Option<Vec<SenderReport>>
+    ensures { IfSome result (λ made. length made.items ≡ 1) }
+{
     let dead = vec![in alloc;
         dead(1, 3, Why::Closed),
         dead(2, 4, Why::Full),
