@@ -56,8 +56,7 @@ pub begins_here :
     (state : List Actor) → Run (start words parties) events state ↔ Run first events state
 begins_here words parties events found first at is state =
     let same : first ≡ start words parties =
-    subst (λ (o : Option (List Actor)). IfSome o (λ (m : List Actor). m ≡ start words parties)) is at in
-    (
+    subst (λ (o : Option (List Actor)). IfSome o (λ (m : List Actor). m ≡ start words parties)) is at in (
       subst (λ (s : List Actor). Run s events state) (sym same),
       subst (λ (s : List Actor). Run s events state) same,
     )
@@ -73,8 +72,7 @@ goes_on old now new events index event done inside next stepped made same state 
     rw add-one (drop-cons events index event inside ∙ ap (λ (e : Event). e ∷ drop (suc index) events) (sym next)) in
     let step : Transition now event new = subst (IsMade now event new) made stepped in
     let rest : Run now (event ∷ drop (index + 1) events) state ↔ Run new (drop (index + 1) events) state =
-    rest_leads now event (drop (index + 1) events) new state step in
-    (
+    rest_leads now event (drop (index + 1) events) new state step in (
       λ run. rest.0 (subst (λ (es : List Event). Run now es state) left ((same state).0 run)),
       λ run. (same state).1 (subst (λ (es : List Event). Run now es state) (sym left) (rest.1 run)),
     )
