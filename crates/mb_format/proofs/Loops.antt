@@ -1,5 +1,5 @@
 -- One more turn of a loop over keys, over items and over actors.
-use Rattle.std.proofs.Common.{◌≡◌, ℕ, suc, ◌+◌, ◌<◌, List, [], ◌∷◌, ◌++◌, Option, None, length, map, get_or, drop, add-one}
+use Rattle.std.proofs.Common.{◌≡◌, ℕ, suc, ◌+◌, ◌<◌, List, [], ◌∷◌, ◌++◌, Option, Some, None, Result, Err, length, map, get_or, drop, add-one}
 use Rattle.std.proofs.Common.{append_assoc, ap, sym, ◌∙◌, subst}
 use Rattle.std.proofs.lemmas.List.{map-append}
 use Rattle.std.proofs.Math.Seq.{drop-cons}
@@ -9,8 +9,9 @@ use Rattle.toml.specs.declared.value.Value.{Value}
 use Rattle.mb_format.specs.Check.{all_kin, each_from, kin_of}
 use Rattle.mb_format.specs.Context.{KinData, kin_data}
 use Rattle.mb_format.specs.Format.{KeyData, key_data}
-use Rattle.mb_format.specs.Place.{Fault, first}
+use Rattle.mb_format.specs.Place.{Fault, Finds, fault_of, first}
 use Rattle.mb_format.specs.declared.context.Kin.{Kin}
+use Rattle.mb_format.specs.declared.finding.Finding.{Finding}
 use Rattle.mb_format.specs.declared.key.Key.{Key}
 
 next : {A : Type 0} (xs : List A) (index : ℕ) (x : A) → index < length xs → drop index xs ≡ get_or xs index x ∷ drop (index + 1) xs
@@ -26,6 +27,19 @@ past_key check keys index otherwise whole inside well so =
     let here : first (check (key_data (get_or keys index otherwise)) ∷ rest) ≡ whole =
     subst (λ (ks : List Key). first (map check (map key_data ks)) ≡ whole) (next keys index otherwise inside) so in
     subst (λ (found : Option Fault). first (found ∷ rest) ≡ whole) well here
+
+-- what is wrong with a key, and with none before it, is what is found
+pub at_key :
+    (check : KeyData → Option Fault) (keys : List Key) (index : ℕ) (otherwise : Key) (whole : Option Fault)
+    (result : Result (Unit {0}) Finding) (found told : Finding) → index < length keys →
+    check (key_data (get_or keys index otherwise)) ≡ Some (fault_of found) → first (map check (map key_data (drop index keys))) ≡ whole →
+    result ≡ Err told → told ≡ found → Finds result whole
+at_key check keys index otherwise whole result found told inside bad so given same =
+    let rest : List (Option Fault) = map check (map key_data (drop (index + 1) keys)) in
+    let here : first (check (key_data (get_or keys index otherwise)) ∷ rest) ≡ whole =
+    subst (λ (ks : List Key). first (map check (map key_data ks)) ≡ whole) (next keys index otherwise inside) so in
+    let is : Some (fault_of found) ≡ whole = subst (λ (f : Option Fault). first (f ∷ rest) ≡ whole) bad here in
+    subst (λ (r : Result (Unit {0}) Finding). Finds r whole) (sym given) (sym is ∙ ap (λ (f : Finding). Some (fault_of f)) (sym same))
 
 -- where nothing is wrong with an item, the items after it decide
 pub past_item :
