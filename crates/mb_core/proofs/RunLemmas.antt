@@ -1,6 +1,6 @@
 -- An event has one outcome at most, and so has a run.
-use Rattle.std.proofs.Common.{◌≡◌, ◌↔◌, ℕ, suc, ◌<◌, ◌≤◌, Bool, false, IsTrue, IsSome, Option, All, List, ◌∷◌, Some}
-use Rattle.std.proofs.Common.{length, get_or, drop, ap, sym, ◌∙◌, refl, subst}
+use Rattle.std.proofs.Common.{◌≡◌, ◌↔◌, ℕ, suc, ◌+◌, ◌<◌, ◌≤◌, Bool, true, false, IsTrue, IsSome, IfSome, Option, All, List, ◌∷◌, Some}
+use Rattle.std.proofs.Common.{length, get_or, drop, add-one, ap, sym, ◌∙◌, refl, subst}
 use Rattle.std.proofs.lemmas.Option.{same_Some}
 use Rattle.std.proofs.lemmas.List.{drop_all}
 use Rattle.std.proofs.Math.ListN.{set}
@@ -49,6 +49,34 @@ rest_leads old event events next state step = (
   λ rest. (next, step, rest),
 )
 
+-- before any event is made, all of them lead from here where they lead from the start
+pub begins_here :
+    (words : List ℕ) (parties : ℕ) (events : List Event) (found : Option (List Actor)) (first : List Actor) →
+    IfSome found (λ (m : List Actor). m ≡ start words parties) → found ≡ Some first →
+    (state : List Actor) → Run (start words parties) events state ↔ Run first events state
+begins_here words parties events found first at is state =
+    let same : first ≡ start words parties =
+    subst (λ (o : Option (List Actor)). IfSome o (λ (m : List Actor). m ≡ start words parties)) is at in (
+      subst (λ (s : List Actor). Run s events state) (sym same),
+      subst (λ (s : List Actor). Run s events state) same,
+    )
+
+-- once the next event is made, what is left leads where all of them lead
+pub goes_on :
+    (old now new : List Actor) (events : List Event) (index : ℕ) (event : Event) (done : Bool) → index < length events →
+    event ≡ get_or events index event → IsMade now event new done → done ≡ true →
+    ((state : List Actor) → Run old events state ↔ Run now (drop index events) state) →
+    (state : List Actor) → Run old events state ↔ Run new (drop (index + 1) events) state
+goes_on old now new events index event done inside next stepped made same state =
+    let left : drop index events ≡ event ∷ drop (index + 1) events =
+    rw add-one (drop-cons events index event inside ∙ ap (λ (e : Event). e ∷ drop (suc index) events) (sym next)) in
+    let step : Transition now event new = subst (IsMade now event new) made stepped in
+    let rest : Run now (event ∷ drop (index + 1) events) state ↔ Run new (drop (index + 1) events) state =
+    rest_leads now event (drop (index + 1) events) new state step in (
+      λ run. rest.0 (subst (λ (es : List Event). Run now es state) left ((same state).0 run)),
+      λ run. (same state).1 (subst (λ (es : List Event). Run now es state) (sym left) (rest.1 run)),
+    )
+
 -- once none is left, the events lead to where they are
 pub leads_here :
     (words : List ℕ) (parties : ℕ) (events : List Event) (found : Option (List Actor)) (first now : List Actor) (index : ℕ) →
@@ -59,6 +87,18 @@ leads_here words parties events found first now index starts is ended same = rec
   can_start = starts (rw is refl);
   run = (same now).1 (rw (drop_all index events ended) refl);
 }
+
+-- and nowhere else
+pub exactly_here :
+    (words : List ℕ) (parties : ℕ) (events : List Event) (now : List Actor) (index : ℕ) →
+    LeadsTo words parties events now → length events ≤ index →
+    ((state : List Actor) → Run (start words parties) events state ↔ Run now (drop index events) state) →
+    (state : List Actor) → (Some now ≡ Some state) ↔ LeadsTo words parties events state
+exactly_here words parties events now index leads ended same state = (
+  λ is. subst (LeadsTo words parties events) (same_Some now state is) leads,
+  λ led. ap (λ (s : List Actor). Some s)
+      (sym (subst (λ (es : List Event). Run now es state) (drop_all index events ended) ((same state).0 led.run))),
+)
 
 -- where the next event is refused, the events lead nowhere
 pub no_run :
