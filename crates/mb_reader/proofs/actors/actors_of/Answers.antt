@@ -1,0 +1,12 @@
+use Rattle.std.proofs.Common.{map}
+use Rattle.mb_format.specs.Context.{kin_data}
+use Rattle.mb_reader.specs.View.{actor_data}
+use Rattle.mb_reader.specs.Plans.{planned_actor}
+use Rattle.mb_reader.proofs.Loops.{past_seen}
+use Rattle.mb_reader.proofs.actors.actors_of.Goals as goal
+
+pub loop-value-preserved : goal.loop-value-preserved
+loop-value-preserved c =
+    past_seen actor_data (planned_actor (map kin_data c.args.kin.now)) c.args.values.now c.loop-value.value-index c.value-item.result c.loop-value.actors.items
+    c.push.new.self.items c.in_ok-actor.actor _ c.loop-value-test.true c.value-item.is c.in_ok-actor.ensures c.in_ok-push.ensures.items
+    c.loop-value.invariant

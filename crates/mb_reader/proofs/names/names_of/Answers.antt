@@ -1,0 +1,10 @@
+use Rattle.std.proofs.Common.{string_bytes}
+use Rattle.mb_reader.specs.Plans.{name_of}
+use Rattle.mb_reader.proofs.Loops.{past_seen}
+use Rattle.mb_reader.proofs.names.names_of.Goals as goal
+
+pub loop-value-preserved : goal.loop-value-preserved
+loop-value-preserved c =
+    past_seen string_bytes name_of c.args.values.now c.loop-value.value-index c.value-item.result c.loop-value.names.items
+    c.push.new.self.items c.in_ok-name.name _ c.loop-value-test.true c.value-item.is c.in_ok-name.ensures c.in_ok-push.ensures.items
+    c.loop-value.invariant

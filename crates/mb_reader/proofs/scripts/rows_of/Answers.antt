@@ -1,0 +1,12 @@
+use Rattle.std.proofs.Common.{map}
+use Rattle.mb_format.specs.Context.{kin_data}
+use Rattle.mb_script.specs.Script.{row_data}
+use Rattle.mb_reader.specs.Scripts.{scripted_row}
+use Rattle.mb_reader.proofs.Loops.{past_seen}
+use Rattle.mb_reader.proofs.scripts.rows_of.Goals as goal
+
+pub loop-value-preserved : goal.loop-value-preserved
+loop-value-preserved c =
+    past_seen row_data (scripted_row (map kin_data c.args.kin.now)) c.args.values.now c.loop-value.value-index c.value-item.result c.loop-value.rows.items
+    c.push.new.self.items c.in_ok-row.row _ c.loop-value-test.true c.value-item.is c.in_ok-row.ensures c.in_ok-push.ensures.items
+    c.loop-value.invariant
