@@ -3,11 +3,11 @@
 ghost use Rattle.std.specs.Prelude.{◌≡◌, ◌+◌, ◌*◌, ◌%◌, ◌^◌, [], length, false, IfOk};
 ghost use Rattle.mb_syslist.specs.MessageList.{with_last};
 
-use crate::clock::since;
+use crate::clock::{now, since};
 use mb_msg::SysMsg;
 use mb_syslist::{Chain, Node, SysList};
 use std::alloc::{AllocError, AllocGlobal};
-use std::time::{Clock, Duration, Instant};
+use std::time::{Clock, Duration};
 
 /// How many nodes one drain gives.
 const NODES: u32 = 16;
@@ -27,7 +27,7 @@ pub fn measure_lists<R: Clock + AllocGlobal>(rt: &R, rounds: u32) -> Result<List
 {
     let mut chain = nodes(rt)?;
     let mut list = SysList::new();
-    let begin = Instant::now(rt);
+    let begin = now(rt);
     for _ in 0..rounds {
         go_round(&mut list, &mut chain);
     }

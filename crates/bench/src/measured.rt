@@ -8,7 +8,7 @@ ghost use Rattle.bench.specs.Idle.{IsIdle, new_cell, open_mailbox};
 ghost use Rattle.bench.specs.Steady.{IsSteady};
 ghost use Rattle.bench.specs.Sum.{sends};
 
-use crate::clock::since;
+use crate::clock::{now, since};
 use crate::memory::Memory;
 use mb_actor::{Actor, Behaviours};
 use mb_cell::Cell;
@@ -17,7 +17,7 @@ use mb_msg::{ActorId, Body, Envelope, SenderId, SysMsg, limits};
 use mb_status::Status;
 use std::alloc::AllocGlobal;
 use std::rt::Files;
-use std::time::{Clock, Duration, Instant};
+use std::time::{Clock, Duration};
 
 /// The number of the actor.
 pub const ACTOR: ActorId = ActorId(1);
@@ -65,26 +65,67 @@ pub fn measure<R: Clock + Files + AllocGlobal, A: Actor, K: Behaviours>(
     ensures full { IsErrOf result ReadyError.JournalFull → 4294967295 < count + 1 }
 {
     let mut cell = cell_of::<R, A, K>(rt, actor);
-    start(&mut cell)?;
+    measure_in(rt, &mut cell, count)
+}
+
+/// The same of a cell to which nothing came yet.
+fn measure_in<R: Clock + Files + AllocGlobal, A: Actor, K: Behaviours>(
+    rt: &R,
+    cell: &mut Cell<A, K>,
+    count: u32,
+) -> Result<Measured, ReadyError>
+    requires new { cell.old ≡ new_cell cell.old.who }
+    requires an_actor { is_guardian cell.old.who ≡ false }
+    requires this { cell.old.who.this ≡ record { 0 = 1 } }
+    requires limit { cell.old.who.limit ≡ 4294967295 }
+    requires steady { IsSteady (K.gives 1) }
+    ensures handled { IfOk result (λ measured. measured.handled ≡ count) }
+    ensures state { IfOk result (λ measured. measured.state ≡ K.after 1 (sends count)) }
+    ensures room { OnOk result (count + 1 ≤ 4294967295) }
+    ensures full { IsErrOf result ReadyError.JournalFull → 4294967295 < count + 1 }
+{
+    start(cell)?;
+    measure_handling(rt, cell, count)
+}
+
+/// Gives the cell so many messages, and measures how these are handled.
+fn measure_handling<R: Clock + Files + AllocGlobal, A: Actor, K: Behaviours>(
+    rt: &R,
+    cell: &mut Cell<A, K>,
+    count: u32,
+) -> Result<Measured, ReadyError>
+    requires idle { IsIdle cell.old }
+    requires the_actor { cell.old.who.this ≡ record { 0 = 1 } }
+    requires steady { IsSteady (K.gives cell.old.who.this.0) }
+    ensures handled { IfOk result (λ measured. measured.handled ≡ count) }
+    ensures state { IfOk result (λ measured. measured.state ≡ K.after 1 (messages cell.old.who cell.old.journal ++ sends count)) }
+    ensures room { OnOk result (0 < count → length cell.old.journal + count ≤ cell.old.who.limit) }
+    ensures full { IsErrOf result ReadyError.JournalFull → cell.old.who.limit < length cell.old.journal + count }
+{
     let entries = cell.journal().len();
-    let memory_before = Memory::read(rt);
-    let begin = Instant::now(rt);
-    let acts = handle_all(&mut cell, count)?;
+    let memory = Memory::read(rt);
+    let begin = now(rt);
+    let acts = handle_all(cell, count)?;
     let time = since(rt, begin);
-    let memory = match (memory_before, Memory::read(rt)) {
-        (Some(before), Some(after)) => Some(after.since(before)),
-        _ => None,
-    };
-    let Some(state) = cell.state() else {
-        unreachable!();
-    };
+    let state = state_of(cell);
     Ok(Measured {
         handled: cell.journal().len() - entries,
         state,
         acts,
         time,
-        memory,
+        memory: Memory::growth(rt, memory),
     })
+}
+
+/// The content of an actor that is not the guardian.
+fn state_of<A: Actor, K: Behaviours>(cell: &Cell<A, K>) -> i64
+    requires { is_guardian cell.now.who ≡ false }
+    ensures { result ≡ K.after cell.now.who.this.0 (messages cell.now.who cell.now.journal) }
+{
+    match cell.state() {
+        Some(state) => state,
+        None => unreachable!(),
+    }
 }
 
 /// The cell of the actor, to which nothing came yet.

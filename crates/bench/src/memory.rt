@@ -19,14 +19,24 @@ impl Memory {
     /// The memory of this process; `None` where `/proc` does not say.
     pub fn read<R: Files + AllocGlobal>(rt: &R) -> Option<Memory> {
         let text = fs::read_to_string(rt, "/proc/self/status").ok()?;
+        Memory::said_in(text.as_bytes())
+    }
+
+    /// The memory of which the text tells.
+    fn said_in(text: &[u8]) -> Option<Memory> {
         Some(Memory {
-            now: figure(text.as_str(), "VmRSS:")?,
-            most: figure(text.as_str(), "VmHWM:")?,
+            now: figure(text, b"VmRSS:")?,
+            most: figure(text, b"VmHWM:")?,
         })
     }
 
+    /// By how much the memory grew since then; `None` where `/proc` does not say, or did not.
+    pub fn growth<R: Files + AllocGlobal>(rt: &R, before: Option<Memory>) -> Option<Memory> {
+        Some(Memory::read(rt)?.since(before?))
+    }
+
     /// By how much each figure grew; 0 for one that did not.
-    pub fn since(self, before: Memory) -> Memory
+    fn since(self, before: Memory) -> Memory
         ensures { result ≡ record { now = self.now - before.now; most = self.most - before.most } }
     {
         Memory {
@@ -36,9 +46,28 @@ impl Memory {
     }
 }
 
-/// The bytes that the line which begins so gives in kilobytes.
-fn figure(text: &str, name: &str) -> Option<u64> {
-    let line = text.lines().find_map(|line| line.strip_prefix(name))?;
-    let kilobytes = line.split_whitespace().next()?.parse::<u64>().ok()?;
-    kilobytes.checked_mul(1024)
+/// The bytes that stand in kilobytes behind the name.
+fn figure(text: &[u8], name: &[u8]) -> Option<u64> {
+    let mut named: usize = 0;
+    let mut kilobytes: u64 = 0;
+    for &byte in text {
+        match name.get(named) {
+            Some(&letter) if letter == byte => named = named.wrapping_add(1),
+            Some(_) => named = 0,
+            None if byte == b'\n' => return kilobytes.checked_mul(1024),
+            None => kilobytes = with_digit(kilobytes, byte),
+        }
+    }
+    None
+}
+
+/// The number with this digit behind it, or as it is where the byte is none.
+fn with_digit(number: u64, byte: u8) -> u64 {
+    if byte.is_ascii_digit() {
+        number
+            .saturating_mul(10)
+            .saturating_add(u64::from(byte.wrapping_sub(b'0')))
+    } else {
+        number
+    }
 }

@@ -2,11 +2,11 @@
 
 ghost use Rattle.std.specs.Prelude.{◌≡◌};
 
-use crate::clock::since;
+use crate::clock::{now, since};
 use mb_actor::Outbox;
 use mb_msg::ActorId;
 use std::alloc::AllocGlobal;
-use std::time::{Clock, Duration, Instant};
+use std::time::{Clock, Duration};
 
 /// How many actors there are.
 const ACTORS: u32 = 3;
@@ -26,7 +26,7 @@ pub fn measure_outbox<R: Clock + AllocGlobal>(rt: &R, rounds: u32) -> Told
 {
     let mut outbox = Outbox::new(ACTORS, &Vec::new(rt.alloc()));
     let mut told = 0;
-    let begin = Instant::now(rt);
+    let begin = now(rt);
     for round in 0..rounds {
         let _ = outbox.tell(ActorId(1), 1, i64::from(round));
         told += outbox.effects().len();
