@@ -5,9 +5,10 @@ use crate::orders::all_orders;
 use crate::seen::see;
 use crate::together::Run;
 use mb_actor::Actor;
-use mb_dispatch::run_whole;
-use mb_trial::{Story, plan_of, players_of, same_sends, text_of};
-use std::alloc::Global;
+use mb_dispatch::{Order, run_whole};
+use mb_plan::Plan;
+use mb_trial::{Story, plan_and_sends, players_of, text_of};
+use std::alloc::{AllocError, Global};
 use std::process::Abort;
 use std::sync::Wait;
 
@@ -26,6 +27,13 @@ fn run_alone<R: Wait>(rt: &R, alloc: Global, story: &Story<'_>) -> Option<String
     }
 }
 
+/// The plan of this story, and the orders of each sender.
+pub fn planned(alloc: Global, story: &Story<'_>) -> Result<(Plan, Vec<Vec<Order>>), AllocError> {
+    let (plan, sends) = plan_and_sends(alloc, story)?;
+    let orders = all_orders(alloc, &sends)?;
+    Ok((plan, orders))
+}
+
 /// The same where these are the actors.
 pub fn text_alone<A: Actor, R: Wait>(
     rt: &R,
@@ -35,9 +43,7 @@ pub fn text_alone<A: Actor, R: Wait>(
 ) -> Option<String>
     requires unused { All (λ actor. A.content actor ≡ A.after actor []) actors.items }
 {
-    let plan = plan_of(alloc, story).ok()?;
-    let sends = same_sends(alloc, story.senders, story.sends).ok()?;
-    let orders = all_orders(alloc, &sends).ok()?;
+    let (plan, orders) = planned(alloc, story).ok()?;
     match run_whole(rt, alloc, plan, actors, &orders) {
         Ok(report) => text_of(alloc, &report, story.parts.len()),
         Err(error) => format!(in alloc; "{error:?}").ok(),

@@ -1,15 +1,13 @@
 //! Boxed actors of two kinds in one system.
 ghost use Rattle.std.specs.Prelude.{◌≡◌, [], All, IfOk};
 
-use crate::orders::all_orders;
+use crate::alone::planned;
 use crate::seen::see;
 use mb_actor::{Actor, Outbox};
 use mb_dispatch::run_boxed;
 use mb_msg::ActorId;
 use mb_trial::Sending::{Poison, Tell};
-use mb_trial::{
-    ADD, COUNTER, PLAIN, Player, Sending, Story, Watcher, plan_of, same_sends, text_of,
-};
+use mb_trial::{ADD, COUNTER, PLAIN, Player, Sending, Story, Watcher, text_of};
 use std::alloc::{AllocError, Global};
 use std::sync::Wait;
 use std::test::Fail;
@@ -33,11 +31,10 @@ fn run_both<R: Wait>(
 ) -> Option<String> {
     let story = Story {
         parts: &[COUNTER, COUNTER],
+        sends: SENDS,
         ..PLAIN
     };
-    let plan = plan_of(alloc, &story).ok()?;
-    let sends = same_sends(alloc, 1, SENDS).ok()?;
-    let orders = all_orders(alloc, &sends).ok()?;
+    let (plan, orders) = planned(alloc, &story).ok()?;
     let Ok(actors) = fresh(alloc, first, second) else {
         return None;
     };

@@ -152,12 +152,23 @@ fn finish_at_last<R: Wait>(rt: &R, company: Company) -> Option<Report> {
 /// Whether the report is the one that is due.
 fn is_as_due<R: Wait>(rt: &R, alloc: Global, company: Company) -> Option<bool> {
     let mut company = company;
-    let due = tell_each(rt, &mut company)?;
-    if !run_at_last(rt, &mut company) {
-        return None;
-    }
+    let due = go_on(rt, &mut company)?;
     let report = finish_at_last(rt, company)?;
-    let text = text_at_last(alloc, &report)?;
+    is_text_due(alloc, &report, due)
+}
+
+/// Sends all, and runs it: the report that is due.
+fn go_on<R: Wait>(rt: &R, company: &mut Company) -> Option<&'static str> {
+    let due = tell_each(rt, company)?;
+    if run_at_last(rt, company) {
+        Some(due)
+    } else {
+        None
+    }
+}
+
+fn is_text_due(alloc: Global, report: &Report, due: &str) -> Option<bool> {
+    let text = text_at_last(alloc, report)?;
     let text = text.as_str();
     Some(text == due || due == WITH_ALL && text == LEFT)
 }

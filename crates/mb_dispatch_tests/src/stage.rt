@@ -45,7 +45,7 @@ impl Stage {
             Step::Work => self.work(rt),
             Step::LoseSenders => self.lose_senders(),
             Step::Finish => self.finish(rt),
-            Step::Journal(id) => journal_text(self.alloc, &self.told_of(id)?.journal).ok(),
+            Step::Journal(id) => self.journal(id),
             Step::DeadSystem(id) => self.dead_system(id),
         }
     }
@@ -122,6 +122,10 @@ impl Stage {
                 format!(in self.alloc; "{why:?}").ok()
             }
         }
+    }
+
+    fn journal(&self, id: u32) -> Option<String> {
+        journal_text(self.alloc, &self.told_of(id)?.journal).ok()
     }
 
     fn dead_system(&self, id: u32) -> Option<String> {

@@ -9,9 +9,7 @@ use mb_actor::{Actor, Behaviours};
 use mb_dispatch::{Built, Job, Sender, System, finish};
 use mb_plan::Plan;
 use mb_report::Report;
-use mb_trial::{
-    Adding, Player, Sending, Story, plan_of, players_of, same_sends, sends_at, text_of,
-};
+use mb_trial::{Adding, Player, Sending, Story, plan_and_sends, players_of, sends_at, text_of};
 use std::alloc::{AllocError, Global};
 use std::process::Abort;
 use std::sync::Wait;
@@ -48,8 +46,7 @@ pub fn text_together<A: Actor + Send, K: Behaviours + Send, R: Threads + Wait + 
 ) -> Option<String>
     requires behaved { AreBehaved A.content A.after A.gives K.after K.gives 1 actors.items }
 {
-    let plan = plan_of(alloc, story).ok()?;
-    let sends = same_sends(alloc, story.senders, story.sends).ok()?;
+    let (plan, sends) = plan_and_sends(alloc, story).ok()?;
     match report_of::<A, K, R>(rt, alloc, plan, actors, &sends) {
         Ok(Some(report)) => text_of(alloc, &report, story.parts.len()),
         _ => None,

@@ -30,6 +30,24 @@ pub fn is_right(
     )
 }
 
+/// Whether the report is right where each sender was to send its own of these, and wrong if two of them had exchanged theirs.
+pub fn is_right_of_these_alone(
+    alloc: Global,
+    report: &Report,
+    plan: &Plan,
+    sends: Vec<Vec<Sending>>,
+) -> Result<bool, AllocError> {
+    let mut sends = sends;
+    if !is_right(alloc, report, plan, &sends)? {
+        return Ok(false);
+    }
+    if sends.len() < 2 {
+        return Ok(true);
+    }
+    sends.swap(0, 1);
+    Ok(!is_right(alloc, report, plan, &sends)?)
+}
+
 fn are_stops_done(report: &Report, sends: &[Vec<Sending>]) -> bool {
     for own in sends {
         for sending in own {

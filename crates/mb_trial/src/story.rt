@@ -1,6 +1,6 @@
 //! What is played: who acts, and what is sent.
 use crate::player::{Mailbox, Part};
-use crate::sending::Sending;
+use crate::sending::{Sending, same_sends};
 use mb_journal::Strategy;
 use mb_msg::ActorId;
 use mb_plan::{ActorPlan, Kind, Plan, Pool};
@@ -44,6 +44,16 @@ pub fn plan_of(alloc: Global, story: &Story<'_>) -> Result<Plan, AllocError> {
         journal_limit: story.journal_limit,
         actors,
     })
+}
+
+/// The plan of a story, and what each of its senders is to send.
+pub fn plan_and_sends(
+    alloc: Global,
+    story: &Story<'_>,
+) -> Result<(Plan, Vec<Vec<Sending>>), AllocError> {
+    let plan = plan_of(alloc, story)?;
+    let sends = same_sends(alloc, story.senders, story.sends)?;
+    Ok((plan, sends))
 }
 
 fn actor_plan(alloc: Global, part: &Part) -> Result<ActorPlan, AllocError> {

@@ -166,7 +166,7 @@ fn actors(alloc: Global, claim: &Claim) -> Result<Vec<ActorReport>, AllocError>
     let (_, _, _, _, twist) = *claim;
     let guardian = guardian(alloc, twist)?;
     let actor = receiver(alloc, claim)?;
-    vec![in alloc; guardian, actor]
+    Ok(vec![in alloc; guardian, actor]?)
 }
 
 fn senders(alloc: Global, claim: &Claim) -> Result<Vec<SenderReport>, AllocError>
@@ -174,7 +174,7 @@ fn senders(alloc: Global, claim: &Claim) -> Result<Vec<SenderReport>, AllocError
 {
     let (_, _, _, _, twist) = *claim;
     let first = first_sender(alloc, twist)?;
-    vec![in alloc; sender(alloc, 0), sender(alloc, 0), first, sender(alloc, 2)]
+    Ok(vec![in alloc; sender(alloc, 0), sender(alloc, 0), first, sender(alloc, 2)]?)
 }
 
 fn guardian(alloc: Global, twist: Twist) -> Result<ActorReport, AllocError> {
@@ -203,11 +203,12 @@ fn handle_all(actor: &mut ActorReport, claim: &Claim) -> Result<(), AllocError> 
         handle(&mut actor.journal, *letter, reading)?;
     }
     match twist {
-        Left => actor.left.push(envelope(TWO)),
-        Cleaned => actor.cleaned.push(envelope(TWO)),
-        Stopped => apply(&mut actor.journal, 1, SysMsg::Terminate, None),
-        _ => Ok(()),
+        Left => actor.left.push(envelope(TWO))?,
+        Cleaned => actor.cleaned.push(envelope(TWO))?,
+        Stopped => apply(&mut actor.journal, 1, SysMsg::Terminate, None)?,
+        _ => {}
     }
+    Ok(())
 }
 
 fn first_sender(alloc: Global, twist: Twist) -> Result<SenderReport, AllocError> {

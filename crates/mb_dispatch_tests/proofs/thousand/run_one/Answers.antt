@@ -1,7 +1,7 @@
 use Rattle.mb_trial.specs.Sum.{sum_of}
 use Rattle.mb_dispatch_tests.proofs.Casting.{alike-behaved}
 use Rattle.mb_trial.specs.declared.gambler.Gambler.{Gambler}
-use Rattle.mb_dispatch_tests.proofs.thousand.try_one.Goals as goal
+use Rattle.mb_dispatch_tests.proofs.thousand.run_one.Goals as goal
 
 pub report_of-requires-clause-behaved : goal.report_of-requires-clause-behaved
 report_of-requires-clause-behaved g c κs within =
