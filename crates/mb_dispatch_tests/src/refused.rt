@@ -152,9 +152,9 @@ fn finish_at_last<R: Wait>(rt: &R, company: Company) -> Option<Report> {
 /// Whether the report is the one that is due.
 fn is_as_due<R: Wait>(rt: &R, alloc: Global, company: Company) -> Option<bool> {
     let mut company = company;
-    let due = go_on(rt, &mut company)?;
+    let due = go_on(rt, &mut company);
     let report = finish_at_last(rt, company)?;
-    is_text_due(alloc, &report, due)
+    is_text_due(alloc, &report, due?)
 }
 
 /// Sends all, and runs it: the report that is due.

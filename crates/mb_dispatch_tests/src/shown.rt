@@ -14,8 +14,16 @@ pub fn turn_text(alloc: Global, turn: &Turn) -> Result<String, AllocError> {
     format!(in alloc; "({number};{system},{envelopes})")
 }
 
-/// The turns, one after another.
-pub fn turns_text(alloc: Global, turns: &[Turn]) -> Result<String, AllocError> {
+/// The turns of a run, or why it was broken off.
+pub fn turns_text(alloc: Global, run: Result<Vec<Turn>, RunError>) -> Result<String, AllocError> {
+    match run {
+        Ok(turns) => each_turn_text(alloc, &turns),
+        Err(error) => run_text(alloc, Err(error)),
+    }
+}
+
+// The turns, one after another.
+fn each_turn_text(alloc: Global, turns: &[Turn]) -> Result<String, AllocError> {
     let mut text = String::new(alloc);
     for turn in turns {
         let one = turn_text(alloc, turn)?;

@@ -1,10 +1,9 @@
 //! A stage on which a story goes on step by step.
-use crate::closing::Unfinished;
+use crate::closing::{Refusal, Unfinished};
 use crate::company::Company;
-use crate::orders::order_of;
 use crate::shown::{look_text, put_text, run_text, stop_text, turn_text, turns_text};
 use crate::tale::Step;
-use mb_dispatch::{Look, Order, Ticket, What};
+use mb_dispatch::{Look, Ticket};
 use mb_msg::{ActorId, Body};
 use mb_report::{ActorReport, Report};
 use mb_trial::{ADD, Sending, Story, add, journal_text, text_of};
@@ -36,35 +35,12 @@ impl Stage {
     /// Takes a step: its answer. Nothing where it cannot be taken, or memory was refused.
     pub fn take<R: Wait>(&mut self, rt: &R, step: Step) -> Option<String> {
         match step {
-            Step::Send(sendings) => self.send_all(rt, sendings),
             Step::Look(id) => self.look(ActorId(id)),
             Step::Put(value) => self.put(rt, value),
-            Step::Run => self.run(rt),
-            Step::Register(id) => self.register(rt, ActorId(id)),
-            Step::Turn => self.turn(rt),
-            Step::Work => self.work(rt),
-            Step::LoseSenders => self.lose_senders(),
             Step::Finish => self.finish(rt),
             Step::Journal(id) => self.journal(id),
             Step::DeadSystem(id) => self.dead_system(id),
-        }
-    }
-
-    fn send_all<R: Wait>(&mut self, rt: &R, sendings: &[Sending]) -> Option<String> {
-        let mut text = String::new(self.alloc);
-        for sending in sendings {
-            let answer = self.send(rt, *sending)?;
-            add(&mut text, ", ", answer.as_str()).ok()?;
-        }
-        Some(text)
-    }
-
-    fn send<R: Wait>(&mut self, rt: &R, sending: Sending) -> Option<String> {
-        let company = self.company.as_mut()?;
-        let Order { to, what } = order_of(sending);
-        match what {
-            What::Tell(body) => put_text(self.alloc, company.tell(rt, to, body)?).ok(),
-            What::Stop => stop_text(self.alloc, company.stop(rt, to)?).ok(),
+            step => lead(rt, self.alloc, self.company.as_mut()?, step),
         }
     }
 
@@ -83,43 +59,24 @@ impl Stage {
         put_text(self.alloc, put).ok()
     }
 
-    fn run<R: Wait>(&mut self, rt: &R) -> Option<String> {
-        match self.company.as_mut()?.run_quietly(rt)? {
-            Ok(turns) => turns_text(self.alloc, &turns).ok(),
-            Err(error) => run_text(self.alloc, Err(error)).ok(),
-        }
-    }
-
-    fn register<R: Wait>(&mut self, rt: &R, id: ActorId) -> Option<String> {
-        let is_pushed = self.company.as_mut()?.register(rt, id)?;
-        stop_text(self.alloc, Ok(is_pushed)).ok()
-    }
-
-    fn turn<R: Wait>(&mut self, rt: &R) -> Option<String> {
-        let turn = self.company.as_mut()?.turn(rt)?;
-        turn_text(self.alloc, &turn).ok()
-    }
-
-    fn work<R: Wait>(&mut self, rt: &R) -> Option<String> {
-        let answer = self.company.as_mut()?.work(rt)?;
-        run_text(self.alloc, answer).ok()
-    }
-
-    fn lose_senders(&mut self) -> Option<String> {
-        self.company.as_mut()?.lose_senders();
-        String::from_str(self.alloc, "lost").ok()
-    }
-
     fn finish<R: Wait>(&mut self, rt: &R) -> Option<String> {
-        match self.company.take()?.finish(rt) {
+        match self.end(rt)? {
             Ok(report) => {
                 let text = text_of(self.alloc, &report, self.count);
                 self.report = Some(report);
                 text
             }
+            Err(why) => format!(in self.alloc; "{why:?}").ok(),
+        }
+    }
+
+    // The report of the system; or why it goes on.
+    fn end<R: Wait>(&mut self, rt: &R) -> Option<Result<Report, Refusal>> {
+        match self.company.take()?.finish(rt) {
+            Ok(report) => Some(Ok(report)),
             Err(Unfinished { why, back }) => {
                 self.company = back;
-                format!(in self.alloc; "{why:?}").ok()
+                Some(Err(why))
             }
         }
     }
@@ -136,5 +93,43 @@ impl Stage {
     // What the report tells of an actor.
     fn told_of(&self, id: u32) -> Option<&ActorReport> {
         self.report.as_ref()?.actors.get(id as usize)
+    }
+}
+
+// Takes a step that this company takes by itself: its answer.
+fn lead<R: Wait>(rt: &R, alloc: Global, company: &mut Company, step: Step) -> Option<String> {
+    match step {
+        Step::Send(sendings) => send_all(rt, alloc, company, sendings),
+        Step::Run => turns_text(alloc, company.run_quietly(rt)?).ok(),
+        Step::Register(id) => stop_text(alloc, Ok(company.register(rt, ActorId(id))?)).ok(),
+        Step::Turn => turn_text(alloc, &company.turn(rt)?).ok(),
+        Step::Work => run_text(alloc, company.work(rt)?).ok(),
+        Step::LoseSenders => {
+            company.lose_senders();
+            String::from_str(alloc, "lost").ok()
+        }
+        _ => None,
+    }
+}
+
+fn send_all<R: Wait>(
+    rt: &R,
+    alloc: Global,
+    company: &mut Company,
+    sendings: &[Sending],
+) -> Option<String> {
+    let mut text = String::new(alloc);
+    for sending in sendings {
+        let answer = send(rt, alloc, company, *sending)?;
+        add(&mut text, ", ", answer.as_str()).ok()?;
+    }
+    Some(text)
+}
+
+fn send<R: Wait>(rt: &R, alloc: Global, company: &mut Company, sending: Sending) -> Option<String> {
+    let to = sending.to();
+    match sending.body() {
+        Some(body) => put_text(alloc, company.tell(rt, to, body)?).ok(),
+        None => stop_text(alloc, company.stop(rt, to)?).ok(),
     }
 }

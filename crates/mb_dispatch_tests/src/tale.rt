@@ -43,9 +43,13 @@ pub struct Tale {
 /// Takes each step of each tale, and sees to it that it is answered as it says.
 pub fn play<R: Abort + Wait>(rt: &R, alloc: Global, tales: &[Tale]) {
     for tale in tales {
-        let mut stage = Stage::new(rt, alloc, &tale.story);
-        for (step, answer) in tale.steps {
-            see(rt, &stage.take(rt, *step), *answer);
-        }
+        play_one(rt, alloc, tale);
+    }
+}
+
+fn play_one<R: Abort + Wait>(rt: &R, alloc: Global, tale: &Tale) {
+    let mut stage = Stage::new(rt, alloc, &tale.story);
+    for (step, answer) in tale.steps {
+        see(rt, &stage.take(rt, *step), *answer);
     }
 }

@@ -72,17 +72,15 @@ pub fn report_of<A: Actor + Send, K: Behaviours + Send, R: Threads + Wait + Sync
     let mut jobs = jobs_of(alloc, senders, sends)?;
     let workers = ends.as_mut_slice();
     let tasks = jobs.as_mut_slice();
-    match system.run(rt, workers, tasks) {
-        Ok(()) => {}
-        Err(_) => return Ok(None),
-    }
+    let has_run = system.run(rt, workers, tasks).is_ok();
     let senders = senders_of(alloc, jobs)?;
     let ended = Built {
         system,
         ends,
         senders,
     };
-    Ok(end(rt, ended))
+    let report = finish(rt, ended).ok();
+    Ok(if has_run { report } else { None })
 }
 
 /// The system of this plan, which is right.
@@ -98,16 +96,6 @@ pub fn begin<A: Actor, K: Behaviours, R: Wait>(
     match System::<A, K>::build(rt, alloc, plan, actors) {
         Ok(built) => Ok(built),
         Err(_) => Err(AllocError),
-    }
-}
-
-// The report of a system that ends.
-fn end<A: Actor, K: Behaviours, R: Wait>(rt: &R, built: Built<A, K>) -> Option<Report>
-    requires together { BelongsTogether built }
-{
-    match finish(rt, built) {
-        Ok(report) => Some(report),
-        Err(_) => None,
     }
 }
 

@@ -18,8 +18,8 @@ run-requires-clause-jobs g c κs within =
     All-same (λ (j : Job g.row.A.Denot g.row.K.Denot). IsSenderOf built.system.gates j.sender.inner) c.as_mut_slice-tasks.result.now
     c.in_ok-jobs.jobs.items c.as_mut_slice-tasks.ensures.value (jobs-ours built c.in_ok-jobs.jobs.items c.in_ok-jobs.ensures c.in_ok-built.ensures)
 
-pub end-requires : goal.end-requires
-end-requires g c =
+pub finish-requires : goal.finish-requires
+finish-requires g c =
     let built = c.in_ok-built.built in
     let jobs = c.in_ok-jobs.jobs in
     let workers = c.as_mut_slice-workers in
