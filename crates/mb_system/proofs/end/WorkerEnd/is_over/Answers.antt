@@ -1,9 +1,0 @@
-use Rattle.std.proofs.Common.{◌∙◌, subst, sym}
-use Rattle.mb_gate.specs.Names.{known_by}
-use Rattle.mb_gate.specs.Rule.{IsPart}
-use Rattle.mb_system.proofs.Saw.{saw-same}
-use Rattle.mb_system.proofs.end.WorkerEnd.is_over.Goals as goal
-
-pub returns-then-is_over-clause-saw : goal.returns-then-is_over-clause-saw
-returns-then-is_over-clause-saw g c =
-    subst (λ p. IsPart (known_by c.args.self.now.waker.pass).log (known_by p).log) (sym (c.take.ensures.same.0 ∙ c.loop.invariant.3)) (saw-same _)
