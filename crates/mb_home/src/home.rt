@@ -21,7 +21,6 @@ mod systems;
 mod tells;
 
 /// What lies at an actor's home while nobody holds it: its cell, and the books beside that.
-#[derive(Drop)]
 pub struct Home<A: Actor, K: Behaviours> {
     id: ActorId,
     cell: Cell<A, K>,
@@ -34,6 +33,25 @@ pub struct Home<A: Actor, K: Behaviours> {
     aside_dead: u64,
     dropped: u64,
     roll: Snapshot<Vec<Named<A, K>>>,
+}
+
+// Written out: of a derived `Drop` each crate above would prove again how all that is inside is let go.
+impl<A: Actor, K: Behaviours> Drop for Home<A, K> {
+    fn drop(self) {
+        let Home {
+            id: _,
+            cell: _,
+            take: _,
+            sends: _,
+            rest: _,
+            sent: _,
+            dead: _,
+            cleaned: _,
+            aside_dead: _,
+            dropped: _,
+            roll: _,
+        } = self;
+    }
 }
 
 impl<A: Actor, K: Behaviours> Model for Home<A, K> {

@@ -22,9 +22,15 @@ enum End {
 }
 
 /// A port of a lane. Contracts see which lane it is of, and what it knows.
-#[derive(Drop)]
 pub struct Port {
     end: End,
+}
+
+// Written out: of a derived `Drop` each crate above would prove again how all that is inside is let go.
+impl Drop for Port {
+    fn drop(self) {
+        let Port { end: _ } = self;
+    }
 }
 
 impl Model for Port {

@@ -24,10 +24,19 @@ pub struct Arrival {
 
 /// What is held, in no order that matters: the turns in a heap, and each envelope where it stays until its turn. Contracts
 /// see the list.
-#[derive(Drop)]
 pub struct Waiting {
     turns: BinaryHeap<Reverse<Turn>>,
     envelopes: Slab<Envelope>,
+}
+
+// Written out: of a derived `Drop` each crate above would prove again how all that is inside is let go.
+impl Drop for Waiting {
+    fn drop(self) {
+        let Waiting {
+            turns: _,
+            envelopes: _,
+        } = self;
+    }
 }
 
 impl Model for Waiting {

@@ -23,9 +23,17 @@ impl<A: Actor, K: Behaviours> Cell<A, K> {
         ensures lawful { IsLawful self.who (K.gives self.who.this.0) self.journal }
         ensures aside { result.aside.items ≡ aside_of self.who self.journal }
     {
+        let Cell {
+            place: _,
+            actor: _,
+            outbox: _,
+            journal,
+            books,
+            behaviours: _,
+        } = self;
         Parts {
-            journal: self.journal,
-            aside: self.books.into_aside(),
+            journal,
+            aside: books.into_aside(),
         }
     }
 }
