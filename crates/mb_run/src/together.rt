@@ -35,7 +35,8 @@ pub(crate) fn run_together<A: Actor + Send, K: Behaviours + Send, R: Threads + W
     if let Err(error) = built.system.run(rt, &mut built.ends, &mut jobs) {
         return Err(of_run(error));
     }
-    built.senders = senders_of(alloc, jobs)?;
+    let senders = senders_of(alloc, jobs)?;
+    built.senders = senders;
     Ok(())
 }
 
