@@ -1,8 +1,8 @@
 -- What a run came to, once its system has ended.
 use Rattle.std.proofs.Common.{◌≡◌, ℕ, ◌+◌, ◌-◌, ℤ, List, ◌++◌, length, map, reverse, sym, ap, ◌∙◌, subst, arith, Some}
-use Rattle.std.specs.Prelude.{Err, IfErr, IfOk, Ok, Result, slice_get}
+use Rattle.std.specs.Prelude.{All, Err, IfErr, IfOk, Ok, Result, ◌<◌, slice_get}
 use Rattle.std.proofs.lemmas.List.{append-nil, length-map}
-use Rattle.std.proofs.lemmas.List.Elements.{All-map}
+use Rattle.std.proofs.lemmas.List.Elements.{All-head, All-map}
 use Rattle.std.proofs.lemmas.Option.{same_Some}
 use Rattle.mb_msg.specs.Limits.{most_actors}
 use Rattle.mb_actor.specs.Behaviour.{Moment, Reply}
@@ -11,31 +11,48 @@ use Rattle.mb_fates.specs.Accepted.{accepted}
 use Rattle.mb_fates.specs.declared.posting.Posting.{Posting}
 use Rattle.mb_gate.specs.Names.{actors_of, first_of, known_by}
 use Rattle.mb_gate.specs.Rule.{IsPart}
-use Rattle.mb_gate.specs.View.{Sight}
+use Rattle.mb_gate.specs.View.{Sight, View}
 use Rattle.mb_home.specs.Roll.{Enrolled}
 use Rattle.mb_build.proofs.HouseLemmas.{length-who}
 use Rattle.mb_plan.specs.declared.plan.Plan.{Plan}
 use Rattle.mb_reader.specs.declared.scenario.Sending.{Sending}
 use Rattle.mb_reckon.specs.Seen.{GoesOnFromAll}
 use Rattle.mb_reckon.proofs.Lists.{at-place, length-mapped, there, within}
+use Rattle.mb_reckon.specs.declared.mismatch.Mismatch.{Mismatch as What}
 use Rattle.mb_report.specs.declared.report.Report.{Report}
+use Rattle.mb_dispatch.specs.Belonging.{HasRead}
+use Rattle.mb_dispatch.specs.Refused.{DisagreesAtEnd, DisagreesIfSaid, FindsUnsettled, IsRefusal}
+use Rattle.mb_dispatch.specs.declared.ending.FinishError.{FinishError}
+use Rattle.mb_dispatch.specs.declared.ending.FinishError.TheVariants as end
 use Rattle.mb_system.specs.Begun.{IsBegun}
+use Rattle.mb_system.specs.Members.{IsEndOf}
 use Rattle.mb_system.specs.Orders.{addressed, said_to, stopped_by}
 use Rattle.mb_system.specs.declared.built.Built.{Built}
 use Rattle.mb_system.specs.declared.end.WorkerEnd.{WorkerEnd}
 use Rattle.mb_system.specs.declared.sender.Sender.{Sender}
 use Rattle.mb_system.specs.declared.system.System.{System}
-use Rattle.mb_run.specs.Broken.{IsUnended}
+use Rattle.mb_run.specs.Broken.{IsFoundBusy, IsToldAs, IsUnended}
 use Rattle.mb_run.specs.Faults.{IsFaultOf}
 use Rattle.mb_run.specs.Orders.{orders_of}
 use Rattle.mb_run.specs.Ran.{HasRun, HasSpoken, IsRollOf, IsSeenIn}
 use Rattle.mb_run.specs.Ready.{IsEnded, IsReady}
 use Rattle.mb_run.specs.Senders.{HasSentAll}
+use Rattle.mb_run.specs.Unended.{DoesNotAgree, HasWorkLeft}
 use Rattle.mb_run.specs.declared.fault.RunFault.{RunFault}
-use Rattle.mb_run.proofs.FullLemmas.{fault-ended}
+use Rattle.mb_run.specs.declared.fault.RunFault.TheVariants.{NoMemory, JournalFull, NotQuiet, Mismatch}
 use Rattle.mb_run.proofs.MemberLemmas.{many-ends}
-use Rattle.mb_run.proofs.PlanLemmas.{planned}
+use Rattle.mb_run.proofs.PlanLemmas.{actors-planned, planned}
 use Rattle.mb_run.proofs.SenderLemmas.{sender-here}
+
+-- how it is told why what was ready has no end
+pub unended : {A K : Type 0} (gives : ℕ → Moment → Reply → Type 0) (built : Built A K) (error : FinishError A K) (fault : RunFault)
+    → IsRefusal built error → DisagreesIfSaid gives built error → IsToldAs error fault → IsUnended gives built fault
+unended gives built (end.MissingEnd number back) fault refused why told = absurd told
+unended gives built (end.MissingSender number back) fault refused why told = absurd told
+unended gives built (end.NotQuiet id back) fault refused why told =
+    subst (λ f. IsUnended gives built f) (sym told) (record { within = refused.1; back = back; read = refused.2 })
+unended gives built (end.NoMemory back) fault refused why told = subst (λ f. IsUnended gives built f) (sym told) tt
+unended gives built (end.Mismatch what) fault refused why told = subst (λ f. IsUnended gives built f) (sym told) (what, why)
 
 module _ {A K : Type 0} (after : ℕ → List Message → ℤ) (gives : ℕ → Moment → Reply → Type 0) (plan : Plan) (sends : List Sending)
     (built : Built A K) (report : Report) where
@@ -97,10 +114,12 @@ module _ {A K : Type 0} (after : ℕ → List Message → ℤ) (gives : ℕ → 
 module _ {A K : Type 0} (after : ℕ → List Message → ℤ) (gives : ℕ → Moment → Reply → Type 0) (plan : Plan) (sends : List Sending) (first : Built A K)
     (begun : IsBegun gives plan first) (built : Built A K) (same : built.system ≡ first.system)
     (ready : IsReady (λ number. orders_of number sends) built) where
+  of-plan : IsRollOf plan (first_of built.system.gates).value.roll
+  of-plan = subst (λ (s : System A K). IsRollOf plan (first_of s.gates).value.roll) (sym same) (planned gives plan first begun)
+
   ran : (report : Report) → IsEnded after gives built report → HasRun after gives plan sends report
   ran report ended =
-      has-run after gives plan sends built report ready
-      (subst (λ (s : System A K). IsRollOf plan (first_of s.gates).value.roll) (sym same) (planned gives plan first begun))
+      has-run after gives plan sends built report ready of-plan
       (ap (λ (s : System A K). s.senders) same ∙ begun.numbers.1) (ap (λ (s : System A K). s.workers) same ∙ begun.numbers.0) ended
 
   -- what the system that began by the plan, and was run, came to
@@ -113,7 +132,45 @@ module _ {A K : Type 0} (after : ℕ → List Message → ℤ) (gives : ℕ → 
   all-lines (Ok report) ended = as-many-lines after gives plan sends built report (ran report ended)
   all-lines (Err fault) ended = ended
 
-  pub all-unended : (result : Result Report RunFault) → IfErr result (IsUnended (actors_of built.system.gates)) → IfErr result (IsFaultOf gives plan)
-  all-unended (Ok report) unended = unended
-  all-unended (Err fault) unended =
-      fault-ended gives plan first begun fault (subst (λ (s : System A K). IsUnended (actors_of s.gates) fault) same unended)
+  -- what was found of the system is so of one of the plan
+  left-in : (id : ℕ) (back : Built A K) → id < actors_of built.system.gates → HasRead (FindsUnsettled id) built back → HasWorkLeft plan id
+  left-in id back within (before, after, is, unsettled) = record {
+    gates = built.system.gates;
+    planned = of-plan;
+    within = within;
+    before = is.first.waker;
+    after = is.first'.waker;
+    ours = All-head (λ (e : WorkerEnd A K). IsEndOf built.system.gates e.waker) is.first is.rest
+        (subst (λ l. All (λ (e : WorkerEnd A K). IsEndOf built.system.gates e.waker) l) is.was ready.ends);
+    same = is.ours;
+    found = subst (λ (p : View × View). FindsUnsettled id p.0 p.1) (λ i. (sym is.knew i, sym is.knows i)) unsettled;
+  }
+
+  work-left : (id : ℕ) → IsFoundBusy built id → HasWorkLeft plan id
+  work-left id found = left-in id found.back found.within found.read
+
+  does-not-agree : (what : What) → DisagreesAtEnd gives built what → DoesNotAgree gives plan
+  does-not-agree what at_end = record {
+    gates = built.system.gates;
+    planned = of-plan;
+    view = at_end.view;
+    outside = at_end.outside;
+    many = at_end.ways.length_is ∙ ap (λ (s : System A K). s.senders) same ∙ begun.numbers.1;
+    waiting = at_end.waiting;
+    counted = at_end.counted;
+    what = what;
+    disagrees = at_end.disagrees;
+  }
+
+  fault-unended : (fault : RunFault) → IsUnended gives built fault → IsFaultOf gives plan fault
+  fault-unended NoMemory found = tt
+  fault-unended JournalFull found = absurd found
+  fault-unended (NotQuiet id) found = (
+    subst (λ n. id.0 < n) (ap (λ (s : System A K). actors_of s.gates) same ∙ actors-planned gives plan first begun) found.within,
+    work-left id.0 found,
+  )
+  fault-unended Mismatch found = does-not-agree found.0 found.1
+
+  pub all-unended : (result : Result Report RunFault) → IfErr result (IsUnended gives built) → IfErr result (IsFaultOf gives plan)
+  all-unended (Ok report) found = found
+  all-unended (Err fault) found = fault-unended fault found

@@ -19,7 +19,7 @@ use Rattle.mb_system.specs.Faults.{CameToLimit}
 use Rattle.mb_system.specs.declared.built.Built.{Built}
 use Rattle.mb_system.specs.declared.end.WorkerEnd.{WorkerEnd}
 use Rattle.mb_dispatch.proofs.Rolls.{of-plan}
-use Rattle.mb_run.specs.Broken.{IsBrokenOff, IsUnended}
+use Rattle.mb_run.specs.Broken.{IsBrokenOff}
 use Rattle.mb_run.specs.Faults.{HasFullJournal, IsFaultOf}
 use Rattle.mb_run.specs.declared.fault.RunFault.{RunFault}
 use Rattle.mb_run.specs.declared.fault.RunFault.TheVariants.{NoMemory, JournalFull, NotQuiet, Mismatch}
@@ -62,15 +62,9 @@ module _ {A K : Type 0} (gives : ℕ → Moment → Reply → Type 0) (plan : Pl
         full = let le = came.full in let limit = limit-planned plan who.this.0 who here in omega (arith, le, limit);
       }
 
-  -- the run was broken off, or the system has no end
+  -- the run was broken off
   pub fault-broken : (fault : RunFault) → IsBrokenOff gives built.system fault → IsFaultOf gives plan fault
   fault-broken NoMemory broken = tt
   fault-broken JournalFull broken = full-journal broken.0 broken.1
   fault-broken (NotQuiet id) broken = absurd broken
   fault-broken Mismatch broken = absurd broken
-
-  pub fault-ended : (fault : RunFault) → IsUnended (actors_of built.system.gates) fault → IsFaultOf gives plan fault
-  fault-ended NoMemory unended = tt
-  fault-ended JournalFull unended = absurd unended
-  fault-ended (NotQuiet id) unended = subst (λ n. id.0 < n) (actors-planned gives plan built begun) unended
-  fault-ended Mismatch unended = tt

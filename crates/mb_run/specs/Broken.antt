@@ -1,6 +1,13 @@
 -- Why a system's run was broken off, or it has no end.
 use Rattle.std.specs.Prelude.{◌≡◌, ℕ, ◌<◌}
 use Rattle.mb_actor.specs.Behaviour.{Moment, Reply}
+use Rattle.mb_dispatch.specs.Belonging.{HasRead}
+use Rattle.mb_dispatch.specs.Refused.{DisagreesAtEnd, FindsUnsettled}
+use Rattle.mb_dispatch.specs.declared.ending.FinishError.{FinishError}
+use Rattle.mb_dispatch.specs.declared.ending.FinishError.TheVariants as end
+use Rattle.mb_gate.specs.Names.{actors_of}
+use Rattle.mb_reckon.specs.declared.mismatch.Mismatch.{Mismatch as What}
+use Rattle.mb_system.specs.declared.built.Built.{Built}
 use Rattle.mb_system.specs.Faults.{CameToLimit}
 use Rattle.mb_system.specs.declared.end.WorkerEnd.{WorkerEnd}
 use Rattle.mb_system.specs.declared.failure.RunError.{RunError}
@@ -22,9 +29,24 @@ IsBrokenOff {A} {K} gives system JournalFull = (end : WorkerEnd A K) × CameToLi
 IsBrokenOff gives system (NotQuiet id) = ⊥
 IsBrokenOff gives system Mismatch = ⊥
 
--- a system of so many actors has no end: one of them has something to run still
-abbrev pub IsUnended : ℕ → RunFault → Type 0
-IsUnended actors NoMemory = Unit {0}
-IsUnended actors JournalFull = ⊥
-IsUnended actors (NotQuiet id) = id.0 < actors
-IsUnended actors Mismatch = Unit {0}
+-- the fault by which this reason is told; none is told by a system that all ends and senders come back to
+abbrev pub IsToldAs : {A K : Type 0} → FinishError A K → RunFault → Type 0
+IsToldAs (end.MissingEnd number back) fault = ⊥
+IsToldAs (end.MissingSender number back) fault = ⊥
+IsToldAs (end.NotQuiet id back) fault = fault ≡ NotQuiet id
+IsToldAs (end.NoMemory back) fault = fault ≡ NoMemory
+IsToldAs (end.Mismatch what) fault = fault ≡ Mismatch
+
+module _ {A K : Type 0} where
+  -- as the first end read of each actor whether it has something to run, this one was the least that had
+  pub record IsFoundBusy (built : Built A K) (id : ℕ) : Type 0 where
+    pub within : id < actors_of built.system.gates
+    pub back : Built A K
+    pub read : HasRead (FindsUnsettled id) built back
+
+  -- what was ready has no end
+  abbrev pub IsUnended : (ℕ → Moment → Reply → Type 0) → Built A K → RunFault → Type 0
+  IsUnended gives built NoMemory = Unit {0}
+  IsUnended gives built JournalFull = ⊥
+  IsUnended gives built (NotQuiet id) = IsFoundBusy built id.0
+  IsUnended gives built Mismatch = (what : What) × DisagreesAtEnd gives built what

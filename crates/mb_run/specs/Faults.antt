@@ -8,6 +8,7 @@ use Rattle.mb_journal.specs.Run.{IsRun}
 use Rattle.mb_journal.specs.Run.Stopped.{NoRoom}
 use Rattle.mb_plan.specs.declared.plan.Plan.{Plan}
 use Rattle.mb_system.specs.Begun.{actors_in}
+use Rattle.mb_run.specs.Unended.{DoesNotAgree, HasWorkLeft}
 use Rattle.mb_run.specs.declared.fault.RunFault.{RunFault}
 use Rattle.mb_run.specs.declared.fault.RunFault.TheVariants.{NoMemory, JournalFull, NotQuiet, Mismatch}
 
@@ -22,9 +23,9 @@ pub record HasFullJournal (gives : ℕ → Moment → Reply → Type 0) (plan : 
   pub run : IsRun who plan.throughput before journal NoRoom
   pub full : plan.journal_limit ≤ length journal
 
--- an actor that has something to run still is one of the plan's, or the guardian
+-- an actor that was found to have something to run still is one of the plan's, or the guardian
 abbrev pub IsFaultOf : (ℕ → Moment → Reply → Type 0) → Plan → RunFault → Type 0
 IsFaultOf gives plan NoMemory = Unit {0}
 IsFaultOf gives plan JournalFull = HasFullJournal gives plan
-IsFaultOf gives plan (NotQuiet id) = id.0 < length plan.actors.items + 1
-IsFaultOf gives plan Mismatch = Unit {0}
+IsFaultOf gives plan (NotQuiet id) = (id.0 < length plan.actors.items + 1) × HasWorkLeft plan id.0
+IsFaultOf gives plan Mismatch = DoesNotAgree gives plan

@@ -1,5 +1,5 @@
 //! A quiet run: all is sent first, in the order of the text, and then run on one thread.
-ghost use Rattle.std.specs.Prelude.{◌≡◌, [], IfErr, IfOk, OnOk, length, replicate};
+ghost use Rattle.std.specs.Prelude.{◌≡◌, [], IfErr, OnOk, length, replicate};
 ghost use Rattle.mb_gate.specs.Names.{actors_of};
 ghost use Rattle.mb_system.specs.Members.{IsSenderOf};
 ghost use Rattle.mb_system.specs.Orders.{HasSent};
@@ -17,35 +17,23 @@ use mb_dispatch::{Built, Order, Sender, System};
 use mb_reader::Sending;
 use std::sync::Wait;
 
-/// Sends all, and runs what there is to run; all comes back.
+/// Sends all, and runs what there is to run.
 pub(crate) fn run_alone<A: Actor, K: Behaviours, R: Wait>(
     rt: &R,
-    built: Built<A, K>,
+    built: &mut Built<A, K>,
     sends: &[Sending],
-) -> Result<Built<A, K>, RunFault>
-    requires ready { IsReady (λ _. []) built }
-    requires sendable { AreSendable built.system.senders (actors_of built.system.gates) sends.now }
-    ensures system { IfOk result (λ after. after.system ≡ built.system) }
-    ensures ready { IfOk result (IsReady (λ number. orders_of number sends.now)) }
-    ensures fault { IfErr result (IsBrokenOff K.gives built.system) }
+) -> Result<(), RunFault>
+    requires ready { IsReady (λ _. []) built.old }
+    requires sendable { AreSendable built.old.system.senders (actors_of built.old.system.gates) sends.now }
+    ensures system { built.new.system ≡ built.old.system }
+    ensures ready { OnOk result (IsReady (λ number. orders_of number sends.now) built.new) }
+    ensures fault { IfErr result (IsBrokenOff K.gives built.old.system) }
 {
-    let Built {
-        system,
-        mut ends,
-        mut senders,
-    } = built;
-    send_in_turn(rt, &system, &mut senders, sends)?;
-    let Some(first) = ends.first_mut() else {
-        unreachable!()
-    };
-    if let Err(error) = first.run_quietly(rt, &system) {
+    send_in_turn(rt, &built.system, &mut built.senders, sends)?;
+    if let Err(error) = built.ends[0].run_quietly(rt, &built.system) {
         return Err(of_run(error));
     }
-    Ok(Built {
-        system,
-        ends,
-        senders,
-    })
+    Ok(())
 }
 
 /// Each send by its sender, in the order of the text.

@@ -1,10 +1,10 @@
 //! The whole run.
-ghost use Rattle.std.specs.Prelude.{◌≡◌, ℕ, ◌+◌, IfErr, IfOk, [], length};
+ghost use Rattle.std.specs.Prelude.{◌≡◌, ℕ, ◌+◌, IfErr, IfOk, OnOk, [], length};
 ghost use Rattle.mb_build.specs.Behaved.{AreBehaved};
 ghost use Rattle.mb_gate.specs.Names.{actors_of};
 ghost use Rattle.mb_system.specs.Belonging.{BelongsTogether};
 ghost use Rattle.mb_dispatch.specs.Refused.{IsComplete, IsOfWhole};
-ghost use Rattle.mb_run.specs.Broken.{IsBrokenOff, IsUnended};
+ghost use Rattle.mb_run.specs.Broken.{IsBrokenOff, IsToldAs, IsUnended};
 ghost use Rattle.mb_run.specs.Faults.{IsFaultOf};
 ghost use Rattle.mb_run.specs.Given.{AreSendable, CanRun};
 ghost use Rattle.mb_run.specs.Orders.{orders_of};
@@ -42,28 +42,28 @@ pub fn run<A: Actor + Send, K: Behaviours + Send, R: Threads + Wait + Sync>(
     ensures many { IfOk result (λ report. length report.actors.items ≡ length plan.actors.items + 1) }
     ensures fault { IfErr result (IsFaultOf K.gives plan) }
 {
-    let built = match System::<A, K>::build(rt, alloc, plan, actors) {
+    let mut built = match System::<A, K>::build(rt, alloc, plan, actors) {
         Ok(built) => built,
         Err(BuildError::BadPlan(_, _, _)) => unreachable!(),
         Err(BuildError::NoMemory) => return Err(RunFault::NoMemory),
     };
-    let built = send_and_run(rt, alloc, built, sends, is_quiet)?;
+    send_and_run(rt, alloc, &mut built, sends, is_quiet)?;
     report_of(rt, built)
 }
 
-/// Has the senders send, and the ends run what there is to run; all comes back.
+/// Has the senders send, and the ends run what there is to run.
 fn send_and_run<A: Actor + Send, K: Behaviours + Send, R: Threads + Wait + Sync>(
     rt: &R,
     alloc: Global,
-    built: Built<A, K>,
+    built: &mut Built<A, K>,
     sends: &[Sending],
     is_quiet: bool,
-) -> Result<Built<A, K>, RunFault>
-    requires ready { IsReady (λ _. []) built }
-    requires sendable { AreSendable built.system.senders (actors_of built.system.gates) sends.now }
-    ensures system { IfOk result (λ after. after.system ≡ built.system) }
-    ensures ready { IfOk result (IsReady (λ number. orders_of number sends.now)) }
-    ensures fault { IfErr result (IsBrokenOff K.gives built.system) }
+) -> Result<(), RunFault>
+    requires ready { IsReady (λ _. []) built.old }
+    requires sendable { AreSendable built.old.system.senders (actors_of built.old.system.gates) sends.now }
+    ensures system { built.new.system ≡ built.old.system }
+    ensures ready { OnOk result (IsReady (λ number. orders_of number sends.now) built.new) }
+    ensures fault { IfErr result (IsBrokenOff K.gives built.old.system) }
 {
     if is_quiet {
         return run_alone(rt, built, sends);
@@ -79,7 +79,7 @@ fn report_of<A: Actor, K: Behaviours, R: Wait>(
     requires together { BelongsTogether built }
     requires complete { IsComplete built }
     ensures ended { IfOk result (IsEnded K.after K.gives built) }
-    ensures fault { IfErr result (IsUnended (actors_of built.system.gates)) }
+    ensures fault { IfErr result (IsUnended K.gives built) }
 {
     match finish(rt, built) {
         Ok(report) => Ok(report),
@@ -90,7 +90,7 @@ fn report_of<A: Actor, K: Behaviours, R: Wait>(
 /// How it is told that there is no report of a system of which nothing is missing.
 fn fault_of<A: Actor, K: Behaviours>(error: &FinishError<A, K>) -> RunFault
     requires { (actors : ℕ) × IsOfWhole actors error.now }
-    ensures { (actors : ℕ) → IsOfWhole actors error.now → IsUnended actors result }
+    ensures { IsToldAs error.now result }
 {
     match error {
         FinishError::NotQuiet(id, _) => RunFault::NotQuiet(*id),

@@ -1,5 +1,5 @@
 //! A run on threads: each sender has a job, with its sends in the order of the text, beside the workers.
-ghost use Rattle.std.specs.Prelude.{◌≡◌, ◌≤◌, [], IfErr, IfOk, length, map};
+ghost use Rattle.std.specs.Prelude.{◌≡◌, ◌≤◌, [], IfErr, IfOk, OnOk, length, map};
 ghost use Rattle.mb_gate.specs.Names.{actors_of};
 ghost use Rattle.mb_run.specs.Broken.{IsBrokenOff};
 ghost use Rattle.mb_run.specs.Given.{AreSendable};
@@ -13,37 +13,31 @@ use mb_actor::{Actor, Behaviours};
 use mb_dispatch::{Built, Job, Sender};
 use mb_reader::Sending;
 use std::alloc::{AllocError, Global};
+use std::mem;
 use std::sync::Wait;
 use std::thread::Threads;
 
-/// Runs the workers while the senders send; all comes back.
+/// Runs the workers while the senders send. The senders are away while they have jobs, and after a fault they stay away.
 pub(crate) fn run_together<A: Actor + Send, K: Behaviours + Send, R: Threads + Wait + Sync>(
     rt: &R,
     alloc: Global,
-    built: Built<A, K>,
+    built: &mut Built<A, K>,
     sends: &[Sending],
-) -> Result<Built<A, K>, RunFault>
-    requires ready { IsReady (λ _. []) built }
-    requires sendable { AreSendable built.system.senders (actors_of built.system.gates) sends.now }
-    ensures system { IfOk result (λ after. after.system ≡ built.system) }
-    ensures ready { IfOk result (IsReady (λ number. orders_of number sends.now)) }
-    ensures fault { IfErr result (IsBrokenOff K.gives built.system) }
+) -> Result<(), RunFault>
+    requires ready { IsReady (λ _. []) built.old }
+    requires sendable { AreSendable built.old.system.senders (actors_of built.old.system.gates) sends.now }
+    ensures system { built.new.system ≡ built.old.system }
+    ensures ready { OnOk result (IsReady (λ number. orders_of number sends.now) built.new) }
+    ensures fault { IfErr result (IsBrokenOff K.gives built.old.system) }
 {
-    let Built {
-        system,
-        mut ends,
-        senders,
-    } = built;
+    let senders = mem::replace(&mut built.senders, Vec::new(alloc));
     let mut jobs = jobs_of(alloc, senders, sends)?;
-    if let Err(error) = system.run(rt, &mut ends, &mut jobs) {
+    if let Err(error) = built.system.run(rt, &mut built.ends, &mut jobs) {
         return Err(of_run(error));
     }
     let senders = senders_of(alloc, jobs)?;
-    Ok(Built {
-        system,
-        ends,
-        senders,
-    })
+    built.senders = senders;
+    Ok(())
 }
 
 /// A job for each sender.

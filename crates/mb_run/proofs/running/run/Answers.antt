@@ -25,29 +25,29 @@ send_and_run-requires-clause-sendable g c κs within =
 
 pub report_of-requires : goal.report_of-requires
 report_of-requires g c = record {
-  together = together (λ number. orders_of number c.args.sends.now) c.in_ok-built.built c.in_ok-built.ensures.ready;
-  complete = complete (λ number. orders_of number c.args.sends.now) c.in_ok-built.built c.in_ok-built.ensures.ready;
+  together = together (λ number. orders_of number c.args.sends.now) c.send_and_run.new.built c.in_ok-send_and_run.ensures.ready;
+  complete = complete (λ number. orders_of number c.args.sends.now) c.send_and_run.new.built c.in_ok-send_and_run.ensures.ready;
 }
 
 pub returns-clause-ran : goal.returns-clause-ran
 returns-clause-ran g c =
-    all-ran g.K.Behaviours.after g.K.Behaviours.gives c.args.plan c.args.sends.now c.in-Ok.built c.in-Ok.ensures.begun c.in_ok-built.built
-    c.in_ok-built.ensures.system c.in_ok-built.ensures.ready c.report_of.result c.report_of.ensures.ended
+    all-ran g.K.Behaviours.after g.K.Behaviours.gives c.args.plan c.args.sends.now c.in-Ok.built c.in-Ok.ensures.begun c.send_and_run.new.built
+    c.send_and_run.ensures.system c.in_ok-send_and_run.ensures.ready c.report_of.result c.report_of.ensures.ended
 
 pub returns-clause-many : goal.returns-clause-many
 returns-clause-many g c =
-    all-lines g.K.Behaviours.after g.K.Behaviours.gives c.args.plan c.args.sends.now c.in-Ok.built c.in-Ok.ensures.begun c.in_ok-built.built
-    c.in_ok-built.ensures.system c.in_ok-built.ensures.ready c.report_of.result c.report_of.ensures.ended
+    all-lines g.K.Behaviours.after g.K.Behaviours.gives c.args.plan c.args.sends.now c.in-Ok.built c.in-Ok.ensures.begun c.send_and_run.new.built
+    c.send_and_run.ensures.system c.in_ok-send_and_run.ensures.ready c.report_of.result c.report_of.ensures.ended
 
 pub returns-clause-fault : goal.returns-clause-fault
 returns-clause-fault g c =
-    all-unended g.K.Behaviours.after g.K.Behaviours.gives c.args.plan c.args.sends.now c.in-Ok.built c.in-Ok.ensures.begun c.in_ok-built.built
-    c.in_ok-built.ensures.system c.in_ok-built.ensures.ready c.report_of.result c.report_of.ensures.fault
+    all-unended g.K.Behaviours.after g.K.Behaviours.gives c.args.plan c.args.sends.now c.in-Ok.built c.in-Ok.ensures.begun c.send_and_run.new.built
+    c.send_and_run.ensures.system c.in_ok-send_and_run.ensures.ready c.report_of.result c.report_of.ensures.fault
 
-pub returns-in_err-built-clause-fault : goal.returns-in_err-built-clause-fault
-returns-in_err-built-clause-fault g c =
+pub returns-in_err-send_and_run-clause-fault : goal.returns-in_err-send_and_run-clause-fault
+returns-in_err-send_and_run-clause-fault g c =
     let gives = g.K.Behaviours.gives in let plan = c.args.plan in
     let p = err_from_is_err_and c.from_residual.result c.from_residual.ensures.1 in
-    let broken = fault-broken gives plan c.in-Ok.built c.in-Ok.ensures.begun c.in_err-built.field-0.0 c.in_err-built.ensures.fault in
+    let broken = fault-broken gives plan c.in-Ok.built c.in-Ok.ensures.begun c.in_err-send_and_run.field-0.0 c.in_err-send_and_run.ensures.fault in
     let as_told = subst (λ (f : RunFault). IsFaultOf gives plan f) (sym p.2) broken in
     subst (λ (r : Result Report RunFault). IfErr r (IsFaultOf gives plan)) (sym p.1) as_told
