@@ -1,3 +1,4 @@
 pub mod Examples
+pub mod Firsts
 pub mod Loops
 pub mod Values

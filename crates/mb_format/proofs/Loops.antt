@@ -1,9 +1,9 @@
 -- One more turn of a loop over keys, over items and over actors.
-use Rattle.std.proofs.Common.{◌≡◌, ℕ, suc, ◌+◌, ◌<◌, List, [], ◌∷◌, ◌++◌, Option, Some, None, Result, Err, length, map, get_or, drop, add-one}
+use Rattle.std.proofs.Common.{◌≡◌, ℕ, ◌+◌, ◌<◌, List, [], ◌∷◌, ◌++◌, Option, Some, None, Result, Err, length, map, get_or, drop, add-one}
 use Rattle.std.proofs.Common.{append_assoc, ap, sym, ◌∙◌, subst}
 use Rattle.std.proofs.lemmas.List.{map-append}
 use Rattle.std.proofs.Math.Seq.{drop-cons}
-use Rattle.toml.specs.Data.{Data, Items, as_table, item}
+use Rattle.toml.specs.Data.{Data, as_table}
 use Rattle.toml.specs.View.{view, items_view}
 use Rattle.toml.specs.declared.value.Value.{Value}
 use Rattle.mb_format.specs.Check.{all_kin, each_from, kin_of}

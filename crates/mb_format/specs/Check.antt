@@ -10,6 +10,8 @@ use Rattle.mb_format.specs.Name.{is_name}
 use Rattle.mb_format.specs.Operation.{op_of, op_reason}
 use Rattle.mb_format.specs.Place.{Fault, first, entry_text}
 use Rattle.mb_format.specs.Value.{items_of, key_reason, text_of, text_or}
+use Rattle.mb_format.specs.declared.entries.Part.{Part}
+use Rattle.mb_format.specs.declared.entries.Part.TheVariants.{Names, Actors, Sends}
 use Rattle.mb_format.specs.declared.finding.Reason.{Reason}
 use Rattle.mb_format.specs.declared.finding.Reason.TheVariants.{UnknownKey, WrongType}
 use Rattle.mb_format.specs.declared.form.Rows.{Rows as RowsType}
@@ -120,6 +122,17 @@ actor_check kin earlier d = entry_check (actor_table_check (around_actor kin ear
 abbrev pub send_check : List KinData → ℕ → Data → Option Fault
 send_check kin earlier d =
     entry_check (λ prefix ms. table_check send_keys send_keys prefix (around_send kin) ms) (codes "send") earlier (as_table d)
+
+-- a part of an entry of an array, and the array
+abbrev pub part_check : Part → List KinData → ℕ → Data → Option Fault
+part_check Names = name_check
+part_check Actors = actor_check
+part_check Sends = send_check
+
+abbrev pub array_of : Part → List ℕ
+array_of Names = codes "actor"
+array_of Actors = codes "actor"
+array_of Sends = codes "send"
 
 -- the document: its own keys; then the names of all actors; then all actors; then all sends
 abbrev pub document_check : Members → Option Fault

@@ -30,18 +30,17 @@ pub(crate) fn report(place: Place<'_>, reason: Option<Reason>) -> Result<(), Fin
     }
 }
 
-/// Checks a table: the least key that is none of the known ones, and then these keys in their order.
+/// Checks a table: the least key that is none of these, and then these in their order.
 pub(crate) fn check_table<'a>(
     path: Path,
-    known: &[Key],
     keys: &[Key],
     context: &Context<'_>,
     table: &'a Table,
 ) -> Result<(), Finding<'a>>
     ensures { Finds result (table_check
-        (map key_data known.now) (map key_data keys.now) (path_text path) (around context.now) (table_view table.now)) }
+        (map key_data keys.now) (map key_data keys.now) (path_text path) (around context.now) (table_view table.now)) }
 {
-    check_unknown(path, known, table)?;
+    check_unknown(path, keys, table)?;
     check_keys(path, keys, context, table)
 }
 

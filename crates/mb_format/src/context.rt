@@ -4,7 +4,7 @@ ghost use Rattle.mb_format.specs.Context.{around, kin_data, knows, knows_child, 
 use crate::name::is_text;
 
 /// An actor of the document, as others name it.
-#[derive(Clone, Copy, Debug)]
+#[derive(Clone, Copy)]
 pub struct Kin<'a> {
     /// Its name; empty where it has none.
     pub name: &'a [u8],
@@ -13,7 +13,7 @@ pub struct Kin<'a> {
 }
 
 /// What the check of a table knows of the rest of the document.
-#[derive(Clone, Copy, Debug)]
+#[derive(Clone, Copy)]
 pub struct Context<'a> {
     /// The actors.
     pub kin: &'a [Kin<'a>],

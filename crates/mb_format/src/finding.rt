@@ -5,7 +5,7 @@ use crate::path::Path;
 use std::fmt;
 
 /// What is wrong.
-#[derive(Clone, Copy, Debug, PartialEq, Eq)]
+#[derive(Clone, Copy, Debug)]
 pub enum Reason {
     /// A key that the table does not have.
     UnknownKey,
@@ -28,7 +28,7 @@ pub enum Reason {
 }
 
 /// Where it is.
-#[derive(Clone, Copy, Debug)]
+#[derive(Clone, Copy)]
 pub enum Place<'a> {
     /// A key of a table.
     Key(Path, &'a str),
@@ -39,7 +39,7 @@ pub enum Place<'a> {
 }
 
 /// The first thing that is wrong with a document.
-#[derive(Clone, Copy, Debug)]
+#[derive(Clone, Copy)]
 pub struct Finding<'a> {
     /// Where.
     pub place: Place<'a>,

@@ -1,5 +1,5 @@
 /// The arrays of tables within an actor.
-#[derive(Clone, Copy, Debug, PartialEq, Eq)]
+#[derive(Clone, Copy)]
 pub enum Rows {
     /// The ranks of a priority mailbox.
     Rank,
@@ -10,7 +10,7 @@ pub enum Rows {
 }
 
 /// The sets of words.
-#[derive(Clone, Copy, Debug, PartialEq, Eq)]
+#[derive(Clone, Copy)]
 pub enum Words {
     Pool,
     Mailbox,
@@ -19,7 +19,7 @@ pub enum Words {
 }
 
 /// What the value of a key may be.
-#[derive(Clone, Copy, Debug, PartialEq, Eq)]
+#[derive(Clone, Copy)]
 pub enum Form {
     /// An integer from the one number to the other.
     Whole { low: u32, high: u32 },
@@ -46,7 +46,7 @@ pub enum Form {
 }
 
 /// Where a key may stand.
-#[derive(Clone, Copy, Debug, PartialEq, Eq)]
+#[derive(Clone, Copy)]
 pub enum Only {
     /// Everywhere.
     Always,

@@ -1,7 +1,6 @@
 use crate::form::{Form, Only};
 
 /// A key of a table.
-#[derive(Clone, Copy, Debug)]
 pub struct Key {
     /// Its name.
     pub name: &'static str,

@@ -5,6 +5,7 @@ mod actors;
 mod check;
 mod context;
 mod document;
+mod entries;
 mod finding;
 mod form;
 mod key;

@@ -12,7 +12,7 @@ use crate::name::{is_name, is_text};
 use crate::number::number_of;
 
 /// What an operation does to the actor that it names.
-#[derive(Clone, Copy, Debug, PartialEq, Eq)]
+#[derive(Clone, Copy)]
 pub enum Verb {
     Tell,
     Control,
@@ -23,7 +23,7 @@ pub enum Verb {
 }
 
 /// An operation, with the name of the actor that it is about.
-#[derive(Clone, Copy, Debug)]
+#[derive(Clone, Copy)]
 pub enum Op<'a> {
     Add,
     Ignore,

@@ -1,5 +1,5 @@
 /// A table of the document. Positions count from 1.
-#[derive(Clone, Copy, Debug)]
+#[derive(Clone, Copy)]
 pub enum Path {
     /// The document itself.
     Top,

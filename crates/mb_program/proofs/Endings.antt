@@ -6,7 +6,7 @@ use Rattle.mb_msg.specs.declared.id.ActorId.{ActorId}
 use Rattle.mb_reader.specs.declared.fault.Fault.{Fault}
 use Rattle.mb_reader.specs.declared.fault.Fault.TheVariants.{NoMemory, NotToml, BadScenario}
 use Rattle.mb_program.specs.Answer.{most_read, HasReported, IsAnswer, IsAtFault, IsCutShort, IsLineSaid, IsMet, IsRead, IsRefused}
-use Rattle.mb_program.specs.Answer.{IsSaidFor}
+use Rattle.mb_program.specs.Answer.{IsReadFailure, IsSaidFor}
 use Rattle.mb_program.specs.Answer.IsCutShort.{nothing, a_beginning}
 use Rattle.mb_program.specs.Failure.{error_line, exit_status}
 use Rattle.mb_program.specs.Watching.{Watching}
@@ -79,6 +79,18 @@ met_refused known text failed Mismatch read none refused = (refl, none, (text, r
 met_refused known text failed (Input NoMemory) read none refused = (refl, none)
 met_refused known text failed (Input NotToml) read none refused = (refl, none, (text, read, refused))
 met_refused known text failed (Input (BadScenario place reason)) read none refused = (refl, none, (text, read, refused))
+
+-- what ended the reading is met
+pub met_unread : (known : Option (List ℕ)) (before after : Bool) (failure : Failure) → before ≡ false →
+    IsReadFailure before after failure → IsMet 0 known after failure
+met_unread known before after Os none failed = (refl, failed)
+met_unread known before after Arguments none failed = absurd failed
+met_unread known before after JournalFull none failed = absurd failed
+met_unread known before after (NotQuiet id) none failed = absurd failed
+met_unread known before after Mismatch none failed = absurd failed
+met_unread known before after (Input NoMemory) none failed = (refl, failed ∙ none)
+met_unread known before after (Input NotToml) none failed = absurd failed
+met_unread known before after (Input (BadScenario place reason)) none failed = absurd failed
 
 -- what is said is met
 met_said : (failure said : Failure) (arguments : ℕ) (known : Option (List ℕ)) (failed : Bool) →

@@ -9,7 +9,7 @@ use mb_run::RunFault;
 use std::alloc::{AllocError, AllocFailed};
 
 /// Why the program ends without a report.
-#[derive(Debug, Drop)]
+#[derive(Drop)]
 pub enum Failure {
     /// The system failed at reading the input or at writing the output.
     Os,
