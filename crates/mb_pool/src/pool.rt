@@ -21,7 +21,6 @@ use std::marker::Model;
 use std::snapshot::Snapshot;
 
 /// A pool of claims. Contracts see of which gates its claims are, its places, and how many ends and feeds it has.
-#[derive(Drop)]
 pub struct Pool<H: Resident> {
     pub(crate) actors: usize,
     pub(crate) ends: usize,
@@ -29,6 +28,20 @@ pub struct Pool<H: Resident> {
     pub(crate) gates: Snapshot<Gates<H>>,
     pub(crate) door: Snapshot<Door<H>>,
     pub(crate) deques: Snapshot<Vec<Own<H>>>,
+}
+
+// Written out, so that each place where a pool is let go is one call.
+impl<H: Resident> Drop for Pool<H> {
+    fn drop(self) {
+        let Pool {
+            actors: _,
+            ends: _,
+            feeds: _,
+            gates: _,
+            door: _,
+            deques: _,
+        } = self;
+    }
 }
 
 impl<H: Resident> Model for Pool<H> {
