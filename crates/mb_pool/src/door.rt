@@ -16,19 +16,10 @@ use std::marker::Brand;
 use std::sync::Wait;
 
 /// A port of the one place of a shared pool, or of the feeds' place of a stealing one.
+#[derive(Drop)]
 pub enum Door<H: Resident> {
     Bounded(SlotsPort<H>),
     Unbounded(InletPort<H>),
-}
-
-// Written out, so that each place where a door is let go is one call.
-impl<H: Resident> Drop for Door<H> {
-    fn drop(self) {
-        match self {
-            Door::Bounded(port) => drop(port),
-            Door::Unbounded(port) => drop(port),
-        }
-    }
 }
 
 impl<H: Resident> Door<H> {

@@ -30,7 +30,7 @@ pub struct Pool<H: Resident> {
     pub(crate) deques: Snapshot<Vec<Own<H>>>,
 }
 
-// Written out, so that each place where a pool is let go is one call.
+// Written out: of a derived `Drop` each crate above would prove again how all that is inside is let go.
 impl<H: Resident> Drop for Pool<H> {
     fn drop(self) {
         let Pool {
@@ -86,12 +86,12 @@ impl<H: Resident> Pool<H> {
         let Some(ports) = workers.checked_add(feeds) else {
             return Err(AllocError);
         };
+        let deques = deques_of(alloc, gates, kind, workers)?;
         let mut door = first_door(alloc, kind)?;
         door.open(gates, ports);
-        let deques = deques_of(alloc, gates, kind, workers)?;
         let pool = pool_of(gates, &door, &deques, workers, feeds);
-        let members = members_of(alloc, deques, workers)?;
         let mut doors = doors_of(alloc, door, ports)?;
+        let members = members_of(alloc, deques, workers)?;
         let ends = ends_of(alloc, &pool, &mut doors, members)?;
         let feeds = feeds_of(alloc, &pool, &mut doors, feeds)?;
         Ok((pool, ends, feeds))
