@@ -29,10 +29,12 @@ impl<H: Resident> Drop for WorkerEnd<H> {
     fn drop(self) {
         let WorkerEnd {
             before: _,
-            door: _,
-            member: _,
+            door,
+            member,
             behind: _,
         } = self;
+        drop(door);
+        drop(member);
     }
 }
 

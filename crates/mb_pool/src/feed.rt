@@ -20,7 +20,8 @@ pub struct Feed<H: Resident> {
 // Written out: of a derived `Drop` each crate above would prove again how all that is inside is let go.
 impl<H: Resident> Drop for Feed<H> {
     fn drop(self) {
-        let Feed { door: _ } = self;
+        let Feed { door } = self;
+        drop(door);
     }
 }
 

@@ -16,6 +16,8 @@ returns-in-Some-clause-taken g c =
 
 pub returns-in-None-clause-taken : goal.returns-in-None-clause-taken
 returns-in-None-clause-taken g c =
-    let rule = c.in-None.ensures.rule in
-    (rule.0, was_empty (IsUntouched g.H.Resident.is_of g.H.Resident.journal g.H.Resident.mailbox g.H.Resident.rested g.H.Resident.given
-    g.H.Resident.closed_to) (view c.args.pass.now) rule.1.0 rule.1.1 rule.1.2)
+    let rule = c.in-None.ensures.rule in (
+      rule.0,
+      was_empty (IsUntouched g.H.Resident.is_of g.H.Resident.journal g.H.Resident.mailbox g.H.Resident.rested g.H.Resident.given
+          g.H.Resident.closed_to) (view c.args.pass.now) rule.1.0 rule.1.1 rule.1.2,
+    )
