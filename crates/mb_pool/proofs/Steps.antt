@@ -32,6 +32,15 @@ module _ {G H : Type 0} (IsFit : Option G → Claim H → Type 0) where
   pub learns : (port : ℕ) (v : Ledger G (Claim H)) → 0 < v.shares → fifo.Learns Holds port v (λ items. Moment IsFit v (claims_of items))
   learns port v share = λ items views h at. moment IsFit (claims_of items) views port v h at share
 
+  -- a place that held nothing, or as much as it can
+  pub was_empty : (v : Ledger G (Claim H)) (items : List (Parked H)) → length items ≡ 0 → Moment IsFit v (claims_of items) → Moment IsFit v []
+  was_empty v [] none m = m
+  was_empty v (p ∷ items) none m = absurd (omega (arith, none))
+
+  pub was_full : (v : Ledger G (Claim H)) (most : ℕ) (items : List (Parked H)) → length items ≡ most → Moment IsFit v (claims_of items)
+      → (held : List (Claim H)) × (length held ≡ most) × Moment IsFit v held
+  was_full v most items many m = (claims_of items, claims_count items ∙ many, m)
+
   pub queue_take : (port : ℕ) (v : Ledger G (Claim H)) → 0 < v.shares → fifo.Pops Holds port v (λ p w. TakesFirst IsFit v p.claim w)
   queue_take port v share = λ p items views h at. takes IsFit p.claim (claims_of items) views port v h at share
 

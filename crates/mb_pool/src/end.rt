@@ -16,13 +16,26 @@ use std::sync::Wait;
 
 /// A worker's end of a pool. Contracts see of which gates its claims are, in which places it looks, in order, and what was
 /// pushed and taken by way of it in each.
-#[derive(Drop)]
 pub struct WorkerEnd<H: Resident> {
     // Ends lie beside one another in a list, and each writes its own.
     pub(crate) before: Apart,
     pub(crate) door: Door<H>,
     pub(crate) member: Option<Member<H>>,
     pub(crate) behind: Apart,
+}
+
+// Written out: of a derived `Drop` each crate above would prove again how all that is inside is let go.
+impl<H: Resident> Drop for WorkerEnd<H> {
+    fn drop(self) {
+        let WorkerEnd {
+            before: _,
+            door,
+            member,
+            behind: _,
+        } = self;
+        drop(door);
+        drop(member);
+    }
 }
 
 impl<H: Resident> Model for WorkerEnd<H> {
@@ -67,6 +80,20 @@ impl<H: Resident> WorkerEnd<H> {
         ensures same { parts_of self.new ≡ parts_of self.old }
     {
         take_first(rt, &mut self.door, &mut self.member)
+    }
+
+    /// Its port of the place that all share, and what it has beside that.
+    pub(crate) fn into_parts(self) -> (Door<H>, Option<Member<H>>)
+        ensures same { way_of (look_of result.0) result.1 ≡ self }
+        ensures open { AreOpen (way_of (look_of result.0) result.1) }
+    {
+        let WorkerEnd {
+            before: _,
+            door,
+            member,
+            behind: _,
+        } = self;
+        (door, member)
     }
 }
 

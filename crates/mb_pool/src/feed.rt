@@ -1,8 +1,10 @@
 //! A way into a pool from outside its workers.
 ghost use Rattle.std.specs.Prelude.{◌≡◌, MatchResult};
 ghost use Rattle.mb_pool.specs.Moves.{given_back, IsRefusedBy, Pushes};
+ghost use Rattle.mb_pool.specs.Parts.{look_of};
 ghost use Rattle.mb_pool.specs.Places.{gates_of, parts_of};
 ghost use Rattle.mb_gate.specs.Untouched.{IsUntouched};
+ghost use Rattle.mb_pool.specs.Ways.{HasShare, of_feed};
 
 use crate::door::Door;
 use crate::refused::Refused;
@@ -11,9 +13,16 @@ use std::marker::Model;
 use std::sync::Wait;
 
 /// A way into a pool from outside its workers. Contracts see of which gates its claims are, and what was pushed by way of it.
-#[derive(Drop)]
 pub struct Feed<H: Resident> {
     pub(crate) door: Door<H>,
+}
+
+// Written out: of a derived `Drop` each crate above would prove again how all that is inside is let go.
+impl<H: Resident> Drop for Feed<H> {
+    fn drop(self) {
+        let Feed { door } = self;
+        drop(door);
+    }
 }
 
 impl<H: Resident> Model for Feed<H> {
@@ -43,5 +52,14 @@ impl<H: Resident> Feed<H> {
         ensures same { parts_of self.new ≡ parts_of self.old }
     {
         self.door.push(rt, claim)
+    }
+
+    /// Its port of the place that all share.
+    pub(crate) fn into_door(self) -> Door<H>
+        ensures same { of_feed (look_of result) ≡ self }
+        ensures share { HasShare (look_of result) }
+    {
+        let Feed { door } = self;
+        door
     }
 }

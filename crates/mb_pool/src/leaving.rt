@@ -86,8 +86,7 @@ fn join_feeds<H: Resident>(door: Door<H>, feeds: Vec<Feed<H>>) -> Door<H>
 {
     let mut door = door;
     for feed in feeds {
-        let Feed { door: other } = feed;
-        door.join(other);
+        door.join(feed.into_door());
     }
     door
 }
@@ -99,12 +98,7 @@ fn empty_end<H: Resident, R: Wait>(rt: &R, end: WorkerEnd<H>, left: &mut Vec<Cla
     ensures emptied { Empties (IsUntouched H.is_of H.journal H.mailbox H.rested H.given H.closed_to)
         (gates_of end) end.own left.old.items left.new.items }
 {
-    let WorkerEnd {
-        before: _,
-        door,
-        member,
-        behind: _,
-    } = end;
+    let (door, member) = end.into_parts();
     if let Some(member) = member {
         let Member { own, thieves: _ } = member;
         empty_own(rt, own, left);

@@ -21,7 +21,6 @@ use std::marker::Model;
 use std::snapshot::Snapshot;
 
 /// A pool of claims. Contracts see of which gates its claims are, its places, and how many ends and feeds it has.
-#[derive(Drop)]
 pub struct Pool<H: Resident> {
     pub(crate) actors: usize,
     pub(crate) ends: usize,
@@ -29,6 +28,20 @@ pub struct Pool<H: Resident> {
     pub(crate) gates: Snapshot<Gates<H>>,
     pub(crate) door: Snapshot<Door<H>>,
     pub(crate) deques: Snapshot<Vec<Own<H>>>,
+}
+
+// Written out: of a derived `Drop` each crate above would prove again how all that is inside is let go.
+impl<H: Resident> Drop for Pool<H> {
+    fn drop(self) {
+        let Pool {
+            actors: _,
+            ends: _,
+            feeds: _,
+            gates: _,
+            door: _,
+            deques: _,
+        } = self;
+    }
 }
 
 impl<H: Resident> Model for Pool<H> {
@@ -73,12 +86,12 @@ impl<H: Resident> Pool<H> {
         let Some(ports) = workers.checked_add(feeds) else {
             return Err(AllocError);
         };
+        let deques = deques_of(alloc, gates, kind, workers)?;
         let mut door = first_door(alloc, kind)?;
         door.open(gates, ports);
-        let deques = deques_of(alloc, gates, kind, workers)?;
         let pool = pool_of(gates, &door, &deques, workers, feeds);
-        let members = members_of(alloc, deques, workers)?;
         let mut doors = doors_of(alloc, door, ports)?;
+        let members = members_of(alloc, deques, workers)?;
         let ends = ends_of(alloc, &pool, &mut doors, members)?;
         let feeds = feeds_of(alloc, &pool, &mut doors, feeds)?;
         Ok((pool, ends, feeds))

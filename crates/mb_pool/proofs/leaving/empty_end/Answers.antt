@@ -9,32 +9,32 @@ use Rattle.mb_pool.proofs.leaving.empty_end.Goals as goal
 
 pub empty_own-requires : goal.empty_own-requires
 empty_own-requires g c =
-    let m = c.in-Some.member in let door = look_of c.end.inside.door in
-    (own_open m.own door m.thieves.items (subst (λ o. AreOpen (way_of door o)) c.in-Some.is c.end.invariant)).share
+    let m = c.in-Some.member in let door = look_of c.into_parts-door.result.0 in
+    (own_open m.own door m.thieves.items (subst (λ o. AreOpen (way_of door o)) c.in-Some.is c.into_parts-door.ensures.open)).share
 
 pub returns-in-Some-clause-door : goal.returns-in-Some-clause-door
-returns-in-Some-clause-door g c = ap (λ (w : Way _). w.door) c.end.view_is
+returns-in-Some-clause-door g c = ap (λ (w : Way _). w.door) c.into_parts-door.ensures.same
 
 pub returns-in-Some-clause-share : goal.returns-in-Some-clause-share
-returns-in-Some-clause-share g c = door_share (way_of (look_of c.end.inside.door) c.end.inside.member) c.args.end c.end.view_is c.end.invariant
+returns-in-Some-clause-share g c = door_share (way_of (look_of c.into_parts-door.result.0) c.into_parts-door.result.1) c.args.end c.into_parts-door.ensures.same c.into_parts-door.ensures.open
 
 pub returns-in-Some-clause-emptied : goal.returns-in-Some-clause-emptied
 returns-in-Some-clause-emptied g c =
-    let m = c.in-Some.member in let door = look_of c.end.inside.door in
+    let m = c.in-Some.member in let door = look_of c.into_parts-door.result.0 in
     emptied_own (IsUntouched g.H.Resident.is_of g.H.Resident.journal g.H.Resident.mailbox g.H.Resident.rested g.H.Resident.given
     g.H.Resident.closed_to)
-    m.own door m.thieves.items c.args.end c.args.left.now.items c.empty_own.new.left.items (ap (way_of door) (sym c.in-Some.is) ∙ c.end.view_is)
-    (subst (λ o. AreOpen (way_of door o)) c.in-Some.is c.end.invariant) c.empty_own.ensures
+    m.own door m.thieves.items c.args.end c.args.left.now.items c.empty_own.new.left.items (ap (way_of door) (sym c.in-Some.is) ∙ c.into_parts-door.ensures.same)
+    (subst (λ o. AreOpen (way_of door o)) c.in-Some.is c.into_parts-door.ensures.open) c.empty_own.ensures
 
 pub returns-clause-door : goal.returns-clause-door
-returns-clause-door g c = ap (λ (w : Way _). w.door) c.end.view_is
+returns-clause-door g c = ap (λ (w : Way _). w.door) c.into_parts-door.ensures.same
 
 pub returns-clause-share : goal.returns-clause-share
-returns-clause-share g c = door_share (way_of (look_of c.end.inside.door) c.end.inside.member) c.args.end c.end.view_is c.end.invariant
+returns-clause-share g c = door_share (way_of (look_of c.into_parts-door.result.0) c.into_parts-door.result.1) c.args.end c.into_parts-door.ensures.same c.into_parts-door.ensures.open
 
 pub returns-clause-emptied : goal.returns-clause-emptied
 returns-clause-emptied g c =
-    let door = look_of c.end.inside.door in
+    let door = look_of c.into_parts-door.result.0 in
     emptied_nothing (IsUntouched g.H.Resident.is_of g.H.Resident.journal g.H.Resident.mailbox g.H.Resident.rested g.H.Resident.given
     g.H.Resident.closed_to)
-    door c.args.end c.args.left.now.items (ap (way_of door) (sym c.in_default.is) ∙ c.end.view_is)
+    door c.args.end c.args.left.now.items (ap (way_of door) (sym c.in_default.is) ∙ c.into_parts-door.ensures.same)

@@ -17,13 +17,13 @@ join-requires-clause-place g c =
     let feed = c.in-Some.feed in let rest = into_iter_items c.next.new.self in
     let steps : into_iter_items at.feed-iterator ≡ feed ∷ rest = c.in-Some.ensures.steps.0 in
     let list : at.yielded ++ feed ∷ rest ≡ all = ap (λ l. at.yielded ++ l) (sym steps) ∙ at.invariant.2 in
-    let other = look_of c.feed.inside.door in
-    let same : other ≡ feed.door = ap (λ (w : Way _). w.door) c.feed.view_is in
+    let other = look_of c.into_door.result in
+    let same : other ≡ feed.door = ap (λ (w : Way _). w.door) c.into_door.ensures.same in
     here (IsUntouched g.H.Resident.is_of g.H.Resident.journal g.H.Resident.mailbox g.H.Resident.rested g.H.Resident.given g.H.Resident.closed_to)
     base (look_of at.door) other base all at.yielded rest feed list c.requires.alike at.invariant.0 same
 
 pub join-requires-clause-shares : goal.join-requires-clause-shares
-join-requires-clause-shares g c = (c.loop-feed.invariant.1, c.feed.invariant)
+join-requires-clause-shares g c = (c.loop-feed.invariant.1, c.into_door.ensures.share)
 
 pub loop-feed-preserved : goal.loop-feed-preserved
 loop-feed-preserved g c =
@@ -31,8 +31,8 @@ loop-feed-preserved g c =
     let feed = c.in-Some.feed in let rest = into_iter_items c.next.new.self in
     let steps : into_iter_items at.feed-iterator ≡ feed ∷ rest = c.in-Some.ensures.steps.0 in
     let list : at.yielded ++ feed ∷ rest ≡ all = ap (λ l. at.yielded ++ l) (sym steps) ∙ at.invariant.2 in
-    let other = look_of c.feed.inside.door in
-    let same : other ≡ feed.door = ap (λ (w : Way _). w.door) c.feed.view_is in
+    let other = look_of c.into_door.result in
+    let same : other ≡ feed.door = ap (λ (w : Way _). w.door) c.into_door.ensures.same in
     let new = look_of c.join.new.self in (
       takes_next (IsUntouched g.H.Resident.is_of g.H.Resident.journal g.H.Resident.mailbox g.H.Resident.rested g.H.Resident.given
           g.H.Resident.closed_to)
@@ -40,7 +40,7 @@ loop-feed-preserved g c =
       share_next (IsUntouched g.H.Resident.is_of g.H.Resident.journal g.H.Resident.mailbox g.H.Resident.rested g.H.Resident.given
           g.H.Resident.closed_to)
           base (look_of at.door) other new all at.yielded rest feed list c.requires.alike at.invariant.0 same c.join.ensures at.invariant.1
-          c.feed.invariant,
+          c.into_door.ensures.share,
       append_assoc at.yielded (feed ∷ []) rest ∙ list,
     )
 

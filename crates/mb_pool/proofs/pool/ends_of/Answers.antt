@@ -4,9 +4,15 @@ use Rattle.std.proofs.lemmas.List.{length-map}
 use Rattle.mb_pool.specs.Begins.{new_door}
 use Rattle.mb_pool.specs.Parts.{look_of}
 use Rattle.mb_pool.specs.Ways.{way_of}
-use Rattle.mb_pool.proofs.Handing.{made_one, open_with, port_one}
+use Rattle.mb_pool.proofs.Handing.{made_one, open_with, port_one, port_there}
 use Rattle.mb_pool.proofs.Taking.{drained}
 use Rattle.mb_pool.proofs.pool.ends_of.Goals as goal
+
+pub unreachable-requires : goal.unreachable-requires
+unreachable-requires g c =
+    let at = c.loop-member in
+    port_there look_of (new_door c.args.pool.now) at.doors.items (into_iter_items at.member-iterator) (into_iter_items c.next.new.self)
+    c.in-Some.member c.args.pool.now.feeds at.invariant.0 c.in-Some.ensures.steps.0 (sym at.doors.ok.0 ∙ c.in_default.ensures.cases.0)
 
 pub loop-member-preserved : goal.loop-member-preserved
 loop-member-preserved g c =

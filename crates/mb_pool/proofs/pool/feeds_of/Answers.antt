@@ -1,9 +1,20 @@
-use Rattle.std.proofs.Common.{◌≡◌, ap, arith, replicate, ◌∙◌}
+use Rattle.std.proofs.Common.{◌≡◌, ◌-◌, ap, arith, replicate, sym, ◌∙◌}
 use Rattle.mb_pool.specs.Begins.{new_door}
 use Rattle.mb_pool.specs.Parts.{look_of}
 use Rattle.mb_pool.specs.Ways.{of_feed}
-use Rattle.mb_pool.proofs.Handing.{fed_one, port_next, share_with}
+use Rattle.mb_pool.proofs.Handing.{fed_one, port_left, port_next, share_with}
 use Rattle.mb_pool.proofs.pool.feeds_of.Goals as goal
+
+pub loop-feed-init : goal.loop-feed-init
+loop-feed-init g c =
+    let all : c.args.count ≡ c.args.count - 0 = omega arith in
+    (c.requires ∙ ap (λ n. replicate n (new_door c.args.pool.now)) all, c.in_ok-feeds.ensures.items)
+
+pub unreachable-requires : goal.unreachable-requires
+unreachable-requires g c =
+    let at = c.loop-feed in
+    port_left look_of (new_door c.args.pool.now) at.doors.items at._feed c.args.count at.invariant.0 c.loop-feed-test.true
+    (sym at.doors.ok.0 ∙ c.in_default.ensures.cases.0)
 
 pub loop-feed-preserved : goal.loop-feed-preserved
 loop-feed-preserved g c =
