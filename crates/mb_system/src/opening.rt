@@ -13,7 +13,7 @@ ghost use Rattle.mb_system.specs.Shared.{KeepsWhole, shares_of_ends, shares_of_s
 use crate::end::WorkerEnd;
 use crate::sender::Sender;
 use mb_actor::{Actor, Behaviours};
-use mb_gate::{Gates, Pass};
+use mb_gate::{Gates, Pass, Resident};
 use mb_msg::limits::ACTORS;
 use mb_msg::{ActorId, SenderId, SysMsg};
 use mb_pool::Feed;
@@ -138,11 +138,11 @@ fn open_ends<A: Actor, K: Behaviours>(
 }
 
 // Puts a Create into the guardian's list by the only pass that there is: it got no claim, so that the list is not ended.
-fn start<A: Actor, K: Behaviours, R: Wait>(
+fn start<H: Resident, R: Wait>(
     rt: &R,
     alloc: Global,
-    gates: &Gates<Place<A, K>>,
-    pass: &mut Pass<Place<A, K>>,
+    gates: &Gates<H>,
+    pass: &mut Pass<H>,
 ) -> Result<(), AllocError>
     requires ours { (pass_id pass.old ≡ gates_id gates.now) × (0 < actors_of gates.now) }
     requires blank { ((known_by pass.old).log ≡ []) × ((known_by pass.old).got ≡ []) × ((known_by pass.old).debts ≡ []) }
