@@ -9,17 +9,20 @@ pub(crate) type Step = (Call, Option<Answer>, &'static [Effect], i64);
 pub(crate) fn each_call<A: Actor>(rt: &impl Abort, actor: A, out: &mut Outbox, steps: &[Step]) {
     let mut called = Called::new(actor);
     for step in steps {
-        let (call, answer, effects, state) = *step;
-        let found = make(&mut called, &call, out);
-        assert!(rt; found == answer, "{found:?} at {call:?}");
-        assert!(rt; out.effects() == effects, "the effects at {call:?}");
-        assert!(rt; called.state() == state, "the state at {call:?}");
+        let (call, ..) = *step;
+        assert!(rt; goes(&mut called, out, step), "{call:?}");
     }
+}
+
+/// Makes a call: whether all comes of it as it says.
+fn goes<A: Actor>(called: &mut Called<A>, out: &mut Outbox, step: &Step) -> bool {
+    let (call, answer, effects, state) = *step;
+    make(called, &call, out) == answer && out.effects() == effects && called.state() == state
 }
 
 /// Makes a call: its answer, if it has one.
 fn make<A: Actor>(called: &mut Called<A>, call: &Call, out: &mut Outbox) -> Option<Answer> {
-    out.clear();
+    out.settle();
     match call {
         Call::Start => Some(called.start(out)),
         Call::Receive(message) => Some(called.receive(message, out)),
