@@ -1,15 +1,15 @@
 //! Boxed actors of two kinds in one system.
 ghost use Rattle.std.specs.Prelude.{◌≡◌, [], All, IfOk};
 
-use crate::alone::planned;
+use crate::orders::orders_of;
 use crate::seen::see;
 use mb_actor::{Actor, Outbox};
 use mb_dispatch::run_boxed;
 use mb_msg::ActorId;
 use mb_trial::Sending::{Poison, Tell};
-use mb_trial::{ADD, COUNTER, PLAIN, Player, Sending, Story, Watcher, text_of};
+use mb_trial::{ADD, Adder, COUNTER, PLAIN, Story, Watcher, plan_of, text_of};
 use std::alloc::{AllocError, Global};
-use std::sync::Wait;
+use std::sync::{Arc, Wait};
 use std::test::Fail;
 
 /// The first watches the second, which is poisoned between two messages.
@@ -20,25 +20,38 @@ a2 ended state 1 suspended 0 handled 2 left 0 dead 1 restarts 0
 sent 4 handled 3 left 0 dead 1
 ";
 
-const SENDS: &[Sending] = &[Tell(2, ADD, 1), Poison(2), Tell(2, ADD, 2)];
+const TWO: Story<'static> = Story {
+    parts: &[COUNTER, COUNTER],
+    sends: &[Tell(2, ADD, 1), Poison(2), Tell(2, ADD, 2)],
+    ..PLAIN
+};
 
-/// The report of these two.
+/// The report's text of this story with these two, nothing where there is none.
 fn run_both<R: Wait>(
     rt: &R,
     alloc: Global,
+    story: &Story<'_>,
     first: Box<dyn Actor + Send>,
     second: Box<dyn Actor + Send>,
 ) -> Option<String> {
-    let story = Story {
-        parts: &[COUNTER, COUNTER],
-        sends: SENDS,
-        ..PLAIN
-    };
-    let (plan, orders) = planned(alloc, &story).ok()?;
-    let Ok(actors) = fresh(alloc, first, second) else {
-        return None;
-    };
-    match run_boxed(rt, alloc, plan, actors, &orders) {
+    match fresh(alloc, first, second) {
+        Ok(actors) => text_of_boxed(rt, alloc, story, actors),
+        Err(_) => None,
+    }
+}
+
+fn text_of_boxed<R: Wait>(
+    rt: &R,
+    alloc: Global,
+    story: &Story<'_>,
+    actors: Vec<Box<dyn Actor + Send>>,
+) -> Option<String>
+    requires unused { All (λ actor. content actor ≡ after actor []) actors.items }
+{
+    let mut sends = Vec::new(alloc);
+    sends.push(orders_of(alloc, story.sends).ok()?).ok()?;
+    let plan = plan_of(alloc, story).ok()?;
+    match run_boxed(rt, alloc, plan, actors, &sends) {
         Ok(report) => text_of(alloc, &report, 2),
         Err(_) => None,
     }
@@ -71,8 +84,7 @@ fn begun(alloc: Global, actor: Box<dyn Actor + Send>) -> Box<dyn Actor + Send>
 #[test]
 fn a_boxed_actor_watches_one_of_another_kind(rt: HostRuntime) -> Result<(), Fail> {
     let first: Box<dyn Actor + Send> = Box::new(rt.alloc(), Watcher { of: ActorId(2) })?;
-    let second: Box<dyn Actor + Send> = Box::new(rt.alloc(), Player::new(COUNTER))?;
-    let found = run_both(&rt, rt.alloc(), first, second);
-    see(&rt, &found, REPORT);
+    let second: Box<dyn Actor + Send> = Box::new(rt.alloc(), Adder { sum: 0 })?;
+    see(&rt, &run_both(&rt, rt.alloc(), &TWO, first, second), REPORT);
     Ok(())
 }
