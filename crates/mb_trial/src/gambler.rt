@@ -1,10 +1,11 @@
-//! An actor that does things by chance, and shows the sum of the values of kind 1 that it got.
+//! An actor that does things by chance.
 ghost use Rattle.std.specs.Prelude.{◌≡◌, pos, All, IfOk};
 
 use crate::dice::Dice;
-use crate::player::{ADD, with};
-use mb_actor::{Actor, Answer, Message, Outbox};
-use mb_msg::{ActorId, Cause};
+use crate::player::{ADD, Player};
+use crate::role::Role;
+use mb_actor::{Answer, Message, Outbox};
+use mb_msg::ActorId;
 use std::alloc::{AllocError, Global};
 
 /// The greatest kind of message. One of a greater kind than that of values makes a gambler do things; what it tells then is of
@@ -14,29 +15,42 @@ pub const GREATEST: u32 = 4;
 /// It knows how many actors there are.
 #[derive(Drop)]
 pub struct Gambler {
-    pub dice: Dice,
-    pub actors: u32,
-    pub sum: i64,
+    dice: Dice,
+    actors: u32,
 }
 
-impl Actor for Gambler {
-    ghost use Rattle.mb_trial.specs.Sum.{sum_of};
+impl Gambler {
+    /// The gambler of this number.
+    fn new(seed: u64, number: u32, actors: u32) -> Self {
+        Gambler {
+            dice: Dice::new(seed.wrapping_mul(64).wrapping_add(u64::from(number))),
+            actors,
+        }
+    }
 
-    ghost after = { λ _. sum_of };
-
-    ghost content = { λ gambler. gambler.sum };
-
-    ghost gives = { λ _ _ _. Unit {0} };
-
-    fn start(&mut self, out: &mut Outbox) -> Answer {
-        self.sum = 0;
+    /// It starts all children that it has, and does what it does at a restart.
+    pub(crate) fn start(&mut self, out: &mut Outbox) -> Answer
+        ensures actors { out.new.actors ≡ out.old.actors }
+        ensures unspawned { out.new.unspawned ≡ out.old.unspawned }
+    {
         spawn_all(self.actors, out);
+        self.restart(out)
+    }
+
+    /// It does one thing, and may fail.
+    pub(crate) fn restart(&mut self, out: &mut Outbox) -> Answer
+        ensures actors { out.new.actors ≡ out.old.actors }
+        ensures unspawned { out.new.unspawned ≡ out.old.unspawned }
+    {
         act(&mut self.dice, self.actors, ADD, out);
         fail_once_in(20, &mut self.dice)
     }
 
-    fn receive(&mut self, message: &Message, out: &mut Outbox) -> Answer {
-        self.sum = with(self.sum, message);
+    /// It does what the kind of the message makes it do; where one has ended that it watched, it may fail by that.
+    pub(crate) fn receive(&mut self, message: &Message, out: &mut Outbox) -> Answer
+        ensures actors { out.new.actors ≡ out.old.actors }
+        ensures unspawned { out.new.unspawned ≡ out.old.unspawned }
+    {
         match *message {
             Message::User { kind, .. } => hear(&mut self.dice, self.actors, kind, out),
             Message::Control { kind, .. } => hear(&mut self.dice, self.actors, kind, out),
@@ -44,18 +58,12 @@ impl Actor for Gambler {
         }
     }
 
-    fn restart(&mut self, _cause: Cause, out: &mut Outbox) -> Answer {
-        self.sum = 0;
+    /// It does one thing.
+    pub(crate) fn stop(&mut self, out: &mut Outbox)
+        ensures actors { out.new.actors ≡ out.old.actors }
+        ensures unspawned { out.new.unspawned ≡ out.old.unspawned }
+    {
         act(&mut self.dice, self.actors, ADD, out);
-        fail_once_in(20, &mut self.dice)
-    }
-
-    fn stop(&mut self, out: &mut Outbox) {
-        act(&mut self.dice, self.actors, ADD, out);
-    }
-
-    fn state(&self) -> i64 {
-        self.sum
     }
 }
 
@@ -116,16 +124,12 @@ fn leave_once_in(sides: u32, dice: &mut Dice) -> Answer {
 }
 
 /// So many gamblers, who got nothing yet.
-pub fn gamblers(alloc: Global, seed: u64, actors: u32) -> Result<Vec<Gambler>, AllocError>
-    ensures { IfOk result (λ gamblers. All (λ gambler. gambler.sum ≡ pos 0) gamblers.items) }
+pub fn gamblers(alloc: Global, seed: u64, actors: u32) -> Result<Vec<Player>, AllocError>
+    ensures { IfOk result (λ players. All (λ player. player.sum ≡ pos 0) players.items) }
 {
-    let mut gamblers = Vec::new(alloc);
+    let mut players = Vec::new(alloc);
     for number in 1..=actors {
-        gamblers.push(Gambler {
-            dice: Dice::new(seed.wrapping_mul(64).wrapping_add(u64::from(number))),
-            actors,
-            sum: 0,
-        })?;
+        players.push(Player::new(Role::Gambler(Gambler::new(seed, number, actors))))?;
     }
-    Ok(gamblers)
+    Ok(players)
 }

@@ -1,8 +1,9 @@
 //! Actors that wait for one another while they are called.
-ghost use Rattle.std.specs.Prelude.{◌≡◌};
+ghost use Rattle.std.specs.Prelude.{◌≡◌, pos, All, IfOk};
 
-use mb_actor::{Actor, Answer, Behaviours, Message, Outbox};
-use mb_msg::Cause;
+use crate::player::Player;
+use crate::role::Role;
+use mb_actor::Answer;
 use std::alloc::{AllocError, Global};
 use std::sync::Arc;
 use std::sync::atomic::AtomicBool;
@@ -23,18 +24,6 @@ pub struct Hall {
 pub struct Guest {
     hall: Arc<Hall>,
     is_first: bool,
-}
-
-/// Actors that show nothing.
-#[derive(Drop)]
-pub struct Silent {}
-
-impl Behaviours for Silent {
-    ghost use Rattle.std.specs.Prelude.{pos};
-
-    ghost after = { λ _ _. pos 0 };
-
-    ghost gives = { λ _ _ _. Unit {0} };
 }
 
 impl Hall {
@@ -63,49 +52,29 @@ impl Hall {
     }
 }
 
-impl Actor for Guest {
-    ghost use Rattle.std.specs.Prelude.{pos};
-
-    ghost after = { λ _ _. pos 0 };
-
-    ghost content = { λ _. pos 0 };
-
-    ghost gives = { λ _ _ _. Unit {0} };
-
-    fn start(&mut self, _out: &mut Outbox) -> Answer {
-        Answer::Handled
-    }
-
-    fn receive(&mut self, _message: &Message, _out: &mut Outbox) -> Answer {
+impl Guest {
+    /// A message came, whichever.
+    pub(crate) fn receive(&self) -> Answer {
         if self.hall.meet(self.is_first) {
             Answer::Handled
         } else {
             Answer::Failed(99)
         }
     }
-
-    fn restart(&mut self, _cause: Cause, _out: &mut Outbox) -> Answer {
-        Answer::Handled
-    }
-
-    fn stop(&mut self, _out: &mut Outbox) {}
-
-    fn state(&self) -> i64 {
-        0
-    }
 }
 
-/// Two guests of one hall.
-pub fn two_guests(alloc: Global) -> Result<Vec<Guest>, AllocError> {
+/// Two guests of one hall, who got nothing yet.
+pub fn two_guests(alloc: Global) -> Result<Vec<Player>, AllocError>
+    ensures { IfOk result (λ players. All (λ player. player.sum ≡ pos 0) players.items) }
+{
     let hall = Arc::new(alloc, Hall::new())?;
-    let mut guests = Vec::new(alloc);
-    guests.push(Guest {
-        hall: hall.clone()?,
-        is_first: true,
-    })?;
-    guests.push(Guest {
-        hall,
-        is_first: false,
-    })?;
-    Ok(guests)
+    let first = guest(hall.clone()?, true);
+    let second = guest(hall, false);
+    Ok(Vec::from_array(alloc, [first, second])?)
+}
+
+fn guest(hall: Arc<Hall>, is_first: bool) -> Player
+    ensures { result.sum ≡ pos 0 }
+{
+    Player::new(Role::Guest(Guest { hall, is_first }))
 }

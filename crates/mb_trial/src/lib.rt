@@ -3,7 +3,6 @@
 #![tactic(auto)]
 
 mod chance;
-mod crowd;
 mod deed;
 mod dice;
 mod gambler;
@@ -12,23 +11,22 @@ mod ids;
 mod judged;
 mod lawful;
 mod player;
+mod role;
 mod sending;
 mod sent;
 mod shown;
 mod stood;
 mod story;
-mod watcher;
 mod witness;
 
 pub use chance::{actors_by_chance, plan_by_chance, sends_by_chance};
-pub use crowd::{crowd_report, crowd_sends};
 pub use deed::{Deed, Habits};
 pub use gambler::{Gambler, gamblers};
-pub use guest::{Guest, Silent, two_guests};
+pub use guest::{Guest, two_guests};
 pub use judged::{is_right, is_right_of_these_alone};
 pub use player::{ADD, Adding, COUNTER, FAIL, Mailbox, Part, Player, players_of};
+pub use role::Role;
 pub use sending::{Sending, sends_at, sends_of};
 pub use shown::{add, journal_text, words};
 pub use story::{PLAIN, Story, plan_and_sends, plan_of, text_of};
-pub use watcher::Watcher;
 pub use witness::{Witness, one_witness};

@@ -1,8 +1,10 @@
-//! An actor that plays a part, and shows the sum of the values of kind 1 that it got. A message of kind 2 makes most of them fail.
+//! An actor of a trial, which shows the sum of the values of kind 1 that it got; and the part that it may have. A message of kind 2 makes
+//! most of them fail.
 ghost use Rattle.std.specs.Prelude.{◌≡◌, pos, All, IfOk};
 ghost use Rattle.mb_trial.specs.Sum.{sum_with, sum_with_value};
 
-use crate::deed::{Deed, Habits, do_all, hear};
+use crate::deed::{Deed, Habits};
+use crate::role::Role;
 use mb_actor::{Actor, Answer, Behaviours, Message, Outbox};
 use mb_journal::Pattern;
 use mb_msg::{Cause, Directive};
@@ -53,10 +55,10 @@ pub const COUNTER: Part = Part {
     retries: -1,
 };
 
-/// It plays its part.
+/// It goes by its role.
 #[derive(Drop)]
 pub struct Player {
-    pub part: Part,
+    pub role: Role,
     pub sum: i64,
 }
 
@@ -74,10 +76,10 @@ impl Behaviours for Adding {
 
 impl Player {
     /// It got nothing yet.
-    pub fn new(part: Part) -> Self
+    pub fn new(role: Role) -> Self
         ensures { result.sum ≡ pos 0 }
     {
-        Player { part, sum: 0 }
+        Player { role, sum: 0 }
     }
 }
 
@@ -92,21 +94,21 @@ impl Actor for Player {
 
     fn start(&mut self, out: &mut Outbox) -> Answer {
         self.sum = 0;
-        do_all(self.part.start, 0, out)
+        self.role.start(out)
     }
 
     fn receive(&mut self, message: &Message, out: &mut Outbox) -> Answer {
         self.sum = with(self.sum, message);
-        hear(self.part.habits, message, out)
+        self.role.receive(message, out)
     }
 
     fn restart(&mut self, _cause: Cause, out: &mut Outbox) -> Answer {
         self.sum = 0;
-        do_all(self.part.restart, 0, out)
+        self.role.restart(out)
     }
 
     fn stop(&mut self, out: &mut Outbox) {
-        let _answer = do_all(self.part.stop, 0, out);
+        self.role.stop(out);
     }
 
     fn state(&self) -> i64 {
@@ -120,7 +122,7 @@ pub fn players_of(alloc: Global, parts: &[Part]) -> Result<Vec<Player>, AllocErr
 {
     let mut players = Vec::new(alloc);
     for part in parts {
-        players.push(Player::new(*part))?;
+        players.push(Player::new(Role::Part(*part)))?;
     }
     Ok(players)
 }
