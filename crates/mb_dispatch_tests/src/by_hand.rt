@@ -115,16 +115,16 @@ const FULL_JOURNAL: Tale = Tale {
     ],
 };
 
-const LED: &[Tale] = &[BY_HAND, PUT_BY_AN_OLD_TICKET, TOLD_AFTER_THE_END];
-
-const COMES_BACK: &[Tale] = &[NOT_QUIET, WITHOUT_A_SENDER, FULL_JOURNAL];
+const TALES: &[Tale] = &[
+    BY_HAND,
+    PUT_BY_AN_OLD_TICKET,
+    TOLD_AFTER_THE_END,
+    NOT_QUIET,
+    WITHOUT_A_SENDER,
+    FULL_JOURNAL,
+];
 
 #[test]
-fn an_end_and_a_sender_are_led_by_hand(rt: HostRuntime) {
-    play(&rt, rt.alloc(), LED)
-}
-
-#[test]
-fn a_system_that_may_not_end_comes_back(rt: HostRuntime) {
-    play(&rt, rt.alloc(), COMES_BACK)
+fn a_system_is_led_by_hand_and_comes_back_where_it_may_not_end(rt: HostRuntime) {
+    play(&rt, rt.alloc(), TALES)
 }

@@ -1,14 +1,18 @@
 //! A system of players with all that belongs to it, of which the first end and the first sender are led. The calls ask for
 //! nothing: what those of the dispatcher ask for stands in the type, or is looked at first. Nothing comes of a call for which
-//! there is no end, no sender or no such actor.
+//! there is no end or no sender.
+ghost use Rattle.std.specs.Prelude.{◌≡◌, pos, All};
 ghost use Rattle.mb_system.specs.Belonging.{BelongsTogether};
-ghost use Rattle.mb_system.specs.Members.{IsEndOf};
 
-use crate::together::begin;
-use mb_dispatch::{Built, Look, Put, RunError, Sender, System, Ticket, Turn, Unsent, WorkerEnd};
+use crate::led::{led_end, led_sender};
+use crate::tale::Step;
+use mb_dispatch::{
+    BuildError, Built, PlanError, Put, RunError, Sender, System, Ticket, Turn, Unsent, WorkerEnd,
+};
 use mb_msg::{ActorId, Body};
-use mb_trial::{Adding, Player, Story, plan_of, players_of};
-use std::alloc::{AllocError, Global};
+use mb_plan::Plan;
+use mb_trial::{Adding, Player};
+use std::alloc::Global;
 use std::marker::Model;
 use std::sync::Wait;
 
@@ -18,6 +22,14 @@ pub struct Company {
     pub(crate) system: System<Player, Adding>,
     pub(crate) ends: Vec<WorkerEnd<Player, Adding>>,
     pub(crate) senders: Vec<Sender<Player, Adding>>,
+}
+
+/// Why there is no company.
+#[derive(Clone, Copy)]
+pub enum Unbuilt {
+    NoMemory,
+    /// The plan is bad for this reason. So many actors and workers it had that came back, and so many players came back with it.
+    BadPlan(PlanError, usize, u32, usize),
 }
 
 impl Model for Company {
@@ -32,12 +44,22 @@ impl Model for Company {
 }
 
 impl Company {
-    /// The system of this story.
-    pub fn new<R: Wait>(rt: &R, alloc: Global, story: &Story<'_>) -> Result<Self, AllocError> {
-        let plan = plan_of(alloc, story)?;
-        let players = players_of(alloc, story.parts)?;
-        let built = begin::<Player, Adding, R>(rt, alloc, plan, players)?;
-        Ok(Company::of(built))
+    /// The system of this plan and these players, who got nothing yet.
+    pub fn new<R: Wait>(
+        rt: &R,
+        alloc: Global,
+        plan: Plan,
+        players: Vec<Player>,
+    ) -> Result<Self, Unbuilt>
+        requires unused { All (λ player. player.sum ≡ pos 0) players.items }
+    {
+        match System::<Player, Adding>::build(rt, alloc, plan, players) {
+            Ok(built) => Ok(Company::of(built)),
+            Err(BuildError::BadPlan(reason, plan, players)) => {
+                Err(refused(reason, &plan, players.len()))
+            }
+            Err(BuildError::NoMemory) => Err(Unbuilt::NoMemory),
+        }
     }
 
     /// The system and all that is there of it.
@@ -61,36 +83,34 @@ impl Company {
         self.senders.clear();
     }
 
+    /// The first end takes this step: its answer.
+    pub fn by_end<R: Wait>(&mut self, rt: &R, alloc: Global, step: Step) -> Option<String> {
+        if self.ends.len() == 0 {
+            return None;
+        }
+        led_end(rt, alloc, &self.system, &mut self.ends[0], step)
+    }
+
+    /// The first sender takes this step: its answer. The ticket is the one that was had last.
+    pub fn by_sender<R: Wait>(
+        &mut self,
+        rt: &R,
+        alloc: Global,
+        ticket: &mut Option<Ticket>,
+        step: Step,
+    ) -> Option<String> {
+        if self.senders.len() == 0 {
+            return None;
+        }
+        led_sender(rt, alloc, &self.system, &mut self.senders[0], ticket, step)
+    }
+
     /// Runs claims on this thread until none is there: the turns.
     pub fn run_quietly<R: Wait>(&mut self, rt: &R) -> Option<Result<Vec<Turn>, RunError>> {
         if self.ends.len() == 0 {
             return None;
         }
         Some(self.ends[0].run_quietly(rt, &self.system))
-    }
-
-    /// Registers an actor: whether its claim went to the pool.
-    pub fn register<R: Wait>(&mut self, rt: &R, id: ActorId) -> Option<bool> {
-        if self.ends.len() == 0 || id.0 as usize >= self.system.gates.actors() {
-            return None;
-        }
-        Some(self.ends[0].register(rt, &self.system, id, false, false))
-    }
-
-    /// Takes a claim and runs its mailbox: the turn. Nothing also where there is no claim, or the turn is broken off.
-    pub fn turn<R: Wait>(&mut self, rt: &R) -> Option<Turn> {
-        if self.ends.len() == 0 {
-            return None;
-        }
-        run_next(rt, &self.system, &mut self.ends[0])
-    }
-
-    /// Works until there is no claim.
-    pub fn work<R: Wait>(&mut self, rt: &R) -> Option<Result<(), RunError>> {
-        if self.ends.len() == 0 {
-            return None;
-        }
-        Some(self.ends[0].work(rt, &self.system))
     }
 
     /// Tells an actor this body.
@@ -105,51 +125,8 @@ impl Company {
         }
         Some(self.senders[0].tell(rt, &self.system, to, body))
     }
-
-    /// Stops an actor.
-    pub fn stop<R: Wait>(&mut self, rt: &R, id: ActorId) -> Option<Result<bool, Unsent>> {
-        if self.senders.len() == 0 {
-            return None;
-        }
-        Some(self.senders[0].stop(rt, &self.system, id))
-    }
-
-    /// Looks at an actor.
-    pub fn look(&mut self, to: ActorId) -> Option<Result<Look, Unsent>> {
-        if self.senders.len() == 0 {
-            return None;
-        }
-        Some(self.senders[0].look(&self.system, to))
-    }
-
-    /// Puts this body by a ticket.
-    pub fn put<R: Wait>(
-        &mut self,
-        rt: &R,
-        ticket: Ticket,
-        body: Body,
-    ) -> Option<Result<Put, Unsent>> {
-        if self.senders.len() == 0
-            || ticket.to.0 == 0
-            || ticket.to.0 as usize >= self.system.gates.actors()
-        {
-            return None;
-        }
-        Some(self.senders[0].put(rt, &self.system, ticket, body))
-    }
 }
 
-// Takes a claim and runs its mailbox.
-fn run_next<R: Wait>(
-    rt: &R,
-    system: &System<Player, Adding>,
-    end: &mut WorkerEnd<Player, Adding>,
-) -> Option<Turn>
-    requires ours { IsEndOf system.now.gates end.old.waker }
-    ensures ours { IsEndOf system.now.gates end.new.waker }
-{
-    match end.take(rt) {
-        Some(claim) => end.run_mailbox(rt, system, claim).ok(),
-        None => None,
-    }
+fn refused(reason: PlanError, plan: &Plan, players: usize) -> Unbuilt {
+    Unbuilt::BadPlan(reason, plan.actors.len(), plan.workers, players)
 }

@@ -1,12 +1,16 @@
 //! Parents and children that fail, turn by turn.
-use crate::supervised::{CHILD, ESCALATED, RESTARTED, RESUMED, STOPPED};
 use crate::tale::Step::{DeadSystem, Finish, Run, Send};
 use crate::tale::{Tale, play};
 use mb_journal::Pattern;
 use mb_msg::Directive;
 use mb_trial::Deed::{Fail, Spawn};
 use mb_trial::Sending::{Kill, Stop, Tell};
-use mb_trial::{ADD, COUNTER, FAIL, PLAIN, Part, Sending, Story};
+use mb_trial::{ADD, COUNTER, FAIL, PLAIN, Part, Story};
+
+const CHILD: Part = Part {
+    parent: 1,
+    ..COUNTER
+};
 
 const PARENT: Part = Part {
     start: &[Spawn(2)],
@@ -16,85 +20,6 @@ const PARENT: Part = Part {
 const PARENT_OF_TWO: Part = Part {
     start: &[Spawn(2), Spawn(3)],
     ..COUNTER
-};
-
-const THREE: &[Sending] = &[Tell(2, ADD, 5), Tell(2, FAIL, 0), Tell(2, ADD, 7)];
-
-const THREE_QUEUED: &str = "Queued(0), Queued(1), Queued(2)";
-
-const RESTART: Tale = Tale {
-    story: Story {
-        parts: &[
-            Part {
-                rule: Some((Pattern::AnyError, Directive::Restart)),
-                ..PARENT
-            },
-            CHILD,
-        ],
-        ..PLAIN
-    },
-    steps: &[
-        (Send(THREE), THREE_QUEUED),
-        (Run, "(0;1,0) (1;1,0) (2;1,2) (1;1,0) (2;1,1)"),
-        (Finish, RESTARTED),
-    ],
-};
-
-const RESUME: Tale = Tale {
-    story: Story {
-        parts: &[
-            Part {
-                rule: Some((Pattern::AnyError, Directive::Resume)),
-                ..PARENT
-            },
-            CHILD,
-        ],
-        ..PLAIN
-    },
-    steps: &[
-        (Send(THREE), THREE_QUEUED),
-        (Run, "(0;1,0) (1;1,0) (2;1,2) (1;1,0) (2;1,1)"),
-        (Finish, RESUMED),
-    ],
-};
-
-const STOP: Tale = Tale {
-    story: Story {
-        parts: &[
-            Part {
-                rule: Some((Pattern::AnyError, Directive::Stop)),
-                ..PARENT
-            },
-            CHILD,
-        ],
-        ..PLAIN
-    },
-    steps: &[
-        (Send(THREE), THREE_QUEUED),
-        (Run, "(0;1,0) (1;1,0) (2;1,2) (1;1,0) (2;1,0) (1;1,0)"),
-        (Finish, STOPPED),
-    ],
-};
-
-const ESCALATE: Tale = Tale {
-    story: Story {
-        parts: &[
-            Part {
-                rule: Some((Pattern::AnyError, Directive::Escalate)),
-                ..PARENT
-            },
-            CHILD,
-        ],
-        ..PLAIN
-    },
-    steps: &[
-        (Send(THREE), THREE_QUEUED),
-        (
-            Run,
-            "(0;1,0) (1;1,0) (2;1,2) (1;1,0) (0;1,0) (1;1,0) (2;1,1)",
-        ),
-        (Finish, ESCALATED),
-    ],
 };
 
 /// The child's failure comes when its parent is ending.
@@ -272,25 +197,6 @@ sent 1 handled 1 left 0 dead 0
     ],
 };
 
-/// It is restarted until a journal has no room for one more message.
-const RESTARTED_AGAIN_AND_AGAIN: Tale = Tale {
-    story: Story {
-        journal_limit: 10,
-        parts: &[
-            Part {
-                rule: Some((Pattern::Any, Directive::Restart)),
-                ..PARENT
-            },
-            UNABLE_TO_RESTART,
-        ],
-        ..PLAIN
-    },
-    steps: &[
-        (Send(&[Tell(2, FAIL, 0)]), "Queued(0)"),
-        (Run, "JournalFull"),
-    ],
-};
-
 const KILLED_AND_ESCALATED: Tale = Tale {
     story: Story {
         parts: &[
@@ -320,32 +226,17 @@ sent 1 handled 1 left 0 dead 0
     ],
 };
 
-const DECIDED: &[Tale] = &[RESTART, RESUME, STOP, ESCALATE, KILLED_AND_ESCALATED];
-
-const SHARED: &[Tale] = &[
+const TALES: &[Tale] = &[
     STOPPED_PARENT,
     ESCALATED_AMONG_THREE,
     ALL_RESTARTED,
     ALL_STOPPED,
-];
-
-const FAILED: &[Tale] = &[
     FAILED_AT_ITS_START,
     FAILED_AT_ITS_RESTART,
-    RESTARTED_AGAIN_AND_AGAIN,
+    KILLED_AND_ESCALATED,
 ];
 
 #[test]
-fn a_parent_decides_about_a_child_that_failed(rt: HostRuntime) {
-    play(&rt, rt.alloc(), DECIDED)
-}
-
-#[test]
-fn siblings_share_what_is_decided(rt: HostRuntime) {
-    play(&rt, rt.alloc(), SHARED)
-}
-
-#[test]
-fn a_start_and_a_restart_may_fail(rt: HostRuntime) {
-    play(&rt, rt.alloc(), FAILED)
+fn parents_decide_turn_by_turn(rt: HostRuntime) {
+    play(&rt, rt.alloc(), TALES)
 }

@@ -1,9 +1,15 @@
 //! How actors end and who is told of it, turn by turn.
-use crate::ended::WATCHED;
 use crate::tale::Step::{DeadSystem, Finish, Journal, Run, Send};
 use crate::tale::{Tale, play};
 use mb_trial::Sending::{Kill, Poison, Stop, Tell};
 use mb_trial::{ADD, COUNTER, Deed, PLAIN, Part, Story};
+
+const WATCHED: &str = "\
+guardian live state - suspended 0 handled 0 left 0 dead 0 restarts 0
+a1 live state 0 suspended 0 handled 1 left 0 dead 0 restarts 0
+a2 ended state 0 suspended 0 handled 1 left 0 dead 0 restarts 0
+sent 2 handled 2 left 0 dead 0
+";
 
 const KILLED: Tale = Tale {
     story: Story {
@@ -113,33 +119,6 @@ sent 3 handled 3 left 0 dead 0
     ],
 };
 
-/// The seventeenth message finds the outbox full.
-const TALKATIVE: Tale = Tale {
-    story: Story {
-        parts: &[
-            Part {
-                habits: &[(3, &[Deed::Tell(2, ADD); 17])],
-                ..COUNTER
-            },
-            COUNTER,
-        ],
-        ..PLAIN
-    },
-    steps: &[
-        (Send(&[Tell(1, 3, 1)]), "Queued(0)"),
-        (Run, "(0;1,0) (1;1,1) (2;1,5) (2;0,5) (2;0,5) (2;0,1)"),
-        (
-            Finish,
-            "\
-guardian live state - suspended 0 handled 0 left 0 dead 0 restarts 0
-a1 live state 0 suspended 0 handled 1 left 0 dead 0 restarts 0
-a2 live state 16 suspended 0 handled 16 left 0 dead 0 restarts 0
-sent 17 handled 17 left 0 dead 0
-",
-        ),
-    ],
-};
-
 const TOLD_TOO_LATE: Tale = Tale {
     story: Story {
         parts: &[
@@ -194,7 +173,7 @@ sent 1 handled 1 left 0 dead 0
 };
 
 /// What is left of an actor whose guardian was stopped.
-pub const ALL_ENDED: &str = "\
+const ALL_ENDED: &str = "\
 guardian ended state - suspended 0 handled 0 left 0 dead 0 restarts 0
 a1 ended state 0 suspended 0 handled 0 left 0 dead 0 restarts 0
 sent 0 handled 0 left 0 dead 0
@@ -212,21 +191,17 @@ const GUARDIAN_STOPPED: Tale = Tale {
     ],
 };
 
-const WATCHES: &[Tale] = &[
+const TALES: &[Tale] = &[
     KILLED,
     WATCHED_TOO_LATE,
     WATCHED_NO_MORE,
     STOPPED_AND_WATCHED,
+    LAST_WORDS,
+    TOLD_TOO_LATE,
+    GUARDIAN_STOPPED,
 ];
 
-const ENDS: &[Tale] = &[LAST_WORDS, TALKATIVE, TOLD_TOO_LATE, GUARDIAN_STOPPED];
-
 #[test]
-fn who_watches_is_told_turn_by_turn(rt: HostRuntime) {
-    play(&rt, rt.alloc(), WATCHES)
-}
-
-#[test]
-fn actors_end_turn_by_turn(rt: HostRuntime) {
-    play(&rt, rt.alloc(), ENDS)
+fn actors_end_and_who_watches_is_told_turn_by_turn(rt: HostRuntime) {
+    play(&rt, rt.alloc(), TALES)
 }

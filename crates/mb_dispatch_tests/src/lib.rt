@@ -2,25 +2,19 @@
 #![tactic(auto)]
 
 #[cfg(test)]
-mod alone;
-#[cfg(test)]
 mod boxed;
 #[cfg(test)]
 mod by_hand;
 #[cfg(test)]
-mod closing;
-#[cfg(test)]
 mod company;
 #[cfg(test)]
-mod crowd;
-#[cfg(test)]
-mod ended;
+mod ending;
 #[cfg(test)]
 mod family;
 #[cfg(test)]
 mod farewell;
 #[cfg(test)]
-mod limited;
+mod led;
 #[cfg(test)]
 mod meeting;
 #[cfg(test)]
@@ -35,8 +29,6 @@ mod seen;
 mod shown;
 #[cfg(test)]
 mod stage;
-#[cfg(test)]
-mod supervised;
 #[cfg(test)]
 mod tale;
 #[cfg(test)]

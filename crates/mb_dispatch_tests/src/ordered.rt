@@ -1,10 +1,21 @@
 //! In which order mailboxes give their envelopes.
-use crate::limited::{ONE_PLACE, TWO_PLACES};
 use crate::tale::Step::{Finish, Journal, Run, Send};
 use crate::tale::{Tale, play};
 use mb_plan::Rank;
 use mb_trial::Sending::{Control, Tell};
 use mb_trial::{ADD, COUNTER, Deed, Mailbox, PLAIN, Part, Story};
+
+const TWO_PLACES: &str = "\
+guardian live state - suspended 0 handled 0 left 0 dead 0 restarts 0
+a1 live state 3 suspended 0 handled 2 left 0 dead 1 restarts 0
+sent 3 handled 2 left 0 dead 1
+";
+
+const ONE_PLACE: &str = "\
+guardian live state - suspended 0 handled 0 left 0 dead 0 restarts 0
+a1 live state 1 suspended 0 handled 1 left 0 dead 2 restarts 0
+sent 3 handled 1 left 0 dead 2
+";
 
 /// A kind that goes before all others.
 const URGENT: u32 = 9;
@@ -107,30 +118,6 @@ sent 3 handled 3 left 0 dead 0
     ],
 };
 
-/// In a mailbox that is first in, first out, a control message waits as any other.
-const CONTROL_IN_ORDER: Tale = Tale {
-    story: Story {
-        parts: &[COUNTER],
-        ..PLAIN
-    },
-    steps: &[
-        (
-            Send(&[Tell(1, ADD, 1), Control(1, ADD, 2), Tell(1, ADD, 3)]),
-            "Queued(0), Queued(1), Queued(2)",
-        ),
-        (Run, "(0;1,0) (1;1,3)"),
-        (
-            Finish,
-            "\
-guardian live state - suspended 0 handled 0 left 0 dead 0 restarts 0
-a1 live state 6 suspended 0 handled 3 left 0 dead 0 restarts 0
-sent 3 handled 3 left 0 dead 0
-",
-        ),
-        (Journal(1), "0 Create, (1,1), control (1,2), (1,3)"),
-    ],
-};
-
 const THREE_FOR_TWO_PLACES: Tale = Tale {
     story: Story {
         parts: &[Part {
@@ -167,21 +154,15 @@ const THREE_FOR_ONE_PLACE: Tale = Tale {
     ],
 };
 
-const FIRST: &[Tale] = &[
+const TALES: &[Tale] = &[
     BY_RANK,
     CONTROL_BEFORE_OTHERS,
     CONTROL_BY_AN_ACTOR,
-    CONTROL_IN_ORDER,
+    THREE_FOR_TWO_PLACES,
+    THREE_FOR_ONE_PLACE,
 ];
 
-const FULL: &[Tale] = &[THREE_FOR_TWO_PLACES, THREE_FOR_ONE_PLACE];
-
 #[test]
-fn a_mailbox_gives_what_goes_first(rt: HostRuntime) {
-    play(&rt, rt.alloc(), FIRST)
-}
-
-#[test]
-fn a_sender_is_told_of_a_full_mailbox(rt: HostRuntime) {
-    play(&rt, rt.alloc(), FULL)
+fn a_mailbox_gives_what_goes_first_and_takes_what_it_has_room_for(rt: HostRuntime) {
+    play(&rt, rt.alloc(), TALES)
 }

@@ -4,7 +4,7 @@ use mb_trial::Sending;
 use std::alloc::{AllocError, Global};
 
 /// The order to send this.
-pub fn order_of(sending: Sending) -> Order {
+fn order_of(sending: Sending) -> Order {
     Order {
         to: sending.to(),
         what: match sending.body() {
@@ -14,16 +14,8 @@ pub fn order_of(sending: Sending) -> Order {
     }
 }
 
-/// The orders of each sender that is to send its own of these.
-pub fn all_orders(alloc: Global, sends: &[Vec<Sending>]) -> Result<Vec<Vec<Order>>, AllocError> {
-    let mut all = Vec::new(alloc);
-    for own in sends {
-        all.push(orders_of(alloc, own)?)?;
-    }
-    Ok(all)
-}
-
-fn orders_of(alloc: Global, sends: &[Sending]) -> Result<Vec<Order>, AllocError> {
+/// The orders to send these.
+pub fn orders_of(alloc: Global, sends: &[Sending]) -> Result<Vec<Order>, AllocError> {
     let mut orders = Vec::new(alloc);
     for sending in sends {
         orders.push(order_of(*sending))?;

@@ -1,7 +1,8 @@
 //! A whole run on one thread, whose calls are made again where memory was refused: run this with each allocation refused in turn
 //! (`tools/refuse_each_allocation_of_a_system`).
-use crate::closing::{Refusal, Unfinished};
 use crate::company::Company;
+use crate::ending::{Refusal, end};
+use crate::stage::company_of;
 use mb_dispatch::{Put, RunError, Unsent};
 use mb_msg::{ActorId, Body, Why};
 use mb_plan::Pool;
@@ -99,9 +100,9 @@ const SENDS: &[(Body, &str)] = &[
 
 /// A system of the two, built once more where memory was refused.
 fn build_at_last<R: Wait>(rt: &R, alloc: Global, story: &Story<'_>) -> Option<Company> {
-    match Company::new(rt, alloc, story) {
-        Ok(company) => Some(company),
-        Err(_) => Company::new(rt, alloc, story).ok(),
+    match company_of(rt, alloc, story) {
+        Some(company) => Some(company),
+        None => company_of(rt, alloc, story),
     }
 }
 
@@ -136,25 +137,18 @@ fn run_at_last<R: Wait>(rt: &R, company: &mut Company) -> bool {
 }
 
 /// Ends the system, once more where memory was refused.
-fn finish_at_last<R: Wait>(rt: &R, company: Company) -> Option<Report> {
-    match company.finish(rt) {
-        Ok(report) => Some(report),
-        Err(
-            Unfinished {
-                why: Refusal::NoMemory,
-                back: Some(back),
-            },
-        ) => back.finish(rt).ok(),
-        Err(_) => None,
+fn end_at_last<R: Wait>(rt: &R, company: &mut Option<Company>) -> Option<Report> {
+    match end(rt, company) {
+        Err(Refusal::NoMemory) => end(rt, company).ok(),
+        ended => ended.ok(),
     }
 }
 
 /// Whether the report is the one that is due.
-fn is_as_due<R: Wait>(rt: &R, alloc: Global, company: Company) -> Option<bool> {
-    let mut company = company;
-    let due = go_on(rt, &mut company);
-    let report = finish_at_last(rt, company)?;
-    is_text_due(alloc, &report, due?)
+fn is_as_due<R: Wait>(rt: &R, alloc: Global, company: &mut Option<Company>) -> Option<bool> {
+    let due = go_on(rt, company.as_mut()?)?;
+    let report = end_at_last(rt, company)?;
+    is_text_due(alloc, &report, due)
 }
 
 /// Sends all, and runs it: the report that is due.
@@ -191,7 +185,8 @@ const BY_STEALING: Story<'static> = Story {
 };
 
 fn try_at_last<R: Wait>(rt: &R, alloc: Global, story: &Story<'_>) -> Option<bool> {
-    is_as_due(rt, alloc, build_at_last(rt, alloc, story)?)
+    let mut company = build_at_last(rt, alloc, story);
+    is_as_due(rt, alloc, &mut company)
 }
 
 #[test]

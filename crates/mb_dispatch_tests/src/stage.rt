@@ -1,12 +1,10 @@
 //! A stage on which a story goes on step by step.
-use crate::closing::{Refusal, Unfinished};
 use crate::company::Company;
-use crate::shown::{look_text, put_text, run_text, stop_text, turn_text, turns_text};
+use crate::ending::end;
 use crate::tale::Step;
-use mb_dispatch::{Look, Ticket};
-use mb_msg::{ActorId, Body};
+use mb_dispatch::Ticket;
 use mb_report::{ActorReport, Report};
-use mb_trial::{ADD, Sending, Story, add, journal_text, text_of};
+use mb_trial::{Story, journal_text, plan_of, players_of, text_of};
 use std::alloc::Global;
 use std::sync::Wait;
 
@@ -26,7 +24,7 @@ impl Stage {
         Stage {
             alloc,
             count: story.parts.len(),
-            company: Company::new(rt, alloc, story).ok(),
+            company: company_of(rt, alloc, story),
             ticket: None,
             report: None,
         }
@@ -35,32 +33,25 @@ impl Stage {
     /// Takes a step: its answer. Nothing where it cannot be taken, or memory was refused.
     pub fn take<R: Wait>(&mut self, rt: &R, step: Step) -> Option<String> {
         match step {
-            Step::Look(id) => self.look(ActorId(id)),
-            Step::Put(value) => self.put(rt, value),
+            Step::Run | Step::Register(_) | Step::Turn | Step::Work => {
+                self.company.as_mut()?.by_end(rt, self.alloc, step)
+            }
+            Step::Send(_) | Step::Look(_) | Step::Put(_) => {
+                let ticket = &mut self.ticket;
+                self.company.as_mut()?.by_sender(rt, self.alloc, ticket, step)
+            }
+            Step::LoseSenders => {
+                self.company.as_mut()?.lose_senders();
+                String::from_str(self.alloc, "lost").ok()
+            }
             Step::Finish => self.finish(rt),
-            Step::Journal(id) => self.journal(id),
+            Step::Journal(id) => journal_text(self.alloc, &self.told_of(id)?.journal).ok(),
             Step::DeadSystem(id) => self.dead_system(id),
-            step => lead(rt, self.alloc, self.company.as_mut()?, step),
         }
-    }
-
-    fn look(&mut self, to: ActorId) -> Option<String> {
-        let look = self.company.as_mut()?.look(to)?;
-        if let Ok(Look::Open(ticket)) = look {
-            self.ticket = Some(ticket);
-        }
-        look_text(self.alloc, look).ok()
-    }
-
-    fn put<R: Wait>(&mut self, rt: &R, value: i64) -> Option<String> {
-        let ticket = self.ticket?;
-        let body = Body::User { kind: ADD, value };
-        let put = self.company.as_mut()?.put(rt, ticket, body)?;
-        put_text(self.alloc, put).ok()
     }
 
     fn finish<R: Wait>(&mut self, rt: &R) -> Option<String> {
-        match self.end(rt)? {
+        match end(rt, &mut self.company) {
             Ok(report) => {
                 let text = text_of(self.alloc, &report, self.count);
                 self.report = Some(report);
@@ -68,21 +59,6 @@ impl Stage {
             }
             Err(why) => format!(in self.alloc; "{why:?}").ok(),
         }
-    }
-
-    // The report of the system; or why it goes on.
-    fn end<R: Wait>(&mut self, rt: &R) -> Option<Result<Report, Refusal>> {
-        match self.company.take()?.finish(rt) {
-            Ok(report) => Some(Ok(report)),
-            Err(Unfinished { why, back }) => {
-                self.company = back;
-                Some(Err(why))
-            }
-        }
-    }
-
-    fn journal(&self, id: u32) -> Option<String> {
-        journal_text(self.alloc, &self.told_of(id)?.journal).ok()
     }
 
     fn dead_system(&self, id: u32) -> Option<String> {
@@ -96,40 +72,11 @@ impl Stage {
     }
 }
 
-// Takes a step that this company takes by itself: its answer.
-fn lead<R: Wait>(rt: &R, alloc: Global, company: &mut Company, step: Step) -> Option<String> {
-    match step {
-        Step::Send(sendings) => send_all(rt, alloc, company, sendings),
-        Step::Run => turns_text(alloc, company.run_quietly(rt)?).ok(),
-        Step::Register(id) => stop_text(alloc, Ok(company.register(rt, ActorId(id))?)).ok(),
-        Step::Turn => turn_text(alloc, &company.turn(rt)?).ok(),
-        Step::Work => run_text(alloc, company.work(rt)?).ok(),
-        Step::LoseSenders => {
-            company.lose_senders();
-            String::from_str(alloc, "lost").ok()
-        }
-        _ => None,
-    }
-}
-
-fn send_all<R: Wait>(
-    rt: &R,
-    alloc: Global,
-    company: &mut Company,
-    sendings: &[Sending],
-) -> Option<String> {
-    let mut text = String::new(alloc);
-    for sending in sendings {
-        let answer = send(rt, alloc, company, *sending)?;
-        add(&mut text, ", ", answer.as_str()).ok()?;
-    }
-    Some(text)
-}
-
-fn send<R: Wait>(rt: &R, alloc: Global, company: &mut Company, sending: Sending) -> Option<String> {
-    let to = sending.to();
-    match sending.body() {
-        Some(body) => put_text(alloc, company.tell(rt, to, body)?).ok(),
-        None => stop_text(alloc, company.stop(rt, to)?).ok(),
+/// The company of this story. Nothing where there is none of its plan, or memory was refused.
+pub fn company_of<R: Wait>(rt: &R, alloc: Global, story: &Story<'_>) -> Option<Company> {
+    let plan = plan_of(alloc, story).ok()?;
+    match players_of(alloc, story.parts) {
+        Ok(players) => Company::new(rt, alloc, plan, players).ok(),
+        Err(_) => None,
     }
 }

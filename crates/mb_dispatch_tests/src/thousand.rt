@@ -3,8 +3,7 @@ use crate::together::report_of;
 use mb_plan::Pool;
 use mb_report::Report;
 use mb_trial::{
-    Adding, Gambler, Sending, actors_by_chance, gamblers, is_right_of_these_alone, plan_by_chance,
-    sends_by_chance,
+    Sending, actors_by_chance, gamblers, is_right_of_these_alone, plan_by_chance, sends_by_chance,
 };
 use std::alloc::{AllocError, Global};
 use std::process::Abort;
@@ -20,7 +19,7 @@ fn try_one<R: Threads + Wait + Sync>(
 ) -> Result<bool, AllocError> {
     let plan = plan_by_chance(alloc, seed, pool)?;
     let sends = sends_by_chance(alloc, seed, plan.senders, actors_by_chance(seed))?;
-    match run_one(rt, alloc, seed, pool, &sends)? {
+    match run_one(rt, alloc, seed, pool, &sends) {
         Some(report) => is_right_of_these_alone(alloc, &report, &plan, sends),
         None => Ok(false),
     }
@@ -33,10 +32,12 @@ fn run_one<R: Threads + Wait + Sync>(
     seed: u64,
     pool: Pool,
     sends: &[Vec<Sending>],
-) -> Result<Option<Report>, AllocError> {
-    let plan = plan_by_chance(alloc, seed, pool)?;
-    let gamblers = gamblers(alloc, seed, actors_by_chance(seed))?;
-    report_of::<Gambler, Adding, R>(rt, alloc, plan, gamblers, sends)
+) -> Option<Report> {
+    let plan = plan_by_chance(alloc, seed, pool).ok()?;
+    match gamblers(alloc, seed, actors_by_chance(seed)) {
+        Ok(gamblers) => report_of(rt, alloc, plan, gamblers, sends),
+        Err(_) => None,
+    }
 }
 
 fn try_five_hundred<R: Abort + Threads + Wait + Sync>(rt: &R, alloc: Global, pool: Pool) {

@@ -85,19 +85,15 @@ const ONE_AT_A_TIME_BY_STEALING: Tale = Tale {
     ..ONE_AT_A_TIME
 };
 
-const AS_MANY: &[Tale] = &[
+const TALES: &[Tale] = &[
     TWO_AT_A_TIME,
     TWO_AT_A_TIME_BY_STEALING,
     ONE_AT_A_TIME,
     ONE_AT_A_TIME_BY_STEALING,
+    SUSPENDED,
 ];
 
 #[test]
-fn a_run_handles_as_many_as_the_throughput_says(rt: HostRuntime) {
-    play(&rt, rt.alloc(), AS_MANY)
-}
-
-#[test]
-fn a_run_stops_at_a_failure(rt: HostRuntime) {
-    play(&rt, rt.alloc(), &[SUSPENDED])
+fn a_run_handles_as_many_as_the_throughput_says_and_stops_at_a_failure(rt: HostRuntime) {
+    play(&rt, rt.alloc(), TALES)
 }

@@ -1,125 +1,130 @@
 //! Whole runs on threads: all workers run while each sender sends.
-ghost use Rattle.std.specs.Prelude.{◌≡◌, IfOk, map};
-ghost use Rattle.mb_build.specs.Behaved.{AreBehaved};
-ghost use Rattle.mb_system.specs.Belonging.{BelongsTogether};
+ghost use Rattle.std.specs.Prelude.{◌≡◌, pos, All, IfOk, IfSome, map};
+ghost use Rattle.mb_system.specs.Members.{AreEndsOf, AreJobsOf, IsSenderOf, ends_numbers, jobs_senders};
 
+use crate::company::Company;
+use crate::ending::end;
 use crate::orders::each_once;
-use crate::seen::see;
-use mb_actor::{Actor, Behaviours};
-use mb_dispatch::{Built, Job, Sender, System, finish};
+use mb_dispatch::{Job, Sender, System, WorkerEnd};
 use mb_plan::Plan;
 use mb_report::Report;
-use mb_trial::{Adding, Player, Sending, Story, plan_and_sends, players_of, sends_at, text_of};
+use mb_trial::{Adding, Player, Sending, sends_at};
 use std::alloc::{AllocError, Global};
-use std::process::Abort;
 use std::sync::Wait;
 use std::thread::Threads;
 
-/// A story, and the text of its report.
-pub type Run = (Story<'static>, &'static str);
+/// The report of this plan and these players, each of whose senders sends its own of these; nothing where there is none.
+pub fn report_of<R: Threads + Wait + Sync>(
+    rt: &R,
+    alloc: Global,
+    plan: Plan,
+    players: Vec<Player>,
+    sends: &[Vec<Sending>],
+) -> Option<Report>
+    requires unused { All (λ player. player.sum ≡ pos 0) players.items }
+{
+    let company = Company::new(rt, alloc, plan, players).ok()?;
+    let mut ran = run_together(rt, alloc, company, sends);
+    end(rt, &mut ran).ok()
+}
 
-/// Plays each of these stories, and sees to it that its report has this text.
-pub fn play_together<R: Abort + Threads + Wait + Sync>(rt: &R, alloc: Global, runs: &[Run]) {
-    for (story, report) in runs {
-        see(rt, &run_together(rt, alloc, story), *report);
+// Has all workers run while each sender sends its own of these; nothing where something failed.
+fn run_together<R: Threads + Wait + Sync>(
+    rt: &R,
+    alloc: Global,
+    company: Company,
+    sends: &[Vec<Sending>],
+) -> Option<Company> {
+    let Company {
+        system,
+        mut ends,
+        senders,
+    } = company;
+    let workers = ends.as_mut_slice();
+    match send_beside(rt, alloc, &system, workers, senders, sends) {
+        Some(senders) => Some(Company {
+            system,
+            ends,
+            senders,
+        }),
+        None => None,
     }
 }
 
-/// The report's text of this story; nothing where there is none.
-pub fn run_together<R: Threads + Wait + Sync>(
+// These ends run while each of these senders sends its own: the senders, if all went well.
+fn send_beside<R: Threads + Wait + Sync>(
     rt: &R,
     alloc: Global,
-    story: &Story<'_>,
-) -> Option<String> {
-    match players_of(alloc, story.parts) {
-        Ok(players) => text_together::<Player, Adding, R>(rt, alloc, story, players),
+    system: &System<Player, Adding>,
+    ends: &mut [WorkerEnd<Player, Adding>],
+    senders: Vec<Sender<Player, Adding>>,
+    sends: &[Vec<Sending>],
+) -> Option<Vec<Sender<Player, Adding>>>
+    requires ends { AreEndsOf system.now.gates ends.old }
+    requires senders { All (λ s. IsSenderOf system.now.gates s.inner) senders.items }
+    ensures ends { AreEndsOf system.now.gates ends.new × (ends_numbers ends.new ≡ ends_numbers ends.old) }
+    ensures senders { IfSome result (λ back. All (λ s. IsSenderOf system.now.gates s.inner) back.items) }
+    ensures by { IfSome result (λ back. map (λ s. s.inner.book.by) back.items ≡ map (λ s. s.inner.book.by) senders.items) }
+{
+    match jobs_of(alloc, senders, sends) {
+        Ok(jobs) => run_jobs(rt, alloc, system, ends, jobs),
         Err(_) => None,
     }
 }
 
-/// The text of the report of this story where these are its actors; nothing where there is none.
-pub fn text_together<A: Actor + Send, K: Behaviours + Send, R: Threads + Wait + Sync>(
+// These ends run while these jobs are done: their senders, if all went well.
+fn run_jobs<R: Threads + Wait + Sync>(
     rt: &R,
     alloc: Global,
-    story: &Story<'_>,
-    actors: Vec<A>,
-) -> Option<String>
-    requires behaved { AreBehaved A.content A.after A.gives K.after K.gives 1 actors.items }
+    system: &System<Player, Adding>,
+    ends: &mut [WorkerEnd<Player, Adding>],
+    mut jobs: Vec<Job<Player, Adding>>,
+) -> Option<Vec<Sender<Player, Adding>>>
+    requires ends { AreEndsOf system.now.gates ends.old }
+    requires jobs { AreJobsOf system.now.gates jobs.items }
+    ensures ends { AreEndsOf system.now.gates ends.new × (ends_numbers ends.new ≡ ends_numbers ends.old) }
+    ensures senders { IfSome result (λ back. All (λ s. IsSenderOf system.now.gates s.inner) back.items) }
+    ensures by { IfSome result (λ back. map (λ s. s.inner.book.by) back.items ≡ jobs_senders jobs.items) }
 {
-    let (plan, sends) = plan_and_sends(alloc, story).ok()?;
-    match report_of::<A, K, R>(rt, alloc, plan, actors, &sends) {
-        Ok(Some(report)) => text_of(alloc, &report, story.parts.len()),
-        _ => None,
-    }
-}
-
-/// The report of this plan, each of whose senders sends its own of these; nothing where there is none.
-pub fn report_of<A: Actor + Send, K: Behaviours + Send, R: Threads + Wait + Sync>(
-    rt: &R,
-    alloc: Global,
-    plan: Plan,
-    actors: Vec<A>,
-    sends: &[Vec<Sending>],
-) -> Result<Option<Report>, AllocError>
-    requires behaved { AreBehaved A.content A.after A.gives K.after K.gives 1 actors.items }
-{
-    let built = begin::<A, K, R>(rt, alloc, plan, actors)?;
-    let Built {
-        system,
-        mut ends,
-        senders,
-    } = built;
-    let mut jobs = jobs_of(alloc, senders, sends)?;
-    let workers = ends.as_mut_slice();
     let tasks = jobs.as_mut_slice();
-    let has_run = system.run(rt, workers, tasks).is_ok();
-    let senders = senders_of(alloc, jobs)?;
-    let ended = Built {
-        system,
-        ends,
-        senders,
-    };
-    let report = finish(rt, ended).ok();
-    Ok(if has_run { report } else { None })
-}
-
-/// The system of this plan, which is right.
-pub fn begin<A: Actor, K: Behaviours, R: Wait>(
-    rt: &R,
-    alloc: Global,
-    plan: Plan,
-    actors: Vec<A>,
-) -> Result<Built<A, K>, AllocError>
-    requires behaved { AreBehaved A.content A.after A.gives K.after K.gives 1 actors.items }
-    ensures { IfOk result BelongsTogether }
-{
-    match System::<A, K>::build(rt, alloc, plan, actors) {
-        Ok(built) => Ok(built),
-        Err(_) => Err(AllocError),
+    if system.run(rt, ends, tasks).is_err() {
+        return None;
     }
+    senders_of(alloc, jobs).ok()
 }
 
 // A job for each sender, with its own of these.
-fn jobs_of<A: Actor, K: Behaviours>(
+fn jobs_of(
     alloc: Global,
-    senders: Vec<Sender<A, K>>,
+    senders: Vec<Sender<Player, Adding>>,
     sends: &[Vec<Sending>],
-) -> Result<Vec<Job<A, K>>, AllocError>
+) -> Result<Vec<Job<Player, Adding>>, AllocError>
     ensures { IfOk result (λ jobs. map (λ job. job.sender) jobs.items ≡ senders.items) }
 {
     let mut jobs = Vec::new(alloc);
     for sender in senders {
-        let own = each_once(alloc, sends_at(sends, jobs.len()))?;
-        jobs.push(Job { sender, sends: own })?;
+        let job = job_of(alloc, sender, sends_at(sends, jobs.len()))?;
+        jobs.push(job)?;
     }
     Ok(jobs)
 }
 
-// The senders of these jobs.
-fn senders_of<A: Actor, K: Behaviours>(
+fn job_of(
     alloc: Global,
-    jobs: Vec<Job<A, K>>,
-) -> Result<Vec<Sender<A, K>>, AllocError>
+    sender: Sender<Player, Adding>,
+    sends: &[Sending],
+) -> Result<Job<Player, Adding>, AllocError>
+    ensures { IfOk result (λ job. job.sender ≡ sender) }
+{
+    let sends = each_once(alloc, sends)?;
+    Ok(Job { sender, sends })
+}
+
+// The senders of these jobs.
+fn senders_of(
+    alloc: Global,
+    jobs: Vec<Job<Player, Adding>>,
+) -> Result<Vec<Sender<Player, Adding>>, AllocError>
     ensures { IfOk result (λ senders. senders.items ≡ map (λ job. job.sender) jobs.items) }
 {
     let mut senders = Vec::new(alloc);

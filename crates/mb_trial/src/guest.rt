@@ -68,12 +68,12 @@ pub fn two_guests(alloc: Global) -> Result<Vec<Player>, AllocError>
     ensures { IfOk result (λ players. All (λ player. player.sum ≡ pos 0) players.items) }
 {
     let hall = Arc::new(alloc, Hall::new())?;
-    let first = guest(hall.clone()?, true);
-    let second = guest(hall, false);
+    let first = guest_of(hall.clone()?, true);
+    let second = guest_of(hall, false);
     Ok(Vec::from_array(alloc, [first, second])?)
 }
 
-fn guest(hall: Arc<Hall>, is_first: bool) -> Player
+fn guest_of(hall: Arc<Hall>, is_first: bool) -> Player
     ensures { result.sum ≡ pos 0 }
 {
     Player::new(Role::Guest(Guest { hall, is_first }))

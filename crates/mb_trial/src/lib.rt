@@ -29,4 +29,4 @@ pub use role::Role;
 pub use sending::{Sending, sends_at, sends_of};
 pub use shown::{add, journal_text, words};
 pub use story::{PLAIN, Story, plan_and_sends, plan_of, text_of};
-pub use witness::{Witness, one_witness};
+pub use witness::Witness;

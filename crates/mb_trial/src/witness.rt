@@ -1,10 +1,9 @@
 //! An actor that adds up what it gets, and shows the sum to others while it runs.
-ghost use Rattle.std.specs.Prelude.{◌≡◌, pos, All, IfOk};
+ghost use Rattle.std.specs.Prelude.{◌≡◌};
 
 use crate::player::with;
 use mb_actor::{Actor, Answer, Message, Outbox};
 use mb_msg::Cause;
-use std::alloc::{AllocError, Global};
 use std::sync::Arc;
 use std::sync::atomic::AtomicI64;
 use std::sync::atomic::Ordering::SeqCst;
@@ -12,8 +11,15 @@ use std::sync::atomic::Ordering::SeqCst;
 /// What it shows stands here too.
 #[derive(Drop)]
 pub struct Witness {
-    pub sum: i64,
-    pub shown: Arc<AtomicI64>,
+    sum: i64,
+    shown: Arc<AtomicI64>,
+}
+
+impl Witness {
+    /// It got nothing yet.
+    pub fn new(shown: Arc<AtomicI64>) -> Self {
+        Witness { sum: 0, shown }
+    }
 }
 
 impl Actor for Witness {
@@ -46,13 +52,4 @@ impl Actor for Witness {
     fn state(&self) -> i64 {
         self.sum
     }
-}
-
-/// A single one, who got nothing yet.
-pub fn one_witness(alloc: Global, shown: Arc<AtomicI64>) -> Result<Vec<Witness>, AllocError>
-    ensures { IfOk result (λ witnesses. All (λ witness. witness.sum ≡ pos 0) witnesses.items) }
-{
-    let mut witnesses = Vec::new(alloc);
-    witnesses.push(Witness { sum: 0, shown })?;
-    Ok(witnesses)
 }
