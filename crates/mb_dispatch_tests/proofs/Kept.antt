@@ -2,7 +2,8 @@
 use Rattle.std.proofs.Common.{◌≡◌, ◌+◌, ◌<◌, ◌≤◌, List, [], ◌∷◌, Vec, length, map, get_or, set, refl, sym, ap, ◌∙◌, subst, arith}
 use Rattle.std.specs.Prelude.{All, AllPairs, ◌≢◌}
 use Rattle.std.specs.Global.{Box, Global}
-use Rattle.std.proofs.lemmas.List.Elements.{All-cons, All-head, All-nil, All-same, All-tail}
+use Rattle.std.specs.Vec.{with_items}
+use Rattle.std.proofs.lemmas.List.Elements.{All-cons, All-head, All-map, All-nil, All-same, All-tail}
 use Rattle.mb_msg.specs.Limits.{most_actors}
 use Rattle.mb_gate.specs.Names.{pass_id}
 use Rattle.mb_gate.specs.View.{View}
@@ -11,13 +12,15 @@ use Rattle.mb_home.specs.Contents.{Contents}
 use Rattle.mb_pool.specs.Places.{gates_of}
 use Rattle.mb_ways.specs.declared.end_way.EndWay.{EndWay}
 use Rattle.mb_system.specs.Belonging.{BelongsTogether, senders_numbers}
-use Rattle.mb_system.specs.Members.{IsEndOf, IsSenderOf}
+use Rattle.mb_system.specs.Members.{AreEndsOf, AreJobsOf, IsEndOf, IsSenderOf, ends_numbers, jobs_senders}
 use Rattle.mb_system.specs.declared.built.Built.{Built}
 use Rattle.mb_system.specs.declared.end.WorkerEnd.{WorkerEnd}
+use Rattle.mb_system.specs.declared.job.Job.{Job}
 use Rattle.mb_system.specs.declared.sender.Sender.{Sender}
 use Rattle.mb_system.specs.declared.system.System.{System}
+use Rattle.mb_system.proofs.Alike.{from-looks, twice}
 use Rattle.mb_system.proofs.There.{end-at, sender-at}
-use Rattle.mb_system.proofs.Together.{AreSendersOf, again, by_of, end-again, sender-again}
+use Rattle.mb_system.proofs.Together.{AreSendersOf, again, by_of, end-again, ends-back, jobs-back, sender-again, sender_in}
 use Rattle.mb_dispatch.specs.Belonging.{IsBack}
 use Rattle.mb_dispatch.specs.Refused.{IsRefusal}
 use Rattle.mb_dispatch.specs.declared.ending.FinishError.{FinishError}
@@ -67,6 +70,40 @@ module _ {A K : Type 0} (system : System A K) (ends : Vec (WorkerEnd A K) Global
             (λ i j d before within. absurd (omega (arith, within)));
         numbered = subst (All N) (sym none) (All-nil N);
       }
+
+  -- after a run, with the ends that were lent to it as a slice
+  pub together-again : (lent after : List (WorkerEnd A K)) (back : Vec (Sender A K) Global) → lent ≡ ends.items → AreEndsOf system.gates after
+      → ends_numbers after ≡ ends_numbers lent → AreSendersOf system.gates back.items → map by_of back.items ≡ map by_of senders.items → Are
+      → BelongsTogether (record { system = system; ends = with_items ends after; senders = back })
+  together-again lent after back is ours same theirs by was =
+      let P = λ (x : WorkerEnd A K). IsEndOf system.gates x.waker in
+      again (record { system = system; ends = ends; senders = senders }) (record { system = system; ends = with_items ends after; senders = back })
+      refl (All-same P (with_items ends after).items after (ends-back ends lent after is same) ours) theirs by was
+
+module _ {A K : Type 0} (gates : Gates (Box Contents)) where
+  -- ends, and jobs, that are lent as a slice
+  pub ends-lent : (lent ends : List (WorkerEnd A K)) → lent ≡ ends → AreEndsOf gates ends → AreEndsOf gates lent
+  ends-lent lent ends is were = subst (λ (l : List (WorkerEnd A K)). AreEndsOf gates l) (sym is) were
+
+  pub jobs-lent : (lent jobs : List (Job A K)) → lent ≡ jobs → AreJobsOf gates jobs → AreJobsOf gates lent
+  jobs-lent lent jobs is were = subst (λ (l : List (Job A K)). AreJobsOf gates l) (sym is) were
+
+  -- jobs of senders of the gates
+  pub jobs-of : (jobs : List (Job A K)) (senders : List (Sender A K)) → map sender_in jobs ≡ senders → AreSendersOf gates senders
+      → AreJobsOf gates jobs
+  jobs-of jobs senders are were =
+      from-looks sender_in (λ (s : Sender A K). IsSenderOf gates s.inner) jobs (subst (AreSendersOf gates) (sym are) were)
+
+  -- the senders of jobs that were lent to a run as a slice
+  pub senders-back : (jobs : Vec (Job A K) Global) (lent new : List (Job A K)) (back : List (Sender A K)) → lent ≡ jobs.items
+      → jobs_senders new ≡ jobs_senders lent → AreJobsOf gates new → back ≡ map sender_in (with_items jobs new).items
+      → AreSendersOf gates back × (map by_of back ≡ map by_of (map sender_in jobs.items))
+  senders-back jobs lent new back is by ours are =
+      let Q = λ (s : Sender A K). IsSenderOf gates s.inner in
+      let those : back ≡ map sender_in new = are ∙ ap (map sender_in) (jobs-back jobs lent new is by) in (
+        All-same Q back (map sender_in new) those (All-map Q sender_in new ours),
+        ap (map by_of) those ∙ twice sender_in by_of new ∙ by ∙ ap jobs_senders is ∙ sym (twice sender_in by_of jobs.items),
+      )
 
 module _ {A K : Type 0} where
   -- an end has read more

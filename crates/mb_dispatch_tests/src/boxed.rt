@@ -8,10 +8,9 @@ use mb_dispatch::run_boxed;
 use mb_trial::Sending::{Poison, Tell};
 use mb_trial::{ADD, COUNTER, Deed, PLAIN, Part, Player, Role, Story, Witness, plan_of, text_of};
 use std::alloc::{AllocError, Global};
-use std::sync::Arc;
-use std::sync::Wait;
 use std::sync::atomic::AtomicI64;
 use std::sync::atomic::Ordering::SeqCst;
+use std::sync::{Arc, Wait};
 use std::test::Fail;
 
 /// A witness is poisoned between two messages. A player watches it.
@@ -106,7 +105,11 @@ fn a_boxed_actor_watches_one_of_another_kind(rt: HostRuntime) -> Result<(), Fail
         let player = Player::new(Role::Part(WATCHER));
         let first: Box<dyn Actor + Send> = Box::new(rt.alloc(), witness)?;
         let second: Box<dyn Actor + Send> = Box::new(rt.alloc(), player)?;
-        see(&rt, &run_both(&rt, rt.alloc(), story, first, second), *found);
+        see(
+            &rt,
+            &run_both(&rt, rt.alloc(), story, first, second),
+            *found,
+        );
         assert_eq!(rt; shown.load(SeqCst), 1);
     }
     Ok(())

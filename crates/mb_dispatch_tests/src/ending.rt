@@ -21,9 +21,18 @@ pub enum Refusal {
 
 /// Ends the company that there is: the report. It comes back where it may not end.
 pub fn end<R: Wait>(rt: &R, company: &mut Option<Company>) -> Result<Report, Refusal> {
-    let Some(all) = company.take() else {
-        return Err(Refusal::Nobody);
-    };
+    match company.take() {
+        Some(all) => end_all(rt, all, company),
+        None => Err(Refusal::Nobody),
+    }
+}
+
+// Ends this company. Where it may not end, here it is.
+fn end_all<R: Wait>(
+    rt: &R,
+    all: Company,
+    company: &mut Option<Company>,
+) -> Result<Report, Refusal> {
     let Company {
         system,
         ends,
@@ -51,11 +60,7 @@ pub fn end<R: Wait>(rt: &R, company: &mut Option<Company>) -> Result<Report, Ref
 }
 
 // All came back.
-fn come_back(
-    company: &mut Option<Company>,
-    why: Refusal,
-    built: Built<Player, Adding>,
-) -> Refusal
+fn come_back(company: &mut Option<Company>, why: Refusal, built: Built<Player, Adding>) -> Refusal
     requires together { BelongsTogether built }
 {
     *company = Some(Company::of(built));

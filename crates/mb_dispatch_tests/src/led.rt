@@ -27,7 +27,11 @@ pub fn led_end<R: Wait>(
             if id as usize >= system.gates.actors() {
                 return None;
             }
-            stop_text(alloc, Ok(end.register(rt, system, ActorId(id), false, false))).ok()
+            stop_text(
+                alloc,
+                Ok(end.register(rt, system, ActorId(id), false, false)),
+            )
+            .ok()
         }
         Step::Turn => turn_text(alloc, &run_next(rt, system, end)?).ok(),
         Step::Work => run_text(alloc, end.work(rt, system)).ok(),

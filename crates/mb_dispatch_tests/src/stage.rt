@@ -38,7 +38,9 @@ impl Stage {
             }
             Step::Send(_) | Step::Look(_) | Step::Put(_) => {
                 let ticket = &mut self.ticket;
-                self.company.as_mut()?.by_sender(rt, self.alloc, ticket, step)
+                self.company
+                    .as_mut()?
+                    .by_sender(rt, self.alloc, ticket, step)
             }
             Step::LoseSenders => {
                 self.company.as_mut()?.lose_senders();

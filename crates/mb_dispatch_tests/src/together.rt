@@ -1,11 +1,11 @@
 //! Whole runs on threads: all workers run while each sender sends.
 ghost use Rattle.std.specs.Prelude.{◌≡◌, pos, All, IfOk, IfSome, map};
-ghost use Rattle.mb_system.specs.Members.{AreEndsOf, AreJobsOf, IsSenderOf, ends_numbers, jobs_senders};
+ghost use Rattle.mb_system.specs.Members.{AreEndsOf, AreJobsOf, IsSenderOf, ends_numbers};
 
 use crate::company::Company;
 use crate::ending::end;
 use crate::orders::each_once;
-use mb_dispatch::{Job, Sender, System, WorkerEnd};
+use mb_dispatch::{Built, Job, Sender, System, WorkerEnd};
 use mb_plan::Plan;
 use mb_report::Report;
 use mb_trial::{Adding, Player, Sending, sends_at};
@@ -42,11 +42,11 @@ fn run_together<R: Threads + Wait + Sync>(
     } = company;
     let workers = ends.as_mut_slice();
     match send_beside(rt, alloc, &system, workers, senders, sends) {
-        Some(senders) => Some(Company {
+        Some(senders) => Some(Company::of(Built {
             system,
             ends,
             senders,
-        }),
+        })),
         None => None,
     }
 }
@@ -84,13 +84,17 @@ fn run_jobs<R: Threads + Wait + Sync>(
     requires jobs { AreJobsOf system.now.gates jobs.items }
     ensures ends { AreEndsOf system.now.gates ends.new × (ends_numbers ends.new ≡ ends_numbers ends.old) }
     ensures senders { IfSome result (λ back. All (λ s. IsSenderOf system.now.gates s.inner) back.items) }
-    ensures by { IfSome result (λ back. map (λ s. s.inner.book.by) back.items ≡ jobs_senders jobs.items) }
+    ensures by { IfSome result (λ back. map (λ s. s.inner.book.by) back.items
+        ≡ map (λ s. s.inner.book.by) (map (λ job. job.sender) jobs.items)) }
 {
     let tasks = jobs.as_mut_slice();
     if system.run(rt, ends, tasks).is_err() {
         return None;
     }
-    senders_of(alloc, jobs).ok()
+    match senders_of(alloc, jobs) {
+        Ok(back) => Some(back),
+        Err(_) => None,
+    }
 }
 
 // A job for each sender, with its own of these.

@@ -119,10 +119,7 @@ fn reason_if_all_came_back(
         Some(Unbuilt::BadPlan(reason, planned, workers, players))
             if planned == story.parts.len()
                 && workers == story.workers
-                && players == actors.len() =>
-        {
-            Some(reason)
-        }
+                && players == actors.len() => { Some(reason) }
         _ => None,
     }
 }

@@ -3,4 +3,4 @@ use Rattle.std.specs.Vec.Iter.{into_iter_items}
 use Rattle.mb_dispatch_tests.proofs.together.jobs_of.Given as goal
 
 abbrev pub invariant-loop-sender : goal.invariant-loop-sender
-invariant-loop-sender g l = map (λ job. job.sender) l.jobs.items ++ into_iter_items l.sender-iterator ≡ l.fn.senders.items
+invariant-loop-sender l = map (λ job. job.sender) l.jobs.items ++ into_iter_items l.sender-iterator ≡ l.fn.senders.items

@@ -1,0 +1,14 @@
+use Rattle.std.proofs.Common.{refl, arith, ◌<◌, length}
+use Rattle.mb_dispatch_tests.proofs.Kept.{first-end, with-end}
+use Rattle.mb_dispatch_tests.proofs.company.Company.by_end.Goals as goal
+
+pub led_end-requires : goal.led_end-requires
+led_end-requires g c =
+    let was = c.self.inside in
+    let some : 0 < length was.ends.items = omega (arith, was.ends.ok.0) in
+    record { ours = first-end was.system was.ends was.senders c.index_mut.result.now c.index_mut.ensures.value some c.self.invariant }
+
+pub invariant_of-self : goal.invariant_of-self
+invariant_of-self g c =
+    let was = c.self.inside in
+    with-end was.system was.ends was.senders _ c.led_end.new.end refl c.led_end.ensures.ours c.self.invariant
