@@ -1,8 +1,14 @@
 //! Systems whose ends and senders are led by hand, and whose end is refused.
+use crate::company::Company;
 use crate::tale::Step::{Finish, Journal, Look, LoseSenders, Put, Register, Run, Send, Turn, Work};
-use crate::tale::{Tale, play};
+use crate::tale::{Tale, play, play_with};
 use mb_trial::Sending::{Stop, Tell};
-use mb_trial::{ADD, COUNTER, PLAIN, Story};
+use mb_trial::{ADD, COUNTER, PLAIN, Story, one_witness, plan_of};
+use std::alloc::Global;
+use std::sync::atomic::AtomicI64;
+use std::sync::atomic::Ordering::SeqCst;
+use std::sync::{Arc, Wait};
+use std::test::Fail;
 
 const ONE: Story<'static> = Story {
     parts: &[COUNTER],
@@ -121,10 +127,32 @@ const TALES: &[Tale] = &[
     TOLD_AFTER_THE_END,
     NOT_QUIET,
     WITHOUT_A_SENDER,
-    FULL_JOURNAL,
 ];
 
 #[test]
 fn a_system_is_led_by_hand_and_comes_back_where_it_may_not_end(rt: HostRuntime) {
     play(&rt, rt.alloc(), TALES)
+}
+
+/// The company of this story with a witness, who shows here what it adds up.
+fn company_of_a_witness<R: Wait>(
+    rt: &R,
+    alloc: Global,
+    story: &Story<'_>,
+    shown: Arc<AtomicI64>,
+) -> Option<Company> {
+    let plan = plan_of(alloc, story).ok()?;
+    match one_witness(alloc, shown) {
+        Ok(witness) => Company::new(rt, alloc, plan, witness).ok(),
+        Err(_) => None,
+    }
+}
+
+#[test]
+fn what_was_handled_before_a_full_journal_stands(rt: HostRuntime) -> Result<(), Fail> {
+    let shown = Arc::new(rt.alloc(), AtomicI64::new(0))?;
+    let company = company_of_a_witness(&rt, rt.alloc(), &FULL_JOURNAL.story, shown.clone()?);
+    play_with(&rt, rt.alloc(), &FULL_JOURNAL, company);
+    assert_eq!(rt; shown.load(SeqCst), 1);
+    Ok(())
 }

@@ -19,12 +19,12 @@ pub struct Stage {
 }
 
 impl Stage {
-    /// The beginning of this story.
-    pub fn new<R: Wait>(rt: &R, alloc: Global, story: &Story<'_>) -> Self {
+    /// So many actors, who are this company.
+    pub fn new(alloc: Global, count: usize, company: Option<Company>) -> Self {
         Stage {
             alloc,
-            count: story.parts.len(),
-            company: company_of(rt, alloc, story),
+            count,
+            company,
             ticket: None,
             report: None,
         }

@@ -1,6 +1,7 @@
 //! Stories that go on step by step, on one thread.
+use crate::company::Company;
 use crate::seen::see;
-use crate::stage::Stage;
+use crate::stage::{Stage, company_of};
 use mb_trial::{Sending, Story};
 use std::alloc::Global;
 use std::process::Abort;
@@ -48,7 +49,13 @@ pub fn play<R: Abort + Wait>(rt: &R, alloc: Global, tales: &[Tale]) {
 }
 
 fn play_one<R: Abort + Wait>(rt: &R, alloc: Global, tale: &Tale) {
-    let mut stage = Stage::new(rt, alloc, &tale.story);
+    let company = company_of(rt, alloc, &tale.story);
+    play_with(rt, alloc, tale, company);
+}
+
+/// The same with this company, which is of the tale's plan.
+pub fn play_with<R: Abort + Wait>(rt: &R, alloc: Global, tale: &Tale, company: Option<Company>) {
+    let mut stage = Stage::new(alloc, tale.story.parts.len(), company);
     for (step, answer) in tale.steps {
         see(rt, &stage.take(rt, *step), *answer);
     }

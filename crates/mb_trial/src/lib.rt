@@ -2,6 +2,7 @@
 //! it is as it must be. It knows of no dispatcher: who runs a trial brings that along.
 #![tactic(auto)]
 
+mod adder;
 mod chance;
 mod deed;
 mod dice;
@@ -17,8 +18,10 @@ mod sent;
 mod shown;
 mod stood;
 mod story;
+mod watcher;
 mod witness;
 
+pub use adder::Adder;
 pub use chance::{actors_by_chance, plan_by_chance, sends_by_chance};
 pub use deed::{Deed, Habits};
 pub use gambler::{Gambler, gamblers};
@@ -29,4 +32,5 @@ pub use role::Role;
 pub use sending::{Sending, sends_at, sends_of};
 pub use shown::{add, journal_text, words};
 pub use story::{PLAIN, Story, plan_and_sends, plan_of, text_of};
-pub use witness::Witness;
+pub use watcher::Watcher;
+pub use witness::{Witness, one_witness};

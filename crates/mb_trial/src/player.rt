@@ -99,7 +99,7 @@ impl Actor for Player {
 
     fn receive(&mut self, message: &Message, out: &mut Outbox) -> Answer {
         self.sum = with(self.sum, message);
-        self.role.receive(message, out)
+        self.role.receive(self.sum, message, out)
     }
 
     fn restart(&mut self, _cause: Cause, out: &mut Outbox) -> Answer {

@@ -5,6 +5,7 @@ use crate::deed::{do_all, hear};
 use crate::gambler::Gambler;
 use crate::guest::Guest;
 use crate::player::Part;
+use crate::witness::Witness;
 use mb_actor::{Answer, Message, Outbox};
 
 /// What makes an actor do something.
@@ -16,6 +17,8 @@ pub enum Role {
     Gambler(Gambler),
     /// It waits for another.
     Guest(Guest),
+    /// It shows its sum to others.
+    Witness(Witness),
 }
 
 impl Role {
@@ -27,12 +30,12 @@ impl Role {
         match self {
             Role::Part(part) => do_all(part.start, 0, out),
             Role::Gambler(gambler) => gambler.start(out),
-            Role::Guest(_) => Answer::Handled,
+            Role::Guest(_) | Role::Witness(_) => Answer::Handled,
         }
     }
 
-    /// What is done about a message.
-    pub(crate) fn receive(&mut self, message: &Message, out: &mut Outbox) -> Answer
+    /// What is done about a message, with which the sum is this.
+    pub(crate) fn receive(&mut self, sum: i64, message: &Message, out: &mut Outbox) -> Answer
         ensures actors { out.new.actors ≡ out.old.actors }
         ensures unspawned { out.new.unspawned ≡ out.old.unspawned }
     {
@@ -40,6 +43,7 @@ impl Role {
             Role::Part(part) => hear(part.habits, message, out),
             Role::Gambler(gambler) => gambler.receive(message, out),
             Role::Guest(guest) => guest.receive(),
+            Role::Witness(witness) => witness.receive(sum),
         }
     }
 
@@ -51,7 +55,7 @@ impl Role {
         match self {
             Role::Part(part) => do_all(part.restart, 0, out),
             Role::Gambler(gambler) => gambler.restart(out),
-            Role::Guest(_) => Answer::Handled,
+            Role::Guest(_) | Role::Witness(_) => Answer::Handled,
         }
     }
 
@@ -65,7 +69,7 @@ impl Role {
                 let _answer = do_all(part.stop, 0, out);
             }
             Role::Gambler(gambler) => gambler.stop(out),
-            Role::Guest(_) => {}
+            Role::Guest(_) | Role::Witness(_) => {}
         }
     }
 }

@@ -1,9 +1,10 @@
-//! An actor that adds up what it gets, and shows the sum to others while it runs.
-ghost use Rattle.std.specs.Prelude.{◌≡◌};
+//! An actor whose sum others see while it runs.
+ghost use Rattle.std.specs.Prelude.{◌≡◌, pos, All, IfOk};
 
-use crate::player::with;
-use mb_actor::{Actor, Answer, Message, Outbox};
-use mb_msg::Cause;
+use crate::player::Player;
+use crate::role::Role;
+use mb_actor::Answer;
+use std::alloc::{AllocError, Global};
 use std::sync::Arc;
 use std::sync::atomic::AtomicI64;
 use std::sync::atomic::Ordering::SeqCst;
@@ -11,45 +12,21 @@ use std::sync::atomic::Ordering::SeqCst;
 /// What it shows stands here too.
 #[derive(Drop)]
 pub struct Witness {
-    sum: i64,
     shown: Arc<AtomicI64>,
 }
 
 impl Witness {
-    /// It got nothing yet.
-    pub fn new(shown: Arc<AtomicI64>) -> Self {
-        Witness { sum: 0, shown }
+    /// A message came, whichever: the sum is this now.
+    pub(crate) fn receive(&self, sum: i64) -> Answer {
+        self.shown.store(sum, SeqCst);
+        Answer::Handled
     }
 }
 
-impl Actor for Witness {
-    ghost use Rattle.mb_trial.specs.Sum.{sum_of};
-
-    ghost after = { λ _. sum_of };
-
-    ghost content = { λ witness. witness.sum };
-
-    ghost gives = { λ _ _ _. Unit {0} };
-
-    fn start(&mut self, _out: &mut Outbox) -> Answer {
-        self.sum = 0;
-        Answer::Handled
-    }
-
-    fn receive(&mut self, message: &Message, _out: &mut Outbox) -> Answer {
-        self.sum = with(self.sum, message);
-        self.shown.store(self.sum, SeqCst);
-        Answer::Handled
-    }
-
-    fn restart(&mut self, _cause: Cause, _out: &mut Outbox) -> Answer {
-        self.sum = 0;
-        Answer::Handled
-    }
-
-    fn stop(&mut self, _out: &mut Outbox) {}
-
-    fn state(&self) -> i64 {
-        self.sum
-    }
+/// A single one, who got nothing yet.
+pub fn one_witness(alloc: Global, shown: Arc<AtomicI64>) -> Result<Vec<Player>, AllocError>
+    ensures { IfOk result (λ players. All (λ player. player.sum ≡ pos 0) players.items) }
+{
+    let witness = Player::new(Role::Witness(Witness { shown }));
+    Ok(Vec::from_array(alloc, [witness])?)
 }
