@@ -3,7 +3,7 @@ use Rattle.mb_dispatch_tests.proofs.together.run_jobs.Goals as goal
 
 pub run-requires-clause-jobs : goal.run-requires-clause-jobs
 run-requires-clause-jobs g c κs within =
-    jobs-lent c.args.system.now.gates c.as_mut_slice-tasks.result.now c.args.jobs.items c.as_mut_slice-tasks.ensures.value c.requires.jobs κs within
+    jobs-lent c.args.system.now.gates c.as_mut_slice-tasks.result.now c.args.jobs.items c.as_mut_slice-tasks.ensures.value c.requires.jobs
 
 pub returns-in-Ok-clause-senders : goal.returns-in-Ok-clause-senders
 returns-in-Ok-clause-senders g c =

@@ -4,11 +4,10 @@ use Rattle.mb_dispatch_tests.proofs.together.run_together.Goals as goal
 pub send_beside-requires-clause-ends : goal.send_beside-requires-clause-ends
 send_beside-requires-clause-ends g c κs within =
     let was = c.company.inside in
-    ends-lent was.system.gates c.as_mut_slice-workers.result.now was.ends.items c.as_mut_slice-workers.ensures.value c.company.invariant.ends κs
-    within
+    ends-lent was.system.gates c.as_mut_slice-workers.result.now was.ends.items c.as_mut_slice-workers.ensures.value c.company.invariant.ends
 
 pub send_beside-requires-clause-senders : goal.send_beside-requires-clause-senders
-send_beside-requires-clause-senders g c κs within = c.company.invariant.senders κs within
+send_beside-requires-clause-senders g c κs within = c.company.invariant.senders
 
 pub of-requires : goal.of-requires
 of-requires g c =

@@ -6,7 +6,7 @@ use Rattle.mb_dispatch_tests.proofs.together.send_beside.Goals as goal
 
 pub run_jobs-requires-clause-jobs : goal.run_jobs-requires-clause-jobs
 run_jobs-requires-clause-jobs g c κs within =
-    jobs-of c.args.system.now.gates c.in-Ok.jobs.items c.args.senders.items c.in-Ok.ensures c.requires.senders κs within
+    jobs-of c.args.system.now.gates c.in-Ok.jobs.items c.args.senders.items c.in-Ok.ensures c.requires.senders
 
 pub returns-in-Ok-clause-by : goal.returns-in-Ok-clause-by
 returns-in-Ok-clause-by g c =
