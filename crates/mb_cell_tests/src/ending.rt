@@ -51,6 +51,5 @@ died 2 | none | close, 0: died 1 | ended 0 0
 
 #[test]
 fn ends(rt: HostRuntime) -> Result<(), Fail> {
-    each_case(&rt, rt.alloc(), ENDS, 28)?;
-    Ok(())
+    each_case(&rt, rt.alloc(), ENDS, 28)
 }

@@ -31,6 +31,5 @@ kill | none | suspend, 2: suspend, 0: failed 1 killed | live 1 0
 
 #[test]
 fn envelopes(rt: HostRuntime) -> Result<(), Fail> {
-    each_case(&rt, rt.alloc(), ENVELOPES, 14)?;
-    Ok(())
+    each_case(&rt, rt.alloc(), ENVELOPES, 14)
 }

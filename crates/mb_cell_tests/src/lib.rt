@@ -18,7 +18,7 @@ mod restart;
 #[cfg(test)]
 mod rows;
 #[cfg(test)]
-mod shown;
+mod seen;
 #[cfg(test)]
 mod stage;
 #[cfg(test)]

@@ -1,36 +1,41 @@
-//! An actor that does at each call what its plan says.
+//! An actor that does at each call what it was made to do.
 
 ghost use Rattle.std.specs.Prelude.{◌≡◌};
 
 use mb_actor::{Actor, Answer, Behaviours, Message, Outbox};
 use mb_msg::{ActorId, Cause};
 
-/// What the actor does at a call: one effect, or how it answers.
-#[derive(Clone, Copy)]
-pub(crate) enum Move {
-    Rest,
-    Leave,
-    Fail(u32),
-    Tell(u32),
-    Watch(u32),
-    Unwatch(u32),
-    Stop(u32),
-    Spawn(u32),
-}
+/// What a player is asked for: the kind and the value of a message, where the value is the number of an actor or an error.
+pub(crate) type Asked = (u32, i64);
 
-/// What it does at its start, its restarts, its stop and the ends of others that it is told, in order.
-#[derive(Clone, Copy)]
-pub(crate) struct Plan {
-    pub(crate) start: [Move; 2],
-    pub(crate) restart: [Move; 2],
-    pub(crate) stop: [Move; 2],
-    pub(crate) ends: [Move; 2],
-}
+/// Nothing but what each message does: it is counted.
+pub(crate) const ADD: u32 = 1;
 
-/// It counts the messages that it gets.
+/// To fail with this error.
+pub(crate) const FAIL: u32 = 2;
+
+/// To tell this actor to add 9.
+pub(crate) const TELL: u32 = 3;
+
+pub(crate) const WATCH: u32 = 4;
+
+pub(crate) const UNWATCH: u32 = 5;
+
+pub(crate) const STOP: u32 = 6;
+
+pub(crate) const SPAWN: u32 = 7;
+
+/// To answer that it does not know the message.
+pub(crate) const LEAVE: u32 = 8;
+
+/// It counts the messages that it gets. At its start, its restarts, its stop and the ends of others that it is told it does
+/// these two things, in order.
 #[derive(Drop)]
 pub(crate) struct Player {
-    pub(crate) plan: Plan,
+    pub(crate) start: [Asked; 2],
+    pub(crate) restart: [Asked; 2],
+    pub(crate) stop: [Asked; 2],
+    pub(crate) ends: [Asked; 2],
     pub(crate) count: u32,
 }
 
@@ -57,26 +62,26 @@ impl Actor for Player {
 
     fn start(&mut self, out: &mut Outbox) -> Answer {
         self.count = 0;
-        perform_both(self.plan.start, out)
+        perform_both(self.start, out)
     }
 
     fn receive(&mut self, message: &Message, out: &mut Outbox) -> Answer {
         self.count = self.count.wrapping_add(1);
-        match message {
+        match *message {
             Message::User { kind, value } | Message::Control { kind, value } => {
-                perform(move_of(*kind, *value), out)
+                perform((kind, value), out)
             }
-            Message::Terminated(_) => perform_both(self.plan.ends, out),
+            Message::Terminated(_) => perform_both(self.ends, out),
         }
     }
 
     fn restart(&mut self, _cause: Cause, out: &mut Outbox) -> Answer {
         self.count = 0;
-        perform_both(self.plan.restart, out)
+        perform_both(self.restart, out)
     }
 
     fn stop(&mut self, out: &mut Outbox) {
-        let _answer = perform_both(self.plan.stop, out);
+        let _answer = perform_both(self.stop, out);
     }
 
     fn state(&self) -> i64 {
@@ -84,47 +89,34 @@ impl Actor for Player {
     }
 }
 
-/// What a message of this kind, with the number of an actor or of an error as its value, makes the actor do.
-pub(crate) fn move_of(kind: u32, value: i64) -> Move {
-    let of = u32::try_from(value).unwrap_or(0);
-    match kind {
-        2 => Move::Fail(of),
-        3 => Move::Tell(of),
-        4 => Move::Watch(of),
-        5 => Move::Unwatch(of),
-        6 => Move::Stop(of),
-        7 => Move::Spawn(of),
-        8 => Move::Leave,
-        _ => Move::Rest,
-    }
-}
-
 /// Does both, the second unless the first is how it answers.
-fn perform_both(moves: [Move; 2], out: &mut Outbox) -> Answer
+fn perform_both(both: [Asked; 2], out: &mut Outbox) -> Answer
     ensures actors { out.new.actors ≡ out.old.actors }
     ensures unspawned { out.new.unspawned ≡ out.old.unspawned }
 {
-    let first = perform(moves[0], out);
+    let first = perform(both[0], out);
     if !matches!(first, Answer::Handled) {
         return first;
     }
-    perform(moves[1], out)
+    perform(both[1], out)
 }
 
 /// Does what is asked; what the outbox refuses is left out.
-fn perform(asked: Move, out: &mut Outbox) -> Answer
+fn perform(asked: Asked, out: &mut Outbox) -> Answer
     ensures actors { out.new.actors ≡ out.old.actors }
     ensures unspawned { out.new.unspawned ≡ out.old.unspawned }
 {
-    let _refused = match asked {
-        Move::Leave => return Answer::Unhandled,
-        Move::Fail(number) => return Answer::Failed(number),
-        Move::Rest => Ok(()),
-        Move::Tell(to) => out.tell(ActorId(to), 1, 9),
-        Move::Watch(id) => out.watch(ActorId(id)),
-        Move::Unwatch(id) => out.unwatch(ActorId(id)),
-        Move::Stop(id) => out.stop(ActorId(id)),
-        Move::Spawn(id) => out.spawn(ActorId(id)),
+    let (kind, value) = asked;
+    let of = u32::try_from(value).unwrap_or(0);
+    let _refused = match kind {
+        LEAVE => return Answer::Unhandled,
+        FAIL => return Answer::Failed(of),
+        TELL => out.tell(ActorId(of), ADD, 9),
+        WATCH => out.watch(ActorId(of)),
+        UNWATCH => out.unwatch(ActorId(of)),
+        STOP => out.stop(ActorId(of)),
+        SPAWN => out.spawn(ActorId(of)),
+        _ => Ok(()),
     };
     Answer::Handled
 }

@@ -43,6 +43,5 @@ recreate error 3 | handled | resume, 2: recreate error 3 | live 0 0
 
 #[test]
 fn restarts(rt: HostRuntime) -> Result<(), Fail> {
-    each_case(&rt, rt.alloc(), RESTARTS, 20)?;
-    Ok(())
+    each_case(&rt, rt.alloc(), RESTARTS, 20)
 }

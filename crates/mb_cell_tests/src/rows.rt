@@ -343,31 +343,10 @@ user add 9 | handled | - | live 0 1
 ";
 
 #[test]
-fn a_child_that_fails(rt: HostRuntime) -> Result<(), Fail> {
+fn stories(rt: HostRuntime) -> Result<(), Fail> {
     each_case(&rt, rt.alloc(), CHILD_THAT_FAILS, 31)?;
-    Ok(())
-}
-
-#[test]
-fn failures(rt: HostRuntime) -> Result<(), Fail> {
     each_case(&rt, rt.alloc(), FAILURES, 66)?;
-    Ok(())
-}
-
-#[test]
-fn retries(rt: HostRuntime) -> Result<(), Fail> {
     each_case(&rt, rt.alloc(), RETRIES, 26)?;
-    Ok(())
-}
-
-#[test]
-fn to_a_full_journal(rt: HostRuntime) -> Result<(), Fail> {
     each_case(&rt, rt.alloc(), TO_A_FULL_JOURNAL, 22)?;
-    Ok(())
-}
-
-#[test]
-fn ends(rt: HostRuntime) -> Result<(), Fail> {
-    each_case(&rt, rt.alloc(), ENDS, 47)?;
-    Ok(())
+    each_case(&rt, rt.alloc(), ENDS, 47)
 }

@@ -1,21 +1,18 @@
-//! A cell that is given messages one by one, and tells in words what it makes of each.
+//! A cell that is given messages one by one, and what it makes of each, held against the words of a table.
 
 ghost use Rattle.std.specs.Prelude.{◌≡◌, ◌<◌, ◌≤◌, [], true, length};
 ghost use Rattle.std.specs.List.{All};
 ghost use Rattle.mb_msg.specs.Limits.{most_actors};
 ghost use Rattle.mb_actor.specs.Behaviour.{AllowsSame};
 
-use crate::shown::{
-    Given, act_shown, add, add_column, aside_shown, effects_shown, or_dash, outcome_shown,
-    phase_shown,
-};
-use crate::words::{Trouble, body_of, first_word, number, system_of};
+use crate::seen::{Given, are_aside, is_act, is_entry, is_numbered, is_standing};
+use crate::words::{body_of, system_of};
 use mb_actor::{Actor, Behaviours, Phase};
 use mb_cell::Cell;
 use mb_journal::{ReadyError, Strategy};
 use mb_msg::{ActorId, Body, Envelope, SenderId, SysMsg};
 use mb_status::Status;
-use std::alloc::{AllocError, Global};
+use std::alloc::Global;
 use std::marker::Model;
 use std::process::Abort;
 
@@ -103,31 +100,48 @@ impl<A: Actor, K: Behaviours> Stage<A, K> {
         }
     }
 
-    /// Gives the cell the message of this case, and tells the case as it is: the message, what its entry says became of it,
-    /// what the cell asks for, where the actor stands, and what is set aside, if something is.
-    pub(crate) fn told<R: Abort>(
-        &mut self,
-        rt: &R,
-        alloc: Global,
-        case: &str,
-    ) -> Result<String, Trouble> {
-        let (message, _) = case.split_once(" | ").ok_or(Trouble::Words("no case"))?;
-        let given = self.give(rt, message)?;
-        Ok(self.case_shown(rt, alloc, message, given)?)
+    /// Whether nothing came to the cell yet: its actor is not started, and suspended once.
+    pub(crate) fn is_fresh(&self) -> bool {
+        matches!(self.cell.phase(), Phase::Fresh) && self.cell.count() == 1
     }
 
-    fn give<R: Abort>(&mut self, rt: &R, message: &str) -> Result<Given, Trouble> {
+    /// Whether memory was refused to make room, so far.
+    pub(crate) fn was_refused(&self) -> bool {
+        self.was_refused
+    }
+
+    /// Gives the cell the message of this case. What is other than the case says, nothing where all is as it says: what the
+    /// entry says became of the message, what the cell asks for, where the actor stands, and what is set aside, if something is.
+    pub(crate) fn other_than<R: Abort>(&mut self, rt: &R, case: &str) -> &'static str {
+        let mut columns = case.split(" | ");
+        let given = self.give(rt, columns.next().unwrap_or(""));
+        if !is_entry(self.cell.journal(), given, columns.next().unwrap_or("")) {
+            return "entry";
+        }
+        if !are_acts(&mut self.cell, columns.next().unwrap_or("")) {
+            return "act";
+        }
+        let (_, phase, count, state) = standing(&self.cell);
+        if !is_standing(phase, count, state, columns.next().unwrap_or("")) {
+            return "standing";
+        }
+        if !are_aside(self.cell.aside(), columns.next().unwrap_or("")) || columns.next().is_some() {
+            return "message aside";
+        }
+        ""
+    }
+
+    fn give<R: Abort>(&mut self, rt: &R, message: &str) -> Given {
         if self.cell.journal().is_full() {
-            return Ok(self.refused(rt));
+            return self.refused(rt);
         }
         if let Some(due) = message.strip_prefix("front ") {
             return self.front(rt, due);
         }
-        if let Some(body) = body_of(message)? {
-            return Ok(self.envelope(rt, body));
+        if let Some(body) = body_of(message) {
+            return self.envelope(rt, body);
         }
-        let message = system_of(message)?;
-        Ok(self.system(rt, message))
+        self.system(rt, system_of(message).expect(rt, "a message"))
     }
 
     /// Asks for room in a journal that is full: it is refused, and the journal is as it was.
@@ -135,7 +149,7 @@ impl<A: Actor, K: Behaviours> Stage<A, K> {
         let entries = self.cell.journal().len();
         let answer = self.cell.ready();
         assert!(rt; matches!(answer, Err(ReadyError::JournalFull)));
-        assert_eq!(rt; self.cell.journal().len(), entries);
+        assert!(rt; self.cell.journal().len() == entries);
         Given::Refused
     }
 
@@ -151,19 +165,11 @@ impl<A: Actor, K: Behaviours> Stage<A, K> {
     }
 
     /// Gives it again the message that goes before all others, which is to be this one.
-    fn front<R: Abort>(&mut self, rt: &R, due: &str) -> Result<Given, Trouble> {
-        let (due_number, due_message) = first_word(due);
-        let due_number = u64::from(number(due_number)?);
-        let due_message = system_of(due_message)?;
-        Ok(self.next_front(rt, due_number, due_message))
-    }
-
-    fn next_front<R: Abort>(&mut self, rt: &R, due_number: u64, due_message: SysMsg) -> Given {
+    fn front<R: Abort>(&mut self, rt: &R, due: &str) -> Given {
         self.was_refused |= make_ready(rt, &mut self.cell);
         assert!(rt; !matches!(self.cell.phase(), Phase::Ended));
         let (number, message) = self.cell.next_front().expect(rt, "a message that waits");
-        assert_eq!(rt; number, due_number);
-        assert_eq!(rt; message, due_message);
+        assert!(rt; is_numbered(number, message, due));
         assert!(rt; number < self.next);
         self.cell.apply_system(number, message);
         Given::System(number, message)
@@ -184,45 +190,6 @@ impl<A: Actor, K: Behaviours> Stage<A, K> {
         };
         self.cell.apply_envelope(reading, envelope);
         Given::Envelope(envelope)
-    }
-
-    fn case_shown<R: Abort>(
-        &mut self,
-        rt: &R,
-        alloc: Global,
-        message: &str,
-        given: Given,
-    ) -> Result<String, AllocError> {
-        let mut case = String::from_str(alloc, message)?;
-        add_column(&mut case, entry_shown(rt, alloc, &self.cell, given)?)?;
-        self.add_standing(alloc, &mut case)?;
-        Ok(case)
-    }
-
-    /// Adds the columns of what the cell asks for, and of how it stands then.
-    fn add_standing(&mut self, alloc: Global, case: &mut String) -> Result<(), AllocError> {
-        add_column(case, or_dash(acts_shown(alloc, &mut self.cell)?)?)?;
-        add_column(case, self.stands_shown(alloc)?)?;
-        let aside = aside_shown(alloc, self.cell.aside())?;
-        if aside.is_empty() {
-            return Ok(());
-        }
-        add_column(case, aside)
-    }
-
-    /// Whether memory was refused to make room, so far.
-    pub(crate) fn was_refused(&self) -> bool {
-        self.was_refused
-    }
-
-    /// Where the actor stands, how often it is suspended, and its content; the guardian has none.
-    pub(crate) fn stands_shown(&self, alloc: Global) -> Result<String, AllocError> {
-        let phase = phase_shown(self.cell.phase());
-        let count = self.cell.count();
-        match self.cell.state() {
-            Some(content) => format!(in alloc; "{phase} {count} {content}"),
-            None => format!(in alloc; "{phase} {count} -"),
-        }
     }
 }
 
@@ -252,42 +219,21 @@ fn standing<A: Actor, K: Behaviours>(cell: &Cell<A, K>) -> (usize, Phase, u64, O
     )
 }
 
-/// What the newest entry says: what became of what was given, and the effects of it; or that there is no room for one.
-fn entry_shown<R: Abort, A: Actor, K: Behaviours>(
-    rt: &R,
-    alloc: Global,
-    cell: &Cell<A, K>,
-    given: Given,
-) -> Result<String, AllocError> {
-    if matches!(given, Given::Refused) {
-        return String::from_str(alloc, "journal full");
-    }
-    let journal = cell.journal();
-    let entries = journal.len();
-    assert!(rt; entries > 0);
-    let newest = journal.get(entries - 1);
-    let outcome = outcome_shown(alloc, newest.arrival, given)?;
-    let effects = effects_shown(alloc, newest.effects)?;
-    if effects.is_empty() {
-        return Ok(outcome);
-    }
-    format!(in alloc; "{outcome}: {effects}")
-}
-
-/// Takes each act, in order.
-fn acts_shown<A: Actor, K: Behaviours>(
-    alloc: Global,
-    cell: &mut Cell<A, K>,
-) -> Result<String, AllocError>
+/// Whether what the cell asks for is this, in order, and no more; `-` is nothing.
+fn are_acts<A: Actor, K: Behaviours>(cell: &mut Cell<A, K>, text: &str) -> bool
     ensures rest { cell.new ≡ record cell.old { acts = cell.new.acts } }
 {
-    let mut list = String::new(alloc);
+    if text == "-" {
+        return cell.next_act().is_none();
+    }
+    let mut items = text.split(", ");
     for _ in 0..1000u32 {
         let Some(act) = cell.next_act() else {
             break;
         };
-        let item = act_shown(alloc, act)?;
-        add(&mut list, item.as_str())?;
+        if !is_act(act, items.next().unwrap_or("")) {
+            return false;
+        }
     }
-    Ok(list)
+    items.next().is_none()
 }

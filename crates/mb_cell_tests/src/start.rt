@@ -58,11 +58,5 @@ terminate | none | close | ended 0 -
 #[test]
 fn starts(rt: HostRuntime) -> Result<(), Fail> {
     each_case(&rt, rt.alloc(), STARTS, 16)?;
-    Ok(())
-}
-
-#[test]
-fn guardian(rt: HostRuntime) -> Result<(), Fail> {
-    each_case(&rt, rt.alloc(), GUARDIAN, 9)?;
-    Ok(())
+    each_case(&rt, rt.alloc(), GUARDIAN, 9)
 }

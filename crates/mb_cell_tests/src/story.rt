@@ -2,10 +2,10 @@
 
 use crate::cast::cast;
 use crate::stage::Stage;
-use crate::words::Trouble;
 use mb_actor::{Actor, Behaviours};
-use std::alloc::Global;
+use std::alloc::{AllocError, Global};
 use std::process::Abort;
+use std::test::Fail;
 
 /// Sees to it that each case of each story is as it says, and that there are so many. Stories stand apart by an empty line. A
 /// case is a line with bars, a head is one that begins with `actor` or `guardian`, and all others are comments.
@@ -14,22 +14,25 @@ pub(crate) fn each_case<R: Abort>(
     alloc: Global,
     stories: &str,
     count: u32,
-) -> Result<(), Trouble> {
+) -> Result<(), Fail> {
     let mut found: u32 = 0;
     for story in stories.split("\n\n") {
         let (cases, _) = play(rt, alloc, story)?;
         found = found.wrapping_add(cases);
     }
-    assert_eq!(rt; found, count, "cases");
+    assert!(rt; found == count, "{found} cases");
     Ok(())
 }
 
 /// Sees to it that each case of one story is as it says, and answers how many it has, and whether a `ready` was refused.
-pub(crate) fn play<R: Abort>(rt: &R, alloc: Global, story: &str) -> Result<(u32, bool), Trouble> {
+pub(crate) fn play<R: Abort>(
+    rt: &R,
+    alloc: Global,
+    story: &str,
+) -> Result<(u32, bool), AllocError> {
     let head = head_of(story);
-    let mut stage = cast(alloc, head)?;
-    let cases = go_through(rt, alloc, &mut stage, head, story)?;
-    Ok((cases, stage.was_refused()))
+    let mut stage = cast(rt, alloc, head)?;
+    Ok(go_through(rt, &mut stage, head, story))
 }
 
 /// The line that says whose story it is.
@@ -42,36 +45,25 @@ fn head_of(story: &str) -> &str {
     ""
 }
 
-/// Goes through the cases of a story on a cell to which nothing came yet.
+/// Goes through the cases of a story on a cell to which nothing came yet: how many there are, and whether a `ready` was
+/// refused.
 fn go_through<R: Abort, A: Actor, K: Behaviours>(
     rt: &R,
-    alloc: Global,
     stage: &mut Stage<A, K>,
     head: &str,
     story: &str,
-) -> Result<u32, Trouble> {
-    let begins = stage.stands_shown(alloc)?;
-    assert!(rt; begins.as_str().starts_with("fresh 1 "), "{head}");
+) -> (u32, bool) {
+    assert!(rt; stage.is_fresh(), "{head}");
     let mut count: u32 = 0;
-    for line in story.lines() {
-        if line.contains(" | ") {
+    for case in story.lines() {
+        if case.contains(" | ") {
             count = count.wrapping_add(1);
-            check_case(rt, alloc, stage, line, head, count)?;
+            let other = stage.other_than(rt, case);
+            assert!(rt;
+                other.is_empty(),
+                "another {other}: {case} (case {count} of {head})"
+            );
         }
     }
-    Ok(count)
-}
-
-/// Sees to it that a case, which is the one of this number, is as it says.
-fn check_case<R: Abort, A: Actor, K: Behaviours>(
-    rt: &R,
-    alloc: Global,
-    stage: &mut Stage<A, K>,
-    case: &str,
-    head: &str,
-    number: u32,
-) -> Result<(), Trouble> {
-    let told = stage.told(rt, alloc, case)?;
-    assert_eq!(rt; told.as_str(), case, "case {number} of {head}");
-    Ok(())
+    (count, stage.was_refused())
 }

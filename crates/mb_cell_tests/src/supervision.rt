@@ -91,19 +91,8 @@ failed 2 error 1 | none | 2: terminate, 3: terminate | live 0 0
 ";
 
 #[test]
-fn directives(rt: HostRuntime) -> Result<(), Fail> {
+fn supervision(rt: HostRuntime) -> Result<(), Fail> {
     each_case(&rt, rt.alloc(), DIRECTIVES, 22)?;
-    Ok(())
-}
-
-#[test]
-fn retries(rt: HostRuntime) -> Result<(), Fail> {
     each_case(&rt, rt.alloc(), RETRIES, 8)?;
-    Ok(())
-}
-
-#[test]
-fn all_for_one(rt: HostRuntime) -> Result<(), Fail> {
-    each_case(&rt, rt.alloc(), ALL_FOR_ONE, 15)?;
-    Ok(())
+    each_case(&rt, rt.alloc(), ALL_FOR_ONE, 15)
 }

@@ -55,11 +55,5 @@ kill | none | suspend, 2: suspend, 0: failed 1 killed | live 1 1
 #[test]
 fn suspensions(rt: HostRuntime) -> Result<(), Fail> {
     each_case(&rt, rt.alloc(), SUSPENSIONS, 14)?;
-    Ok(())
-}
-
-#[test]
-fn failures(rt: HostRuntime) -> Result<(), Fail> {
-    each_case(&rt, rt.alloc(), FAILURES, 16)?;
-    Ok(())
+    each_case(&rt, rt.alloc(), FAILURES, 16)
 }

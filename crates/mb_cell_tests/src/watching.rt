@@ -76,13 +76,7 @@ terminated 2 | handled | - | live 0 1
 ";
 
 #[test]
-fn watched(rt: HostRuntime) -> Result<(), Fail> {
+fn watches(rt: HostRuntime) -> Result<(), Fail> {
     each_case(&rt, rt.alloc(), WATCHED, 7)?;
-    Ok(())
-}
-
-#[test]
-fn watching(rt: HostRuntime) -> Result<(), Fail> {
-    each_case(&rt, rt.alloc(), WATCHING, 37)?;
-    Ok(())
+    each_case(&rt, rt.alloc(), WATCHING, 37)
 }

@@ -1,7 +1,7 @@
 use Rattle.std.proofs.Common.{◌≤◌, ◌<◌, vec_len}
 use Rattle.std.specs.List.{All}
 use Rattle.mb_msg.specs.Limits.{most_actors}
-use Rattle.mb_cell_tests.proofs.cast.children_between.Given as goal
+use Rattle.mb_cell_tests.proofs.cast.children_of.Given as goal
 
 abbrev pub invariant-loop-id : goal.invariant-loop-id
 invariant-loop-id l = record {

@@ -1,5 +1,5 @@
 use Rattle.std.proofs.Common.{◌≡◌}
-use Rattle.mb_cell_tests.proofs.stage.acts_shown.Given as goal
+use Rattle.mb_cell_tests.proofs.stage.are_acts.Given as goal
 
 abbrev pub invariant-loop : goal.invariant-loop
 invariant-loop g l = record {

@@ -3,7 +3,7 @@ use Rattle.mb_journal.specs.Aside.{next_number}
 use Rattle.mb_journal.specs.Identity.{Identity, is_guardian}
 use Rattle.mb_cell.specs.Seen.{Seen}
 use Rattle.mb_cell.proofs.NumberLemmas.{numbered_front}
-use Rattle.mb_cell_tests.proofs.stage.Stage.next_front.Goals as goal
+use Rattle.mb_cell_tests.proofs.stage.Stage.front.Goals as goal
 
 pub invariant_of-self : goal.invariant_of-self
 invariant_of-self g c =
