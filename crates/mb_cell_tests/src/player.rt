@@ -67,9 +67,9 @@ impl Actor for Player {
 
     fn receive(&mut self, message: &Message, out: &mut Outbox) -> Answer {
         self.count = self.count.wrapping_add(1);
-        match *message {
+        match message {
             Message::User { kind, value } | Message::Control { kind, value } => {
-                perform((kind, value), out)
+                perform((*kind, *value), out)
             }
             Message::Terminated(_) => perform_both(self.ends, out),
         }

@@ -1,62 +1,101 @@
 //! Calls on a queue, one after the other on one thread, and what each answers.
 ghost use Rattle.std.specs.Prelude.{◌≡◌};
-ghost use Rattle.mb_queue.specs.Made.{IsMakeable};
 
-use crate::mail::{NEAR, control, pushed, queue, user, value_taken};
-use mb_queue::{Kind, SendPass, TakePass};
+use crate::mail::{NEAR, control, is_taken, pushed, queue, user};
+use crate::sort::Sort;
+use mb_queue::{SendPass, TakePass};
 use std::alloc::{AllocError, Global};
 use std::sync::Wait;
 
-/// One call, and its answer.
+/// One call, and its answer; or many.
 #[derive(Clone, Copy)]
 pub enum Step {
     /// A user message of this kind and value is queued.
     Queued(u32, i64),
+    /// User messages of kind 1 are queued, of each value from 0 up to this one.
+    AllQueued(i64),
     /// A control message of this value is queued.
-    QueuedControl(i64),
+    ControlQueued(i64),
     /// A user message of this kind and value comes back from a full queue.
     Full(u32, i64),
     /// The message of this value is taken.
     Taken(i64),
+    /// Those of each value from the first up to the second are taken, in this order.
+    AllTaken(i64, i64),
 }
 
-/// Whether all steps go so, in a new queue of this kind, and nothing is left then.
+/// Whether all steps go so, in a new queue, and nothing is left then. Where memory is refused to a push, the push is made
+/// `again`, or else was not done.
 pub fn is_run<R: Wait>(
     rt: &R,
     alloc: Global,
-    kind: Kind,
+    sort: Sort,
     course: &[Step],
-) -> Result<bool, AllocError>
-    requires { IsMakeable kind }
-{
-    let (mut take, mut near, far) = queue(alloc, kind)?;
-    let mut number = 0u64;
-    let mut is_so = true;
-    for step in course {
-        is_so &= goes(rt, &mut take, &mut near, number, *step);
-        number = number.wrapping_add(1);
-    }
+    again: bool,
+) -> Result<bool, AllocError> {
+    let (mut take, mut near, far) = queue(alloc, sort)?;
+    let is_so = all_go(rt, &mut take, &mut near, course, again);
     take.join(near);
     take.join(far);
-    let rest = value_taken(rt, &mut take);
-    Ok(is_so && rest.is_none())
+    Ok(is_so && take.take(rt).is_none())
 }
 
-fn goes<R: Wait>(rt: &R, take: &mut TakePass, near: &mut SendPass, number: u64, step: Step) -> bool
+fn all_go<R: Wait>(
+    rt: &R,
+    take: &mut TakePass,
+    near: &mut SendPass,
+    course: &[Step],
+    again: bool,
+) -> bool
+    requires { (near.old.by ≡ 1) × (near.old.queue.to ≡ 2) }
+    ensures taker { take.new.queue ≡ take.old.queue }
+    ensures sender { (near.new.queue ≡ near.old.queue) × (near.new.by ≡ near.old.by) }
+{
+    let mut are_so = true;
+    for step in course {
+        are_so &= goes(rt, take, near, *step, again);
+    }
+    are_so
+}
+
+fn goes<R: Wait>(rt: &R, take: &mut TakePass, near: &mut SendPass, step: Step, again: bool) -> bool
     requires { (near.old.by ≡ 1) × (near.old.queue.to ≡ 2) }
     ensures taker { take.new.queue ≡ take.old.queue }
     ensures sender { (near.new.queue ≡ near.old.queue) × (near.new.by ≡ near.old.by) }
 {
     match step {
         Step::Queued(kind, value) => {
-            pushed(rt, near, user(NEAR, number, kind, value)) == Some(true)
+            pushed(rt, near, user(NEAR, 0, kind, value), again) == Some(true)
         }
-        Step::QueuedControl(value) => {
-            pushed(rt, near, control(NEAR, number, value)) == Some(true)
+        Step::AllQueued(end) => are_queued(rt, near, end, again),
+        Step::ControlQueued(value) => {
+            pushed(rt, near, control(NEAR, 0, value), again) == Some(true)
         }
         Step::Full(kind, value) => {
-            pushed(rt, near, user(NEAR, number, kind, value)) == Some(false)
+            pushed(rt, near, user(NEAR, 0, kind, value), again) == Some(false)
         }
-        Step::Taken(value) => value_taken(rt, take) == Some(value),
+        Step::Taken(value) => is_taken(rt, take, value),
+        Step::AllTaken(from, end) => are_taken(rt, take, from, end),
     }
+}
+
+fn are_queued<R: Wait>(rt: &R, near: &mut SendPass, end: i64, again: bool) -> bool
+    requires { (near.old.by ≡ 1) × (near.old.queue.to ≡ 2) }
+    ensures sender { (near.new.queue ≡ near.old.queue) × (near.new.by ≡ near.old.by) }
+{
+    let mut are_so = true;
+    for value in 0..end {
+        are_so &= pushed(rt, near, user(NEAR, 0, 1, value), again) == Some(true);
+    }
+    are_so
+}
+
+fn are_taken<R: Wait>(rt: &R, take: &mut TakePass, from: i64, end: i64) -> bool
+    ensures { take.new.queue ≡ take.old.queue }
+{
+    let mut are_so = true;
+    for value in from..end {
+        are_so &= is_taken(rt, take, value);
+    }
+    are_so
 }

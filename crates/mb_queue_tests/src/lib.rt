@@ -10,4 +10,6 @@ mod mail;
 #[cfg(test)]
 mod memory;
 #[cfg(test)]
+mod sort;
+#[cfg(test)]
 mod threads;

@@ -1,9 +1,9 @@
 //! A queue of two senders, and the calls of its passes with no more of their contracts than the tests need.
 ghost use Rattle.std.specs.Prelude.{◌≡◌, [], ◌∷◌, IfOk};
-ghost use Rattle.mb_queue.specs.Made.{IsMakeable};
 
+use crate::sort::{Sort, kind_of};
 use mb_msg::{ActorId, Body, Envelope, SenderId};
-use mb_queue::{Kind, MailQueue, PushError, RankRow, Ranks, SendPass, TakePass};
+use mb_queue::{MailQueue, PushError, SendPass, TakePass};
 use std::alloc::{AllocError, Global};
 use std::sync::Wait;
 
@@ -38,13 +38,13 @@ pub fn control(by: SenderId, number: u64, value: i64) -> Envelope
 }
 
 /// A queue and the passes of its two senders.
-pub fn queue(alloc: Global, kind: Kind) -> Result<(TakePass, SendPass, SendPass), AllocError>
-    requires { IsMakeable kind }
+pub fn queue(alloc: Global, sort: Sort) -> Result<(TakePass, SendPass, SendPass), AllocError>
     ensures queue { IfOk result (λ r. (r.1.queue ≡ r.0.queue) × (r.2.queue ≡ r.0.queue)) }
     ensures senders { IfOk result (λ r. (r.1.by ≡ 1) × (r.2.by ≡ 64)) }
     ensures actor { IfOk result (λ r. r.0.queue.to ≡ 2) }
     ensures all { IfOk result (λ r. r.0.queue.senders ≡ 1 ∷ 64 ∷ []) }
 {
+    let kind = kind_of(alloc, sort)?;
     let (take, mut sends) = MailQueue::new(alloc, kind, ME, &[NEAR, FAR])?;
     let Some(far) = sends.pop() else {
         unreachable!();
@@ -55,25 +55,18 @@ pub fn queue(alloc: Global, kind: Kind) -> Result<(TakePass, SendPass, SendPass)
     Ok((take, near, far))
 }
 
-pub fn ranked(alloc: Global) -> Result<Kind, AllocError>
-    ensures { IfOk result IsMakeable }
-{
-    let mut rows = Vec::new(alloc);
-    rows.push(RankRow { kind: 9, rank: 0 })?;
-    Ok(Kind::Priority {
-        rows: Ranks::new(rows),
-        other: 1,
-    })
-}
-
-/// Whether the push was done; if not, the envelope came back as from a full queue.
-pub fn pushed<R: Wait>(rt: &R, pass: &mut SendPass, envelope: Envelope) -> Option<bool>
+/// Whether the push was done; if not, the envelope came back as from a full queue. Where memory is refused the envelope comes
+/// back too, and if it is to be pushed `again`, the same push is done then.
+pub fn pushed<R: Wait>(rt: &R, pass: &mut SendPass, envelope: Envelope, again: bool) -> Option<bool>
     requires { (envelope.by.0 ≡ pass.old.by) × (envelope.to.0 ≡ pass.old.queue.to) }
     ensures { (pass.new.queue ≡ pass.old.queue) × (pass.new.by ≡ pass.old.by) }
 {
     match pass.push(rt, envelope) {
         Ok(()) => Some(true),
-        Err(refused) => (refused == PushError::Full(envelope)).then_some(false),
+        Err(PushError::Full(back)) => (back == envelope).then_some(false),
+        Err(PushError::NoMemory(back)) => {
+            (again && back == envelope && pass.push(rt, envelope).is_ok()).then_some(true)
+        }
     }
 }
 
@@ -83,12 +76,15 @@ pub fn taken<R: Wait>(rt: &R, take: &mut TakePass) -> Option<Envelope>
     take.take(rt)
 }
 
-/// The value of the message that is taken.
-pub fn value_taken<R: Wait>(rt: &R, take: &mut TakePass) -> Option<i64>
+/// Whether the message that is taken has this value.
+pub fn is_taken<R: Wait>(rt: &R, take: &mut TakePass, due: i64) -> bool
     ensures { take.new.queue ≡ take.old.queue }
 {
-    match taken(rt, take)?.body {
-        Body::User { value, .. } | Body::Control { value, .. } => Some(value),
-        _ => None,
+    match take.take(rt) {
+        Some(envelope) => match envelope.body {
+            Body::User { value, .. } | Body::Control { value, .. } => value == due,
+            _ => false,
+        },
+        None => false,
     }
 }

@@ -1,13 +1,13 @@
 //! Two senders and a taker, each on its thread, for each kind of queue.
-ghost use Rattle.std.specs.Prelude.{◌≡◌, ◌<◌};
+ghost use Rattle.std.specs.Prelude.{◌≡◌};
 ghost use Rattle.mb_queue.specs.Fates.{AllJoined, InOrder};
-ghost use Rattle.mb_queue.specs.Made.{IsMakeable};
 ghost use Rattle.mb_queue.specs.Passes.{first_in_first_out};
 ghost use Rattle.mb_queue.specs.Takes.{EachOnce};
 
-use crate::mail::{FAR, NEAR, control, pushed, queue, ranked, taken, user};
+use crate::mail::{FAR, NEAR, control, pushed, queue, taken, user};
+use crate::sort::Sort;
 use mb_msg::{Envelope, SenderId};
-use mb_queue::{Kind, SendPass, TakePass};
+use mb_queue::{SendPass, TakePass};
 use std::alloc::{AllocError, Global};
 use std::sync::Wait;
 use std::test::Fail;
@@ -20,76 +20,72 @@ const EACH: u64 = 1_000;
 /// How often a thread tries.
 const TURNS: u64 = 100_000_000;
 
-#[test]
-fn first_in_first_out_among_threads(rt: HostRuntime) -> Result<(), Fail> {
-    assert!(rt; all_come(&rt, rt.alloc(), Kind::Unbounded, false, 1)?);
-    assert!(rt; all_come(&rt, rt.alloc(), Kind::Bounded(16), false, 1)?);
-    Ok(())
-}
-
-/// Of each sender the even numbers have one rank and the odd ones another.
-#[test]
-fn by_rank_among_threads(rt: HostRuntime) -> Result<(), Fail> {
-    assert!(rt; all_come(&rt, rt.alloc(), ranked(rt.alloc())?, false, 2)?);
-    Ok(())
-}
-
-/// Of each sender the even numbers are control messages.
-#[test]
-fn control_first_among_threads(rt: HostRuntime) -> Result<(), Fail> {
-    assert!(rt; all_come(&rt, rt.alloc(), Kind::Control, true, 2)?);
-    Ok(())
-}
-
-/// Whether all envelopes of both senders come once, and nothing else; of each sender those of each part in their order,
-/// where every `parts`th number is of one part.
-fn all_come<R: Threads + Wait + Sync>(
-    rt: &R,
-    alloc: Global,
-    kind: Kind,
+/// What a sending thread pushes: even numbers of one part and odd ones of another, where they are told apart.
+#[derive(Clone, Copy)]
+struct Parts {
+    /// Even numbers are control messages, and else user messages of kind 9.
     has_control: bool,
-    parts: u64,
-) -> Result<bool, AllocError>
-    requires kind { IsMakeable kind }
-    requires parts { 0 < parts }
-{
-    let all = run_three(rt, alloc, kind, has_control)?;
-    Ok(
-        all.len() as u64 == 2 * EACH
-            && are_in_order(&all, NEAR, parts)
-            && are_in_order(&all, FAR, parts),
-    )
+    /// Each part comes in its order, but not both in one.
+    are_two: bool,
 }
 
-/// Two threads push and a third takes; then the passes are joined, and nothing is left. What was taken comes back.
+const IN_ONE: Parts = Parts {
+    has_control: false,
+    are_two: false,
+};
+
+const BY_RANK: Parts = Parts {
+    has_control: false,
+    are_two: true,
+};
+
+const CONTROL_FIRST: Parts = Parts {
+    has_control: true,
+    are_two: true,
+};
+
+const QUEUES: [(Sort, Parts); 4] = [
+    (Sort::Unbounded, IN_ONE),
+    (Sort::OfSixteen, IN_ONE),
+    (Sort::Ranked, BY_RANK),
+    (Sort::Control, CONTROL_FIRST),
+];
+
+#[test]
+fn all_come_among_threads(rt: HostRuntime) -> Result<(), Fail> {
+    for (sort, parts) in QUEUES {
+        assert!(rt; run_three(&rt, rt.alloc(), sort, parts)?);
+    }
+    Ok(())
+}
+
+/// Two threads push and a third takes; then the passes are joined, and nothing is left. Whether all envelopes of both senders
+/// come once, and nothing else; of each sender those of each part in their order.
 fn run_three<R: Threads + Wait + Sync>(
     rt: &R,
     alloc: Global,
-    kind: Kind,
-    has_control: bool,
-) -> Result<Vec<Envelope>, AllocError>
-    requires { IsMakeable kind }
-{
-    let into = Vec::with_capacity(alloc, 2 * EACH as usize)?;
-    let (take, near, far) = queue(alloc, kind)?;
-    let (near, (far, (mut take, all))) = thread::join(
+    sort: Sort,
+    parts: Parts,
+) -> Result<bool, AllocError> {
+    let (take, near, far) = queue(alloc, sort)?;
+    let (near, (far, (mut take, all_come))) = thread::join(
         rt,
         move ||
             requires { (near.by ≡ 1) × (near.queue.to ≡ 2) }
             ensures { (result.queue ≡ near.queue) × (result.by ≡ near.by) }
-        { push_all(rt, near, NEAR, has_control) },
+        { push_all(rt, near, NEAR, parts) },
         move ||
             requires { (far.by ≡ 64) × (far.queue.to ≡ 2) }
             ensures { (result.0.queue ≡ far.queue) × (result.0.by ≡ far.by) × (result.1.0.queue ≡ take.queue) }
-        { push_and_take(rt, far, take, into, has_control) },
+        { push_and_take(rt, far, take, parts) },
     );
     take.join(near);
     take.join(far);
     let None = take.take(rt) else {
-        return Ok(Vec::new(alloc));
+        return Ok(false);
     };
     expect_all_taken(&take);
-    Ok(all)
+    Ok(all_come)
 }
 
 /// What is known at the end: of both senders each envelope was taken once, first in, first out in the sender's order.
@@ -105,9 +101,8 @@ fn push_and_take<R: Threads + Wait + Sync>(
     rt: &R,
     far: SendPass,
     take: TakePass,
-    into: Vec<Envelope>,
-    has_control: bool,
-) -> (SendPass, (TakePass, Vec<Envelope>))
+    parts: Parts,
+) -> (SendPass, (TakePass, bool))
     requires { (far.by ≡ 64) × (far.queue.to ≡ 2) }
     ensures { (result.0.queue ≡ far.queue) × (result.0.by ≡ far.by) × (result.1.0.queue ≡ take.queue) }
 {
@@ -116,32 +111,31 @@ fn push_and_take<R: Threads + Wait + Sync>(
         move ||
             requires { (far.by ≡ 64) × (far.queue.to ≡ 2) }
             ensures { (result.queue ≡ far.queue) × (result.by ≡ far.by) }
-        { push_all(rt, far, FAR, has_control) },
+        { push_all(rt, far, FAR, parts) },
         move ||
             ensures { result.0.queue ≡ take.queue }
-        { take_all(rt, take, into) },
+        { take_all(rt, take, parts) },
     )
 }
 
 /// Pushes all of one sender, each as often as it takes.
-fn push_all<R: Wait>(rt: &R, mut pass: SendPass, by: SenderId, has_control: bool) -> SendPass
+fn push_all<R: Wait>(rt: &R, mut pass: SendPass, by: SenderId, parts: Parts) -> SendPass
     requires { (pass.by ≡ by.0) × (pass.queue.to ≡ 2) }
     ensures { (result.queue ≡ pass.queue) × (result.by ≡ pass.by) }
 {
     for number in 0..EACH {
-        push_one(rt, &mut pass, nth(by, number, has_control));
+        push_one(rt, &mut pass, nth(by, number, parts));
     }
     pass
 }
 
-/// An envelope of a thread's: of even numbers control messages where `has_control`, else user messages of kind 9, and of
-/// odd numbers user messages of kind 1.
-fn nth(by: SenderId, number: u64, has_control: bool) -> Envelope
+/// An envelope of a thread's, by the part of its number.
+fn nth(by: SenderId, number: u64, parts: Parts) -> Envelope
     ensures { (result.by ≡ by) × (result.to.0 ≡ 2) }
 {
     if number % 2 == 1 {
         user(by, number, 1, 0)
-    } else if has_control {
+    } else if parts.has_control {
         control(by, number, 0)
     } else {
         user(by, number, 9, 0)
@@ -153,59 +147,48 @@ fn push_one<R: Wait>(rt: &R, pass: &mut SendPass, envelope: Envelope)
     ensures { (pass.new.queue ≡ pass.old.queue) × (pass.new.by ≡ pass.old.by) }
 {
     for _turn in 0..TURNS {
-        if pushed(rt, pass, envelope) == Some(true) {
+        if pushed(rt, pass, envelope, false) == Some(true) {
             return;
         }
         thread::yield_now();
     }
 }
 
-/// Takes until it has all of both senders.
-fn take_all<R: Wait>(
-    rt: &R,
-    mut take: TakePass,
-    mut into: Vec<Envelope>,
-) -> (TakePass, Vec<Envelope>)
+/// Takes as many as both senders push: whether each was due.
+fn take_all<R: Wait>(rt: &R, mut take: TakePass, parts: Parts) -> (TakePass, bool)
     ensures { result.0.queue ≡ take.queue }
 {
+    let mut due = if parts.are_two { [0, 1, 0, 1] } else { [0; 4] };
+    let mut count = 0u64;
+    let mut are_due = true;
     for _turn in 0..TURNS {
+        if count >= 2 * EACH {
+            break;
+        }
         match taken(rt, &mut take) {
             Some(envelope) => {
-                let _ = into.push(envelope);
+                are_due &= is_due(&mut due, envelope, parts);
+                count = count.wrapping_add(1);
             }
             None => thread::yield_now(),
         }
-        if into.len() as u64 >= 2 * EACH {
-            break;
-        }
     }
-    (take, into)
+    (take, are_due && count == 2 * EACH)
 }
 
-/// Whether the numbers of one sender are all there, those of each part in their order.
-fn are_in_order(all: &[Envelope], by: SenderId, parts: u64) -> bool
-    requires { 0 < parts }
-{
-    for first in 0..parts {
-        if !is_in_order(all, by, first, parts) {
-            return false;
-        }
-    }
-    true
-}
-
-/// Whether the numbers of one sender come in order, all from `first` on by `step`.
-fn is_in_order(all: &[Envelope], by: SenderId, first: u64, step: u64) -> bool
-    requires { 0 < step }
-{
-    let mut next = first;
-    for envelope in all {
-        if envelope.by == by && envelope.number % step == first {
-            if envelope.number != next {
-                return false;
-            }
-            next = next.wrapping_add(step);
-        }
-    }
-    next == EACH.wrapping_add(first)
+/// Whether this envelope's number is the one that is due of its sender's part; then the next one is.
+fn is_due(due: &mut [u64; 4], envelope: Envelope, parts: Parts) -> bool {
+    let is_odd = parts.are_two && envelope.number % 2 == 1;
+    let place = match (envelope.by == FAR, is_odd) {
+        (false, false) => 0,
+        (false, true) => 1,
+        (true, false) => 2,
+        (true, true) => 3,
+    };
+    let Some(next) = due.get_mut(place) else {
+        return false;
+    };
+    let is_due = envelope.number == *next && envelope.number < EACH;
+    *next = next.wrapping_add(if parts.are_two { 2 } else { 1 });
+    is_due
 }
