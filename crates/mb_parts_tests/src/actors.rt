@@ -9,5 +9,5 @@ use std::process::Abort;
 
 /// Compares what an outbox holds with what is expected.
 fn holds(rt: &impl Abort, out: &Outbox, expected: &[Effect]) {
-    assert_eq!(rt; out.effects(), expected);
+    assert!(rt; out.effects() == expected);
 }

@@ -10,16 +10,17 @@ pub(crate) fn each_call<A: Actor>(rt: &impl Abort, actor: A, out: &mut Outbox, s
     let mut called = Called::new(actor);
     for step in steps {
         let (call, answer, effects, state) = *step;
-        let found = make(&mut called, &call, out);
-        assert!(rt; found == answer, "{found:?} at {call:?}");
-        assert!(rt; out.effects() == effects, "the effects at {call:?}");
-        assert!(rt; called.state() == state, "the state at {call:?}");
+        assert!(rt; make(&mut called, &call, out) == answer, "{call:?}");
+        assert!(rt;
+            out.effects() == effects && called.state() == state,
+            "what comes of {call:?}"
+        );
     }
 }
 
 /// Makes a call: its answer, if it has one.
 fn make<A: Actor>(called: &mut Called<A>, call: &Call, out: &mut Outbox) -> Option<Answer> {
-    out.clear();
+    out.settle();
     match call {
         Call::Start => Some(called.start(out)),
         Call::Receive(message) => Some(called.receive(message, out)),

@@ -4,6 +4,7 @@ ghost use Rattle.std.specs.Prelude.{◌≡◌, true};
 use mb_actor::{Answer, Effect};
 use mb_journal::{Arrival, Journal, Pattern, ReadyError, Record, Strategy};
 use mb_msg::{ActorId, Body, Cause, Directive, Envelope, SenderId, SysMsg};
+use std::alloc::{AllocError, Global};
 use std::process::Abort;
 use std::test::Fail;
 
@@ -22,8 +23,7 @@ fn make_ready(rt: &impl Abort, journal: &mut Journal)
 {
     let before = journal.len();
     if let Err(error) = journal.ready() {
-        assert_eq!(rt; error, ReadyError::NoMemory);
-        assert_eq!(rt; journal.len(), before);
+        assert!(rt; error == ReadyError::NoMemory && journal.len() == before);
         journal.ready().expect(rt, "there is memory again");
     }
 }
@@ -112,8 +112,7 @@ fn push(rt: &impl Abort, journal: &mut Journal, told: &Told) {
 /// Sees to it that an entry is as it was added.
 fn is_read_back(rt: &impl Abort, entry: &Record<'_>, told: &Told) {
     let (arrival, effects) = *told;
-    assert!(rt; entry.arrival == arrival, "{entry:?}");
-    assert!(rt; entry.effects == effects, "{entry:?}");
+    assert!(rt; entry.arrival == arrival && entry.effects == effects);
 }
 
 #[test]
@@ -123,7 +122,7 @@ fn entries_are_read_back(rt: HostRuntime) {
     for told in ENTRIES {
         push(&rt, &mut journal, told);
     }
-    assert_eq!(rt; journal.len(), 5);
+    assert!(rt; journal.len() == 5);
     for (index, told) in ENTRIES.iter().enumerate() {
         assert!(rt; index < journal.len());
         is_read_back(&rt, &journal.get(index), told);
@@ -132,20 +131,19 @@ fn entries_are_read_back(rt: HostRuntime) {
 
 #[test]
 fn the_limit_is_kept(rt: HostRuntime) {
-    let mut journal = Journal::new(rt.alloc(), 2);
-    for number in 0..2 {
+    is_full_after(&rt, &mut Journal::new(rt.alloc(), 1), 1);
+    is_full_after(&rt, &mut Journal::new(rt.alloc(), 2), 2);
+}
+
+/// Sees to it that so many entries find room in a new journal, and no more.
+fn is_full_after(rt: &impl Abort, journal: &mut Journal, entries: u64) {
+    for number in 0..entries {
         assert!(rt; !journal.is_full());
-        make_ready(&rt, &mut journal);
+        make_ready(rt, journal);
         journal.push_handled(add(number, 1), 2, Some(Answer::Handled), &[]);
     }
     assert!(rt; journal.is_full());
-    assert_eq!(rt; journal.ready(), Err(ReadyError::JournalFull));
-    assert_eq!(rt; journal.len(), 2);
-
-    let mut one = Journal::new(rt.alloc(), 1);
-    make_ready(&rt, &mut one);
-    one.push_system(0, SysMsg::Create, Some(Answer::Handled), &[]);
-    assert_eq!(rt; one.ready(), Err(ReadyError::JournalFull));
+    assert!(rt; journal.ready() == Err(ReadyError::JournalFull));
 }
 
 #[test]
@@ -155,7 +153,7 @@ fn a_long_journal_keeps_its_entries(rt: HostRuntime) {
         make_ready(&rt, &mut journal);
         journal.push_handled(add(number, 5), 2, Some(Answer::Handled), TOLD);
     }
-    assert_eq!(rt; journal.len(), 200);
+    assert!(rt; journal.len() == 200);
     for index in 0..journal.len() {
         tells_of(&rt, &journal.get(index), index as u64);
     }
@@ -170,44 +168,59 @@ const TOLD: &[Effect] = &[Effect::Tell {
 
 /// Sees to it that an entry tells of the envelope of this number, and of this effect.
 fn tells_of(rt: &impl Abort, entry: &Record<'_>, number: u64) {
-    assert_eq!(rt;
-        entry.arrival,
-        Arrival::Handled {
-            envelope: add(number, 5),
-            reading: 2,
-            answer: Some(Answer::Handled)
-        }
-    );
-    assert_eq!(rt; entry.effects, TOLD);
+    let arrival = Arrival::Handled {
+        envelope: add(number, 5),
+        reading: 2,
+        answer: Some(Answer::Handled),
+    };
+    assert!(rt; entry.arrival == arrival && entry.effects == TOLD);
+}
+
+const ROWS: &[(Pattern, Directive)] = &[
+    (Pattern::Error(3), Directive::Resume),
+    (Pattern::AnyError, Directive::Stop),
+    (Pattern::Killed, Directive::Escalate),
+];
+
+/// What is decided by these rows, and by the default where none matches.
+const BY_ROWS: &[(Cause, Directive)] = &[
+    (Cause::Error(3), Directive::Resume),
+    (Cause::Error(4), Directive::Stop),
+    (Cause::Killed, Directive::Escalate),
+    (Cause::Init, Directive::Stop),
+    (Cause::DeathPact, Directive::Stop),
+];
+
+const BY_DEFAULT: &[(Cause, Directive)] = &[
+    (Cause::Error(3), Directive::Restart),
+    (Cause::Killed, Directive::Stop),
+];
+
+/// Sees to it that a strategy of these rows decides so.
+fn decides(rt: &impl Abort, rows: Vec<(Pattern, Directive)>, cases: &[(Cause, Directive)]) {
+    let strategy = Strategy {
+        rows,
+        retries: -1,
+        all_for_one: false,
+    };
+    for case in cases {
+        let (cause, directive) = *case;
+        assert!(rt; strategy.decide(cause) == directive, "{cause:?}");
+    }
+}
+
+/// A list of the rows, made again where memory was refused.
+fn rows_at_last(alloc: Global) -> Result<Vec<(Pattern, Directive)>, AllocError> {
+    match ROWS.to_vec(alloc) {
+        Err(_) => ROWS.to_vec(alloc),
+        made => made,
+    }
 }
 
 #[test]
 fn the_first_row_that_matches_decides(rt: HostRuntime) -> Result<(), Fail> {
-    let rows = [
-        (Pattern::Error(3), Directive::Resume),
-        (Pattern::AnyError, Directive::Stop),
-        (Pattern::Killed, Directive::Escalate),
-    ];
-    let mut kept = rows.to_vec(rt.alloc());
-    if kept.is_err() {
-        kept = rows.to_vec(rt.alloc());
-    }
-    let strategy = Strategy {
-        rows: kept?,
-        retries: -1,
-        all_for_one: false,
-    };
-    assert_eq!(rt; strategy.decide(Cause::Error(3)), Directive::Resume);
-    assert_eq!(rt; strategy.decide(Cause::Error(4)), Directive::Stop);
-    assert_eq!(rt; strategy.decide(Cause::Killed), Directive::Escalate);
-    assert_eq!(rt; strategy.decide(Cause::Init), Directive::Stop);
-    assert_eq!(rt; strategy.decide(Cause::DeathPact), Directive::Stop);
-    let none = Strategy {
-        rows: Vec::new(rt.alloc()),
-        retries: -1,
-        all_for_one: false,
-    };
-    assert_eq!(rt; none.decide(Cause::Error(3)), Directive::Restart);
-    assert_eq!(rt; none.decide(Cause::Killed), Directive::Stop);
+    let rows = rows_at_last(rt.alloc())?;
+    decides(&rt, rows, BY_ROWS);
+    decides(&rt, Vec::new(rt.alloc()), BY_DEFAULT);
     Ok(())
 }

@@ -23,18 +23,12 @@ fn node_of(rt: &impl Abort, alloc: Global, message: SysMsg) -> Node
 
 /// Pushes a node, whose number has to be this one.
 fn push(rt: &impl Abort, list: &mut SysList, node: Node, number: u64) {
-    let answer = list.push(node).ok();
-    assert_eq!(rt; answer, Some(number));
+    assert!(rt; list.push(node).ok() == Some(number), "{number}");
 }
 
 /// Takes a node out of a chain, which has to have this number and this message.
 fn take(rt: &impl Abort, chain: &mut Chain, number: u64, message: SysMsg) {
-    let (its_number, its_message) = next_of(chain).expect(rt, "a node that is left");
-    assert_eq!(rt; its_number, number);
-    assert!(rt;
-        its_message == message,
-        "{its_message:?} in place of {message:?}"
-    );
+    assert!(rt; next_of(chain) == Some((number, message)), "{number}");
 }
 
 /// The number and the message of the next node of a chain.
@@ -109,14 +103,9 @@ fn numbers_go_on_after_a_drain(rt: HostRuntime) {
     let failed = SysMsg::Failed(ActorId(3), Cause::Error(7));
     node.set(failed);
     push(&rt, &mut list, node, 1);
-    let other = node_of(&rt, rt.alloc(), SysMsg::Died(ActorId(3)));
-    push(&rt, &mut list, other, 2);
-
     let mut rest = list.close();
-    assert_eq!(rt; list.given(), 3);
     take(&rt, &mut rest, 1, failed);
-    take(&rt, &mut rest, 2, SysMsg::Died(ActorId(3)));
-    assert!(rt; rest.is_empty());
+    assert!(rt; rest.is_empty() && list.given() == 2);
 }
 
 #[test]
@@ -130,14 +119,10 @@ fn a_long_chain_is_walked(rt: HostRuntime) {
 }
 
 #[test]
-fn a_long_chain_is_dropped(rt: HostRuntime) {
+fn a_long_chain_and_a_long_list_are_dropped(rt: HostRuntime) {
     let mut list = long_list(&rt, rt.alloc());
     drop(list.drain());
     assert!(rt; list.is_empty() && list.given() == MANY);
-}
-
-#[test]
-fn a_long_list_is_dropped(rt: HostRuntime) {
     drop(long_list(&rt, rt.alloc()));
 }
 

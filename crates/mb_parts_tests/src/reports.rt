@@ -136,13 +136,7 @@ b_2 broken state 7 suspended 3 handled 0 left 2 dead 1 restarts 0
 sent 8 handled 2 left 2 dead 4
 ";
 
-/// Its text as it is printed.
-fn printed(alloc: Global) -> Option<String> {
-    let (report, names) = reported(alloc)?;
-    report_text(alloc, &report, &names).ok()
-}
-
-/// The same, made and written again where memory was refused.
+/// The text of the report, made and written again where memory was refused.
 fn printed_at_last(alloc: Global) -> Option<String> {
     let (report, names) = reported_at_last(alloc)?;
     match report_text(alloc, &report, &names) {
@@ -151,17 +145,10 @@ fn printed_at_last(alloc: Global) -> Option<String> {
     }
 }
 
-#[test]
-fn prints_the_queries_of_its_lists(rt: HostRuntime) -> Result<(), Fail> {
-    let text = printed(rt.alloc()).ok_or(AllocError)?;
-    assert_eq!(rt; text.as_str(), TEXT);
-    Ok(())
-}
-
 /// Run with each allocation refused in turn (`tools/refuse_each_allocation_of_scenarios`).
 #[test]
 fn a_refused_text_can_be_written_again(rt: HostRuntime) -> Result<(), Fail> {
     let text = printed_at_last(rt.alloc()).ok_or(AllocError)?;
-    assert_eq!(rt; text.as_str(), TEXT);
+    assert!(rt; text.as_str() == TEXT, "{text}");
     Ok(())
 }

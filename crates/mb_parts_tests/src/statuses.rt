@@ -70,36 +70,21 @@ fn is_closed(rt: &impl Abort, row: &Row, status: Status) {
 
 fn is_asked(rt: &impl Abort, row: &Row, status: Status) {
     let word = row.word;
-    assert!(rt;
-        status.should_process() == row.should_process,
-        "to process at {word}"
+    let asked = (
+        status.should_process(),
+        status.can_schedule(true, false),
+        status.can_schedule(false, true),
     );
-    assert!(rt;
-        status.can_schedule(true, false) == row.by_messages,
-        "by messages at {word}"
-    );
-    assert!(rt;
-        status.can_schedule(false, true) == row.by_system,
-        "by system messages at {word}"
-    );
+    let expected = (row.should_process, row.by_messages, row.by_system);
+    assert!(rt; asked == expected, "asked at {word}");
 }
 
 #[test]
-fn a_second_suspension_stays(rt: HostRuntime) {
-    let mut status = Status::of(8).expect(&rt, "a valid word");
-    let last = status.resume();
-    assert_eq!(rt; (status.word(), last), (4, false));
-}
-
-#[test]
-fn not_a_word(rt: HostRuntime) {
-    assert_eq!(rt; Status::of(3), None);
-    assert_eq!(rt; Status::of((1 << 34) + 4), None);
+fn first_words(rt: HostRuntime) {
+    let fresh = Status::fresh();
+    assert!(rt; fresh.word() == 4 && fresh.count() == 1);
+    assert!(rt; Status::of(3).is_none() && Status::of((1 << 34) + 4).is_none());
     assert!(rt; Status::of(1 << 34).is_some());
-}
-
-#[test]
-fn a_fresh_one(rt: HostRuntime) {
-    let status = Status::fresh();
-    assert_eq!(rt; (status.word(), status.count()), (4, 1));
+    let mut twice = Status::of(8).expect(&rt, "a valid word");
+    assert!(rt; !twice.resume() && twice.word() == 4);
 }

@@ -1,9 +1,8 @@
 //! An actor with effects, proved against what it states of them.
 
-use super::holds;
-use mb_actor::{Actor, Answer, Called, Effect, Message, Outbox};
+use crate::course::{Step, each_call};
+use mb_actor::{Actor, Answer, Call, Effect, Message, Outbox};
 use mb_msg::{ActorId, Cause};
-use std::process::Abort;
 use std::test::Fail;
 
 /// The actor that it passes messages on to, and watches.
@@ -71,32 +70,42 @@ impl Actor for Asking {
     }
 }
 
+const TOLD: Effect = Effect::Tell {
+    to: OTHER,
+    kind: 4,
+    value: 5,
+};
+
+/// The child is spawned once, and of an end nothing is known.
+const CALLS: &[Step] = &[
+    (
+        Call::Receive(Message::User { kind: 4, value: 5 }),
+        Some(Answer::Handled),
+        &[TOLD, Effect::Watch(OTHER), Effect::Spawn(CHILD)],
+        1,
+    ),
+    (
+        Call::Receive(Message::User { kind: 4, value: 5 }),
+        Some(Answer::Handled),
+        &[TOLD, Effect::Watch(OTHER)],
+        2,
+    ),
+    (
+        Call::Receive(Message::Terminated(OTHER)),
+        Some(Answer::Unhandled),
+        &[],
+        3,
+    ),
+];
+
 #[test]
 fn it_asks_for_what_it_may(rt: HostRuntime) -> Result<(), Fail> {
     let prepared = vec![in rt.alloc(); CHILD]?;
-    let mut out = Outbox::new(3, &prepared);
-    let mut called = Called::new(Asking { count: 0 });
-    let told = Effect::Tell {
-        to: OTHER,
-        kind: 4,
-        value: 5,
-    };
-    let message = Message::User { kind: 4, value: 5 };
-    assert_eq!(rt; called.receive(&message, &mut out), Answer::Handled);
-    holds(
+    each_call(
         &rt,
-        &out,
-        &[told, Effect::Watch(OTHER), Effect::Spawn(CHILD)],
+        Asking { count: 0 },
+        &mut Outbox::new(3, &prepared),
+        CALLS,
     );
-    out.settle();
-    assert_eq!(rt; called.receive(&message, &mut out), Answer::Handled);
-    holds(&rt, &out, &[told, Effect::Watch(OTHER)]);
-    out.settle();
-    assert_eq!(rt;
-        called.receive(&Message::Terminated(OTHER), &mut out),
-        Answer::Unhandled
-    );
-    holds(&rt, &out, &[]);
-    assert_eq!(rt; called.state(), 3);
     Ok(())
 }

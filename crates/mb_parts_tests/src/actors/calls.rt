@@ -5,8 +5,6 @@ ghost use Rattle.std.specs.Prelude.{◌≡◌};
 use crate::course::{Step, each_call};
 use mb_actor::{Actor, Answer, Call, Called, Effect, Message, Outbox};
 use mb_msg::{ActorId, Cause};
-use std::alloc::Global;
-use std::process::Abort;
 use std::test::Fail;
 
 const START: u32 = 101;
@@ -183,40 +181,34 @@ const CALLS: &[Step] = &[
     ),
 ];
 
-/// Makes each call of this actor, to which none was made.
-fn make_each<A: Actor>(rt: &impl Abort, alloc: Global, actor: A) {
-    assert_eq!(rt; actor.state(), 0);
-    each_call(rt, actor, &mut Outbox::new(2, &Vec::new(alloc)), CALLS);
-}
+/// An actor to which no call was made.
+const UNCALLED: Counting = Counting {
+    calls: 0,
+    messages: 0,
+};
 
 /// What may go to another thread.
 fn is_sent<T: Send>(_value: &T) {}
 
 #[test]
 fn each_call_is_made_once(rt: HostRuntime) {
-    make_each(
+    is_sent(&Called::new(UNCALLED));
+    each_call(
         &rt,
-        rt.alloc(),
-        Counting {
-            calls: 0,
-            messages: 0,
-        },
+        UNCALLED,
+        &mut Outbox::new(2, &Vec::new(rt.alloc())),
+        CALLS,
     );
-    is_sent(&Called::new(Counting {
-        calls: 0,
-        messages: 0,
-    }));
 }
 
 #[test]
 fn each_call_of_a_box_is_made_once(rt: HostRuntime) -> Result<(), Fail> {
-    let boxed: Box<dyn Actor + Send> = Box::new(
-        rt.alloc(),
-        Counting {
-            calls: 0,
-            messages: 0,
-        },
-    )?;
-    make_each(&rt, rt.alloc(), boxed);
+    let boxed: Box<dyn Actor + Send> = Box::new(rt.alloc(), UNCALLED)?;
+    each_call(
+        &rt,
+        boxed,
+        &mut Outbox::new(2, &Vec::new(rt.alloc())),
+        CALLS,
+    );
     Ok(())
 }

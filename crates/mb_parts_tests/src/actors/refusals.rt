@@ -3,6 +3,7 @@
 use super::holds;
 use mb_actor::{Effect, Outbox, OutboxError};
 use mb_msg::ActorId;
+use std::ops::Range;
 use std::process::Abort;
 use std::test::Fail;
 
@@ -22,7 +23,7 @@ fn ask_all(
             Effect::Stop(id) => out.stop(id),
             Effect::Spawn(id) => out.spawn(id),
         };
-        assert_eq!(rt; answer, expected);
+        assert!(rt; answer == expected, "{effect:?}");
     }
 }
 
@@ -46,29 +47,24 @@ fn all_kinds(id: ActorId) -> [Effect; 6] {
     ]
 }
 
+/// Asks for one effect of each kind of each of these actors, and compares the answers.
+fn ask_of_each(rt: &impl Abort, out: &mut Outbox, ids: &[u32], expected: Result<(), OutboxError>) {
+    for id in ids {
+        ask_all(rt, out, &all_kinds(ActorId(*id)), expected);
+    }
+}
+
 #[test]
 fn each_effect_is_kept_in_order(rt: HostRuntime) -> Result<(), Fail> {
     let prepared = vec![in rt.alloc(); ActorId(2), ActorId(63)]?;
     let mut out = Outbox::new(64, &prepared);
-    holds(&rt, &out, &[]);
-    ask_all(&rt, &mut out, &all_kinds(ActorId(63)), Ok(()));
+    let more = [Effect::Spawn(ActorId(2)), Effect::Watch(ActorId(1))];
+    ask_of_each(&rt, &mut out, &[63], Ok(()));
     holds(&rt, &out, &all_kinds(ActorId(63)));
-    ask_all(
-        &rt,
-        &mut out,
-        &[Effect::Spawn(ActorId(2)), Effect::Watch(ActorId(1))],
-        Ok(()),
-    );
-    assert_eq!(rt; out.effects().len(), 8);
-    assert_eq!(rt; out.effects()[6], Effect::Spawn(ActorId(2)));
-    assert_eq!(rt; out.effects()[7], Effect::Watch(ActorId(1)));
-    ask_all(
-        &rt,
-        &mut out,
-        &all_kinds(ActorId(64)),
-        Err(OutboxError::NoSuchActor),
-    );
-    assert_eq!(rt; out.effects().len(), 8);
+    ask_all(&rt, &mut out, &more, Ok(()));
+    ask_of_each(&rt, &mut out, &[64], Err(OutboxError::NoSuchActor));
+    let (first, last) = out.effects().split_at(6);
+    assert!(rt; first == all_kinds(ActorId(63)).as_slice() && last == more.as_slice());
     Ok(())
 }
 
@@ -76,59 +72,48 @@ fn each_effect_is_kept_in_order(rt: HostRuntime) -> Result<(), Fail> {
 fn the_seventeenth_effect_finds_it_full(rt: HostRuntime) -> Result<(), Fail> {
     let prepared = vec![in rt.alloc(); ActorId(1)]?;
     let mut out = Outbox::new(2, &prepared);
-    for number in 0..16 {
-        assert_eq!(rt; out.tell(ActorId(1), 5, number), Ok(()));
-    }
-    ask_all(
-        &rt,
-        &mut out,
-        &all_kinds(ActorId(1)),
-        Err(OutboxError::OutboxFull),
-    );
-    ask_all(
-        &rt,
-        &mut out,
-        &all_kinds(ActorId(0)),
-        Err(OutboxError::OutboxFull),
-    );
-    assert_eq!(rt; out.effects().len(), 16);
-    for (number, effect) in out.effects().iter().enumerate() {
-        let value = number as i64;
-        assert_eq!(rt;
-            *effect,
-            Effect::Tell {
-                to: ActorId(1),
-                kind: 5,
-                value
-            }
-        );
-    }
+    tell_each(&rt, &mut out, 0..16);
+    ask_of_each(&rt, &mut out, &[1, 0], Err(OutboxError::OutboxFull));
+    are_told(&rt, &out);
     out.clear();
     holds(&rt, &out, &[]);
-    assert_eq!(rt; out.tell(ActorId(1), 5, 16), Ok(()));
+    tell_each(&rt, &mut out, 16..17);
     Ok(())
+}
+
+/// What is told with this value.
+fn told(value: i64) -> Effect {
+    Effect::Tell {
+        to: ActorId(1),
+        kind: 5,
+        value,
+    }
+}
+
+/// Tells each of these values.
+fn tell_each(rt: &impl Abort, out: &mut Outbox, values: Range<i64>) {
+    for value in values {
+        ask_all(rt, out, &[told(value)], Ok(()));
+    }
+}
+
+/// Sees to it that the first sixteen were told, and no more.
+fn are_told(rt: &impl Abort, out: &Outbox) {
+    assert!(rt; out.effects().len() == 16);
+    for (value, effect) in (0..).zip(out.effects()) {
+        assert!(rt; *effect == told(value), "{value}");
+    }
 }
 
 #[test]
 fn no_such_actor(rt: HostRuntime) -> Result<(), Fail> {
     let prepared = vec![in rt.alloc(); ActorId(3), ActorId(4)]?;
     let mut out = Outbox::new(4, &prepared);
-    for id in [0, 4, 64, u32::MAX] {
-        ask_all(
-            &rt,
-            &mut out,
-            &all_kinds(ActorId(id)),
-            Err(OutboxError::NoSuchActor),
-        );
-    }
-    ask_all(
-        &rt,
-        &mut out,
-        &[Effect::Spawn(ActorId(2))],
-        Err(OutboxError::NoSuchActor),
-    );
+    let refused = Err(OutboxError::NoSuchActor);
+    ask_of_each(&rt, &mut out, &[0, 4, 64, u32::MAX], refused);
+    spawns(&rt, &mut out, 2, refused);
     holds(&rt, &out, &[]);
-    ask_all(&rt, &mut out, &all_kinds(ActorId(3)), Ok(()));
+    ask_of_each(&rt, &mut out, &[3], Ok(()));
     Ok(())
 }
 
