@@ -6,7 +6,7 @@
 //! the parties 0 and 1 owe it (`s` a look at the system work, `m` one at the envelopes, `g` that it is sending), and `!`
 //! where a worker should take it.
 use crate::words::{ACTOR, event_of, events_of, shows};
-use mb_core::{Event, replay};
+use mb_core::{ActorState, Event, replay};
 use std::alloc::Global;
 use std::process::Abort;
 use std::test::Fail;
@@ -176,6 +176,8 @@ A refused push owes a look.
 The sender leaves an envelope to the worker that holds the actor, which had found the queue empty before: it is woken.
 0 | 0 schedule, 1 sent, 1 push 7, 1 read, 0 idle, 0 look                           | 0 count    | 0 1 7 - - m - !
 0 | 0 schedule, 1 sent, 1 push 7, 1 read, 0 idle, 0 look, 0 count                  | 0 schedule | 2 1 7 - 0 - -
+There are two parties.
+0 |                                                                                | 2 read     | no
 ";
 
 /// A case: where the run begins, the steps before the one in question, that step, and what is seen then.
@@ -204,12 +206,15 @@ fn case_of(line: &str) -> Option<Case<'_>> {
 fn leave(alloc: Global, word: u64, events: &[Event], after: &str) -> Result<bool, Fail> {
     match replay(alloc, &[word], 2, events)? {
         None => Ok(after == "no"),
-        Some(model) => Ok(
-            model
-                .actors()
-                .first()
-                .is_some_and(|actor| shows(actor, after)),
-        ),
+        Some(model) => Ok(are_shown(model.actors(), after)),
+    }
+}
+
+/// Whether this is what is seen of the one actor that there is.
+fn are_shown(actors: &[ActorState], after: &str) -> bool {
+    match actors.first() {
+        Some(actor) => shows(actor, after),
+        None => false,
     }
 }
 
@@ -242,5 +247,5 @@ fn each_step_by_its_table(rt: HostRuntime) -> Result<(), Fail> {
     try_each(&rt, alloc, STATUS, 55)?;
     try_each(&rt, alloc, ENVELOPES, 44)?;
     try_each(&rt, alloc, SYSTEM, 25)?;
-    try_each(&rt, alloc, RUNS, 8)
+    try_each(&rt, alloc, RUNS, 9)
 }

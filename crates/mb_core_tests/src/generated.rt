@@ -40,32 +40,23 @@ const STEPS: [&str; 24] = [
     "end",
 ];
 
-/// A small fixed generator of numbers.
-#[derive(Drop)]
-struct Numbers {
-    state: u64,
+/// The next number of a small fixed generator, below the limit.
+fn below(state: &mut u64, limit: u64) -> u64
+    requires { 0 < limit }
+    ensures { result < limit }
+{
+    *state = state
+        .wrapping_mul(6364136223846793005)
+        .wrapping_add(1442695040888963407);
+    (*state >> 33) % limit
 }
 
-impl Numbers {
-    /// A number below the limit.
-    fn below(&mut self, limit: u64) -> u64
-        requires { 0 < limit }
-        ensures { result < limit }
-    {
-        self.state = self
-            .state
-            .wrapping_mul(6364136223846793005)
-            .wrapping_add(1442695040888963407);
-        (self.state >> 33) % limit
-    }
-
-    fn event(&mut self, alloc: Global) -> Result<Event, Fail> {
-        let party = self.below(3) as usize;
-        let actor = ActorId(self.below(3) as u32);
-        let words = STEPS[self.below(24) as usize];
-        let step = step_of(alloc, actor, words)?;
-        Ok(Event { party, actor, step })
-    }
+fn event(alloc: Global, state: &mut u64) -> Result<Event, Fail> {
+    let party = below(state, 3) as usize;
+    let actor = ActorId(below(state, 3) as u32);
+    let words = STEPS[below(state, 24) as usize];
+    let step = step_of(alloc, actor, words)?;
+    Ok(Event { party, actor, step })
 }
 
 /// Who holds the actor, and whether nothing is stranded, by the laws in plain words.
@@ -95,54 +86,40 @@ fn what_is_owed(owed: &[Debt]) -> (bool, bool) {
 }
 
 /// How many runs there were, and in how many of their states an actor was held, or one that a worker should take.
-#[derive(Drop)]
-struct Tally {
-    runs: u64,
-    held: u64,
-    runnable: u64,
+type Tally = [u64; 3];
+
+/// Sees to it that the laws hold of these actors, and counts them.
+fn count<R: Abort>(rt: &R, actors: &[ActorState], tally: &mut Tally) {
+    let [runs, held, runnable] = tally;
+    *runs = runs.wrapping_add(1);
+    for actor in actors {
+        assert!(rt; is_lawful(actor), "run {runs}");
+        *held = held.wrapping_add(u64::from(actor.holder().is_some()));
+        *runnable = runnable.wrapping_add(u64::from(actor.is_runnable()));
+    }
 }
 
-impl Tally {
-    /// One step more, if it is allowed, and then the laws.
-    fn go_on<R: Abort>(
-        &mut self,
-        rt: &R,
-        alloc: Global,
-        events: &mut Vec<Event>,
-        event: Event,
-    ) -> Result<(), Fail> {
-        events.push(event)?;
-        let Some(model) = replay(alloc, &ACTORS, PARTIES, events)? else {
-            let _ = events.pop();
-            return Ok(());
-        };
-        self.runs = self.runs.wrapping_add(1);
-        for actor in model.actors() {
-            let runs = self.runs;
-            assert!(rt; is_lawful(actor), "run {runs}");
-            self.held = self.held.wrapping_add(u64::from(actor.holder().is_some()));
-            self.runnable = self.runnable.wrapping_add(u64::from(actor.is_runnable()));
+/// A run of the drawn steps, without those that are not allowed; the laws hold after each.
+fn go_on<R: Abort>(rt: &R, alloc: Global, state: &mut u64, tally: &mut Tally) -> Result<(), Fail> {
+    let mut events = Vec::new(alloc);
+    for _ in 0..60u64 {
+        events.push(event(alloc, state)?)?;
+        match replay(alloc, &ACTORS, PARTIES, &events)? {
+            Some(model) => count(rt, model.actors(), tally),
+            None => drop(events.pop()),
         }
-        Ok(())
     }
+    Ok(())
 }
 
 #[test]
 fn every_generated_run_is_lawful(rt: HostRuntime) -> Result<(), Fail> {
-    let alloc = rt.alloc();
-    let mut numbers = Numbers { state: 1 };
-    let mut tally = Tally {
-        runs: 0,
-        held: 0,
-        runnable: 0,
-    };
+    let mut state = 1u64;
+    let mut tally = [0u64; 3];
     for _ in 0..100u64 {
-        let mut events = Vec::new(alloc);
-        for _ in 0..60u64 {
-            let event = numbers.event(alloc)?;
-            tally.go_on(&rt, alloc, &mut events, event)?;
-        }
+        go_on(&rt, rt.alloc(), &mut state, &mut tally)?;
     }
-    assert!(rt; tally.runs > 2000 && tally.held > 500 && tally.runnable > 500);
+    let [runs, held, runnable] = tally;
+    assert!(rt; runs > 2000 && held > 500 && runnable > 500);
     Ok(())
 }

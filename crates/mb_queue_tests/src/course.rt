@@ -1,7 +1,7 @@
 //! Calls on a queue, one after the other on one thread, and what each answers.
 ghost use Rattle.std.specs.Prelude.{◌≡◌};
 
-use crate::mail::{NEAR, control, is_taken, pushed, queue, user};
+use crate::mail::{NEAR, control, pushed, queue, user, value_taken};
 use crate::sort::Sort;
 use mb_queue::{SendPass, TakePass};
 use std::alloc::{AllocError, Global};
@@ -74,7 +74,7 @@ fn goes<R: Wait>(rt: &R, take: &mut TakePass, near: &mut SendPass, step: Step, a
         Step::Full(kind, value) => {
             pushed(rt, near, user(NEAR, 0, kind, value), again) == Some(false)
         }
-        Step::Taken(value) => is_taken(rt, take, value),
+        Step::Taken(value) => value_taken(rt, take) == Some(value),
         Step::AllTaken(from, end) => are_taken(rt, take, from, end),
     }
 }
@@ -95,7 +95,7 @@ fn are_taken<R: Wait>(rt: &R, take: &mut TakePass, from: i64, end: i64) -> bool
 {
     let mut are_so = true;
     for value in from..end {
-        are_so &= is_taken(rt, take, value);
+        are_so &= value_taken(rt, take) == Some(value);
     }
     are_so
 }

@@ -76,15 +76,12 @@ pub fn taken<R: Wait>(rt: &R, take: &mut TakePass) -> Option<Envelope>
     take.take(rt)
 }
 
-/// Whether the message that is taken has this value.
-pub fn is_taken<R: Wait>(rt: &R, take: &mut TakePass, due: i64) -> bool
+/// The value of the message that is taken.
+pub fn value_taken<R: Wait>(rt: &R, take: &mut TakePass) -> Option<i64>
     ensures { take.new.queue ≡ take.old.queue }
 {
-    match take.take(rt) {
-        Some(envelope) => match envelope.body {
-            Body::User { value, .. } | Body::Control { value, .. } => value == due,
-            _ => false,
-        },
-        None => false,
+    match taken(rt, take)?.body {
+        Body::User { value, .. } | Body::Control { value, .. } => Some(value),
+        _ => None,
     }
 }
