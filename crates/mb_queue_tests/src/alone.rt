@@ -3,22 +3,21 @@ use crate::course::{Step, is_run};
 use crate::sort::Sort;
 use std::test::Fail;
 
-/// A queue, and the calls on it.
-pub type Course = (Sort, &'static [Step]);
+/// What is shown, a queue, and the calls on it.
+pub type Course = (&'static str, Sort, &'static [Step]);
 
 /// Each is run by itself, and once more with each allocation refused.
 pub const COURSES: &[Course] = &[
-    (Sort::OfTwo, TWO),
-    (Sort::OfOne, ONE),
-    (Sort::OfSixteen, SIXTEEN),
-    (Sort::Ranked, RANKED),
-    (Sort::Ranked, PAST_WHAT_IS_HELD),
-    (Sort::Control, CONTROL_FIRST),
-    (Sort::Control, HUNDRED),
-    (Sort::Unbounded, HUNDRED),
+    ("a bound refuses what finds it full", Sort::OfTwo, TWO),
+    ("a bound of one", Sort::OfOne, ONE),
+    ("a bound of sixteen", Sort::OfSixteen, SIXTEEN),
+    ("the smaller rank goes first", Sort::Ranked, RANKED),
+    ("1,024 are held", Sort::Ranked, PAST_WHAT_IS_HELD),
+    ("control messages go first", Sort::Control, CONTROL_FIRST),
+    ("a hundred in order, control-aware", Sort::Control, HUNDRED),
+    ("a hundred in order", Sort::Unbounded, HUNDRED),
 ];
 
-/// A bound refuses what finds it full.
 const TWO: &[Step] = &[
     Step::Queued(1, 1),
     Step::Queued(1, 2),
@@ -42,7 +41,6 @@ const SIXTEEN: &[Step] = &[
     Step::AllTaken(0, 16),
 ];
 
-/// The smaller rank goes first.
 const RANKED: &[Step] = &[
     Step::Queued(1, 10),
     Step::Queued(1, 20),
@@ -75,8 +73,8 @@ const HUNDRED: &[Step] = &[Step::AllQueued(100), Step::AllTaken(0, 100)];
 #[test]
 fn each_course_goes_so(rt: HostRuntime) -> Result<(), Fail> {
     for course in COURSES {
-        let (sort, steps) = *course;
-        assert!(rt; is_run(&rt, rt.alloc(), sort, steps, false)?);
+        let (name, sort, steps) = *course;
+        assert!(rt; is_run(&rt, rt.alloc(), sort, steps, false)?, "{name}");
     }
     Ok(())
 }

@@ -9,8 +9,8 @@ use std::test::Fail;
 #[test]
 fn a_refused_push_can_be_made_again(rt: HostRuntime) -> Result<(), Fail> {
     for course in COURSES {
-        let (sort, steps) = *course;
-        assert!(rt; is_run_at_last(&rt, rt.alloc(), sort, steps)?);
+        let (name, sort, steps) = *course;
+        assert!(rt; is_run_at_last(&rt, rt.alloc(), sort, steps)?, "{name}");
     }
     Ok(())
 }

@@ -44,17 +44,17 @@ const CONTROL_FIRST: Parts = Parts {
     are_two: true,
 };
 
-const QUEUES: [(Sort, Parts); 4] = [
-    (Sort::Unbounded, IN_ONE),
-    (Sort::OfSixteen, IN_ONE),
-    (Sort::Ranked, BY_RANK),
-    (Sort::Control, CONTROL_FIRST),
+const QUEUES: [(&str, Sort, Parts); 4] = [
+    ("unbounded", Sort::Unbounded, IN_ONE),
+    ("bounded", Sort::OfSixteen, IN_ONE),
+    ("by rank", Sort::Ranked, BY_RANK),
+    ("control-aware", Sort::Control, CONTROL_FIRST),
 ];
 
 #[test]
 fn all_come_among_threads(rt: HostRuntime) -> Result<(), Fail> {
-    for (sort, parts) in QUEUES {
-        assert!(rt; run_three(&rt, rt.alloc(), sort, parts)?);
+    for (name, sort, parts) in QUEUES {
+        assert!(rt; run_three(&rt, rt.alloc(), sort, parts)?, "{name}");
     }
     Ok(())
 }
