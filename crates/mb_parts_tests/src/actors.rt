@@ -3,11 +3,3 @@
 mod asking;
 mod calls;
 mod refusals;
-
-use mb_actor::{Effect, Outbox};
-use std::process::Abort;
-
-/// Compares what an outbox holds with what is expected.
-fn holds(rt: &impl Abort, out: &Outbox, expected: &[Effect]) {
-    assert!(rt; out.effects() == expected);
-}

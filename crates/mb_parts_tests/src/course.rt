@@ -9,13 +9,15 @@ pub(crate) type Step = (Call, Option<Answer>, &'static [Effect], i64);
 pub(crate) fn each_call<A: Actor>(rt: &impl Abort, actor: A, out: &mut Outbox, steps: &[Step]) {
     let mut called = Called::new(actor);
     for step in steps {
-        let (call, answer, effects, state) = *step;
-        assert!(rt; make(&mut called, &call, out) == answer, "{call:?}");
-        assert!(rt;
-            out.effects() == effects && called.state() == state,
-            "what comes of {call:?}"
-        );
+        let (call, ..) = *step;
+        assert!(rt; goes(&mut called, out, step), "{call:?}");
     }
+}
+
+/// Makes a call: whether all comes of it as it says.
+fn goes<A: Actor>(called: &mut Called<A>, out: &mut Outbox, step: &Step) -> bool {
+    let (call, answer, effects, state) = *step;
+    make(called, &call, out) == answer && out.effects() == effects && called.state() == state
 }
 
 /// Makes a call: its answer, if it has one.

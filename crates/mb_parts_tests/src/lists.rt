@@ -47,65 +47,112 @@ fn long_list(rt: &impl Abort, alloc: Global) -> SysList {
     list
 }
 
-/// What is listed first.
-const MESSAGES: [SysMsg; 3] = [
-    SysMsg::Create,
-    SysMsg::Suspend,
-    SysMsg::Resume { of_failure: false },
+/// A call on a list, or on what was drained of it last, and its answer.
+#[derive(Clone, Copy)]
+enum Step {
+    /// The message is listed under this number.
+    Listed(SysMsg, u64),
+    /// The list is closed: the node comes back.
+    Back(SysMsg),
+    Drained,
+    Closed,
+    /// The next of what was drained has this number and this message.
+    Next(u64, SysMsg),
+    /// The node of the next one is listed again, with this message under this number.
+    Relisted(SysMsg, u64),
+    /// Whether something is listed, and whether something is left of what was drained; and how many were given.
+    Stands(bool, bool, u64),
+    /// Nothing is left of what was drained.
+    End,
+}
+
+/// The earliest comes first; a list that is closed gives a node back, and stays empty.
+const EARLIEST_FIRST: &[Step] = &[
+    Step::Stands(false, false, 0),
+    Step::Listed(SysMsg::Create, 0),
+    Step::Listed(SysMsg::Suspend, 1),
+    Step::Listed(SysMsg::Resume { of_failure: false }, 2),
+    Step::Stands(true, false, 0),
+    Step::Drained,
+    Step::Stands(false, true, 3),
+    Step::Next(0, SysMsg::Create),
+    Step::Next(1, SysMsg::Suspend),
+    Step::Stands(false, true, 3),
+    Step::Next(2, SysMsg::Resume { of_failure: false }),
+    Step::Stands(false, false, 3),
+    Step::End,
+    Step::Closed,
+    Step::Stands(false, false, 3),
+    Step::Back(SysMsg::Terminate),
+    Step::Stands(false, false, 3),
+    Step::Drained,
+    Step::Stands(false, false, 3),
 ];
 
-/// Pushes these messages, from number 0 on.
-fn push_each(rt: &impl Abort, alloc: Global, list: &mut SysList) {
-    for (number, message) in (0..).zip(MESSAGES) {
-        push(rt, list, node_of(rt, alloc, message), number);
+/// Numbers go on after a drain, also those of a node that is used again.
+const NUMBERS_GO_ON: &[Step] = &[
+    Step::Listed(SysMsg::Create, 0),
+    Step::Drained,
+    Step::Relisted(FAILED, 1),
+    Step::Listed(SysMsg::Died(ActorId(3)), 2),
+    Step::Closed,
+    Step::Stands(false, true, 3),
+    Step::Next(1, FAILED),
+    Step::Next(2, SysMsg::Died(ActorId(3))),
+    Step::End,
+];
+
+const FAILED: SysMsg = SysMsg::Failed(ActorId(3), Cause::Error(7));
+
+fn goes(rt: &impl Abort, alloc: Global, list: &mut SysList, chain: &mut Chain, step: Step) -> bool {
+    match step {
+        Step::Listed(message, number) => {
+            list.push(node_of(rt, alloc, message)).ok() == Some(number)
+        }
+        Step::Back(message) => match list.push(node_of(rt, alloc, message)) {
+            Ok(_) => false,
+            Err(ListClosed(node)) => node.msg() == message,
+        },
+        Step::Drained => {
+            *chain = list.drain();
+            true
+        }
+        Step::Closed => {
+            *chain = list.close();
+            true
+        }
+        Step::Next(number, message) => next_of(chain) == Some((number, message)),
+        Step::Relisted(message, number) => relisted(list, chain, message) == Some(number),
+        Step::Stands(is_listed, is_left, given) => {
+            list.is_empty() != is_listed && chain.is_empty() != is_left && list.given() == given
+        }
+        Step::End => chain.next().is_none(),
     }
 }
 
-/// Takes them.
-fn take_each(rt: &impl Abort, chain: &mut Chain) {
-    for (number, message) in (0..).zip(MESSAGES) {
-        assert!(rt; !chain.is_empty());
-        take(rt, chain, number, message);
-    }
-    assert!(rt; chain.is_empty() && chain.next().is_none());
+/// The number under which the next node is listed, with this message in it.
+fn relisted(list: &mut SysList, chain: &mut Chain, message: SysMsg) -> Option<u64> {
+    let (_, mut node) = chain.next()?;
+    node.set(message);
+    list.push(node).ok()
 }
 
-/// Sees to it that a list that is closed gives a node back, and stays empty.
-fn takes_none(rt: &impl Abort, alloc: Global, list: &mut SysList) {
-    match list.push(node_of(rt, alloc, SysMsg::Terminate)) {
-        Ok(number) => panic!(rt; "a closed list took a node as {number}"),
-        Err(ListClosed(node)) => assert!(rt; node.msg() == SysMsg::Terminate),
-    }
-    assert!(rt; list.is_empty() && list.drain().is_empty() && list.given() == 3);
-}
-
-#[test]
-fn the_earliest_comes_first(rt: HostRuntime) {
+/// Sees to it that all goes so on a new list, step by step.
+fn goes_so(rt: &impl Abort, alloc: Global, course: &[Step]) {
     let mut list = SysList::new();
-    assert!(rt; list.is_empty() && list.given() == 0);
-    push_each(&rt, rt.alloc(), &mut list);
-    assert!(rt; !list.is_empty() && list.given() == 0);
-    take_each(&rt, &mut list.drain());
-    assert!(rt; list.is_empty() && list.given() == 3);
-    assert!(rt; list.close().is_empty() && list.given() == 3);
-    takes_none(&rt, rt.alloc(), &mut list);
-}
-
-#[test]
-fn numbers_go_on_after_a_drain(rt: HostRuntime) {
-    let mut list = SysList::new();
-    let first = node_of(&rt, rt.alloc(), SysMsg::Create);
-    push(&rt, &mut list, first, 0);
     let mut chain = list.drain();
-    let Some((_, mut node)) = chain.next() else {
-        panic!(&rt; "one was listed");
-    };
-    let failed = SysMsg::Failed(ActorId(3), Cause::Error(7));
-    node.set(failed);
-    push(&rt, &mut list, node, 1);
-    let mut rest = list.close();
-    take(&rt, &mut rest, 1, failed);
-    assert!(rt; rest.is_empty() && list.given() == 2);
+    let mut number = 0u32;
+    for step in course {
+        let is_so = goes(rt, alloc, &mut list, &mut chain, *step);
+        assert!(rt; is_so, "step {number}");
+        number = number.wrapping_add(1);
+    }
+}
+
+#[test]
+fn the_earliest_comes_first_and_numbers_go_on(rt: HostRuntime) {
+    goes_so(&rt, rt.alloc(), EARLIEST_FIRST);
+    goes_so(&rt, rt.alloc(), NUMBERS_GO_ON);
 }
 
 #[test]

@@ -1,31 +1,125 @@
 //! The refusals of an outbox, each at its limit and one past it.
 
-use super::holds;
 use mb_actor::{Effect, Outbox, OutboxError};
 use mb_msg::ActorId;
-use std::ops::Range;
 use std::process::Abort;
 use std::test::Fail;
 
-/// Asks for each of these effects, and compares the answers.
-fn ask_all(
-    rt: &impl Abort,
-    out: &mut Outbox,
-    effects: &[Effect],
-    expected: Result<(), OutboxError>,
-) {
-    for effect in effects {
-        let answer = match *effect {
-            Effect::Tell { to, kind, value } => out.tell(to, kind, value),
-            Effect::Control { to, kind, value } => out.control(to, kind, value),
-            Effect::Watch(id) => out.watch(id),
-            Effect::Unwatch(id) => out.unwatch(id),
-            Effect::Stop(id) => out.stop(id),
-            Effect::Spawn(id) => out.spawn(id),
-        };
-        assert!(rt; answer == expected, "{effect:?}");
-    }
+/// What is asked of an outbox, and its answer.
+#[derive(Clone, Copy)]
+enum Step {
+    /// Each of these effects gets this answer.
+    Asked(&'static [Effect], Result<(), OutboxError>),
+    /// So does one of each kind that names this actor.
+    AllAsked(u32, Result<(), OutboxError>),
+    Cleared,
+    Settled,
+    /// It holds these effects.
+    Holds(&'static [Effect]),
 }
+
+const NO_SUCH_ACTOR: Result<(), OutboxError> = Err(OutboxError::NoSuchActor);
+
+const FULL: Result<(), OutboxError> = Err(OutboxError::OutboxFull);
+
+/// Among 64 actors: all kinds of effects, in order, which stay when another is refused.
+const IN_ORDER: &[Step] = &[
+    Step::Holds(&[]),
+    Step::AllAsked(63, Ok(())),
+    Step::Holds(ALL_KINDS),
+    Step::Asked(
+        &[Effect::Spawn(ActorId(2)), Effect::Watch(ActorId(1))],
+        Ok(()),
+    ),
+    Step::AllAsked(64, NO_SUCH_ACTOR),
+    Step::Holds(ALL_AND_TWO),
+];
+
+const TOLD: Effect = Effect::Tell {
+    to: ActorId(63),
+    kind: 1,
+    value: -2,
+};
+
+const CONTROLLED: Effect = Effect::Control {
+    to: ActorId(63),
+    kind: 3,
+    value: 4,
+};
+
+const ALL_KINDS: &[Effect] = &[
+    TOLD,
+    CONTROLLED,
+    Effect::Watch(ActorId(63)),
+    Effect::Unwatch(ActorId(63)),
+    Effect::Stop(ActorId(63)),
+    Effect::Spawn(ActorId(63)),
+];
+
+const ALL_AND_TWO: &[Effect] = &[
+    TOLD,
+    CONTROLLED,
+    Effect::Watch(ActorId(63)),
+    Effect::Unwatch(ActorId(63)),
+    Effect::Stop(ActorId(63)),
+    Effect::Spawn(ActorId(63)),
+    Effect::Spawn(ActorId(2)),
+    Effect::Watch(ActorId(1)),
+];
+
+/// Among four actors, of which 2 and 3 may be spawned, once each: a spawn that is let go may be asked for again, one that is
+/// carried out may not.
+const ONCE: &[Step] = &[
+    Step::AllAsked(0, NO_SUCH_ACTOR),
+    Step::AllAsked(4, NO_SUCH_ACTOR),
+    Step::AllAsked(64, NO_SUCH_ACTOR),
+    Step::AllAsked(u32::MAX, NO_SUCH_ACTOR),
+    Step::Asked(&[Effect::Spawn(ActorId(1))], NO_SUCH_ACTOR),
+    Step::Holds(&[]),
+    Step::AllAsked(3, Ok(())),
+    Step::Asked(&[Effect::Spawn(ActorId(3))], NO_SUCH_ACTOR),
+    Step::Cleared,
+    Step::Holds(&[]),
+    Step::Asked(&[Effect::Spawn(ActorId(3))], Ok(())),
+    Step::Settled,
+    Step::Holds(&[]),
+    Step::Asked(&[Effect::Spawn(ActorId(3))], NO_SUCH_ACTOR),
+    Step::Asked(&[Effect::Spawn(ActorId(2))], Ok(())),
+    Step::Holds(&[Effect::Spawn(ActorId(2))]),
+    Step::Settled,
+    Step::Asked(&[Effect::Spawn(ActorId(2))], NO_SUCH_ACTOR),
+];
+
+/// The seventeenth effect finds it full, whatever it is, and the sixteen stay.
+const TO_THE_FULL: &[Step] = &[
+    Step::Asked(SIXTEEN, Ok(())),
+    Step::AllAsked(1, FULL),
+    Step::AllAsked(0, FULL),
+    Step::Holds(SIXTEEN),
+    Step::Cleared,
+    Step::Holds(&[]),
+    Step::Asked(&[Effect::Stop(ActorId(1))], Ok(())),
+    Step::Holds(&[Effect::Stop(ActorId(1))]),
+];
+
+const SIXTEEN: &[Effect] = &[
+    Effect::Watch(ActorId(1)),
+    Effect::Stop(ActorId(1)),
+    Effect::Watch(ActorId(2)),
+    Effect::Stop(ActorId(2)),
+    Effect::Watch(ActorId(3)),
+    Effect::Stop(ActorId(3)),
+    Effect::Unwatch(ActorId(1)),
+    Effect::Unwatch(ActorId(2)),
+    Effect::Unwatch(ActorId(3)),
+    Effect::Watch(ActorId(1)),
+    Effect::Watch(ActorId(2)),
+    Effect::Watch(ActorId(3)),
+    Effect::Stop(ActorId(1)),
+    Effect::Stop(ActorId(1)),
+    Effect::Stop(ActorId(2)),
+    Effect::Stop(ActorId(3)),
+];
 
 /// One effect of each kind that names this actor.
 fn all_kinds(id: ActorId) -> [Effect; 6] {
@@ -47,97 +141,63 @@ fn all_kinds(id: ActorId) -> [Effect; 6] {
     ]
 }
 
-/// Asks for one effect of each kind of each of these actors, and compares the answers.
-fn ask_of_each(rt: &impl Abort, out: &mut Outbox, ids: &[u32], expected: Result<(), OutboxError>) {
-    for id in ids {
-        ask_all(rt, out, &all_kinds(ActorId(*id)), expected);
+fn ask(out: &mut Outbox, effect: Effect) -> Result<(), OutboxError> {
+    match effect {
+        Effect::Tell { to, kind, value } => out.tell(to, kind, value),
+        Effect::Control { to, kind, value } => out.control(to, kind, value),
+        Effect::Watch(id) => out.watch(id),
+        Effect::Unwatch(id) => out.unwatch(id),
+        Effect::Stop(id) => out.stop(id),
+        Effect::Spawn(id) => out.spawn(id),
+    }
+}
+
+/// Whether each of these effects, when it is asked for, gets this answer.
+fn are_answered(out: &mut Outbox, effects: &[Effect], answer: Result<(), OutboxError>) -> bool {
+    let mut are_so = true;
+    for effect in effects {
+        are_so &= ask(out, *effect) == answer;
+    }
+    are_so
+}
+
+fn goes(out: &mut Outbox, step: Step) -> bool {
+    match step {
+        Step::Asked(effects, answer) => are_answered(out, effects, answer),
+        Step::AllAsked(id, answer) => are_answered(out, &all_kinds(ActorId(id)), answer),
+        Step::Cleared => {
+            out.clear();
+            true
+        }
+        Step::Settled => {
+            out.settle();
+            true
+        }
+        Step::Holds(effects) => out.effects() == effects,
+    }
+}
+
+/// Sees to it that all goes so, step by step.
+fn goes_so(rt: &impl Abort, out: &mut Outbox, course: &[Step]) {
+    let mut number = 0u32;
+    for step in course {
+        assert!(rt; goes(out, *step), "step {number}");
+        number = number.wrapping_add(1);
     }
 }
 
 #[test]
 fn each_effect_is_kept_in_order(rt: HostRuntime) -> Result<(), Fail> {
     let prepared = vec![in rt.alloc(); ActorId(2), ActorId(63)]?;
-    let mut out = Outbox::new(64, &prepared);
-    let more = [Effect::Spawn(ActorId(2)), Effect::Watch(ActorId(1))];
-    ask_of_each(&rt, &mut out, &[63], Ok(()));
-    holds(&rt, &out, &all_kinds(ActorId(63)));
-    ask_all(&rt, &mut out, &more, Ok(()));
-    ask_of_each(&rt, &mut out, &[64], Err(OutboxError::NoSuchActor));
-    let (first, last) = out.effects().split_at(6);
-    assert!(rt; first == all_kinds(ActorId(63)).as_slice() && last == more.as_slice());
+    goes_so(&rt, &mut Outbox::new(64, &prepared), IN_ORDER);
     Ok(())
 }
 
 #[test]
-fn the_seventeenth_effect_finds_it_full(rt: HostRuntime) -> Result<(), Fail> {
-    let prepared = vec![in rt.alloc(); ActorId(1)]?;
-    let mut out = Outbox::new(2, &prepared);
-    tell_each(&rt, &mut out, 0..16);
-    ask_of_each(&rt, &mut out, &[1, 0], Err(OutboxError::OutboxFull));
-    are_told(&rt, &out);
-    out.clear();
-    holds(&rt, &out, &[]);
-    tell_each(&rt, &mut out, 16..17);
-    Ok(())
-}
-
-/// What is told with this value.
-fn told(value: i64) -> Effect {
-    Effect::Tell {
-        to: ActorId(1),
-        kind: 5,
-        value,
-    }
-}
-
-/// Tells each of these values.
-fn tell_each(rt: &impl Abort, out: &mut Outbox, values: Range<i64>) {
-    for value in values {
-        ask_all(rt, out, &[told(value)], Ok(()));
-    }
-}
-
-/// Sees to it that the first sixteen were told, and no more.
-fn are_told(rt: &impl Abort, out: &Outbox) {
-    assert!(rt; out.effects().len() == 16);
-    for (value, effect) in (0..).zip(out.effects()) {
-        assert!(rt; *effect == told(value), "{value}");
-    }
-}
-
-#[test]
-fn no_such_actor(rt: HostRuntime) -> Result<(), Fail> {
-    let prepared = vec![in rt.alloc(); ActorId(3), ActorId(4)]?;
+fn each_refusal_comes_as_it_must(rt: HostRuntime) -> Result<(), Fail> {
+    let prepared = vec![in rt.alloc(); ActorId(3), ActorId(2), ActorId(4)]?;
     let mut out = Outbox::new(4, &prepared);
-    let refused = Err(OutboxError::NoSuchActor);
-    ask_of_each(&rt, &mut out, &[0, 4, 64, u32::MAX], refused);
-    spawns(&rt, &mut out, 2, refused);
-    holds(&rt, &out, &[]);
-    ask_of_each(&rt, &mut out, &[3], Ok(()));
-    Ok(())
-}
-
-/// Asks to spawn this child, and compares the answer.
-fn spawns(rt: &impl Abort, out: &mut Outbox, child: u32, expected: Result<(), OutboxError>) {
-    ask_all(rt, out, &[Effect::Spawn(ActorId(child))], expected);
-}
-
-#[test]
-fn a_child_is_spawned_once(rt: HostRuntime) -> Result<(), Fail> {
-    let prepared = vec![in rt.alloc(); ActorId(3), ActorId(2)]?;
-    let mut out = Outbox::new(4, &prepared);
-    let refused = Err(OutboxError::NoSuchActor);
-    spawns(&rt, &mut out, 3, Ok(()));
-    spawns(&rt, &mut out, 3, refused);
-    out.clear();
-    holds(&rt, &out, &[]);
-    spawns(&rt, &mut out, 3, Ok(()));
-    out.settle();
-    holds(&rt, &out, &[]);
-    spawns(&rt, &mut out, 3, refused);
-    spawns(&rt, &mut out, 2, Ok(()));
-    holds(&rt, &out, &[Effect::Spawn(ActorId(2))]);
-    out.settle();
-    spawns(&rt, &mut out, 2, refused);
+    goes_so(&rt, &mut out, ONCE);
+    goes_so(&rt, &mut out, TO_THE_FULL);
     Ok(())
 }
