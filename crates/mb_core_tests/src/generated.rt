@@ -90,12 +90,12 @@ type Tally = [u64; 3];
 
 /// Sees to it that the laws hold of these actors, and counts them.
 fn count<R: Abort>(rt: &R, actors: &[ActorState], tally: &mut Tally) {
-    let [runs, held, runnable] = tally;
-    *runs = runs.wrapping_add(1);
+    tally[0] = tally[0].wrapping_add(1);
+    let run = tally[0];
     for actor in actors {
-        assert!(rt; is_lawful(actor), "run {runs}");
-        *held = held.wrapping_add(u64::from(actor.holder().is_some()));
-        *runnable = runnable.wrapping_add(u64::from(actor.is_runnable()));
+        assert!(rt; is_lawful(actor), "run {run}");
+        tally[1] = tally[1].wrapping_add(u64::from(actor.holder().is_some()));
+        tally[2] = tally[2].wrapping_add(u64::from(actor.is_runnable()));
     }
 }
 
