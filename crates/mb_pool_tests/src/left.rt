@@ -34,35 +34,25 @@ pub fn left<H: Resident, R: Wait>(
     }
 }
 
-/// Of which actors these claims are, in order. Their cells go home.
-pub fn actors_of_left<H: Resident>(
-    alloc: Global,
+/// Whether the claims are of the actors from the first to before the end, in order. Their cells go home.
+pub fn are_of<H: Resident>(
     gates: &Gates<H>,
     pass: &mut Pass<H>,
     mut claims: Vec<Claim<H>>,
-) -> Vec<u32>
+    first: u32,
+    end: u32,
+) -> bool
     requires ours { pass_id pass.old ≡ gates_id gates.now }
     requires fit { All (IsUntouched H.is_of H.journal H.mailbox H.rested H.given H.closed_to (Some (origin_of gates.now))) claims.items }
     ensures ours { pass_id pass.new ≡ gates_id gates.now }
 {
-    let mut actors = room(alloc, claims.len());
+    let mut are_those = true;
+    let mut next = end;
     while let Some(claim) = claims.pop() {
-        let actor = claim.actor().0;
-        let _ = actors.push(actor);
+        next = next.wrapping_sub(1);
+        are_those &= claim.actor().0 == next;
         give(gates, claim, pass);
     }
     claims.destroy_empty();
-    actors.reverse();
-    actors
-}
-
-/// Room for so many, at the second try where the first is refused.
-fn room(alloc: Global, count: usize) -> Vec<u32> {
-    match Vec::with_capacity(alloc, count) {
-        Ok(room) => room,
-        Err(_) => match Vec::with_capacity(alloc, count) {
-            Ok(room) => room,
-            Err(_) => Vec::new(alloc),
-        },
-    }
+    are_those && next == first
 }

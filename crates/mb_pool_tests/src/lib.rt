@@ -7,6 +7,8 @@ mod alone;
 #[cfg(test)]
 mod left;
 #[cfg(test)]
+mod play;
+#[cfg(test)]
 mod pushed;
 #[cfg(test)]
 mod refused;

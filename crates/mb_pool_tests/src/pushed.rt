@@ -8,12 +8,12 @@ use mb_gate::{Claim, Resident};
 use mb_pool::{Feed, Refused, WorkerEnd};
 use std::sync::Wait;
 
-/// What a push answers: done, or why the claim of which actor came back; or that there is no such claim or way to push it.
-#[derive(Clone, Copy, Debug, PartialEq)]
+/// What a push answers: done, or why the claim came back; or that there is no such claim or way to push it.
+#[derive(Clone, Copy)]
 pub enum Answer {
     Done,
-    Full(u32),
-    NoMemory(u32),
+    Full,
+    NoMemory,
     Held,
     Nowhere,
 }
@@ -53,14 +53,12 @@ fn told<H: Drop>(pushed: Result<(), Refused<H>>) -> Answer {
     match pushed {
         Ok(()) => Answer::Done,
         Err(Refused::Full(claim)) => {
-            let actor = claim.actor().0;
             claim.abandon();
-            Answer::Full(actor)
+            Answer::Full
         }
         Err(Refused::NoMemory(claim)) => {
-            let actor = claim.actor().0;
             claim.abandon();
-            Answer::NoMemory(actor)
+            Answer::NoMemory
         }
     }
 }

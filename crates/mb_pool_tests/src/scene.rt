@@ -5,7 +5,7 @@ ghost use Rattle.mb_gate.specs.Names.{gates_id, pass_id, actors_of};
 ghost use Rattle.mb_gate.specs.Untouched.{origin_of};
 ghost use Rattle.mb_pool.specs.Places.{AreEnds, AreFeeds};
 
-use crate::left::{actors_of_left, left};
+use crate::left::{are_of, left};
 use crate::pushed::{Answer, feed_at_last, push_at_last};
 use mb_desk::{Desk, attempt, gates_of, give};
 use mb_gate::{Gates, Pass, Resident};
@@ -30,20 +30,17 @@ pub struct Scene<H: Resident> {
 }
 
 impl Scene<Desk> {
-    /// So many actors that are not started, and a pool of this kind with so many ends and feeds.
-    pub fn new(
+    /// So many actors that are not started, and a pool of this kind with three ends and a feed.
+    fn new(
         alloc: Global,
-        actors: usize,
+        actors: u32,
         kind: Kind,
-        workers: usize,
-        feeds: usize,
     ) -> Result<Scene<Desk>, AllocError>
-        requires some { (0 < actors) × (0 < workers) }
-        requires few { actors ≤ 4294967296 }
+        requires { 0 < actors }
         ensures { IfOk result (λ scene. actors_of scene.gates ≡ actors) }
     {
-        let (gates, pass) = gates_of(alloc, actors)?;
-        let (pool, ends, feeds) = Pool::new(alloc, &gates, kind, workers, feeds)?;
+        let (gates, pass) = gates_of(alloc, actors as usize)?;
+        let (pool, ends, feeds) = Pool::new(alloc, &gates, kind, 3, 1)?;
         Ok(Scene {
             gates,
             pass,
@@ -88,8 +85,15 @@ impl<H: Resident> Scene<H> {
         Some(actor)
     }
 
-    /// Ends the pool: of which actors the claims are that were left, in order. Their cells go home.
-    pub fn leave<R: Wait>(self, rt: &R, alloc: Global) -> Result<Vec<u32>, Fail> {
+    /// Ends the pool: whether the claims that were left are of the actors from the first to before the end, in order. Their
+    /// cells go home.
+    pub fn leaves<R: Wait>(
+        self,
+        rt: &R,
+        alloc: Global,
+        first: u32,
+        end: u32,
+    ) -> Result<bool, Fail> {
         let Scene {
             gates,
             mut pass,
@@ -98,6 +102,17 @@ impl<H: Resident> Scene<H> {
             feeds,
         } = self;
         let claims = left(rt, alloc, pool, ends, feeds)?;
-        Ok(actors_of_left(alloc, &gates, &mut pass, claims))
+        Ok(are_of(&gates, &mut pass, claims, first, end))
+    }
+}
+
+/// A scene, at the second try where the first is refused.
+pub fn made(alloc: Global, actors: u32, kind: Kind) -> Result<Scene<Desk>, AllocError>
+    requires { 0 < actors }
+    ensures { IfOk result (λ scene. actors_of scene.gates ≡ actors) }
+{
+    match Scene::new(alloc, actors, kind) {
+        Ok(scene) => Ok(scene),
+        Err(_) => Scene::new(alloc, actors, kind),
     }
 }

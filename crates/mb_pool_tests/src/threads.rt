@@ -1,16 +1,16 @@
 //! Three ends and a feed on threads of their own.
-ghost use Rattle.std.specs.Prelude.{◌≡◌, ◌<◌, Some};
+ghost use Rattle.std.specs.Prelude.{◌≡◌, ◌<◌, Some, IfSome};
 ghost use Rattle.mb_gate.specs.Names.{gates_id, pass_id, actors_of};
 ghost use Rattle.mb_gate.specs.Untouched.{origin_of};
-ghost use Rattle.mb_pool.specs.Places.{gates_of, parts_of};
+ghost use Rattle.mb_pool.specs.Places.{AreEnds, AreFeeds, gates_of, parts_of};
 
-use crate::left::{actors_of_left, left};
-use crate::scene::Scene;
+use crate::left::{are_of, left};
+use crate::scene::{Scene, made};
 use crate::work::{ACTORS, MOVES, supply, work};
 use mb_desk::{Desk, attempt, give};
 use mb_gate::{Gates, Pass};
 use mb_msg::ActorId;
-use mb_pool::{Feed, Kind, WorkerEnd};
+use mb_pool::{Feed, Kind, Pool, WorkerEnd};
 use std::alloc::Global;
 use std::sync::Wait;
 use std::sync::atomic::AtomicU64;
@@ -30,35 +30,52 @@ fn move_claims<R: Threads + Wait + Sync>(rt: &R, alloc: Global, kind: Kind) -> R
         pool,
         mut ends,
         mut feeds,
-    } = Scene::new(alloc, 80, kind, 3, 1)?;
-    let Some(third) = ends.pop() else {
-        return Err(Fail::from("no third end"));
-    };
-    let Some(second) = ends.pop() else {
-        return Err(Fail::from("no second end"));
-    };
-    let Some(first) = ends.pop() else {
-        return Err(Fail::from("no first end"));
-    };
-    let Some(feed) = feeds.pop() else {
-        return Err(Fail::from("no feed"));
-    };
+    } = made(alloc, ACTORS, kind)?;
     let moved = AtomicU64::new(0);
-    let ((first, second), (third, feed)) = all_work(
-        rt, &gates, &mut pass, first, second, third, feed, &moved,
-    );
-    ends.push(first)?;
-    ends.push(second)?;
-    ends.push(third)?;
-    feeds.push(feed)?;
+    let Some(()) = all_work(rt, &gates, &mut pass, &pool, &mut ends, &mut feeds, &moved) else {
+        return Err(Fail::from("not three ends and a feed"));
+    };
     let claims = left(rt, alloc, pool, ends, feeds)?;
-    let _ = actors_of_left(alloc, &gates, &mut pass, claims);
+    let _ = are_of(&gates, &mut pass, claims, 0, 0);
     let all_home = are_home(&gates, &mut pass);
     Ok(all_home && moved.load(SeqCst) >= MOVES)
 }
 
-/// Three ends and a feed at work on threads of their own: they come back.
+/// The three ends and the feed of a pool at work, and then again in their places; `None` where there are not as many.
 fn all_work<R: Threads + Wait + Sync>(
+    rt: &R,
+    gates: &Gates<Desk>,
+    pass: &mut Pass<Desk>,
+    pool: &Pool<Desk>,
+    ends: &mut Vec<WorkerEnd<Desk>>,
+    feeds: &mut Vec<Feed<Desk>>,
+    moved: &AtomicU64,
+) -> Option<()>
+    requires ours { pass_id pass.old ≡ gates_id gates.now }
+    requires there { actors_of gates.now ≡ 80 }
+    requires these { pool.now.gates ≡ origin_of gates.now }
+    requires are_ends { AreEnds pool.now ends.old.items }
+    requires are_feeds { AreFeeds pool.now feeds.old.items }
+    ensures ours { pass_id pass.new ≡ gates_id gates.now }
+    ensures are_ends { IfSome result (λ _. AreEnds pool.now ends.new.items) }
+    ensures are_feeds { IfSome result (λ _. AreFeeds pool.now feeds.new.items) }
+{
+    let _ = pool;
+    let third = ends.pop()?;
+    let second = ends.pop()?;
+    let first = ends.pop()?;
+    let feed = feeds.pop()?;
+    let ((first, second), (third, feed)) =
+        four_work(rt, gates, pass, first, second, third, feed, moved);
+    ends.push_reserved(first);
+    ends.push_reserved(second);
+    ends.push_reserved(third);
+    feeds.push_reserved(feed);
+    Some(())
+}
+
+/// Three ends and a feed at work on threads of their own: they come back.
+fn four_work<R: Threads + Wait + Sync>(
     rt: &R,
     gates: &Gates<Desk>,
     pass: &mut Pass<Desk>,

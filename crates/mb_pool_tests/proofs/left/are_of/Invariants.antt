@@ -1,7 +1,7 @@
 use Rattle.std.proofs.Common.{◌≡◌, All, Some}
 use Rattle.mb_gate.specs.Names.{gates_id, pass_id}
 use Rattle.mb_gate.specs.Untouched.{origin_of, IsUntouched}
-use Rattle.mb_pool_tests.proofs.left.actors_of_left.Given as goal
+use Rattle.mb_pool_tests.proofs.left.are_of.Given as goal
 
 abbrev pub invariant-loop-claim : goal.invariant-loop-claim
 invariant-loop-claim g l = (pass_id l.pass ≡ gates_id l.gates)
