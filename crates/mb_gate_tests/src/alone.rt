@@ -1,38 +1,37 @@
 //! One thread.
-use crate::desk::GUARDIAN;
 use crate::single::Single;
-use crate::tally::NOTHING;
-use crate::tries::Miss;
-use mb_msg::{Cause, SysMsg};
+use crate::steps::{HeldStep, Message, Step};
+use crate::story::story;
+use crate::tally::{NOTHING, Tally};
 use std::test::Fail;
 
 #[test]
 fn an_actor_is_scheduled_and_given_back(rt: HostRuntime) -> Result<(), Fail> {
-    let mut single = Single::new(rt.alloc())?;
-    assert_eq!(rt; single.word(), 4);
-    let mut holding = single.got(&rt);
-    assert_eq!(rt; holding.actor(), GUARDIAN);
-    assert_eq!(rt; holding.word(), 6);
-    assert_eq!(rt; holding.missed(), Some(Miss::Already));
-    assert!(rt; holding.resume());
-    assert_eq!(rt; holding.other_word(), 2);
-    let mut single = holding.give();
-    assert_eq!(rt; single.word(), 0);
+    let held = [
+        HeldStep::IsOfGuardian,
+        HeldStep::Look(Step::Word(6)),
+        HeldStep::Look(Step::IsHeld),
+        HeldStep::Resume(true),
+        HeldStep::Look(Step::OtherWord(2)),
+    ];
+    assert!(rt;
+        story(
+            &rt,
+            rt.alloc(),
+            &[Step::Word(4)],
+            &held,
+            &[Step::Word(0)],
+            (0, 0)
+        )?
+    );
     Ok(())
 }
 
 #[test]
 fn a_closed_actor_stays_closed(rt: HostRuntime) -> Result<(), Fail> {
-    let alloc = rt.alloc();
-    let mut holding = Single::new(alloc)?.got(&rt);
-    let mut tally = NOTHING;
-    holding.close(&rt, &mut tally);
-    assert_eq!(rt; holding.other_word(), 1);
-    assert_eq!(rt; tally.number, 0);
-    let mut single = holding.give();
-    assert_eq!(rt; single.missed(), Some(Miss::Closed));
-    assert_eq!(rt; single.enqueue(&rt, alloc, SysMsg::Terminate), None);
-    assert_eq!(rt; single.left(alloc)?, Some((1, 0)));
+    let held = [HeldStep::Close(NOTHING), HeldStep::Look(Step::OtherWord(1))];
+    let after = [Step::IsClosed, Step::Enqueue(Message::Terminate, None)];
+    assert!(rt; story(&rt, rt.alloc(), &[], &held, &after, (1, 0))?);
     Ok(())
 }
 
@@ -40,66 +39,76 @@ fn a_closed_actor_stays_closed(rt: HostRuntime) -> Result<(), Fail> {
 fn a_held_cell_is_not_left(rt: HostRuntime) -> Result<(), Fail> {
     let alloc = rt.alloc();
     let holding = Single::new(alloc)?.got(&rt);
-    assert_eq!(rt; holding.left(alloc)?, None);
+    assert!(rt; holding.left(alloc)?.is_none());
     Ok(())
 }
 
 #[test]
 fn what_was_drained_is_counted(rt: HostRuntime) -> Result<(), Fail> {
-    let alloc = rt.alloc();
-    let mut single = Single::new(alloc)?;
-    assert_eq!(rt; single.enqueue(&rt, alloc, SysMsg::Create), Some(0));
-    let mut holding = single.got(&rt);
-    let mut tally = NOTHING;
-    holding.drain(&rt, &mut tally);
-    assert_eq!(rt; tally.number, 1);
-    assert_eq!(rt; holding.give().left(alloc)?, Some((4, 1)));
+    let before = [Step::Enqueue(Message::Create, Some(0))];
+    let one = Tally {
+        number: 1,
+        first: 0,
+        second: 0,
+        in_order: false,
+    };
+    assert!(rt;
+        story(
+            &rt,
+            rt.alloc(),
+            &before,
+            &[HeldStep::Drain(one)],
+            &[],
+            (4, 1)
+        )?
+    );
     Ok(())
 }
 
 #[test]
 fn messages_come_in_order(rt: HostRuntime) -> Result<(), Fail> {
-    let alloc = rt.alloc();
-    let mut single = Single::new(alloc)?;
-    assert!(rt; !single.has_system());
-    let recreate = SysMsg::Recreate(Cause::Error(0));
-    let failed = SysMsg::Failed(GUARDIAN, Cause::Error(0));
-    assert_eq!(rt; single.enqueue(&rt, alloc, recreate), Some(0));
-    assert_eq!(rt; single.enqueue(&rt, alloc, failed), Some(1));
-    assert!(rt; single.has_system());
-    let mut holding = single.got(&rt);
-    let mut tally = NOTHING;
-    holding.drain(&rt, &mut tally);
-    assert_eq!(rt; (tally.first, tally.second, tally.number), (1, 1, 2));
-    assert!(rt; tally.in_order);
+    let before = [
+        Step::HasSystem(false),
+        Step::Enqueue(Message::Recreate, Some(0)),
+        Step::Enqueue(Message::Failed, Some(1)),
+        Step::HasSystem(true),
+    ];
+    let both = Tally {
+        number: 2,
+        first: 1,
+        second: 1,
+        in_order: true,
+    };
     // The last drain gave something, until one gives nothing.
-    assert!(rt; holding.has_system());
-    holding.drain(&rt, &mut tally);
-    assert_eq!(rt; tally.number, 2);
-    assert!(rt; !holding.has_system());
+    let held = [
+        HeldStep::Drain(both),
+        HeldStep::Look(Step::HasSystem(true)),
+        HeldStep::Drain(both),
+        HeldStep::Look(Step::HasSystem(false)),
+    ];
+    assert!(rt; story(&rt, rt.alloc(), &before, &held, &[], (4, 2))?);
     Ok(())
 }
 
 #[test]
 fn envelopes_are_counted(rt: HostRuntime) -> Result<(), Fail> {
-    let mut single = Single::new(rt.alloc())?;
-    single.note_sent();
-    single.note_sent();
-    assert_eq!(rt; single.waiting(), 2);
-    let mut holding = single.got(&rt);
-    holding.note_taken();
-    assert_eq!(rt; holding.waiting(), 1);
-    holding.note_refused();
-    assert_eq!(rt; holding.waiting(), 1);
+    let before = [Step::NoteSent, Step::NoteSent, Step::Waiting(2)];
+    let held = [
+        HeldStep::NoteTaken,
+        HeldStep::Look(Step::Waiting(1)),
+        HeldStep::Look(Step::NoteRefused),
+        HeldStep::Look(Step::Waiting(1)),
+    ];
+    assert!(rt; story(&rt, rt.alloc(), &before, &held, &[], (4, 0))?);
     Ok(())
 }
 
 #[test]
 fn suspensions_are_counted(rt: HostRuntime) -> Result<(), Fail> {
-    let mut holding = Single::new(rt.alloc())?.got(&rt);
-    assert_eq!(rt; holding.suspend(), Some(false));
-    assert_eq!(rt; holding.word(), 10);
-    let mut single = holding.give();
-    assert_eq!(rt; single.word(), 8);
+    let held = [
+        HeldStep::Suspend(Some(false)),
+        HeldStep::Look(Step::Word(10)),
+    ];
+    assert!(rt; story(&rt, rt.alloc(), &[], &held, &[Step::Word(8)], (8, 0))?);
     Ok(())
 }

@@ -21,6 +21,10 @@ mod shift;
 #[cfg(test)]
 mod single;
 #[cfg(test)]
+mod steps;
+#[cfg(test)]
+mod story;
+#[cfg(test)]
 mod tally;
 #[cfg(test)]
 mod three;

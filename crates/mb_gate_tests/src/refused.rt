@@ -31,7 +31,7 @@ fn refused_gates_can_be_made_again(rt: HostRuntime) -> Result<(), Fail> {
     let Err(NoGates { homes }) = Gates::new(alloc, desks) else {
         return Ok(());
     };
-    assert_eq!(rt; homes.len(), 1);
+    assert!(rt; homes.len() == 1);
     match Gates::new(alloc, homes) {
         Ok(_) => Ok(()),
         Err(_) => Err(Fail::from("no memory")),

@@ -6,7 +6,6 @@ use crate::desk::Desk;
 use crate::tally::Tally;
 use crate::{calls, tries};
 use mb_gate::{Claim, Gates, Pass};
-use mb_msg::ActorId;
 use std::sync::Wait;
 
 /// A claim whose desk is its actor's own and counts what the list gave, and for which nothing was said. It may be let go, so
@@ -25,11 +24,6 @@ impl Drop for Shift {
 }
 
 impl Shift {
-    /// The actor that is held.
-    pub fn actor(&self) -> ActorId {
-        self.claim.actor()
-    }
-
     /// The cell goes home.
     pub fn end(self, gates: &Gates<Desk>, pass: &mut Pass<Desk>)
         requires ours { (claim_id self.claim ≡ gates_id gates.now) × (pass_id pass.old ≡ gates_id gates.now) }

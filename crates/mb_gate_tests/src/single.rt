@@ -1,15 +1,14 @@
 //! The gates of one actor with two passes, whose calls ask for nothing: that they are of one another stands in the type.
 ghost use Rattle.std.specs.Prelude.{◌≡◌};
-ghost use Rattle.mb_gate.specs.Named.{NamesBelow};
 ghost use Rattle.mb_gate.specs.Names.{gates_id, pass_id, actors_of};
 
 use crate::desk::{Desk, gates_of_one};
 use crate::holding::Holding;
 use crate::shift::Shift;
+use crate::steps::Step;
 use crate::tries::Miss;
 use crate::{calls, tries};
 use mb_gate::{Gates, Left, Pass};
-use mb_msg::SysMsg;
 use std::alloc::Global;
 use std::process::Abort;
 use std::sync::Wait;
@@ -33,58 +32,38 @@ impl Single {
         Ok(Single { gates, pass, other })
     }
 
-    /// The actor's status word.
-    pub fn word(&mut self) -> u64
+    /// Whether the call of the step has its answer.
+    pub fn answers<R: Wait>(&mut self, rt: &R, alloc: Global, step: Step) -> bool
         ensures same { (gates_id self.new.gates ≡ gates_id self.old.gates) × (actors_of self.new.gates ≡ actors_of self.old.gates) }
     {
-        calls::word(&self.gates, &mut self.pass)
-    }
-
-    /// The same, read by the other pass.
-    pub fn other_word(&mut self) -> u64
-        ensures same { (gates_id self.new.gates ≡ gates_id self.old.gates) × (actors_of self.new.gates ≡ actors_of self.old.gates) }
-    {
-        calls::word(&self.gates, &mut self.other)
-    }
-
-    /// How many envelopes are counted as waiting.
-    pub fn waiting(&mut self) -> u64
-        ensures same { (gates_id self.new.gates ≡ gates_id self.old.gates) × (actors_of self.new.gates ≡ actors_of self.old.gates) }
-    {
-        calls::waiting(&self.gates, &mut self.pass)
-    }
-
-    /// Whether there is system work.
-    pub fn has_system(&mut self) -> bool
-        ensures same { (gates_id self.new.gates ≡ gates_id self.old.gates) × (actors_of self.new.gates ≡ actors_of self.old.gates) }
-    {
-        calls::has_system(&self.gates, &mut self.pass)
-    }
-
-    /// One envelope is counted.
-    pub fn note_sent(&mut self) {
-        calls::note_sent(&self.gates, &mut self.pass);
-    }
-
-    /// One envelope is counted, refused and taken back.
-    pub fn note_refused(&mut self)
-        ensures same { (gates_id self.new.gates ≡ gates_id self.old.gates) × (actors_of self.new.gates ≡ actors_of self.old.gates) }
-    {
-        calls::note_refused(&self.gates, &mut self.pass);
-    }
-
-    /// A message is put into the list: its number, or `None` where there was no memory for it or the list is ended.
-    pub fn enqueue<R: Wait>(&mut self, rt: &R, alloc: Global, message: SysMsg) -> Option<u64>
-        requires named { NamesBelow 1 message }
-    {
-        calls::enqueue(rt, alloc, &self.gates, &mut self.pass, message)
-    }
-
-    /// What a try by the other pass answers that does not win.
-    pub fn missed(&mut self) -> Option<Miss>
-        ensures same { (gates_id self.new.gates ≡ gates_id self.old.gates) × (actors_of self.new.gates ≡ actors_of self.old.gates) }
-    {
-        tries::missed(&self.gates, &mut self.other)
+        match step {
+            Step::Word(word) => calls::word(&self.gates, &mut self.pass) == word,
+            Step::OtherWord(word) => calls::word(&self.gates, &mut self.other) == word,
+            Step::Waiting(count) => calls::waiting(&self.gates, &mut self.pass) == count,
+            Step::HasSystem(is_there) => {
+                calls::has_system(&self.gates, &mut self.pass) == is_there
+            }
+            Step::NoteSent => {
+                calls::note_sent(&self.gates, &mut self.pass);
+                true
+            }
+            Step::NoteRefused => {
+                calls::note_refused(&self.gates, &mut self.pass);
+                true
+            }
+            Step::IsHeld => matches!(
+                tries::missed(&self.gates, &mut self.other),
+                Some(Miss::Already)
+            ),
+            Step::IsClosed => matches!(
+                tries::missed(&self.gates, &mut self.other),
+                Some(Miss::Closed)
+            ),
+            Step::Enqueue(message, number) => {
+                let message = message.of_system();
+                calls::enqueue(rt, alloc, &self.gates, &mut self.pass, message) == number
+            }
+        }
     }
 
     /// The actor is got.

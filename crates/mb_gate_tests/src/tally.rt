@@ -23,6 +23,14 @@ pub const NOTHING: Tally = Tally {
 };
 
 impl Tally {
+    /// Whether it has seen the same.
+    pub fn is(&self, other: &Tally) -> bool {
+        self.number == other.number
+            && self.first == other.first
+            && self.second == other.second
+            && self.in_order == other.in_order
+    }
+
     fn add(&mut self, number: u64, message: SysMsg) {
         let is_next = match message {
             SysMsg::Recreate(Cause::Error(n)) => {

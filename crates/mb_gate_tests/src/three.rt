@@ -91,14 +91,16 @@ fn one_holds_and_two_send(rt: HostRuntime) -> Result<(), Fail> {
             requires { (pass_id a ≡ gates_id gates) × (pass_id b ≡ gates_id gates) × (actors_of gates ≡ 1) }
         { send_both(&rt, alloc, &gates, a, b) },
     );
-    assert_eq!(rt; sent, (SENDS, SENDS));
-    assert_eq!(rt;
-        (tally.first, tally.second, tally.number),
-        (SENDS, SENDS, 2_000)
-    );
-    assert!(rt; tally.in_order);
-    assert_eq!(rt; waiting(&gates, &mut pass), 2_000);
-    assert_eq!(rt; word(&gates, &mut pass), 4);
+    assert!(rt; sent.0 == SENDS && sent.1 == SENDS);
+    let all = Tally {
+        number: 2_000,
+        first: SENDS,
+        second: SENDS,
+        in_order: true,
+    };
+    assert!(rt; tally.is(&all));
+    assert!(rt; waiting(&gates, &mut pass) == 2_000);
+    assert!(rt; word(&gates, &mut pass) == 4);
     Ok(())
 }
 

@@ -52,7 +52,7 @@ pub fn give(gates: &Gates<Desk>, mut claim: Claim<Desk>, pass: &mut Pass<Desk>)
 }
 
 /// What a try that does not win answers.
-#[derive(Clone, Copy, Debug, PartialEq)]
+#[derive(Clone, Copy)]
 pub enum Miss {
     Already,
     Closed,

@@ -1,0 +1,41 @@
+//! An actor is got, held and given home, and all answers are as they have to be.
+use crate::holding::Holding;
+use crate::single::Single;
+use crate::steps::{HeldStep, Step};
+use crate::tally::NOTHING;
+use std::alloc::Global;
+use std::process::Abort;
+use std::sync::Wait;
+use std::test::Fail;
+
+/// What is done before the actor is got, while it is held, and after its cell went home. At last its status word is this one,
+/// and so many messages were given: whether that is so.
+pub fn story<R: Abort + Wait>(
+    rt: &R,
+    alloc: Global,
+    before: &[Step],
+    held: &[HeldStep],
+    after: &[Step],
+    left: (u64, u64),
+) -> Result<bool, Fail> {
+    let mut single = Single::new(alloc)?;
+    play(rt, alloc, &mut single, before);
+    let mut holding = single.got(rt);
+    play_held(rt, alloc, &mut holding, held);
+    let mut single = holding.give();
+    play(rt, alloc, &mut single, after);
+    Ok(single.left(alloc)? == Some(left))
+}
+
+fn play<R: Abort + Wait>(rt: &R, alloc: Global, single: &mut Single, steps: &[Step]) {
+    for &step in steps {
+        assert!(rt; single.answers(rt, alloc, step));
+    }
+}
+
+fn play_held<R: Abort + Wait>(rt: &R, alloc: Global, holding: &mut Holding, steps: &[HeldStep]) {
+    let mut tally = NOTHING;
+    for &step in steps {
+        assert!(rt; holding.answers(rt, alloc, &mut tally, step));
+    }
+}
