@@ -114,29 +114,25 @@ what = \"user\"
 kind = 0
 ";
 
-/// Sees to it that an actor has this parent, and does this about children that fail.
-fn check_actor<R: Abort>(
-    rt: &R,
+/// Whether an actor has this parent, and does this about children that fail.
+fn is_planned(
     actor: &ActorPlan,
     parent: u32,
     retries: i64,
     all_for_one: bool,
     rows: &[(Pattern, Directive)],
-) {
-    assert_eq!(rt; actor.parent.0, parent);
-    assert_eq!(rt; actor.strategy.retries, retries);
-    assert_eq!(rt; actor.strategy.all_for_one, all_for_one);
-    assert_eq!(rt; actor.strategy.rows.as_slice(), rows);
+) -> bool {
+    actor.parent.0 == parent
+        && actor.strategy.retries == retries
+        && actor.strategy.all_for_one == all_for_one
+        && actor.strategy.rows.as_slice() == rows
 }
 
-/// Sees to it that a mailbox goes by these ranks.
-fn check_ranks<R: Abort>(rt: &R, mailbox: &Kind, ranks: &[Rank], rest: u32) {
+/// Whether a mailbox goes by these ranks.
+fn goes_by(mailbox: &Kind, ranks: &[Rank], rest: u32) -> bool {
     match mailbox {
-        Kind::Priority { rows, other } => {
-            assert_eq!(rt; rows.as_slice(), ranks);
-            assert_eq!(rt; *other, rest);
-        }
-        _ => assert!(rt; false),
+        Kind::Priority { rows, other } => rows.as_slice() == ranks && *other == rest,
+        _ => false,
     }
 }
 
@@ -161,141 +157,166 @@ const RANKS: [Rank; 2] = [
 
 /// Checks what is read of the actors' plans.
 fn check_plans<R: Abort>(rt: &R, actors: &[ActorPlan]) {
-    assert_eq!(rt; actors.len(), 4);
-    check_actor(rt, &actors[0], 0, 3, true, &ROWS);
-    check_actor(rt, &actors[1], 1, -1, false, &[]);
-    check_actor(rt, &actors[2], 2, -1, false, &[]);
-    check_actor(rt, &actors[3], 0, -1, false, &[]);
-    check_ranks(rt, &actors[0].mailbox, &RANKS, 2);
+    assert!(rt; actors.len() == 4);
+    assert!(rt; is_planned(&actors[0], 0, 3, true, &ROWS));
+    assert!(rt; is_planned(&actors[1], 1, -1, false, &[]));
+    assert!(rt; is_planned(&actors[2], 2, -1, false, &[]));
+    assert!(rt; is_planned(&actors[3], 0, -1, false, &[]));
+    assert!(rt; goes_by(&actors[0].mailbox, &RANKS, 2));
     assert!(rt; matches!(&actors[1].mailbox, Kind::Bounded(8)));
     assert!(rt; matches!(&actors[2].mailbox, Kind::Control));
     assert!(rt; matches!(&actors[3].mailbox, Kind::Unbounded));
 }
 
-/// Sees to it that these operations were read.
-fn does<R: Abort>(rt: &R, found: &[Operation], expected: &[Operation]) {
-    assert_eq!(rt; found, expected);
-}
-
-/// Sees to it that this is done at the end of an actor, or that it is not handled.
-fn ends<R: Abort>(rt: &R, found: &Option<Vec<Operation>>, expected: Option<&[Operation]>) {
+/// Whether this is done at the end of another, or that is not handled.
+fn ends(found: &Option<Vec<Operation>>, expected: Option<&[Operation]>) -> bool {
     match (found, expected) {
-        (Some(operations), Some(wanted)) => does(rt, operations, wanted),
-        (None, None) => {}
-        _ => assert!(rt; false),
+        (Some(operations), Some(wanted)) => operations.as_slice() == wanted,
+        (None, None) => true,
+        _ => false,
     }
 }
 
+/// What the first actor does when it starts.
+const START: [Operation; 2] = [Operation::Spawn(ActorId(2)), Operation::Watch(ActorId(4))];
+
+/// What it does when it is started again.
+const RESTART: [Operation; 2] = [Operation::Ignore, Operation::Stop(ActorId(4))];
+
+/// What it does when it stops.
+const STOP: [Operation; 1] = [Operation::Tell {
+    to: ActorId(2),
+    kind: 4,
+}];
+
+/// What it does at the end of one that it watches.
+const TERMINATED: [Operation; 1] = [Operation::Unwatch(ActorId(3))];
+
+/// What it does with messages of one kind.
+const ADDING: [Operation; 4] = [
+    Operation::Add,
+    Operation::Control {
+        to: ActorId(2),
+        kind: 2,
+    },
+    Operation::Fail(7),
+    Operation::Add,
+];
+
 /// Checks what the first actor does beside its rows.
 fn check_hooks<R: Abort>(rt: &R, hooks: &Hooks) {
-    let start = [Operation::Spawn(ActorId(2)), Operation::Watch(ActorId(4))];
-    does(rt, &hooks.start, &start);
-    let restart = [Operation::Ignore, Operation::Stop(ActorId(4))];
-    does(rt, &hooks.restart, &restart);
-    let stop = [Operation::Tell {
-        to: ActorId(2),
-        kind: 4,
-    }];
-    does(rt, &hooks.stop, &stop);
-    ends(
-        rt,
-        &hooks.terminated,
-        Some(&[Operation::Unwatch(ActorId(3))]),
-    );
+    assert!(rt; hooks.start.as_slice() == START.as_slice());
+    assert!(rt; hooks.restart.as_slice() == RESTART.as_slice());
+    assert!(rt; hooks.stop.as_slice() == STOP.as_slice());
+    assert!(rt; ends(&hooks.terminated, Some(&TERMINATED)));
 }
 
-/// Sees to it that a row is for this kind, and does this.
-fn check_row<R: Abort>(rt: &R, row: &Row, kind: u32, expected: &[Operation]) {
-    assert_eq!(rt; row.kind, kind);
-    does(rt, &row.operations, expected);
+/// Whether a row is for this kind, and does this.
+fn is_row(row: &Row, kind: u32, expected: &[Operation]) -> bool {
+    row.kind == kind && row.operations.as_slice() == expected
 }
 
 /// Checks what the first actor does with messages.
 fn check_rows<R: Abort>(rt: &R, rows: &[Row]) {
-    assert_eq!(rt; rows.len(), 3);
-    let adding = [
-        Operation::Add,
-        Operation::Control {
-            to: ActorId(2),
-            kind: 2,
-        },
-        Operation::Fail(7),
-        Operation::Add,
-    ];
-    check_row(rt, &rows[0], 1, &adding);
-    check_row(rt, &rows[1], 4_294_967_295, &[]);
-    check_row(rt, &rows[2], 1, &[Operation::Ignore]);
+    assert!(rt; rows.len() == 3);
+    assert!(rt; is_row(&rows[0], 1, &ADDING));
+    assert!(rt; is_row(&rows[1], 4_294_967_295, &[]));
+    assert!(rt; is_row(&rows[2], 1, &[Operation::Ignore]));
 }
 
-/// Sees to it that a script does nothing but this at the end of another.
-fn check_idle<R: Abort>(rt: &R, script: &Script, expected: Option<&[Operation]>) {
+/// Whether a script does nothing but this at the end of another.
+fn is_idle(script: &Script, expected: Option<&[Operation]>) -> bool {
     let hooks = script.hooks();
-    assert_eq!(rt; script.state(), 0);
-    assert_eq!(rt; script.rows().len(), 0);
-    does(rt, &hooks.start, &[]);
-    does(rt, &hooks.restart, &[]);
-    does(rt, &hooks.stop, &[]);
-    ends(rt, &hooks.terminated, expected);
+    script.state() == 0
+        && script.rows().is_empty()
+        && hooks.start.is_empty()
+        && hooks.restart.is_empty()
+        && hooks.stop.is_empty()
+        && ends(&hooks.terminated, expected)
 }
 
 /// Checks what is read of the scripts.
 fn check_scripts<R: Abort>(rt: &R, scripts: &[Script]) {
-    assert_eq!(rt; scripts.len(), 4);
-    assert_eq!(rt; scripts[0].state(), -3);
+    assert!(rt; scripts.len() == 4);
+    assert!(rt; scripts[0].state() == -3);
     check_hooks(rt, scripts[0].hooks());
     check_rows(rt, scripts[0].rows());
-    check_idle(rt, &scripts[1], None);
-    check_idle(rt, &scripts[2], None);
-    check_idle(rt, &scripts[3], Some(&[]));
+    assert!(rt; is_idle(&scripts[1], None));
+    assert!(rt; is_idle(&scripts[2], None));
+    assert!(rt; is_idle(&scripts[3], Some(&[])));
 }
 
 /// What is sent.
-fn sent() -> [Sending; 6] {
-    let user = What::Envelope(Body::User { kind: 1, value: 4 });
-    let control = What::Envelope(Body::Control {
-        kind: 3,
-        value: i64::MIN,
-    });
-    let last = What::Envelope(Body::User { kind: 0, value: 0 });
-    [
-        as_sent(2, 2, user, 6),
-        as_sent(0, 1, control, 1),
-        as_sent(0, 1, What::Envelope(Body::PoisonPill), 1),
-        as_sent(1, 3, What::Envelope(Body::Kill), 100_000),
-        as_sent(0, 0, What::Stop, 1),
-        as_sent(0, 4, last, 1),
-    ]
-}
-
-fn as_sent(from: u32, to: u32, what: What, times: u32) -> Sending {
+const SENT: [Sending; 6] = [
     Sending {
-        from,
-        to: ActorId(to),
-        what,
-        times,
-    }
+        from: 2,
+        to: ActorId(2),
+        what: What::Envelope(Body::User { kind: 1, value: 4 }),
+        times: 6,
+    },
+    Sending {
+        from: 0,
+        to: ActorId(1),
+        what: What::Envelope(Body::Control {
+            kind: 3,
+            value: i64::MIN,
+        }),
+        times: 1,
+    },
+    Sending {
+        from: 0,
+        to: ActorId(1),
+        what: What::Envelope(Body::PoisonPill),
+        times: 1,
+    },
+    Sending {
+        from: 1,
+        to: ActorId(3),
+        what: What::Envelope(Body::Kill),
+        times: 100_000,
+    },
+    Sending {
+        from: 0,
+        to: ActorId(0),
+        what: What::Stop,
+        times: 1,
+    },
+    Sending {
+        from: 0,
+        to: ActorId(4),
+        what: What::Envelope(Body::User { kind: 0, value: 0 }),
+        times: 1,
+    },
+];
+
+/// Whether the plan has these numbers beside its actors: the throughput, the workers, the senders, the journals' limit.
+fn has_numbers(plan: &Plan, numbers: [u32; 4], pool: Pool) -> bool {
+    let found = [
+        plan.throughput,
+        plan.workers,
+        plan.senders,
+        plan.journal_limit,
+    ];
+    found.as_slice() == numbers.as_slice() && plan.pool == pool
 }
 
-/// Sees to it that the plan has these numbers beside its actors.
-fn check_numbers<R: Abort>(rt: &R, plan: &Plan, numbers: [u32; 4], pool: Pool) {
-    assert_eq!(rt; plan.throughput, numbers[0]);
-    assert_eq!(rt; plan.workers, numbers[1]);
-    assert_eq!(rt; plan.senders, numbers[2]);
-    assert_eq!(rt; plan.journal_limit, numbers[3]);
-    assert_eq!(rt; plan.pool, pool);
+/// Whether these are the names.
+fn are_named(names: &[String], expected: &[&str]) -> bool {
+    let mut is_same = names.len() == expected.len();
+    for (name, expected) in names.iter().zip(expected.iter()) {
+        is_same &= name.as_str() == *expected;
+    }
+    is_same
 }
 
 /// Checks all that is read of the document.
 pub(crate) fn check_whole<R: Abort>(rt: &R, scenario: &Scenario) {
-    assert_eq!(rt; scenario.quiet, false);
-    check_numbers(rt, &scenario.plan, [7, 16, 3, 9], Pool::Stealing);
+    assert!(rt; !scenario.quiet);
+    assert!(rt; has_numbers(&scenario.plan, [7, 16, 3, 9], Pool::Stealing));
     check_plans(rt, &scenario.plan.actors);
-    assert_eq!(rt; scenario.names.len(), 4);
-    for (name, expected) in scenario.names.iter().zip(["a", "b", "c", "d_1"].iter()) {
-        assert_eq!(rt; name.as_str(), *expected);
-    }
+    assert!(rt; are_named(&scenario.names, &["a", "b", "c", "d_1"]));
     check_scripts(rt, &scenario.scripts);
-    assert_eq!(rt; scenario.sends.as_slice(), sent().as_slice());
+    assert!(rt; scenario.sends.as_slice() == SENT.as_slice());
 }
 
 #[test]
@@ -307,29 +328,45 @@ fn reads_what_the_text_says(rt: HostRuntime) -> Result<(), Fail> {
 /// What stands for the keys that are not there.
 #[test]
 fn reads_the_defaults(rt: HostRuntime) -> Result<(), Fail> {
-    let empty = read(rt.alloc(), b"")?;
-    check_numbers(&rt, &empty.plan, [5, 1, 0, 4_294_967_295], Pool::Shared);
-    assert_eq!(rt; empty.quiet, false);
-    assert_eq!(rt; (empty.plan.actors.len(), empty.names.len()), (0, 0));
-    assert_eq!(rt; (empty.scripts.len(), empty.sends.len()), (0, 0));
-    let quiet = read(rt.alloc(), b"workers = 0")?;
-    assert_eq!(rt; quiet.quiet, true);
-    assert_eq!(rt; quiet.plan.workers, 1);
+    check_empty(&rt, &read(rt.alloc(), b"")?);
+    check_quiet(&rt, &read(rt.alloc(), b"workers = 0")?);
     Ok(())
+}
+
+fn check_empty<R: Abort>(rt: &R, empty: &Scenario) {
+    assert!(rt; has_numbers(&empty.plan, [5, 1, 0, 4_294_967_295], Pool::Shared));
+    assert!(rt; !empty.quiet);
+    assert!(rt; empty.plan.actors.is_empty() && empty.names.is_empty());
+    assert!(rt; empty.scripts.is_empty() && empty.sends.is_empty());
+}
+
+fn check_quiet<R: Abort>(rt: &R, quiet: &Scenario) {
+    assert!(rt; quiet.quiet);
+    assert!(rt; quiet.plan.workers == 1);
 }
 
 /// The same of an actor and of a send.
 #[test]
 fn reads_the_defaults_of_an_actor(rt: HostRuntime) -> Result<(), Fail> {
     let text = b"actor = [{ name = 'a', mailbox = 'priority' }]\nsend = [{ to = 'a', kind = 1 }]";
-    let one = read(rt.alloc(), text)?;
-    assert_eq!(rt; one.plan.senders, 1);
-    assert_eq!(rt; one.plan.actors.len(), 1);
-    check_actor(&rt, &one.plan.actors[0], 0, -1, false, &[]);
-    check_ranks(&rt, &one.plan.actors[0].mailbox, &[], 1);
-    assert_eq!(rt; one.scripts.len(), 1);
-    check_idle(&rt, &one.scripts[0], None);
-    let user = What::Envelope(Body::User { kind: 1, value: 0 });
-    assert_eq!(rt; one.sends.as_slice(), [as_sent(0, 1, user, 1)].as_slice());
+    check_one(&rt, &read(rt.alloc(), text)?);
     Ok(())
+}
+
+/// What is sent where its kind alone is said.
+const ONE: [Sending; 1] = [Sending {
+    from: 0,
+    to: ActorId(1),
+    what: What::Envelope(Body::User { kind: 1, value: 0 }),
+    times: 1,
+}];
+
+fn check_one<R: Abort>(rt: &R, one: &Scenario) {
+    assert!(rt; one.plan.senders == 1);
+    assert!(rt; one.plan.actors.len() == 1);
+    assert!(rt; is_planned(&one.plan.actors[0], 0, -1, false, &[]));
+    assert!(rt; goes_by(&one.plan.actors[0].mailbox, &[], 1));
+    assert!(rt; one.scripts.len() == 1);
+    assert!(rt; is_idle(&one.scripts[0], None));
+    assert!(rt; one.sends.as_slice() == ONE.as_slice());
 }
