@@ -1,6 +1,6 @@
 //! The tests of waking and sending from outside, with ample memory: what `register`, `pay`, `look`, `put`, `tell` and `stop`
-//! answer, and what stands then in the pool, among those that are owed a look, and in the sender's book. A story is text, a
-//! step and its answer in each line.
+//! answer, and what stands then in the pool, among those that are owed a look, and in the sender's book. A story is a
+//! table, a step with its answer in each row.
 #![tactic(auto)]
 
 #[cfg(test)]
@@ -17,5 +17,3 @@ mod seat;
 mod sending;
 #[cfg(test)]
 mod waking;
-#[cfg(test)]
-mod words;

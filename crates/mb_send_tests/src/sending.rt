@@ -1,156 +1,146 @@
 //! Looking, putting, telling and stopping.
 
-use crate::outside::Outside;
-use crate::words::{actor_of, became, letter, line_of, looked, small, stopped, truth};
-use mb_msg::{ActorId, Body};
-use mb_send::{Put, Ticket, Unsent};
+use crate::desk::{FIRST, GUARDIAN, NOBODY, SECOND};
+use crate::outside::{ME, Outside};
+use mb_msg::{ActorId, Body, DeadLetter, Envelope, Why};
+use mb_send::{Look, Put, Ticket, Unsent};
 use std::alloc::Global;
 use std::process::Abort;
 use std::sync::Wait;
 use std::test::Fail;
 
+/// A call, and its answer.
+#[derive(Clone, Copy)]
+enum Step {
+    /// Looks whether the receiver is open.
+    Look(ActorId, Result<Look, Unsent>),
+    /// Sends an envelope to the receiver.
+    Tell(ActorId, Result<Put, Unsent>),
+    /// Sends an envelope to the receiver of a ticket.
+    Put(ActorId, Result<Put, Unsent>),
+    /// Stops the actor.
+    Stop(ActorId, Result<bool, Unsent>),
+    /// Ends the actor.
+    Close(ActorId, bool),
+    /// How many envelopes are counted as waiting for the actor.
+    Waiting(ActorId, u64),
+    /// Whether there is system work for the actor.
+    HasSystem(ActorId, bool),
+    /// Whether the actor is owed a look.
+    Owes(ActorId, bool),
+    /// How many envelopes the sender was answered for.
+    Sent(u64),
+    /// The dead letter of this place in its book.
+    Dead(usize, Option<DeadLetter>),
+}
+
 const HELLO: Body = Body::User { kind: 1, value: 7 };
 
-const TOLD: &str = "
-Nothing goes to the guardian, or to nobody.
-look 0    = nobody
-look 3    = nobody
-tell 0    = nobody
-tell 3    = nobody
-stop 3    = nobody
-sent      = 0
-Envelopes are numbered over all receivers, and counted.
-look 1    = open
-tell 1    = queued 0
-tell 2    = queued 1
-put 1     = queued 2
-sent      = 3
-waiting 1 = 2
-waiting 2 = 1
-The pool has one place, in which the first one's claim lies.
-owes 1    = no
-owes 2    = yes
-What finds the queue full is a dead letter.
-tell 2    = queued 3
-tell 2    = dead 4 full
-tell 1    = queued 5
-first     = 4 to 2 full
-second    = none
-waiting 2 = 2
-";
+/// The envelope that found the second actor's queue full.
+const FULL: DeadLetter = DeadLetter {
+    envelope: Envelope {
+        by: ME,
+        to: SECOND,
+        number: 4,
+        body: HELLO,
+    },
+    why: Why::Full,
+};
 
-const ENDED: &str = "
-What is told to an ended actor is a dead letter.
-look 1    = open
-close 1   = yes
-look 1    = closed
-tell 1    = dead 0 closed
-first     = 0 to 1 closed
-tell 2    = queued 1
-waiting 1 = 0
-A ticket from before may be used still.
-put 1     = queued 2
-owes 1    = no
-An actor is told to stop, the guardian too, unless its list is ended.
-system 0  = no
-stop 0    = yes
-system 0  = yes
-owes 0    = yes
-stop 1    = no
-owes 1    = no
-";
+const TOLD: [Step; 21] = [
+    // Nothing goes to the guardian, or to nobody.
+    Step::Look(GUARDIAN, Err(Unsent::NoSuchActor)),
+    Step::Look(NOBODY, Err(Unsent::NoSuchActor)),
+    Step::Tell(GUARDIAN, Err(Unsent::NoSuchActor)),
+    Step::Tell(NOBODY, Err(Unsent::NoSuchActor)),
+    Step::Stop(NOBODY, Err(Unsent::NoSuchActor)),
+    Step::Sent(0),
+    // Envelopes are numbered over all receivers, and counted.
+    Step::Look(FIRST, Ok(Look::Open(Ticket { to: FIRST }))),
+    Step::Tell(FIRST, Ok(Put::Queued(0))),
+    Step::Tell(SECOND, Ok(Put::Queued(1))),
+    Step::Put(FIRST, Ok(Put::Queued(2))),
+    Step::Sent(3),
+    Step::Waiting(FIRST, 2),
+    Step::Waiting(SECOND, 1),
+    // The pool has one place, in which the first one's claim lies.
+    Step::Owes(FIRST, false),
+    Step::Owes(SECOND, true),
+    // What finds the queue full is a dead letter.
+    Step::Tell(SECOND, Ok(Put::Queued(3))),
+    Step::Tell(SECOND, Ok(Put::Dead(4, Why::Full))),
+    Step::Tell(FIRST, Ok(Put::Queued(5))),
+    Step::Dead(0, Some(FULL)),
+    Step::Dead(1, None),
+    Step::Waiting(SECOND, 2),
+];
 
-/// What the step answers.
-fn answer<R: Wait>(
-    rt: &R,
-    alloc: Global,
-    outside: &mut Outside,
-    step: &str,
-) -> Result<String, Fail> {
-    let Some((name, number)) = step.split_once(' ') else {
-        return of_the_book(alloc, outside, step);
-    };
-    let id = actor_of(number)?;
-    match word_of(rt, outside, name, id) {
-        Some(word) => Ok(String::from_str(alloc, word)?),
-        None => Ok(became(alloc, send(rt, outside, name, id)?)?),
-    }
-}
+/// The envelope that found the first actor ended.
+const CLOSED: DeadLetter = DeadLetter {
+    envelope: Envelope {
+        by: ME,
+        to: FIRST,
+        number: 0,
+        body: HELLO,
+    },
+    why: Why::Closed,
+};
 
-/// What the sender's book says.
-fn of_the_book(alloc: Global, outside: &Outside, name: &str) -> Result<String, Fail> {
-    let letter_at = match name {
-        "first" => 0,
-        "second" => 1,
-        _ => return Ok(String::from_str(alloc, small(outside.sent()))?),
-    };
-    Ok(letter(alloc, outside.dead(letter_at))?)
-}
+const ENDED: [Step; 15] = [
+    // What is told to an ended actor is a dead letter.
+    Step::Look(FIRST, Ok(Look::Open(Ticket { to: FIRST }))),
+    Step::Close(FIRST, true),
+    Step::Look(FIRST, Ok(Look::Closed)),
+    Step::Tell(FIRST, Ok(Put::Dead(0, Why::Closed))),
+    Step::Dead(0, Some(CLOSED)),
+    Step::Tell(SECOND, Ok(Put::Queued(1))),
+    Step::Waiting(FIRST, 0),
+    // A ticket from before may be used still.
+    Step::Put(FIRST, Ok(Put::Queued(2))),
+    Step::Owes(FIRST, false),
+    // An actor is told to stop, the guardian too, unless its list is ended.
+    Step::HasSystem(GUARDIAN, false),
+    Step::Stop(GUARDIAN, Ok(true)),
+    Step::HasSystem(GUARDIAN, true),
+    Step::Owes(GUARDIAN, true),
+    Step::Stop(FIRST, Ok(false)),
+    Step::Owes(FIRST, false),
+];
 
-/// What a step at this actor answers that sends no envelope.
-fn word_of<R: Wait>(
-    rt: &R,
-    outside: &mut Outside,
-    name: &str,
-    id: ActorId,
-) -> Option<&'static str> {
-    match name {
-        "look" => Some(looked(outside.look(id))),
-        "stop" => Some(stopped(outside.stop(rt, id))),
-        _ => state_of(rt, outside, name, id),
-    }
-}
-
-/// What there is at this actor; `close` ends it.
-fn state_of<R: Wait>(
-    rt: &R,
-    outside: &mut Outside,
-    name: &str,
-    id: ActorId,
-) -> Option<&'static str> {
-    if id.0 > 2 {
-        return None;
-    }
-    match name {
-        "close" => Some(truth(outside.close(rt, id))),
-        "waiting" => Some(small(outside.waiting(id))),
-        "system" => Some(truth(outside.has_system(id))),
-        "owes" => Some(truth(outside.owes(id))),
-        _ => None,
-    }
-}
-
-/// Sends an envelope.
-fn send<R: Wait>(
-    rt: &R,
-    outside: &mut Outside,
-    name: &str,
-    to: ActorId,
-) -> Result<Result<Put, Unsent>, Fail> {
-    if name == "tell" {
-        return Ok(outside.tell(rt, to, HELLO));
-    }
-    if name != "put" || to.0 == 0 || to.0 > 2 {
-        return Err(Fail::from("no such step"));
-    }
-    Ok(outside.put(rt, Ticket { to }, HELLO))
-}
-
-/// Tries each step of a story, from three actors with nothing to do.
-fn try_each<R: Abort + Wait>(rt: &R, alloc: Global, story: &str) -> Result<(), Fail> {
-    let mut outside = Outside::new(alloc)?;
-    for line in story.lines() {
-        if let Some((step, expected)) = line_of(line) {
-            let answer = answer(rt, alloc, &mut outside, step)?;
-            assert!(rt; answer.as_str() == expected, "{line}");
+/// Whether the call of the step has its answer.
+fn answers<R: Wait>(rt: &R, outside: &mut Outside, step: Step) -> bool {
+    match step {
+        Step::Look(to, seen) => outside.look(to) == seen,
+        Step::Tell(to, put) => outside.tell(rt, to, HELLO) == put,
+        Step::Put(to, put) => {
+            0 < to.0 && to.0 < 3 && outside.put(rt, Ticket { to }, HELLO) == put
         }
+        Step::Stop(id, is_listed) => outside.stop(rt, id) == is_listed,
+        Step::Sent(count) => outside.sent() == count,
+        Step::Dead(place, letter) => outside.dead(place) == letter,
+        Step::Close(id, is_done) => id.0 < 3 && outside.close(rt, id) == is_done,
+        Step::Waiting(id, count) => id.0 < 3 && outside.waiting(id) == count,
+        Step::HasSystem(id, is_there) => id.0 < 3 && outside.has_system(id) == is_there,
+        Step::Owes(id, is_owed) => id.0 < 3 && outside.owes(id) == is_owed,
     }
+}
+
+/// Tries each step of a story.
+fn play<R: Abort + Wait>(rt: &R, outside: &mut Outside, story: &[Step]) {
+    for &step in story {
+        assert!(rt; answers(rt, outside, step));
+    }
+}
+
+/// The same from three actors with nothing to do.
+fn try_each<R: Abort + Wait>(rt: &R, alloc: Global, story: &[Step]) -> Result<(), Fail> {
+    let mut outside = Outside::new(alloc)?;
+    play(rt, &mut outside, story);
     Ok(())
 }
 
 #[test]
 fn each_sending_answers_as_the_stories_say(rt: HostRuntime) -> Result<(), Fail> {
-    let alloc = rt.alloc();
-    try_each(&rt, alloc, TOLD)?;
-    try_each(&rt, alloc, ENDED)
+    try_each(&rt, rt.alloc(), &TOLD)?;
+    try_each(&rt, rt.alloc(), &ENDED)
 }

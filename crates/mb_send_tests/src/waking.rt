@@ -1,106 +1,129 @@
 //! Waking, and paying what is owed.
 
+ghost use Rattle.std.specs.Prelude.{◌<◌};
+
 use crate::awake::Awake;
-use crate::words::{actor_of, line_of, number_of, truth};
+use crate::desk::{FIRST, GUARDIAN, SECOND};
+use mb_msg::ActorId;
 use std::alloc::Global;
 use std::process::Abort;
 use std::sync::Wait;
 use std::test::Fail;
 
-const WOKEN: &str = "
-An actor with nothing to do does not go to the pool.
-register 1          = no
-owed                = nobody
-take                = nobody
-One with envelopes does, once.
-count 1             = done
-register 1          = yes
-register 1          = no
-owed                = nobody
-take                = 1
-A hint spares the look.
-register 0 system   = yes
-take                = 0
-";
-
-const REFUSED: &str = "
-Whose claim the pool refuses is owed a look, until that is paid.
-register 2 messages = yes
-count 0             = done
-register 0          = no
-owes 0              = yes
-owes 2              = no
-pay                 = unpaid
-owes 0              = yes
-take                = 2
-pay                 = paid
-owed                = nobody
-take                = 0
-";
-
-const PAID: &str = "
-Who has nothing to do is paid by a look.
-register 1 messages = yes
-register 2 messages = no
-owes 2              = yes
-take                = 1
-pay                 = paid
-owed                = nobody
-take                = nobody
-";
-
-/// What the step answers.
-fn answer<R: Wait>(rt: &R, awake: &mut Awake, step: &str) -> Result<&'static str, Fail> {
-    Ok(match step {
-        "owed" => if awake.owes_nobody() {
-            "nobody"
-        } else {
-            "some"
-        },
-        "pay" => if awake.pay(rt).is_ok() {
-            "paid"
-        } else {
-            "unpaid"
-        },
-        "take" => awake.take().map_or("nobody", number_of),
-        _ => answer_at(rt, awake, step)?,
-    })
+/// What the caller knows that waits for the actor.
+#[derive(Clone, Copy)]
+enum Hint {
+    Nothing,
+    Messages,
+    System,
 }
 
-/// What the step at one actor answers.
-fn answer_at<R: Wait>(rt: &R, awake: &mut Awake, step: &str) -> Result<&'static str, Fail> {
-    let (name, rest) = step.split_once(' ').ok_or("no actor")?;
-    let (number, hint) = rest.split_once(' ').unwrap_or((rest, ""));
-    let id = actor_of(number)?;
-    if id.0 > 2 {
-        return Err(Fail::from("nobody"));
-    }
-    Ok(match name {
-        "count" => {
-            awake.note_sent(id);
-            "done"
+/// A call, and its answer.
+#[derive(Clone, Copy)]
+enum Step {
+    /// Wakes the actor: whether its claim went to the pool.
+    Register(ActorId, Hint, bool),
+    /// Counts an envelope to the actor.
+    Count(ActorId),
+    /// Whether the actor is owed a look.
+    Owes(ActorId, bool),
+    /// Whether nobody is.
+    OwesNobody(bool),
+    /// Looks again after each actor that is owed a look: whether none is then.
+    Pay(bool),
+    /// Takes the claim out of the pool: the actor that it was of.
+    Take(Option<ActorId>),
+}
+
+const WOKEN: [Step; 10] = [
+    // An actor with nothing to do does not go to the pool.
+    Step::Register(FIRST, Hint::Nothing, false),
+    Step::OwesNobody(true),
+    Step::Take(None),
+    // One with envelopes does, once.
+    Step::Count(FIRST),
+    Step::Register(FIRST, Hint::Nothing, true),
+    Step::Register(FIRST, Hint::Nothing, false),
+    Step::OwesNobody(true),
+    Step::Take(Some(FIRST)),
+    // A hint spares the look.
+    Step::Register(GUARDIAN, Hint::System, true),
+    Step::Take(Some(GUARDIAN)),
+];
+
+const REFUSED: [Step; 11] = [
+    // Whose claim the pool refuses is owed a look, until that is paid.
+    Step::Register(SECOND, Hint::Messages, true),
+    Step::Count(GUARDIAN),
+    Step::Register(GUARDIAN, Hint::Nothing, false),
+    Step::Owes(GUARDIAN, true),
+    Step::Owes(SECOND, false),
+    Step::Pay(false),
+    Step::Owes(GUARDIAN, true),
+    Step::Take(Some(SECOND)),
+    Step::Pay(true),
+    Step::OwesNobody(true),
+    Step::Take(Some(GUARDIAN)),
+];
+
+const PAID: [Step; 7] = [
+    // Who has nothing to do is paid by a look.
+    Step::Register(FIRST, Hint::Messages, true),
+    Step::Register(SECOND, Hint::Messages, false),
+    Step::Owes(SECOND, true),
+    Step::Take(Some(FIRST)),
+    Step::Pay(true),
+    Step::OwesNobody(true),
+    Step::Take(None),
+];
+
+/// Whether the call of the step has its answer.
+fn answers<R: Wait>(rt: &R, awake: &mut Awake, step: Step) -> bool {
+    match step {
+        Step::Register(id, hint, is_pushed) => {
+            id.0 < 3 && register(rt, awake, id, hint) == is_pushed
         }
-        "owes" => truth(awake.owes(id)),
-        "register" => truth(awake.register(rt, id, hint == "messages", hint == "system")),
-        _ => return Err(Fail::from("no such step")),
-    })
+        Step::Count(id) => count(awake, id),
+        Step::Owes(id, is_owed) => id.0 < 3 && awake.owes(id) == is_owed,
+        Step::OwesNobody(is_so) => awake.owes_nobody() == is_so,
+        Step::Pay(is_paid) => awake.pay(rt).is_ok() == is_paid,
+        Step::Take(id) => awake.take() == id,
+    }
 }
 
-/// Tries each step of a story, from three actors with nothing to do.
-fn try_each<R: Abort + Wait>(rt: &R, alloc: Global, story: &str) -> Result<(), Fail> {
+fn register<R: Wait>(rt: &R, awake: &mut Awake, id: ActorId, hint: Hint) -> bool
+    requires there { id.0 < 3 }
+{
+    let messages = matches!(hint, Hint::Messages);
+    let system = matches!(hint, Hint::System);
+    awake.register(rt, id, messages, system)
+}
+
+/// Counts an envelope, if there is such an actor: whether there is.
+fn count(awake: &mut Awake, id: ActorId) -> bool {
+    if id.0 < 3 {
+        awake.note_sent(id);
+    }
+    id.0 < 3
+}
+
+/// Tries each step of a story.
+fn play<R: Abort + Wait>(rt: &R, awake: &mut Awake, story: &[Step]) {
+    for &step in story {
+        assert!(rt; answers(rt, awake, step));
+    }
+}
+
+/// The same from three actors with nothing to do.
+fn try_each<R: Abort + Wait>(rt: &R, alloc: Global, story: &[Step]) -> Result<(), Fail> {
     let mut awake = Awake::new(alloc)?;
-    for line in story.lines() {
-        if let Some((step, expected)) = line_of(line) {
-            assert!(rt; answer(rt, &mut awake, step)? == expected, "{line}");
-        }
-    }
+    play(rt, &mut awake, story);
     Ok(())
 }
 
 #[test]
 fn each_waking_answers_as_the_stories_say(rt: HostRuntime) -> Result<(), Fail> {
-    let alloc = rt.alloc();
-    try_each(&rt, alloc, WOKEN)?;
-    try_each(&rt, alloc, REFUSED)?;
-    try_each(&rt, alloc, PAID)
+    try_each(&rt, rt.alloc(), &WOKEN)?;
+    try_each(&rt, rt.alloc(), &REFUSED)?;
+    try_each(&rt, rt.alloc(), &PAID)
 }
