@@ -2,7 +2,7 @@
 ghost use Rattle.std.specs.Prelude.{◌≡◌, ◌<◌};
 ghost use Rattle.mb_gate.specs.Names.{gates_id, pass_id, actors_of};
 
-use crate::gates::desk::Desk;
+use crate::gates::desk::{Desk, attempt, give};
 use crate::gates::held::{drains, goes_round};
 use crate::gates::shown::{Figure, TURNS};
 use crate::times::{ROUNDS, Times};
