@@ -5,9 +5,10 @@ ghost use Rattle.mb_gate.specs.Untouched.{origin_of};
 
 use crate::desk::{Desk, gates_of_three};
 use crate::seat::Seat;
+use crate::waking::{Hint, Step};
 use mb_gate::Gates;
 use mb_msg::ActorId;
-use mb_wake::{Owed, Unpaid, Waker};
+use mb_wake::{Owed, Waker};
 use std::alloc::Global;
 use std::sync::Wait;
 use std::test::Fail;
@@ -45,39 +46,28 @@ impl Awake {
         Ok(Awake { gates, waker })
     }
 
-    /// Counts an envelope to the actor.
-    pub fn note_sent(&mut self, id: ActorId)
-        requires there { id.0 < 3 }
-    {
-        self.gates.note_sent(&mut self.waker.pass, id);
+    /// Whether the call of the step has its answer.
+    pub fn answers<R: Wait>(&mut self, rt: &R, step: Step) -> bool {
+        match step {
+            Step::Register(actor, hint, is_pushed) => {
+                let messages = matches!(hint, Hint::Messages);
+                let system = matches!(hint, Hint::System);
+                self.register(rt, actor.id(), messages, system) == is_pushed
+            }
+            Step::Count(actor) => {
+                self.gates.note_sent(&mut self.waker.pass, actor.id());
+                true
+            }
+            Step::Owes(actor, is_owed) => self.waker.owed.contains(actor.id()) == is_owed,
+            Step::OwesNobody(is_so) => self.waker.owed.is_empty() == is_so,
+            Step::Pay(is_paid) => self.waker.pay(rt, &self.gates).is_ok() == is_paid,
+            Step::Take(id) => self.waker.way.take() == id,
+        }
     }
 
-    /// Wakes the actor, and answers whether its claim went to the pool.
-    pub fn register<R: Wait>(&mut self, rt: &R, id: ActorId, messages: bool, system: bool) -> bool
+    fn register<R: Wait>(&mut self, rt: &R, id: ActorId, messages: bool, system: bool) -> bool
         requires there { id.0 < 3 }
     {
         self.waker.register(rt, &self.gates, id, messages, system)
-    }
-
-    /// Looks again after each actor that is owed a look.
-    pub fn pay<R: Wait>(&mut self, rt: &R) -> Result<(), Unpaid> {
-        self.waker.pay(rt, &self.gates)
-    }
-
-    /// Whether the actor is owed a look.
-    pub fn owes(&self, id: ActorId) -> bool
-        requires there { id.0 < 3 }
-    {
-        self.waker.owed.contains(id)
-    }
-
-    /// Whether nobody is.
-    pub fn owes_nobody(&self) -> bool {
-        self.waker.owed.is_empty()
-    }
-
-    /// Takes the claim out of the pool and gives it up: the actor that it was of.
-    pub fn take(&mut self) -> Option<ActorId> {
-        self.waker.way.take()
     }
 }

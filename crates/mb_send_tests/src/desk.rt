@@ -1,5 +1,5 @@
 //! A stand-in for a home, and the gates of three.
-ghost use Rattle.std.specs.Prelude.{◌≡◌, false, IfOk};
+ghost use Rattle.std.specs.Prelude.{◌≡◌, ◌<◌, false, IfOk};
 ghost use Rattle.mb_gate.specs.Names.{gates_id, pass_id, actors_of};
 
 use mb_gate::{Gates, Pass, Resident};
@@ -16,6 +16,27 @@ pub const FIRST: ActorId = ActorId(1);
 pub const SECOND: ActorId = ActorId(2);
 
 pub const NOBODY: ActorId = ActorId(3);
+
+/// One of the three actors.
+#[derive(Clone, Copy)]
+pub enum Actor {
+    Guardian,
+    First,
+    Second,
+}
+
+impl Actor {
+    /// Its number.
+    pub fn id(self) -> ActorId
+        ensures there { result.0 < 3 }
+    {
+        match self {
+            Actor::Guardian => GUARDIAN,
+            Actor::First => FIRST,
+            Actor::Second => SECOND,
+        }
+    }
+}
 
 /// A status that is neither suspended nor scheduled; its journal stays empty.
 #[derive(Drop)]

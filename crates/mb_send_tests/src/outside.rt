@@ -1,5 +1,5 @@
 //! The gates of three actors with a sender, whose calls ask for nothing: that they fit stands in the type.
-ghost use Rattle.std.specs.Prelude.{◌≡◌, ◌<◌, [], vec_len, IfOk};
+ghost use Rattle.std.specs.Prelude.{◌≡◌, [], vec_len, IfOk};
 ghost use Rattle.mb_gate.specs.Names.{gates_id, pass_id, actors_of};
 ghost use Rattle.mb_gate.specs.Untouched.{origin_of};
 ghost use Rattle.mb_queue.specs.Made.{IsMakeable};
@@ -7,10 +7,11 @@ ghost use Rattle.mb_queue.specs.Made.{IsMakeable};
 use crate::closing::close;
 use crate::desk::{Desk, FIRST, SECOND, gates_of_three};
 use crate::seat::Seat;
+use crate::sending::{HELLO, Step};
 use mb_gate::{Gates, Pass};
-use mb_msg::{ActorId, Body, DeadLetter, SenderId};
+use mb_msg::{ActorId, SenderId};
 use mb_queue::{Kind, MailQueue, SendPass};
-use mb_send::{Look, Put, Sender, Ticket, Unsent};
+use mb_send::{Sender, Ticket};
 use mb_wake::{Owed, Waker};
 use std::alloc::Global;
 use std::sync::Wait;
@@ -85,63 +86,28 @@ impl Outside {
         })
     }
 
-    /// Looks whether the receiver is open.
-    pub fn look(&mut self, to: ActorId) -> Result<Look, Unsent> {
-        self.sender.look(&self.gates, to)
-    }
-
-    /// Sends a body to the receiver of the ticket.
-    pub fn put<R: Wait>(&mut self, rt: &R, ticket: Ticket, body: Body) -> Result<Put, Unsent>
-        requires there { (0 < ticket.to.0) × (ticket.to.0 < 3) }
-    {
-        self.sender.put(rt, &self.gates, ticket, body)
-    }
-
-    /// Sends a body to the receiver.
-    pub fn tell<R: Wait>(&mut self, rt: &R, to: ActorId, body: Body) -> Result<Put, Unsent> {
-        self.sender.tell(rt, &self.gates, to, body)
-    }
-
-    /// Stops the actor.
-    pub fn stop<R: Wait>(&mut self, rt: &R, id: ActorId) -> Result<bool, Unsent> {
-        self.sender.stop(rt, &self.gates, id)
-    }
-
-    /// Ends the actor, where it is not held, and answers whether it did.
-    pub fn close<R: Wait>(&mut self, rt: &R, id: ActorId) -> bool
-        requires there { id.0 < 3 }
-    {
-        close(rt, &self.gates, &mut self.other, id)
-    }
-
-    /// How many envelopes are counted as waiting for the actor.
-    pub fn waiting(&mut self, id: ActorId) -> u64
-        requires there { id.0 < 3 }
-    {
-        self.gates.waiting(&mut self.other, id)
-    }
-
-    /// Whether there is system work for the actor.
-    pub fn has_system(&mut self, id: ActorId) -> bool
-        requires there { id.0 < 3 }
-    {
-        self.gates.has_system(&mut self.other, id)
-    }
-
-    /// How many envelopes the sender was answered for.
-    pub fn sent(&self) -> u64 {
-        self.sender.book.sent
-    }
-
-    /// The dead letter of this place in its book.
-    pub fn dead(&self, place: usize) -> Option<DeadLetter> {
-        self.sender.book.dead.get(place).copied()
-    }
-
-    /// Whether it owes the actor a look.
-    pub fn owes(&self, id: ActorId) -> bool
-        requires there { id.0 < 3 }
-    {
-        self.sender.waker.owed.contains(id)
+    /// Whether the call of the step has its answer.
+    pub fn answers<R: Wait>(&mut self, rt: &R, step: Step) -> bool {
+        match step {
+            Step::Look(to, seen) => self.sender.look(&self.gates, to) == seen,
+            Step::Tell(to, put) => self.sender.tell(rt, &self.gates, to, HELLO) == put,
+            Step::PutFirst(put) => {
+                let ticket = Ticket { to: FIRST };
+                self.sender.put(rt, &self.gates, ticket, HELLO) == put
+            }
+            Step::Stop(id, is_listed) => self.sender.stop(rt, &self.gates, id) == is_listed,
+            Step::Close(actor, is_done) => {
+                close(rt, &self.gates, &mut self.other, actor.id()) == is_done
+            }
+            Step::Waiting(actor, count) => {
+                self.gates.waiting(&mut self.other, actor.id()) == count
+            }
+            Step::HasSystem(actor, is_there) => {
+                self.gates.has_system(&mut self.other, actor.id()) == is_there
+            }
+            Step::Owes(actor, is_owed) => { self.sender.waker.owed.contains(actor.id()) == is_owed }
+            Step::Sent(count) => self.sender.book.sent == count,
+            Step::Dead(place, letter) => self.sender.book.dead.get(place).copied() == letter,
+        }
     }
 }

@@ -1,6 +1,6 @@
 //! Looking, putting, telling and stopping.
 
-use crate::desk::{FIRST, GUARDIAN, NOBODY, SECOND};
+use crate::desk::{Actor, FIRST, GUARDIAN, NOBODY, SECOND};
 use crate::outside::{ME, Outside};
 use mb_msg::{ActorId, Body, DeadLetter, Envelope, Why};
 use mb_send::{Look, Put, Ticket, Unsent};
@@ -11,30 +11,31 @@ use std::test::Fail;
 
 /// A call, and its answer.
 #[derive(Clone, Copy)]
-enum Step {
+pub enum Step {
     /// Looks whether the receiver is open.
     Look(ActorId, Result<Look, Unsent>),
     /// Sends an envelope to the receiver.
     Tell(ActorId, Result<Put, Unsent>),
-    /// Sends an envelope to the receiver of a ticket.
-    Put(ActorId, Result<Put, Unsent>),
+    /// Sends an envelope to the first actor, by a ticket.
+    PutFirst(Result<Put, Unsent>),
     /// Stops the actor.
     Stop(ActorId, Result<bool, Unsent>),
-    /// Ends the actor.
-    Close(ActorId, bool),
+    /// Ends the actor, where it is not held: whether it is.
+    Close(Actor, bool),
     /// How many envelopes are counted as waiting for the actor.
-    Waiting(ActorId, u64),
+    Waiting(Actor, u64),
     /// Whether there is system work for the actor.
-    HasSystem(ActorId, bool),
+    HasSystem(Actor, bool),
     /// Whether the actor is owed a look.
-    Owes(ActorId, bool),
+    Owes(Actor, bool),
     /// How many envelopes the sender was answered for.
     Sent(u64),
     /// The dead letter of this place in its book.
     Dead(usize, Option<DeadLetter>),
 }
 
-const HELLO: Body = Body::User { kind: 1, value: 7 };
+/// What is sent.
+pub const HELLO: Body = Body::User { kind: 1, value: 7 };
 
 /// The envelope that found the second actor's queue full.
 const FULL: DeadLetter = DeadLetter {
@@ -59,20 +60,20 @@ const TOLD: [Step; 21] = [
     Step::Look(FIRST, Ok(Look::Open(Ticket { to: FIRST }))),
     Step::Tell(FIRST, Ok(Put::Queued(0))),
     Step::Tell(SECOND, Ok(Put::Queued(1))),
-    Step::Put(FIRST, Ok(Put::Queued(2))),
+    Step::PutFirst(Ok(Put::Queued(2))),
     Step::Sent(3),
-    Step::Waiting(FIRST, 2),
-    Step::Waiting(SECOND, 1),
+    Step::Waiting(Actor::First, 2),
+    Step::Waiting(Actor::Second, 1),
     // The pool has one place, in which the first one's claim lies.
-    Step::Owes(FIRST, false),
-    Step::Owes(SECOND, true),
+    Step::Owes(Actor::First, false),
+    Step::Owes(Actor::Second, true),
     // What finds the queue full is a dead letter.
     Step::Tell(SECOND, Ok(Put::Queued(3))),
     Step::Tell(SECOND, Ok(Put::Dead(4, Why::Full))),
     Step::Tell(FIRST, Ok(Put::Queued(5))),
     Step::Dead(0, Some(FULL)),
     Step::Dead(1, None),
-    Step::Waiting(SECOND, 2),
+    Step::Waiting(Actor::Second, 2),
 ];
 
 /// The envelope that found the first actor ended.
@@ -89,46 +90,28 @@ const CLOSED: DeadLetter = DeadLetter {
 const ENDED: [Step; 15] = [
     // What is told to an ended actor is a dead letter.
     Step::Look(FIRST, Ok(Look::Open(Ticket { to: FIRST }))),
-    Step::Close(FIRST, true),
+    Step::Close(Actor::First, true),
     Step::Look(FIRST, Ok(Look::Closed)),
     Step::Tell(FIRST, Ok(Put::Dead(0, Why::Closed))),
     Step::Dead(0, Some(CLOSED)),
     Step::Tell(SECOND, Ok(Put::Queued(1))),
-    Step::Waiting(FIRST, 0),
+    Step::Waiting(Actor::First, 0),
     // A ticket from before may be used still.
-    Step::Put(FIRST, Ok(Put::Queued(2))),
-    Step::Owes(FIRST, false),
+    Step::PutFirst(Ok(Put::Queued(2))),
+    Step::Owes(Actor::First, false),
     // An actor is told to stop, the guardian too, unless its list is ended.
-    Step::HasSystem(GUARDIAN, false),
+    Step::HasSystem(Actor::Guardian, false),
     Step::Stop(GUARDIAN, Ok(true)),
-    Step::HasSystem(GUARDIAN, true),
-    Step::Owes(GUARDIAN, true),
+    Step::HasSystem(Actor::Guardian, true),
+    Step::Owes(Actor::Guardian, true),
     Step::Stop(FIRST, Ok(false)),
-    Step::Owes(FIRST, false),
+    Step::Owes(Actor::First, false),
 ];
-
-/// Whether the call of the step has its answer.
-fn answers<R: Wait>(rt: &R, outside: &mut Outside, step: Step) -> bool {
-    match step {
-        Step::Look(to, seen) => outside.look(to) == seen,
-        Step::Tell(to, put) => outside.tell(rt, to, HELLO) == put,
-        Step::Put(to, put) => {
-            0 < to.0 && to.0 < 3 && outside.put(rt, Ticket { to }, HELLO) == put
-        }
-        Step::Stop(id, is_listed) => outside.stop(rt, id) == is_listed,
-        Step::Sent(count) => outside.sent() == count,
-        Step::Dead(place, letter) => outside.dead(place) == letter,
-        Step::Close(id, is_done) => id.0 < 3 && outside.close(rt, id) == is_done,
-        Step::Waiting(id, count) => id.0 < 3 && outside.waiting(id) == count,
-        Step::HasSystem(id, is_there) => id.0 < 3 && outside.has_system(id) == is_there,
-        Step::Owes(id, is_owed) => id.0 < 3 && outside.owes(id) == is_owed,
-    }
-}
 
 /// Tries each step of a story.
 fn play<R: Abort + Wait>(rt: &R, outside: &mut Outside, story: &[Step]) {
     for &step in story {
-        assert!(rt; answers(rt, outside, step));
+        assert!(rt; outside.answers(rt, step));
     }
 }
 

@@ -1,9 +1,7 @@
 //! Waking, and paying what is owed.
 
-ghost use Rattle.std.specs.Prelude.{◌<◌};
-
 use crate::awake::Awake;
-use crate::desk::{FIRST, GUARDIAN, SECOND};
+use crate::desk::{Actor, FIRST, GUARDIAN, SECOND};
 use mb_msg::ActorId;
 use std::alloc::Global;
 use std::process::Abort;
@@ -12,7 +10,7 @@ use std::test::Fail;
 
 /// What the caller knows that waits for the actor.
 #[derive(Clone, Copy)]
-enum Hint {
+pub enum Hint {
     Nothing,
     Messages,
     System,
@@ -20,13 +18,13 @@ enum Hint {
 
 /// A call, and its answer.
 #[derive(Clone, Copy)]
-enum Step {
+pub enum Step {
     /// Wakes the actor: whether its claim went to the pool.
-    Register(ActorId, Hint, bool),
+    Register(Actor, Hint, bool),
     /// Counts an envelope to the actor.
-    Count(ActorId),
+    Count(Actor),
     /// Whether the actor is owed a look.
-    Owes(ActorId, bool),
+    Owes(Actor, bool),
     /// Whether nobody is.
     OwesNobody(bool),
     /// Looks again after each actor that is owed a look: whether none is then.
@@ -37,29 +35,29 @@ enum Step {
 
 const WOKEN: [Step; 10] = [
     // An actor with nothing to do does not go to the pool.
-    Step::Register(FIRST, Hint::Nothing, false),
+    Step::Register(Actor::First, Hint::Nothing, false),
     Step::OwesNobody(true),
     Step::Take(None),
     // One with envelopes does, once.
-    Step::Count(FIRST),
-    Step::Register(FIRST, Hint::Nothing, true),
-    Step::Register(FIRST, Hint::Nothing, false),
+    Step::Count(Actor::First),
+    Step::Register(Actor::First, Hint::Nothing, true),
+    Step::Register(Actor::First, Hint::Nothing, false),
     Step::OwesNobody(true),
     Step::Take(Some(FIRST)),
     // A hint spares the look.
-    Step::Register(GUARDIAN, Hint::System, true),
+    Step::Register(Actor::Guardian, Hint::System, true),
     Step::Take(Some(GUARDIAN)),
 ];
 
 const REFUSED: [Step; 11] = [
     // Whose claim the pool refuses is owed a look, until that is paid.
-    Step::Register(SECOND, Hint::Messages, true),
-    Step::Count(GUARDIAN),
-    Step::Register(GUARDIAN, Hint::Nothing, false),
-    Step::Owes(GUARDIAN, true),
-    Step::Owes(SECOND, false),
+    Step::Register(Actor::Second, Hint::Messages, true),
+    Step::Count(Actor::Guardian),
+    Step::Register(Actor::Guardian, Hint::Nothing, false),
+    Step::Owes(Actor::Guardian, true),
+    Step::Owes(Actor::Second, false),
     Step::Pay(false),
-    Step::Owes(GUARDIAN, true),
+    Step::Owes(Actor::Guardian, true),
     Step::Take(Some(SECOND)),
     Step::Pay(true),
     Step::OwesNobody(true),
@@ -68,49 +66,19 @@ const REFUSED: [Step; 11] = [
 
 const PAID: [Step; 7] = [
     // Who has nothing to do is paid by a look.
-    Step::Register(FIRST, Hint::Messages, true),
-    Step::Register(SECOND, Hint::Messages, false),
-    Step::Owes(SECOND, true),
+    Step::Register(Actor::First, Hint::Messages, true),
+    Step::Register(Actor::Second, Hint::Messages, false),
+    Step::Owes(Actor::Second, true),
     Step::Take(Some(FIRST)),
     Step::Pay(true),
     Step::OwesNobody(true),
     Step::Take(None),
 ];
 
-/// Whether the call of the step has its answer.
-fn answers<R: Wait>(rt: &R, awake: &mut Awake, step: Step) -> bool {
-    match step {
-        Step::Register(id, hint, is_pushed) => {
-            id.0 < 3 && register(rt, awake, id, hint) == is_pushed
-        }
-        Step::Count(id) => count(awake, id),
-        Step::Owes(id, is_owed) => id.0 < 3 && awake.owes(id) == is_owed,
-        Step::OwesNobody(is_so) => awake.owes_nobody() == is_so,
-        Step::Pay(is_paid) => awake.pay(rt).is_ok() == is_paid,
-        Step::Take(id) => awake.take() == id,
-    }
-}
-
-fn register<R: Wait>(rt: &R, awake: &mut Awake, id: ActorId, hint: Hint) -> bool
-    requires there { id.0 < 3 }
-{
-    let messages = matches!(hint, Hint::Messages);
-    let system = matches!(hint, Hint::System);
-    awake.register(rt, id, messages, system)
-}
-
-/// Counts an envelope, if there is such an actor: whether there is.
-fn count(awake: &mut Awake, id: ActorId) -> bool {
-    if id.0 < 3 {
-        awake.note_sent(id);
-    }
-    id.0 < 3
-}
-
 /// Tries each step of a story.
 fn play<R: Abort + Wait>(rt: &R, awake: &mut Awake, story: &[Step]) {
     for &step in story {
-        assert!(rt; answers(rt, awake, step));
+        assert!(rt; awake.answers(rt, step));
     }
 }
 
