@@ -3,8 +3,8 @@ ghost use Rattle.std.specs.Prelude.{◌<◌};
 
 use crate::pushed::Answer;
 use crate::scene::{Scene, made};
-use mb_gate::Resident;
 use mb_desk::Desk;
+use mb_gate::Resident;
 use mb_pool::Kind;
 use std::alloc::Global;
 use std::process::Abort;

@@ -31,11 +31,7 @@ pub struct Scene<H: Resident> {
 
 impl Scene<Desk> {
     /// So many actors that are not started, and a pool of this kind with three ends and a feed.
-    fn new(
-        alloc: Global,
-        actors: u32,
-        kind: Kind,
-    ) -> Result<Scene<Desk>, AllocError>
+    fn new(alloc: Global, actors: u32, kind: Kind) -> Result<Scene<Desk>, AllocError>
         requires { 0 < actors }
         ensures { IfOk result (λ scene. actors_of scene.gates ≡ actors) }
     {

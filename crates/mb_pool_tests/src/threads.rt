@@ -65,8 +65,9 @@ fn all_work<R: Threads + Wait + Sync>(
     let second = ends.pop()?;
     let first = ends.pop()?;
     let feed = feeds.pop()?;
-    let ((first, second), (third, feed)) =
-        four_work(rt, gates, pass, first, second, third, feed, moved);
+    let ((first, second), (third, feed)) = four_work(
+        rt, gates, pass, first, second, third, feed, moved,
+    );
     ends.push_reserved(first);
     ends.push_reserved(second);
     ends.push_reserved(third);
