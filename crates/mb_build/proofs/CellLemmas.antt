@@ -7,6 +7,7 @@ use Rattle.std.proofs.lemmas.List.Elements.{All-cons, All-nil}
 use Rattle.mb_msg.specs.declared.id.ActorId.{ActorId}
 use Rattle.mb_journal.specs.declared.strategy.Strategy.{Strategy}
 use Rattle.mb_cell.specs.Seen.{Seen}
+use Rattle.mb_plan.specs.declared.actor_plan.ActorPlan.{ActorPlan}
 use Rattle.mb_build.specs.Identities.{children_from, id, planned, planned_from}
 use Rattle.mb_build.specs.Unstarted.{unstarted}
 
@@ -35,13 +36,6 @@ children-below most number parent (p ∷ parents) le =
     below-if most (p.0 == parent) number (children_from (number + 1) parent parents) (omega (arith, le))
     (children-below most (number + 1) parent parents (omega (arith, le)))
 
--- the parent in this place, and those after it
-pub parent-there : (all : List ActorId) (number place next : ℕ) (p d : ActorId) → p ≡ get_or all (number - 1) d → number ≡ place + 1
-    → next ≡ place + 1 → place < length all → drop place all ≡ p ∷ drop next all
-parent-there all number place next p d is at after lt =
-    let here : place ≡ number - 1 = omega (arith, at) in
-    drop_more all place d lt ∙ ap (λ x. x ∷ drop (place + 1) all) (ap (λ n. get_or all n d) here ∙ sym is) ∙ ap (λ n. p ∷ drop n all) (sym after)
-
 -- a cell with its children
 pub cell-is : (actors limit : ℕ) (all : List ActorId) (number place : ℕ) (p : ActorId) (s : Strategy) (prepared : List ActorId) (c : Seen)
     → c ≡ unstarted (record (planned actors limit all number p s) { prepared = prepared }) → prepared ≡ children_from 1 number all → number ≡ place
@@ -50,19 +44,21 @@ cell-is actors limit all number place p s prepared c fresh are at =
     fresh ∙ ap (λ l. unstarted (record (planned actors limit all number p s) { prepared = l })) are
     ∙ ap (λ n. unstarted (planned actors limit all n p s)) at
 
+-- the cells of these plans, which are numbered on from this one
+abbrev pub cells_from : ℕ → ℕ → List ActorId → ℕ → List ActorPlan → List Seen
+cells_from actors limit all number plans =
+    map unstarted (planned_from actors limit all number (map (λ (a : ActorPlan). a.parent) plans) (map (λ (a : ActorPlan). a.strategy) plans))
+
 -- one cell more
-pub cell-more : (actors limit : ℕ) (all here there : List ActorId) (number number' : ℕ) (p : ActorId) (s : Strategy) (before after : List Strategy)
-    (old new : List Seen) (c : Seen) (whole : List Seen) → here ≡ p ∷ there → before ≡ s ∷ after → number' ≡ number + 1
-    → c ≡ unstarted (planned actors limit all number p s) → new ≡ old ++ c ∷ []
-    → old ++ map unstarted (planned_from actors limit all number here before) ≡ whole
-    → new ++ map unstarted (planned_from actors limit all number' there after) ≡ whole
-cell-more actors limit all here there number number' p s before after old new c whole front steps next is pushed so_far =
-    ap (λ l. l ++ map unstarted (planned_from actors limit all number' there after)) pushed
-    ∙ append_assoc old (c ∷ []) (map unstarted (planned_from actors limit all number' there after))
-    ∙ ap (λ n. old ++ c ∷ map unstarted (planned_from actors limit all n there after)) next
-    ∙ ap (λ x. old ++ x ∷ map unstarted (planned_from actors limit all (number + 1) there after)) is
-    ∙ ap (λ l. old ++ map unstarted (planned_from actors limit all number (p ∷ there) l)) (sym steps)
-    ∙ ap (λ l. old ++ map unstarted (planned_from actors limit all number l before)) (sym front) ∙ so_far
+pub cell-more : (actors limit : ℕ) (all : List ActorId) (number next : ℕ) (a : ActorPlan) (before after : List ActorPlan)
+    (old new whole : List Seen) → before ≡ a ∷ after → next ≡ number + 1
+    → new ≡ old ++ unstarted (planned actors limit all number a.parent a.strategy) ∷ [] → old ++ cells_from actors limit all number before ≡ whole
+    → new ++ cells_from actors limit all next after ≡ whole
+cell-more actors limit all number next a before after old new whole steps further pushed so_far =
+    let this = unstarted (planned actors limit all number a.parent a.strategy) in
+    ap (λ l. l ++ cells_from actors limit all next after) pushed ∙ append_assoc old (this ∷ []) (cells_from actors limit all next after)
+    ∙ ap (λ n. old ++ this ∷ cells_from actors limit all n after) further
+    ∙ ap (λ l. old ++ cells_from actors limit all number l) (sym steps) ∙ so_far
 
 -- there are as many as parents
 pub length-planned : (actors limit : ℕ) (all : List ActorId) (number : ℕ) (parents : List ActorId) (strategies : List Strategy)

@@ -1,5 +1,5 @@
 -- Homes that are made one by one.
-use Rattle.std.proofs.Common.{◌≡◌, ◌<◌, ℕ, suc, ◌+◌, List, [], ◌∷◌, ◌++◌, length, map, drop, sym, ap, ◌∙◌, subst, arith}
+use Rattle.std.proofs.Common.{◌≡◌, ◌<◌, ℕ, suc, ◌+◌, List, [], ◌∷◌, ◌++◌, length, map, drop, refl, sym, ap, ◌∙◌, subst, arith}
 use Rattle.std.proofs.lemmas.List.{drop-map, drop_at, length-append, length-map, map-append}
 use Rattle.mb_journal.specs.Identity.{Identity}
 use Rattle.mb_cell.specs.Seen.{Seen}
@@ -10,7 +10,7 @@ use Rattle.mb_home.specs.Steps.{at_first}
 use Rattle.mb_build.specs.Handed.{passes_of}
 use Rattle.mb_build.specs.Housed.{enrolled}
 use Rattle.mb_build.specs.Identities.{ArePlanned, IsPlanned}
-use Rattle.mb_build.specs.Made.{AreMade}
+use Rattle.mb_build.specs.Made.{AreAllMade, AreMade}
 use Rattle.mb_build.specs.Numbers.{numbers, sender_numbers}
 use Rattle.mb_build.specs.Unstarted.{unstarted}
 use Rattle.mb_build.proofs.NumberLemmas.{number-there}
@@ -28,12 +28,24 @@ unstarted-here (x ∷ done) cell rest are =
     let others : done ++ cell ∷ rest ≡ map unstarted (whose (done ++ cell ∷ rest)) = cc in
     unstarted-here done cell rest others
 
+-- the guardian's pass is the first
+pub all-made : (kinds : List Kind) (senders : List ℕ) (ways : List Taking) (rows : List (List Sending)) → AreAllMade kinds senders ways rows
+    → (guardian : Taking) × (takes : List Taking) × (ways ≡ guardian ∷ takes) × AreMade kinds senders guardian takes rows
+all-made kinds senders [] rows made = absurd made
+all-made kinds senders (guardian ∷ takes) rows made = (guardian, takes, refl, made)
+
 -- the actors of a system, with empty queues and unused passes
-module _ (cells : List Seen) (kinds : List Kind) (outside : ℕ) (guardian : Taking) (takes : List Taking) (rows : List (List Sending))
+module _ (cells : List Seen) (kinds : List Kind) (outside : ℕ) (ways : List Taking) (rows : List (List Sending))
     (unused : cells ≡ map unstarted (whose cells)) (planned : ArePlanned (length cells) 0 (whose cells)) (count : length cells ≡ length kinds + 1)
-    (made : AreMade kinds (sender_numbers (length cells) outside) guardian takes rows) where
-  pub passes-count : length (guardian ∷ takes) ≡ length cells
-  passes-count = let many = as-many kinds 1 (sender_numbers (length cells) outside) takes made.empty in omega (arith, many, count)
+    (made : AreAllMade kinds (sender_numbers (length cells) outside) ways rows) where
+  parts : (guardian : Taking) × (takes : List Taking) × (ways ≡ guardian ∷ takes)
+      × AreMade kinds (sender_numbers (length cells) outside) guardian takes rows
+  parts = all-made kinds (sender_numbers (length cells) outside) ways rows made
+
+  pub passes-count : length ways ≡ length cells
+  passes-count =
+      let many = as-many kinds 1 (sender_numbers (length cells) outside) parts.1 parts.3.empty in let whole = ap length parts.2 in
+      omega (arith, many, count, whole)
 
   -- one of them, in its place
   module _ (done : List Seen) (cell : Seen) (rest : List Seen) (place : ℕ) (all : done ++ cell ∷ rest ≡ cells) (at : place ≡ length done) where
@@ -56,29 +68,36 @@ module _ (cells : List Seen) (kinds : List Kind) (outside : ℕ) (guardian : Tak
         let sum = length-append done (cell ∷ rest) in let whole = ap length all in omega (arith, sum, whole, at)
 
     -- its passes stand in its place
-    pub rows-from : drop place rows ≡ passes_of takes place ∷ map (passes_of takes) (drop (suc place) (sender_numbers (length cells) outside))
+    pub rows-from : drop place rows ≡ passes_of parts.1 place ∷ map (passes_of parts.1) (drop (suc place) (sender_numbers (length cells) outside))
     rows-from =
         let sum : 0 + place ≡ place = omega arith in
-        ap (drop place) made.passes ∙ drop-map (passes_of takes) place (sender_numbers (length cells) outside)
-        ∙ ap (map (passes_of takes)) (number-there 0 (length cells) place (numbers 64 outside) place-in)
-        ∙ ap (λ n. passes_of takes n ∷ map (passes_of takes) (drop (suc place) (sender_numbers (length cells) outside))) sum
+        ap (drop place) parts.3.passes ∙ drop-map (passes_of parts.1) place (sender_numbers (length cells) outside)
+        ∙ ap (map (passes_of parts.1)) (number-there 0 (length cells) place (numbers 64 outside) place-in)
+        ∙ ap (λ n. passes_of parts.1 n ∷ map (passes_of parts.1) (drop (suc place) (sender_numbers (length cells) outside))) sum
 
     pub rows-left : drop place rows ≡ [] → ⊥
     rows-left none = let both = sym none ∙ rows-from in absurd (cc)
 
-    pub row-there : (row : List Sending) (more : List (List Sending)) → drop place rows ≡ row ∷ more → row ≡ passes_of takes place
-    row-there row more here = let both = sym here ∙ rows-from in cc
+    own-row : (row : List Sending) (more : List (List Sending)) → drop place rows ≡ row ∷ more → row ≡ passes_of parts.1 place
+    own-row row more here = let both = sym here ∙ rows-from in cc
 
-    module _ (t : Taking) (takes' : List Taking) (this : drop place (guardian ∷ takes) ≡ t ∷ takes') where
+    pub row-there : (row : List Sending) (more : List (List Sending)) → drop place rows ≡ row ∷ more → row ≡ passes_of (drop 1 ways) place
+    row-there row more here = own-row row more here ∙ sym (ap (λ l. passes_of (drop 1 l) place) parts.2)
+
+    module _ (t : Taking) (takes' : List Taking) (this : drop place ways ≡ t ∷ takes') where
+      here : drop place (parts.0 ∷ parts.1) ≡ t ∷ takes'
+      here = subst (λ l. drop place l ≡ t ∷ takes') parts.2 this
+
       pub pass-there : IsPassOf place t
-      pass-there = pass-of kinds (sender_numbers (length cells) outside) guardian takes rows place t takes' made this
+      pass-there = pass-of kinds (sender_numbers (length cells) outside) parts.0 parts.1 rows place t takes' parts.3 here
 
       -- and its home is its own
       pub own-there : (row : List Sending) (more : List (List Sending)) → drop place rows ≡ row ∷ more
-          → IsOwn (at_first cell t row 0 (enrolled (whose cells) (guardian ∷ takes)))
-      own-there row more here =
-          subst (λ l. IsOwn (at_first cell t l 0 (enrolled (whose cells) (guardian ∷ takes)))) (sym (row-there row more here))
-          (subst (λ x. IsOwn (at_first x t (passes_of takes place) 0 (enrolled (whose cells) (guardian ∷ takes)))) (sym unstarted-there)
-          (own-first kinds (sender_numbers (length cells) outside) guardian takes rows (whose cells) place cell.who t (whose rest) takes' made
-          (passes-count ∙ sym (length-map cells (λ (c : Seen). c.who)))
-          (subst (λ n. IsPlanned n place cell.who) (sym (length-map cells (λ (c : Seen). c.who))) planned-here) who-there this))
+          → IsOwn (at_first cell t row 0 (enrolled (whose cells) ways))
+      own-there row more there =
+          subst (λ w. IsOwn (at_first cell t row 0 (enrolled (whose cells) w))) (sym parts.2)
+          (subst (λ l. IsOwn (at_first cell t l 0 (enrolled (whose cells) (parts.0 ∷ parts.1)))) (sym (own-row row more there))
+          (subst (λ x. IsOwn (at_first x t (passes_of parts.1 place) 0 (enrolled (whose cells) (parts.0 ∷ parts.1)))) (sym unstarted-there)
+          (own-first kinds (sender_numbers (length cells) outside) parts.0 parts.1 rows (whose cells) place cell.who t (whose rest) takes' parts.3
+          (sym (ap length parts.2) ∙ passes-count ∙ sym (length-map cells (λ (c : Seen). c.who)))
+          (subst (λ n. IsPlanned n place cell.who) (sym (length-map cells (λ (c : Seen). c.who))) planned-here) who-there here)))

@@ -40,19 +40,12 @@ pub record AreOfPlans (limit : ℕ) (plans : List ActorPlan) (cells : List Seen)
   pub unused : cells ≡ map unstarted (whose cells)
   pub count : length cells ≡ length plans + 1
 
-pub cells-of : (limit : ℕ) (plans : List ActorPlan) (parents : List ActorId) (strategies : List Strategy) (cells : List Seen)
-    → parents ≡ map (λ a. a.parent) plans → strategies ≡ map (λ a. a.strategy) plans
-    → cells ≡ map unstarted (identities (length parents + 1) limit parents strategies) → AreOfPlans limit plans cells
-cells-of limit plans parents strategies cells heads lines are =
-    let many : length parents ≡ length plans = ap length heads ∙ length-map plans (λ (a : ActorPlan). a.parent) in
-    let these : cells ≡ map unstarted (who_of limit plans) =
-    are ∙ ap (λ n. map unstarted (identities (n + 1) limit parents strategies)) many
-    ∙ ap (λ l. map unstarted (identities (length plans + 1) limit l strategies)) heads
-    ∙ ap (λ l. map unstarted (identities (length plans + 1) limit (map (λ a. a.parent) plans) l)) lines in
-    let who : whose cells ≡ who_of limit plans = ap whose these ∙ whose-unstarted (who_of limit plans) in record {
+pub cells-of : (limit : ℕ) (plans : List ActorPlan) (cells : List Seen) → cells ≡ map unstarted (who_of limit plans) → AreOfPlans limit plans cells
+cells-of limit plans cells are =
+    let who : whose cells ≡ who_of limit plans = ap whose are ∙ whose-unstarted (who_of limit plans) in record {
       who = who;
-      unused = these ∙ ap (map unstarted) (sym who);
-      count = ap length these ∙ length-map (who_of limit plans) unstarted ∙ length-who limit plans;
+      unused = are ∙ ap (map unstarted) (sym who);
+      count = ap length are ∙ length-map (who_of limit plans) unstarted ∙ length-who limit plans;
     }
 
 pub planned-cells : (limit : ℕ) (plans : List ActorPlan) (cells : List Seen) → AreOfPlans limit plans cells → bad_parents 1 plans ≡ []

@@ -19,3 +19,8 @@ pub record AreMade (kinds : List Kind) (senders : List ℕ) (guardian : Taking) 
   pub nobody : IsEmpty Unbounded 0 [] guardian
   pub empty : AreEmpty kinds 1 senders takes
   pub passes : rows ≡ map (passes_of takes) senders
+
+-- so it is of these, where the guardian's is the first
+abbrev pub AreAllMade : List Kind → List ℕ → List Taking → List (List Sending) → Type 0
+AreAllMade kinds senders [] rows = ⊥
+AreAllMade kinds senders (guardian ∷ takes) rows = AreMade kinds senders guardian takes rows

@@ -1,67 +1,102 @@
 //! The actors' cells.
-ghost use Rattle.std.specs.Prelude.{◌≡◌, ◌+◌, ◌<◌, IfOk, length, map};
-ghost use Rattle.mb_build.specs.Behaved.{AreBehaved};
-ghost use Rattle.mb_build.specs.Identities.{children_from, guardian as guardian_of, identities};
+ghost use Rattle.std.specs.Prelude.{◌≡◌, ◌+◌, ◌++◌, ◌<◌, [], ◌∷◌, IfOk, length, map};
+ghost use Rattle.mb_build.specs.Behaved.{AreBehaved, IsBehaved};
+ghost use Rattle.mb_build.specs.Identities.{children_from, guardian as guardian_of, identities, planned, planned_from};
 ghost use Rattle.mb_build.specs.Unstarted.{unstarted};
 
+use crate::planned::parents_of;
 use mb_actor::{Actor, Behaviours};
 use mb_cell::Cell;
 use mb_journal::Strategy;
 use mb_msg::ActorId;
+use mb_plan::ActorPlan;
 use std::alloc::{AllocError, Global};
 
 /// The guardian's number.
 const GUARDIAN: ActorId = ActorId(0);
 
 /// The cells of the guardian and of these actors, in order, none of which is started yet: each with its parent, with the
-/// children that it may start, and with its strategy.
+/// children that it may start, and with its strategy, as they are planned.
 pub(crate) fn cells<A: Actor, K: Behaviours>(
     alloc: Global,
+    plans: Vec<ActorPlan>,
     actors: Vec<A>,
-    parents: &[ActorId],
-    strategies: Vec<Strategy>,
     journal_limit: u32,
 ) -> Result<Vec<Cell<A, K>>, AllocError>
-    requires few { length parents.now < 64 }
-    requires many { (length actors.items ≡ length parents.now) × (length strategies.items ≡ length parents.now) }
+    requires few { length plans.items < 64 }
+    requires many { length actors.items ≡ length plans.items }
     requires behaved { AreBehaved A.content A.after A.gives K.after K.gives 1 actors.items }
-    ensures { IfOk result (λ cells. cells.items
-        ≡ map unstarted (identities (length parents.now + 1) journal_limit parents.now strategies.items)) }
+    ensures { IfOk result (λ cells. cells.items ≡ map unstarted
+        (identities (length plans.items + 1) journal_limit (map (λ a. a.parent) plans.items) (map (λ a. a.strategy) plans.items))) }
 {
-    let count = parents.len() as u32 + 1;
+    let parents = parents_of(alloc, &plans)?;
     let mut cells = Vec::with_capacity(alloc, parents.len() + 1)?;
-    cells.push(guardian(alloc, count, parents, journal_limit)?)?;
-    let mut strategies = strategies.into_iter();
+    cells.push(guardian(alloc, &parents, journal_limit)?)?;
+    add_cells(alloc, &mut cells, plans, actors, &parents, journal_limit)?;
+    Ok(cells)
+}
+
+/// The cells of these actors, who have these parents, come after the guardian's.
+fn add_cells<A: Actor, K: Behaviours>(
+    alloc: Global,
+    cells: &mut Vec<Cell<A, K>>,
+    plans: Vec<ActorPlan>,
+    actors: Vec<A>,
+    parents: &[ActorId],
+    journal_limit: u32,
+) -> Result<(), AllocError>
+    requires few { (length cells.old.items ≡ 1) × (length parents.now < 64) }
+    requires many { (length plans.items ≡ length parents.now) × (length actors.items ≡ length parents.now) }
+    requires behaved { AreBehaved A.content A.after A.gives K.after K.gives 1 actors.items }
+    ensures { IfOk result (λ _. cells.new.items ≡ cells.old.items ++ map unstarted (planned_from (length parents.now + 1) journal_limit parents.now 1
+        (map (λ a. a.parent) plans.items) (map (λ a. a.strategy) plans.items))) }
+{
+    let mut plans = plans.into_iter();
     for actor in actors {
-        let Some(strategy) = strategies.next() else {
+        let Some(plan) = plans.next() else {
             unreachable!();
         };
-        let number = cells.len();
-        let this = ActorId(number as u32);
-        let prepared = children(alloc, this, parents)?;
-        cells.push(Cell::new(
-            alloc,
-            this,
-            count,
-            Some(parents[number - 1]),
-            Some(actor),
-            prepared,
-            strategy,
-            journal_limit,
-        ))?;
+        add_cell(alloc, cells, plan, actor, parents, journal_limit)?;
     }
-    Ok(cells)
+    Ok(())
+}
+
+/// The cell of one actor more.
+fn add_cell<A: Actor, K: Behaviours>(
+    alloc: Global,
+    cells: &mut Vec<Cell<A, K>>,
+    plan: ActorPlan,
+    actor: A,
+    parents: &[ActorId],
+    journal_limit: u32,
+) -> Result<(), AllocError>
+    requires few { (length cells.old.items < 64) × (length parents.now < 64) }
+    requires behaved { IsBehaved A.content A.after A.gives (K.after (length cells.old.items)) (K.gives (length cells.old.items)) actor }
+    ensures { IfOk result (λ _. cells.new.items ≡ cells.old.items
+        ++ unstarted (planned (length parents.now + 1) journal_limit parents.now (length cells.old.items) plan.parent plan.strategy) ∷ []) }
+{
+    let this = ActorId(cells.len() as u32);
+    let prepared = children(alloc, this, parents)?;
+    cells.push(Cell::new(
+        alloc,
+        this,
+        parents.len() as u32 + 1,
+        Some(plan.parent),
+        Some(actor),
+        prepared,
+        plan.strategy,
+        journal_limit,
+    ))
 }
 
 /// The guardian's cell: its strategy has no rows, so that the default decider decides.
 fn guardian<A: Actor, K: Behaviours>(
     alloc: Global,
-    count: u32,
     parents: &[ActorId],
     journal_limit: u32,
 ) -> Result<Cell<A, K>, AllocError>
     requires { length parents.now < 64 }
-    ensures { IfOk result (λ cell. cell ≡ unstarted (guardian_of count journal_limit parents.now)) }
+    ensures { IfOk result (λ cell. cell ≡ unstarted (guardian_of (length parents.now + 1) journal_limit parents.now)) }
 {
     let prepared = children(alloc, GUARDIAN, parents)?;
     let strategy = Strategy {
@@ -72,7 +107,7 @@ fn guardian<A: Actor, K: Behaviours>(
     Ok(Cell::new(
         alloc,
         GUARDIAN,
-        count,
+        parents.len() as u32 + 1,
         None,
         None,
         prepared,

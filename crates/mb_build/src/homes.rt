@@ -8,13 +8,13 @@ ghost use Rattle.mb_build.specs.Behaved.{AreBehaved};
 ghost use Rattle.mb_build.specs.Housed.{enrolled, AreAtFirst, AreFresh, IsHoused};
 ghost use Rattle.mb_build.specs.Identities.{ArePlanned, identities};
 ghost use Rattle.mb_build.specs.Kinds.{AreQueues};
-ghost use Rattle.mb_build.specs.Made.{AreMade};
+ghost use Rattle.mb_build.specs.Made.{AreAllMade};
 ghost use Rattle.mb_build.specs.Numbers.{sender_numbers};
 ghost use Rattle.mb_build.specs.Reasons.{bad_bounds, bad_parents};
 ghost use Rattle.mb_build.specs.Unstarted.{unstarted};
 
 use crate::cells::cells;
-use crate::planned::{Planned, take_apart};
+use crate::planned::kinds_of;
 use crate::queues::{Queues, make_queues};
 use mb_actor::{Actor, Behaviours};
 use mb_cell::Cell;
@@ -24,7 +24,7 @@ use mb_plan::ActorPlan;
 use mb_queue::{SendPass, TakePass};
 use std::alloc::{AllocError, Global};
 use std::snapshot::Snapshot;
-use std::{mem, vec};
+use std::vec;
 
 /// What a system begins with.
 pub struct Housed<A: Actor, K: Behaviours> {
@@ -51,19 +51,11 @@ pub fn house<A: Actor, K: Behaviours>(
         × IsHoused K.gives (identities (length plans.items + 1) journal_limit (map (λ a. a.parent) plans.items) (map (λ a. a.strategy) plans.items))
         kinds senders housed.homes.items (map (λ row. row.items) housed.outside.items)) }
 {
-    let Planned {
-        parents,
-        kinds,
-        strategies,
-    } = take_apart(alloc, plans)?;
-    let Queues {
-        guardian,
-        takes,
-        senders,
-    } = make_queues(alloc, kinds, senders)?;
-    let cells = cells(alloc, actors, &parents, strategies, journal_limit)?;
-    let roll = enroll(alloc, &cells, &guardian, &takes)?;
-    let housed = homes(alloc, cells, guardian, takes, senders, &roll)?;
+    let kinds = kinds_of(alloc, &plans)?;
+    let queues = make_queues(alloc, kinds, senders)?;
+    let cells = cells(alloc, plans, actors, journal_limit)?;
+    let roll = enroll(alloc, &cells, &queues.takes)?;
+    let housed = homes(alloc, cells, queues, &roll)?;
     Ok(housed)
 }
 
@@ -71,23 +63,17 @@ pub fn house<A: Actor, K: Behaviours>(
 fn enroll<A: Actor, K: Behaviours>(
     alloc: Global,
     cells: &[Cell<A, K>],
-    guardian: &TakePass,
     takes: &[TakePass],
 ) -> Result<Vec<Named<A, K>>, AllocError>
-    requires { length cells.now ≡ length takes.now + 1 }
+    requires { length cells.now ≡ length takes.now }
     ensures { IfOk result (λ roll. map (λ n. record { who = n.cell.value.who; queue = n.take.value.queue; turns = n.take.value.turns }) roll.items
-        ≡ enrolled (map (λ c. c.who) cells.now) (guardian.now ∷ takes.now)) }
+        ≡ enrolled (map (λ c. c.who) cells.now) takes.now) }
 {
     let mut roll = Vec::with_capacity(alloc, cells.len())?;
     for number in 0..cells.len() {
-        let take = if number == 0 {
-            guardian
-        } else {
-            &takes[number - 1]
-        };
         roll.push(Named {
             cell: Snapshot::of(&cells[number]),
-            take: Snapshot::of(take),
+            take: Snapshot::of(&takes[number]),
         })?;
     }
     Ok(roll)
@@ -97,40 +83,64 @@ fn enroll<A: Actor, K: Behaviours>(
 fn homes<A: Actor, K: Behaviours>(
     alloc: Global,
     cells: Vec<Cell<A, K>>,
-    guardian: TakePass,
-    takes: Vec<TakePass>,
-    senders: Vec<Vec<SendPass>>,
+    queues: Queues,
     roll: &Vec<Named<A, K>>,
 ) -> Result<Housed<A, K>, AllocError>
     requires few { length cells.items ≤ 64 }
     requires cells { (cells.items ≡ map unstarted (map (λ c. c.who) cells.items))
         × ArePlanned (length cells.items) 0 (map (λ c. c.who) cells.items) }
-    requires made { (kinds : List Kind) × (outside : ℕ) × (length cells.items ≡ length kinds + 1) × (outside ≤ 16)
-        × AreMade kinds (sender_numbers (length cells.items) outside) guardian takes.items (map (λ row. row.items) senders.items) }
+    requires made { (kinds : List Kind) × (outside : ℕ) × (length cells.items ≡ length kinds + 1) × AreAllMade kinds
+        (sender_numbers (length cells.items) outside) queues.takes.items (map (λ row. row.items) queues.senders.items) }
     requires roll { map (λ n. record { who = n.cell.value.who; queue = n.take.value.queue; turns = n.take.value.turns }) roll.now.items
-        ≡ enrolled (map (λ c. c.who) cells.items) (guardian ∷ takes.items) }
-    ensures first { IfOk result (λ housed. AreAtFirst (enrolled (map (λ c. c.who) cells.items) (guardian ∷ takes.items)) takes.items 0
-        (map (λ c. c.who) cells.items) (guardian ∷ takes.items) housed.homes.items) }
+        ≡ enrolled (map (λ c. c.who) cells.items) queues.takes.items }
+    ensures first { IfOk result (λ housed. AreAtFirst (enrolled (map (λ c. c.who) cells.items) queues.takes.items) (drop 1 queues.takes.items) 0
+        (map (λ c. c.who) cells.items) queues.takes.items housed.homes.items) }
     ensures fresh { IfOk result (λ housed. AreFresh K.gives housed.homes.items) }
     ensures outside { IfOk result (λ housed. map (λ row. row.items) housed.outside.items
-        ≡ drop (length cells.items) (map (λ row. row.items) senders.items)) }
+        ≡ drop (length cells.items) (map (λ row. row.items) queues.senders.items)) }
 {
     let mut homes = Vec::with_capacity(alloc, cells.len())?;
-    let mut next = Some(guardian);
-    let mut takes = takes.into_iter();
+    let Queues { takes, senders } = queues;
     let mut senders = senders.into_iter();
+    add_homes(alloc, &mut homes, cells, takes, &mut senders, roll)?;
+    let outside = left(alloc, senders)?;
+    Ok(Housed { homes, outside })
+}
+
+// The homes of these cells, which take their passes from the first rows.
+fn add_homes<A: Actor, K: Behaviours>(
+    alloc: Global,
+    homes: &mut Vec<Box<Home<A, K>>>,
+    cells: Vec<Cell<A, K>>,
+    takes: Vec<TakePass>,
+    rows: &mut vec::IntoIter<Vec<SendPass>>,
+    roll: &Vec<Named<A, K>>,
+) -> Result<(), AllocError>
+    requires none { homes.old.items ≡ [] }
+    requires few { length cells.items ≤ 64 }
+    requires cells { (cells.items ≡ map unstarted (map (λ c. c.who) cells.items))
+        × ArePlanned (length cells.items) 0 (map (λ c. c.who) cells.items) }
+    requires made { (kinds : List Kind) × (outside : ℕ) × (length cells.items ≡ length kinds + 1) × AreAllMade kinds
+        (sender_numbers (length cells.items) outside) takes.items (map (λ row. row.items) (into_iter_items rows.old)) }
+    requires roll { map (λ n. record { who = n.cell.value.who; queue = n.take.value.queue; turns = n.take.value.turns }) roll.now.items
+        ≡ enrolled (map (λ c. c.who) cells.items) takes.items }
+    ensures first { IfOk result (λ _. AreAtFirst (enrolled (map (λ c. c.who) cells.items) takes.items) (drop 1 takes.items) 0
+        (map (λ c. c.who) cells.items) takes.items homes.new.items) }
+    ensures fresh { IfOk result (λ _. AreFresh K.gives homes.new.items) }
+    ensures rest { IfOk result (λ _. into_iter_items rows.new ≡ drop (length cells.items) (into_iter_items rows.old)) }
+{
+    let mut takes = takes.into_iter();
     for cell in cells {
-        let Some(take) = mem::replace(&mut next, takes.next()) else {
+        let Some(take) = takes.next() else {
             unreachable!();
         };
-        let Some(sends) = senders.next() else {
+        let Some(sends) = rows.next() else {
             unreachable!();
         };
         let home = Home::new(alloc, ActorId(homes.len() as u32), cell, take, sends, roll);
-        add(alloc, &mut homes, home)?;
+        add(alloc, homes, home)?;
     }
-    let outside = left(alloc, senders)?;
-    Ok(Housed { homes, outside })
+    Ok(())
 }
 
 // One home more.

@@ -7,17 +7,17 @@ use mb_queue::{Kind, RankRow, Ranks};
 use std::alloc::{AllocError, Global};
 
 /// The kind of queue that a mailbox of the plan has.
-pub(crate) fn kind_of(alloc: Global, mailbox: Mailbox) -> Result<Kind, AllocError>
-    ensures { IfOk result (Queues mailbox) }
+pub(crate) fn kind_of(alloc: Global, mailbox: &Mailbox) -> Result<Kind, AllocError>
+    ensures { IfOk result (Queues mailbox.now) }
 {
     match mailbox {
         Mailbox::Unbounded => Ok(Kind::Unbounded),
-        Mailbox::Bounded(capacity) => Ok(Kind::Bounded(capacity)),
+        Mailbox::Bounded(capacity) => Ok(Kind::Bounded(*capacity)),
         Mailbox::Priority { rows, other } => {
-            let rows = rows_of(alloc, &rows)?;
+            let rows = rows_of(alloc, rows)?;
             Ok(Kind::Priority {
                 rows: Ranks::new(rows),
-                other,
+                other: *other,
             })
         }
         Mailbox::Control => Ok(Kind::Control),

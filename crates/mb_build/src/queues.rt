@@ -1,10 +1,11 @@
 //! The queues of all actors, and for each sender its passes into them.
-ghost use Rattle.std.specs.Prelude.{◌≡◌, ◌≢◌, ℕ, ◌+◌, ◌≤◌, ◌<◌, [], ◌∷◌, ◌++◌, All, AllPairs, IfOk, length, map, replicate};
+ghost use Rattle.std.specs.Prelude.{◌≡◌, ◌≢◌, ℕ, ◌+◌, ◌≤◌, ◌<◌, [], ◌∷◌, ◌++◌, All, AllPairs, IfOk, List, length, map, replicate};
 ghost use Rattle.mb_lane.specs.Ledger.{lent};
+ghost use Rattle.mb_queue.specs.declared.kind.Kind.TheVariants.{Unbounded};
 ghost use Rattle.mb_queue.specs.Made.{IsEmpty, IsMakeable, numbers_of, unused};
 ghost use Rattle.mb_queue.specs.Passes.{Taking};
 ghost use Rattle.mb_build.specs.Handed.{handed, passes_of};
-ghost use Rattle.mb_build.specs.Made.{AreEmpty, AreMade};
+ghost use Rattle.mb_build.specs.Made.{AreAllMade, AreEmpty};
 ghost use Rattle.mb_build.specs.Numbers.{numbers, sender_numbers};
 
 use mb_msg::limits::ACTORS;
@@ -12,10 +13,10 @@ use mb_msg::{ActorId, SenderId};
 use mb_queue::{Kind, MailQueue, SendPass, TakePass};
 use std::alloc::{AllocError, Global};
 
-/// The take pass of each actor's queue, the guardian's apart; and for each sender, the actors first and then those outside,
+/// The take pass of each actor's queue, the guardian's first; and for each sender, the actors first and then those outside,
 /// its passes into the queues from actor 1 on.
+#[derive(Drop)]
 pub(crate) struct Queues {
-    pub(crate) guardian: TakePass,
     pub(crate) takes: Vec<TakePass>,
     pub(crate) senders: Vec<Vec<SendPass>>,
 }
@@ -28,38 +29,56 @@ pub(crate) fn make_queues(
 ) -> Result<Queues, AllocError>
     requires few { (length kinds.items < 64) × (outside ≤ 16) }
     requires kinds { All IsMakeable kinds.items }
-    ensures { IfOk result (λ queues. AreMade kinds.items (sender_numbers (length kinds.items + 1) outside) queues.guardian queues.takes.items
+    ensures { IfOk result (λ queues. AreAllMade kinds.items (sender_numbers (length kinds.items + 1) outside) queues.takes.items
         (map (λ row. row.items) queues.senders.items)) }
 {
-    let actors = kinds.len() as u32 + 1;
-    let senders = senders(alloc, actors, outside)?;
-    let (takes, rows) = queues_of(alloc, kinds, &senders)?;
-    let (guardian, _) = MailQueue::new(alloc, Kind::Unbounded, ActorId(0), &[])?;
-    Ok(Queues {
-        guardian,
-        takes,
-        senders: rows,
-    })
+    let senders = senders(alloc, kinds.len() as u32 + 1, outside)?;
+    let mut queues = first_queue(alloc, senders.len())?;
+    add_queues(alloc, kinds, &senders, &mut queues.takes, &mut queues.senders)?;
+    Ok(queues)
 }
 
-/// Empty queues of these kinds, of the actors from 1 on; and for each sender its passes into them.
-fn queues_of(
+/// The guardian's queue alone, and so many senders, which have no passes yet.
+fn first_queue(alloc: Global, senders: usize) -> Result<Queues, AllocError>
+    ensures { IfOk result (λ queues. ((guardian : Taking) × (queues.takes.items ≡ guardian ∷ []) × IsEmpty Unbounded 0 [] guardian)
+        × (map (λ row. row.items) queues.senders.items ≡ replicate senders [])) }
+{
+    let senders = rows(alloc, senders)?;
+    let takes = guardians(alloc)?;
+    Ok(Queues { takes, senders })
+}
+
+/// The take pass of the guardian's queue alone.
+fn guardians(alloc: Global) -> Result<Vec<TakePass>, AllocError>
+    ensures { IfOk result (λ takes. (guardian : Taking) × (takes.items ≡ guardian ∷ []) × IsEmpty Unbounded 0 [] guardian) }
+{
+    let (guardian, _) = MailQueue::new(alloc, Kind::Unbounded, ActorId(0), &[])?;
+    let mut takes = Vec::new(alloc);
+    takes.push(guardian)?;
+    Ok(takes)
+}
+
+/// Empty queues of these kinds come after the guardian's; and each sender gets its passes into them.
+fn add_queues(
     alloc: Global,
     kinds: Vec<Kind>,
     senders: &[SenderId],
-) -> Result<(Vec<TakePass>, Vec<Vec<SendPass>>), AllocError>
-    requires few { length kinds.items < 64 }
+    takes: &mut Vec<TakePass>,
+    rows: &mut [Vec<SendPass>],
+) -> Result<(), AllocError>
+    requires few { (length takes.old.items ≡ 1) × (length kinds.items < 64) }
     requires kinds { All IsMakeable kinds.items }
     requires distinct { AllPairs (λ (a b : ℕ). a ≢ b) (numbers_of senders.now) }
-    ensures empty { IfOk result (λ made. AreEmpty kinds.items 1 (numbers_of senders.now) made.0.items) }
-    ensures passes { IfOk result (λ made. map (λ row. row.items) made.1.items ≡ map (passes_of made.0.items) (numbers_of senders.now)) }
+    requires none { map (λ row. row.items) rows.old ≡ map (passes_of []) (numbers_of senders.now) }
+    ensures many { length rows.new ≡ length rows.old }
+    ensures made { IfOk result (λ _. (more : List Taking) × (takes.new.items ≡ takes.old.items ++ more)
+        × AreEmpty kinds.items 1 (numbers_of senders.now) more
+        × (map (λ row. row.items) rows.new ≡ map (passes_of more) (numbers_of senders.now))) }
 {
-    let mut rows = rows(alloc, senders.len())?;
-    let mut takes = Vec::with_capacity(alloc, kinds.len())?;
     for kind in kinds {
-        add_queue(alloc, kind, senders, &mut takes, &mut rows)?;
+        add_queue(alloc, kind, senders, takes, rows)?;
     }
-    Ok((takes, rows))
+    Ok(())
 }
 
 /// The queue of one actor more.
@@ -70,16 +89,16 @@ fn add_queue(
     takes: &mut Vec<TakePass>,
     rows: &mut [Vec<SendPass>],
 ) -> Result<(), AllocError>
-    requires few { length takes.old.items < 64 }
+    requires few { length takes.old.items ≤ 64 }
     requires kind { IsMakeable kind }
     requires distinct { AllPairs (λ (a b : ℕ). a ≢ b) (numbers_of senders.now) }
     requires many { length rows.old ≡ length senders.now }
     ensures many { length rows.new ≡ length rows.old }
     ensures made { IfOk result (λ _. (take : Taking) × (takes.new.items ≡ takes.old.items ++ take ∷ [])
-        × (IsEmpty kind (length takes.old.items + 1) (numbers_of senders.now) take × (take.accounts ≡ map lent (numbers_of senders.now)))
+        × (IsEmpty kind (length takes.old.items) (numbers_of senders.now) take × (take.accounts ≡ map lent (numbers_of senders.now)))
         × (map (λ row. row.items) rows.new ≡ handed (map (λ row. row.items) rows.old) (map (unused take.queue) (numbers_of senders.now)))) }
 {
-    let to = ActorId(takes.len() as u32 + 1);
+    let to = ActorId(takes.len() as u32);
     let (take, sends) = MailQueue::new(alloc, kind, to, senders)?;
     takes.push(take)?;
     hand_out(rows, sends)

@@ -1,0 +1,5 @@
+use Rattle.std.proofs.Common.{◌≡◌, map, take}
+use Rattle.mb_build.proofs.planned.parents_of.Given as goal
+
+abbrev pub invariant-loop-plan : goal.invariant-loop-plan
+invariant-loop-plan l = l.parents.items ≡ map (λ a. a.parent) (take l.plan-index l.plans)
