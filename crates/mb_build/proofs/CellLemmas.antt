@@ -1,14 +1,14 @@
 -- Cells that are made one by one.
-use Rattle.std.proofs.Common.{◌≡◌, ◌≤◌, ◌<◌, ◌==◌, ℕ, suc, ◌+◌, ◌-◌, Bool, true, false, if◌then◌else◌, List, [], ◌∷◌, ◌++◌}
-use Rattle.std.proofs.Common.{length, map, drop, get_or, refl, sym, ap, ◌∙◌, append_assoc, arith}
+use Rattle.std.proofs.Common.{◌≡◌, ◌≤◌, ◌<◌, ◌==◌, ℕ, suc, ◌+◌, Bool, true, false, if◌then◌else◌, List, [], ◌∷◌, ◌++◌}
+use Rattle.std.proofs.Common.{length, map, refl, sym, ap, ◌∙◌, append_assoc, arith}
 use Rattle.std.specs.Prelude.{All}
-use Rattle.std.proofs.lemmas.List.{drop_more}
+use Rattle.std.proofs.lemmas.List.{length-map}
 use Rattle.std.proofs.lemmas.List.Elements.{All-cons, All-nil}
 use Rattle.mb_msg.specs.declared.id.ActorId.{ActorId}
 use Rattle.mb_journal.specs.declared.strategy.Strategy.{Strategy}
 use Rattle.mb_cell.specs.Seen.{Seen}
 use Rattle.mb_plan.specs.declared.actor_plan.ActorPlan.{ActorPlan}
-use Rattle.mb_build.specs.Identities.{children_from, id, planned, planned_from}
+use Rattle.mb_build.specs.Identities.{children_from, guardian, id, identities, planned, planned_from}
 use Rattle.mb_build.specs.Unstarted.{unstarted}
 
 few-if : (b : Bool) (x : ActorId) (l : List ActorId) → length (if b then x ∷ l else l) ≤ suc (length l)
@@ -67,3 +67,16 @@ length-planned actors limit all number [] strategies many = refl
 length-planned actors limit all number (p ∷ parents) [] many = absurd (omega (arith, many))
 length-planned actors limit all number (p ∷ parents) (s ∷ strategies) many =
     ap suc (length-planned actors limit all (number + 1) parents strategies (omega (arith, many)))
+
+-- the guardian's cell, and then the others'
+pub all-cells : (limit : ℕ) (plans : List ActorPlan) (here there : List ActorId) (first cells : List Seen)
+    → here ≡ map (λ a. a.parent) plans → there ≡ map (λ a. a.parent) plans → first ≡ unstarted (guardian (length here + 1) limit here) ∷ []
+    → cells ≡ first ++ cells_from (length there + 1) limit there 1 plans
+    → cells ≡ map unstarted (identities (length plans + 1) limit (map (λ a. a.parent) plans) (map (λ a. a.strategy) plans))
+all-cells limit plans here there first cells heres theres one are =
+    let parents : List ActorId = map (λ (a : ActorPlan). a.parent) plans in
+    let count : length parents ≡ length plans = length-map plans (λ (a : ActorPlan). a.parent) in
+    are ∙ ap (λ l. l ++ cells_from (length there + 1) limit there 1 plans) one
+    ∙ ap (λ l. unstarted (guardian (length l + 1) limit l) ∷ cells_from (length there + 1) limit there 1 plans) heres
+    ∙ ap (λ l. unstarted (guardian (length parents + 1) limit parents) ∷ cells_from (length l + 1) limit l 1 plans) theres
+    ∙ ap (λ n. unstarted (guardian (n + 1) limit parents) ∷ cells_from (n + 1) limit parents 1 plans) count

@@ -68,7 +68,7 @@ module _ (cells : List Seen) (kinds : List Kind) (outside : ℕ) (ways : List Ta
         let sum = length-append done (cell ∷ rest) in let whole = ap length all in omega (arith, sum, whole, at)
 
     -- its passes stand in its place
-    pub rows-from : drop place rows ≡ passes_of parts.1 place ∷ map (passes_of parts.1) (drop (suc place) (sender_numbers (length cells) outside))
+    rows-from : drop place rows ≡ passes_of parts.1 place ∷ map (passes_of parts.1) (drop (suc place) (sender_numbers (length cells) outside))
     rows-from =
         let sum : 0 + place ≡ place = omega arith in
         ap (drop place) parts.3.passes ∙ drop-map (passes_of parts.1) place (sender_numbers (length cells) outside)

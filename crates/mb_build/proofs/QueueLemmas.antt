@@ -2,10 +2,11 @@
 use Rattle.std.proofs.Common.{◌≡◌, ℕ, suc, ◌+◌, List, [], ◌∷◌, ◌++◌, length, map, take, drop, replicate, refl, sym, ap, ◌∙◌, subst, arith}
 use Rattle.mb_lane.specs.Ledger.{lent}
 use Rattle.mb_queue.specs.declared.kind.Kind.{Kind}
+use Rattle.mb_queue.specs.declared.kind.Kind.TheVariants.{Unbounded}
 use Rattle.mb_queue.specs.Made.{IsEmpty, unused}
 use Rattle.mb_queue.specs.Passes.{Sending, Taking}
 use Rattle.mb_build.specs.Handed.{handed, passes_of}
-use Rattle.mb_build.specs.Made.{AreEmpty}
+use Rattle.mb_build.specs.Made.{AreAllMade, AreEmpty}
 use Rattle.mb_build.proofs.HandedLemmas.{handed-queue}
 
 -- nothing is handed out yet
@@ -52,3 +53,14 @@ take-front (x ∷ new) rest = ap (λ l. x ∷ l) (take-front new rest)
 -- a whole list that was lent is what it was made
 pub refilled : {X : Type 0} (count : ℕ) (old new : List X) → length new ≡ count → take count (new ++ drop (length new) old) ≡ new
 refilled count old new e = ap (λ (n : ℕ). take n (new ++ drop (length new) old)) (sym e) ∙ take-front new (drop (length new) old)
+
+-- the guardian's queue, and then the others'
+pub all-made-of : (kinds : List Kind) (senders numbers : List ℕ) (guardian : Taking) (ways takes : List Taking) (rows : List (List Sending))
+    → ways ≡ guardian ∷ takes → IsEmpty Unbounded 0 [] guardian → AreEmpty kinds 1 senders takes → rows ≡ map (passes_of takes) senders
+    → senders ≡ numbers → AreAllMade kinds numbers ways rows
+all-made-of kinds senders numbers guardian ways takes rows are nobody empty passes same =
+    subst (λ n. AreAllMade kinds n ways rows) same (subst (λ w. AreAllMade kinds senders w rows) (sym are) (record {
+      nobody = nobody;
+      empty = empty;
+      passes = passes;
+    }))

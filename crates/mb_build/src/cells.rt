@@ -86,7 +86,8 @@ fn add_cell<A: Actor, K: Behaviours>(
         prepared,
         plan.strategy,
         journal_limit,
-    ))
+    ))?;
+    Ok(())
 }
 
 /// The guardian's cell: its strategy has no rows, so that the default decider decides.

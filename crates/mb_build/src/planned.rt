@@ -25,7 +25,8 @@ pub(crate) fn kinds_of(alloc: Global, plans: &[ActorPlan]) -> Result<Vec<Kind>, 
 {
     let mut kinds = Vec::with_capacity(alloc, plans.len())?;
     for plan in plans {
-        kinds.push(kind_of(alloc, &plan.mailbox)?)?;
+        let kind = kind_of(alloc, &plan.mailbox)?;
+        kinds.push(kind)?;
     }
     Ok(kinds)
 }

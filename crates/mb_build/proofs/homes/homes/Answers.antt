@@ -1,210 +1,22 @@
-use Rattle.std.proofs.Common.{rules, ◌≡◌, ◌+◌, ◌++◌, ◌∷◌, [], suc, List, length, map, take, drop, sym, ap, ◌∙◌, subst, append_assoc, arith}
-use Rattle.std.specs.Prelude.{All, slice_get, None}
-use Rattle.std.specs.Global.{Box}
+use Rattle.std.proofs.Common.{rules, ◌≡◌, ◌∷◌, length, map, drop, sym, ap, ◌∙◌, subst}
 use Rattle.std.specs.Vec.Iter.{into_iter_items}
-use Rattle.std.proofs.lemmas.List.{append-nil, drop-map, length_push, map_push, nil_from_length, take_all}
-use Rattle.std.proofs.lemmas.Option.{none-some, slice_get-get_or}
-use Rattle.mb_msg.specs.declared.id.ActorId.{ActorId}
-use Rattle.mb_journal.specs.Identity.{Identity}
-use Rattle.mb_cell.specs.Seen.{Seen}
-use Rattle.mb_queue.specs.Passes.{Sending, Taking}
-use Rattle.mb_home.specs.Contents.{Contents}
-use Rattle.mb_home.specs.Settled.{IsOwn, IsSettled}
-use Rattle.mb_home.specs.Steps.{IsRested, at_first}
-use Rattle.mb_build.specs.Handed.{passes_of}
-use Rattle.mb_build.specs.Housed.{AreAtFirst, enrolled}
-use Rattle.mb_build.specs.Identities.{id}
-use Rattle.mb_build.proofs.FreshLemmas.{AreSettled, all-fresh, as-made, first-more, settled-more}
-use Rattle.mb_build.proofs.HomeLemmas as here
-use Rattle.mb_build.proofs.HomeLemmas.{whose}
-use Rattle.mb_build.proofs.OwnLemmas.{all-unused}
-use Rattle.mb_build.proofs.RollLemmas.{drop-next, drop-there, next-taken, take-next}
+use Rattle.std.proofs.lemmas.List.{drop-map}
+use Rattle.mb_build.specs.Made.{AreAllMade}
+use Rattle.mb_build.specs.Numbers.{sender_numbers}
 use Rattle.mb_build.proofs.homes.homes.Goals as goal
 
-pub loop-cell-init : goal.loop-cell-init
-loop-cell-init g c =
-    let none : c.in_ok-homes.homes.items ≡ [] = search rules in let ways = c.args.guardian ∷ c.args.takes.items in
-    let takes = c.args.takes.items in let roll = enrolled (whose c.args.cells.items) ways in record {
-      cells = c.into_iter-cell-iterator.ensures.into_iter_gives.0;
-      count = ap length none;
-      next = ap (λ (l : List (Box Contents)). slice_get ways (length l)) (sym none);
-      takes = c.into_iter-takes.ensures.rest ∙ ap (λ (l : List (Box Contents)). drop (length l) takes) (sym none);
-      senders = c.into_iter-senders.ensures.rest ∙ ap (λ (l : List (Box Contents)). drop (length l) c.args.senders.items) (sym none);
-      first = subst (λ (l : List (Box Contents)). AreAtFirst roll takes 0 [] (take (length l) ways) l) (sym none) tt;
-      settled = subst (λ (l : List (Box Contents)). AreSettled g.K.Behaviours.gives 0 l) (sym none) tt;
-    }
-
-pub unreachable-requires : goal.unreachable-requires
-unreachable-requires g c =
-    let at = c.loop-cell in let cells = c.args.cells.items in let made = c.requires.made in let ways = c.args.guardian ∷ c.args.takes.items in
-    let rows = map (λ row. row.items) c.args.senders.items in let rest = into_iter_items c.next.new.self in
-    let steps : into_iter_items at.cell-iterator ≡ c.in-Some.cell ∷ rest = c.in-Some.ensures.steps.0 in
-    let lt = here.place-in cells made.0 made.1 c.args.guardian c.args.takes.items rows c.requires.cells.0 c.requires.cells.1 made.2 made.4
-    at.yielded c.in-Some.cell rest (length at.homes.items) (ap (λ l. at.yielded ++ l) (sym steps) ∙ at.invariant.cells) at.invariant.count in
-    let count = here.passes-count cells made.0 made.1 c.args.guardian c.args.takes.items rows c.requires.cells.0 c.requires.cells.1 made.2 made.4 in
-    let none : slice_get ways (length at.homes.items) ≡ None = sym at.invariant.next ∙ sym c.replace.ensures.value ∙ c.in_default.is in
-    none-some _ (sym none ∙ slice_get-get_or ways (length at.homes.items) c.args.guardian (omega (arith, lt, count)))
-
-pub unreachable-requires-in_default-next : goal.unreachable-requires-in_default-next
-unreachable-requires-in_default-next g c =
-    let at = c.loop-cell in let cells = c.args.cells.items in let made = c.requires.made in let guardian = c.args.guardian in
-    let takes = c.args.takes.items in let ways = guardian ∷ takes in let rows = map (λ row. row.items) c.args.senders.items in
-    let cell = c.in-Some.cell in let rest = into_iter_items c.next.new.self in let place = length at.homes.items in
-    let steps : into_iter_items at.cell-iterator ≡ cell ∷ rest = c.in-Some.ensures.steps.0 in
-    let all = ap (λ l. at.yielded ++ l) (sym steps) ∙ at.invariant.cells in
-    let none : into_iter_items at.senders ≡ [] =
-    nil_from_length (into_iter_items at.senders) (sym at.senders.rest.ok.0 ∙ c.in_default-next.ensures.cases.0) in
-    let empty : drop place rows ≡ [] =
-    drop-map (λ r. r.items) place c.args.senders.items ∙ ap (map (λ r. r.items)) (sym at.invariant.senders ∙ none) in
-    here.rows-left cells made.0 made.1 guardian takes rows c.requires.cells.0 c.requires.cells.1 made.2 made.4
-    at.yielded cell rest place all at.invariant.count empty
-
-pub new-home-requires-clause-number : goal.new-home-requires-clause-number
-new-home-requires-clause-number g c =
-    let at = c.loop-cell in let cells = c.args.cells.items in let made = c.requires.made in let guardian = c.args.guardian in
-    let takes = c.args.takes.items in let ways = guardian ∷ takes in let rows = map (λ row. row.items) c.args.senders.items in
-    let cell = c.in-Some.cell in let rest = into_iter_items c.next.new.self in let place = length at.homes.items in
-    let steps : into_iter_items at.cell-iterator ≡ cell ∷ rest = c.in-Some.ensures.steps.0 in
-    let all = ap (λ l. at.yielded ++ l) (sym steps) ∙ at.invariant.cells in
-    let number : c.len-in-loop-cell.result ≡ place = search rules in
-    let planned = here.planned-here cells made.0 made.1 guardian takes rows c.requires.cells.0 c.requires.cells.1 made.2 made.4
-    at.yielded cell rest place all at.invariant.count in
-    ap id number ∙ sym planned.this
-
-pub new-home-requires-clause-untouched : goal.new-home-requires-clause-untouched
-new-home-requires-clause-untouched g c =
-    let at = c.loop-cell in let cells = c.args.cells.items in let made = c.requires.made in let guardian = c.args.guardian in
-    let takes = c.args.takes.items in let ways = guardian ∷ takes in let rows = map (λ row. row.items) c.args.senders.items in
-    let cell = c.in-Some.cell in let rest = into_iter_items c.next.new.self in let place = length at.homes.items in
-    let steps : into_iter_items at.cell-iterator ≡ cell ∷ rest = c.in-Some.ensures.steps.0 in
-    let all = ap (λ l. at.yielded ++ l) (sym steps) ∙ at.invariant.cells in
-    let is = here.unstarted-there cells made.0 made.1 guardian takes rows c.requires.cells.0 c.requires.cells.1 made.2 made.4
-    at.yielded cell rest place all at.invariant.count in
-    (ap (λ (x : Seen). x.journal) is, ap (λ (x : Seen). x.acts) is)
-
-pub new-home-requires-clause-none_taken : goal.new-home-requires-clause-none_taken
-new-home-requires-clause-none_taken g c =
-    let at = c.loop-cell in let cells = c.args.cells.items in let made = c.requires.made in let guardian = c.args.guardian in
-    let takes = c.args.takes.items in let ways = guardian ∷ takes in let rows = map (λ row. row.items) c.args.senders.items in
-    let cell = c.in-Some.cell in let rest = into_iter_items c.next.new.self in let place = length at.homes.items in
-    let steps : into_iter_items at.cell-iterator ≡ cell ∷ rest = c.in-Some.ensures.steps.0 in
-    let all = ap (λ l. at.yielded ++ l) (sym steps) ∙ at.invariant.cells in
-    let take' = c.in-Some-replace.take in
-    let this = drop-there place ways take' (sym at.invariant.next ∙ sym c.replace.ensures.value ∙ c.in-Some-replace.is) in
-    let pass = here.pass-there cells made.0 made.1 guardian takes rows c.requires.cells.0 c.requires.cells.1 made.2 made.4
-    at.yielded cell rest place all at.invariant.count take' (drop (suc place) ways) this in
-    pass.taken
-
-pub new-home-requires-clause-none_pushed : goal.new-home-requires-clause-none_pushed
-new-home-requires-clause-none_pushed g c =
-    let at = c.loop-cell in let cells = c.args.cells.items in let made = c.requires.made in let guardian = c.args.guardian in
-    let takes = c.args.takes.items in let ways = guardian ∷ takes in let rows = map (λ row. row.items) c.args.senders.items in
-    let cell = c.in-Some.cell in let rest = into_iter_items c.next.new.self in let place = length at.homes.items in
-    let steps : into_iter_items at.cell-iterator ≡ cell ∷ rest = c.in-Some.ensures.steps.0 in
-    let all = ap (λ l. at.yielded ++ l) (sym steps) ∙ at.invariant.cells in
-    let sends = c.in-Some-next.sends in
-    let lines : into_iter_items at.senders ≡ sends ∷ into_iter_items c.next-in-loop-cell-2.new.self = c.in-Some-next.ensures.cases.0 in
-    let row : drop place rows ≡ sends.items ∷ map (λ r. r.items) (into_iter_items c.next-in-loop-cell-2.new.self) =
-    drop-map (λ r. r.items) place c.args.senders.items ∙ ap (map (λ r. r.items)) (sym at.invariant.senders ∙ lines) in
-    let is = here.row-there cells made.0 made.1 guardian takes rows c.requires.cells.0 c.requires.cells.1 made.2 made.4
-    at.yielded cell rest place all at.invariant.count sends.items _ row in
-    subst (All (λ (p : Sending). p.pushed ≡ [])) (sym is) (all-unused takes place)
-
-pub new-home-requires-clause-own : goal.new-home-requires-clause-own
-new-home-requires-clause-own g c =
-    let at = c.loop-cell in let cells = c.args.cells.items in let made = c.requires.made in let guardian = c.args.guardian in
-    let takes = c.args.takes.items in let ways = guardian ∷ takes in let rows = map (λ row. row.items) c.args.senders.items in
-    let cell = c.in-Some.cell in let rest = into_iter_items c.next.new.self in let place = length at.homes.items in
-    let steps : into_iter_items at.cell-iterator ≡ cell ∷ rest = c.in-Some.ensures.steps.0 in
-    let all = ap (λ l. at.yielded ++ l) (sym steps) ∙ at.invariant.cells in
-    let take' = c.in-Some-replace.take in
-    let this = drop-there place ways take' (sym at.invariant.next ∙ sym c.replace.ensures.value ∙ c.in-Some-replace.is) in
-    let sends = c.in-Some-next.sends in
-    let lines : into_iter_items at.senders ≡ sends ∷ into_iter_items c.next-in-loop-cell-2.new.self = c.in-Some-next.ensures.cases.0 in
-    let row : drop place rows ≡ sends.items ∷ map (λ r. r.items) (into_iter_items c.next-in-loop-cell-2.new.self) =
-    drop-map (λ r. r.items) place c.args.senders.items ∙ ap (map (λ r. r.items)) (sym at.invariant.senders ∙ lines) in
-    subst (λ l. IsOwn (at_first cell take' sends.items 0 l)) (sym c.requires.roll)
-    (here.own-there cells made.0 made.1 guardian takes rows c.requires.cells.0 c.requires.cells.1 made.2 made.4
-    at.yielded cell rest place all at.invariant.count take' (drop (suc place) ways) this sends.items _ row)
-
-pub loop-cell-preserved : goal.loop-cell-preserved
-loop-cell-preserved g c =
-    let at = c.loop-cell in let cells = c.args.cells.items in let made = c.requires.made in let guardian = c.args.guardian in
-    let takes = c.args.takes.items in let ways = guardian ∷ takes in let rows = map (λ row. row.items) c.args.senders.items in
-    let cell = c.in-Some.cell in let rest = into_iter_items c.next.new.self in let place = length at.homes.items in
-    let steps : into_iter_items at.cell-iterator ≡ cell ∷ rest = c.in-Some.ensures.steps.0 in
-    let all = ap (λ l. at.yielded ++ l) (sym steps) ∙ at.invariant.cells in
-    let take' = c.in-Some-replace.take in
-    let this = drop-there place ways take' (sym at.invariant.next ∙ sym c.replace.ensures.value ∙ c.in-Some-replace.is) in
-    let sends = c.in-Some-next.sends in
-    let lines : into_iter_items at.senders ≡ sends ∷ into_iter_items c.next-in-loop-cell-2.new.self = c.in-Some-next.ensures.cases.0 in
-    let row : drop place rows ≡ sends.items ∷ map (λ r. r.items) (into_iter_items c.next-in-loop-cell-2.new.self) =
-    drop-map (λ r. r.items) place c.args.senders.items ∙ ap (map (λ r. r.items)) (sym at.invariant.senders ∙ lines) in
-    let new = c.add.new.homes.items in let added = c.in_ok-add.ensures in let box = added.0 in let home = c.new-home.result in
-    let roll = enrolled (whose cells) ways in
-    let pushed : new ≡ at.homes.items ++ box ∷ [] = added.2 in
-    let longer : length new ≡ place + 1 = ap length pushed ∙ length_push at.homes.items box in
-    let further : length (at.yielded ++ cell ∷ []) ≡ length at.yielded + 1 = length_push at.yielded cell in
-    let count = at.invariant.count in
-    let next : suc place ≡ length new = omega (arith, longer) in
-    let taken = next-taken takes place (into_iter_items at.takes) (into_iter_items c.next-in-loop-cell.new.self) at.takes.rest.len
-    c.next-in-loop-cell.new.self.rest.len c.next-in-loop-cell.result at.invariant.takes at.takes.rest.ok.0
-    c.next-in-loop-cell.new.self.rest.ok.0 c.next-in-loop-cell.ensures.cases in
-    let is = here.unstarted-there cells made.0 made.1 guardian takes rows c.requires.cells.0 c.requires.cells.1 made.2 made.4
-    at.yielded cell rest place all at.invariant.count in
-    let passes = here.row-there cells made.0 made.1 guardian takes rows c.requires.cells.0 c.requires.cells.1 made.2 made.4
-    at.yielded cell rest place all at.invariant.count sends.items _ row in
-    let planned = here.planned-here cells made.0 made.1 guardian takes rows c.requires.cells.0 c.requires.cells.1 made.2 made.4
-    at.yielded cell rest place all at.invariant.count in
-    let sum : place ≡ 0 + place = omega arith in
-    let same : box.value ≡ home = added.1 in
-    let settled = subst (λ n. IsSettled (g.K.Behaviours.gives n) [] home) (ap (λ (x : ActorId). x.0) planned.this ∙ sum)
-    c.new-home.ensures.settled in
-    let homes_first = first-more roll takes 0 (whose at.yielded) cell.who (take place ways) take' at.homes.items box at.invariant.first
-    (as-made box.value home cell take' sends.items (passes_of takes (0 + place)) _ roll cell.who same c.new-home.ensures.first is
-    (passes ∙ ap (passes_of takes) sum) c.requires.roll) in record {
-      cells = append_assoc at.yielded (cell ∷ []) rest ∙ all;
-      count = omega (arith, longer, further, count);
-      next = c.replace.ensures.after ∙ taken.0 ∙ ap (slice_get ways) next;
-      takes = taken.1 ∙ ap (λ n. drop n takes) next;
-      senders = sym (drop-next place c.args.senders.items sends _ (sym at.invariant.senders ∙ lines)) ∙ ap (λ n. drop n c.args.senders.items) next;
-      first = subst (λ (l : List (Box Contents)). AreAtFirst roll takes 0 (whose (at.yielded ++ cell ∷ [])) (take (length new) ways) l) (sym pushed)
-          (subst (λ (l : List Taking). AreAtFirst roll takes 0 (whose (at.yielded ++ cell ∷ [])) l (at.homes.items ++ box ∷ []))
-          (sym (take-next place ways take' (drop (suc place) ways) this) ∙ ap (λ n. take n ways) next)
-          (subst (λ (l : List Identity). AreAtFirst roll takes 0 l (take place ways ++ take' ∷ []) (at.homes.items ++ box ∷ []))
-          (sym (map_push (λ (x : Seen). x.who) at.yielded cell)) homes_first));
-      settled = subst (λ (l : List (Box Contents)). AreSettled g.K.Behaviours.gives 0 l) (sym pushed)
-          (settled-more g.K.Behaviours.gives 0 at.homes.items box at.invariant.settled
-          (subst (λ x. IsSettled (g.K.Behaviours.gives (0 + place)) [] x) (sym same) settled) (subst IsRested (sym same) c.new-home.ensures.rested));
-    }
-
-pub returns-clause-first : goal.returns-clause-first
-returns-clause-first g c =
-    let at = c.loop-cell in let cells = c.args.cells.items in let made = c.requires.made in let guardian = c.args.guardian in
-    let takes = c.args.takes.items in let ways = guardian ∷ takes in let rows = map (λ row. row.items) c.args.senders.items in
-    let none : into_iter_items at.cell-iterator ≡ [] =
-    nil_from_length (into_iter_items at.cell-iterator) (sym at.cell-iterator.rest.ok.0 ∙ c.in-None.ensures.steps.0) in
-    let all : at.yielded ≡ cells = sym (append-nil at.yielded) ∙ ap (λ l. at.yielded ++ l) (sym none) ∙ at.invariant.cells in
-    let roll = enrolled (whose cells) ways in
-    let many = here.passes-count cells made.0 made.1 guardian takes rows c.requires.cells.0 c.requires.cells.1 made.2 made.4 in
-    let whole = ap length all in let count = at.invariant.count in
-    subst (λ (l : List Identity). AreAtFirst roll takes 0 l ways at.homes.items) (ap whose all)
-    (subst (λ (l : List Taking). AreAtFirst roll takes 0 (whose at.yielded) l at.homes.items)
-    (take_all (length at.homes.items) ways (omega (arith, many, whole, count))) at.invariant.first)
-
-pub returns-clause-fresh : goal.returns-clause-fresh
-returns-clause-fresh g c =
-    let ways = c.args.guardian ∷ c.args.takes.items in let cells = c.args.cells.items in let homes = c.loop-cell.homes.items in
-    let first : AreAtFirst (enrolled (whose cells) ways) c.args.takes.items 0 (whose cells) ways homes = returns-clause-first g c in
-    all-fresh g.K.Behaviours.gives (enrolled (whose cells) ways) c.args.takes.items (length cells) (whose cells) ways homes first
-    c.requires.cells.1 c.loop-cell.invariant.settled
+pub add_homes-requires-clause-made : goal.add_homes-requires-clause-made
+add_homes-requires-clause-made g c =
+    let made = c.requires.made in (
+      made.0,
+      made.1,
+      made.2,
+      subst (λ l. AreAllMade made.0 (sender_numbers (length c.args.cells.items) made.1) c.args.queues.takes.items (map (λ row. row.items) l))
+          (sym c.into_iter-senders.ensures.rest) made.3,
+    )
 
 pub returns-clause-outside : goal.returns-clause-outside
 returns-clause-outside g c =
-    let at = c.loop-cell in let cells = c.args.cells.items in
-    let none : into_iter_items at.cell-iterator ≡ [] =
-    nil_from_length (into_iter_items at.cell-iterator) (sym at.cell-iterator.rest.ok.0 ∙ c.in-None.ensures.steps.0) in
-    let all : at.yielded ≡ cells = sym (append-nil at.yielded) ∙ ap (λ l. at.yielded ++ l) (sym none) ∙ at.invariant.cells in
-    let many : length at.homes.items ≡ length cells = at.invariant.count ∙ ap length all in
-    ap (map (λ r. r.items)) (c.in_ok-outside.ensures ∙ at.invariant.senders ∙ ap (λ n. drop n c.args.senders.items) many)
-    ∙ sym (drop-map (λ r. r.items) (length cells) c.args.senders.items)
+    let many = length c.args.cells.items in
+    ap (map (λ r. r.items)) (c.in_ok-outside.ensures ∙ c.in_ok-add_homes.ensures.rest ∙ ap (drop many) c.into_iter-senders.ensures.rest)
+    ∙ sym (drop-map (λ r. r.items) many c.args.queues.senders.items)

@@ -1,12 +1,39 @@
-use Rattle.std.proofs.Common.{rules, ◌≡◌, ◌≢◌, ◌+◌, ℕ, length, sym, ap, ◌∙◌, subst, arith}
+use Rattle.std.proofs.Common.{rules, ◌≡◌, ◌≢◌, ◌+◌, ◌++◌, ◌∷◌, [], ℕ, length, map, sym, ap, ◌∙◌, subst, arith}
 use Rattle.std.specs.Prelude.{AllPairs}
+use Rattle.std.proofs.lemmas.List.{length-map}
 use Rattle.mb_queue.specs.Made.{numbers_of}
+use Rattle.mb_build.specs.Handed.{passes_of}
+use Rattle.mb_build.specs.Made.{AreAllMade, AreEmpty}
+use Rattle.mb_build.specs.Numbers.{sender_numbers}
 use Rattle.mb_build.proofs.NumberLemmas.{senders-different}
+use Rattle.mb_build.proofs.QueueLemmas.{all-made-of, refilled, unhanded}
 use Rattle.mb_build.proofs.queues.make_queues.Goals as goal
 
-pub queues_of-requires-clause-distinct : goal.queues_of-requires-clause-distinct
-queues_of-requires-clause-distinct c =
+pub add_queues-requires-clause-few : goal.add_queues-requires-clause-few
+add_queues-requires-clause-few c = (ap length c.in_ok-queues.ensures.0.1, c.requires.few.0)
+
+pub add_queues-requires-clause-distinct : goal.add_queues-requires-clause-distinct
+add_queues-requires-clause-distinct c =
     let few = c.requires.few.0 in
     let count : c.len.result ≡ length c.args.kinds.items = search rules in
     subst (AllPairs (λ (a b : ℕ). a ≢ b)) (sym (ap numbers_of c.deref.ensures.value ∙ c.in_ok-senders.ensures))
     (senders-different (c.len.result + 1) c.args.outside (omega (arith, few, count)))
+
+pub add_queues-requires-clause-none : goal.add_queues-requires-clause-none
+add_queues-requires-clause-none c =
+    let senders = c.deref.result.now in
+    let same : senders ≡ c.in_ok-senders.senders.items = search rules in
+    let count : c.len-2.result ≡ length senders = search (rules, same) in
+    ap (map (λ r. r.items)) c.deref_mut.ensures.value
+    ∙ unhanded (numbers_of senders) _ c.len-2.result c.in_ok-queues.ensures.1 (count ∙ sym (length-map senders (λ s. s.0)))
+
+pub returns : goal.returns
+returns c =
+    let made = c.in_ok-add_queues.ensures in let first = c.in_ok-queues.ensures.0 in let old = c.in_ok-queues.queues.senders in
+    let new = c.add_queues.new.rows in let numbers = numbers_of c.deref.result.now in
+    let count : c.len.result ≡ length c.args.kinds.items = search rules in
+    let who : numbers ≡ sender_numbers (length c.args.kinds.items + 1) c.args.outside =
+    ap numbers_of c.deref.ensures.value ∙ c.in_ok-senders.ensures ∙ ap (λ n. sender_numbers (n + 1) c.args.outside) count in
+    let rows = ap (map (λ r. r.items)) (refilled old.len old.items new _) ∙ made.3 in
+    all-made-of c.args.kinds.items numbers _ first.0 c.add_queues.new.takes.items made.0 _
+    (made.1 ∙ ap (λ l. l ++ made.0) first.1) first.2 made.2 rows who

@@ -1,0 +1,35 @@
+use Rattle.std.proofs.Common.{rules, ◌≡◌, ◌<◌, ◌+◌, ◌++◌, ◌∷◌, [], length, sym, ap, ◌∙◌, subst, arith}
+use Rattle.std.specs.Prelude.{All}
+use Rattle.mb_msg.specs.declared.id.ActorId.{ActorId}
+use Rattle.mb_actor.specs.Behaviour.{AllowsSame}
+use Rattle.mb_build.proofs.CellLemmas.{cell-is, children-below, children-few}
+use Rattle.mb_build.proofs.cells.add_cell.Goals as goal
+
+pub new-requires-clause-few : goal.new-requires-clause-few
+new-requires-clause-few g c =
+    let few = c.requires.few.1 in let some = children-few 1 c.len.result c.args.parents.now in let is = ap length c.in_ok-prepared.ensures in
+    omega (arith, few, some, is)
+
+pub new-requires-clause-numbered : goal.new-requires-clause-numbered
+new-requires-clause-numbered g c =
+    let few = c.requires.few.1 in
+    subst (All (λ (x : ActorId). x.0 < 64)) (sym c.in_ok-prepared.ensures)
+    (children-below 64 1 c.len.result c.args.parents.now (omega (arith, few)))
+
+pub new-requires-clause-behaves : goal.new-requires-clause-behaves
+new-requires-clause-behaves g c =
+    let place : c.len.result ≡ length c.args.cells.now.items = search rules in
+    c.requires.behaved.behaves ∙ ap g.K.Behaviours.after (sym place)
+
+pub new-requires-clause-allows : goal.new-requires-clause-allows
+new-requires-clause-allows g c =
+    let place : c.len.result ≡ length c.args.cells.now.items = search rules in
+    subst (λ n. AllowsSame (g.A.Actor.gives c.args.actor) (g.K.Behaviours.gives n)) (sym place) c.requires.behaved.allows
+
+pub returns : goal.returns
+returns g c =
+    let parents = c.args.parents.now in let cells = c.args.cells.now.items in
+    let place : c.len.result ≡ length cells = search rules in
+    c.in_ok-push.ensures.items
+    ∙ ap (λ x. cells ++ x ∷ []) (cell-is (length parents + 1) c.args.journal_limit parents c.len.result (length cells) c.args.plan.parent
+    c.args.plan.strategy c.in_ok-prepared.prepared.items c.new.result c.new.ensures.fresh c.in_ok-prepared.ensures place)
