@@ -1,9 +1,9 @@
 //! The room that the end of a system takes: after it no memory is asked for.
-ghost use Rattle.std.specs.Prelude.{◌≡◌, ◌≤◌, IfOk, length};
+ghost use Rattle.std.specs.Prelude.{◌≡◌, ◌≤◌, [], IfOk, length, vec_capacity};
 ghost use Rattle.std.specs.List.{AllZip};
 ghost use Rattle.mb_gate.specs.Names.{actors_of, gates_id, known_by, pass_id};
 ghost use Rattle.mb_gate.specs.Rule.{IsPart};
-ghost use Rattle.mb_reckon.specs.Rooms.{AreCounted, IsEnough, IsRoom, counted_in};
+ghost use Rattle.mb_reckon.specs.Rooms.{AreCounted, HasPlaces, IsEnough, IsRoom, counted_in};
 
 use crate::place::Place;
 use mb_actor::{Actor, Behaviours};
@@ -51,41 +51,71 @@ pub fn make_room<A: Actor, K: Behaviours>(
 {
     let actors = gates.actors();
     let senders = actors + outside;
-    let (waiting, lefts) = make_lefts(alloc, gates, pass)?;
-    Ok(Room {
-        waiting,
-        homes: Vec::with_capacity(alloc, actors)?,
-        ended: Vec::with_capacity(alloc, actors)?,
-        takes: Vec::with_capacity(alloc, actors)?,
-        rows: Vec::with_capacity(alloc, senders)?,
-        lefts,
-        actors: Vec::with_capacity(alloc, actors)?,
-        senders: Vec::with_capacity(alloc, senders)?,
-    })
+    let mut room = no_room(alloc);
+    reserve(&mut room, actors, senders)?;
+    count_waiting(alloc, gates, pass, &mut room.waiting, &mut room.lefts)?;
+    Ok(room)
+}
+
+// No room yet.
+fn no_room<A: Actor, K: Behaviours>(alloc: Global) -> Room<A, K>
+    ensures { HasPlaces 0 0 result }
+{
+    Room {
+        waiting: Vec::new(alloc),
+        homes: Vec::new(alloc),
+        ended: Vec::new(alloc),
+        takes: Vec::new(alloc),
+        rows: Vec::new(alloc),
+        lefts: Vec::new(alloc),
+        actors: Vec::new(alloc),
+        senders: Vec::new(alloc),
+    }
+}
+
+// Room for so many actors and so many senders.
+fn reserve<A: Actor, K: Behaviours>(
+    room: &mut Room<A, K>,
+    actors: usize,
+    senders: usize,
+) -> Result<(), AllocError>
+    requires { HasPlaces 0 0 room.old }
+    ensures { IfOk result (λ _. HasPlaces actors senders room.new) }
+{
+    room.waiting.reserve_exact(actors)?;
+    room.homes.reserve_exact(actors)?;
+    room.ended.reserve_exact(actors)?;
+    room.takes.reserve_exact(actors)?;
+    room.rows.reserve_exact(senders)?;
+    room.lefts.reserve_exact(actors)?;
+    room.actors.reserve_exact(actors)?;
+    room.senders.reserve_exact(senders)?;
+    Ok(())
 }
 
 // How many envelopes wait for each actor, and room for as many.
-fn make_lefts<H: Resident>(
+fn count_waiting<H: Resident>(
     alloc: Global,
     gates: &Gates<H>,
     pass: &mut Pass<H>,
-) -> Result<(Vec<u64>, Vec<Vec<Envelope>>), AllocError>
+    counts: &mut Vec<u64>,
+    lefts: &mut Vec<Vec<Envelope>>,
+) -> Result<(), AllocError>
     requires ours { pass_id pass.old ≡ gates_id gates.now }
     requires few { actors_of gates.now ≤ 64 }
+    requires none { (counts.old.items ≡ []) × (lefts.old.items ≡ []) }
+    requires places { (actors_of gates.now ≤ vec_capacity counts.old) × (actors_of gates.now ≤ vec_capacity lefts.old) }
     ensures ours { pass_id pass.new ≡ pass_id pass.old }
     ensures known { IsPart (known_by pass.old).log (known_by pass.new).log }
-    ensures counted { IfOk result (λ made. length made.0.items ≡ actors_of gates.now) }
-    ensures room { IfOk result (λ made. AllZip IsEnough made.0.items made.1.items) }
-    ensures waiting { IfOk result (λ made. AreCounted (known_by pass.new).log made.0.items) }
+    ensures counted { IfOk result (λ _. length counts.new.items ≡ actors_of gates.now) }
+    ensures room { IfOk result (λ _. AllZip IsEnough counts.new.items lefts.new.items) }
+    ensures waiting { IfOk result (λ _. AreCounted (known_by pass.new).log counts.new.items) }
 {
-    let actors = gates.actors();
-    let mut counts = Vec::with_capacity(alloc, actors)?;
-    let mut lefts = Vec::with_capacity(alloc, actors)?;
-    for number in 0..actors {
+    for number in 0..gates.actors() {
         let waiting = gates.waiting(pass, ActorId(number as u32));
         let room = Vec::with_capacity(alloc, waiting as usize)?;
         counts.push_reserved(waiting);
         lefts.push_reserved(room);
     }
-    Ok((counts, lefts))
+    Ok(())
 }

@@ -29,6 +29,22 @@ pub(crate) fn report_on<A: Actor, K: Behaviours>(
     ensures differs { IfErr result (IsOtherwise ended.items (map (λ l. l.items) lefts.items) waiting.now) }
 {
     let mut actors = room;
+    report_each(ended, lefts, waiting, &mut actors)?;
+    Ok(Report { actors, senders })
+}
+
+// The reports on all actors.
+fn report_each<A: Actor, K: Behaviours>(
+    ended: Vec<Ended<A, K>>,
+    lefts: Vec<Vec<Envelope>>,
+    waiting: &[u64],
+    actors: &mut Vec<ActorReport>,
+) -> Result<(), Mismatch>
+    requires many { (length lefts.items ≡ length ended.items) × (length waiting.now ≡ length ended.items) × (length ended.items ≤ 64) }
+    requires room { (actors.old.items ≡ []) × (length ended.items ≤ vec_capacity actors.old) }
+    ensures shows { IfOk result (λ _. ShowsAll K.after ended.items (map (λ l. l.items) lefts.items) waiting.now actors.new.items) }
+    ensures differs { IfErr result (IsOtherwise ended.items (map (λ l. l.items) lefts.items) waiting.now) }
+{
     let mut lefts = lefts.into_iter();
     for one in ended {
         let place = actors.len();
@@ -40,7 +56,7 @@ pub(crate) fn report_on<A: Actor, K: Behaviours>(
         }
         actors.push_reserved(actor_report(one, left));
     }
-    Ok(Report { actors, senders })
+    Ok(())
 }
 
 // Whether as many envelopes are left as were counted, and none that the actor could handle.

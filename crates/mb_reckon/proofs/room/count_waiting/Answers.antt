@@ -3,25 +3,20 @@ use Rattle.mb_gate.specs.Names.{known_by}
 use Rattle.mb_gate.specs.View.{View, Counted}
 use Rattle.mb_reckon.specs.Rooms.{IsEnough}
 use Rattle.mb_reckon.proofs.Steps.{counting-log, none-counted, one-counted, part-more, part-same, zip-more, zip-none}
-use Rattle.mb_reckon.proofs.room.make_lefts.Goals as goal
-
-pub returns-in_err-counts-clause-known : goal.returns-in_err-counts-clause-known
-returns-in_err-counts-clause-known g c = part-same (known_by c.args.pass.now).log
-
-pub returns-in_err-lefts-clause-known : goal.returns-in_err-lefts-clause-known
-returns-in_err-lefts-clause-known g c = part-same (known_by c.args.pass.now).log
+use Rattle.mb_reckon.proofs.room.count_waiting.Goals as goal
 
 pub loop-number-init : goal.loop-number-init
-loop-number-init g c = (
-  refl,
-  part-same (known_by c.args.pass.now).log,
-  ap length c.in_ok-counts.ensures.items,
-  zip-none IsEnough c.in_ok-counts.counts.items c.in_ok-lefts.lefts.items c.in_ok-counts.ensures.items c.in_ok-lefts.ensures.items,
-  refl,
-  refl,
-  ap length c.in_ok-lefts.ensures.items,
-  none-counted (known_by c.args.pass.now).log c.in_ok-counts.counts.items c.in_ok-counts.ensures.items,
-)
+loop-number-init g c =
+    let none = c.requires.none in (
+      refl,
+      part-same (known_by c.args.pass.now).log,
+      ap length none.0,
+      zip-none IsEnough c.args.counts.now.items c.args.lefts.now.items none.0 none.1,
+      refl,
+      refl,
+      ap length none.1,
+      none-counted (known_by c.args.pass.now).log c.args.counts.now.items none.0,
+    )
 
 pub returns-in_err-room-clause-known : goal.returns-in_err-room-clause-known
 returns-in_err-room-clause-known g c =

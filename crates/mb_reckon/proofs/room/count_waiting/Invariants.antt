@@ -3,7 +3,7 @@ use Rattle.std.specs.List.{AllZip}
 use Rattle.mb_gate.specs.Names.{known_by, pass_id}
 use Rattle.mb_gate.specs.Rule.{IsPart}
 use Rattle.mb_reckon.specs.Rooms.{AreCounted, IsEnough}
-use Rattle.mb_reckon.proofs.room.make_lefts.Given as goal
+use Rattle.mb_reckon.proofs.room.count_waiting.Given as goal
 
 abbrev pub invariant-loop-number : goal.invariant-loop-number
 invariant-loop-number g l =
