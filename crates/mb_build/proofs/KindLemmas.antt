@@ -1,7 +1,8 @@
 -- Plans that are taken apart one by one.
-use Rattle.std.proofs.Common.{◌≡◌, ◌&&◌, Bool, true, false, List, [], ◌∷◌, ◌++◌, map, refl, sym, subst, ap, ◌∙◌, append_assoc, arith}
+use Rattle.std.proofs.Common.{◌≡◌, ◌<◌, ◌+◌, ◌&&◌, ℕ, Bool, true, false, List, [], ◌∷◌, ◌++◌, length, take, get_or, refl, sym, subst, arith}
 use Rattle.std.specs.Prelude.{nat_le}
 use Rattle.std.proofs.lemmas.Bool.Decides.{nat_tests}
+use Rattle.std.proofs.lemmas.List.{take_more}
 use Rattle.mb_plan.specs.declared.kind.Kind.{Kind as Mailbox}
 use Rattle.mb_plan.specs.declared.kind.Kind.TheVariants as mailbox
 use Rattle.mb_plan.specs.declared.actor_plan.ActorPlan.{ActorPlan}
@@ -18,11 +19,14 @@ queues-more [] (x ∷ kinds) a k are is = absurd are
 queues-more (p ∷ plans) [] a k are is = absurd are
 queues-more (p ∷ plans) (x ∷ kinds) a k are is = (are.0, queues-more plans kinds a k are.1 is)
 
--- what was taken of the first, with the next
-pub one-more : {X Y : Type 0} (f : X → Y) (done new : List Y) (x : X) (rest all : List X) (whole : List Y) → new ≡ done ++ f x ∷ []
-    → all ≡ x ∷ rest → done ++ map f all ≡ whole → new ++ map f rest ≡ whole
-one-more f done new x rest all whole is steps before =
-    ap (λ l. l ++ map f rest) is ∙ append_assoc done (f x ∷ []) (map f rest) ∙ ap (λ l. done ++ map f l) (sym steps) ∙ before
+-- the queue of the plan in the next place
+pub queues-next : (plans : List ActorPlan) (place : ℕ) (d : ActorPlan) (kinds new : List Kind) (k : Kind) → place < length plans
+    → AreQueues (take place plans) kinds → Queues (get_or plans place d).mailbox k → new ≡ kinds ++ k ∷ []
+    → AreQueues (take (place + 1) plans) new
+queues-next plans place d kinds new k lt are is pushed =
+    subst (λ l. AreQueues l new) (sym (take_more plans place d lt))
+    (subst (AreQueues (take place plans ++ get_or plans place d ∷ [])) (sym pushed)
+    (queues-more (take place plans) kinds (get_or plans place d) k are is))
 
 both_true : (a b : Bool) → (a && b) ≡ true → a ≡ true
 both_true true b e = refl

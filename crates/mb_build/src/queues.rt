@@ -34,7 +34,13 @@ pub(crate) fn make_queues(
 {
     let senders = senders(alloc, kinds.len() as u32 + 1, outside)?;
     let mut queues = first_queue(alloc, senders.len())?;
-    add_queues(alloc, kinds, &senders, &mut queues.takes, &mut queues.senders)?;
+    add_queues(
+        alloc,
+        kinds,
+        &senders,
+        &mut queues.takes,
+        &mut queues.senders,
+    )?;
     Ok(queues)
 }
 

@@ -43,7 +43,7 @@ unreachable-requires g c =
     at.yielded cell rest place all at.invariant.count in
     let count = here.passes-count cells made.0 made.1 ways rows c.requires.cells.0 c.requires.cells.1 made.2 made.3 in
     let none : into_iter_items at.takes ≡ [] = nil_from_length (into_iter_items at.takes) (sym at.takes.rest.ok.0 ∙ c.in_default.ensures.cases.0) in
-    let left = length-drop ways place in let over = ap length (sym at.invariant.takes ∙ none) in
+    let left = length-drop place ways in let over = ap length (sym at.invariant.takes ∙ none) in
     omega (arith, lt, count, left, over)
 
 pub unreachable-requires-in_default-next : goal.unreachable-requires-in_default-next
@@ -66,7 +66,7 @@ new-home-requires-clause-number g c =
     let cell = c.in-Some.cell in let rest = into_iter_items c.next.new.self in let place = length at.homes.items in
     let steps : into_iter_items at.cell-iterator ≡ cell ∷ rest = c.in-Some.ensures.steps.0 in
     let all = ap (λ l. at.yielded ++ l) (sym steps) ∙ at.invariant.cells in
-    let number : c.len-in-loop-cell.result ≡ place = search rules in
+    let number : c.len.result ≡ place = search rules in
     let planned = here.planned-here cells made.0 made.1 ways rows c.requires.cells.0 c.requires.cells.1 made.2 made.3
     at.yielded cell rest place all at.invariant.count in
     ap id number ∙ sym planned.this

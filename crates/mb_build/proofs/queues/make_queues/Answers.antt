@@ -29,11 +29,11 @@ add_queues-requires-clause-none c =
 
 pub returns : goal.returns
 returns c =
-    let made = c.in_ok-add_queues.ensures in let first = c.in_ok-queues.ensures.0 in let old = c.in_ok-queues.queues.senders in
+    let made = c.in_ok-add_queues.ensures.made in let first = c.in_ok-queues.ensures.0 in let old = c.in_ok-queues.queues.senders in
     let new = c.add_queues.new.rows in let numbers = numbers_of c.deref.result.now in
     let count : c.len.result ≡ length c.args.kinds.items = search rules in
     let who : numbers ≡ sender_numbers (length c.args.kinds.items + 1) c.args.outside =
     ap numbers_of c.deref.ensures.value ∙ c.in_ok-senders.ensures ∙ ap (λ n. sender_numbers (n + 1) c.args.outside) count in
-    let rows = ap (map (λ r. r.items)) (refilled old.len old.items new _) ∙ made.3 in
+    let rows = ap (map (λ r. r.items)) (refilled old.len old.items new (c.add_queues.ensures.many ∙ c.deref_mut.ensures.len)) ∙ made.3 in
     all-made-of c.args.kinds.items numbers _ first.0 c.add_queues.new.takes.items made.0 _
     (made.1 ∙ ap (λ l. l ++ made.0) first.1) first.2 made.2 rows who
