@@ -30,9 +30,23 @@ pub(crate) fn cells<A: Actor, K: Behaviours>(
         (identities (length plans.items + 1) journal_limit (map (λ a. a.parent) plans.items) (map (λ a. a.strategy) plans.items))) }
 {
     let parents = parents_of(alloc, &plans)?;
-    let mut cells = Vec::with_capacity(alloc, parents.len() + 1)?;
-    cells.push(guardian(alloc, &parents, journal_limit)?)?;
+    let mut cells = first_cell(alloc, &parents, journal_limit)?;
     add_cells(alloc, &mut cells, plans, actors, &parents, journal_limit)?;
+    Ok(cells)
+}
+
+/// The guardian's cell alone, with room for those of all who have these parents.
+fn first_cell<A: Actor, K: Behaviours>(
+    alloc: Global,
+    parents: &[ActorId],
+    journal_limit: u32,
+) -> Result<Vec<Cell<A, K>>, AllocError>
+    requires { length parents.now < 64 }
+    ensures { IfOk result (λ cells. cells.items ≡ unstarted (guardian_of (length parents.now + 1) journal_limit parents.now) ∷ []) }
+{
+    let guardian = guardian(alloc, parents, journal_limit)?;
+    let mut cells = Vec::with_capacity(alloc, parents.len() + 1)?;
+    cells.push(guardian)?;
     Ok(cells)
 }
 

@@ -1,10 +1,10 @@
-use Rattle.std.proofs.Common.{◌++◌, ◌∷◌, [], length, map, sym, ap, ◌∙◌, arith}
+use Rattle.std.proofs.Common.{length, map, sym, ap, ◌∙◌, arith}
 use Rattle.std.proofs.lemmas.List.{length-map}
 use Rattle.mb_build.proofs.CellLemmas.{all-cells}
 use Rattle.mb_build.proofs.cells.cells.Goals as goal
 
-pub guardian-requires : goal.guardian-requires
-guardian-requires g c =
+pub first_cell-requires : goal.first_cell-requires
+first_cell-requires g c =
     let are = c.in_ok-parents.ensures ∙ ap (map (λ a. a.parent)) c.deref.ensures.value in
     let count = ap length (c.deref-2.ensures.value ∙ are) ∙ length-map c.args.plans.items (λ a. a.parent) in
     let few = c.requires.few in omega (arith, count, few)
@@ -14,10 +14,7 @@ add_cells-requires g c =
     let are = c.in_ok-parents.ensures ∙ ap (map (λ a. a.parent)) c.deref.ensures.value in
     let count = ap length (c.deref-3.ensures.value ∙ are) ∙ length-map c.args.plans.items (λ a. a.parent) in
     let few = c.requires.few in record {
-      few = (
-        ap length c.in_ok-push.ensures.items ∙ ap (λ l. length (l ++ c.in_ok-guardian.guardian ∷ [])) c.in_ok-cells.ensures.items,
-        omega (arith, count, few),
-      );
+      few = (ap length c.in_ok-cells.ensures, omega (arith, count, few));
       many = (sym count, c.requires.many ∙ sym count);
       behaved = c.requires.behaved;
     }
@@ -25,7 +22,5 @@ add_cells-requires g c =
 pub returns : goal.returns
 returns g c =
     let are = c.in_ok-parents.ensures ∙ ap (map (λ a. a.parent)) c.deref.ensures.value in
-    let first = c.in_ok-push.ensures.items
-    ∙ ap (λ l. l ++ c.in_ok-guardian.guardian ∷ []) c.in_ok-cells.ensures.items ∙ ap (λ x. x ∷ []) c.in_ok-guardian.ensures in
-    all-cells c.args.journal_limit c.args.plans.items c.deref-2.result.now c.deref-3.result.now c.push.new.self.items c.add_cells.new.cells.items
-    (c.deref-2.ensures.value ∙ are) (c.deref-3.ensures.value ∙ are) first c.in_ok-add_cells.ensures
+    all-cells c.args.journal_limit c.args.plans.items c.deref-2.result.now c.deref-3.result.now c.in_ok-cells.cells.items c.add_cells.new.cells.items
+    (c.deref-2.ensures.value ∙ are) (c.deref-3.ensures.value ∙ are) c.in_ok-cells.ensures c.in_ok-add_cells.ensures
