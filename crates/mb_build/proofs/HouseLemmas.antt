@@ -1,8 +1,6 @@
 -- What a plan's homes are made of.
 use Rattle.std.proofs.Common.{◌≡◌, ◌<◌, ◌^◌, ℕ, ◌+◌, List, [], ◌∷◌, length, map, drop, refl, sym, ap, ◌∙◌, subst, arith}
 use Rattle.std.proofs.lemmas.List.{drop-map, length-map}
-use Rattle.mb_msg.specs.declared.id.ActorId.{ActorId}
-use Rattle.mb_journal.specs.declared.strategy.Strategy.{Strategy}
 use Rattle.mb_journal.specs.Identity.{Identity}
 use Rattle.mb_cell.specs.Seen.{Seen}
 use Rattle.mb_plan.specs.declared.actor_plan.ActorPlan.{ActorPlan}

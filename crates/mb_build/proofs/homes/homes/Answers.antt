@@ -1,5 +1,4 @@
-use Rattle.std.proofs.Common.{rules, ◌≡◌, ◌∷◌, length, map, drop, sym, ap, ◌∙◌, subst}
-use Rattle.std.specs.Vec.Iter.{into_iter_items}
+use Rattle.std.proofs.Common.{length, map, drop, sym, ap, ◌∙◌, subst}
 use Rattle.std.proofs.lemmas.List.{drop-map}
 use Rattle.mb_build.specs.Made.{AreAllMade}
 use Rattle.mb_build.specs.Numbers.{sender_numbers}

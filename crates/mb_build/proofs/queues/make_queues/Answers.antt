@@ -1,9 +1,7 @@
-use Rattle.std.proofs.Common.{rules, ◌≡◌, ◌≢◌, ◌+◌, ◌++◌, ◌∷◌, [], ℕ, length, map, sym, ap, ◌∙◌, subst, arith}
+use Rattle.std.proofs.Common.{rules, ◌≡◌, ◌≢◌, ◌+◌, ◌++◌, ℕ, length, map, sym, ap, ◌∙◌, subst, arith}
 use Rattle.std.specs.Prelude.{AllPairs}
 use Rattle.std.proofs.lemmas.List.{length-map}
 use Rattle.mb_queue.specs.Made.{numbers_of}
-use Rattle.mb_build.specs.Handed.{passes_of}
-use Rattle.mb_build.specs.Made.{AreAllMade, AreEmpty}
 use Rattle.mb_build.specs.Numbers.{sender_numbers}
 use Rattle.mb_build.proofs.NumberLemmas.{senders-different}
 use Rattle.mb_build.proofs.QueueLemmas.{all-made-of, refilled, unhanded}
