@@ -1,5 +1,5 @@
 //! The actors' cells.
-ghost use Rattle.std.specs.Prelude.{◌≡◌, ◌+◌, ◌++◌, ◌<◌, [], ◌∷◌, IfOk, length, map};
+ghost use Rattle.std.specs.Prelude.{◌≡◌, ◌+◌, ◌++◌, ◌<◌, [], ◌∷◌, IfOk, length, map, vec_capacity};
 ghost use Rattle.mb_build.specs.Behaved.{AreBehaved, IsBehaved};
 ghost use Rattle.mb_build.specs.Identities.{children_from, guardian as guardian_of, identities, planned, planned_from};
 ghost use Rattle.mb_build.specs.Unstarted.{unstarted};
@@ -42,11 +42,11 @@ fn first_cell<A: Actor, K: Behaviours>(
     journal_limit: u32,
 ) -> Result<Vec<Cell<A, K>>, AllocError>
     requires { length parents.now < 64 }
-    ensures { IfOk result (λ cells. cells.items ≡ unstarted (guardian_of (length parents.now + 1) journal_limit parents.now) ∷ []) }
+    ensures first { IfOk result (λ cells. cells.items ≡ unstarted (guardian_of (length parents.now + 1) journal_limit parents.now) ∷ []) }
+    ensures room { IfOk result (λ cells. vec_capacity cells ≡ length parents.now + 1) }
 {
-    let guardian = guardian(alloc, parents, journal_limit)?;
     let mut cells = Vec::with_capacity(alloc, parents.len() + 1)?;
-    cells.push(guardian)?;
+    cells.push_reserved(guardian(alloc, parents, journal_limit)?);
     Ok(cells)
 }
 
@@ -60,6 +60,7 @@ fn add_cells<A: Actor, K: Behaviours>(
     journal_limit: u32,
 ) -> Result<(), AllocError>
     requires few { (length cells.old.items ≡ 1) × (length parents.now < 64) }
+    requires room { vec_capacity cells.old ≡ length parents.now + 1 }
     requires many { (length plans.items ≡ length parents.now) × (length actors.items ≡ length parents.now) }
     requires behaved { AreBehaved A.content A.after A.gives K.after K.gives 1 actors.items }
     ensures { IfOk result (λ _. cells.new.items ≡ cells.old.items ++ map unstarted (planned_from (length parents.now + 1) journal_limit parents.now 1
@@ -85,13 +86,15 @@ fn add_cell<A: Actor, K: Behaviours>(
     journal_limit: u32,
 ) -> Result<(), AllocError>
     requires few { (length cells.old.items < 64) × (length parents.now < 64) }
+    requires room { length cells.old.items < vec_capacity cells.old }
     requires behaved { IsBehaved A.content A.after A.gives (K.after (length cells.old.items)) (K.gives (length cells.old.items)) actor }
-    ensures { IfOk result (λ _. cells.new.items ≡ cells.old.items
+    ensures room { IfOk result (λ _. vec_capacity cells.new ≡ vec_capacity cells.old) }
+    ensures cell { IfOk result (λ _. cells.new.items ≡ cells.old.items
         ++ unstarted (planned (length parents.now + 1) journal_limit parents.now (length cells.old.items) plan.parent plan.strategy) ∷ []) }
 {
     let this = ActorId(cells.len() as u32);
     let prepared = children(alloc, this, parents)?;
-    cells.push(Cell::new(
+    cells.push_reserved(Cell::new(
         alloc,
         this,
         parents.len() as u32 + 1,
@@ -100,7 +103,7 @@ fn add_cell<A: Actor, K: Behaviours>(
         prepared,
         plan.strategy,
         journal_limit,
-    ))?;
+    ));
     Ok(())
 }
 

@@ -1,5 +1,5 @@
 //! The actors' homes.
-ghost use Rattle.std.specs.Prelude.{◌≡◌, ℕ, ◌+◌, ◌++◌, ◌<◌, ◌≤◌, [], ◌∷◌, List, IfOk, drop, length, map};
+ghost use Rattle.std.specs.Prelude.{◌≡◌, ℕ, ◌+◌, ◌++◌, ◌<◌, ◌≤◌, [], ◌∷◌, List, IfOk, drop, length, map, vec_capacity};
 ghost use Rattle.std.specs.Global.{Box as Owned};
 ghost use Rattle.std.specs.Vec.Iter.{into_iter_items};
 ghost use Rattle.mb_home.specs.Contents.{Contents};
@@ -71,10 +71,10 @@ fn enroll<A: Actor, K: Behaviours>(
 {
     let mut roll = Vec::with_capacity(alloc, cells.len())?;
     for number in 0..cells.len() {
-        roll.push(Named {
+        roll.push_reserved(Named {
             cell: Snapshot::of(&cells[number]),
             take: Snapshot::of(&takes[number]),
-        })?;
+        });
     }
     Ok(roll)
 }
@@ -116,7 +116,7 @@ fn add_homes<A: Actor, K: Behaviours>(
     rows: &mut vec::IntoIter<Vec<SendPass>>,
     roll: &Vec<Named<A, K>>,
 ) -> Result<(), AllocError>
-    requires none { homes.old.items ≡ [] }
+    requires none { (homes.old.items ≡ []) × (length cells.items ≤ vec_capacity homes.old) }
     requires few { length cells.items ≤ 64 }
     requires cells { (cells.items ≡ map unstarted (map (λ c. c.who) cells.items))
         × ArePlanned (length cells.items) 0 (map (λ c. c.who) cells.items) }
@@ -149,10 +149,12 @@ fn add<A: Actor, K: Behaviours>(
     homes: &mut Vec<Box<Home<A, K>>>,
     home: Home<A, K>,
 ) -> Result<(), AllocError>
-    ensures { IfOk result (λ _. (own : Owned Contents) × (own.value ≡ home) × (homes.new.items ≡ homes.old.items ++ own ∷ [])) }
+    requires room { length homes.old.items < vec_capacity homes.old }
+    ensures room { IfOk result (λ _. vec_capacity homes.new ≡ vec_capacity homes.old) }
+    ensures added { IfOk result (λ _. (own : Owned Contents) × (own.value ≡ home) × (homes.new.items ≡ homes.old.items ++ own ∷ [])) }
 {
     let home = Box::new(alloc, home)?;
-    homes.push(home)?;
+    homes.push_reserved(home);
     Ok(())
 }
 

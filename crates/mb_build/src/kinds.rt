@@ -30,10 +30,10 @@ fn rows_of(alloc: Global, ranks: &[Rank]) -> Result<Vec<RankRow>, AllocError>
 {
     let mut rows = Vec::with_capacity(alloc, ranks.len())?;
     for rank in ranks {
-        rows.push(RankRow {
+        rows.push_reserved(RankRow {
             kind: rank.kind,
             rank: rank.rank,
-        })?;
+        });
     }
     Ok(rows)
 }

@@ -14,7 +14,7 @@ pub(crate) fn parents_of(alloc: Global, plans: &[ActorPlan]) -> Result<Vec<Actor
 {
     let mut parents = Vec::with_capacity(alloc, plans.len())?;
     for plan in plans {
-        parents.push(plan.parent)?;
+        parents.push_reserved(plan.parent);
     }
     Ok(parents)
 }
@@ -26,7 +26,7 @@ pub(crate) fn kinds_of(alloc: Global, plans: &[ActorPlan]) -> Result<Vec<Kind>, 
     let mut kinds = Vec::with_capacity(alloc, plans.len())?;
     for plan in plans {
         let kind = kind_of(alloc, &plan.mailbox)?;
-        kinds.push(kind)?;
+        kinds.push_reserved(kind);
     }
     Ok(kinds)
 }

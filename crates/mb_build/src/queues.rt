@@ -138,7 +138,7 @@ fn rows(alloc: Global, count: usize) -> Result<Vec<Vec<SendPass>>, AllocError>
 {
     let mut rows = Vec::with_capacity(alloc, count)?;
     for _row in 0..count {
-        rows.push(Vec::new(alloc))?;
+        rows.push_reserved(Vec::new(alloc));
     }
     Ok(rows)
 }

@@ -20,15 +20,15 @@ abbrev pub AreCounted : List Sight → List ℕ → Type 0
 AreCounted log waiting = (id n : ℕ) → slice_get waiting id ≡ Some n → IsAmong (Counted id n) log
 
 -- it is unused, and there is place in it for so many actors and for so many senders
-pub record HasPlaces {A K : Type 0} (actors senders : ℕ) (room : Room A K) : Type 0 where
+pub record HasPlaces {A K : Type 0} (actors all : ℕ) (room : Room A K) : Type 0 where
   pub waiting : (room.waiting.items ≡ []) × (actors ≤ vec_capacity room.waiting)
   pub homes : (room.homes.items ≡ []) × (actors ≤ vec_capacity room.homes)
   pub ended : (room.ended.items ≡ []) × (actors ≤ vec_capacity room.ended)
   pub takes : (room.takes.items ≡ []) × (actors ≤ vec_capacity room.takes)
-  pub rows : (room.rows.items ≡ []) × (senders ≤ vec_capacity room.rows)
+  pub rows : (room.rows.items ≡ []) × (all ≤ vec_capacity room.rows)
   pub lefts : (room.lefts.items ≡ []) × (actors ≤ vec_capacity room.lefts)
   pub reports : (room.actors.items ≡ []) × (actors ≤ vec_capacity room.actors)
-  pub senders : (room.senders.items ≡ []) × (senders ≤ vec_capacity room.senders)
+  pub senders : (room.senders.items ≡ []) × (all ≤ vec_capacity room.senders)
 
 -- There is room for what is left of so many actors and of so many senders outside, and for as many envelopes of each actor as are counted.
 pub record IsRoom {A K : Type 0} (actors outside : ℕ) (room : Room A K) : Type 0 where

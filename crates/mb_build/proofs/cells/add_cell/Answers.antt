@@ -26,10 +26,10 @@ new-requires-clause-allows g c =
     let place : c.len.result ≡ length c.args.cells.now.items = search rules in
     subst (λ n. AllowsSame (g.A.Actor.gives c.args.actor) (g.K.Behaviours.gives n)) (sym place) c.requires.behaved.allows
 
-pub returns : goal.returns
-returns g c =
+pub returns-clause-cell : goal.returns-clause-cell
+returns-clause-cell g c =
     let parents = c.args.parents.now in let cells = c.args.cells.now.items in
     let place : c.len.result ≡ length cells = search rules in
-    c.in_ok-push.ensures.items
+    c.push_reserved.ensures.items
     ∙ ap (λ x. cells ++ x ∷ []) (cell-is (length parents + 1) c.args.journal_limit parents c.len.result (length cells) c.args.plan.parent
     c.args.plan.strategy c.in_ok-prepared.prepared.items c.new.result c.new.ensures.fresh c.in_ok-prepared.ensures place)

@@ -14,6 +14,7 @@ loop-actor-init g c =
           ∙ ap (λ l. cells ++ cells_from (length parents + 1) limit parents 1 l) plans;
       as_many = ap length plans ∙ many.0 ∙ sym many.1 ∙ sym actors;
       left = omega (arith, one, more, actors);
+      room = c.requires.room;
       behaved = subst (AreBehaved g.A.Actor.content g.A.Actor.after g.A.Actor.gives g.K.Behaviours.after g.K.Behaviours.gives (length cells))
           (sym all)
           (subst (λ n. AreBehaved g.A.Actor.content g.A.Actor.after g.A.Actor.gives g.K.Behaviours.after g.K.Behaviours.gives n c.args.actors.items)
@@ -24,8 +25,10 @@ pub add_cell-requires : goal.add_cell-requires
 add_cell-requires g c =
     let at = c.loop-actor in let rest = into_iter_items c.next.new.self in
     let steps : into_iter_items at.actor-iterator ≡ c.in-Some.actor ∷ rest = c.in-Some.ensures.steps.0 in
-    let one = ap length steps in let left = at.invariant.left in let few = c.requires.few.1 in record {
+    let one = ap length steps in let left = at.invariant.left in let few = c.requires.few.1 in
+    let room = at.invariant.room in record {
       few = (omega (arith, left, one, few), few);
+      room = omega (arith, left, one, room);
       behaved = (subst (AreBehaved g.A.Actor.content g.A.Actor.after g.A.Actor.gives g.K.Behaviours.after g.K.Behaviours.gives
           (length at.cells.items)) steps at.invariant.behaved).0;
     }
@@ -36,7 +39,7 @@ loop-actor-preserved g c =
     let parents = c.args.parents.now in let new = c.add_cell.new.cells.items in let after = into_iter_items c.next-in-loop-actor.new.self in
     let steps : into_iter_items at.actor-iterator ≡ actor ∷ rest = c.in-Some.ensures.steps.0 in
     let lines : into_iter_items at.plans ≡ c.in-Some-next.plan ∷ after = c.in-Some-next.ensures.items in
-    let pushed = c.in_ok-add_cell.ensures in
+    let pushed = c.in_ok-add_cell.ensures.cell in
     let next : length new ≡ length at.cells.items + 1 = ap length pushed ∙ length_push at.cells.items _ in
     let as_many = at.invariant.as_many in let left = at.invariant.left in let one = ap length steps in let other = ap length lines in
     let behaved = subst (AreBehaved g.A.Actor.content g.A.Actor.after g.A.Actor.gives g.K.Behaviours.after g.K.Behaviours.gives
@@ -45,6 +48,7 @@ loop-actor-preserved g c =
           (into_iter_items at.plans) after at.cells.items new _ lines next pushed at.invariant.whole;
       as_many = omega (arith, as_many, one, other);
       left = omega (arith, left, one, next);
+      room = c.in_ok-add_cell.ensures.room ∙ at.invariant.room;
       behaved = subst (λ n. AreBehaved g.A.Actor.content g.A.Actor.after g.A.Actor.gives g.K.Behaviours.after g.K.Behaviours.gives n rest)
           (sym next) behaved.1;
     }

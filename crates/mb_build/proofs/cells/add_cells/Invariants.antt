@@ -1,4 +1,4 @@
-use Rattle.std.proofs.Common.{◌≡◌, ◌+◌, ◌++◌, length}
+use Rattle.std.proofs.Common.{◌≡◌, ◌+◌, ◌++◌, length, vec_capacity}
 use Rattle.std.specs.Vec.Iter.{into_iter_items}
 use Rattle.mb_build.specs.Behaved.{AreBehaved}
 use Rattle.mb_build.proofs.CellLemmas.{cells_from}
@@ -10,6 +10,7 @@ invariant-loop-actor g l = record {
       ≡ l.initial.cells.items ++ cells_from (length l.parents + 1) l.journal_limit l.parents 1 l.fn.plans.items;
   as_many : length (into_iter_items l.plans) ≡ length (into_iter_items l.actor-iterator);
   left : length l.cells.items + length (into_iter_items l.actor-iterator) ≡ length l.parents + 1;
+  room : vec_capacity l.cells ≡ length l.parents + 1;
   behaved : AreBehaved g.A.Actor.content g.A.Actor.after g.A.Actor.gives g.K.Behaviours.after g.K.Behaviours.gives (length l.cells.items)
       (into_iter_items l.actor-iterator);
 }

@@ -1,4 +1,4 @@
-use Rattle.std.proofs.Common.{length, map, sym, ap, ◌∙◌, arith}
+use Rattle.std.proofs.Common.{◌+◌, length, map, sym, ap, ◌∙◌, arith}
 use Rattle.std.proofs.lemmas.List.{length-map}
 use Rattle.mb_build.proofs.CellLemmas.{all-cells}
 use Rattle.mb_build.proofs.cells.cells.Goals as goal
@@ -14,7 +14,8 @@ add_cells-requires g c =
     let are = c.in_ok-parents.ensures ∙ ap (map (λ a. a.parent)) c.deref.ensures.value in
     let count = ap length (c.deref-3.ensures.value ∙ are) ∙ length-map c.args.plans.items (λ a. a.parent) in
     let few = c.requires.few in record {
-      few = (ap length c.in_ok-cells.ensures, omega (arith, count, few));
+      few = (ap length c.in_ok-cells.ensures.first, omega (arith, count, few));
+      room = c.in_ok-cells.ensures.room ∙ ap (λ l. length l + 1) (c.deref-2.ensures.value ∙ sym c.deref-3.ensures.value);
       many = (sym count, c.requires.many ∙ sym count);
       behaved = c.requires.behaved;
     }
@@ -23,4 +24,4 @@ pub returns : goal.returns
 returns g c =
     let are = c.in_ok-parents.ensures ∙ ap (map (λ a. a.parent)) c.deref.ensures.value in
     all-cells c.args.journal_limit c.args.plans.items c.deref-2.result.now c.deref-3.result.now c.in_ok-cells.cells.items c.add_cells.new.cells.items
-    (c.deref-2.ensures.value ∙ are) (c.deref-3.ensures.value ∙ are) c.in_ok-cells.ensures c.in_ok-add_cells.ensures
+    (c.deref-2.ensures.value ∙ are) (c.deref-3.ensures.value ∙ are) c.in_ok-cells.ensures.first c.in_ok-add_cells.ensures

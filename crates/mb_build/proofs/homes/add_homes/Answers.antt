@@ -22,10 +22,11 @@ use Rattle.mb_build.proofs.homes.add_homes.Goals as goal
 
 pub loop-cell-init : goal.loop-cell-init
 loop-cell-init g c =
-    let none : c.args.homes.now.items ≡ [] = c.requires.none in let ways = c.args.takes.items in
+    let none : c.args.homes.now.items ≡ [] = c.requires.none.0 in let ways = c.args.takes.items in
     let roll = enrolled (whose c.args.cells.items) ways in record {
       cells = c.into_iter-cell-iterator.ensures.into_iter_gives.0;
       count = ap length none;
+      room = c.requires.none.1;
       takes = c.into_iter-takes.ensures.rest ∙ ap (λ (l : List (Box Contents)). drop (length l) ways) (sym none);
       rows = ap (λ (l : List (Box Contents)). drop (length l) (into_iter_items c.args.rows.now)) (sym none);
       first = subst (λ (l : List (Box Contents)). AreAtFirst roll (drop 1 ways) 0 [] (take (length l) ways) l) (sym none) tt;
@@ -129,6 +130,17 @@ new-home-requires-clause-own g c =
     (here.own-there cells made.0 made.1 ways rows c.requires.cells.0 c.requires.cells.1 made.2 made.3
     at.yielded cell rest place all at.invariant.count take' _ this sends.items _ row)
 
+pub add-requires : goal.add-requires
+add-requires g c =
+    let at = c.loop-cell in let cells = c.args.cells.items in let made = c.requires.made in let ways = c.args.takes.items in
+    let rows = map (λ row. row.items) (into_iter_items c.args.rows.now) in
+    let cell = c.in-Some.cell in let rest = into_iter_items c.next.new.self in let place = length at.homes.items in
+    let steps : into_iter_items at.cell-iterator ≡ cell ∷ rest = c.in-Some.ensures.steps.0 in
+    let all = ap (λ l. at.yielded ++ l) (sym steps) ∙ at.invariant.cells in
+    let lt = here.place-in cells made.0 made.1 ways rows c.requires.cells.0 c.requires.cells.1 made.2 made.3
+    at.yielded cell rest place all at.invariant.count in
+    let room = at.invariant.room in omega (arith, lt, room)
+
 pub loop-cell-preserved : goal.loop-cell-preserved
 loop-cell-preserved g c =
     let at = c.loop-cell in let cells = c.args.cells.items in let made = c.requires.made in let ways = c.args.takes.items in
@@ -143,7 +155,7 @@ loop-cell-preserved g c =
     let lines : into_iter_items at.rows ≡ sends ∷ into_iter_items c.next-in-loop-cell-2.new.self = c.in-Some-next-2.ensures.cases.0 in
     let row : drop place rows ≡ sends.items ∷ map (λ r. r.items) (into_iter_items c.next-in-loop-cell-2.new.self) =
     drop-map (λ r. r.items) place (into_iter_items c.args.rows.now) ∙ ap (map (λ r. r.items)) (sym at.invariant.rows ∙ lines) in
-    let new = c.add.new.homes.items in let added = c.in_ok-add.ensures in let box = added.0 in let home = c.new-home.result in
+    let new = c.add.new.homes.items in let added = c.in_ok-add.ensures.added in let box = added.0 in let home = c.new-home.result in
     let others = drop 1 ways in let roll = enrolled (whose cells) ways in
     let pushed : new ≡ at.homes.items ++ box ∷ [] = added.2 in
     let longer : length new ≡ place + 1 = ap length pushed ∙ length_push at.homes.items box in
@@ -165,6 +177,7 @@ loop-cell-preserved g c =
     (passes ∙ ap (passes_of others) sum) c.requires.roll) in record {
       cells = append_assoc at.yielded (cell ∷ []) rest ∙ all;
       count = omega (arith, longer, further, count);
+      room = let same = c.in_ok-add.ensures.room in let room = at.invariant.room in omega (arith, same, room);
       takes = sym (drop-next place ways take' _ this) ∙ ap (λ n. drop n ways) next;
       rows = sym (drop-next place (into_iter_items c.args.rows.now) sends _ (sym at.invariant.rows ∙ lines))
           ∙ ap (λ n. drop n (into_iter_items c.args.rows.now)) next;

@@ -1,5 +1,5 @@
 use Rattle.std.proofs.Common.{◌<◌, ◌+◌, ◌∷◌, length, drop, sym, ap, ◌∙◌, arith}
-use Rattle.std.proofs.lemmas.List.{at_drop_more, drop_more}
+use Rattle.std.proofs.lemmas.List.{at_drop_more, drop_more, length_push}
 use Rattle.mb_cell.specs.Seen.{Seen}
 use Rattle.mb_queue.specs.Passes.{Taking}
 use Rattle.mb_build.proofs.HomeLemmas.{whose}
@@ -13,11 +13,15 @@ loop-number-preserved g c =
     let test = c.loop-number-test.true in let count = c.requires in
     let lt : at.number < length cells = omega (arith, test) in
     let few : at.number < length takes = omega (arith, test, count) in
-    enrolled-more (whose (drop at.number cells)) (whose (drop (at.number + 1) cells)) (drop at.number takes) (drop (at.number + 1) takes)
+    let more = enrolled-more (whose (drop at.number cells)) (whose (drop (at.number + 1) cells)) (drop at.number takes) (drop (at.number + 1) takes)
     cell.who t _ _ _
     (at_drop_more whose cells at.number cell lt ∙ ap (λ (x : Seen). x.who ∷ whose (drop (at.number + 1) cells)) (sym c.index-cells-number.is))
     (drop_more takes at.number t few ∙ ap (λ (x : Taking). x ∷ drop (at.number + 1) takes) (sym c.index-takes-number.is))
-    (roll-push _ at.roll.items c.push.new.self.items _ (the_enrolled cell.who t) c.in_ok-push.ensures.items
+    (roll-push _ at.roll.items c.push_reserved.new.self.items _ (the_enrolled cell.who t) c.push_reserved.ensures.items
     (ap (λ (x : Seen). the_enrolled x.who c.of-in-loop-number.result.value) c.of.ensures
     ∙ ap (λ (x : Taking). the_enrolled cell.who x) c.of-in-loop-number.ensures))
-    at.invariant
+    at.invariant.0 in (
+      more,
+      ap length c.push_reserved.ensures.items ∙ length_push at.roll.items _ ∙ ap (λ n. n + 1) at.invariant.1,
+      c.push_reserved.ensures.capacity ∙ at.invariant.2,
+    )

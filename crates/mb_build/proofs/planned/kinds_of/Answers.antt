@@ -1,10 +1,13 @@
-use Rattle.std.proofs.Common.{subst}
+use Rattle.std.proofs.Common.{◌+◌, ◌∷◌, [], length, length-append, ap, subst, ◌∙◌, arith}
 use Rattle.mb_build.specs.Kinds.{Queues}
 use Rattle.mb_build.proofs.KindLemmas.{queues-next}
 use Rattle.mb_build.proofs.planned.kinds_of.Goals as goal
 
 pub loop-plan-preserved : goal.loop-plan-preserved
 loop-plan-preserved c =
-    let at = c.loop-plan in let kind = c.in_ok-kind.kind in
-    queues-next c.args.plans.now at.plan-index c.plan-item.result at.kinds.items c.push.new.self.items kind c.loop-plan-test.true at.invariant
-    (subst (λ a. Queues a.mailbox kind) c.plan-item.is c.in_ok-kind.ensures) c.in_ok-push.ensures.items
+    let at = c.loop-plan in let kind = c.in_ok-kind.kind in let new = c.push_reserved.new.self.items in (
+      queues-next c.args.plans.now at.plan-index c.plan-item.result at.kinds.items new kind c.loop-plan-test.true at.invariant.0
+          (subst (λ a. Queues a.mailbox kind) c.plan-item.is c.in_ok-kind.ensures) c.push_reserved.ensures.items,
+      ap length c.push_reserved.ensures.items ∙ length-append at.kinds.items (kind ∷ []) ∙ ap (λ n. n + 1) at.invariant.1,
+      c.push_reserved.ensures.capacity ∙ at.invariant.2,
+    )
