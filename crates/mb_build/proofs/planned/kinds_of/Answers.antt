@@ -1,4 +1,4 @@
-use Rattle.std.proofs.Common.{◌+◌, ◌∷◌, [], length, length-append, ap, subst, ◌∙◌, arith}
+use Rattle.std.proofs.Common.{◌+◌, ◌∷◌, [], length, length-append, ap, subst, ◌∙◌}
 use Rattle.mb_build.specs.Kinds.{Queues}
 use Rattle.mb_build.proofs.KindLemmas.{queues-next}
 use Rattle.mb_build.proofs.planned.kinds_of.Goals as goal
