@@ -21,6 +21,7 @@ ghost use Rattle.mb_system.specs.Debts.{HasPaid, KeepsDebts};
 ghost use Rattle.mb_system.specs.Members.{end_caller, IsEndOf};
 
 use crate::failure::{RunError, of_debts};
+use crate::parting::pass_of;
 use crate::system::System;
 use mb_actor::{Actor, Behaviours};
 use mb_gate::{Claim, Pass};
@@ -43,11 +44,7 @@ pub struct WorkerEnd<A: Actor, K: Behaviours> {
 impl<A: Actor, K: Behaviours> Drop for WorkerEnd<A, K> {
     fn drop(self) {
         let WorkerEnd { number: _, waker } = self;
-        let Waker {
-            pass: _,
-            way: _,
-            owed: _,
-        } = waker;
+        let _ = pass_of(waker);
     }
 }
 
@@ -57,12 +54,7 @@ impl<A: Actor, K: Behaviours> WorkerEnd<A, K> {
         ensures { result ≡ self.waker.pass }
     {
         let WorkerEnd { number: _, waker } = self;
-        let Waker {
-            pass,
-            way: _,
-            owed: _,
-        } = waker;
-        pass
+        pass_of(waker)
     }
 
     /// Gives the claim of the actor to the pool, where the actor has to be given to a worker

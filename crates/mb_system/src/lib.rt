@@ -15,6 +15,7 @@ mod going;
 mod job;
 mod opening;
 mod order;
+mod parting;
 mod quiet;
 mod run;
 mod sender;

@@ -14,7 +14,7 @@ use mb_msg::{ActorId, Body};
 use std::sync::Wait;
 
 /// What is to be sent.
-#[derive(Clone, Copy, Debug, PartialEq, Eq)]
+#[derive(Clone, Copy)]
 pub enum What {
     /// An envelope with this body (`ActorRef.tell`).
     Tell(Body),
@@ -23,7 +23,7 @@ pub enum What {
 }
 
 /// One thing that is to be sent.
-#[derive(Clone, Copy, Debug, PartialEq, Eq)]
+#[derive(Clone, Copy)]
 pub struct Order {
     /// To whom: an envelope to an actor from number 1 on, a Terminate also to the guardian.
     pub to: ActorId,
@@ -32,7 +32,7 @@ pub struct Order {
 }
 
 /// One thing that is to be sent so many times, one after the other.
-#[derive(Clone, Copy, Debug, PartialEq, Eq)]
+#[derive(Clone, Copy)]
 pub struct Repeat {
     /// What is to be sent each time.
     pub order: Order,

@@ -13,6 +13,7 @@ ghost use Rattle.mb_system.specs.Members.{IsSenderOf, sender_caller};
 ghost use Rattle.mb_system.specs.Orders.{OwesNobody};
 
 use crate::failure::{RunError, of_debts};
+use crate::parting::parts_of;
 use crate::system::System;
 use mb_actor::{Actor, Behaviours};
 use mb_gate::Pass;
@@ -20,7 +21,6 @@ use mb_msg::{ActorId, Body};
 use mb_queue::SendPass;
 use mb_send::{Book, Look, Put, Ticket, Unsent};
 use mb_turn::Place;
-use mb_wake::Waker;
 use mb_ways::FeedWay;
 use std::sync::Wait;
 
@@ -33,17 +33,7 @@ pub struct Sender<A: Actor, K: Behaviours> {
 impl<A: Actor, K: Behaviours> Drop for Sender<A, K> {
     fn drop(self) {
         let Sender { inner } = self;
-        let mb_send::Sender {
-            waker,
-            sends: _,
-            book: _,
-            alloc: _,
-        } = inner;
-        let Waker {
-            pass: _,
-            way: _,
-            owed: _,
-        } = waker;
+        let _ = parts_of(inner);
     }
 }
 
@@ -53,18 +43,7 @@ impl<A: Actor, K: Behaviours> Sender<A, K> {
         ensures { (result.0 ≡ self.inner.waker.pass) × (result.1 ≡ self.inner.sends) × (result.2 ≡ self.inner.book) }
     {
         let Sender { inner } = self;
-        let mb_send::Sender {
-            waker,
-            sends,
-            book,
-            alloc: _,
-        } = inner;
-        let Waker {
-            pass,
-            way: _,
-            owed: _,
-        } = waker;
-        (pass, sends, book)
+        parts_of(inner)
     }
 
     /// Looks whether the receiver is open, by one reading of its status.
