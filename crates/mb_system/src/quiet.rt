@@ -40,28 +40,6 @@ impl<A: Actor, K: Behaviours> WorkerEnd<A, K> {
     {
         self.register_all(rt, system);
         let mut turns = Vec::new(system.alloc);
-        self.run_until_quiet(rt, system, &mut turns)?;
-        Ok(turns)
-    }
-
-    // Runs claims until none is there, and adds their turns: the list is another's, who lets it go where this fails.
-    fn run_until_quiet<R: Wait>(
-        &mut self,
-        rt: &R,
-        system: &System<A, K>,
-        turns: &mut Vec<Turn>,
-    ) -> Result<(), RunError>
-        requires ours { IsEndOf system.now.gates self.old.waker }
-        requires debts { HasPaid (actors_of system.now.gates) (end_caller self.old.waker) }
-        ensures ours { IsEndOf system.now.gates self.new.waker }
-        ensures paid { OnOk result (IsNobody self.new.waker.owed) }
-        ensures debts { HasPaid (actors_of system.now.gates) (end_caller self.new.waker) }
-        ensures settled { OnOk result (OwesNothing (actors_of system.now.gates) (end_caller self.new.waker)) }
-        ensures empty { OnOk result (FoundEmpty K.gives self.new) }
-        ensures number { self.new.number ≡ self.old.number }
-        ensures saw { IsPart (known_by self.old.waker.pass).log (known_by self.new.waker.pass).log }
-        ensures fault { IfErr result (BreaksWork K.gives system.now self.new) }
-    {
         for _ in rt.forever() {
             if turns.reserve(1).is_err() {
                 return Err(RunError::NoMemory);
@@ -70,7 +48,7 @@ impl<A: Actor, K: Behaviours> WorkerEnd<A, K> {
                 Some(claim) => turns.push_reserved(self.run_one(rt, system, claim)?),
                 None => {
                     if self.waker.owed.is_empty() {
-                        return Ok(());
+                        return Ok(turns);
                     }
                     self.pay(rt, system)?;
                 }

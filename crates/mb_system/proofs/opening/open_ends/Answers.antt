@@ -4,10 +4,10 @@ use Rattle.std.specs.Vec.Iter.{into_iter_items}
 use Rattle.std.proofs.lemmas.List.{append-nil, length_push, map_push, nil_from_length}
 use Rattle.std.proofs.lemmas.List.Elements.{All-head, All-rest}
 use Rattle.mb_gate.specs.Names.{known_by}
-use Rattle.mb_gate.specs.View.{View}
+use Rattle.mb_gate.specs.View.{View, owes}
 use Rattle.mb_gate.specs.Untouched.{origin_of}
 use Rattle.mb_pool.specs.Places.{gates_of}
-use Rattle.mb_system.specs.Begun.{AreNewEnds, IsNewEnd}
+use Rattle.mb_system.specs.Begun.{AreNewEnds}
 use Rattle.mb_system.specs.Members.{ways_of_ends}
 use Rattle.mb_system.specs.Shared.{KeepsWhole, share_of_end, shares_of_ends}
 use Rattle.mb_system.specs.declared.end.WorkerEnd.{WorkerEnd}
@@ -17,12 +17,11 @@ use Rattle.mb_system.proofs.opening.open_ends.Goals as goal
 
 pub loop-end-init : goal.loop-end-init
 loop-end-init g c =
-    let none = c.requires.room.0 in let all = c.into_iter-end-iterator.ensures.into_iter_gives.0 in
-    let no_end = ap length none in let left = ap length all in let room = c.requires.room.1 in record {
+    let none : c.in_ok-opened.opened.items ≡ [] = search rules in
+    let all = c.into_iter-end-iterator.ensures.into_iter_gives.0 in record {
       whole = all;
       ends = subst (All (λ e. gates_of e ≡ Some (origin_of c.args.gates.now))) (sym all) c.requires.ends;
-      count = no_end;
-      room = omega (arith, no_end, left, room);
+      count = ap length none;
       ours = refl;
       kept = (refl, refl, refl);
       shares = subst (λ l. KeepsWhole (known_by c.args.pass.now).share (known_by c.args.pass.now).share (shares_of_ends l)) (sym none)
@@ -31,43 +30,39 @@ loop-end-init g c =
       ways = ap ways_of_ends none;
     }
 
-pub open_end-requires : goal.open_end-requires
-open_end-requires g c =
-    let at = c.loop-end in let end = c.in-Some.end in let rest = into_iter_items c.next.new.self in let gates = c.args.gates.now in
-    let these = subst (All (λ e. gates_of e ≡ Some (origin_of gates))) c.in-Some.ensures.steps.0 at.invariant.ends in record {
-      ours = (at.invariant.ours ∙ c.requires.ours.0, c.requires.ours.1);
-      end = All-head (λ e. gates_of e ≡ Some (origin_of gates)) end rest these;
-    }
-
-pub push_reserved-requires : goal.push_reserved-requires
-push_reserved-requires g c =
-    let at = c.loop-end in let next = ap length c.in-Some.ensures.steps.0 in let room = at.invariant.room in let many = at.opened.ok.0 in
-    omega (arith, next, room, many)
-
 pub loop-end-preserved : goal.loop-end-preserved
 loop-end-preserved g c =
     let at = c.loop-end in let end = c.in-Some.end in let rest = into_iter_items c.next.new.self in let gates = c.args.gates.now in
     let steps : into_iter_items at.end-iterator ≡ end ∷ rest = c.in-Some.ensures.steps.0 in
+    let these = subst (All (λ e. gates_of e ≡ Some (origin_of gates))) steps at.invariant.ends in
     let place : c.len-number.result ≡ length at.opened.items = search rules in
-    let new = c.open_end.ensures in let pushed = c.push_reserved.ensures.items in let count = at.invariant.count in
-    let longer = ap length pushed ∙ length_push at.opened.items _ in let further = length_push at.yielded end in
-    let next = ap length steps in let room = at.invariant.room in let capacity = c.push_reserved.ensures.capacity in record {
+    let pushed = c.in_ok-push.ensures.items in let count = at.invariant.count in
+    let longer = ap length pushed ∙ length_push at.opened.items _ in let further = length_push at.yielded end in record {
       whole = append_assoc at.yielded (end ∷ []) rest ∙ ap (λ l. at.yielded ++ l) (sym steps) ∙ at.invariant.whole;
       ends = All-rest (λ e. gates_of e ≡ Some (origin_of gates)) end rest (into_iter_items at.end-iterator) steps at.invariant.ends;
       count = omega (arith, longer, further, count);
-      room = omega (arith, longer, next, room, capacity);
-      ours = new.ours ∙ at.invariant.ours;
+      ours = c.apart.ensures.ours.0 ∙ at.invariant.ours;
       kept = (
-        ap (λ (v : View). v.log) new.halved ∙ at.invariant.kept.0,
-        ap (λ (v : View). v.got) new.halved ∙ at.invariant.kept.1,
-        ap (λ (v : View). v.debts) new.halved ∙ at.invariant.kept.2,
+        ap (λ (v : View). v.log) c.apart.ensures.known.0 ∙ at.invariant.kept.0,
+        ap (λ (v : View). v.got) c.apart.ensures.known.0 ∙ at.invariant.kept.1,
+        ap (λ (v : View). v.debts) c.apart.ensures.known.0 ∙ at.invariant.kept.2,
       );
       shares = keeps-next share_of_end (known_by c.args.pass.now).share (known_by at.pass).share _ at.opened.items _ _
-          (ap (λ (v : View). v.share) new.halved) pushed new.share at.invariant.shares;
-      opened = ends-next gates at.opened.items _ _ pushed at.invariant.opened
-          (subst (λ n. IsNewEnd gates n c.open_end.result) place new.opened);
+          (ap (λ (v : View). v.share) c.apart.ensures.known.0) pushed (ap (λ (v : View). v.share) c.apart.ensures.known.1) at.invariant.shares;
+      opened = ends-next gates at.opened.items _ _ pushed at.invariant.opened (record {
+        ours = (
+          c.apart.ensures.ours.1 ∙ at.invariant.ours ∙ c.requires.ours.0,
+          ap gates_of c.new.ensures ∙ All-head (λ e. gates_of e ≡ Some (origin_of gates)) end rest these,
+          c.requires.ours.1,
+        );
+        number_is = place;
+        nobody = c.none.ensures;
+        settled = λ id. ap (owes id) c.apart.ensures.known.1;
+        blank = ap (λ (v : View). v.log) c.apart.ensures.known.1;
+        unclaimed = ap (λ (v : View). v.got) c.apart.ensures.known.1;
+      });
       ways = ap ways_of_ends pushed ∙ map_push (λ (e : WorkerEnd _ _). e.waker.way.end) at.opened.items _
-          ∙ (λ i. at.invariant.ways i ++ new.way i ∷ []);
+          ∙ (λ i. at.invariant.ways i ++ c.new.ensures i ∷ []);
     }
 
 pub returns-clause-opened : goal.returns-clause-opened

@@ -1,5 +1,5 @@
-use Rattle.std.proofs.Common.{◌≡◌, ◌+◌, ◌≤◌, ◌++◌, length}
-use Rattle.std.specs.Prelude.{All, Some, vec_capacity}
+use Rattle.std.proofs.Common.{◌≡◌, ◌++◌, length}
+use Rattle.std.specs.Prelude.{All, Some}
 use Rattle.std.specs.Vec.Iter.{into_iter_items}
 use Rattle.mb_gate.specs.Names.{known_by, pass_id}
 use Rattle.mb_gate.specs.Untouched.{origin_of}
@@ -14,7 +14,6 @@ invariant-loop-end g l = record {
   whole : l.yielded ++ into_iter_items l.end-iterator ≡ l.fn.ends.items;
   ends : All (λ e. gates_of e ≡ Some (origin_of l.gates)) (into_iter_items l.end-iterator);
   count : length l.opened.items ≡ length l.yielded;
-  room : length l.opened.items + length (into_iter_items l.end-iterator) ≤ vec_capacity l.opened;
   ours : pass_id l.pass ≡ pass_id l.initial.pass;
   kept : ((known_by l.pass).log ≡ (known_by l.initial.pass).log) × ((known_by l.pass).got ≡ (known_by l.initial.pass).got)
       × ((known_by l.pass).debts ≡ (known_by l.initial.pass).debts);

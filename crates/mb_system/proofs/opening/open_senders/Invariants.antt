@@ -1,5 +1,5 @@
-use Rattle.std.proofs.Common.{◌≡◌, ◌+◌, ◌≤◌, ◌++◌, drop, length, map, take}
-use Rattle.std.specs.Prelude.{All, Some, vec_capacity}
+use Rattle.std.proofs.Common.{◌≡◌, ◌++◌, drop, length, map, take}
+use Rattle.std.specs.Prelude.{All, Some}
 use Rattle.std.specs.Vec.Iter.{into_iter_items}
 use Rattle.mb_msg.specs.Limits.{most_actors}
 use Rattle.mb_gate.specs.Names.{known_by, pass_id}
@@ -15,7 +15,6 @@ invariant-loop-feed g l = record {
   whole : l.yielded ++ into_iter_items l.feed-iterator ≡ l.fn.feeds.items;
   feeds : All (λ f. gates_of f ≡ Some (origin_of l.gates)) (into_iter_items l.feed-iterator);
   count : length l.senders.items ≡ length l.yielded;
-  room : length l.senders.items + length (into_iter_items l.feed-iterator) ≤ vec_capacity l.senders;
   rows : into_iter_items l.outside ≡ drop (length l.senders.items) l.fn.outside.items;
   ours : pass_id l.pass ≡ pass_id l.initial.pass;
   kept : ((known_by l.pass).log ≡ (known_by l.initial.pass).log) × ((known_by l.pass).got ≡ (known_by l.initial.pass).got)

@@ -1,18 +1,79 @@
-use Rattle.std.proofs.Common.{◌∙◌}
+use Rattle.std.proofs.Common.{◌∙◌, ap, subst, sym}
+use Rattle.mb_gate.specs.Names.{actors_of, known_by}
+use Rattle.mb_gate.specs.Rule.{IsPart}
+use Rattle.mb_system.specs.Found.{FoundEmpty}
+use Rattle.mb_system.specs.Members.{end_caller}
+use Rattle.mb_system.proofs.Debts.{debts-left, debts-same, owes-nothing, paid-still}
 use Rattle.mb_system.proofs.Saw.{saw-then}
 use Rattle.mb_system.proofs.end.WorkerEnd.run_quietly.Goals as goal
 
-pub run_until_quiet-requires : goal.run_until_quiet-requires
-run_until_quiet-requires g c = record { ours = c.register_all.ensures.ours; debts = c.register_all.ensures.paid }
+pub loop-init : goal.loop-init
+loop-init g c =
+    let did = c.register_all.ensures in (did.ours, did.number, did.saw, did.paid)
 
-pub returns-clause-number : goal.returns-clause-number
-returns-clause-number g c = c.run_until_quiet.ensures.number ∙ c.register_all.ensures.number
+pub loop-preserved-in-Some-take : goal.loop-preserved-in-Some-take
+loop-preserved-in-Some-take g c =
+    let did = c.run_one.ensures in let same = c.take.ensures.same in let actors = actors_of c.args.system.now.gates in
+    let old = end_caller c.loop.self.waker in let between = end_caller c.take.new.self.waker in let new = end_caller c.run_one.new.self.waker in (
+      did.ours,
+      did.number ∙ same.3 ∙ c.loop.invariant.1,
+      saw-then _ _ _ c.loop.invariant.2
+          (subst (λ p. IsPart (known_by p).log (known_by c.run_one.new.self.waker.pass).log) same.0 did.leaves.log),
+      paid-still actors between new
+          (paid-still actors old between c.loop.invariant.3 (debts-same actors old between (ap known_by same.0) same.1))
+          (debts-left actors between new did.leaves),
+    )
 
-pub returns-clause-saw : goal.returns-clause-saw
-returns-clause-saw g c = saw-then _ _ _ c.register_all.ensures.saw c.run_until_quiet.ensures.saw
+pub loop-preserved : goal.loop-preserved
+loop-preserved g c =
+    let did = c.pay.ensures in let same = c.take.ensures.same in let actors = actors_of c.args.system.now.gates in
+    let old = end_caller c.loop.self.waker in let between = end_caller c.take.new.self.waker in let new = end_caller c.pay.new.self.waker in (
+      did.ours,
+      did.number ∙ same.3 ∙ c.loop.invariant.1,
+      saw-then _ _ _ c.loop.invariant.2 (subst (λ p. IsPart (known_by p).log (known_by c.pay.new.self.waker.pass).log) same.0 did.saw),
+      paid-still actors between new
+          (paid-still actors old between c.loop.invariant.3 (debts-same actors old between (ap known_by same.0) same.1))
+          did.debts,
+    )
 
-pub returns-in_err-run_until_quiet-clause-number : goal.returns-in_err-run_until_quiet-clause-number
-returns-in_err-run_until_quiet-clause-number g c = c.run_until_quiet.ensures.number ∙ c.register_all.ensures.number
+pub returns-in_err-run_one-in-Some-take-clause-saw : goal.returns-in_err-run_one-in-Some-take-clause-saw
+returns-in_err-run_one-in-Some-take-clause-saw g c =
+    saw-then _ _ _ c.loop.invariant.2
+    (subst (λ p. IsPart (known_by p).log (known_by c.run_one.new.self.waker.pass).log) c.take.ensures.same.0 c.run_one.ensures.leaves.log)
 
-pub returns-in_err-run_until_quiet-clause-saw : goal.returns-in_err-run_until_quiet-clause-saw
-returns-in_err-run_until_quiet-clause-saw g c = saw-then _ _ _ c.register_all.ensures.saw c.run_until_quiet.ensures.saw
+pub returns-in_err-pay-in-None-take-clause-saw : goal.returns-in_err-pay-in-None-take-clause-saw
+returns-in_err-pay-in-None-take-clause-saw g c =
+    saw-then _ _ _ c.loop.invariant.2
+    (subst (λ p. IsPart (known_by p).log (known_by c.pay.new.self.waker.pass).log) c.take.ensures.same.0 c.pay.ensures.saw)
+
+pub returns-in_err-run_one-in-Some-take-clause-debts : goal.returns-in_err-run_one-in-Some-take-clause-debts
+returns-in_err-run_one-in-Some-take-clause-debts g c =
+    let same = c.take.ensures.same in let actors = actors_of c.args.system.now.gates in
+    let old = end_caller c.loop.self.waker in let between = end_caller c.take.new.self.waker in let new = end_caller c.run_one.new.self.waker in
+    paid-still actors between new
+    (paid-still actors old between c.loop.invariant.3 (debts-same actors old between (ap known_by same.0) same.1))
+    (debts-left actors between new c.run_one.ensures.leaves)
+
+pub returns-in_err-pay-in-None-take-clause-debts : goal.returns-in_err-pay-in-None-take-clause-debts
+returns-in_err-pay-in-None-take-clause-debts g c =
+    let same = c.take.ensures.same in let actors = actors_of c.args.system.now.gates in
+    let old = end_caller c.loop.self.waker in let between = end_caller c.take.new.self.waker in let new = end_caller c.pay.new.self.waker in
+    paid-still actors between new
+    (paid-still actors old between c.loop.invariant.3 (debts-same actors old between (ap known_by same.0) same.1)) c.pay.ensures.debts
+
+pub returns-then-is_empty-clause-debts : goal.returns-then-is_empty-clause-debts
+returns-then-is_empty-clause-debts g c =
+    let same = c.take.ensures.same in let actors = actors_of c.args.system.now.gates in
+    let old = end_caller c.loop.self.waker in let new = end_caller c.take.new.self.waker in
+    paid-still actors old new c.loop.invariant.3 (debts-same actors old new (ap known_by same.0) same.1)
+
+pub returns-then-is_empty-clause-empty : goal.returns-then-is_empty-clause-empty
+returns-then-is_empty-clause-empty g c =
+    let none = c.in-None-take.ensures.none in subst (FoundEmpty g.K.Behaviours.gives) (sym none.0) none.1
+
+pub returns-then-is_empty-clause-settled : goal.returns-then-is_empty-clause-settled
+returns-then-is_empty-clause-settled g c =
+    let same = c.take.ensures.same in let actors = actors_of c.args.system.now.gates in
+    let old = end_caller c.loop.self.waker in let new = end_caller c.take.new.self.waker in
+    owes-nothing actors new (paid-still actors old new c.loop.invariant.3 (debts-same actors old new (ap known_by same.0) same.1))
+    (λ id lt. c.is_empty.ensures.nobody c.if-is_empty.true id)

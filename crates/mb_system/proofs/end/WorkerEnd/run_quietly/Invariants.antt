@@ -3,7 +3,7 @@ use Rattle.mb_gate.specs.Names.{actors_of, known_by}
 use Rattle.mb_gate.specs.Rule.{IsPart}
 use Rattle.mb_system.specs.Debts.{HasPaid}
 use Rattle.mb_system.specs.Members.{IsEndOf, end_caller}
-use Rattle.mb_system.proofs.end.WorkerEnd.run_until_quiet.Given as goal
+use Rattle.mb_system.proofs.end.WorkerEnd.run_quietly.Given as goal
 
 abbrev pub invariant-loop : goal.invariant-loop
 invariant-loop g l =
