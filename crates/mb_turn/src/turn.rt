@@ -1,7 +1,7 @@
 use mb_msg::ActorId;
 
 /// What one run did.
-#[derive(Clone, Copy, Debug, PartialEq, Eq)]
+#[derive(Clone, Copy)]
 pub struct Turn {
     /// Whose mailbox was run.
     pub actor: ActorId,

@@ -68,6 +68,26 @@ pub release-requires-clause-rest : goal.release-requires-clause-rest
 release-requires-clause-rest g c =
     home-rest _ _ _ c.run_claim-outcome.new.claim c.run_claim-outcome.ensures.running c.run_claim-outcome.ensures.beside
 
+pub register-requires-clause-ours : goal.register-requires-clause-ours
+register-requires-clause-ours g c = (
+  c.release.ensures.ours ∙ c.run_claim-outcome.ensures.ours.0,
+  c.run_claim-outcome.ensures.ours.1,
+)
+
+pub returns-in-Ok-clause-ours : goal.returns-in-Ok-clause-ours
+returns-in-Ok-clause-ours g c = (
+  c.register.ensures.ours.0 ∙ c.release.ensures.ours ∙ c.run_claim-outcome.ensures.ours.0,
+  c.register.ensures.ours.1 ∙ c.run_claim-outcome.ensures.ours.1,
+  c.requires.ours.2,
+)
+
+pub returns-in-Err-clause-ours : goal.returns-in-Err-clause-ours
+returns-in-Err-clause-ours g c = (
+  c.register.ensures.ours.0 ∙ c.release.ensures.ours ∙ c.run_claim-outcome.ensures.ours.0,
+  c.register.ensures.ours.1 ∙ c.run_claim-outcome.ensures.ours.1,
+  c.requires.ours.2,
+)
+
 pub register-requires-clause-there : goal.register-requires-clause-there
 register-requires-clause-there g c =
     let below = subst (λ n. n < actors_of c.args.gates.now) (sym c.actor-actor.ensures) c.requires.untouched.ours.there in

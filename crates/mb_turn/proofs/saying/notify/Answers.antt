@@ -1,4 +1,4 @@
-use Rattle.std.proofs.Common.{sym, refl, subst}
+use Rattle.std.proofs.Common.{arith, sym, refl, subst, ◌∙◌}
 use Rattle.std.specs.Prelude.{is_err}
 use Rattle.mb_gate.specs.Named.{NamesBelow}
 use Rattle.mb_gate.specs.Names.{actors_of, known_by}
@@ -7,6 +7,25 @@ use Rattle.mb_turn.proofs.CallerLemmas.{account-woken, further-said}
 use Rattle.mb_turn.proofs.MoveLemmas.{moves-does, further-moves}
 use Rattle.mb_turn.proofs.SayLemmas.{notified}
 use Rattle.mb_turn.proofs.saying.notify.Goals as goal
+
+pub sys_enqueue_in_run-requires-clause-ours : goal.sys_enqueue_in_run-requires-clause-ours
+sys_enqueue_in_run-requires-clause-ours g c = c.requires.ours.0
+
+pub register-requires-clause-ours : goal.register-requires-clause-ours
+register-requires-clause-ours g c = (c.sys_enqueue_in_run.ensures.ours ∙ c.requires.ours.0, c.requires.ours.1)
+
+pub register-requires-clause-there : goal.register-requires-clause-there
+register-requires-clause-there g c = (c.requires.there.0, omega (arith, c.requires.there.0, c.requires.ours.2))
+
+pub returns-clause-ours : goal.returns-clause-ours
+returns-clause-ours g c = (
+  c.register.ensures.ours.0 ∙ c.sys_enqueue_in_run.ensures.ours ∙ c.requires.ours.0,
+  c.register.ensures.ours.1 ∙ c.requires.ours.1,
+  c.requires.ours.2,
+)
+
+pub returns-in_default-clause-ours : goal.returns-in_default-clause-ours
+returns-in_default-clause-ours g c = (c.sys_enqueue_in_run.ensures.ours ∙ c.requires.ours.0, c.requires.ours.1, c.requires.ours.2)
 
 pub sys_enqueue_in_run-requires-clause-named : goal.sys_enqueue_in_run-requires-clause-named
 sys_enqueue_in_run-requires-clause-named g c = subst (NamesBelow (actors_of c.args.gates.now)) (sym c.set.ensures) c.requires.there.1

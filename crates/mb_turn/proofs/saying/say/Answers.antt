@@ -1,4 +1,4 @@
-use Rattle.std.proofs.Common.{◌<◌, Some, sym, refl, ap, ◌∙◌, subst}
+use Rattle.std.proofs.Common.{◌<◌, Some, sym, refl, ap, ◌∙◌, subst, arith}
 use Rattle.std.specs.Global.{Box}
 use Rattle.mb_status.specs.Mailbox.{Mailbox}
 use Rattle.mb_gate.specs.Named.{NamesBelow}
@@ -16,6 +16,28 @@ use Rattle.mb_turn.proofs.MoveLemmas.{moves-does, further-moves}
 use Rattle.mb_turn.proofs.SayLemmas.{running-goes, running-said, running-refused, keeps-recorded, keeps-answered, beside-said, beside-answered}
 use Rattle.mb_turn.proofs.SayLemmas.{home-answered}
 use Rattle.mb_turn.proofs.saying.say.Goals as goal
+
+-- ---- the waker stays one of these gates
+
+pub sys_enqueue_in_run-requires-clause-ours : goal.sys_enqueue_in_run-requires-clause-ours
+sys_enqueue_in_run-requires-clause-ours g c = c.requires.ours.0
+
+pub register-requires-clause-ours : goal.register-requires-clause-ours
+register-requires-clause-ours g c = (c.sys_enqueue_in_run.ensures.ours ∙ c.requires.ours.0, c.requires.ours.1)
+
+pub register-requires-clause-there : goal.register-requires-clause-there
+register-requires-clause-there g c =
+    let below = c.requires.running.sends.0.0 in (below, omega (arith, below, c.requires.ours.2))
+
+pub returns-in-Ok-clause-ours : goal.returns-in-Ok-clause-ours
+returns-in-Ok-clause-ours g c = (
+  c.register.ensures.ours.0 ∙ c.sys_enqueue_in_run.ensures.ours ∙ c.requires.ours.0,
+  c.register.ensures.ours.1 ∙ c.requires.ours.1,
+  c.requires.ours.2,
+)
+
+pub answer-requires-clause-ours : goal.answer-requires-clause-ours
+answer-requires-clause-ours g c = (c.sys_enqueue_in_run.ensures.ours ∙ c.requires.ours.0, c.requires.ours.1, c.requires.ours.2)
 
 pub sys_enqueue_in_run-requires-clause-there : goal.sys_enqueue_in_run-requires-clause-there
 sys_enqueue_in_run-requires-clause-there g c = c.requires.running.sends.0.0

@@ -19,6 +19,47 @@ use Rattle.mb_turn.proofs.TellingLemmas.{running-own, told-below, log-closed, pa
 use Rattle.mb_turn.proofs.TellingLemmas.{running-pushed, running-refused_push, running-told_closed}
 use Rattle.mb_turn.proofs.telling.tell.Goals as goal
 
+-- ---- the waker stays one of these gates
+
+pub status-status-requires-clause-ours : goal.status-status-requires-clause-ours
+status-status-requires-clause-ours g c = c.requires.ours.0
+
+pub note_sent-requires-clause-ours : goal.note_sent-requires-clause-ours
+note_sent-requires-clause-ours g c = c.status-status.ensures.ours ∙ c.requires.ours.0
+
+pub register-requires-clause-ours : goal.register-requires-clause-ours
+register-requires-clause-ours g c = (
+  c.note_sent.ensures.ours ∙ c.status-status.ensures.ours ∙ c.requires.ours.0,
+  c.requires.ours.1,
+)
+
+pub note_unsent-requires-clause-ours : goal.note_unsent-requires-clause-ours
+note_unsent-requires-clause-ours g c = c.note_sent.ensures.ours ∙ c.status-status.ensures.ours ∙ c.requires.ours.0
+
+pub register-requires-in-Err-clause-ours : goal.register-requires-in-Err-clause-ours
+register-requires-in-Err-clause-ours g c = (
+  c.note_unsent.ensures.ours ∙ c.note_sent.ensures.ours ∙ c.status-status.ensures.ours ∙ c.requires.ours.0,
+  c.requires.ours.1,
+)
+
+pub returns-then-closed-clause-ours : goal.returns-then-closed-clause-ours
+returns-then-closed-clause-ours g c = (c.status-status.ensures.ours ∙ c.requires.ours.0, c.requires.ours.1, c.requires.ours.2)
+
+pub returns-in-Ok-clause-ours : goal.returns-in-Ok-clause-ours
+returns-in-Ok-clause-ours g c = (
+  c.register.ensures.ours.0 ∙ c.note_sent.ensures.ours ∙ c.status-status.ensures.ours ∙ c.requires.ours.0,
+  c.register.ensures.ours.1 ∙ c.requires.ours.1,
+  c.requires.ours.2,
+)
+
+pub returns-in-Err-clause-ours : goal.returns-in-Err-clause-ours
+returns-in-Err-clause-ours g c = (
+  c.register-in-Err.ensures.ours.0 ∙ c.note_unsent.ensures.ours ∙ c.note_sent.ensures.ours ∙ c.status-status.ensures.ours
+      ∙ c.requires.ours.0,
+  c.register-in-Err.ensures.ours.1 ∙ c.requires.ours.1,
+  c.requires.ours.2,
+)
+
 pub status-status-requires-clause-there : goal.status-status-requires-clause-there
 status-status-requires-clause-there g c = told-below _ _ _ _ _ _ c.requires.running
 
