@@ -17,6 +17,58 @@ use Rattle.mb_turn.proofs.acts.carry.Goals as goal
 
 -- ---- a tell, and a system message
 
+pub tell-requires-clause-ours : goal.tell-requires-clause-ours
+tell-requires-clause-ours g c = c.requires.ours
+
+pub tell-requires-clause-running : goal.tell-requires-clause-running
+tell-requires-clause-running g c =
+    subst (λ (a : Handed). IsRunning g.K.Behaviours.gives (origin_of c.args.gates.now) (act_of a ∷ c.args.claim.now.home.value.cell.acts)
+    (known_by c.args.waker.now.pass).log (hold_of c.args.claim.now)) c.in-Tell.is c.requires.running
+
+pub tell-requires-clause-beside : goal.tell-requires-clause-beside
+tell-requires-clause-beside g c = c.requires.beside
+
+pub say-requires-clause-ours : goal.say-requires-clause-ours
+say-requires-clause-ours g c = c.requires.ours
+
+pub say-requires-clause-running : goal.say-requires-clause-running
+say-requires-clause-running g c =
+    subst (λ (a : Handed). IsRunning g.K.Behaviours.gives (origin_of c.args.gates.now) (act_of a ∷ c.args.claim.now.home.value.cell.acts)
+    (known_by c.args.waker.now.pass).log (hold_of c.args.claim.now)) c.in-Sys.is c.requires.running
+
+pub say-requires-clause-beside : goal.say-requires-clause-beside
+say-requires-clause-beside g c = c.requires.beside
+
+pub returns-in-Tell-clause-ours : goal.returns-in-Tell-clause-ours
+returns-in-Tell-clause-ours g c = c.tell.ensures.ours
+
+pub returns-in-Tell-clause-running : goal.returns-in-Tell-clause-running
+returns-in-Tell-clause-running g c = c.tell.ensures.running
+
+pub returns-in-Tell-clause-beside : goal.returns-in-Tell-clause-beside
+returns-in-Tell-clause-beside g c = c.tell.ensures.beside
+
+pub returns-in-Tell-clause-same : goal.returns-in-Tell-clause-same
+returns-in-Tell-clause-same g c = c.tell.ensures.same
+
+pub returns-in-Tell-clause-goes : goal.returns-in-Tell-clause-goes
+returns-in-Tell-clause-goes g c = c.tell.ensures.goes
+
+pub returns-in-Sys-clause-ours : goal.returns-in-Sys-clause-ours
+returns-in-Sys-clause-ours g c = c.say.ensures.ours
+
+pub returns-in-Sys-clause-running : goal.returns-in-Sys-clause-running
+returns-in-Sys-clause-running g c = c.say.ensures.running
+
+pub returns-in-Sys-clause-beside : goal.returns-in-Sys-clause-beside
+returns-in-Sys-clause-beside g c = c.say.ensures.beside
+
+pub returns-in-Sys-clause-same : goal.returns-in-Sys-clause-same
+returns-in-Sys-clause-same g c = c.say.ensures.same
+
+pub returns-in-Sys-clause-goes : goal.returns-in-Sys-clause-goes
+returns-in-Sys-clause-goes g c = c.say.ensures.goes
+
 pub returns-in-Tell-clause-left : goal.returns-in-Tell-clause-left
 returns-in-Tell-clause-left g c = ap (λ (x : Seen). x.acts) c.tell.ensures.left
 
@@ -42,6 +94,9 @@ suspend-requires-clause-few g c =
     let r = subst (λ (a : Handed). IsRunning g.K.Behaviours.gives (origin_of c.args.gates.now) (act_of a ∷ c.args.claim.now.home.value.cell.acts)
     (known_by c.args.waker.now.pass).log (hold_of c.args.claim.now)) c.in-SuspendSelf.is c.requires.running in
     (running-suspend _ _ _ _ _ r).0
+
+pub returns-in-SuspendSelf-clause-ours : goal.returns-in-SuspendSelf-clause-ours
+returns-in-SuspendSelf-clause-ours g c = c.requires.ours
 
 pub returns-in-SuspendSelf-clause-running : goal.returns-in-SuspendSelf-clause-running
 returns-in-SuspendSelf-clause-running g c =
@@ -82,6 +137,9 @@ resume-requires-clause-ours g c = c.requires.running.ours
 pub resume-requires-clause-there : goal.resume-requires-clause-there
 resume-requires-clause-there g c = c.requires.running.there
 
+pub returns-in-ResumeSelf-clause-ours : goal.returns-in-ResumeSelf-clause-ours
+returns-in-ResumeSelf-clause-ours g c = c.requires.ours
+
 pub returns-in-ResumeSelf-clause-running : goal.returns-in-ResumeSelf-clause-running
 returns-in-ResumeSelf-clause-running g c =
     let old = c.args.claim.now in let new = c.resume.new.claim in let did = c.resume.ensures in
@@ -114,6 +172,35 @@ pub returns-in-ResumeSelf-clause-goes : goal.returns-in-ResumeSelf-clause-goes
 returns-in-ResumeSelf-clause-goes g c = further-none _
 
 -- ---- the end
+
+pub close-requires-clause-ours : goal.close-requires-clause-ours
+close-requires-clause-ours g c = c.requires.ours
+
+pub close-requires-clause-running : goal.close-requires-clause-running
+close-requires-clause-running g c =
+    subst (λ (a : Handed). IsRunning g.K.Behaviours.gives (origin_of c.args.gates.now) (act_of a ∷ c.args.claim.now.home.value.cell.acts)
+    (known_by c.args.waker.now.pass).log (hold_of c.args.claim.now)) c.in-CloseSelf.is c.requires.running
+
+pub close-requires-clause-beside : goal.close-requires-clause-beside
+close-requires-clause-beside g c = c.requires.beside
+
+pub returns-in-CloseSelf-clause-ours : goal.returns-in-CloseSelf-clause-ours
+returns-in-CloseSelf-clause-ours g c = c.close.ensures.ours
+
+pub returns-in-CloseSelf-clause-running : goal.returns-in-CloseSelf-clause-running
+returns-in-CloseSelf-clause-running g c = c.close.ensures.running
+
+pub returns-in-CloseSelf-clause-beside : goal.returns-in-CloseSelf-clause-beside
+returns-in-CloseSelf-clause-beside g c = c.close.ensures.beside
+
+pub returns-in-CloseSelf-clause-left : goal.returns-in-CloseSelf-clause-left
+returns-in-CloseSelf-clause-left g c = c.close.ensures.left
+
+pub returns-in-CloseSelf-clause-same : goal.returns-in-CloseSelf-clause-same
+returns-in-CloseSelf-clause-same g c = c.close.ensures.same
+
+pub returns-in-CloseSelf-clause-goes : goal.returns-in-CloseSelf-clause-goes
+returns-in-CloseSelf-clause-goes g c = c.close.ensures.goes
 
 pub returns-in-CloseSelf-clause-cleared : goal.returns-in-CloseSelf-clause-cleared
 returns-in-CloseSelf-clause-cleared g c =

@@ -76,7 +76,37 @@ returns-in_err-clean_next-clause-same g c =
     (ap (λ (x : Contents). x.cell) (c.in_err-clean_next.ensures.refused ∙ c.deref_mut.ensures.value))
     (ap (λ (x : Contents). x.take) (c.in_err-clean_next.ensures.refused ∙ c.deref_mut.ensures.value)))
 
+pub returns-in_err-clean_next-clause-closed : goal.returns-in_err-clean_next-clause-closed
+returns-in_err-clean_next-clause-closed g c = c.loop.invariant.2
+
 -- ---- none was there
+
+pub returns-then-not-branch-clause-closed : goal.returns-then-not-branch-clause-closed
+returns-then-not-branch-clause-closed g c = c.loop.invariant.2
+
+pub returns-then-not-branch-clause-none : goal.returns-then-not-branch-clause-none
+returns-then-not-branch-clause-none g c =
+    let at_home = subst (λ (x : Contents). MatchBool c.in_ok-clean_next.field-0 (Cleans x c.clean_next.new.self) (FindsNone x
+    c.clean_next.new.self)) c.deref_mut.ensures.value c.in_ok-clean_next.ensures.cleaned in
+    let found = subst (λ b. MatchBool b (Cleans c.loop.claim.home.value c.clean_next.new.self) (FindsNone c.loop.claim.home.value
+    c.clean_next.new.self)) c.if-not-branch.true at_home in
+    ap (λ (x : Contents). x.rest) found.same ∙ c.loop.invariant.5
+
+pub returns-then-not-branch-clause-given : goal.returns-then-not-branch-clause-given
+returns-then-not-branch-clause-given g c =
+    let at_home = subst (λ (x : Contents). MatchBool c.in_ok-clean_next.field-0 (Cleans x c.clean_next.new.self) (FindsNone x
+    c.clean_next.new.self)) c.deref_mut.ensures.value c.in_ok-clean_next.ensures.cleaned in
+    let found = subst (λ b. MatchBool b (Cleans c.loop.claim.home.value c.clean_next.new.self) (FindsNone c.loop.claim.home.value
+    c.clean_next.new.self)) c.if-not-branch.true at_home in
+    (ap given_of found.same ∙ c.loop.invariant.6, c.loop.invariant.7)
+
+pub returns-then-not-branch-clause-left : goal.returns-then-not-branch-clause-left
+returns-then-not-branch-clause-left g c =
+    let at_home = subst (λ (x : Contents). MatchBool c.in_ok-clean_next.field-0 (Cleans x c.clean_next.new.self) (FindsNone x
+    c.clean_next.new.self)) c.deref_mut.ensures.value c.in_ok-clean_next.ensures.cleaned in
+    let found = subst (λ b. MatchBool b (Cleans c.loop.claim.home.value c.clean_next.new.self) (FindsNone c.loop.claim.home.value
+    c.clean_next.new.self)) c.if-not-branch.true at_home in
+    ap (λ (x : Contents). x.cell) found.same ∙ c.loop.invariant.8
 
 pub returns-then-not-branch-clause-running : goal.returns-then-not-branch-clause-running
 returns-then-not-branch-clause-running g c =
