@@ -29,6 +29,68 @@ use Rattle.mb_turn.proofs.TellingLemmas.{keeps-asked, beside-cell}
 use Rattle.mb_turn.proofs.TurningLemmas.{turning-keeps}
 use Rattle.mb_turn.proofs.envelopes.apply_envelope.Goals as goal
 
+-- ---- what goes on as it was, and what the acts tell
+
+pub carry_out-requires-clause-ours : goal.carry_out-requires-clause-ours
+carry_out-requires-clause-ours g c = c.requires.ours
+
+pub returns-then-not-should_process-clause-ours : goal.returns-then-not-should_process-clause-ours
+returns-then-not-should_process-clause-ours g c = c.requires.ours
+
+pub returns-then-not-should_process-clause-few : goal.returns-then-not-should_process-clause-few
+returns-then-not-should_process-clause-few g c = omega arith
+
+pub returns-in_default-clause-ours : goal.returns-in_default-clause-ours
+returns-in_default-clause-ours g c = c.requires.ours
+
+pub returns-in_default-clause-few : goal.returns-in_default-clause-few
+returns-in_default-clause-few g c = omega arith
+
+pub returns-in_err-ready-clause-ours : goal.returns-in_err-ready-clause-ours
+returns-in_err-ready-clause-ours g c = c.requires.ours
+
+pub returns-in_err-ready-clause-few : goal.returns-in_err-ready-clause-few
+returns-in_err-ready-clause-few g c = omega arith
+
+pub returns-then-not-should_process-clause-running : goal.returns-then-not-should_process-clause-running
+returns-then-not-should_process-clause-running g c = c.requires.running
+
+pub returns-then-not-should_process-clause-beside : goal.returns-then-not-should_process-clause-beside
+returns-then-not-should_process-clause-beside g c = c.requires.beside
+
+pub returns-then-not-should_process-clause-carried_out : goal.returns-then-not-should_process-clause-carried_out
+returns-then-not-should_process-clause-carried_out g c = c.requires.carried_out
+
+pub returns-in-Ok-clause-ours : goal.returns-in-Ok-clause-ours
+returns-in-Ok-clause-ours g c = c.carry_out.ensures.ours
+
+pub returns-in-Ok-clause-running : goal.returns-in-Ok-clause-running
+returns-in-Ok-clause-running g c = c.carry_out.ensures.running
+
+pub returns-in-Ok-clause-beside : goal.returns-in-Ok-clause-beside
+returns-in-Ok-clause-beside g c = c.carry_out.ensures.beside
+
+pub returns-in-Ok-clause-carried_out : goal.returns-in-Ok-clause-carried_out
+returns-in-Ok-clause-carried_out g c = c.carry_out.ensures.carried_out
+
+pub returns-in-Ok-clause-goes : goal.returns-in-Ok-clause-goes
+returns-in-Ok-clause-goes g c = c.carry_out.ensures.goes
+
+pub returns-in-Err-clause-ours : goal.returns-in-Err-clause-ours
+returns-in-Err-clause-ours g c = c.carry_out.ensures.ours
+
+pub returns-in-Err-clause-running : goal.returns-in-Err-clause-running
+returns-in-Err-clause-running g c = c.carry_out.ensures.running
+
+pub returns-in-Err-clause-beside : goal.returns-in-Err-clause-beside
+returns-in-Err-clause-beside g c = c.carry_out.ensures.beside
+
+pub returns-in-Err-clause-carried_out : goal.returns-in-Err-clause-carried_out
+returns-in-Err-clause-carried_out g c = c.carry_out.ensures.carried_out
+
+pub returns-in-Err-clause-goes : goal.returns-in-Err-clause-goes
+returns-in-Err-clause-goes g c = c.carry_out.ensures.goes
+
 -- ---- the status was not open
 
 pub returns-then-not-should_process-clause-turning : goal.returns-then-not-should_process-clause-turning
