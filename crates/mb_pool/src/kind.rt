@@ -1,5 +1,5 @@
 /// How the ends of a pool share its claims.
-#[derive(Clone, Copy)]
+#[derive(Clone, Copy, Debug, Drop, PartialEq, Eq)]
 pub enum Kind {
     /// One queue of 64 places for all (the executor of Akka's `thread-pool-executor`).
     Shared,
