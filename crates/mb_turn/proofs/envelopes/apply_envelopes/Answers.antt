@@ -25,6 +25,97 @@ loop-handled-init g c = (
   cleared-same (hold_of c.args.claim.now) (hold_of c.args.claim.now) refl refl,
 )
 
+-- ---- what holds between two envelopes, and what one of the steps tells
+
+pub apply_envelope-requires-clause-ours : goal.apply_envelope-requires-clause-ours
+apply_envelope-requires-clause-ours g c = c.loop-handled.invariant.0
+
+pub apply_envelope-requires-clause-running : goal.apply_envelope-requires-clause-running
+apply_envelope-requires-clause-running g c = c.loop-handled.invariant.1
+
+pub apply_envelope-requires-clause-beside : goal.apply_envelope-requires-clause-beside
+apply_envelope-requires-clause-beside g c = c.loop-handled.invariant.2
+
+pub apply_envelope-requires-clause-carried_out : goal.apply_envelope-requires-clause-carried_out
+apply_envelope-requires-clause-carried_out g c = c.loop-handled.invariant.3
+
+pub apply_envelope-requires-clause-turning : goal.apply_envelope-requires-clause-turning
+apply_envelope-requires-clause-turning g c = c.loop-handled.invariant.4
+
+pub apply_envelope-requires-clause-whole : goal.apply_envelope-requires-clause-whole
+apply_envelope-requires-clause-whole g c = c.loop-handled.invariant.7
+
+pub apply_systems-requires-clause-ours : goal.apply_systems-requires-clause-ours
+apply_systems-requires-clause-ours g c = c.apply_envelope.ensures.ours
+
+pub apply_systems-requires-clause-running : goal.apply_systems-requires-clause-running
+apply_systems-requires-clause-running g c = c.apply_envelope.ensures.running
+
+pub apply_systems-requires-clause-beside : goal.apply_systems-requires-clause-beside
+apply_systems-requires-clause-beside g c = c.apply_envelope.ensures.beside
+
+pub apply_systems-requires-clause-carried_out : goal.apply_systems-requires-clause-carried_out
+apply_systems-requires-clause-carried_out g c = c.apply_envelope.ensures.carried_out
+
+pub apply_systems-requires-clause-turning : goal.apply_systems-requires-clause-turning
+apply_systems-requires-clause-turning g c = c.apply_envelope.ensures.turning.0
+
+pub returns-in_err-took-clause-ours : goal.returns-in_err-took-clause-ours
+returns-in_err-took-clause-ours g c = c.apply_envelope.ensures.ours
+
+pub returns-in_err-took-clause-running : goal.returns-in_err-took-clause-running
+returns-in_err-took-clause-running g c = c.apply_envelope.ensures.running
+
+pub returns-in_err-took-clause-beside : goal.returns-in_err-took-clause-beside
+returns-in_err-took-clause-beside g c = c.apply_envelope.ensures.beside
+
+pub returns-in_err-took-clause-carried_out : goal.returns-in_err-took-clause-carried_out
+returns-in_err-took-clause-carried_out g c = c.apply_envelope.ensures.carried_out
+
+pub returns-then-not-took-clause-ours : goal.returns-then-not-took-clause-ours
+returns-then-not-took-clause-ours g c = c.apply_envelope.ensures.ours
+
+pub returns-then-not-took-clause-running : goal.returns-then-not-took-clause-running
+returns-then-not-took-clause-running g c = c.apply_envelope.ensures.running
+
+pub returns-then-not-took-clause-beside : goal.returns-then-not-took-clause-beside
+returns-then-not-took-clause-beside g c = c.apply_envelope.ensures.beside
+
+pub returns-then-not-took-clause-carried_out : goal.returns-then-not-took-clause-carried_out
+returns-then-not-took-clause-carried_out g c = c.apply_envelope.ensures.carried_out
+
+pub returns-in_err-apply_systems-clause-ours : goal.returns-in_err-apply_systems-clause-ours
+returns-in_err-apply_systems-clause-ours g c = c.apply_systems.ensures.ours
+
+pub returns-in_err-apply_systems-clause-running : goal.returns-in_err-apply_systems-clause-running
+returns-in_err-apply_systems-clause-running g c = c.apply_systems.ensures.running
+
+pub returns-in_err-apply_systems-clause-beside : goal.returns-in_err-apply_systems-clause-beside
+returns-in_err-apply_systems-clause-beside g c = c.apply_systems.ensures.beside
+
+pub returns-in_err-apply_systems-clause-carried_out : goal.returns-in_err-apply_systems-clause-carried_out
+returns-in_err-apply_systems-clause-carried_out g c = c.apply_systems.ensures.carried_out
+
+pub returns-clause-ours : goal.returns-clause-ours
+returns-clause-ours g c = c.loop-handled.invariant.0
+
+pub returns-clause-running : goal.returns-clause-running
+returns-clause-running g c = c.loop-handled.invariant.1
+
+pub returns-clause-beside : goal.returns-clause-beside
+returns-clause-beside g c = c.loop-handled.invariant.2
+
+pub returns-clause-carried_out : goal.returns-clause-carried_out
+returns-clause-carried_out g c = c.loop-handled.invariant.3
+
+pub returns-clause-goes : goal.returns-clause-goes
+returns-clause-goes g c = c.loop-handled.invariant.8
+
+pub returns-clause-turning : goal.returns-clause-turning
+returns-clause-turning g c = (c.loop-handled.invariant.4, c.loop-handled.invariant.5)
+
+-- ---- how it ends
+
 pub returns-in_err-took-clause-turning : goal.returns-in_err-took-clause-turning
 returns-in_err-took-clause-turning g c =
     (c.apply_envelope.ensures.turning.0, same-run-then _ _ _ c.loop-handled.invariant.5 c.apply_envelope.ensures.turning.1)

@@ -28,6 +28,76 @@ loop-init g c = (
   cleared-same (hold_of c.args.claim.now) (hold_of c.args.claim.now) refl refl,
 )
 
+-- ---- what holds between two steps, and what one of them tells
+
+pub apply_one-requires-clause-ours : goal.apply_one-requires-clause-ours
+apply_one-requires-clause-ours g c = c.loop.invariant.2
+
+pub apply_one-requires-clause-running : goal.apply_one-requires-clause-running
+apply_one-requires-clause-running g c = c.loop.invariant.3
+
+pub apply_one-requires-clause-beside : goal.apply_one-requires-clause-beside
+apply_one-requires-clause-beside g c = c.loop.invariant.4
+
+pub apply_one-requires-clause-carried_out : goal.apply_one-requires-clause-carried_out
+apply_one-requires-clause-carried_out g c = c.loop.invariant.5
+
+pub apply_one-requires-clause-turning : goal.apply_one-requires-clause-turning
+apply_one-requires-clause-turning g c = c.loop.invariant.6
+
+pub drain-requires-clause-beside : goal.drain-requires-clause-beside
+drain-requires-clause-beside g c = c.loop.invariant.4
+
+pub drain-requires-clause-carried_out : goal.drain-requires-clause-carried_out
+drain-requires-clause-carried_out g c = c.loop.invariant.5
+
+pub returns-in_err-apply_one-clause-ours : goal.returns-in_err-apply_one-clause-ours
+returns-in_err-apply_one-clause-ours g c = c.apply_one.ensures.ours
+
+pub returns-in_err-apply_one-clause-running : goal.returns-in_err-apply_one-clause-running
+returns-in_err-apply_one-clause-running g c = c.apply_one.ensures.running
+
+pub returns-in_err-apply_one-clause-beside : goal.returns-in_err-apply_one-clause-beside
+returns-in_err-apply_one-clause-beside g c = c.apply_one.ensures.beside
+
+pub returns-in_err-apply_one-clause-carried_out : goal.returns-in_err-apply_one-clause-carried_out
+returns-in_err-apply_one-clause-carried_out g c = c.apply_one.ensures.carried_out
+
+pub returns-then-closed-clause-ours : goal.returns-then-closed-clause-ours
+returns-then-closed-clause-ours g c = c.loop.invariant.2
+
+pub returns-then-closed-clause-running : goal.returns-then-closed-clause-running
+returns-then-closed-clause-running g c = c.loop.invariant.3
+
+pub returns-then-closed-clause-beside : goal.returns-then-closed-clause-beside
+returns-then-closed-clause-beside g c = c.loop.invariant.4
+
+pub returns-then-closed-clause-carried_out : goal.returns-then-closed-clause-carried_out
+returns-then-closed-clause-carried_out g c = c.loop.invariant.5
+
+pub returns-then-closed-clause-envelopes : goal.returns-then-closed-clause-envelopes
+returns-then-closed-clause-envelopes g c = c.loop.invariant.8
+
+pub returns-then-closed-clause-goes : goal.returns-then-closed-clause-goes
+returns-then-closed-clause-goes g c = c.loop.invariant.9
+
+pub returns-then-closed-clause-turning : goal.returns-then-closed-clause-turning
+returns-then-closed-clause-turning g c = (c.loop.invariant.6, c.loop.invariant.7)
+
+pub returns-then-not-drain-clause-beside : goal.returns-then-not-drain-clause-beside
+returns-then-not-drain-clause-beside g c = c.drain.ensures.beside
+
+pub returns-then-not-drain-clause-ours : goal.returns-then-not-drain-clause-ours
+returns-then-not-drain-clause-ours g c = c.loop.invariant.2
+
+pub returns-then-not-drain-clause-envelopes : goal.returns-then-not-drain-clause-envelopes
+returns-then-not-drain-clause-envelopes g c = c.loop.invariant.8
+
+pub returns-then-not-drain-clause-goes : goal.returns-then-not-drain-clause-goes
+returns-then-not-drain-clause-goes g c = c.loop.invariant.9
+
+-- ---- the mailbox is closed
+
 pub returns-then-closed-clause-whole : goal.returns-then-closed-clause-whole
 returns-then-closed-clause-whole g c = inl (sym (c.closed.ensures ∙ ap (λ (m : Mailbox). m.closed) c.status.ensures) ∙ c.if-closed.true)
 

@@ -20,6 +20,27 @@ use Rattle.mb_turn.proofs.systems.apply_one.Goals as goal
 
 -- ---- there was no room
 
+pub carry_out-requires-clause-ours : goal.carry_out-requires-clause-ours
+carry_out-requires-clause-ours g c = c.requires.ours
+
+pub returns-in_err-ready-clause-ours : goal.returns-in_err-ready-clause-ours
+returns-in_err-ready-clause-ours g c = c.requires.ours
+
+pub returns-clause-ours : goal.returns-clause-ours
+returns-clause-ours g c = c.carry_out.ensures.ours
+
+pub returns-clause-running : goal.returns-clause-running
+returns-clause-running g c = c.carry_out.ensures.running
+
+pub returns-clause-beside : goal.returns-clause-beside
+returns-clause-beside g c = c.carry_out.ensures.beside
+
+pub returns-clause-carried_out : goal.returns-clause-carried_out
+returns-clause-carried_out g c = c.carry_out.ensures.carried_out
+
+pub returns-clause-goes : goal.returns-clause-goes
+returns-clause-goes g c = c.carry_out.ensures.goes
+
 pub returns-in_err-ready-clause-running : goal.returns-in_err-ready-clause-running
 returns-in_err-ready-clause-running g c =
     let same = subst (λ (x : Contents). c.ready.new.self

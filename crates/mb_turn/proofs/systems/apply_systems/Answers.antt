@@ -11,6 +11,48 @@ use Rattle.mb_turn.proofs.systems.apply_systems.Goals as goal
 pub is_quiet-requires-clause-running : goal.is_quiet-requires-clause-running
 is_quiet-requires-clause-running g c = ((known_by c.args.waker.now.pass).log, c.requires.running)
 
+pub is_quiet-requires-clause-beside : goal.is_quiet-requires-clause-beside
+is_quiet-requires-clause-beside g c = c.requires.beside
+
+pub is_quiet-requires-clause-carried_out : goal.is_quiet-requires-clause-carried_out
+is_quiet-requires-clause-carried_out g c = c.requires.carried_out
+
+pub returns-then-is_quiet-clause-beside : goal.returns-then-is_quiet-clause-beside
+returns-then-is_quiet-clause-beside g c = c.is_quiet.ensures.beside
+
+pub returns-then-is_quiet-clause-ours : goal.returns-then-is_quiet-clause-ours
+returns-then-is_quiet-clause-ours g c = c.requires.ours
+
+pub apply_all-requires-clause-beside : goal.apply_all-requires-clause-beside
+apply_all-requires-clause-beside g c = c.is_quiet.ensures.beside
+
+pub apply_all-requires-clause-ours : goal.apply_all-requires-clause-ours
+apply_all-requires-clause-ours g c = c.requires.ours
+
+pub returns-clause-ours : goal.returns-clause-ours
+returns-clause-ours g c = c.apply_all.ensures.ours
+
+pub returns-clause-running : goal.returns-clause-running
+returns-clause-running g c = c.apply_all.ensures.running
+
+pub returns-clause-beside : goal.returns-clause-beside
+returns-clause-beside g c = c.apply_all.ensures.beside
+
+pub returns-clause-carried_out : goal.returns-clause-carried_out
+returns-clause-carried_out g c = c.apply_all.ensures.carried_out
+
+pub returns-clause-envelopes : goal.returns-clause-envelopes
+returns-clause-envelopes g c = c.apply_all.ensures.envelopes
+
+pub returns-clause-whole : goal.returns-clause-whole
+returns-clause-whole g c = c.apply_all.ensures.whole
+
+pub returns-clause-goes : goal.returns-clause-goes
+returns-clause-goes g c = c.apply_all.ensures.goes
+
+pub returns-clause-full : goal.returns-clause-full
+returns-clause-full g c = c.apply_all.ensures.full
+
 -- ---- no system message is due
 
 pub returns-then-is_quiet-clause-running : goal.returns-then-is_quiet-clause-running
