@@ -1,5 +1,0 @@
-use Rattle.std.proofs.Common.{◌≡◌, map, replicate, []}
-use Rattle.mb_build.proofs.queues.rows.Given as goal
-
-abbrev pub invariant-loop-row : goal.invariant-loop-row
-invariant-loop-row l = map (λ row. row.items) l.rows.items ≡ replicate l._row []
