@@ -52,3 +52,6 @@ if opt.get('top'):
     c={}
     for n in order: c[n]=(pf*proof.get(n,15)*(2 if E[n]>1 else 1)+tf*tests.get(n,0)+E[n]*edit.get(n,20))/60
     for n in sorted(c,key=lambda n:-c[n])[:int(opt['top'])]: print(f'{n:18} {c[n]:6.1f} min  proof {proof.get(n,15):.0f} tests {tests.get(n,0):.0f} edits {E[n]} x {edit.get(n,20)}')
+if opt.get('log'):
+    for a,d,k in sorted(log,key=lambda x:x[0]+x[1]):
+        if k[1]!='edits' or opt['log']=='all': print(f'{a/60:6.1f} -> {(a+d)/60:6.1f}  {k[0]} {k[1]}')
