@@ -1,5 +1,5 @@
 /// What an actor answers to a call. In Akka an exception stands for `Failed`, and `unhandled` for `Unhandled`.
-#[derive(Clone, Copy, Debug, PartialEq, Eq, PartialOrd, Ord, Hash)]
+#[derive(Clone, Copy, Debug, PartialEq, Eq)]
 pub enum Answer {
     /// The call did what it is for.
     Handled,

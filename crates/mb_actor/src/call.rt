@@ -2,7 +2,7 @@ use crate::message::Message;
 use mb_msg::Cause;
 
 /// A call of an actor (the hooks of `akka.actor.Actor`).
-#[derive(Clone, Copy, Debug, PartialEq, Eq, PartialOrd, Ord, Hash)]
+#[derive(Clone, Copy, Debug, PartialEq, Eq)]
 pub enum Call {
     /// `preStart`.
     Start,

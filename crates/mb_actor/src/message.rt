@@ -1,7 +1,7 @@
 use mb_msg::ActorId;
 
 /// What an actor is asked to handle.
-#[derive(Clone, Copy, Debug, PartialEq, Eq, PartialOrd, Ord, Hash)]
+#[derive(Clone, Copy, Debug, PartialEq, Eq)]
 pub enum Message {
     /// A message of some sender: a kind, by which the actor tells messages apart, and a value.
     User { kind: u32, value: i64 },

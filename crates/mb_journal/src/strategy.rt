@@ -4,7 +4,7 @@ ghost use Rattle.mb_journal.specs.Supervision.{matches, decided_by, default_dire
 use mb_msg::{Cause, Directive};
 
 /// Which causes of failure a row of a strategy is about (the cases of a decider of Akka's `SupervisorStrategy`).
-#[derive(Clone, Copy, Debug, PartialEq, Eq, PartialOrd, Ord, Hash)]
+#[derive(Clone, Copy, Debug, PartialEq, Eq)]
 pub enum Pattern {
     /// Any cause.
     Any,

@@ -1,7 +1,7 @@
 use crate::envelope::Envelope;
 
 /// Why an envelope was not queued, or was taken from its queue unhandled.
-#[derive(Clone, Copy, Debug, PartialEq, Eq, PartialOrd, Ord, Hash)]
+#[derive(Clone, Copy, Debug, PartialEq, Eq)]
 pub enum Why {
     /// The receiver's mailbox was closed.
     Closed,
@@ -14,7 +14,7 @@ pub enum Why {
 }
 
 /// An envelope that no actor handles (Akka's `DeadLetter`, with the reason that Akka does not give).
-#[derive(Clone, Copy, Debug, PartialEq, Eq, PartialOrd, Ord, Hash)]
+#[derive(Clone, Copy, Debug, PartialEq, Eq)]
 pub struct DeadLetter {
     /// What was sent.
     pub envelope: Envelope,

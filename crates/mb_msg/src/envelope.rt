@@ -1,7 +1,7 @@
 use crate::id::{ActorId, SenderId};
 
 /// What an envelope carries (the messages that Akka's `ActorCell.receiveMessage` and `autoReceiveMessage` tell apart).
-#[derive(Clone, Copy, Debug, PartialEq, Eq, PartialOrd, Ord, Hash)]
+#[derive(Clone, Copy, Debug, PartialEq, Eq)]
 pub enum Body {
     /// A message for the actor itself: a kind, by which the actor tells messages apart, and a value.
     User { kind: u32, value: i64 },
@@ -19,7 +19,7 @@ pub enum Body {
 /// A message on its way, with what names it: of all envelopes of one sender each has a number of its own.
 ///
 /// The fields lie in an order that takes 32 bytes. Envelopes compare by them in this order, which no rule rests on.
-#[derive(Clone, Copy, Debug, PartialEq, Eq, PartialOrd, Ord, Hash)]
+#[derive(Clone, Copy, Debug, PartialEq, Eq)]
 pub struct Envelope {
     /// Who sent it.
     pub by: SenderId,

@@ -1,5 +1,5 @@
 /// Why an actor failed (in Akka the exception that its supervisor is told).
-#[derive(Clone, Copy, Debug, PartialEq, Eq, PartialOrd, Ord, Hash)]
+#[derive(Clone, Copy, Debug, PartialEq, Eq)]
 pub enum Cause {
     /// The actor answered that it failed, with this number.
     Error(u32),
@@ -12,7 +12,7 @@ pub enum Cause {
 }
 
 /// What a supervisor does about a child that failed (Akka's `SupervisorStrategy.Directive`).
-#[derive(Clone, Copy, Debug, PartialEq, Eq, PartialOrd, Ord, Hash)]
+#[derive(Clone, Copy, Debug, PartialEq, Eq)]
 pub enum Directive {
     /// The child goes on with its content.
     Resume,

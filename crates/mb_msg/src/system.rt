@@ -2,7 +2,7 @@ use crate::id::ActorId;
 use crate::supervision::Cause;
 
 /// A message between the cells of actors, which goes before all envelopes (`akka.dispatch.sysmsg`).
-#[derive(Clone, Copy, Debug, PartialEq, Eq, PartialOrd, Ord, Hash)]
+#[derive(Clone, Copy, Debug, PartialEq, Eq)]
 pub enum SysMsg {
     /// The first message of an actor: starts it.
     Create,

@@ -1,5 +1,5 @@
 /// The place of a kind of message in a priority mailbox.
-#[derive(Clone, Copy, Debug, PartialEq, Eq, PartialOrd, Ord, Hash)]
+#[derive(Clone, Copy, Debug, PartialEq, Eq)]
 pub struct Rank {
     /// The kind of message.
     pub kind: u32,

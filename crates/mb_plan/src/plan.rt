@@ -1,7 +1,7 @@
 use crate::actor_plan::ActorPlan;
 
 /// How actors that have work reach the workers.
-#[derive(Clone, Copy, Debug, PartialEq, Eq, PartialOrd, Ord, Hash)]
+#[derive(Clone, Copy, Debug, PartialEq, Eq)]
 pub enum Pool {
     /// One queue for all workers (the executor of Akka's `thread-pool-executor`).
     Shared,
