@@ -14,7 +14,6 @@ use std::snapshot::Snapshot;
 /// It has room before and behind: wherever it lies, nothing else lies in one line of a processor's memory with what each
 /// step reads of it, so that no writes beside it slow the steps of other processors. Of a home it keeps a memory alone, so that
 /// threads may share gates of homes that go from thread to thread and are never shared.
-#[derive(Drop)]
 #[repr(C)]
 pub struct Gates<H: Resident> {
     pub(crate) before: [u64; 8],
@@ -27,4 +26,18 @@ pub struct Gates<H: Resident> {
     ghost keyed: { table.shared.key.actors ≡ actors },
     ghost known: { first ≡ table.shared.key.first },
     ghost some: { (0 < actors) × (actors ≤ 4294967296) },
+}
+
+// Written out: of a derived `Drop` each crate above would prove again how all that is inside is let go.
+impl<H: Resident> Drop for Gates<H> {
+    fn drop(self) {
+        let Gates {
+            before: _,
+            table,
+            actors: _,
+            first: _,
+            after: _,
+        } = self;
+        drop(table);
+    }
 }

@@ -18,12 +18,24 @@ use std::marker::Model;
 /// What came to an actor and what became of it (this project's own profile: Akka keeps no journal).
 ///
 /// Room for an entry is made beforehand, by `ready`: to add the entry takes no memory.
-#[derive(Debug, Drop)]
+#[derive(Debug)]
 pub struct Journal {
     rows: Vec<Row>,
     effects: Vec<Effect>,
     limit: u32,
     ready: bool,
+}
+
+// Written out: of a derived `Drop` each crate above would prove again how all that is inside is let go.
+impl Drop for Journal {
+    fn drop(self) {
+        let Journal {
+            rows: _,
+            effects: _,
+            limit: _,
+            ready: _,
+        } = self;
+    }
 }
 
 impl Model for Journal {

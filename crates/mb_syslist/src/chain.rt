@@ -8,10 +8,17 @@ use std::marker::Model;
 use std::{fmt, mem};
 
 /// Messages that a list gave, the earliest first, each with its number.
-#[derive(Drop)]
 pub struct Chain {
     first: Link,
     number: u64,
+}
+
+// Written out: of a derived `Drop` each crate above would prove again how all that is inside is let go.
+impl Drop for Chain {
+    fn drop(self) {
+        let Chain { first, number: _ } = self;
+        drop(first);
+    }
 }
 
 impl Model for Chain {

@@ -13,12 +13,24 @@ pub struct ListClosed(pub Node);
 
 /// The system messages of one actor that no run has drained yet, and how many were drained before
 /// (Akka's `LatestFirstSystemMessageList`).
-#[derive(Drop)]
 pub struct SysList {
     latest: Link,
     pushed: u64,
     given: u64,
     closed: bool,
+}
+
+// Written out: of a derived `Drop` each crate above would prove again how all that is inside is let go.
+impl Drop for SysList {
+    fn drop(self) {
+        let SysList {
+            latest,
+            pushed: _,
+            given: _,
+            closed: _,
+        } = self;
+        drop(latest);
+    }
 }
 
 impl Model for SysList {

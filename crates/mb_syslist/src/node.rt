@@ -8,9 +8,16 @@ use std::fmt;
 use std::marker::Model;
 
 /// A system message in memory of its own, on its way to a list or back from one.
-#[derive(Drop)]
 pub struct Node {
     entry: Box<Entry>,
+}
+
+// Written out: of a derived `Drop` each crate above would prove again how all that is inside is let go.
+impl Drop for Node {
+    fn drop(self) {
+        let Node { entry } = self;
+        drop(entry);
+    }
 }
 
 impl Model for Node {
@@ -61,7 +68,8 @@ impl Node {
     pub(crate) fn into_entry(self) -> Box<Entry>
         ensures { result.value ≡ record { message = self; next = End } }
     {
-        self.entry
+        let Node { entry } = self;
+        entry
     }
 
     /// The node of a box which leads to no other.
