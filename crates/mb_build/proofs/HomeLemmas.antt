@@ -92,11 +92,11 @@ module _ (cells : List Seen) (kinds : List Kind) (outside : ℕ) (ways : List Ta
       pass-there = pass-of kinds (sender_numbers (length cells) outside) parts.0 parts.1 rows place t takes' parts.3 here
 
       -- and its home is its own
-      pub own-there : (row : List Sending) (more : List (List Sending)) → drop place rows ≡ row ∷ more
-          → IsOwn (at_first cell t row 0 (enrolled (whose cells) ways))
-      own-there row more there =
-          subst (λ w. IsOwn (at_first cell t row 0 (enrolled (whose cells) w))) (sym parts.2)
-          (subst (λ l. IsOwn (at_first cell t l 0 (enrolled (whose cells) (parts.0 ∷ parts.1)))) (sym (own-row row more there))
+      pub own-there : (sends : List Sending) (more : List (List Sending)) → drop place rows ≡ sends ∷ more
+          → IsOwn (at_first cell t sends 0 (enrolled (whose cells) ways))
+      own-there sends more there =
+          subst (λ w. IsOwn (at_first cell t sends 0 (enrolled (whose cells) w))) (sym parts.2)
+          (subst (λ l. IsOwn (at_first cell t l 0 (enrolled (whose cells) (parts.0 ∷ parts.1)))) (sym (own-row sends more there))
           (subst (λ x. IsOwn (at_first x t (passes_of parts.1 place) 0 (enrolled (whose cells) (parts.0 ∷ parts.1)))) (sym unstarted-there)
           (own-first kinds (sender_numbers (length cells) outside) parts.0 parts.1 rows (whose cells) place cell.who t (whose rest) takes' parts.3
           (sym (ap length parts.2) ∙ passes-count ∙ sym (length-map cells (λ (c : Seen). c.who)))
