@@ -174,18 +174,18 @@ fn push_sent(sent: &mut Vec<Envelope>, all: &[Sent]) -> Result<(), AllocError> {
     for one in all {
         sent.extend_from_slice(&one.envelopes)?;
     }
-    sent.sort_by_key(name_of)
+    sent.sort_by_key(sender_and_number)
 }
 
 /// All that stand somewhere, by sender and number.
 fn push_stood(stood: &mut Vec<Envelope>, report: &Report) -> Result<(), AllocError> {
     push_fates(stood, report)?;
     push_dead(stood, report)?;
-    stood.sort_by_key(name_of)
+    stood.sort_by_key(sender_and_number)
 }
 
 /// By what an envelope is known: its sender, and its number among that sender's.
-fn name_of(envelope: &Envelope) -> (u32, u64) {
+fn sender_and_number(envelope: &Envelope) -> (u32, u64) {
     (envelope.by.0, envelope.number)
 }
 
