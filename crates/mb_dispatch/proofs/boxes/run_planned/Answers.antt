@@ -5,7 +5,7 @@ use Rattle.mb_reckon.proofs.Lists.{length-mapped}
 use Rattle.mb_system.specs.Begun.{actors_in}
 use Rattle.mb_system.specs.declared.order.Order.{Order}
 use Rattle.mb_dispatch.specs.Refused.{IsComplete}
-use Rattle.mb_dispatch.specs.Untold.{IsNoStory, IsRight}
+use Rattle.mb_dispatch.specs.Untold.{IsNoStory, IsRight, IsUnfit}
 use Rattle.mb_dispatch.proofs.Rolls.{actors-there}
 use Rattle.mb_dispatch.proofs.Sent.{err-of, may-break, orders_of}
 use Rattle.mb_dispatch.proofs.Story.{no-end-missing, no-sender-missing, senders-there, some-end, story}
@@ -61,6 +61,6 @@ returns-in-Err-finish-clause-refused g c =
 pub returns-in_err-check-clause-refused : goal.returns-in_err-check-clause-refused
 returns-in_err-check-clause-refused g c =
     let gives = g.K.Behaviours.gives in let plan = c.args.plan in let actors = length c.args.actors.items in
-    let orders = orders_of c.args.sends.now in
-    err-of (IsNoStory gives plan actors orders) c.from_residual.result c.in_err-check.field-0.0 c.from_residual.ensures.1
-    (unfit gives plan actors orders c.in_err-check.field-0.0 c.in_err-check.ensures)
+    let orders = orders_of c.args.sends.now in let error = c.in_err-check.field-0.0 in
+    let refused : IsUnfit plan actors orders error = search rules in
+    err-of (IsNoStory gives plan actors orders) c.from_residual.result error c.from_residual.ensures.1 (unfit gives plan actors orders error refused)
