@@ -1,5 +1,7 @@
 ghost use Rattle.std.specs.Prelude.{◌≡◌, ◌*◌, ◌<◌, ◌≤◌};
 
+mod finish;
+
 use crate::key::Key;
 use crate::law::Law;
 use crate::resident::Resident;

@@ -12,7 +12,6 @@
 #![tactic(auto)]
 
 mod claim;
-mod finish;
 mod gates;
 mod holding;
 mod key;
