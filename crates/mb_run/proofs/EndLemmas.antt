@@ -1,6 +1,6 @@
 -- What a run came to, once its system has ended.
 use Rattle.std.proofs.Common.{◌≡◌, ℕ, ◌+◌, ◌-◌, ℤ, List, ◌++◌, length, map, reverse, sym, ap, ◌∙◌, subst, arith, Some}
-use Rattle.std.specs.Prelude.{All, Err, IfErr, IfOk, Ok, Result, ◌<◌, slice_get}
+use Rattle.std.specs.Prelude.{Err, IfErr, IfOk, Ok, Result, ◌<◌, slice_get}
 use Rattle.std.proofs.lemmas.List.{append-nil, length-map}
 use Rattle.std.proofs.lemmas.List.Elements.{All-map}
 use Rattle.std.proofs.lemmas.Option.{same_Some}
@@ -11,7 +11,7 @@ use Rattle.mb_fates.specs.Accepted.{accepted}
 use Rattle.mb_fates.specs.declared.posting.Posting.{Posting}
 use Rattle.mb_gate.specs.Names.{actors_of, first_of, known_by}
 use Rattle.mb_gate.specs.Rule.{IsPart}
-use Rattle.mb_gate.specs.View.{Sight, View}
+use Rattle.mb_gate.specs.View.{Sight}
 use Rattle.mb_home.specs.Roll.{Enrolled}
 use Rattle.mb_build.proofs.HouseLemmas.{length-who}
 use Rattle.mb_plan.specs.declared.plan.Plan.{Plan}
