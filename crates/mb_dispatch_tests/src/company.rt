@@ -4,20 +4,35 @@
 ghost use Rattle.mb_system.specs.Belonging.{BelongsTogether};
 ghost use Rattle.mb_system.specs.Members.{IsEndOf};
 
+use crate::closing::{Refusal, Unfinished, come_back};
 use crate::together::begin;
-use mb_dispatch::{Built, Look, Put, RunError, Sender, System, Ticket, Turn, Unsent, WorkerEnd};
+use mb_dispatch::{
+    Built, FinishError, Look, Put, RunError, Sender, System, Ticket, Turn, Unsent, WorkerEnd,
+    finish,
+};
 use mb_msg::{ActorId, Body};
+use mb_report::Report;
 use mb_trial::{Adding, Player, Story, plan_of, players_of};
 use std::alloc::{AllocError, Global};
 use std::marker::Model;
 use std::sync::Wait;
 
 /// A system of players with its ends, and with those of its senders that are not lost.
-#[derive(Drop)]
 pub struct Company {
     pub(crate) system: System<Player, Adding>,
     pub(crate) ends: Vec<WorkerEnd<Player, Adding>>,
     pub(crate) senders: Vec<Sender<Player, Adding>>,
+}
+
+// Written out: of a derived `Drop` it would be proved at each place how all that is inside is let go.
+impl Drop for Company {
+    fn drop(self) {
+        let Company {
+            system: _,
+            ends: _,
+            senders: _,
+        } = self;
+    }
 }
 
 impl Model for Company {
@@ -53,6 +68,35 @@ impl Company {
             system,
             ends,
             senders,
+        }
+    }
+
+    /// Ends the system: the report.
+    pub fn finish<R: Wait>(self, rt: &R) -> Result<Report, Unfinished> {
+        let Company {
+            system,
+            ends,
+            senders,
+        } = self;
+        let built = Built {
+            system,
+            ends,
+            senders,
+        };
+        match finish(rt, built) {
+            Ok(report) => Ok(report),
+            Err(FinishError::MissingEnd(number, back)) => {
+                Err(come_back(Refusal::MissingEnd(number), back))
+            }
+            Err(FinishError::MissingSender(number, back)) => {
+                Err(come_back(Refusal::MissingSender(number), back))
+            }
+            Err(FinishError::NotQuiet(id, back)) => Err(come_back(Refusal::NotQuiet(id.0), back)),
+            Err(FinishError::NoMemory(back)) => Err(come_back(Refusal::NoMemory, back)),
+            Err(FinishError::Mismatch(what)) => Err(Unfinished {
+                why: Refusal::Mismatch(what),
+                back: None,
+            }),
         }
     }
 

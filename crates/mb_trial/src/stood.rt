@@ -169,19 +169,24 @@ fn does_each_stand_once(alloc: Global, report: &Report, all: &[Sent]) -> Result<
     Ok(sent == stood)
 }
 
-/// All that were sent, sorted.
+/// All that were sent, by sender and number.
 fn push_sent(sent: &mut Vec<Envelope>, all: &[Sent]) -> Result<(), AllocError> {
     for one in all {
         sent.extend_from_slice(&one.envelopes)?;
     }
-    sent.sort()
+    sent.sort_by_key(sender_and_number)
 }
 
-/// All that stand somewhere, sorted.
+/// All that stand somewhere, by sender and number.
 fn push_stood(stood: &mut Vec<Envelope>, report: &Report) -> Result<(), AllocError> {
     push_fates(stood, report)?;
     push_dead(stood, report)?;
-    stood.sort()
+    stood.sort_by_key(sender_and_number)
+}
+
+/// By what an envelope is known: its sender, and its number among that sender's.
+fn sender_and_number(envelope: &Envelope) -> (u32, u64) {
+    (envelope.by.0, envelope.number)
 }
 
 fn push_fates(stood: &mut Vec<Envelope>, report: &Report) -> Result<(), AllocError> {
