@@ -10,3 +10,4 @@ pub mod Bringing
 pub mod Back
 pub mod Closing
 pub mod Wholly
+pub mod Unended

@@ -18,7 +18,7 @@ use Rattle.mb_build.specs.Made.{AreEmpty}
 use Rattle.mb_build.specs.Numbers.{sender_numbers}
 use Rattle.mb_system.specs.Begun.{IsBegun, actors_in}
 use Rattle.mb_system.specs.declared.built.Built.{Built}
-use Rattle.mb_dispatch.specs.Story.{HasMailbox}
+use Rattle.mb_dispatch.specs.Story.{HasMailbox, IsRollOf}
 
 who-enrolled : (whos : List Identity) (takes : List Taking) → length takes ≡ length whos → map (λ (e : Enrolled). e.who) (enrolled whos takes) ≡ whos
 who-enrolled [] takes many = refl
@@ -72,14 +72,9 @@ roll-of roll others number (who ∷ whos) (t ∷ takes) (h ∷ homes) first are 
     ap (λ (x : Box Contents). x.value.roll) (sym (same_Some h first is)) ∙ ap (λ (c : Contents). c.roll) are.0
 
 -- the actors and the mailboxes of a plan
-pub record IsOfPlan (plan : Plan) (roll : List Enrolled) : Type 0 where
-  pub who : map (λ (e : Enrolled). e.who) roll ≡ actors_in plan
-  pub mailboxes : (place : ℕ) (a : ActorPlan) (e : Enrolled) → slice_get plan.actors.items place ≡ Some a → slice_get roll (place + 1) ≡ Some e
-      → HasMailbox a e
-
 housed-plan : (gives : ℕ → Moment → Reply → Type 0) (plan : Plan) (kinds : List Kind) (homes : List (Box Contents)) (outside : List (List Sending))
     (first : Box Contents) → AreQueues plan.actors.items kinds → IsHoused gives (actors_in plan) kinds plan.senders homes outside
-    → slice_get homes 0 ≡ Some first → IsOfPlan plan first.value.roll
+    → slice_get homes 0 ≡ Some first → IsRollOf plan first.value.roll
 housed-plan gives plan kinds homes outside first queues housed is =
     let whos = actors_in plan in let takes = housed.guardian ∷ housed.takes in
     let roll : first.value.roll ≡ enrolled whos takes = roll-of (enrolled whos takes) housed.takes 0 whos takes homes first housed.first is in
@@ -95,7 +90,7 @@ housed-plan gives plan kinds homes outside first queues housed is =
     }
 
 module _ {A K : Type 0} (gives : ℕ → Moment → Reply → Type 0) (plan : Plan) (built : Built A K) (begun : IsBegun gives plan built) where
-  pub of-plan : IsOfPlan plan (first_of built.system.gates).value.roll
+  pub of-plan : IsRollOf plan (first_of built.system.gates).value.roll
   of-plan = housed-plan gives plan begun.kinds begun.homes begun.outside (first_of built.system.gates) begun.kinds_are begun.housed begun.first
 
   pub actors-there : actors_of built.system.gates ≡ length (actors_in plan)

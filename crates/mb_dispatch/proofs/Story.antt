@@ -161,13 +161,11 @@ module _ {A K : Type 0} (gives : ℕ → Moment → Reply → Type 0) (plan : Pl
         → All (λ (e : WorkerEnd A K). GoesOnFromAll report (known_by e.waker.pass)) now.ends.items
         → All (λ (s : Sender A K). GoesOnFromAll report (known_by s.inner.waker.pass)) now.senders.items → IsStory after gives plan orders report
     story after report log answers saw seen answered whole ends_seen senders_seen =
-        let plan_is = of-plan gives plan built begun in
         let knows = λ (s : Sender A K). known_by s.inner.waker.pass in
         let knew = λ (e : WorkerEnd A K). known_by e.waker.pass in
         let IsTold = λ (v : View). IsPart v.log log × GoesOnFromAll report v in record {
           roll = (first_of built.system.gates).value.roll;
-          who = plan_is.who;
-          mailboxes = plan_is.mailboxes;
+          planned = of-plan gives plan built begun;
           log = log;
           outside = answers;
           many = answered.length_is ∙ ap (λ s. s.senders) system ∙ begun.numbers.1;

@@ -1,9 +1,5 @@
 -- A system of which nothing is missing is refused for what its actors are.
-use Rattle.std.proofs.Common.{ℕ, length, subst}
 use Rattle.mb_gate.specs.Names.{actors_of}
-use Rattle.mb_build.specs.Reasons.{reasons}
-use Rattle.mb_plan.specs.declared.plan.Plan.{Plan}
-use Rattle.mb_system.specs.Begun.{actors_in}
 use Rattle.mb_system.specs.declared.built.Built.{Built}
 use Rattle.mb_dispatch.specs.Refused.{IsComplete, IsOfWhole, IsRefusal}
 use Rattle.mb_dispatch.specs.declared.ending.FinishError.{FinishError}

@@ -48,6 +48,12 @@ pub record HasMailbox (plan : ActorPlan) (e : Enrolled) : Type 0 where
   pub turns : e.turns ≡ turns_in kind
   pub bound : e.queue.main.capacity ≡ bound_of kind
 
+-- the guardian, and behind it the actors of this plan, in the order of their numbers, each with the mailbox that is planned
+pub record IsRollOf (plan : Plan) (roll : List Enrolled) : Type 0 where
+  pub who : map (λ (e : Enrolled). e.who) roll ≡ actors_in plan
+  pub mailboxes : (place : ℕ) (a : ActorPlan) (e : Enrolled) → slice_get plan.actors.items place ≡ Some a → slice_get roll (place + 1) ≡ Some e
+      → HasMailbox a e
+
 -- The sender was answered for the envelopes of these orders, and said their Terminates, each in order, and was answered for and said nothing
 -- else: what was said stands with the newest first.
 pub record DidOrders (orders : List Order) (postings : List Posting) (knew : View) : Type 0 where
@@ -59,9 +65,7 @@ pub record DidOrders (orders : List Order) (postings : List Posting) (knew : Vie
 pub record IsStory (after : ℕ → List Message → ℤ) (gives : ℕ → Moment → Reply → Type 0) (plan : Plan) (orders : List (List Order)) (report : Report)
     : Type 0 where
   pub roll : List Enrolled
-  pub who : map (λ (e : Enrolled). e.who) roll ≡ actors_in plan
-  pub mailboxes : (place : ℕ) (a : ActorPlan) (e : Enrolled) → slice_get plan.actors.items place ≡ Some a → slice_get roll (place + 1) ≡ Some e
-      → HasMailbox a e
+  pub planned : IsRollOf plan roll
   pub log : List Sight
   pub outside : List (List Posting)
   pub many : length outside ≡ plan.senders

@@ -1,12 +1,9 @@
 //! A whole run on one thread, also of boxed actors of mixed kinds.
-ghost use Rattle.std.specs.Prelude.{◌≡◌, ℕ, [], All, IfErr, IfOk, List, MatchResult, OnOk, length, map};
+ghost use Rattle.std.specs.Prelude.{◌≡◌, ℕ, [], All, IfErr, IfOk, MatchResult, OnOk, length, map};
 ghost use Rattle.mb_build.specs.Behaved.{AreBehaved};
-ghost use Rattle.mb_plan.specs.declared.plan.Plan.{Plan};
-ghost use Rattle.mb_system.specs.Begun.{actors_in};
-ghost use Rattle.mb_system.specs.declared.order.Order.{Order};
 ghost use Rattle.mb_dispatch.specs.Refused.{IsOfWhole};
 ghost use Rattle.mb_dispatch.specs.Story.{IsStory, after_at, gives_at};
-ghost use Rattle.mb_dispatch.specs.Untold.{IsNoStory, IsRight};
+ghost use Rattle.mb_dispatch.specs.Untold.{IsNoStory, IsRight, IsToldBy, IsUnfit};
 
 use crate::ending::{FinishError, finish};
 use crate::sending::send_and_run;
@@ -56,7 +53,7 @@ pub fn run_boxed<R: Wait>(
     ensures story { IfOk result (IsStory (after_at actors.items after) (gives_at actors.items gives) plan
         (map (λ orders. orders.items) sends.now)) }
     ensures right { OnOk result (IsRight plan (length actors.items) (map (λ orders. orders.items) sends.now)) }
-    ensures refused { IfErr result (IsNoStory plan (length actors.items) (map (λ orders. orders.items) sends.now)) }
+    ensures refused { IfErr result (IsNoStory (gives_at actors.items gives) plan (length actors.items) (map (λ orders. orders.items) sends.now)) }
 {
     run_whole::<Box<dyn Actor + Send>, R>(rt, alloc, plan, actors, sends)
 }
@@ -73,7 +70,7 @@ pub fn run_whole<A: Actor, R: Wait>(
     ensures story { IfOk result (IsStory (after_at actors.items A.after) (gives_at actors.items A.gives) plan
         (map (λ orders. orders.items) sends.now)) }
     ensures right { OnOk result (IsRight plan (length actors.items) (map (λ orders. orders.items) sends.now)) }
-    ensures refused { IfErr result (IsNoStory plan (length actors.items) (map (λ orders. orders.items) sends.now)) }
+    ensures refused { IfErr result (IsNoStory (gives_at actors.items A.gives) plan (length actors.items) (map (λ orders. orders.items) sends.now)) }
 {
     run_planned::<A, Brand, R>(rt, alloc, plan, actors, sends)
 }
@@ -89,7 +86,7 @@ fn run_planned<A: Actor, K: Behaviours, R: Wait>(
     requires behaved { AreBehaved A.content A.after A.gives K.after K.gives 1 actors.items }
     ensures story { IfOk result (IsStory K.after K.gives plan (map (λ orders. orders.items) sends.now)) }
     ensures right { OnOk result (IsRight plan (length actors.items) (map (λ orders. orders.items) sends.now)) }
-    ensures refused { IfErr result (IsNoStory plan (length actors.items) (map (λ orders. orders.items) sends.now)) }
+    ensures refused { IfErr result (IsNoStory K.gives plan (length actors.items) (map (λ orders. orders.items) sends.now)) }
 {
     check(&plan, actors.len(), sends)?;
     let mut built = match System::<A, K>::build(rt, alloc, plan, actors) {
@@ -106,11 +103,10 @@ fn run_planned<A: Actor, K: Behaviours, R: Wait>(
     }
 }
 
-// Why there is no report of a system that has all ends and senders that it began with.
+// How it is told why there is no report of a system that has all ends and senders that it began with.
 fn without_report<A: Actor, K: Behaviours>(error: &FinishError<A, K>) -> WholeError
     requires { (actors : ℕ) × IsOfWhole actors error.now }
-    ensures { (plan : Plan) (actors : ℕ) (orders : List (List Order)) → IsRight plan actors orders
-        → IsOfWhole (length (actors_in plan)) error.now → IsNoStory plan actors orders result }
+    ensures { IsToldBy error.now result }
 {
     match error {
         FinishError::NotQuiet(id, _) => WholeError::NotQuiet(*id),
@@ -124,7 +120,7 @@ fn without_report<A: Actor, K: Behaviours>(error: &FinishError<A, K>) -> WholeEr
 // What is refused before anything is done.
 fn check(plan: &Plan, actors: usize, sends: &[Vec<Order>]) -> Result<(), WholeError>
     ensures { MatchResult result (λ _. IsRight plan.now actors (map (λ orders. orders.items) sends.now))
-        (IsNoStory plan.now actors (map (λ orders. orders.items) sends.now)) }
+        (IsUnfit plan.now actors (map (λ orders. orders.items) sends.now)) }
 {
     if let Err(reason) = check_plan(plan, actors) {
         return Err(WholeError::BadPlan(reason));

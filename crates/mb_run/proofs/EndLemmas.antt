@@ -1,8 +1,8 @@
 -- What a run came to, once its system has ended.
 use Rattle.std.proofs.Common.{◌≡◌, ℕ, ◌+◌, ◌-◌, ℤ, List, ◌++◌, length, map, reverse, sym, ap, ◌∙◌, subst, arith, Some}
-use Rattle.std.specs.Prelude.{All, Err, IfErr, IfOk, Ok, Result, ◌<◌, slice_get}
+use Rattle.std.specs.Prelude.{Err, IfErr, IfOk, Ok, Result, ◌<◌, slice_get}
 use Rattle.std.proofs.lemmas.List.{append-nil, length-map}
-use Rattle.std.proofs.lemmas.List.Elements.{All-head, All-map}
+use Rattle.std.proofs.lemmas.List.Elements.{All-map}
 use Rattle.std.proofs.lemmas.Option.{same_Some}
 use Rattle.mb_msg.specs.Limits.{most_actors}
 use Rattle.mb_actor.specs.Behaviour.{Moment, Reply}
@@ -11,33 +11,31 @@ use Rattle.mb_fates.specs.Accepted.{accepted}
 use Rattle.mb_fates.specs.declared.posting.Posting.{Posting}
 use Rattle.mb_gate.specs.Names.{actors_of, first_of, known_by}
 use Rattle.mb_gate.specs.Rule.{IsPart}
-use Rattle.mb_gate.specs.View.{Sight, View}
+use Rattle.mb_gate.specs.View.{Sight}
 use Rattle.mb_home.specs.Roll.{Enrolled}
 use Rattle.mb_build.proofs.HouseLemmas.{length-who}
 use Rattle.mb_plan.specs.declared.plan.Plan.{Plan}
 use Rattle.mb_reader.specs.declared.scenario.Sending.{Sending}
 use Rattle.mb_reckon.specs.Seen.{GoesOnFromAll}
 use Rattle.mb_reckon.proofs.Lists.{at-place, length-mapped, there, within}
-use Rattle.mb_reckon.specs.declared.mismatch.Mismatch.{Mismatch as What}
 use Rattle.mb_report.specs.declared.report.Report.{Report}
-use Rattle.mb_dispatch.specs.Belonging.{HasRead}
-use Rattle.mb_dispatch.specs.Refused.{DisagreesAtEnd, DisagreesIfSaid, FindsUnsettled, IsRefusal}
+use Rattle.mb_dispatch.specs.Refused.{DisagreesIfSaid, IsRefusal}
+use Rattle.mb_dispatch.specs.Story.{IsRollOf}
 use Rattle.mb_dispatch.specs.declared.ending.FinishError.{FinishError}
 use Rattle.mb_dispatch.specs.declared.ending.FinishError.TheVariants as end
+use Rattle.mb_dispatch.proofs.Unended.{does-not-agree, work-left}
 use Rattle.mb_system.specs.Begun.{IsBegun}
-use Rattle.mb_system.specs.Members.{IsEndOf}
 use Rattle.mb_system.specs.Orders.{addressed, said_to, stopped_by}
 use Rattle.mb_system.specs.declared.built.Built.{Built}
 use Rattle.mb_system.specs.declared.end.WorkerEnd.{WorkerEnd}
 use Rattle.mb_system.specs.declared.sender.Sender.{Sender}
 use Rattle.mb_system.specs.declared.system.System.{System}
-use Rattle.mb_run.specs.Broken.{IsFoundBusy, IsToldAs, IsUnended}
+use Rattle.mb_run.specs.Broken.{IsToldAs, IsUnended}
 use Rattle.mb_run.specs.Faults.{IsFaultOf}
 use Rattle.mb_run.specs.Orders.{orders_of}
-use Rattle.mb_run.specs.Ran.{HasRun, HasSpoken, IsRollOf, IsSeenIn}
+use Rattle.mb_run.specs.Ran.{HasRun, HasSpoken, IsSeenIn}
 use Rattle.mb_run.specs.Ready.{IsEnded, IsReady}
 use Rattle.mb_run.specs.Senders.{HasSentAll}
-use Rattle.mb_run.specs.Unended.{DoesNotAgree, HasWorkLeft}
 use Rattle.mb_run.specs.declared.fault.RunFault.{RunFault}
 use Rattle.mb_run.specs.declared.fault.RunFault.TheVariants.{NoMemory, JournalFull, NotQuiet, Mismatch}
 use Rattle.mb_run.proofs.MemberLemmas.{many-ends}
@@ -133,43 +131,14 @@ module _ {A K : Type 0} (after : ℕ → List Message → ℤ) (gives : ℕ → 
   all-lines (Err fault) ended = ended
 
   -- what was found of the system is so of one of the plan
-  left-in : (id : ℕ) (back : Built A K) → id < actors_of built.system.gates → HasRead (FindsUnsettled id) built back → HasWorkLeft plan id
-  left-in id back within (before, after, is, unsettled) = record {
-    gates = built.system.gates;
-    planned = of-plan;
-    within = within;
-    before = is.first.waker;
-    after = is.first'.waker;
-    ours = All-head (λ (e : WorkerEnd A K). IsEndOf built.system.gates e.waker) is.first is.rest
-        (subst (λ l. All (λ (e : WorkerEnd A K). IsEndOf built.system.gates e.waker) l) is.was ready.ends);
-    same = is.ours;
-    found = subst (λ (p : View × View). FindsUnsettled id p.0 p.1) (λ i. (sym is.knew i, sym is.knows i)) unsettled;
-  }
-
-  work-left : (id : ℕ) → IsFoundBusy built id → HasWorkLeft plan id
-  work-left id found = left-in id found.back found.within found.read
-
-  does-not-agree : (what : What) → DisagreesAtEnd gives built what → DoesNotAgree gives plan
-  does-not-agree what at_end = record {
-    gates = built.system.gates;
-    planned = of-plan;
-    view = at_end.view;
-    outside = at_end.outside;
-    many = at_end.ways.length_is ∙ ap (λ (s : System A K). s.senders) same ∙ begun.numbers.1;
-    waiting = at_end.waiting;
-    counted = at_end.counted;
-    what = what;
-    disagrees = at_end.disagrees;
-  }
-
   fault-unended : (fault : RunFault) → IsUnended gives built fault → IsFaultOf gives plan fault
   fault-unended NoMemory found = tt
   fault-unended JournalFull found = absurd found
   fault-unended (NotQuiet id) found = (
     subst (λ n. id.0 < n) (ap (λ (s : System A K). actors_of s.gates) same ∙ actors-planned gives plan first begun) found.within,
-    work-left id.0 found,
+    work-left gives plan first begun built same ready.ends id.0 found.back found.within found.read,
   )
-  fault-unended Mismatch found = does-not-agree found.0 found.1
+  fault-unended Mismatch found = (found.0, does-not-agree gives plan first begun built same found.0 found.1)
 
   pub all-unended : (result : Result Report RunFault) → IfErr result (IsUnended gives built) → IfErr result (IsFaultOf gives plan)
   all-unended (Ok report) found = found

@@ -12,16 +12,16 @@ use Rattle.mb_system.specs.declared.built.Built.{Built}
 use Rattle.mb_system.specs.declared.sender.Sender.{Sender}
 use Rattle.mb_system.proofs.Sending.{sent-none}
 use Rattle.mb_reader.specs.declared.scenario.Sending.{Sending as Planned}
+use Rattle.mb_dispatch.specs.Story.{IsRollOf}
 use Rattle.mb_dispatch.proofs.Rolls.{actors-there, of-plan}
 use Rattle.mb_dispatch.proofs.Story.{ends-there, senders-there}
 use Rattle.mb_run.specs.Given.{AreSendable}
-use Rattle.mb_run.specs.Ran.{IsRollOf}
 use Rattle.mb_run.specs.Ready.{IsReady}
 use Rattle.mb_run.specs.Senders.{HaveSentAll}
 
 module _ {A K : Type 0} (gives : ℕ → Moment → Reply → Type 0) (plan : Plan) (built : Built A K) (begun : IsBegun gives plan built) where
   pub planned : IsRollOf plan (first_of built.system.gates).value.roll
-  planned = let is = of-plan gives plan built begun in record { who = is.who; mailboxes = is.mailboxes }
+  planned = of-plan gives plan built begun
 
   pub actors-planned : actors_of built.system.gates ≡ length plan.actors.items + 1
   actors-planned = actors-there gives plan built begun ∙ length-who plan.journal_limit plan.actors.items

@@ -7,8 +7,9 @@ use Rattle.mb_journal.specs.Lawful.{IsLawful}
 use Rattle.mb_journal.specs.Run.{IsRun}
 use Rattle.mb_journal.specs.Run.Stopped.{NoRoom}
 use Rattle.mb_plan.specs.declared.plan.Plan.{Plan}
+use Rattle.mb_reckon.specs.declared.mismatch.Mismatch.{Mismatch as What}
 use Rattle.mb_system.specs.Begun.{actors_in}
-use Rattle.mb_run.specs.Unended.{DoesNotAgree, HasWorkLeft}
+use Rattle.mb_dispatch.specs.Unended.{DoesNotAgree, HasWorkLeft}
 use Rattle.mb_run.specs.declared.fault.RunFault.{RunFault}
 use Rattle.mb_run.specs.declared.fault.RunFault.TheVariants.{NoMemory, JournalFull, NotQuiet, Mismatch}
 
@@ -28,4 +29,4 @@ abbrev pub IsFaultOf : (ℕ → Moment → Reply → Type 0) → Plan → RunFau
 IsFaultOf gives plan NoMemory = Unit {0}
 IsFaultOf gives plan JournalFull = HasFullJournal gives plan
 IsFaultOf gives plan (NotQuiet id) = (id.0 < length plan.actors.items + 1) × HasWorkLeft plan id.0
-IsFaultOf gives plan Mismatch = DoesNotAgree gives plan
+IsFaultOf gives plan Mismatch = (what : What) × DoesNotAgree gives plan what

@@ -3,6 +3,5 @@ pub mod Given
 pub mod Senders
 pub mod Ready
 pub mod Ran
-pub mod Unended
 pub mod Faults
 pub mod Broken

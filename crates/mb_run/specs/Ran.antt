@@ -1,5 +1,5 @@
 -- What a run comes to.
-use Rattle.std.specs.Prelude.{◌≡◌, ℕ, ◌+◌, ℤ, List, All, Some, length, map, reverse, slice_get}
+use Rattle.std.specs.Prelude.{◌≡◌, ℕ, ℤ, List, All, Some, length, reverse, slice_get}
 use Rattle.mb_actor.specs.Behaviour.{Moment, Reply}
 use Rattle.mb_actor.specs.declared.message.Message.{Message}
 use Rattle.mb_fates.specs.Accepted.{accepted}
@@ -7,22 +7,14 @@ use Rattle.mb_fates.specs.declared.posting.Posting.{Posting}
 use Rattle.mb_gate.specs.Rule.{IsPart}
 use Rattle.mb_gate.specs.View.{Sight, View}
 use Rattle.mb_home.specs.Roll.{Enrolled}
-use Rattle.mb_plan.specs.declared.actor_plan.ActorPlan.{ActorPlan}
 use Rattle.mb_plan.specs.declared.plan.Plan.{Plan}
 use Rattle.mb_reader.specs.declared.scenario.Sending.{Sending}
 use Rattle.mb_reckon.specs.Seen.{GoesOnFromAll}
 use Rattle.mb_reckon.specs.Whole.{IsWhole}
 use Rattle.mb_report.specs.declared.report.Report.{Report}
-use Rattle.mb_system.specs.Begun.{actors_in}
 use Rattle.mb_system.specs.Orders.{addressed, said_to, stopped_by, told_by}
-use Rattle.mb_dispatch.specs.Story.{HasMailbox}
+use Rattle.mb_dispatch.specs.Story.{IsRollOf}
 use Rattle.mb_run.specs.Orders.{orders_of}
-
--- the guardian, and behind it the actors of this plan, in the order of their numbers, each with the mailbox that is planned
-pub record IsRollOf (plan : Plan) (roll : List Enrolled) : Type 0 where
-  pub who : map (λ (e : Enrolled). e.who) roll ≡ actors_in plan
-  pub mailboxes : (place : ℕ) (a : ActorPlan) (e : Enrolled) → slice_get plan.actors.items place ≡ Some a → slice_get roll (place + 1) ≡ Some e
-      → HasMailbox a e
 
 -- what was seen is among all that was, and the report goes on from it
 abbrev pub IsSeenIn : List Sight → Report → View → Type 0

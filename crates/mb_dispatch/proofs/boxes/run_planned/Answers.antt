@@ -1,14 +1,15 @@
-use Rattle.std.proofs.Common.{length, rules, sym, ◌∙◌, ap, subst, Vec}
+use Rattle.std.proofs.Common.{length, rules, sym, ◌∙◌, Vec}
 use Rattle.std.specs.Global.{Global}
 use Rattle.mb_gate.specs.Names.{actors_of}
 use Rattle.mb_reckon.proofs.Lists.{length-mapped}
 use Rattle.mb_system.specs.Begun.{actors_in}
 use Rattle.mb_system.specs.declared.order.Order.{Order}
-use Rattle.mb_dispatch.specs.Refused.{IsComplete, IsOfWhole}
-use Rattle.mb_dispatch.specs.Untold.{IsRight}
+use Rattle.mb_dispatch.specs.Refused.{IsComplete}
+use Rattle.mb_dispatch.specs.Untold.{IsNoStory, IsRight, IsUnfit}
 use Rattle.mb_dispatch.proofs.Rolls.{actors-there}
-use Rattle.mb_dispatch.proofs.Sent.{may-break, orders_of}
+use Rattle.mb_dispatch.proofs.Sent.{err-of, may-break, orders_of}
 use Rattle.mb_dispatch.proofs.Story.{no-end-missing, no-sender-missing, senders-there, some-end, story}
+use Rattle.mb_dispatch.proofs.Unended.{unfit, untold}
 use Rattle.mb_dispatch.proofs.Wholly.{of-whole}
 use Rattle.mb_dispatch.proofs.boxes.run_planned.Goals as goal
 
@@ -51,14 +52,15 @@ without_report-requires g c =
 
 pub returns-in-Err-finish-clause-refused : goal.returns-in-Err-finish-clause-refused
 returns-in-Err-finish-clause-refused g c =
-    let gives = g.K.Behaviours.gives in let plan = c.args.plan in let built = c.in-Ok.built in let after = c.send_and_run.new.built in
-    let begun = c.in-Ok.ensures.begun in let went = c.in_default.ensures in
-    let orders = orders_of c.args.sends.now in
-    let all : IsComplete after = (
-      λ n within. no-end-missing gives plan built begun orders after c.in_ok-check.ensures.1 went.system went.ends went.sent n within,
-      λ n within. no-sender-missing gives plan built begun orders after c.in_ok-check.ensures.1 went.system went.ends went.sent n within,
-    ) in
-    let right : IsRight plan (length c.args.actors.items) orders = search rules in
-    let many = ap (λ s. actors_of s.gates) went.system ∙ actors-there gives plan built begun in
-    let whole = of-whole after c.in-Err-finish.error all c.in-Err-finish.ensures.refused in
-    c.without_report.ensures plan (length c.args.actors.items) orders right (subst (λ n. IsOfWhole n c.in-Err-finish.error) many whole)
+    let orders = orders_of c.args.sends.now in let went = c.in_default.ensures in
+    let right : IsRight c.args.plan (length c.args.actors.items) orders = search rules in
+    untold g.K.Behaviours.gives c.args.plan c.in-Ok.built c.in-Ok.ensures.begun c.send_and_run.new.built went.system
+    (length c.args.actors.items) orders c.in-Err-finish.error c.without_report.result right went.together.ends c.in-Err-finish.ensures.refused
+    c.in-Err-finish.ensures.why c.without_report.ensures
+
+pub returns-in_err-check-clause-refused : goal.returns-in_err-check-clause-refused
+returns-in_err-check-clause-refused g c =
+    let gives = g.K.Behaviours.gives in let plan = c.args.plan in let actors = length c.args.actors.items in
+    let orders = orders_of c.args.sends.now in let error = c.in_err-check.field-0.0 in
+    let refused : IsUnfit plan actors orders error = search rules in
+    err-of (IsNoStory gives plan actors orders) c.from_residual.result error c.from_residual.ensures.1 (unfit gives plan actors orders error refused)

@@ -15,7 +15,7 @@ use Rattle.mb_system.specs.Members.{IsEndOf}
 use Rattle.mb_wake.specs.declared.waker.Waker.{Waker}
 use Rattle.mb_ways.specs.declared.end_way.EndWay.{EndWay}
 use Rattle.mb_dispatch.specs.Refused.{FindsUnsettled}
-use Rattle.mb_run.specs.Ran.{IsRollOf}
+use Rattle.mb_dispatch.specs.Story.{IsRollOf}
 
 -- A worker's end of a system of the plan read, one actor after another, whether it has something to run: this is the least that has, and what the
 -- end knows afterwards is what it read.
@@ -29,8 +29,8 @@ pub record HasWorkLeft (plan : Plan) (id : ℕ) : Type 0 where
   pub same : pass_id after.pass ≡ pass_id before.pass
   pub found : FindsUnsettled id (known_by before.pass) (known_by after.pass)
 
--- By what the gates of a system of the plan left, by the passes of its senders and by the counts that were read, something does not agree.
-pub record DoesNotAgree (gives : ℕ → Moment → Reply → Type 0) (plan : Plan) : Type 0 where
+-- By what the gates of a system of the plan left, by the passes of its senders and by the counts that were read, this does not agree.
+pub record DoesNotAgree (gives : ℕ → Moment → Reply → Type 0) (plan : Plan) (what : Mismatch) : Type 0 where
   pub gates : Gates (Box Contents)
   pub planned : IsRollOf plan (first_of gates).value.roll
   pub view : View
@@ -38,5 +38,4 @@ pub record DoesNotAgree (gives : ℕ → Moment → Reply → Type 0) (plan : Pl
   pub many : length outside ≡ plan.senders
   pub waiting : List ℕ
   pub counted : AreCounted view.log waiting
-  pub what : Mismatch
   pub disagrees : Disagrees gives (first_of gates).value (actors_of gates) view outside waiting what
