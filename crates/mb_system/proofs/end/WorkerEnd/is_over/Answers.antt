@@ -1,8 +1,13 @@
-use Rattle.std.proofs.Common.{◌∙◌, subst, sym}
-use Rattle.mb_gate.specs.Names.{known_by}
+use Rattle.std.proofs.Common.{◌∙◌, subst, sym, ap, refl}
+use Rattle.mb_gate.specs.Names.{known_by, pass_id}
 use Rattle.mb_gate.specs.Rule.{IsPart}
 use Rattle.mb_system.specs.Found.{FoundEmpty}
 use Rattle.mb_system.proofs.Saw.{saw-same}
+use Rattle.std.specs.Global.{Box}
+use Rattle.std.specs.Prelude.{Option}
+use Rattle.mb_gate.specs.Untouched.{Origin}
+use Rattle.mb_home.specs.Contents.{Contents}
+use Rattle.mb_turn.specs.Fresh.{IsFreshClaim}
 use Rattle.mb_system.proofs.end.WorkerEnd.is_over.Goals as goal
 
 pub returns-then-is_over-clause-saw : goal.returns-then-is_over-clause-saw
@@ -12,3 +17,29 @@ returns-then-is_over-clause-saw g c =
 pub returns-then-is_over-clause-empty : goal.returns-then-is_over-clause-empty
 returns-then-is_over-clause-empty g c =
     let none = c.in_default.ensures.none in λ over. subst (FoundEmpty g.K.Behaviours.gives) (sym none.0) none.1
+
+pub loop-init : goal.loop-init
+loop-init g c = (c.requires.ours, refl, refl, refl)
+
+pub loop-preserved : goal.loop-preserved
+loop-preserved g c =
+    let same = c.take.ensures.same in let at = c.loop.invariant in
+    ((ap pass_id same.0 ∙ at.0.0, same.2 ∙ at.0.1, at.0.2), same.3 ∙ at.1, same.1 ∙ at.2, same.0 ∙ at.3)
+
+pub run_one-requires-clause-ours : goal.run_one-requires-clause-ours
+run_one-requires-clause-ours g c =
+    let same = c.take.ensures.same in let ours = c.loop.invariant.0 in (ap pass_id same.0 ∙ ours.0, same.2 ∙ ours.1, ours.2)
+
+pub run_one-requires-clause-untouched : goal.run_one-requires-clause-untouched
+run_one-requires-clause-untouched g c =
+    subst (λ (o : Option (Origin (Box Contents))). IsFreshClaim g.K.Behaviours.gives o c.in-Some.claim) c.loop.invariant.0.1 c.in-Some.ensures.fit
+
+pub returns-then-is_over-clause-ours : goal.returns-then-is_over-clause-ours
+returns-then-is_over-clause-ours g c =
+    let same = c.take.ensures.same in let ours = c.loop.invariant.0 in (ap pass_id same.0 ∙ ours.0, same.2 ∙ ours.1, ours.2)
+
+pub returns-then-is_over-clause-number : goal.returns-then-is_over-clause-number
+returns-then-is_over-clause-number g c = c.take.ensures.same.3 ∙ c.loop.invariant.1
+
+pub returns-then-is_over-clause-fault : goal.returns-then-is_over-clause-fault
+returns-then-is_over-clause-fault g c = tt

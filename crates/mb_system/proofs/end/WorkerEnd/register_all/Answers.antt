@@ -26,3 +26,12 @@ returns-clause-leaves g c = c.loop-number.invariant.2
 
 pub returns-clause-saw : goal.returns-clause-saw
 returns-clause-saw g c = c.loop-number.invariant.2.log
+
+pub register-requires-clause-ours : goal.register-requires-clause-ours
+register-requires-clause-ours g c = c.loop-number.invariant.0
+
+pub returns-clause-ours : goal.returns-clause-ours
+returns-clause-ours g c = c.loop-number.invariant.0
+
+pub returns-clause-number : goal.returns-clause-number
+returns-clause-number g c = c.loop-number.invariant.1

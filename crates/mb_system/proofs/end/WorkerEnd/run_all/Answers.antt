@@ -1,9 +1,14 @@
 use Rattle.std.proofs.Common.{◌∙◌, ap, refl, subst}
-use Rattle.mb_gate.specs.Names.{actors_of, known_by}
+use Rattle.mb_gate.specs.Names.{actors_of, known_by, pass_id}
 use Rattle.mb_gate.specs.Rule.{IsPart}
 use Rattle.mb_system.specs.Members.{end_caller}
 use Rattle.mb_system.proofs.Debts.{debts-from, debts-left, debts-same}
 use Rattle.mb_system.proofs.Saw.{saw-same, saw-then}
+use Rattle.std.specs.Global.{Box}
+use Rattle.std.specs.Prelude.{Option}
+use Rattle.mb_gate.specs.Untouched.{Origin}
+use Rattle.mb_home.specs.Contents.{Contents}
+use Rattle.mb_turn.specs.Fresh.{IsFreshClaim}
 use Rattle.mb_system.proofs.end.WorkerEnd.run_all.Goals as goal
 
 pub loop-init : goal.loop-init
@@ -45,3 +50,30 @@ pub returns-in_err-run_one-clause-saw : goal.returns-in_err-run_one-clause-saw
 returns-in_err-run_one-clause-saw g c =
     saw-then _ _ _ c.loop.invariant.2
     (subst (λ p. IsPart (known_by p).log (known_by c.run_one.new.self.waker.pass).log) c.take.ensures.same.0 c.run_one.ensures.leaves.log)
+
+pub pay-requires-clause-ours : goal.pay-requires-clause-ours
+pay-requires-clause-ours g c =
+    let same = c.take.ensures.same in let ours = c.loop.invariant.0 in (ap pass_id same.0 ∙ ours.0, same.2 ∙ ours.1, ours.2)
+
+pub run_one-requires-clause-ours : goal.run_one-requires-clause-ours
+run_one-requires-clause-ours g c =
+    let same = c.take.ensures.same in let ours = c.loop.invariant.0 in (ap pass_id same.0 ∙ ours.0, same.2 ∙ ours.1, ours.2)
+
+pub run_one-requires-clause-untouched : goal.run_one-requires-clause-untouched
+run_one-requires-clause-untouched g c =
+    subst (λ (o : Option (Origin (Box Contents))). IsFreshClaim g.K.Behaviours.gives o c.in-Some.claim) c.loop.invariant.0.1 c.in-Some.ensures.fit
+
+pub returns-in_default-clause-ours : goal.returns-in_default-clause-ours
+returns-in_default-clause-ours g c = c.pay.ensures.ours
+
+pub returns-in_default-clause-paid : goal.returns-in_default-clause-paid
+returns-in_default-clause-paid g c = c.pay.ensures.done
+
+pub returns-in_default-clause-number : goal.returns-in_default-clause-number
+returns-in_default-clause-number g c = c.pay.ensures.number ∙ c.take.ensures.same.3 ∙ c.loop.invariant.1
+
+pub returns-in_err-run_one-clause-ours : goal.returns-in_err-run_one-clause-ours
+returns-in_err-run_one-clause-ours g c = c.run_one.ensures.ours
+
+pub returns-in_err-run_one-clause-number : goal.returns-in_err-run_one-clause-number
+returns-in_err-run_one-clause-number g c = c.run_one.ensures.number ∙ c.take.ensures.same.3 ∙ c.loop.invariant.1

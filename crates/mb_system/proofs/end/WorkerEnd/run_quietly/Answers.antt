@@ -1,10 +1,15 @@
 use Rattle.std.proofs.Common.{◌∙◌, ap, subst, sym}
-use Rattle.mb_gate.specs.Names.{actors_of, known_by}
+use Rattle.mb_gate.specs.Names.{actors_of, known_by, pass_id}
 use Rattle.mb_gate.specs.Rule.{IsPart}
 use Rattle.mb_system.specs.Found.{FoundEmpty}
 use Rattle.mb_system.specs.Members.{end_caller}
 use Rattle.mb_system.proofs.Debts.{debts-left, debts-same, owes-nothing, paid-still}
 use Rattle.mb_system.proofs.Saw.{saw-then}
+use Rattle.std.specs.Global.{Box}
+use Rattle.std.specs.Prelude.{Option}
+use Rattle.mb_gate.specs.Untouched.{Origin}
+use Rattle.mb_home.specs.Contents.{Contents}
+use Rattle.mb_turn.specs.Fresh.{IsFreshClaim}
 use Rattle.mb_system.proofs.end.WorkerEnd.run_quietly.Goals as goal
 
 pub loop-init : goal.loop-init
@@ -77,3 +82,72 @@ returns-then-is_empty-clause-settled g c =
     let old = end_caller c.loop.self.waker in let new = end_caller c.take.new.self.waker in
     owes-nothing actors new (paid-still actors old new c.loop.invariant.3 (debts-same actors old new (ap known_by same.0) same.1))
     (λ id lt. c.is_empty.ensures.nobody c.if-is_empty.true id)
+
+pub register_all-requires-clause-ours : goal.register_all-requires-clause-ours
+register_all-requires-clause-ours g c = c.requires.ours
+
+pub run_one-requires-clause-ours : goal.run_one-requires-clause-ours
+run_one-requires-clause-ours g c =
+    let same = c.take.ensures.same in let ours = c.loop.invariant.0 in (ap pass_id same.0 ∙ ours.0, same.2 ∙ ours.1, ours.2)
+
+pub run_one-requires-clause-untouched : goal.run_one-requires-clause-untouched
+run_one-requires-clause-untouched g c =
+    subst (λ (o : Option (Origin (Box Contents))). IsFreshClaim g.K.Behaviours.gives o c.in-Some-take.claim) c.loop.invariant.0.1 c.in-Some-take.ensures.fit
+
+pub pay-requires-clause-ours : goal.pay-requires-clause-ours
+pay-requires-clause-ours g c =
+    let same = c.take.ensures.same in let ours = c.loop.invariant.0 in (ap pass_id same.0 ∙ ours.0, same.2 ∙ ours.1, ours.2)
+
+pub returns-then-is_err-clause-ours : goal.returns-then-is_err-clause-ours
+returns-then-is_err-clause-ours g c = c.loop.invariant.0
+
+pub returns-then-is_err-clause-paid : goal.returns-then-is_err-clause-paid
+returns-then-is_err-clause-paid g c = tt
+
+pub returns-then-is_err-clause-debts : goal.returns-then-is_err-clause-debts
+returns-then-is_err-clause-debts g c = c.loop.invariant.3
+
+pub returns-then-is_err-clause-settled : goal.returns-then-is_err-clause-settled
+returns-then-is_err-clause-settled g c = tt
+
+pub returns-then-is_err-clause-empty : goal.returns-then-is_err-clause-empty
+returns-then-is_err-clause-empty g c = tt
+
+pub returns-then-is_err-clause-number : goal.returns-then-is_err-clause-number
+returns-then-is_err-clause-number g c = c.loop.invariant.1
+
+pub returns-then-is_err-clause-saw : goal.returns-then-is_err-clause-saw
+returns-then-is_err-clause-saw g c = c.loop.invariant.2
+
+pub returns-then-is_err-clause-fault : goal.returns-then-is_err-clause-fault
+returns-then-is_err-clause-fault g c = tt
+
+pub returns-in_err-run_one-in-Some-take-clause-ours : goal.returns-in_err-run_one-in-Some-take-clause-ours
+returns-in_err-run_one-in-Some-take-clause-ours g c = c.run_one.ensures.ours
+
+pub returns-in_err-run_one-in-Some-take-clause-number : goal.returns-in_err-run_one-in-Some-take-clause-number
+returns-in_err-run_one-in-Some-take-clause-number g c =
+    c.run_one.ensures.number ∙ c.take.ensures.same.3 ∙ c.loop.invariant.1
+
+pub returns-in_err-pay-in-None-take-clause-ours : goal.returns-in_err-pay-in-None-take-clause-ours
+returns-in_err-pay-in-None-take-clause-ours g c = c.pay.ensures.ours
+
+pub returns-in_err-pay-in-None-take-clause-number : goal.returns-in_err-pay-in-None-take-clause-number
+returns-in_err-pay-in-None-take-clause-number g c = c.pay.ensures.number ∙ c.take.ensures.same.3 ∙ c.loop.invariant.1
+
+pub returns-then-is_empty-clause-ours : goal.returns-then-is_empty-clause-ours
+returns-then-is_empty-clause-ours g c =
+    let same = c.take.ensures.same in let ours = c.loop.invariant.0 in (ap pass_id same.0 ∙ ours.0, same.2 ∙ ours.1, ours.2)
+
+pub returns-then-is_empty-clause-paid : goal.returns-then-is_empty-clause-paid
+returns-then-is_empty-clause-paid g c = c.is_empty.ensures.nobody c.if-is_empty.true
+
+pub returns-then-is_empty-clause-number : goal.returns-then-is_empty-clause-number
+returns-then-is_empty-clause-number g c = c.take.ensures.same.3 ∙ c.loop.invariant.1
+
+pub returns-then-is_empty-clause-saw : goal.returns-then-is_empty-clause-saw
+returns-then-is_empty-clause-saw g c =
+    subst (λ p. IsPart (known_by c.args.self.now.waker.pass).log (known_by p).log) (sym c.take.ensures.same.0) c.loop.invariant.2
+
+pub returns-then-is_empty-clause-fault : goal.returns-then-is_empty-clause-fault
+returns-then-is_empty-clause-fault g c = tt

@@ -1,4 +1,4 @@
-use Rattle.std.proofs.Common.{ap}
+use Rattle.std.proofs.Common.{ap, refl}
 use Rattle.mb_system.proofs.Looking.{none-tells}
 use Rattle.mb_system.proofs.end.WorkerEnd.take.Goals as goal
 
@@ -6,3 +6,9 @@ pub returns-clause-none : goal.returns-clause-none
 returns-clause-none g c =
     none-tells _ _ _ c.take.result (λ same. ap (λ way. record c.args.self.now { waker = record c.args.self.now.waker { way = way } }) same)
     c.take.ensures.none
+
+pub returns-clause-fit : goal.returns-clause-fit
+returns-clause-fit g c = c.take.ensures.fit
+
+pub returns-clause-same : goal.returns-clause-same
+returns-clause-same g c = (refl, refl, c.take.ensures.same.0, refl)

@@ -52,3 +52,33 @@ returns-in_err-is_over-clause-debts g c =
     let first = end_caller c.args.self.now.waker in let old = end_caller c.loop.self.waker in
     let between = end_caller c.run_all.new.self.waker in let new = end_caller c.is_over.new.self.waker in
     debts-then actors first between new (debts-then actors first old between c.loop.invariant.3 c.run_all.ensures.debts) c.is_over.ensures.debts
+
+pub run_all-requires-clause-ours : goal.run_all-requires-clause-ours
+run_all-requires-clause-ours g c = c.loop.invariant.0
+
+pub is_over-requires-clause-ours : goal.is_over-requires-clause-ours
+is_over-requires-clause-ours g c = c.run_all.ensures.ours
+
+pub is_over-requires-clause-paid : goal.is_over-requires-clause-paid
+is_over-requires-clause-paid g c = c.in_ok-run_all.ensures.paid
+
+pub returns-then-branch-clause-ours : goal.returns-then-branch-clause-ours
+returns-then-branch-clause-ours g c = c.is_over.ensures.ours
+
+pub returns-then-branch-clause-number : goal.returns-then-branch-clause-number
+returns-then-branch-clause-number g c = c.is_over.ensures.number ∙ c.run_all.ensures.number ∙ c.loop.invariant.1
+
+pub returns-then-branch-clause-fault : goal.returns-then-branch-clause-fault
+returns-then-branch-clause-fault g c = tt
+
+pub returns-in_err-run_all-clause-ours : goal.returns-in_err-run_all-clause-ours
+returns-in_err-run_all-clause-ours g c = c.run_all.ensures.ours
+
+pub returns-in_err-run_all-clause-number : goal.returns-in_err-run_all-clause-number
+returns-in_err-run_all-clause-number g c = c.run_all.ensures.number ∙ c.loop.invariant.1
+
+pub returns-in_err-is_over-clause-ours : goal.returns-in_err-is_over-clause-ours
+returns-in_err-is_over-clause-ours g c = c.is_over.ensures.ours
+
+pub returns-in_err-is_over-clause-number : goal.returns-in_err-is_over-clause-number
+returns-in_err-is_over-clause-number g c = c.is_over.ensures.number ∙ c.run_all.ensures.number ∙ c.loop.invariant.1

@@ -45,3 +45,51 @@ returns-in-Ok-stop-clause-sent g c =
     let to = c.args.order.to in let old = c.args.self.now in let new = c.stop.new.self in
     subst (λ (what : What). HasSent (record { to = to; what = what } ∷ []) old new) (sym c.in-Stop.is)
     (sent-stopped to _ old new c.stop.ensures.same.0 c.in-Ok-stop.ensures.stopped)
+
+pub tell-requires-clause-ours : goal.tell-requires-clause-ours
+tell-requires-clause-ours g c = c.requires.ours
+
+pub stop-requires-clause-ours : goal.stop-requires-clause-ours
+stop-requires-clause-ours g c = c.requires.ours
+
+pub returns-in-Ok-clause-ours : goal.returns-in-Ok-clause-ours
+returns-in-Ok-clause-ours g c = c.tell.ensures.ours
+
+pub returns-in-Err-clause-ours : goal.returns-in-Err-clause-ours
+returns-in-Err-clause-ours g c = c.tell.ensures.ours
+
+pub returns-in-Ok-stop-clause-ours : goal.returns-in-Ok-stop-clause-ours
+returns-in-Ok-stop-clause-ours g c = c.stop.ensures.ours
+
+pub returns-in-Err-stop-clause-ours : goal.returns-in-Err-stop-clause-ours
+returns-in-Err-stop-clause-ours g c = c.stop.ensures.ours
+
+pub returns-in-Ok-clause-by : goal.returns-in-Ok-clause-by
+returns-in-Ok-clause-by g c = c.tell.ensures.by
+
+pub returns-in-Err-clause-by : goal.returns-in-Err-clause-by
+returns-in-Err-clause-by g c = c.tell.ensures.by
+
+pub returns-in-Ok-stop-clause-by : goal.returns-in-Ok-stop-clause-by
+returns-in-Ok-stop-clause-by g c = c.stop.ensures.by
+
+pub returns-in-Err-stop-clause-by : goal.returns-in-Err-stop-clause-by
+returns-in-Err-stop-clause-by g c = c.stop.ensures.by
+
+pub returns-in-Ok-clause-fault : goal.returns-in-Ok-clause-fault
+returns-in-Ok-clause-fault g c = tt
+
+pub returns-in-Ok-stop-clause-fault : goal.returns-in-Ok-stop-clause-fault
+returns-in-Ok-stop-clause-fault g c = tt
+
+pub returns-in-Err-clause-sent : goal.returns-in-Err-clause-sent
+returns-in-Err-clause-sent g c = tt
+
+pub returns-in-Err-stop-clause-sent : goal.returns-in-Err-stop-clause-sent
+returns-in-Err-stop-clause-sent g c = tt
+
+pub returns-in-Err-clause-debts : goal.returns-in-Err-clause-debts
+returns-in-Err-clause-debts g c = tt
+
+pub returns-in-Err-stop-clause-debts : goal.returns-in-Err-stop-clause-debts
+returns-in-Err-stop-clause-debts g c = tt

@@ -1,4 +1,4 @@
-use Rattle.std.proofs.Common.{refl}
+use Rattle.std.proofs.Common.{refl, ◌∙◌}
 use Rattle.mb_gate.specs.Names.{actors_of}
 use Rattle.mb_system.specs.Members.{sender_caller}
 use Rattle.mb_system.proofs.Debts.{debts-same, debts-then}
@@ -18,3 +18,24 @@ loop-preserved g c =
       debts-then (actors_of c.args.system.now.gates) (sender_caller c.args.self.now.inner.waker) (sender_caller c.loop.self.inner.waker)
           (sender_caller c.send.new.self.inner.waker) c.loop.invariant.2 one.debts,
     )
+
+pub send-requires-clause-ours : goal.send-requires-clause-ours
+send-requires-clause-ours g c = c.loop.invariant.0
+
+pub returns-clause-ours : goal.returns-clause-ours
+returns-clause-ours g c = c.loop.invariant.0
+
+pub returns-clause-by : goal.returns-clause-by
+returns-clause-by g c = c.loop.invariant.1.by
+
+pub returns-clause-debts : goal.returns-clause-debts
+returns-clause-debts g c = c.loop.invariant.2
+
+pub returns-clause-fault : goal.returns-clause-fault
+returns-clause-fault g c = tt
+
+pub returns-in_err-send-clause-ours : goal.returns-in_err-send-clause-ours
+returns-in_err-send-clause-ours g c = c.send.ensures.ours
+
+pub returns-in_err-send-clause-by : goal.returns-in_err-send-clause-by
+returns-in_err-send-clause-by g c = c.send.ensures.by ∙ c.loop.invariant.1.by

@@ -1,4 +1,4 @@
-use Rattle.std.proofs.Common.{refl, subst, sym}
+use Rattle.std.proofs.Common.{refl, subst, sym, ◌∙◌}
 use Rattle.std.specs.Prelude.{IfErr}
 use Rattle.std.proofs.lemmas.Result.{err_from_is_err_and}
 use Rattle.mb_gate.specs.Names.{actors_of}
@@ -34,3 +34,24 @@ returns-in_err-send_often-clause-fault g c =
     let broken = breaks-repeated gates repeats c.loop-repeat.repeat-index _ c.in_err-send_often.field-0.0 c.loop-repeat-test.true
     c.in_err-send_often.ensures.fault in
     subst (λ r. IfErr r breaks) (sym p.1) (subst breaks (sym p.2) broken)
+
+pub send_often-requires-clause-ours : goal.send_often-requires-clause-ours
+send_often-requires-clause-ours g c = c.loop-repeat.invariant.0
+
+pub returns-clause-ours : goal.returns-clause-ours
+returns-clause-ours g c = c.loop-repeat.invariant.0
+
+pub returns-clause-by : goal.returns-clause-by
+returns-clause-by g c = c.loop-repeat.invariant.1.by
+
+pub returns-clause-debts : goal.returns-clause-debts
+returns-clause-debts g c = c.loop-repeat.invariant.2
+
+pub returns-clause-fault : goal.returns-clause-fault
+returns-clause-fault g c = tt
+
+pub returns-in_err-send_often-clause-ours : goal.returns-in_err-send_often-clause-ours
+returns-in_err-send_often-clause-ours g c = c.send_often.ensures.ours
+
+pub returns-in_err-send_often-clause-by : goal.returns-in_err-send_often-clause-by
+returns-in_err-send_often-clause-by g c = c.send_often.ensures.by ∙ c.loop-repeat.invariant.1.by

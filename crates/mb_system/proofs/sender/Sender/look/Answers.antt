@@ -1,0 +1,29 @@
+use Rattle.std.proofs.Common.{◌∙◌, ap}
+use Rattle.mb_gate.specs.Names.{pass_id}
+use Rattle.mb_pool.specs.Places.{gates_of}
+use Rattle.std.specs.Prelude.{vec_len}
+use Rattle.mb_send.specs.Sends.{receiving_queues}
+use Rattle.mb_system.proofs.sender.Sender.look.Goals as goal
+
+pub look-requires-clause-ours : goal.look-requires-clause-ours
+look-requires-clause-ours g c = c.requires.ours.ours.0
+
+pub look-requires-clause-all : goal.look-requires-clause-all
+look-requires-clause-all g c = c.requires.ours.all
+
+pub returns-clause-ours : goal.returns-clause-ours
+returns-clause-ours g c =
+    let same = c.look.ensures.same in let was = c.requires.ours in record {
+      ours = (same.4 ∙ was.ours.0, ap (λ way. gates_of way.feed) same.3 ∙ was.ours.1, was.ours.2);
+      all = ap (λ sends. vec_len sends + 1) same.1 ∙ was.all;
+      queues = ap (λ sends. receiving_queues sends.items) same.1 ∙ was.queues;
+    }
+
+pub returns-clause-by : goal.returns-clause-by
+returns-clause-by g c = ap (λ book. book.by) c.look.ensures.same.0
+
+pub returns-clause-seen : goal.returns-clause-seen
+returns-clause-seen g c = c.look.ensures.seen
+
+pub returns-clause-same : goal.returns-clause-same
+returns-clause-same g c = (c.look.ensures.same.0, c.look.ensures.same.1, c.look.ensures.same.2)

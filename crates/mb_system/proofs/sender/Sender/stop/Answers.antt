@@ -1,0 +1,33 @@
+use Rattle.std.proofs.Common.{◌∙◌, ap, ◌+◌}
+use Rattle.std.specs.Prelude.{vec_len}
+use Rattle.mb_send.specs.Sends.{receiving_queues}
+use Rattle.mb_system.proofs.sender.Sender.stop.Goals as goal
+
+pub stop-requires-clause-ours : goal.stop-requires-clause-ours
+stop-requires-clause-ours g c = (c.requires.ours.ours.0, c.requires.ours.ours.1)
+
+pub stop-requires-clause-all : goal.stop-requires-clause-all
+stop-requires-clause-all g c = (c.requires.ours.all, c.requires.ours.ours.2)
+
+pub returns-clause-ours : goal.returns-clause-ours
+returns-clause-ours g c =
+    let did = c.stop.ensures in let was = c.requires.ours in record {
+      ours = (did.ours.0 ∙ was.ours.0, did.ours.1 ∙ was.ours.1, was.ours.2);
+      all = ap (λ sends. vec_len sends + 1) did.same.1 ∙ was.all;
+      queues = ap (λ sends. receiving_queues sends.items) did.same.1 ∙ was.queues;
+    }
+
+pub returns-clause-by : goal.returns-clause-by
+returns-clause-by g c = ap (λ book. book.by) c.stop.ensures.same.0
+
+pub returns-clause-stopped : goal.returns-clause-stopped
+returns-clause-stopped g c = c.stop.ensures.stopped
+
+pub returns-clause-same : goal.returns-clause-same
+returns-clause-same g c = (c.stop.ensures.same.0, c.stop.ensures.same.1)
+
+pub returns-clause-paid : goal.returns-clause-paid
+returns-clause-paid g c = c.stop.ensures.paid
+
+pub returns-clause-still : goal.returns-clause-still
+returns-clause-still g c = c.stop.ensures.still

@@ -1,0 +1,31 @@
+use Rattle.std.proofs.Common.{◌∙◌, ap, ◌+◌}
+use Rattle.mb_system.proofs.sender.Sender.tell.Goals as goal
+
+pub tell-requires-clause-ours : goal.tell-requires-clause-ours
+tell-requires-clause-ours g c = (c.requires.ours.ours.0, c.requires.ours.ours.1)
+
+pub tell-requires-clause-all : goal.tell-requires-clause-all
+tell-requires-clause-all g c = (c.requires.ours.all, c.requires.ours.ours.2)
+
+pub returns-clause-ours : goal.returns-clause-ours
+returns-clause-ours g c =
+    let did = c.tell.ensures in let was = c.requires.ours in record {
+      ours = (did.ours.0 ∙ was.ours.0, did.ours.1 ∙ was.ours.1, was.ours.2);
+      all = ap (λ n. n + 1) did.same.1 ∙ was.all;
+      queues = did.queues ∙ was.queues;
+    }
+
+pub returns-clause-by : goal.returns-clause-by
+returns-clause-by g c = c.tell.ensures.same.0
+
+pub returns-clause-refused : goal.returns-clause-refused
+returns-clause-refused g c = c.tell.ensures.refused
+
+pub returns-clause-told : goal.returns-clause-told
+returns-clause-told g c = c.tell.ensures.told
+
+pub returns-clause-paid : goal.returns-clause-paid
+returns-clause-paid g c = c.tell.ensures.paid
+
+pub returns-clause-still : goal.returns-clause-still
+returns-clause-still g c = c.tell.ensures.still
