@@ -51,3 +51,37 @@ returns-clause-ways g c =
       ap ways_of_ends (refilled v.len v.items new count) ∙ c.give_first.ensures.ways ∙ ap ways_of_ends lent ∙ c.in_ok-ends.ensures.ways,
       c.in_ok-senders.ensures.ways,
     )
+
+pub start-requires-clause-ours : goal.start-requires-clause-ours
+start-requires-clause-ours g c = (c.requires.ours, c.requires.actors.0)
+
+pub start-requires-clause-blank : goal.start-requires-clause-blank
+start-requires-clause-blank g c = c.requires.blank
+
+pub start-requires-clause-whole : goal.start-requires-clause-whole
+start-requires-clause-whole g c = c.requires.whole
+
+pub open_senders-requires-clause-ours : goal.open_senders-requires-clause-ours
+open_senders-requires-clause-ours g c = (c.start.ensures.ours ∙ c.requires.ours, c.requires.actors.1)
+
+pub open_senders-requires-clause-feeds : goal.open_senders-requires-clause-feeds
+open_senders-requires-clause-feeds g c = c.requires.feeds
+
+pub open_senders-requires-clause-many : goal.open_senders-requires-clause-many
+open_senders-requires-clause-many g c = c.requires.many
+
+pub open_senders-requires-clause-outside : goal.open_senders-requires-clause-outside
+open_senders-requires-clause-outside g c = c.requires.outside
+
+pub open_ends-requires-clause-ours : goal.open_ends-requires-clause-ours
+open_ends-requires-clause-ours g c =
+    (c.open_senders.ensures.ours ∙ c.start.ensures.ours ∙ c.requires.ours, c.requires.actors.1)
+
+pub open_ends-requires-clause-ends : goal.open_ends-requires-clause-ends
+open_ends-requires-clause-ends g c = c.requires.ends
+
+pub open_ends-requires-clause-few : goal.open_ends-requires-clause-few
+open_ends-requires-clause-few g c = c.requires.some.1
+
+pub returns-clause-senders : goal.returns-clause-senders
+returns-clause-senders g c = c.in_ok-senders.ensures.opened

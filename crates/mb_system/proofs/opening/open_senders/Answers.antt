@@ -130,3 +130,32 @@ returns-clause-ways g c =
     let none : into_iter_items at.feed-iterator ≡ [] =
     nil_from_length (into_iter_items at.feed-iterator) (sym at.feed-iterator.rest.ok.0 ∙ c.in-None.ensures.steps.0) in
     at.invariant.ways ∙ sym (append-nil at.yielded) ∙ ap (λ l. at.yielded ++ l) (sym none) ∙ at.invariant.whole
+
+pub apart-requires-clause-ours : goal.apart-requires-clause-ours
+apart-requires-clause-ours g c = c.loop-feed.invariant.ours ∙ c.requires.ours.0
+
+pub returns-clause-ours : goal.returns-clause-ours
+returns-clause-ours g c = c.loop-feed.invariant.ours
+
+pub returns-clause-kept : goal.returns-clause-kept
+returns-clause-kept g c = c.loop-feed.invariant.kept
+
+pub returns-clause-shares : goal.returns-clause-shares
+returns-clause-shares g c = c.loop-feed.invariant.shares
+
+pub returns-in_err-senders-clause-ours : goal.returns-in_err-senders-clause-ours
+returns-in_err-senders-clause-ours g c = refl
+
+pub returns-in_err-senders-clause-kept : goal.returns-in_err-senders-clause-kept
+returns-in_err-senders-clause-kept g c = (refl, refl, refl)
+
+pub returns-in_err-push-clause-ours : goal.returns-in_err-push-clause-ours
+returns-in_err-push-clause-ours g c = c.apart.ensures.ours.0 ∙ c.loop-feed.invariant.ours
+
+pub returns-in_err-push-clause-kept : goal.returns-in_err-push-clause-kept
+returns-in_err-push-clause-kept g c =
+    let at = c.loop-feed.invariant.kept in let known = c.apart.ensures.known.0 in (
+      ap (λ (v : View). v.log) known ∙ at.0,
+      ap (λ (v : View). v.got) known ∙ at.1,
+      ap (λ (v : View). v.debts) known ∙ at.2,
+    )

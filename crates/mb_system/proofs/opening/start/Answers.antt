@@ -1,6 +1,7 @@
 use Rattle.mb_gate.specs.Names.{known_by}
 use Rattle.mb_system.proofs.Opened.{created, kept-whole, nobody-got}
 use Rattle.mb_system.proofs.Owing.{owes-first}
+use Rattle.std.proofs.Common.{refl}
 use Rattle.mb_system.proofs.opening.start.Goals as goal
 
 pub unreachable-requires : goal.unreachable-requires
@@ -14,3 +15,15 @@ returns-clause-created g c = (
 
 pub returns-clause-kept : goal.returns-clause-kept
 returns-clause-kept g c = kept-whole _ _ (known_by c.args.pass.now) _ c.in-Ok.ensures.listed c.requires.blank.1 c.requires.whole
+
+pub sys_enqueue-requires-clause-ours : goal.sys_enqueue-requires-clause-ours
+sys_enqueue-requires-clause-ours g c = c.requires.ours.0
+
+pub sys_enqueue-requires-clause-there : goal.sys_enqueue-requires-clause-there
+sys_enqueue-requires-clause-there g c = c.requires.ours.1
+
+pub returns-in-Ok-clause-ours : goal.returns-in-Ok-clause-ours
+returns-in-Ok-clause-ours g c = c.sys_enqueue.ensures.ours
+
+pub returns-in_err-node-clause-ours : goal.returns-in_err-node-clause-ours
+returns-in_err-node-clause-ours g c = refl

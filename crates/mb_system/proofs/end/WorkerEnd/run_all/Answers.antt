@@ -61,7 +61,7 @@ run_one-requires-clause-ours g c =
 
 pub run_one-requires-clause-untouched : goal.run_one-requires-clause-untouched
 run_one-requires-clause-untouched g c =
-    subst (λ (o : Option (Origin (Box Contents))). IsFreshClaim g.K.Behaviours.gives o c.in-Some.claim) c.loop.invariant.0.1 c.in-Some.ensures.fit
+    subst (λ (o : Option (Origin (Box Contents))). IsFreshClaim g.K.Behaviours.gives o c.in-Some-take.claim) c.loop.invariant.0.1 c.in-Some-take.ensures.fit
 
 pub returns-in_default-clause-ours : goal.returns-in_default-clause-ours
 returns-in_default-clause-ours g c = c.pay.ensures.ours

@@ -30,3 +30,6 @@ returns-clause-paid g c = c.put.ensures.paid
 
 pub returns-clause-still : goal.returns-clause-still
 returns-clause-still g c = c.put.ensures.still
+
+pub returns-clause-refused : goal.returns-clause-refused
+returns-clause-refused g c = c.put.ensures.refused

@@ -78,3 +78,12 @@ returns-clause-settled g c =
     (λ done. first-settled c.args.self.now.gates _ (λ x y kept. kept.3) _ _ c.register_by_first.ensures.paid did.keeps.1
     (all_after _ _ (λ old new did. did.0) _ _ done))
     did.done.1)
+
+pub register_by_first-requires : goal.register_by_first-requires
+register_by_first-requires g c = c.requires.ends
+
+pub all_beside-of_jobs-requires-clause-these : goal.all_beside-of_jobs-requires-clause-these
+all_beside-of_jobs-requires-clause-these g c κs within = c.requires.jobs
+
+pub all_beside-of_jobs-requires-clause-those : goal.all_beside-of_jobs-requires-clause-those
+all_beside-of_jobs-requires-clause-those g c κs within = c.register_by_first.ensures.ends.0
