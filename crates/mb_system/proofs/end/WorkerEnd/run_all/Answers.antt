@@ -1,4 +1,4 @@
-use Rattle.std.proofs.Common.{◌∙◌, ap, refl, subst}
+use Rattle.std.proofs.Common.{rules, ◌∙◌, ap, refl, subst}
 use Rattle.mb_gate.specs.Names.{actors_of, known_by, pass_id}
 use Rattle.mb_gate.specs.Rule.{IsPart}
 use Rattle.mb_system.specs.Members.{end_caller}
@@ -67,7 +67,7 @@ pub returns-in_default-clause-ours : goal.returns-in_default-clause-ours
 returns-in_default-clause-ours g c = c.pay.ensures.ours
 
 pub returns-in_default-clause-paid : goal.returns-in_default-clause-paid
-returns-in_default-clause-paid g c = c.pay.ensures.done
+returns-in_default-clause-paid g c = search rules
 
 pub returns-in_default-clause-number : goal.returns-in_default-clause-number
 returns-in_default-clause-number g c = c.pay.ensures.number ∙ c.take.ensures.same.3 ∙ c.loop.invariant.1

@@ -1,3 +1,4 @@
+use Rattle.std.proofs.Common.{rules}
 use Rattle.mb_system.proofs.end.WorkerEnd.work.Goals as goal
 
 pub work_on-outcome-requires-clause-ours : goal.work_on-outcome-requires-clause-ours
@@ -20,3 +21,6 @@ returns-clause-saw g c = c.work_on-outcome.ensures.saw
 
 pub returns-clause-fault : goal.returns-clause-fault
 returns-clause-fault g c = c.work_on-outcome.ensures.fault
+
+pub returns-clause-empty : goal.returns-clause-empty
+returns-clause-empty g c = search rules
