@@ -1,5 +1,5 @@
-use Rattle.std.proofs.Common.{◌∙◌, subst, sym, ap, refl}
-use Rattle.mb_gate.specs.Names.{known_by, pass_id}
+use Rattle.std.proofs.Common.{◌∙◌, subst, sym, ap, refl, inr}
+use Rattle.mb_gate.specs.Names.{known_by, pass_id, actors_of}
 use Rattle.mb_gate.specs.Rule.{IsPart}
 use Rattle.mb_system.specs.Found.{FoundEmpty}
 use Rattle.mb_system.proofs.Saw.{saw-same}
@@ -8,6 +8,10 @@ use Rattle.std.specs.Prelude.{Option}
 use Rattle.mb_gate.specs.Untouched.{Origin}
 use Rattle.mb_home.specs.Contents.{Contents}
 use Rattle.mb_turn.specs.Fresh.{IsFreshClaim}
+use Rattle.mb_gate.specs.View.{owes}
+use Rattle.mb_wake.specs.Owed.{is_owed}
+use Rattle.mb_system.specs.Members.{end_caller}
+use Rattle.mb_system.proofs.Debts.{debts-left, debts-same, debts-then}
 use Rattle.mb_system.proofs.end.WorkerEnd.is_over.Goals as goal
 
 pub returns-then-is_over-clause-saw : goal.returns-then-is_over-clause-saw
@@ -43,3 +47,50 @@ returns-then-is_over-clause-number g c = c.take.ensures.same.3 ∙ c.loop.invari
 
 pub returns-then-is_over-clause-fault : goal.returns-then-is_over-clause-fault
 returns-then-is_over-clause-fault g c = tt
+
+pub returns-then-is_over-clause-debts : goal.returns-then-is_over-clause-debts
+returns-then-is_over-clause-debts g c =
+    λ id lt. inr (c.requires.paid id lt, ap (λ p. owes id (known_by p)) (c.take.ensures.same.0 ∙ c.loop.invariant.3))
+
+pub returns-then-is_over-clause-paid : goal.returns-then-is_over-clause-paid
+returns-then-is_over-clause-paid g c =
+    λ over id lt. ap (λ o. is_owed o id) (c.take.ensures.same.1 ∙ c.loop.invariant.2) ∙ c.requires.paid id lt
+
+pub returns-in-Some-take-clause-ours : goal.returns-in-Some-take-clause-ours
+returns-in-Some-take-clause-ours g c = c.run_one.ensures.ours
+
+pub returns-in_err-run_one-clause-ours : goal.returns-in_err-run_one-clause-ours
+returns-in_err-run_one-clause-ours g c = c.run_one.ensures.ours
+
+pub returns-in-Some-take-clause-number : goal.returns-in-Some-take-clause-number
+returns-in-Some-take-clause-number g c = c.run_one.ensures.number ∙ c.take.ensures.same.3 ∙ c.loop.invariant.1
+
+pub returns-in_err-run_one-clause-number : goal.returns-in_err-run_one-clause-number
+returns-in_err-run_one-clause-number g c = c.run_one.ensures.number ∙ c.take.ensures.same.3 ∙ c.loop.invariant.1
+
+pub returns-in-Some-take-clause-debts : goal.returns-in-Some-take-clause-debts
+returns-in-Some-take-clause-debts g c =
+    let same = c.take.ensures.same in let at = c.loop.invariant in let actors = actors_of c.args.system.now.gates in
+    let first = end_caller c.args.self.now.waker in let between = end_caller c.take.new.self.waker in
+    let new = end_caller c.run_one.new.self.waker in
+    debts-then actors first between new (debts-same actors first between (ap known_by (same.0 ∙ at.3)) (same.1 ∙ at.2))
+    (debts-left actors between new c.run_one.ensures.leaves)
+
+pub returns-in_err-run_one-clause-debts : goal.returns-in_err-run_one-clause-debts
+returns-in_err-run_one-clause-debts g c =
+    let same = c.take.ensures.same in let at = c.loop.invariant in let actors = actors_of c.args.system.now.gates in
+    let first = end_caller c.args.self.now.waker in let between = end_caller c.take.new.self.waker in
+    let new = end_caller c.run_one.new.self.waker in
+    debts-then actors first between new (debts-same actors first between (ap known_by (same.0 ∙ at.3)) (same.1 ∙ at.2))
+    (debts-left actors between new c.run_one.ensures.leaves)
+
+pub returns-in-Some-take-clause-saw : goal.returns-in-Some-take-clause-saw
+returns-in-Some-take-clause-saw g c =
+    subst (λ p. IsPart (known_by p).log (known_by c.run_one.new.self.waker.pass).log) (c.take.ensures.same.0 ∙ c.loop.invariant.3) c.run_one.ensures.leaves.log
+
+pub returns-in_err-run_one-clause-saw : goal.returns-in_err-run_one-clause-saw
+returns-in_err-run_one-clause-saw g c =
+    subst (λ p. IsPart (known_by p).log (known_by c.run_one.new.self.waker.pass).log) (c.take.ensures.same.0 ∙ c.loop.invariant.3) c.run_one.ensures.leaves.log
+
+pub returns-in-Some-take-clause-fault : goal.returns-in-Some-take-clause-fault
+returns-in-Some-take-clause-fault g c = tt
