@@ -2,7 +2,7 @@ use Rattle.mb_gate.specs.Names.{actors_of}
 use Rattle.mb_system.specs.Members.{end_caller}
 use Rattle.mb_system.proofs.Debts.{debts-paid}
 use Rattle.mb_system.proofs.Saw.{saw-more}
-use Rattle.std.proofs.Common.{◌∙◌, refl}
+use Rattle.std.proofs.Common.{◌∙◌, refl, Err, ap}
 use Rattle.mb_system.proofs.end.WorkerEnd.pay.Goals as goal
 
 pub returns-in-Ok-clause-saw : goal.returns-in-Ok-clause-saw
@@ -61,3 +61,6 @@ returns-in-Ok-clause-number g c = refl
 
 pub returns-in-Err-clause-number : goal.returns-in-Err-clause-number
 returns-in-Err-clause-number g c = refl
+
+pub returns-in-Err-clause-refused : goal.returns-in-Err-clause-refused
+returns-in-Err-clause-refused g c = ap Err c.of_debts.ensures
