@@ -1,7 +1,8 @@
-use Rattle.mb_gate.specs.Names.{known_by}
+use Rattle.mb_gate.specs.Names.{known_by, actors_of}
 use Rattle.mb_system.proofs.Opened.{created, kept-whole, nobody-got}
 use Rattle.mb_system.proofs.Owing.{owes-first}
-use Rattle.std.proofs.Common.{refl}
+use Rattle.std.proofs.Common.{refl, subst, sym}
+use Rattle.mb_gate.specs.Named.{NamesBelow}
 use Rattle.mb_system.proofs.opening.start.Goals as goal
 
 pub unreachable-requires : goal.unreachable-requires
@@ -27,3 +28,6 @@ returns-in-Ok-clause-ours g c = c.sys_enqueue.ensures.ours
 
 pub returns-in_err-node-clause-ours : goal.returns-in_err-node-clause-ours
 returns-in_err-node-clause-ours g c = refl
+
+pub sys_enqueue-requires-clause-named : goal.sys_enqueue-requires-clause-named
+sys_enqueue-requires-clause-named g c = subst (NamesBelow (actors_of c.args.gates.now)) (sym c.in_ok-node.ensures) tt
