@@ -1,14 +1,18 @@
-use Rattle.std.proofs.Common.{rules, ◌∙◌, ap, refl, subst}
+use Rattle.std.proofs.Common.{rules, ◌∙◌, ap, refl, subst, sym}
 use Rattle.mb_gate.specs.Names.{actors_of, known_by, pass_id}
 use Rattle.mb_gate.specs.Rule.{IsPart}
 use Rattle.mb_system.specs.Members.{end_caller}
 use Rattle.mb_system.proofs.Debts.{debts-from, debts-left, debts-same}
 use Rattle.mb_system.proofs.Saw.{saw-same, saw-then}
 use Rattle.std.specs.Global.{Box}
-use Rattle.std.specs.Prelude.{Option}
+use Rattle.std.specs.Prelude.{Option, Err, IfErr, IsErrOf, Ok, OnErr, Result}
 use Rattle.mb_gate.specs.Untouched.{Origin}
 use Rattle.mb_home.specs.Contents.{Contents}
 use Rattle.mb_turn.specs.Fresh.{IsFreshClaim}
+use Rattle.mb_system.specs.declared.failure.RunError.{RunError}
+use Rattle.mb_system.specs.declared.failure.RunError.TheVariants.{NoMemory}
+use Rattle.mb_system.specs.Faults.{BreaksWork}
+use Rattle.std.proofs.lemmas.Result.{err_from_is_err_and}
 use Rattle.mb_system.proofs.end.WorkerEnd.run_all.Goals as goal
 
 pub loop-init : goal.loop-init
@@ -77,3 +81,18 @@ returns-in_err-run_one-clause-ours g c = c.run_one.ensures.ours
 
 pub returns-in_err-run_one-clause-number : goal.returns-in_err-run_one-clause-number
 returns-in_err-run_one-clause-number g c = c.run_one.ensures.number ∙ c.take.ensures.same.3 ∙ c.loop.invariant.1
+
+-- memory alone was refused
+of-memory : {T : Type 0} (r : Result T RunError) (P : RunError → Type 0) → P NoMemory → OnErr r (IsErrOf r NoMemory) → IfErr r P
+of-memory (Ok x) P p refused = tt
+of-memory {T} (Err e) P p refused = subst (λ (q : Result T RunError). IfErr q P) (sym refused) p
+
+pub returns-in_default-clause-fault : goal.returns-in_default-clause-fault
+returns-in_default-clause-fault g c =
+    of-memory c.pay.result (BreaksWork g.K.Behaviours.gives c.args.system.now c.pay.new.self) tt c.pay.ensures.refused
+
+pub returns-in_err-run_one-clause-fault : goal.returns-in_err-run_one-clause-fault
+returns-in_err-run_one-clause-fault g c =
+    let breaks = BreaksWork g.K.Behaviours.gives c.args.system.now c.run_one.new.self in
+    let p = err_from_is_err_and c.from_residual.result c.from_residual.ensures.1 in
+    subst (λ r. IfErr r breaks) (sym p.1) (subst breaks (sym p.2) c.in_err-run_one.ensures.fault)

@@ -1,8 +1,12 @@
-use Rattle.std.proofs.Common.{refl, ◌∙◌}
+use Rattle.std.proofs.Common.{refl, ◌∙◌, replicate, arith, subst, sym}
 use Rattle.mb_gate.specs.Names.{actors_of}
 use Rattle.mb_system.specs.Members.{sender_caller}
 use Rattle.mb_system.proofs.Debts.{debts-same, debts-then}
 use Rattle.mb_system.proofs.Sending.{sent-again, sent-none}
+use Rattle.std.specs.Prelude.{IfErr}
+use Rattle.std.proofs.lemmas.Result.{err_from_is_err_and}
+use Rattle.mb_system.specs.Faults.{BreaksSending}
+use Rattle.mb_system.proofs.Breaking.{breaks-often}
 use Rattle.mb_system.proofs.sender.Sender.send_often.Goals as goal
 
 pub loop-init : goal.loop-init
@@ -39,3 +43,10 @@ returns-in_err-send-clause-ours g c = c.send.ensures.ours
 
 pub returns-in_err-send-clause-by : goal.returns-in_err-send-clause-by
 returns-in_err-send-clause-by g c = c.send.ensures.by ∙ c.loop.invariant.1.by
+
+pub returns-in_err-send-clause-fault : goal.returns-in_err-send-clause-fault
+returns-in_err-send-clause-fault g c =
+    let gates = c.args.system.now.gates in let breaks = BreaksSending gates (replicate c.args.times c.args.order) in
+    let p = err_from_is_err_and c.from_residual.result c.from_residual.ensures.1 in let more = c.loop-test.true in
+    subst (λ r. IfErr r breaks) (sym p.1)
+    (subst breaks (sym p.2) (breaks-often gates c.args.order c.args.times _ (omega (arith, more)) c.in_err-send.ensures.fault))
