@@ -26,12 +26,6 @@ returns-clause-debts g c =
     (debts-then (actors_of c.args.system.now.gates) (sender_caller c.args.sender.now.inner.waker) (sender_caller c.send_repeats.new.self.inner.waker)
     (sender_caller c.pay.new.self.inner.waker) c.in_ok-send_repeats.ensures.debts c.pay.ensures.debts)
 
-pub send_repeats-requires-clause-ours : goal.send_repeats-requires-clause-ours
-send_repeats-requires-clause-ours g c = c.requires.ours
-
-pub pay-requires-clause-ours : goal.pay-requires-clause-ours
-pay-requires-clause-ours g c = c.send_repeats.ensures.ours
-
 pub returns-clause-ours : goal.returns-clause-ours
 returns-clause-ours g c = c.pay.ensures.ours
 

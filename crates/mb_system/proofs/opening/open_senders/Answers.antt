@@ -131,9 +131,6 @@ returns-clause-ways g c =
     nil_from_length (into_iter_items at.feed-iterator) (sym at.feed-iterator.rest.ok.0 ∙ c.in-None.ensures.steps.0) in
     at.invariant.ways ∙ sym (append-nil at.yielded) ∙ ap (λ l. at.yielded ++ l) (sym none) ∙ at.invariant.whole
 
-pub apart-requires-clause-ours : goal.apart-requires-clause-ours
-apart-requires-clause-ours g c = c.loop-feed.invariant.ours ∙ c.requires.ours.0
-
 pub returns-clause-ours : goal.returns-clause-ours
 returns-clause-ours g c = c.loop-feed.invariant.ours
 

@@ -23,9 +23,6 @@ sys_enqueue-requires-clause-ours g c = c.requires.ours.0
 pub sys_enqueue-requires-clause-there : goal.sys_enqueue-requires-clause-there
 sys_enqueue-requires-clause-there g c = c.requires.ours.1
 
-pub returns-in-Ok-clause-ours : goal.returns-in-Ok-clause-ours
-returns-in-Ok-clause-ours g c = c.sys_enqueue.ensures.ours
-
 pub returns-in_err-node-clause-ours : goal.returns-in_err-node-clause-ours
 returns-in_err-node-clause-ours g c = refl
 

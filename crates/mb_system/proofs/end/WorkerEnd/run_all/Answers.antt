@@ -1,4 +1,4 @@
-use Rattle.std.proofs.Common.{rules, ◌∙◌, ap, refl, subst, sym}
+use Rattle.std.proofs.Common.{◌∙◌, ap, refl, subst, sym}
 use Rattle.mb_gate.specs.Names.{actors_of, known_by, pass_id}
 use Rattle.mb_gate.specs.Rule.{IsPart}
 use Rattle.mb_system.specs.Members.{end_caller}
@@ -55,10 +55,6 @@ returns-in_err-run_one-clause-saw g c =
     saw-then _ _ _ c.loop.invariant.2
     (subst (λ p. IsPart (known_by p).log (known_by c.run_one.new.self.waker.pass).log) c.take.ensures.same.0 c.run_one.ensures.leaves.log)
 
-pub pay-requires-clause-ours : goal.pay-requires-clause-ours
-pay-requires-clause-ours g c =
-    let same = c.take.ensures.same in let ours = c.loop.invariant.0 in (ap pass_id same.0 ∙ ours.0, same.2 ∙ ours.1, ours.2)
-
 pub run_one-requires-clause-ours : goal.run_one-requires-clause-ours
 run_one-requires-clause-ours g c =
     let same = c.take.ensures.same in let ours = c.loop.invariant.0 in (ap pass_id same.0 ∙ ours.0, same.2 ∙ ours.1, ours.2)
@@ -69,9 +65,6 @@ run_one-requires-clause-untouched g c =
 
 pub returns-in_default-clause-ours : goal.returns-in_default-clause-ours
 returns-in_default-clause-ours g c = c.pay.ensures.ours
-
-pub returns-in_default-clause-paid : goal.returns-in_default-clause-paid
-returns-in_default-clause-paid g c = search rules
 
 pub returns-in_default-clause-number : goal.returns-in_default-clause-number
 returns-in_default-clause-number g c = c.pay.ensures.number ∙ c.take.ensures.same.3 ∙ c.loop.invariant.1

@@ -83,9 +83,6 @@ returns-then-is_empty-clause-settled g c =
     owes-nothing actors new (paid-still actors old new c.loop.invariant.3 (debts-same actors old new (ap known_by same.0) same.1))
     (λ id lt. c.is_empty.ensures.nobody c.if-is_empty.true id)
 
-pub register_all-requires-clause-ours : goal.register_all-requires-clause-ours
-register_all-requires-clause-ours g c = c.requires.ours
-
 pub run_one-requires-clause-ours : goal.run_one-requires-clause-ours
 run_one-requires-clause-ours g c =
     let same = c.take.ensures.same in let ours = c.loop.invariant.0 in (ap pass_id same.0 ∙ ours.0, same.2 ∙ ours.1, ours.2)
@@ -93,10 +90,6 @@ run_one-requires-clause-ours g c =
 pub run_one-requires-clause-untouched : goal.run_one-requires-clause-untouched
 run_one-requires-clause-untouched g c =
     subst (λ (o : Option (Origin (Box Contents))). IsFreshClaim g.K.Behaviours.gives o c.in-Some-take.claim) c.loop.invariant.0.1 c.in-Some-take.ensures.fit
-
-pub pay-requires-clause-ours : goal.pay-requires-clause-ours
-pay-requires-clause-ours g c =
-    let same = c.take.ensures.same in let ours = c.loop.invariant.0 in (ap pass_id same.0 ∙ ours.0, same.2 ∙ ours.1, ours.2)
 
 pub returns-then-is_err-clause-ours : goal.returns-then-is_err-clause-ours
 returns-then-is_err-clause-ours g c = c.loop.invariant.0

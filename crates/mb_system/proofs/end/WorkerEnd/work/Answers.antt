@@ -1,8 +1,4 @@
-use Rattle.std.proofs.Common.{rules}
 use Rattle.mb_system.proofs.end.WorkerEnd.work.Goals as goal
-
-pub work_on-outcome-requires-clause-ours : goal.work_on-outcome-requires-clause-ours
-work_on-outcome-requires-clause-ours g c = c.requires.ours
 
 pub returns-clause-ours : goal.returns-clause-ours
 returns-clause-ours g c = c.work_on-outcome.ensures.ours
@@ -21,6 +17,3 @@ returns-clause-saw g c = c.work_on-outcome.ensures.saw
 
 pub returns-clause-fault : goal.returns-clause-fault
 returns-clause-fault g c = c.work_on-outcome.ensures.fault
-
-pub returns-clause-empty : goal.returns-clause-empty
-returns-clause-empty g c = search rules

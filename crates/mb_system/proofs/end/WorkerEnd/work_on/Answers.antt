@@ -53,9 +53,6 @@ returns-in_err-is_over-clause-debts g c =
     let between = end_caller c.run_all.new.self.waker in let new = end_caller c.is_over.new.self.waker in
     debts-then actors first between new (debts-then actors first old between c.loop.invariant.3 c.run_all.ensures.debts) c.is_over.ensures.debts
 
-pub run_all-requires-clause-ours : goal.run_all-requires-clause-ours
-run_all-requires-clause-ours g c = c.loop.invariant.0
-
 pub is_over-requires-clause-ours : goal.is_over-requires-clause-ours
 is_over-requires-clause-ours g c = c.run_all.ensures.ours
 

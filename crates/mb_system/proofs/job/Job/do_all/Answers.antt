@@ -1,9 +1,6 @@
 use Rattle.std.proofs.Common.{refl}
 use Rattle.mb_system.proofs.job.Job.do_all.Goals as goal
 
-pub send_and_pay-outcome-requires-clause-ours : goal.send_and_pay-outcome-requires-clause-ours
-send_and_pay-outcome-requires-clause-ours g c = c.requires.ours
-
 pub returns-clause-ours : goal.returns-clause-ours
 returns-clause-ours g c = c.send_and_pay-outcome.ensures.ours
 

@@ -1,5 +1,4 @@
 use Rattle.std.proofs.Common.{◌∙◌, ap, ◌+◌}
-use Rattle.mb_gate.specs.Names.{pass_id}
 use Rattle.mb_pool.specs.Places.{gates_of}
 use Rattle.std.specs.Prelude.{vec_len}
 use Rattle.mb_send.specs.Sends.{receiving_queues}

@@ -1,4 +1,4 @@
-use Rattle.std.proofs.Common.{◌≡◌, List, true, subst, sym, ◌∙◌, refl, Err, ap}
+use Rattle.std.proofs.Common.{◌≡◌, List, true, subst, sym, ◌∙◌, refl}
 use Rattle.mb_fates.specs.Accepted.{dead_letters}
 use Rattle.mb_gate.specs.Names.{actors_of, known_by}
 use Rattle.mb_gate.specs.View.{Sight}
@@ -90,6 +90,3 @@ returns-in-Ok-clause-same g c = (c.pay.ensures.looks.said, refl, refl)
 
 pub returns-in-Err-clause-same : goal.returns-in-Err-clause-same
 returns-in-Err-clause-same g c = (c.pay.ensures.looks.said, refl, refl)
-
-pub returns-in-Err-clause-refused : goal.returns-in-Err-clause-refused
-returns-in-Err-clause-refused g c = ap Err c.of_debts.ensures

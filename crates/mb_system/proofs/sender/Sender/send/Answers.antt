@@ -46,12 +46,6 @@ returns-in-Ok-stop-clause-sent g c =
     subst (λ (what : What). HasSent (record { to = to; what = what } ∷ []) old new) (sym c.in-Stop.is)
     (sent-stopped to _ old new c.stop.ensures.same.0 c.in-Ok-stop.ensures.stopped)
 
-pub tell-requires-clause-ours : goal.tell-requires-clause-ours
-tell-requires-clause-ours g c = c.requires.ours
-
-pub stop-requires-clause-ours : goal.stop-requires-clause-ours
-stop-requires-clause-ours g c = c.requires.ours
-
 pub returns-in-Ok-clause-ours : goal.returns-in-Ok-clause-ours
 returns-in-Ok-clause-ours g c = c.tell.ensures.ours
 

@@ -23,9 +23,6 @@ loop-order-preserved g c =
           (sender_caller c.send.new.self.inner.waker) at.invariant.2 one.debts,
     )
 
-pub send-requires-clause-ours : goal.send-requires-clause-ours
-send-requires-clause-ours g c = c.loop-order.invariant.0
-
 pub returns-clause-ours : goal.returns-clause-ours
 returns-clause-ours g c = c.loop-order.invariant.0
 

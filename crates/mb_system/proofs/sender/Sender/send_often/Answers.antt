@@ -23,9 +23,6 @@ loop-preserved g c =
           (sender_caller c.send.new.self.inner.waker) c.loop.invariant.2 one.debts,
     )
 
-pub send-requires-clause-ours : goal.send-requires-clause-ours
-send-requires-clause-ours g c = c.loop.invariant.0
-
 pub returns-clause-ours : goal.returns-clause-ours
 returns-clause-ours g c = c.loop.invariant.0
 

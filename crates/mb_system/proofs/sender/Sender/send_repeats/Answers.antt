@@ -35,9 +35,6 @@ returns-in_err-send_often-clause-fault g c =
     c.in_err-send_often.ensures.fault in
     subst (λ r. IfErr r breaks) (sym p.1) (subst breaks (sym p.2) broken)
 
-pub send_often-requires-clause-ours : goal.send_often-requires-clause-ours
-send_often-requires-clause-ours g c = c.loop-repeat.invariant.0
-
 pub returns-clause-ours : goal.returns-clause-ours
 returns-clause-ours g c = c.loop-repeat.invariant.0
 
