@@ -35,7 +35,7 @@ test:
 check:
 	rt all check
 
-# What a handled message costs: a million messages through a cell and its journal.
+# What the parts cost: messages through a cell and its journal, the queues, the gates and the pools.
 bench:
 	@tools/prove bench
 	@cd crates/bench && rt run

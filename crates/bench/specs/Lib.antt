@@ -1,3 +1,4 @@
 pub mod Idle
+pub mod Ready
 pub mod Steady
 pub mod Sum

@@ -1,0 +1,25 @@
+-- A worker goes to a thread of its own.
+use denote.RattleType.{RattleType}
+use denote.Param.Send.{IsSend, sendable}
+use denote.Param.SendFields.{declared_send}
+use Rattle.mb_msg.proofs.id.ActorId.TheSendSync as actor
+use Rattle.mb_desk.proofs.desk.Desk.TheSendSync as desk
+use Rattle.mb_desk.specs.contracts.desk.Desk as desk_row
+use Rattle.mb_desk.specs.contracts.desk.DeskResident.TheImpl as resident
+use Rattle.mb_gate.specs.contracts.gates.Gates as gates
+use Rattle.mb_gate.proofs.Crossing.{pass_send}
+use Rattle.mb_pool.proofs.Crossing.{end_send}
+use Rattle.bench.proofs.times.Times.TheSendSync as times
+use Rattle.bench.specs.contracts.pools.worker.Worker as worker
+
+abbrev pub TheGates : RattleType
+TheGates = gates.the_row desk_row.the_row resident.ghosts
+
+pub worker_crosses : IsSend worker.the_row
+worker_crosses = declared_send worker.the_type (
+  end_send _ resident.ghosts desk.the_send,
+  (
+    pass_send _ desk.the_send,
+    (search (sendable, actor.the_field_send, actor.the_send) depth 20, (search sendable, (times.the_send, tt))),
+  ),
+)

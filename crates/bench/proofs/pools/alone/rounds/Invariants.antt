@@ -1,0 +1,5 @@
+use Rattle.bench.specs.Ready.{IsReady}
+use Rattle.bench.proofs.pools.alone.rounds.Given as goal
+
+abbrev pub invariant-loop-round : goal.invariant-loop-round
+invariant-loop-round g l = IsReady l.gates l.worker

@@ -1,0 +1,20 @@
+use Rattle.std.proofs.Common.{Some, ◌∙◌, subst, sym}
+use Rattle.mb_gate.specs.Untouched.{origin_of, IsUntouched}
+use Rattle.mb_pool.proofs.SameGates.{same_gates}
+use Rattle.bench.proofs.pools.worker.turn_often.Goals as goal
+
+pub push-requires : goal.push-requires
+push-requires g c =
+    record {
+      fit = subst (λ o. IsUntouched g.H.Resident.is_of g.H.Resident.journal g.H.Resident.mailbox g.H.Resident.rested g.H.Resident.given
+          g.H.Resident.closed_to o c.loop.claim) (sym c.loop.invariant.1) c.loop.invariant.2;
+    }
+
+pub loop-preserved : goal.loop-preserved
+loop-preserved g c =
+    let pushed = same_gates c.loop.end c.push.new.self c.push.ensures.same ∙ c.loop.invariant.1 in (
+      c.loop.invariant.0,
+      same_gates c.push.new.self c.take.new.self c.take.ensures.same ∙ pushed,
+      subst (λ o. IsUntouched g.H.Resident.is_of g.H.Resident.journal g.H.Resident.mailbox g.H.Resident.rested g.H.Resident.given
+          g.H.Resident.closed_to o c.in-Some-take.next) pushed c.in-Some-take.ensures.fit,
+    )

@@ -1,0 +1,77 @@
+//! What the calls of the gates cost on one thread, and how two threads do on two actors: the medians of some rounds.
+
+ghost use Rattle.std.specs.Prelude.{◌≡◌, ◌<◌};
+ghost use Rattle.mb_gate.specs.Names.{gates_id, pass_id, actors_of};
+
+mod alone;
+mod desk;
+mod held;
+mod paired;
+mod shown;
+
+use alone::{Work, rounds};
+use desk::{Desk, two};
+use held::fill;
+use mb_gate::{Gates, Pass};
+use paired::turns;
+use shown::{show, show_gain};
+use std::alloc::Global;
+use std::io;
+use std::io::ErrorKind;
+use std::sync::Wait;
+use std::thread::Threads;
+use std::time::Clock;
+
+/// Measures all of these in turn.
+pub fn run<R: Clock + Threads + Wait + Sync + Print + Eprint>(
+    rt: &R,
+    alloc: Global,
+) -> io::Result<()> {
+    one_thread(rt, alloc)?;
+    two_threads(rt, alloc)
+}
+
+fn one_thread<R: Clock + Wait + Print + Eprint>(rt: &R, alloc: Global) -> io::Result<()> {
+    let (gates, mut pass) = two(alloc)?;
+    show_each(rt, alloc, &gates, &mut pass)
+}
+
+fn show_each<R: Clock + Wait + Print + Eprint>(
+    rt: &R,
+    alloc: Global,
+    gates: &Gates<Desk>,
+    pass: &mut Pass<Desk>,
+) -> io::Result<()>
+    requires ours { pass_id pass.old ≡ gates_id gates.now }
+    requires there { 1 < actors_of gates.now }
+{
+    show(rt, "a status load", rounds(rt, gates, pass, Work::Load))?;
+    show(rt, "a won turn", rounds(rt, gates, pass, Work::Turn))?;
+    show(rt, "an envelope noted", rounds(rt, gates, pass, Work::Note))?;
+    show(
+        rt,
+        "a drain of an empty list",
+        rounds(rt, gates, pass, Work::Drain),
+    )?;
+    let Some(()) = fill(rt, alloc, gates, pass) else {
+        return Err(ErrorKind::OutOfMemory.into());
+    };
+    let figure = rounds(rt, gates, pass, Work::GoRound);
+    show(
+        rt,
+        "a system message put in, with its part of a drain",
+        figure,
+    )
+}
+
+fn two_threads<R: Clock + Threads + Sync + Print + Eprint>(
+    rt: &R,
+    alloc: Global,
+) -> io::Result<()> {
+    let (gates, mut first) = two(alloc)?;
+    let second = gates.another(&mut first);
+    let paired = turns(rt, &gates, first, second);
+    show(rt, "a won turn, two threads on two actors", paired.figure)?;
+    show_gain(rt, paired.gain);
+    Ok(())
+}

@@ -1,0 +1,113 @@
+//! One thread on one actor.
+ghost use Rattle.std.specs.Prelude.{◌≡◌, ◌<◌};
+ghost use Rattle.mb_gate.specs.Names.{gates_id, pass_id, actors_of};
+
+use crate::gates::desk::{Desk, attempt, give};
+use crate::gates::held::{drains, goes_round};
+use crate::gates::shown::{Figure, TURNS};
+use crate::times::{ROUNDS, Times};
+use mb_gate::{Gates, Pass};
+use mb_msg::ActorId;
+use std::sync::Wait;
+use std::time::{Clock, Instant};
+
+/// The one actor.
+pub const ACTOR: ActorId = ActorId(1);
+
+/// What is done over and over.
+#[derive(Clone, Copy)]
+pub enum Work {
+    /// The status is read.
+    Load,
+    /// The status is read, the actor is scheduled and its cell given home.
+    Turn,
+    /// An envelope is counted as sent.
+    Note,
+    /// The holder drains a list in which nothing is.
+    Drain,
+    /// The holder drains the list, and each message is put into it again.
+    GoRound,
+}
+
+/// How often it was done in the last of some rounds, and the median of what these took.
+pub fn rounds<R: Clock + Wait>(
+    rt: &R,
+    gates: &Gates<Desk>,
+    pass: &mut Pass<Desk>,
+    work: Work,
+) -> Figure
+    requires ours { pass_id pass.old ≡ gates_id gates.now }
+    requires there { 1 < actors_of gates.now }
+    ensures ours { pass_id pass.new ≡ pass_id pass.old }
+{
+    let mut times = Times::new();
+    let mut done = 0;
+    for _ in 0..ROUNDS {
+        let begin = Instant::now(rt).ok();
+        done = often(rt, gates, pass, work);
+        times.add(rt, begin);
+    }
+    Figure {
+        done,
+        median: times.median(),
+    }
+}
+
+fn often<R: Wait>(rt: &R, gates: &Gates<Desk>, pass: &mut Pass<Desk>, work: Work) -> u64
+    requires ours { pass_id pass.old ≡ gates_id gates.now }
+    requires there { 1 < actors_of gates.now }
+    ensures ours { pass_id pass.new ≡ pass_id pass.old }
+{
+    match work {
+        Work::Load => load_often(gates, pass),
+        Work::Turn => turn_often(gates, pass, ACTOR),
+        Work::Note => note_often(gates, pass),
+        Work::Drain => drains(rt, gates, pass),
+        Work::GoRound => goes_round(rt, gates, pass),
+    }
+}
+
+fn load_often(gates: &Gates<Desk>, pass: &mut Pass<Desk>) -> u64
+    requires ours { pass_id pass.old ≡ gates_id gates.now }
+    requires there { 1 < actors_of gates.now }
+    ensures ours { pass_id pass.new ≡ pass_id pass.old }
+{
+    let mut done = 0u64;
+    for _ in 0..TURNS {
+        if !gates.status(pass, ACTOR).closed() {
+            done = done.wrapping_add(1);
+        }
+    }
+    done
+}
+
+/// How often of so many turns the actor was got.
+pub fn turn_often(gates: &Gates<Desk>, pass: &mut Pass<Desk>, id: ActorId) -> u64
+    requires ours { pass_id pass.old ≡ gates_id gates.now }
+    requires there { id.0 < actors_of gates.now }
+    ensures ours { pass_id pass.new ≡ pass_id pass.old }
+{
+    let mut done = 0u64;
+    for _ in 0..TURNS {
+        if gates.status(pass, id).closed() {
+            return done;
+        }
+        if let Some(claim) = attempt(gates, pass, id) {
+            give(gates, claim, pass);
+            done = done.wrapping_add(1);
+        }
+    }
+    done
+}
+
+// How many envelopes are counted then.
+fn note_often(gates: &Gates<Desk>, pass: &mut Pass<Desk>) -> u64
+    requires ours { pass_id pass.old ≡ gates_id gates.now }
+    requires there { 1 < actors_of gates.now }
+    ensures ours { pass_id pass.new ≡ pass_id pass.old }
+{
+    for _ in 0..TURNS {
+        gates.note_sent(pass, ACTOR);
+    }
+    gates.waiting(pass, ACTOR)
+}

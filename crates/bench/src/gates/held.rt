@@ -1,0 +1,145 @@
+//! System messages on one thread: the holder of an actor drains its list.
+ghost use Rattle.std.specs.Prelude.{◌≡◌, ◌%◌, ◌^◌, ◌<◌, length};
+ghost use Rattle.mb_gate.specs.Names.{gates_id, pass_id, claim_id, actors_of, held_actor, taken_with, given_to, recorded_by};
+
+use crate::gates::alone::ACTOR;
+use crate::gates::desk::{Desk, attempt, give};
+use crate::gates::shown::TURNS;
+use mb_gate::{Claim, Gates, Pass};
+use mb_msg::SysMsg;
+use mb_syslist::{Chain, Node};
+use std::alloc::Global;
+use std::sync::Wait;
+
+/// How many nodes go round, and one drain gives.
+const NODES: u64 = 16;
+
+/// The holder drains a list in which nothing is: how often nothing came.
+pub fn drains<R: Wait>(rt: &R, gates: &Gates<Desk>, pass: &mut Pass<Desk>) -> u64
+    requires ours { pass_id pass.old ≡ gates_id gates.now }
+    requires there { 1 < actors_of gates.now }
+    ensures ours { pass_id pass.new ≡ pass_id pass.old }
+{
+    let Some(mut claim) = attempt(gates, pass, ACTOR) else {
+        return 0;
+    };
+    let done = drain_often(rt, gates, &mut claim);
+    give(gates, claim, pass);
+    done
+}
+
+/// Nodes go round, out of the list by a drain and into it again by the pass: how many messages did.
+pub fn goes_round<R: Wait>(rt: &R, gates: &Gates<Desk>, pass: &mut Pass<Desk>) -> u64
+    requires ours { pass_id pass.old ≡ gates_id gates.now }
+    requires there { 1 < actors_of gates.now }
+    ensures ours { pass_id pass.new ≡ pass_id pass.old }
+{
+    let Some(mut claim) = attempt(gates, pass, ACTOR) else {
+        return 0;
+    };
+    let done = go_often(rt, gates, pass, &mut claim);
+    give(gates, claim, pass);
+    done
+}
+
+fn drain_often<R: Wait>(rt: &R, gates: &Gates<Desk>, claim: &mut Claim<Desk>) -> u64
+    requires ours { claim_id claim.old ≡ gates_id gates.now }
+    requires there { held_actor claim.old < actors_of gates.now }
+    requires counts { claim.old.home.given ≡ given_to claim.old }
+    ensures ours { (claim_id claim.new ≡ claim_id claim.old) × (held_actor claim.new ≡ held_actor claim.old) }
+    ensures counts { (claim.new.home.actor ≡ claim.old.home.actor) × (claim.new.home.given ≡ given_to claim.new) }
+    ensures same { (taken_with claim.new ≡ taken_with claim.old) × (recorded_by claim.new ≡ recorded_by claim.old) }
+{
+    let mut done = 0u64;
+    for _ in 0..TURNS {
+        let chain = gates.sys_drain(rt, claim);
+        let count = length_of(rt, chain);
+        claim.home.given = claim.home.given.wrapping_add(count);
+        if count == 0 {
+            done = done.wrapping_add(1);
+        }
+    }
+    done
+}
+
+// How many are in the chain.
+fn length_of<R: Wait>(rt: &R, mut chain: Chain) -> u64
+    ensures { result ≡ length chain % 2 ^ 64 }
+{
+    let mut count = 0u64;
+    for _ in rt.forever() {
+        match chain.next() {
+            Some((_number, _node)) => {
+                count = count.wrapping_add(1);
+            }
+            None => break,
+        }
+    }
+    count
+}
+
+/// Makes the nodes, and puts each into the list.
+pub fn fill<R: Wait>(
+    rt: &R,
+    alloc: Global,
+    gates: &Gates<Desk>,
+    pass: &mut Pass<Desk>,
+) -> Option<()>
+    requires ours { pass_id pass.old ≡ gates_id gates.now }
+    requires there { 1 < actors_of gates.now }
+    ensures ours { pass_id pass.new ≡ pass_id pass.old }
+{
+    for _ in 0..NODES {
+        let Ok(node) = Node::new(alloc, SysMsg::Suspend) else {
+            return None;
+        };
+        let _ = gates.sys_enqueue(rt, pass, ACTOR, node);
+    }
+    Some(())
+}
+
+// How many messages went round, so many drains of all nodes.
+fn go_often<R: Wait>(
+    rt: &R,
+    gates: &Gates<Desk>,
+    pass: &mut Pass<Desk>,
+    claim: &mut Claim<Desk>,
+) -> u64
+    requires ours { (claim_id claim.old ≡ gates_id gates.now) × (pass_id pass.old ≡ gates_id gates.now) }
+    requires there { (held_actor claim.old < actors_of gates.now) × (1 < actors_of gates.now) }
+    requires counts { claim.old.home.given ≡ given_to claim.old }
+    ensures ours { (claim_id claim.new ≡ claim_id claim.old) × (held_actor claim.new ≡ held_actor claim.old)
+        × (pass_id pass.new ≡ pass_id pass.old) }
+    ensures counts { (claim.new.home.actor ≡ claim.old.home.actor) × (claim.new.home.given ≡ given_to claim.new) }
+    ensures same { (taken_with claim.new ≡ taken_with claim.old) × (recorded_by claim.new ≡ recorded_by claim.old) }
+{
+    let mut done = 0u64;
+    for _ in 0..TURNS / NODES {
+        let chain = gates.sys_drain(rt, claim);
+        let count = put_back(rt, gates, pass, chain);
+        claim.home.given = claim.home.given.wrapping_add(count);
+        done = done.wrapping_add(count);
+    }
+    done
+}
+
+// Puts each node of the chain into the list again, and counts them.
+fn put_back<R: Wait>(rt: &R, gates: &Gates<Desk>, pass: &mut Pass<Desk>, mut chain: Chain) -> u64
+    requires ours { pass_id pass.old ≡ gates_id gates.now }
+    requires there { 1 < actors_of gates.now }
+    ensures ours { pass_id pass.new ≡ pass_id pass.old }
+    ensures count { result ≡ length chain % 2 ^ 64 }
+{
+    let mut count = 0u64;
+    for _ in rt.forever() {
+        match chain.next() {
+            Some((_number, mut node)) => {
+                node.set(SysMsg::Suspend);
+                let _ = gates.sys_enqueue(rt, pass, ACTOR, node);
+                count = count.wrapping_add(1);
+            }
+            None => break,
+        }
+    }
+    count
+}

@@ -1,0 +1,32 @@
+//! How a figure is printed.
+use crate::times::ROUNDS;
+use std::io;
+
+/// How often the work was done in the last round, and the median of what the rounds took, in nanoseconds.
+#[derive(Clone, Copy)]
+pub struct Figure {
+    pub done: u64,
+    pub median: u64,
+}
+
+/// How often the work is done in one round.
+pub const TURNS: u64 = 1_000_000;
+
+pub fn show<R: Print + Eprint>(rt: &R, what: &str, figure: Figure) -> io::Result<()> {
+    let Figure { done, median } = figure;
+    println!(rt; "{what}: {done} done")?;
+    let whole = median / TURNS;
+    let tenth = median % TURNS * 10 / TURNS;
+    let _ = eprintln!(rt; "{what}: {whole}.{tenth} ns each, the median of {ROUNDS} rounds");
+    Ok(())
+}
+
+/// Shows how many times as long two threads took one after the other as at once.
+pub fn show_gain<R: Eprint>(rt: &R, gain: u64) {
+    let whole = gain / 100;
+    let tenth = gain % 100 / 10;
+    let hundredth = gain % 10;
+    let _ = eprintln!(rt;
+        "two threads took {whole}.{tenth}{hundredth} times as long one after the other, the median of {ROUNDS} rounds"
+    );
+}

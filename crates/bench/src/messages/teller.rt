@@ -1,0 +1,61 @@
+//! The actor that is measured as one that tells: with each message it tells itself the value.
+
+ghost use Rattle.std.specs.Prelude.{◌≡◌, pos};
+
+use crate::messages::measured::ACTOR;
+use mb_actor::{Actor, Answer, Message, Outbox};
+use mb_msg::Cause;
+
+/// Adds up the values that it gets, held at the ends of 64 bits, and tells itself each of them.
+#[derive(Drop)]
+pub struct Teller {
+    sum: i64,
+}
+
+impl Teller {
+    /// An actor that got nothing yet.
+    pub fn new() -> Self
+        ensures { result.sum ≡ pos 0 }
+    {
+        Teller { sum: 0 }
+    }
+}
+
+impl Actor for Teller {
+    ghost use Rattle.bench.specs.Steady.{is_no_failure};
+    ghost use Rattle.bench.specs.Sum.{sum_of};
+
+    ghost after = { λ _. sum_of };
+
+    ghost content = { λ teller. teller.sum };
+
+    ghost gives = { λ _. is_no_failure };
+
+    fn start(&mut self, _out: &mut Outbox) -> Answer {
+        self.sum = 0;
+        Answer::Handled
+    }
+
+    fn receive(&mut self, message: &Message, out: &mut Outbox) -> Answer {
+        match *message {
+            Message::User { kind, value } => {
+                self.sum = self.sum.saturating_add(value);
+                let _ = out.tell(ACTOR, kind, value);
+            }
+            Message::Control { value, .. } => self.sum = self.sum.saturating_add(value),
+            Message::Terminated(_) => return Answer::Unhandled,
+        }
+        Answer::Handled
+    }
+
+    fn restart(&mut self, _cause: Cause, _out: &mut Outbox) -> Answer {
+        self.sum = 0;
+        Answer::Handled
+    }
+
+    fn stop(&mut self, _out: &mut Outbox) {}
+
+    fn state(&self) -> i64 {
+        self.sum
+    }
+}

@@ -1,0 +1,96 @@
+//! Four ends on four threads.
+ghost use Rattle.std.specs.Prelude.{All, IfSome};
+ghost use Rattle.bench.specs.Ready.{AreReady, IsReady};
+
+use crate::pools::shown::{Figure, Made};
+use crate::pools::worker::{Worker, work, workers};
+use crate::times::ROUNDS;
+use mb_desk::{Desk, gates_of};
+use mb_gate::Gates;
+use mb_pool::Kind;
+use std::alloc::Global;
+use std::sync::Wait;
+use std::thread::{Threads, join};
+use std::time::Clock;
+
+type Pair = (Worker, Worker);
+
+/// Each of four ends pushes a claim and takes one.
+pub fn turns<R: Clock + Threads + Wait + Sync>(rt: &R, alloc: Global, kind: Kind) -> Made {
+    let (gates, mut pass) = gates_of(alloc, 4).ok()?;
+    let mut all = workers(alloc, &gates, &mut pass, kind, 4)?;
+    let first = two_of(&gates, &mut all)?;
+    let second = two_of(&gates, &mut all)?;
+    Some(rounds(rt, &gates, first, second))
+}
+
+/// The last two of these workers, if there are two.
+fn two_of(gates: &Gates<Desk>, all: &mut Vec<Worker>) -> Option<Pair>
+    requires { All (IsReady gates.now) all.old.items }
+    ensures rest { All (IsReady gates.now) all.new.items }
+    ensures pair { IfSome result (AreReady gates.now) }
+{
+    let _ = gates;
+    let a = all.pop()?;
+    let b = all.pop()?;
+    Some((a, b))
+}
+
+fn rounds<R: Clock + Threads + Wait + Sync>(
+    rt: &R,
+    gates: &Gates<Desk>,
+    mut first: Pair,
+    mut second: Pair,
+) -> Figure
+    requires { AreReady gates.now first × AreReady gates.now second }
+{
+    for _round in 0..ROUNDS {
+        (first, second) = four(rt, gates, first, second);
+    }
+    figure_of(&first).with(figure_of(&second))
+}
+
+fn figure_of(pair: &Pair) -> Figure {
+    Figure::of(&pair.0).with(Figure::of(&pair.1))
+}
+
+/// The pairs of workers after one more round.
+fn four<R: Clock + Threads + Wait + Sync>(
+    rt: &R,
+    gates: &Gates<Desk>,
+    first: Pair,
+    second: Pair,
+) -> (Pair, Pair)
+    requires { AreReady gates.now first × AreReady gates.now second }
+    ensures { AreReady gates.now result.0 × AreReady gates.now result.1 }
+{
+    join(
+        rt,
+        || -> Pair
+            requires { AreReady gates.now first }
+            ensures { AreReady gates.entry.now result }
+        { two(rt, gates, first) },
+        || -> Pair
+            requires { AreReady gates.now second }
+            ensures { AreReady gates.entry.now result }
+        { two(rt, gates, second) },
+    )
+}
+
+fn two<R: Clock + Threads + Wait + Sync>(rt: &R, gates: &Gates<Desk>, pair: Pair) -> Pair
+    requires { AreReady gates.now pair }
+    ensures { AreReady gates.now result }
+{
+    let (a, b) = pair;
+    join(
+        rt,
+        || -> Worker
+            requires { IsReady gates.now a }
+            ensures { IsReady gates.entry.now result }
+        { work(rt, gates, a) },
+        || -> Worker
+            requires { IsReady gates.now b }
+            ensures { IsReady gates.entry.now result }
+        { work(rt, gates, b) },
+    )
+}

@@ -1,0 +1,79 @@
+//! What a push with its take costs in the queues of mailboxes, beside the kit's plain ones, on one thread and on two.
+//!
+//! The two of a comparison are timed in turn, lap by lap, so that what else the machine does falls on both alike. By rank the
+//! takes of a lap are timed apart from its pushes. The figures are medians.
+
+mod lap;
+mod mail;
+mod plain;
+mod sender;
+
+use crossbeam_queue::{ArrayQueue, SegQueue};
+use lap::{ALONE, Course, PAIRED, compare, measure, measure_apart};
+use mail::Mail;
+use mb_queue::{Kind, RankRow, Ranks};
+use std::alloc::{AllocError, Global};
+use std::io;
+use std::sync::Wait;
+use std::thread::Threads;
+use std::time::Clock;
+
+/// Measures all of these in turn.
+pub fn run<R: Clock + Threads + Wait + Sync + Print + Eprint>(
+    rt: &R,
+    alloc: Global,
+) -> io::Result<()> {
+    unbounded(rt, alloc, ALONE, "unbounded")?;
+    bounded(rt, alloc, ALONE, "bounded")?;
+    control(rt, alloc)?;
+    priority(rt, alloc)?;
+    unbounded(rt, alloc, PAIRED, "unbounded, two threads")?;
+    bounded(rt, alloc, PAIRED, "bounded, two threads")
+}
+
+fn unbounded<R: Clock + Threads + Wait + Sync + Print + Eprint>(
+    rt: &R,
+    alloc: Global,
+    course: Course,
+    what: &str,
+) -> io::Result<()> {
+    let mail = Mail::new(rt, alloc, Kind::Unbounded, 0)?;
+    let plain = SegQueue::new(alloc)?;
+    compare(rt, alloc, course, what, mail, plain)
+}
+
+fn bounded<R: Clock + Threads + Wait + Sync + Print + Eprint>(
+    rt: &R,
+    alloc: Global,
+    course: Course,
+    what: &str,
+) -> io::Result<()> {
+    let mail = Mail::new(rt, alloc, Kind::Bounded(1_024), 0)?;
+    let plain = ArrayQueue::new(alloc, 1_024)?;
+    compare(rt, alloc, course, what, mail, plain)
+}
+
+fn control<R: Clock + Threads + Wait + Sync + Print + Eprint>(
+    rt: &R,
+    alloc: Global,
+) -> io::Result<()> {
+    let mail = Mail::new(rt, alloc, Kind::Control, 0)?;
+    measure(rt, alloc, ALONE, "control-aware", mail)
+}
+
+/// The takes are timed apart, as it is a take that chooses. Before each lap and after it 1,000 are held, so at each of its
+/// takes from 1,000 to 1,024 are.
+fn priority<R: Clock + Wait + Print + Eprint>(rt: &R, alloc: Global) -> io::Result<()> {
+    let rows = ranks(alloc)?;
+    let mail = Mail::new(rt, alloc, Kind::Priority { rows, other: 9 }, 1_000)?;
+    measure_apart(rt, alloc, ALONE, "priority, 1000 held", mail)
+}
+
+/// Of the four kinds of message that are pushed three have rows, in no order.
+fn ranks(alloc: Global) -> Result<Ranks, AllocError> {
+    let mut rows = Vec::new(alloc);
+    for (kind, rank) in [(1, 7), (2, 3), (3, 5)] {
+        rows.push(RankRow { kind, rank })?;
+    }
+    Ok(Ranks::new(rows))
+}
