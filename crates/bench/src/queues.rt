@@ -3,14 +3,16 @@
 //! The two of a comparison are timed in turn, lap by lap, so that what else the machine does falls on both alike. By rank the
 //! takes of a lap are timed apart from its pushes. The figures are medians.
 
+mod ends;
 mod lap;
 mod mail;
 mod plain;
 mod sender;
 
 use crossbeam_queue::{ArrayQueue, SegQueue};
-use lap::{ALONE, Course, PAIRED, compare, measure, measure_apart};
-use mail::Mail;
+use ends::Ends;
+use lap::{ALONE, Course, PAIRED, compare, measure, measure_apart, put_some};
+use mail::mail;
 use mb_queue::{Kind, RankRow, Ranks};
 use std::alloc::{AllocError, Global};
 use std::io;
@@ -37,9 +39,18 @@ fn unbounded<R: Clock + Threads + Wait + Sync + Print + Eprint>(
     course: Course,
     what: &str,
 ) -> io::Result<()> {
-    let mail = Mail::new(rt, alloc, Kind::Unbounded, 0)?;
-    let plain = SegQueue::new(alloc)?;
-    compare(rt, alloc, course, what, mail, plain)
+    let queue = SegQueue::new(alloc)?;
+    let mut plain = Ends {
+        put: &queue,
+        take: &queue,
+    };
+    compare(
+        rt,
+        course,
+        what,
+        &mut mail(alloc, Kind::Unbounded)?,
+        &mut plain,
+    )
 }
 
 fn bounded<R: Clock + Threads + Wait + Sync + Print + Eprint>(
@@ -48,25 +59,39 @@ fn bounded<R: Clock + Threads + Wait + Sync + Print + Eprint>(
     course: Course,
     what: &str,
 ) -> io::Result<()> {
-    let mail = Mail::new(rt, alloc, Kind::Bounded(1_024), 0)?;
-    let plain = ArrayQueue::new(alloc, 1_024)?;
-    compare(rt, alloc, course, what, mail, plain)
+    let queue = ArrayQueue::new(alloc, 1_024)?;
+    let mut plain = Ends {
+        put: &queue,
+        take: &queue,
+    };
+    compare(
+        rt,
+        course,
+        what,
+        &mut mail(alloc, Kind::Bounded(1_024))?,
+        &mut plain,
+    )
 }
 
 fn control<R: Clock + Threads + Wait + Sync + Print + Eprint>(
     rt: &R,
     alloc: Global,
 ) -> io::Result<()> {
-    let mail = Mail::new(rt, alloc, Kind::Control, 0)?;
-    measure(rt, alloc, ALONE, "control-aware", mail)
+    measure(
+        rt,
+        ALONE,
+        "control-aware",
+        &mut mail(alloc, Kind::Control)?,
+    )
 }
 
 /// The takes are timed apart, as it is a take that chooses. Before each lap and after it 1,000 are held, so at each of its
 /// takes from 1,000 to 1,024 are.
 fn priority<R: Clock + Wait + Print + Eprint>(rt: &R, alloc: Global) -> io::Result<()> {
     let rows = ranks(alloc)?;
-    let mail = Mail::new(rt, alloc, Kind::Priority { rows, other: 9 }, 1_000)?;
-    measure_apart(rt, alloc, ALONE, "priority, 1000 held", mail)
+    let mut ends = mail(alloc, Kind::Priority { rows, other: 9 })?;
+    put_some(rt, &mut ends.put, 1_000);
+    measure_apart(rt, ALONE, "priority, 1000 held", &mut ends)
 }
 
 /// Of the four kinds of message that are pushed three have rows, in no order.

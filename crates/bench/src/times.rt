@@ -2,20 +2,23 @@
 use crate::clock::elapsed;
 use std::time::{Clock, Instant};
 
-/// How many rounds are timed.
+/// How many rounds are timed, where nothing else is said.
 pub const ROUNDS: usize = 9;
 
-/// What was measured of each round, as the nanoseconds that it took.
+/// The most rounds that are timed.
+const MOST: usize = 400;
+
+/// What was measured of each round, as the nanoseconds that it took: behind these the greatest numbers that there are.
 #[derive(Drop)]
 pub struct Times {
-    rounds: [u64; ROUNDS],
+    rounds: [u64; MOST],
     count: usize,
 }
 
 impl Times {
     pub fn new() -> Times {
         Times {
-            rounds: [0; ROUNDS],
+            rounds: [u64::MAX; MOST],
             count: 0,
         }
     }
@@ -27,7 +30,7 @@ impl Times {
 
     /// The number of one more round.
     pub fn put(&mut self, number: u64) {
-        if self.count < ROUNDS {
+        if self.count < MOST {
             self.rounds[self.count] = number;
             self.count += 1;
         }
@@ -37,6 +40,6 @@ impl Times {
     pub fn median(&self) -> u64 {
         let mut rounds = self.rounds;
         rounds.sort_unstable();
-        rounds[ROUNDS / 2]
+        rounds.get(self.count / 2).copied().unwrap_or(0)
     }
 }

@@ -1,17 +1,16 @@
 //! How queues are timed.
-ghost use denote.Param.Send.{IsSync};
-
 use crate::clock::elapsed;
-use std::alloc::{AllocError, Global};
+use crate::queues::ends::{Ends, Puts, Takes, alone, paired};
+use crate::times::Times;
 use std::io;
 use std::sync::Wait;
 use std::thread::Threads;
 use std::time::{Clock, Instant};
 
-/// How many laps are timed, how many pushes and takes a lap has, and whether the pushes have a thread of their own.
+/// How many laps are timed, how many puts and takes a lap has, and whether the puts have a thread of their own.
 #[derive(Clone, Copy)]
 pub struct Course {
-    laps: u64,
+    pub laps: u64,
     pub rounds: u64,
     pub is_paired: bool,
 }
@@ -30,138 +29,157 @@ pub const PAIRED: Course = Course {
     is_paired: true,
 };
 
-/// A queue that laps can be timed on.
-pub trait Lapped: Drop {
-    /// So many pushes and takes. It gives itself back and how many were taken.
-    fn lap<R: Threads + Wait + Sync>(self, rt: &R, course: Course) -> (Self, u64)
-        requires shared { IsSync R.row };
-}
-
 /// How many were taken in all, and the nanoseconds of each lap.
 #[derive(Drop)]
-struct Laps {
-    taken: u64,
-    times: Vec<u64>,
+pub struct Laps {
+    pub taken: u64,
+    pub times: Times,
 }
 
 impl Laps {
-    fn new(alloc: Global) -> Laps {
+    pub fn new() -> Laps {
         Laps {
             taken: 0,
-            times: Vec::new(alloc),
+            times: Times::new(),
         }
     }
 
-    fn add(&mut self, taken: u64, time: u64) -> Result<(), AllocError> {
+    /// One more lap.
+    pub fn add(&mut self, taken: u64, time: u64) {
         self.taken = self.taken.wrapping_add(taken);
-        self.times.push(time)?;
-        Ok(())
+        self.times.put(time);
     }
 
     /// The median, for one of so many.
-    fn each(&mut self, rounds: u64) -> u64 {
-        self.times.sort_unstable();
-        let middle = self.times.len() / 2;
-        let median = self.times.get(middle).copied().unwrap_or(0);
-        median.checked_div(rounds).unwrap_or(0)
+    pub fn each(&self, rounds: u64) -> u64 {
+        self.times.median().checked_div(rounds).unwrap_or(0)
     }
 }
 
 /// Times one lap.
-fn timed<R: Clock + Threads + Wait + Sync, Q: Lapped>(
+fn time<R, P: Puts + Send, T: Takes + Send>(
     rt: &R,
-    queue: Q,
     course: Course,
+    ends: &mut Ends<P, T>,
     laps: &mut Laps,
-) -> Result<Q, AllocError> {
+) where
+    R: Clock + Threads + Wait + Sync,
+{
     let begin = Instant::now(rt).ok();
-    let (queue, taken) = queue.lap(rt, course);
-    laps.add(taken, elapsed(rt, begin))?;
-    Ok(queue)
+    let taken = if course.is_paired {
+        paired(rt, ends, course.rounds)
+    } else {
+        alone(rt, ends, course.rounds)
+    };
+    laps.add(taken, elapsed(rt, begin));
 }
 
 /// Times a queue of a mailbox and a plain one in turn, and tells both.
-pub(crate) fn compare<R, A: Lapped, B: Lapped>(
+pub(crate) fn compare<R, P, T, Q, U>(
     rt: &R,
-    alloc: Global,
     course: Course,
     what: &str,
-    mut ours: A,
-    mut plain: B,
+    ours: &mut Ends<P, T>,
+    plain: &mut Ends<Q, U>,
 ) -> io::Result<()>
 where
     R: Clock + Threads + Wait + Sync + Print + Eprint,
+    P: Puts + Send,
+    T: Takes + Send,
+    Q: Puts + Send,
+    U: Takes + Send,
 {
-    let mut our_laps = Laps::new(alloc);
-    let mut plain_laps = Laps::new(alloc);
+    let mut our_laps = Laps::new();
+    let mut plain_laps = Laps::new();
     for _ in 0..course.laps {
-        ours = timed(rt, ours, course, &mut our_laps)?;
-        plain = timed(rt, plain, course, &mut plain_laps)?;
+        time(rt, course, ours, &mut our_laps);
+        time(rt, course, plain, &mut plain_laps);
     }
-    println!(rt;
-        "{what}: {} taken, plain {} taken",
-        our_laps.taken, plain_laps.taken
-    )?;
-    let (ours, plain) = (our_laps.each(course.rounds), plain_laps.each(course.rounds));
+    tell_both(rt, course, what, &our_laps, &plain_laps)
+}
+
+fn tell_both<R: Print + Eprint>(
+    rt: &R,
+    course: Course,
+    what: &str,
+    ours: &Laps,
+    plain: &Laps,
+) -> io::Result<()> {
+    println!(rt; "{what}: {} taken, plain {} taken", ours.taken, plain.taken)?;
+    let (ours, plain) = (ours.each(course.rounds), plain.each(course.rounds));
     let _ = eprintln!(rt; "{what}: {ours} ns a push with its take, plain {plain} ns");
     Ok(())
 }
 
-/// Times one queue.
-pub(crate) fn measure<R, A: Lapped>(
+/// Times one queue, and tells it.
+pub(crate) fn measure<R, P: Puts + Send, T: Takes + Send>(
     rt: &R,
-    alloc: Global,
     course: Course,
     what: &str,
-    mut ours: A,
+    ends: &mut Ends<P, T>,
 ) -> io::Result<()>
 where
     R: Clock + Threads + Wait + Sync + Print + Eprint,
 {
-    let mut laps = Laps::new(alloc);
+    let mut laps = Laps::new();
     for _ in 0..course.laps {
-        ours = timed(rt, ours, course, &mut laps)?;
+        time(rt, course, ends, &mut laps);
     }
+    tell(rt, course, what, &laps)
+}
+
+fn tell<R: Print + Eprint>(rt: &R, course: Course, what: &str, laps: &Laps) -> io::Result<()> {
     println!(rt; "{what}: {} taken", laps.taken)?;
-    let _ = eprintln!(rt;
-        "{what}: {} ns a push with its take",
-        laps.each(course.rounds)
-    );
+    let each = laps.each(course.rounds);
+    let _ = eprintln!(rt; "{what}: {each} ns a push with its take");
     Ok(())
 }
 
-/// A queue whose pushes can be timed apart from its takes.
-pub trait Parted: Drop {
-    /// So many pushes.
-    fn push_some<R: Wait>(&mut self, rt: &R, rounds: u64);
-
-    /// So many takes. It gives how many gave something.
-    fn take_some<R: Wait>(&mut self, rt: &R, rounds: u64) -> u64;
-}
-
-/// Times one queue, the pushes of each lap apart from its takes.
-pub(crate) fn measure_apart<R, A: Parted>(
+/// Times one queue, the puts of each lap apart from its takes, and tells both.
+pub(crate) fn measure_apart<R: Clock + Wait + Print + Eprint, P: Puts, T: Takes>(
     rt: &R,
-    alloc: Global,
     course: Course,
     what: &str,
-    mut ours: A,
-) -> io::Result<()>
-where
-    R: Clock + Wait + Print + Eprint,
-{
-    let mut pushes = Laps::new(alloc);
-    let mut takes = Laps::new(alloc);
+    ends: &mut Ends<P, T>,
+) -> io::Result<()> {
+    let mut puts = Laps::new();
+    let mut takes = Laps::new();
     for _ in 0..course.laps {
         let begin = Instant::now(rt).ok();
-        ours.push_some(rt, course.rounds);
-        pushes.add(0, elapsed(rt, begin))?;
+        put_some(rt, &mut ends.put, course.rounds);
+        puts.add(0, elapsed(rt, begin));
         let begin = Instant::now(rt).ok();
-        let taken = ours.take_some(rt, course.rounds);
-        takes.add(taken, elapsed(rt, begin))?;
+        let taken = take_some(rt, &mut ends.take, course.rounds);
+        takes.add(taken, elapsed(rt, begin));
     }
+    tell_apart(rt, course, what, &puts, &takes)
+}
+
+fn tell_apart<R: Print + Eprint>(
+    rt: &R,
+    course: Course,
+    what: &str,
+    puts: &Laps,
+    takes: &Laps,
+) -> io::Result<()> {
     println!(rt; "{what}: {} taken", takes.taken)?;
-    let (push, take) = (pushes.each(course.rounds), takes.each(course.rounds));
+    let (push, take) = (puts.each(course.rounds), takes.each(course.rounds));
     let _ = eprintln!(rt; "{what}: {push} ns a push, {take} ns a take");
     Ok(())
+}
+
+/// So many puts.
+pub(crate) fn put_some<R: Wait, P: Puts>(rt: &R, end: &mut P, rounds: u64) {
+    for number in 0..rounds {
+        let _ = end.put(rt, number);
+    }
+}
+
+/// So many takes: how many gave something.
+fn take_some<R: Wait, T: Takes>(rt: &R, end: &mut T, rounds: u64) -> u64 {
+    let mut taken = 0u64;
+    for _ in 0..rounds {
+        taken = taken.wrapping_add(u64::from(end.take(rt)));
+    }
+    taken
 }

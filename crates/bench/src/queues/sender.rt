@@ -1,10 +1,10 @@
 //! The sender of every queue here.
 ghost use Rattle.std.specs.Prelude.{◌≡◌};
 
+use crate::queues::ends::Puts;
 use mb_msg::{ActorId, Body, Envelope, SenderId};
 use mb_queue::SendPass;
 use std::sync::Wait;
-use std::thread;
 
 /// The one sender.
 pub const SENDER: SenderId = SenderId(1);
@@ -40,27 +40,11 @@ impl Sender {
     {
         Sender { pass }
     }
+}
 
-    /// Whether the envelope of this number was put in.
-    pub(crate) fn push<R: Wait>(&mut self, rt: &R, number: u64) -> bool {
+impl Puts for Sender {
+    #[inline(always)]
+    fn put<R: Wait>(&mut self, rt: &R, number: u64) -> bool {
         self.pass.push(rt, nth(number)).is_ok()
-    }
-
-    fn push_at_last<R: Wait>(&mut self, rt: &R, number: u64) {
-        for _ in rt.forever() {
-            if self.push(rt, number) {
-                return;
-            }
-            thread::yield_now();
-        }
-    }
-
-    /// Puts so many in, each as often as it takes.
-    pub(crate) fn push_all<R: Wait>(self, rt: &R, rounds: u64) -> Sender {
-        let mut sender = self;
-        for number in 0..rounds {
-            sender.push_at_last(rt, number);
-        }
-        sender
     }
 }
