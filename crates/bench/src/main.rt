@@ -7,6 +7,7 @@ mod messages;
 mod pools;
 mod queues;
 mod times;
+mod told;
 
 use std::io;
 

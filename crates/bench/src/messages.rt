@@ -1,15 +1,16 @@
 //! What one handled message, without effects and with a tell, one push on a system list and one tell cost.
 
+ghost use Rattle.std.specs.Prelude.{◌≡◌, pos};
+
 mod adder;
 mod lists;
 mod measured;
 mod memory;
 mod outboxes;
-mod teller;
 
+use crate::told::note;
 use adder::Adder;
 use lists::measure_lists;
-use mb_journal::ReadyError;
 use measured::{Measured, measure};
 use memory::Memory;
 use outboxes::measure_outbox;
@@ -19,7 +20,6 @@ use std::io::ErrorKind;
 use std::marker::Brand;
 use std::rt::Files;
 use std::time::{Clock, Duration};
-use teller::Teller;
 
 /// How many messages are handled.
 const MESSAGES: u32 = 1_000_000;
@@ -29,21 +29,21 @@ const ROUNDS: u32 = 62_500;
 
 /// Measures all of these in turn.
 pub fn run<R: Print + Eprint + Clock + Files + AllocGlobal>(rt: &R) -> io::Result<()> {
-    let adding = measure::<_, Adder, Brand>(rt, Adder::new(), MESSAGES);
-    print_run(rt, adding, "message")?;
-    let telling = measure::<_, Teller, Brand>(rt, Teller::new(), MESSAGES);
-    print_run(rt, telling, "message with a tell")?;
+    print_messages(rt, Adder::new(), "message")?;
+    print_messages(rt, Adder::telling(), "message with a tell")?;
     print_lists(rt)?;
     print_outbox(rt)
 }
 
-/// Says what a run came to. The journal has room for so many messages, so that memory was refused where there is an error.
-fn print_run<R: Print + Eprint>(
+/// Says what this actor's messages cost. The journal has room for so many, so that memory was refused where there is an error.
+fn print_messages<R: Print + Eprint + Clock + Files + AllocGlobal>(
     rt: &R,
-    run: Result<Measured, ReadyError>,
+    actor: Adder,
     what: &str,
-) -> io::Result<()> {
-    match run {
+) -> io::Result<()>
+    requires { actor.sum ≡ pos 0 }
+{
+    match measure::<_, Adder, Brand>(rt, actor, MESSAGES) {
         Ok(measured) => print_measured(rt, &measured, what),
         Err(_refused) => Err(ErrorKind::OutOfMemory.into()),
     }
@@ -58,10 +58,9 @@ fn print_measured<R: Print + Eprint>(rt: &R, measured: &Measured, what: &str) ->
         time,
         memory,
     } = *measured;
-    println!(rt; "handled {handled} state {state} acts {acts}")?;
     print_each(rt, time, what);
     print_memory(rt, memory, what);
-    Ok(())
+    println!(rt; "handled {handled} state {state} acts {acts}")
 }
 
 /// Says what each of a million kept, and how much was needed for each at the peak.
@@ -69,30 +68,31 @@ fn print_memory<R: Eprint>(rt: &R, memory: Option<Memory>, what: &str) {
     if let Some(Memory { now, most }) = memory {
         let kept = now / u64::from(MESSAGES);
         let peak = most / u64::from(MESSAGES);
-        let _ = eprintln!(rt; "{kept} bytes a {what} kept, {peak} at the peak");
+        note(
+            rt,
+            format_args!("{kept} bytes a {what} kept, {peak} at the peak"),
+        );
     }
 }
 
 /// Says what a push and a drain cost.
 fn print_lists<R: Print + Eprint + Clock + AllocGlobal>(rt: &R) -> io::Result<()> {
     let listed = measure_lists(rt, ROUNDS)?;
-    println!(rt; "pushed {}", listed.given)?;
     print_each(rt, listed.time, "push with its part of a drain");
-    Ok(())
+    println!(rt; "pushed {}", listed.given)
 }
 
 /// Says what a tell costs.
 fn print_outbox<R: Print + Eprint + Clock + AllocGlobal>(rt: &R) -> io::Result<()> {
     let told = measure_outbox(rt, MESSAGES);
-    println!(rt; "told {}", told.told)?;
     print_each(rt, told.time, "tell with its outbox");
-    Ok(())
+    println!(rt; "told {}", told.told)
 }
 
 /// Says what each of a million took.
 fn print_each<R: Eprint>(rt: &R, time: Option<Duration>, what: &str) {
     if let Some(time) = time {
         let each = time.as_nanos() / u128::from(MESSAGES);
-        let _ = eprintln!(rt; "{each} ns a {what}");
+        note(rt, format_args!("{each} ns a {what}"));
     }
 }

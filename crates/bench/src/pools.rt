@@ -1,38 +1,63 @@
 //! What a push and a take of a claim cost in a shared and in a stealing pool, on one thread, and by four ends on four threads,
 //! each with claims of its own: the medians of some rounds, each end's by its own clock.
 
+ghost use Rattle.std.specs.Prelude.{◌≡◌, ◌<◌, ◌≤◌};
+ghost use Rattle.mb_gate.specs.Names.{gates_id, pass_id, actors_of};
+
 mod alone;
 mod four;
 mod shown;
 mod worker;
 
+use mb_desk::{Desk, gates_of};
+use mb_gate::{Gates, Pass};
 use mb_pool::Kind;
-use shown::show;
+use shown::{Made, show};
 use std::alloc::Global;
 use std::io;
 use std::sync::Wait;
 use std::thread::Threads;
 use std::time::Clock;
+use worker::workers;
 
 /// Measures all of these in turn.
 pub fn run<R: Clock + Threads + Wait + Sync + Print + Eprint>(
     rt: &R,
     alloc: Global,
 ) -> io::Result<()> {
-    show(rt, "shared, one end", alone::turns(rt, alloc, Kind::Shared))?;
-    show(
-        rt,
-        "stealing, one end",
-        alone::turns(rt, alloc, Kind::Stealing),
-    )?;
-    show(
-        rt,
-        "shared, four ends",
-        four::turns(rt, alloc, Kind::Shared),
-    )?;
+    show(rt, "shared, one end", turns(rt, alloc, Kind::Shared, 1))?;
+    show(rt, "stealing, one end", turns(rt, alloc, Kind::Stealing, 1))?;
+    show(rt, "shared, four ends", turns(rt, alloc, Kind::Shared, 4))?;
     show(
         rt,
         "stealing, four ends",
-        four::turns(rt, alloc, Kind::Stealing),
+        turns(rt, alloc, Kind::Stealing, 4),
     )
+}
+
+/// By one end, or by four where there are so many.
+fn turns<R: Clock + Threads + Wait + Sync>(rt: &R, alloc: Global, kind: Kind, ends: u32) -> Made
+    requires { 0 < ends }
+{
+    let (gates, mut pass) = gates_of(alloc, ends as usize).ok()?;
+    turns_at(rt, alloc, &gates, &mut pass, kind, ends)
+}
+
+fn turns_at<R: Clock + Threads + Wait + Sync>(
+    rt: &R,
+    alloc: Global,
+    gates: &Gates<Desk>,
+    pass: &mut Pass<Desk>,
+    kind: Kind,
+    ends: u32,
+) -> Made
+    requires ours { pass_id pass.old ≡ gates_id gates.now }
+    requires there { (0 < ends) × (ends ≤ actors_of gates.now) }
+{
+    let mut all = workers(alloc, gates, pass, kind, ends)?;
+    if ends < 4 {
+        alone::turns(rt, gates, &mut all)
+    } else {
+        four::turns(rt, gates, &mut all)
+    }
 }

@@ -77,12 +77,7 @@ fn control<R: Clock + Threads + Wait + Sync + Print + Eprint>(
     rt: &R,
     alloc: Global,
 ) -> io::Result<()> {
-    measure(
-        rt,
-        ALONE,
-        "control-aware",
-        &mut mail(alloc, Kind::Control)?,
-    )
+    measure(rt, ALONE, "control-aware", &mut mail(alloc, Kind::Control)?)
 }
 
 /// The takes are timed apart, as it is a take that chooses. Before each lap and after it 1,000 are held, so at each of its

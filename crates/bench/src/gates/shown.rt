@@ -1,5 +1,6 @@
 //! How a figure is printed.
 use crate::times::ROUNDS;
+use crate::told::{note, tell};
 use std::io;
 
 /// How often the work was done in the last round, and the median of what the rounds took, in nanoseconds.
@@ -14,11 +15,13 @@ pub const TURNS: u64 = 1_000_000;
 
 pub fn show<R: Print + Eprint>(rt: &R, what: &str, figure: Figure) -> io::Result<()> {
     let Figure { done, median } = figure;
-    println!(rt; "{what}: {done} done")?;
     let whole = median / TURNS;
     let tenth = median % TURNS * 10 / TURNS;
-    let _ = eprintln!(rt; "{what}: {whole}.{tenth} ns each, the median of {ROUNDS} rounds");
-    Ok(())
+    tell(
+        rt,
+        format_args!("{what}: {done} done"),
+        format_args!("{what}: {whole}.{tenth} ns each, the median of {ROUNDS} rounds"),
+    )
 }
 
 /// Shows how many times as long two threads took one after the other as at once.
@@ -26,7 +29,10 @@ pub fn show_gain<R: Eprint>(rt: &R, gain: u64) {
     let whole = gain / 100;
     let tenth = gain % 100 / 10;
     let hundredth = gain % 10;
-    let _ = eprintln!(rt;
-        "two threads took {whole}.{tenth}{hundredth} times as long one after the other, the median of {ROUNDS} rounds"
+    note(
+        rt,
+        format_args!(
+            "two threads took {whole}.{tenth}{hundredth} times as long one after the other, the median of {ROUNDS} rounds"
+        ),
     );
 }

@@ -1,22 +1,37 @@
-//! The actor that is measured: it asks for nothing.
+//! The actor that is measured: it asks for nothing, or tells itself the value of each message.
 
 ghost use Rattle.std.specs.Prelude.{◌≡◌, pos};
 
+use crate::messages::measured::ACTOR;
 use mb_actor::{Actor, Answer, Message, Outbox};
 use mb_msg::Cause;
 
-/// Adds up the values that it gets, held at the ends of 64 bits.
+/// Adds up the values that it gets, held at the ends of 64 bits, and may tell itself each of them.
 #[derive(Drop)]
 pub struct Adder {
     sum: i64,
+    tells: bool,
 }
 
 impl Adder {
-    /// An actor that got nothing yet.
+    /// An actor that got nothing yet, and asks for nothing.
     pub fn new() -> Self
         ensures { result.sum ≡ pos 0 }
     {
-        Adder { sum: 0 }
+        Adder {
+            sum: 0,
+            tells: false,
+        }
+    }
+
+    /// An actor that got nothing yet, and tells itself each value.
+    pub fn telling() -> Self
+        ensures { result.sum ≡ pos 0 }
+    {
+        Adder {
+            sum: 0,
+            tells: true,
+        }
     }
 }
 
@@ -35,9 +50,14 @@ impl Actor for Adder {
         Answer::Handled
     }
 
-    fn receive(&mut self, message: &Message, _out: &mut Outbox) -> Answer {
+    fn receive(&mut self, message: &Message, out: &mut Outbox) -> Answer {
         match *message {
-            Message::User { value, .. } => self.sum = self.sum.saturating_add(value),
+            Message::User { kind, value } => {
+                self.sum = self.sum.saturating_add(value);
+                if self.tells {
+                    let _ = out.tell(ACTOR, kind, value);
+                }
+            }
             Message::Control { value, .. } => self.sum = self.sum.saturating_add(value),
             Message::Terminated(_) => return Answer::Unhandled,
         }

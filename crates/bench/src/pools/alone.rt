@@ -1,22 +1,21 @@
 //! One end on one thread.
+ghost use Rattle.std.specs.Prelude.{All};
 ghost use Rattle.bench.specs.Ready.{IsReady};
 
 use crate::pools::shown::{Figure, Made};
-use crate::pools::worker::{Worker, work, workers};
+use crate::pools::worker::{Worker, work};
 use crate::times::ROUNDS;
-use mb_desk::{Desk, gates_of};
+use mb_desk::Desk;
 use mb_gate::Gates;
-use mb_pool::Kind;
-use std::alloc::Global;
 use std::sync::Wait;
 use std::time::Clock;
 
-/// A claim is pushed and taken again.
-pub fn turns<R: Clock + Wait>(rt: &R, alloc: Global, kind: Kind) -> Made {
-    let (gates, mut pass) = gates_of(alloc, 1).ok()?;
-    let mut all = workers(alloc, &gates, &mut pass, kind, 1)?;
+/// The last of these workers pushes a claim and takes it again.
+pub fn turns<R: Clock + Wait>(rt: &R, gates: &Gates<Desk>, all: &mut Vec<Worker>) -> Made
+    requires { All (IsReady gates.now) all.old.items }
+{
     let worker = all.pop()?;
-    Some(rounds(rt, &gates, worker))
+    Some(rounds(rt, gates, worker))
 }
 
 fn rounds<R: Clock + Wait>(rt: &R, gates: &Gates<Desk>, mut worker: Worker) -> Figure

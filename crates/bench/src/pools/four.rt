@@ -3,25 +3,27 @@ ghost use Rattle.std.specs.Prelude.{All, IfSome};
 ghost use Rattle.bench.specs.Ready.{AreReady, IsReady};
 
 use crate::pools::shown::{Figure, Made};
-use crate::pools::worker::{Worker, work, workers};
+use crate::pools::worker::{Worker, work};
 use crate::times::ROUNDS;
-use mb_desk::{Desk, gates_of};
+use mb_desk::Desk;
 use mb_gate::Gates;
-use mb_pool::Kind;
-use std::alloc::Global;
 use std::sync::Wait;
 use std::thread::{Threads, join};
 use std::time::Clock;
 
 type Pair = (Worker, Worker);
 
-/// Each of four ends pushes a claim and takes one.
-pub fn turns<R: Clock + Threads + Wait + Sync>(rt: &R, alloc: Global, kind: Kind) -> Made {
-    let (gates, mut pass) = gates_of(alloc, 4).ok()?;
-    let mut all = workers(alloc, &gates, &mut pass, kind, 4)?;
-    let first = two_of(&gates, &mut all)?;
-    let second = two_of(&gates, &mut all)?;
-    Some(rounds(rt, &gates, first, second))
+/// Each of the last four of these workers pushes a claim and takes one.
+pub fn turns<R: Clock + Threads + Wait + Sync>(
+    rt: &R,
+    gates: &Gates<Desk>,
+    all: &mut Vec<Worker>,
+) -> Made
+    requires { All (IsReady gates.now) all.old.items }
+{
+    let first = two_of(gates, all)?;
+    let second = two_of(gates, all)?;
+    Some(rounds(rt, gates, first, second))
 }
 
 /// The last two of these workers, if there are two.

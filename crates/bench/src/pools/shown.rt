@@ -1,6 +1,7 @@
 //! How a figure is printed.
 use crate::pools::worker::Worker;
 use crate::times::ROUNDS;
+use crate::told::tell;
 use std::io;
 
 /// How often the work was done in the last round by all ends together, and how long a round took: of each end the time in the
@@ -43,13 +44,15 @@ pub fn show<R: Print + Eprint>(rt: &R, what: &str, made: Made) -> io::Result<()>
     let Some(Figure { done, least, most }) = made else {
         return println!(rt; "{what}: no memory");
     };
-    println!(rt; "{what}: {done} done")?;
     let (least, least_tenth) = each(least);
     let (most, most_tenth) = each(most);
-    let _ = eprintln!(rt;
-        "{what}: {least}.{least_tenth} to {most}.{most_tenth} ns each, the ends' medians of {ROUNDS} rounds"
-    );
-    Ok(())
+    tell(
+        rt,
+        format_args!("{what}: {done} done"),
+        format_args!(
+            "{what}: {least}.{least_tenth} to {most}.{most_tenth} ns each, the ends' medians of {ROUNDS} rounds"
+        ),
+    )
 }
 
 /// The nanoseconds of one turn, and the tenths.

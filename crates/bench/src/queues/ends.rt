@@ -23,11 +23,7 @@ pub struct Ends<P, T> {
 }
 
 /// Each put with its take, on this thread: how many were taken.
-pub(crate) fn alone<R: Wait, P: Puts, T: Takes>(
-    rt: &R,
-    ends: &mut Ends<P, T>,
-    rounds: u64,
-) -> u64 {
+pub(crate) fn alone<R: Wait, P: Puts, T: Takes>(rt: &R, ends: &mut Ends<P, T>, rounds: u64) -> u64 {
     let mut taken = 0u64;
     for number in 0..rounds {
         let _ = ends.put.put(rt, number);

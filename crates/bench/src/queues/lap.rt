@@ -2,6 +2,7 @@
 use crate::clock::elapsed;
 use crate::queues::ends::{Ends, Puts, Takes, alone, paired};
 use crate::times::Times;
+use crate::told::tell;
 use std::io;
 use std::sync::Wait;
 use std::thread::Threads;
@@ -62,7 +63,8 @@ fn time<R, P: Puts + Send, T: Takes + Send>(
     course: Course,
     ends: &mut Ends<P, T>,
     laps: &mut Laps,
-) where
+)
+where
     R: Clock + Threads + Wait + Sync,
 {
     let begin = Instant::now(rt).ok();
@@ -105,10 +107,12 @@ fn tell_both<R: Print + Eprint>(
     ours: &Laps,
     plain: &Laps,
 ) -> io::Result<()> {
-    println!(rt; "{what}: {} taken, plain {} taken", ours.taken, plain.taken)?;
-    let (ours, plain) = (ours.each(course.rounds), plain.each(course.rounds));
-    let _ = eprintln!(rt; "{what}: {ours} ns a push with its take, plain {plain} ns");
-    Ok(())
+    let (our_each, plain_each) = (ours.each(course.rounds), plain.each(course.rounds));
+    tell(
+        rt,
+        format_args!("{what}: {} taken, plain {} taken", ours.taken, plain.taken),
+        format_args!("{what}: {our_each} ns a push with its take, plain {plain_each} ns"),
+    )
 }
 
 /// Times one queue, and tells it.
@@ -125,14 +129,12 @@ where
     for _ in 0..course.laps {
         time(rt, course, ends, &mut laps);
     }
-    tell(rt, course, what, &laps)
-}
-
-fn tell<R: Print + Eprint>(rt: &R, course: Course, what: &str, laps: &Laps) -> io::Result<()> {
-    println!(rt; "{what}: {} taken", laps.taken)?;
     let each = laps.each(course.rounds);
-    let _ = eprintln!(rt; "{what}: {each} ns a push with its take");
-    Ok(())
+    tell(
+        rt,
+        format_args!("{what}: {} taken", laps.taken),
+        format_args!("{what}: {each} ns a push with its take"),
+    )
 }
 
 /// Times one queue, the puts of each lap apart from its takes, and tells both.
@@ -152,20 +154,12 @@ pub(crate) fn measure_apart<R: Clock + Wait + Print + Eprint, P: Puts, T: Takes>
         let taken = take_some(rt, &mut ends.take, course.rounds);
         takes.add(taken, elapsed(rt, begin));
     }
-    tell_apart(rt, course, what, &puts, &takes)
-}
-
-fn tell_apart<R: Print + Eprint>(
-    rt: &R,
-    course: Course,
-    what: &str,
-    puts: &Laps,
-    takes: &Laps,
-) -> io::Result<()> {
-    println!(rt; "{what}: {} taken", takes.taken)?;
     let (push, take) = (puts.each(course.rounds), takes.each(course.rounds));
-    let _ = eprintln!(rt; "{what}: {push} ns a push, {take} ns a take");
-    Ok(())
+    tell(
+        rt,
+        format_args!("{what}: {} taken", takes.taken),
+        format_args!("{what}: {push} ns a push, {take} ns a take"),
+    )
 }
 
 /// So many puts.
