@@ -3,6 +3,8 @@
 //! The two of a comparison are timed in turn, lap by lap, so that what else the machine does falls on both alike. By rank the
 //! takes of a lap are timed apart from its pushes. The figures are medians.
 
+ghost use Rattle.mb_queue.specs.Made.{IsMakeable};
+
 mod ends;
 mod lap;
 mod mail;
@@ -10,7 +12,7 @@ mod plain;
 mod sender;
 
 use crossbeam_queue::{ArrayQueue, SegQueue};
-use ends::Ends;
+use ends::{Ends, Puts, Takes};
 use lap::{ALONE, Course, PAIRED, compare, measure, measure_apart, put_some};
 use mail::mail;
 use mb_queue::{Kind, RankRow, Ranks};
@@ -44,13 +46,7 @@ fn unbounded<R: Clock + Threads + Wait + Sync + Print + Eprint>(
         put: &queue,
         take: &queue,
     };
-    compare(
-        rt,
-        course,
-        what,
-        &mut mail(alloc, Kind::Unbounded)?,
-        &mut plain,
-    )
+    beside(rt, alloc, course, what, Kind::Unbounded, &mut plain)
 }
 
 fn bounded<R: Clock + Threads + Wait + Sync + Print + Eprint>(
@@ -64,13 +60,24 @@ fn bounded<R: Clock + Threads + Wait + Sync + Print + Eprint>(
         put: &queue,
         take: &queue,
     };
-    compare(
-        rt,
-        course,
-        what,
-        &mut mail(alloc, Kind::Bounded(1_024))?,
-        &mut plain,
-    )
+    beside(rt, alloc, course, what, Kind::Bounded(1_024), &mut plain)
+}
+
+/// A queue of a mailbox of this kind beside a plain one.
+fn beside<R, P: Puts + Send, T: Takes + Send>(
+    rt: &R,
+    alloc: Global,
+    course: Course,
+    what: &str,
+    kind: Kind,
+    plain: &mut Ends<P, T>,
+) -> io::Result<()>
+where
+    R: Clock + Threads + Wait + Sync + Print + Eprint,
+    requires { IsMakeable kind }
+{
+    let mut ends = mail(alloc, kind)?;
+    compare(rt, course, what, &mut ends, plain)
 }
 
 fn control<R: Clock + Threads + Wait + Sync + Print + Eprint>(
