@@ -9,11 +9,11 @@ mod held;
 mod paired;
 mod shown;
 
-use alone::{Work, rounds};
+use alone::{Work, measure};
 use desk::{Desk, two};
 use held::fill;
 use mb_gate::{Gates, Pass};
-use paired::turns;
+use paired::{Paired, turns};
 use shown::{show, show_gain};
 use std::alloc::Global;
 use std::io;
@@ -33,10 +33,10 @@ pub fn run<R: Clock + Threads + Wait + Sync + Print + Eprint>(
 
 fn one_thread<R: Clock + Wait + Print + Eprint>(rt: &R, alloc: Global) -> io::Result<()> {
     let (gates, mut pass) = two(alloc)?;
-    show_each(rt, alloc, &gates, &mut pass)
+    measure_each(rt, alloc, &gates, &mut pass)
 }
 
-fn show_each<R: Clock + Wait + Print + Eprint>(
+fn measure_each<R: Clock + Wait + Print + Eprint>(
     rt: &R,
     alloc: Global,
     gates: &Gates<Desk>,
@@ -45,23 +45,15 @@ fn show_each<R: Clock + Wait + Print + Eprint>(
     requires ours { pass_id pass.old ≡ gates_id gates.now }
     requires there { 1 < actors_of gates.now }
 {
-    show(rt, "a status load", rounds(rt, gates, pass, Work::Load))?;
-    show(rt, "a won turn", rounds(rt, gates, pass, Work::Turn))?;
-    show(rt, "an envelope noted", rounds(rt, gates, pass, Work::Note))?;
-    show(
-        rt,
-        "a drain of an empty list",
-        rounds(rt, gates, pass, Work::Drain),
-    )?;
+    measure(rt, gates, pass, "a status load", Work::Load)?;
+    measure(rt, gates, pass, "a won turn", Work::Turn)?;
+    measure(rt, gates, pass, "an envelope noted", Work::Note)?;
+    measure(rt, gates, pass, "a drain of an empty list", Work::Drain)?;
     let Some(()) = fill(rt, alloc, gates, pass) else {
         return Err(ErrorKind::OutOfMemory.into());
     };
-    let figure = rounds(rt, gates, pass, Work::GoRound);
-    show(
-        rt,
-        "a system message put in, with its part of a drain",
-        figure,
-    )
+    let what = "a system message put in, with its part of a drain";
+    measure(rt, gates, pass, what, Work::GoRound)
 }
 
 fn two_threads<R: Clock + Threads + Sync + Print + Eprint>(
@@ -70,7 +62,10 @@ fn two_threads<R: Clock + Threads + Sync + Print + Eprint>(
 ) -> io::Result<()> {
     let (gates, mut first) = two(alloc)?;
     let second = gates.another(&mut first);
-    let paired = turns(rt, &gates, first, second);
+    show_paired(rt, turns(rt, &gates, first, second))
+}
+
+fn show_paired<R: Print + Eprint>(rt: &R, paired: Paired) -> io::Result<()> {
     show(rt, "a won turn, two threads on two actors", paired.figure)?;
     show_gain(rt, paired.gain);
     Ok(())

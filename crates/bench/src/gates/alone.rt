@@ -4,10 +4,11 @@ ghost use Rattle.mb_gate.specs.Names.{gates_id, pass_id, actors_of};
 
 use crate::gates::desk::{Desk, attempt, give};
 use crate::gates::held::{drains, goes_round};
-use crate::gates::shown::{Figure, TURNS};
+use crate::gates::shown::{Figure, TURNS, show};
 use crate::times::{ROUNDS, Times};
 use mb_gate::{Gates, Pass};
 use mb_msg::ActorId;
+use std::io;
 use std::sync::Wait;
 use std::time::{Clock, Instant};
 
@@ -29,13 +30,14 @@ pub enum Work {
     GoRound,
 }
 
-/// How often it was done in the last of some rounds, and the median of what these took.
-pub fn rounds<R: Clock + Wait>(
+/// Shows how often it was done in the last of some rounds, and the median of what these took.
+pub fn measure<R: Clock + Wait + Print + Eprint>(
     rt: &R,
     gates: &Gates<Desk>,
     pass: &mut Pass<Desk>,
+    what: &str,
     work: Work,
-) -> Figure
+) -> io::Result<()>
     requires ours { pass_id pass.old ≡ gates_id gates.now }
     requires there { 1 < actors_of gates.now }
     ensures ours { pass_id pass.new ≡ pass_id pass.old }
@@ -47,10 +49,8 @@ pub fn rounds<R: Clock + Wait>(
         done = often(rt, gates, pass, work);
         times.add(rt, begin);
     }
-    Figure {
-        done,
-        median: times.median(),
-    }
+    let median = times.median();
+    show(rt, what, Figure { done, median })
 }
 
 fn often<R: Wait>(rt: &R, gates: &Gates<Desk>, pass: &mut Pass<Desk>, work: Work) -> u64
@@ -100,7 +100,7 @@ pub fn turn_often(gates: &Gates<Desk>, pass: &mut Pass<Desk>, id: ActorId) -> u6
     done
 }
 
-// How many envelopes are counted then.
+/// How many envelopes are counted then.
 fn note_often(gates: &Gates<Desk>, pass: &mut Pass<Desk>) -> u64
     requires ours { pass_id pass.old ≡ gates_id gates.now }
     requires there { 1 < actors_of gates.now }

@@ -53,7 +53,7 @@ fn drain_often<R: Wait>(rt: &R, gates: &Gates<Desk>, claim: &mut Claim<Desk>) ->
     let mut done = 0u64;
     for _ in 0..TURNS {
         let chain = gates.sys_drain(rt, claim);
-        let count = length_of(rt, chain);
+        let count = length_of(chain);
         claim.home.given = claim.home.given.wrapping_add(count);
         if count == 0 {
             done = done.wrapping_add(1);
@@ -62,18 +62,13 @@ fn drain_often<R: Wait>(rt: &R, gates: &Gates<Desk>, claim: &mut Claim<Desk>) ->
     done
 }
 
-// How many are in the chain.
-fn length_of<R: Wait>(rt: &R, mut chain: Chain) -> u64
+/// How many are in the chain.
+fn length_of(mut chain: Chain) -> u64
     ensures { result ≡ length chain % 2 ^ 64 }
 {
     let mut count = 0u64;
-    for _ in rt.forever() {
-        match chain.next() {
-            Some((_number, _node)) => {
-                count = count.wrapping_add(1);
-            }
-            None => break,
-        }
+    while let Some((_number, _node)) = chain.next() {
+        count = count.wrapping_add(1);
     }
     count
 }
@@ -98,7 +93,7 @@ pub fn fill<R: Wait>(
     Some(())
 }
 
-// How many messages went round, so many drains of all nodes.
+/// How many messages went round, so many drains of all nodes.
 fn go_often<R: Wait>(
     rt: &R,
     gates: &Gates<Desk>,
@@ -123,7 +118,7 @@ fn go_often<R: Wait>(
     done
 }
 
-// Puts each node of the chain into the list again, and counts them.
+/// Puts each node of the chain into the list again, and counts them.
 fn put_back<R: Wait>(rt: &R, gates: &Gates<Desk>, pass: &mut Pass<Desk>, mut chain: Chain) -> u64
     requires ours { pass_id pass.old ≡ gates_id gates.now }
     requires there { 1 < actors_of gates.now }
@@ -131,15 +126,10 @@ fn put_back<R: Wait>(rt: &R, gates: &Gates<Desk>, pass: &mut Pass<Desk>, mut cha
     ensures count { result ≡ length chain % 2 ^ 64 }
 {
     let mut count = 0u64;
-    for _ in rt.forever() {
-        match chain.next() {
-            Some((_number, mut node)) => {
-                node.set(SysMsg::Suspend);
-                let _ = gates.sys_enqueue(rt, pass, ACTOR, node);
-                count = count.wrapping_add(1);
-            }
-            None => break,
-        }
+    while let Some((_number, mut node)) = chain.next() {
+        node.set(SysMsg::Suspend);
+        let _ = gates.sys_enqueue(rt, pass, ACTOR, node);
+        count = count.wrapping_add(1);
     }
     count
 }

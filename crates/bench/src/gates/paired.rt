@@ -72,7 +72,7 @@ fn gain(apart: u64, together: u64) -> u64 {
     apart.saturating_mul(100).checked_div(together).unwrap_or(0)
 }
 
-// Each thread does so many laps.
+/// Each thread does so many laps.
 fn both<R: Threads + Sync>(
     rt: &R,
     gates: &Gates<Desk>,
