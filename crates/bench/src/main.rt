@@ -6,6 +6,7 @@ mod gates;
 mod messages;
 mod pools;
 mod queues;
+mod status;
 mod times;
 mod told;
 

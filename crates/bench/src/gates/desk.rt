@@ -2,6 +2,7 @@
 ghost use Rattle.std.specs.Prelude.{◌≡◌, ◌<◌, [], IfOk, IfSome};
 ghost use Rattle.mb_gate.specs.Names.{gates_id, pass_id, claim_id, actors_of, held_actor, taken_with, given_to, recorded_by};
 
+use crate::status::open;
 use mb_gate::{Claim, Gates, Pass, Resident, Tried};
 use mb_msg::ActorId;
 use mb_status::Status;
@@ -66,13 +67,6 @@ pub fn two(alloc: Global) -> Result<(Gates<Desk>, Pass<Desk>), AllocError>
         Ok(made) => Ok(made),
         Err(_) => Err(AllocError),
     }
-}
-
-/// The status of an actor that may run: of one that is fresh, resumed.
-fn open() -> Status {
-    let mut status = Status::fresh();
-    let _ = status.resume();
-    status
 }
 
 /// A claim, if the try wins.

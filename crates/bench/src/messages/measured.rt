@@ -4,17 +4,17 @@ ghost use Rattle.std.specs.Prelude.{◌≡◌, ◌↔◌, ◌+◌, ◌<◌, ◌�
 ghost use Rattle.mb_actor.specs.Behaviour.{AllowsSame};
 ghost use Rattle.mb_journal.specs.Identity.{is_guardian};
 ghost use Rattle.mb_journal.specs.Incarnation.{messages};
-ghost use Rattle.bench.specs.Idle.{IsIdle, new_cell, open_mailbox};
+ghost use Rattle.bench.specs.Idle.{IsIdle, new_cell};
 ghost use Rattle.bench.specs.Steady.{IsSteady};
 ghost use Rattle.bench.specs.Sum.{sends};
 
 use crate::clock::{now, since};
 use crate::messages::memory::Memory;
+use crate::status::open;
 use mb_actor::{Actor, Behaviours};
 use mb_cell::Cell;
 use mb_journal::{ReadyError, Strategy};
 use mb_msg::{ActorId, Body, Envelope, SenderId, SysMsg, limits};
-use mb_status::Status;
 use std::alloc::AllocGlobal;
 use std::rt::Files;
 use std::time::{Clock, Duration};
@@ -193,15 +193,6 @@ fn handle_all<A: Actor, K: Behaviours>(cell: &mut Cell<A, K>, count: u32) -> Res
         acts = acts.saturating_add(take_acts(cell));
     }
     Ok(acts)
-}
-
-/// The status of a mailbox that is open: of one that is fresh, resumed.
-fn open() -> Status
-    ensures { result ≡ open_mailbox }
-{
-    let mut status = Status::fresh();
-    let _ = status.resume();
-    status
 }
 
 /// Takes the acts that the cell asks for; answers how many there were.
