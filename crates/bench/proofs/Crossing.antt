@@ -20,6 +20,6 @@ worker_crosses = declared_send worker.the_type (
   end_send _ resident.ghosts desk.the_send,
   (
     pass_send _ desk.the_send,
-    (search (sendable, actor.the_field_send, actor.the_send) depth 20, (search sendable, (times.the_send, tt))),
+    (search (sendable, actor.the_send) depth 20, (search sendable, (times.the_send, tt))),
   ),
 )

@@ -1,5 +1,6 @@
+use denote.Param.Send.{sendable}
 use Rattle.mb_queue.proofs.Crossing.{take_pass_send}
 use Rattle.bench.proofs.queues.beside.Goals as goal
 
 pub compare-requires-send-T : goal.compare-requires-send-T
-compare-requires-send-T g c κs within = take_pass_send
+compare-requires-send-T g c κs within = search (sendable, take_pass_send) depth 20
