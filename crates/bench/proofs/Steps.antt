@@ -30,7 +30,7 @@ use Rattle.mb_journal.proofs.EnvelopeLemmas.{count-handled, ever_aside-handled, 
 use Rattle.mb_journal.proofs.LawfulLemmas.{ever_aside-applied}
 use Rattle.mb_journal.proofs.TestLemmas.{if_false, if_true}
 use Rattle.mb_cell.specs.Seen.{IsOf, Seen, TakesEnvelope, TakesSystem, with_entry}
-use Rattle.bench.specs.Idle.{IsIdle, new_cell, open_mailbox}
+use Rattle.bench.specs.Idle.{IsIdle, open_mailbox}
 use Rattle.bench.specs.Steady.{IsSteady}
 
 pub phase-none : (who : Identity) → phase who [] ≡ Fresh

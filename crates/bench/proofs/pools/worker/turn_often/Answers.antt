@@ -1,5 +1,5 @@
-use Rattle.std.proofs.Common.{Some, ◌∙◌, subst, sym}
-use Rattle.mb_gate.specs.Untouched.{origin_of, IsUntouched}
+use Rattle.std.proofs.Common.{◌∙◌, subst, sym}
+use Rattle.mb_gate.specs.Untouched.{IsUntouched}
 use Rattle.mb_pool.proofs.SameGates.{same_gates}
 use Rattle.bench.proofs.pools.worker.turn_often.Goals as goal
 
