@@ -1,7 +1,0 @@
-use Rattle.std.proofs.Common.{◌≡◌, ◌+◌, ◌%◌, ◌^◌, length}
-use Rattle.mb_gate.specs.Names.{pass_id}
-use Rattle.bench_gate.proofs.listed.put_back.Given as goal
-
-abbrev pub invariant-loop : goal.invariant-loop
-invariant-loop g l =
-    (pass_id l.pass ≡ pass_id l.initial.pass) × ((l.count + length l.chain) % 2 ^ 64 ≡ length l.fn.chain % 2 ^ 64)

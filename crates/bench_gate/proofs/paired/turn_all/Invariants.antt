@@ -1,6 +1,0 @@
-use Rattle.std.proofs.Common.{◌≡◌}
-use Rattle.mb_gate.specs.Names.{pass_id}
-use Rattle.bench_gate.proofs.paired.turn_all.Given as goal
-
-abbrev pub invariant-loop : goal.invariant-loop
-invariant-loop l = pass_id l.pass ≡ pass_id l.initial.pass

@@ -1,5 +1,0 @@
-use Rattle.bench_pool.specs.Ready.{AreReady}
-use Rattle.bench_pool.proofs.four.rounds.Given as goal
-
-abbrev pub invariant-loop-round : goal.invariant-loop-round
-invariant-loop-round g l = AreReady l.gates l.first × AreReady l.gates l.second

@@ -1,4 +1,0 @@
-pub mod ActorSetLemmas
-pub mod Crossing
-pub mod HeldLemmas
-pub mod OutboxLemmas

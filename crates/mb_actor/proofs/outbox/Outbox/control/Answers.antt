@@ -1,8 +1,0 @@
-use Rattle.std.proofs.Common.{rules}
-use Rattle.mb_actor.proofs.outbox.Outbox.control.Goals as goal
-
-pub returns-clause-answer : goal.returns-clause-answer
-returns-clause-answer c = search rules
-
-pub returns-clause-after : goal.returns-clause-after
-returns-clause-after c = search rules

@@ -1,4 +1,0 @@
-pub mod Crossing
-pub mod EffectLemmas
-pub mod HandledLemmas
-pub mod RetryLemmas

@@ -1,9 +1,0 @@
-pub mod Reasons
-pub mod Kinds
-pub mod Numbers
-pub mod Identities
-pub mod Handed
-pub mod Made
-pub mod Behaved
-pub mod Unstarted
-pub mod Housed

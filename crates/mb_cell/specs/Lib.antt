@@ -1,4 +1,0 @@
-pub mod Agrees
-pub mod MayHandle
-pub mod Nothing
-pub mod Seen

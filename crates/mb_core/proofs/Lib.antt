@@ -1,9 +1,0 @@
-pub mod StartLemmas
-pub mod RunLemmas
-pub mod HeldLemmas
-pub mod MailboxLemmas
-pub mod SettledLemmas
-pub mod KeptLemmas
-pub mod RunnableLemmas
-pub mod BetweenLemmas
-pub mod PartiesLemmas

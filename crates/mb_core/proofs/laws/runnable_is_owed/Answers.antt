@@ -1,8 +1,0 @@
-use Rattle.mb_core.proofs.RunnableLemmas.{runnable_owed, paid_idle}
-use Rattle.mb_core.proofs.laws.runnable_is_owed.Goals as goal
-
-pub returns-clause-owed : goal.returns-clause-owed
-returns-clause-owed c = runnable_owed
-
-pub returns-clause-paid : goal.returns-clause-paid
-returns-clause-paid c = paid_idle

@@ -1,4 +1,0 @@
-pub mod Captured
-pub mod Crossing
-pub mod Given
-pub mod Got

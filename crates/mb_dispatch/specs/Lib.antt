@@ -1,5 +1,0 @@
-pub mod Belonging
-pub mod Refused
-pub mod Sent
-pub mod Story
-pub mod Untold

@@ -1,2 +1,0 @@
-pub mod Casting
-pub mod Kept

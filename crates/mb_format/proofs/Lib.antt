@@ -1,4 +1,0 @@
-pub mod Examples
-pub mod Firsts
-pub mod Loops
-pub mod Values

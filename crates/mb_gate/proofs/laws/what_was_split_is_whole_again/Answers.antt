@@ -1,5 +1,0 @@
-use Rattle.mb_rule.proofs.SharesLemmas.{whole_one, whole_again}
-use Rattle.mb_gate.proofs.laws.what_was_split_is_whole_again.Goals as goal
-
-pub returns : goal.returns
-returns c = (whole_one, (λ v whole. whole_again v.share whole))

@@ -1,5 +1,0 @@
-use Rattle.mb_pool.proofs.Gathering.{Gathering}
-use Rattle.mb_pool.proofs.gather.gather.Given as goal
-
-abbrev pub invariant-loop-index : goal.invariant-loop-index
-invariant-loop-index g l = Gathering l.initial.ends l.index l.ends

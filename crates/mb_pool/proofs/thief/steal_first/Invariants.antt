@@ -1,6 +1,0 @@
-use Rattle.std.proofs.Common.{◌≡◌}
-use Rattle.crossbeam_deque.specs.Handles.{view, IsPassOf, stealer_deque}
-use Rattle.mb_pool.proofs.thief.steal_first.Given as goal
-
-abbrev pub invariant-loop : goal.invariant-loop
-invariant-loop g l = IsPassOf (stealer_deque l.stealer) l.pass × (view l.pass ≡ view l.initial.pass)

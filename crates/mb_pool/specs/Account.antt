@@ -1,7 +1,0 @@
--- What a port of a place of claims knows.
-use Rattle.mb_gate.specs.declared.claim.Claim.{Claim}
-use Rattle.mb_gate.specs.Untouched.{Origin}
-use Rattle.mb_pool.specs.Ledger.{Ledger}
-
-abbrev pub Account : Type 0 → Type 0
-Account H = Ledger (Origin H) (Claim H)

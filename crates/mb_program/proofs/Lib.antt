@@ -1,9 +1,0 @@
-pub mod Actors
-pub mod Checks
-pub mod Endings
-pub mod InputLemmas
-pub mod Names
-pub mod Passed
-pub mod Refusals
-pub mod Runnable
-pub mod WrittenLemmas

@@ -1,3 +1,0 @@
-pub mod Indexing
-pub mod Keeping
-pub mod Placing

@@ -1,4 +1,0 @@
-pub mod Index
-pub mod Kept
-pub mod Operations
-pub mod Script

@@ -1,5 +1,0 @@
-pub mod Posted
-pub mod Sends
-pub mod Vouched
-pub mod Bounded
-pub mod Answers

@@ -1,2 +1,0 @@
-pub mod Mailbox
-pub mod WordLemmas

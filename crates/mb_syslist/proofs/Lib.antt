@@ -1,2 +1,0 @@
-pub mod NumberedLemmas
-pub mod Crossing

@@ -1,6 +1,0 @@
-pub mod Views
-pub mod AtHome
-pub mod Debts
-pub mod Bits
-pub mod Pays
-pub mod Crossing

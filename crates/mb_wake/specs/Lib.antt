@@ -1,3 +1,0 @@
-pub mod Owed
-pub mod Views
-pub mod Waking

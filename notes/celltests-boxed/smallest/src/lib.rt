@@ -1,0 +1,7 @@
+//! A try.
+#![tactic(auto)]
+
+#[cfg(test)]
+mod boxes;
+#[cfg(test)]
+mod sleeper;

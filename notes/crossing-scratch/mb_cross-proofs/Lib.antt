@@ -1,0 +1,16 @@
+pub mod Crossing
+pub mod Upper
+pub mod Gates
+pub mod Top
+pub mod GateCrossing
+pub mod LaneCrossing
+pub mod RankCrossing
+pub mod QueueCrossing
+pub mod ActorCrossing
+pub mod BooksCrossing
+pub mod CellCrossing
+pub mod HomeCrossing
+pub mod WakeCrossing
+pub mod SendCrossing
+pub mod WaysCrossing
+pub mod SystemCrossing

@@ -1,0 +1,35 @@
+-- Passes into a queue may go to another thread.
+use denote.Param.Send.{IsSend, sendable, view_send}
+use denote.Param.SendFields.{declared_send, variants_send}
+use Rattle.std.proofs.Crossing.{crosses as std_crosses}
+use Rattle.std.proofs.option.Option.TheSendSync as option
+use Rattle.mb_msg.proofs.id.SenderId.TheSendSync as sender_id
+use Rattle.mb_lane.proofs.port.Port.TheSendSync as port
+use Rattle.mb_cross.proofs.LaneCrossing.{log_send}
+use Rattle.mb_rank.proofs.ranks.Ranks.TheSendSync as ranks
+use Rattle.mb_cross.proofs.RankCrossing.{waiting_send}
+use Rattle.mb_queue.specs.contracts.choice.Choice as choice
+use Rattle.mb_queue.specs.contracts.order.Order as order
+use Rattle.mb_queue.specs.contracts.send_pass.SendPass as send_pass
+use Rattle.mb_queue.specs.contracts.send_pass.SendPass.TheInside as send_inside
+use Rattle.mb_queue.specs.contracts.take_pass.TakePass as take_pass
+use Rattle.mb_queue.specs.contracts.take_pass.TakePass.TheInside as take_inside
+
+choice_send : IsSend choice.the_row
+choice_send = declared_send choice.the_type (ranks.the_send, (search sendable, (search sendable, (waiting_send, tt))))
+
+order_send : IsSend order.the_row
+order_send = variants_send order.enum (tt, ((port.the_send, tt), ((choice_send, tt), tt)))
+
+pub send_pass_send : IsSend send_pass.the_row
+send_pass_send = view_send _ _ _ _ _ (declared_send send_inside.the_type (
+  search (sendable, sender_id.the_send) depth 20,
+  (
+    port.the_send,
+    (search (sendable, std_crosses, option.the_field_send, option.the_send, port.the_send) depth 20, (search (sendable, log_send) depth 20, tt)),
+  ),
+))
+
+pub take_pass_send : IsSend take_pass.the_row
+take_pass_send = view_send _ _ _ _ _ (declared_send take_inside.the_type
+    (port.the_send, (order_send, (search (sendable, log_send) depth 20, (search (sendable, log_send) depth 20, tt)))))

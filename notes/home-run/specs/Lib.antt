@@ -1,0 +1,3 @@
+pub mod InRun
+pub mod Told
+pub mod Wakes

@@ -1,0 +1,2 @@
+cd $1/out/incremental/antt*[0-9a-f] 2>/dev/null || cd $1/out/incremental/$(ls $1/out/incremental | grep antt | grep -v holes | head -1)
+ls -l | awk '{print $5,$9}' | grep "Destruct" | sed -E 's/Rattle-[a-z_]*-(proofs|specs\.contracts)\.//' | awk '{n=$2; sub(/\+Destruct.*/,"",n); s[n]+=$1; t+=$1} END{for(k in s) printf "%.2f %s\n", s[k]/1e6,k; printf "%.1f TOTAL\n", t/1e6}' | sort -rn | head -${2:-60}

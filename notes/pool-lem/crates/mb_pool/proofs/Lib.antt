@@ -1,0 +1,9 @@
+pub mod Begins
+pub mod Emptying
+pub mod Gathering
+pub mod Lists
+pub mod Looks
+pub mod Loops
+pub mod Moves
+pub mod Ports
+pub mod Wholes

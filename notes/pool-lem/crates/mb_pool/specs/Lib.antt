@@ -1,0 +1,9 @@
+pub mod Begins
+pub mod Ends
+pub mod Ledger
+pub mod Made
+pub mod Moves
+pub mod Origin
+pub mod Places
+pub mod Rule
+pub mod Ways
