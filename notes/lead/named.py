@@ -1,5 +1,5 @@
 import re,os,glob
-repo='/work/w/top'
+import sys; repo=sys.argv[1]
 for l in open(f'{repo}/crates.txt'):
     n,_,d=l.partition(':'); n=n.strip(); d=d.split()
     if not n: continue

@@ -1,0 +1,1 @@
+for c in mb_queue_tests mb_cell_tests mb_core_tests mb_gate_tests mb_send_tests mb_pool_tests mb_parts_tests mb_reader_tests mb_trial; do cd /work/w/mma/crates/$c; echo "== $c $(date +%T)"; nice -n 3 rt check --test --jobs 1 --only zzz_none 2>&1 | grep -v "^note\|^statements" | tail -3 | cut -c1-300; done; echo END
