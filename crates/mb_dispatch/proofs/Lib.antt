@@ -11,3 +11,4 @@ pub mod Back
 pub mod Closing
 pub mod Wholly
 pub mod Unended
+pub mod Breaking

@@ -7,7 +7,6 @@ use Rattle.std.proofs.lemmas.Bool.{cases_eq}
 use Rattle.std.proofs.lemmas.List.{length-set}
 use Rattle.std.proofs.lemmas.Option.{same_Some, slice_get_read, slice_get_within}
 use Rattle.mb_msg.specs.Limits.{most_actors}
-use Rattle.mb_msg.specs.declared.id.ActorId.{ActorId}
 use Rattle.mb_msg.specs.declared.id.SenderId.{SenderId}
 use Rattle.mb_actor.specs.Behaviour.{Moment, Reply}
 use Rattle.mb_gate.specs.Names.{actors_of, known_by}
@@ -20,22 +19,15 @@ use Rattle.mb_turn.specs.Fresh.{IsFreshClaim}
 use Rattle.mb_wake.specs.Owed.{IsNobody}
 use Rattle.mb_reckon.proofs.Lists.{mapped, same-maps, there}
 use Rattle.mb_system.specs.Belonging.{BelongsTogether, senders_numbers}
-use Rattle.mb_system.specs.Faults.{IsToNobody}
 use Rattle.mb_system.specs.Debts.{OwesNothing}
 use Rattle.mb_system.specs.Members.{IsEndOf, IsSenderOf, SeeOn, end_caller, ends_numbers}
 use Rattle.mb_system.specs.declared.built.Built.{Built}
 use Rattle.mb_system.specs.declared.end.WorkerEnd.{WorkerEnd}
-use Rattle.mb_system.specs.declared.failure.RunError.{RunError}
-use Rattle.mb_system.specs.declared.failure.RunError.TheVariants as Fault
 use Rattle.mb_system.specs.declared.order.Order.{Order}
-use Rattle.mb_system.specs.declared.order.What.{What}
-use Rattle.mb_system.specs.declared.order.What.TheVariants.{Stop, Tell}
-use Rattle.mb_system.specs.declared.system.System.{System}
 use Rattle.mb_system.specs.declared.sender.Sender.{Sender}
 use Rattle.mb_system.proofs.Alike.{look-alike}
 use Rattle.mb_system.proofs.Together.{again, by_of}
-use Rattle.mb_dispatch.specs.Sent.{BreaksOff, FoundNothing, HasSentAndPaid, HaveSent}
-use Rattle.mb_dispatch.specs.Untold.{IsForNobody, MayBreak}
+use Rattle.mb_dispatch.specs.Sent.{FoundNothing, HasSentAndPaid, HaveSent}
 use Rattle.mb_dispatch.proofs.Parts.{part-same}
 
 -- what holds of an error holds where it is passed on
@@ -159,20 +151,3 @@ module _ {A K : Type 0} where
   found-nothing gives gates [] e some nobody settled empty = absurd (some refl)
   found-nothing gives gates (x ∷ ends) e some nobody settled empty =
       record { first = e; rest = ends; are = refl; nobody = nobody; settled = settled; empty = empty }
-
--- what is to nobody by the gates is for none of so many actors
-for-nobody : (gates : Gates (Box Contents)) (many : ℕ) (to : ActorId) (what : What) → actors_of gates ≡ many → IsToNobody gates to what
-    → IsForNobody many to what
-for-nobody gates many to (Tell body) same (inl guardian) = inl guardian
-for-nobody gates many to (Tell body) same (inr beyond) = inr (subst (λ n. n ≤ to.0) same beyond)
-for-nobody gates many to Stop same beyond = subst (λ n. n ≤ to.0) same beyond
-
-module _ {A K : Type 0} where
-  -- for which faults a whole run may be broken off
-  pub may-break : (gives : ℕ → Moment → Reply → Type 0) (system : System A K) (orders : List (List Order)) (many : ℕ) (error : RunError)
-      → actors_of system.gates ≡ many → BreaksOff gives system orders error → MayBreak many orders error
-  may-break gives system orders many Fault.NoMemory same broken = tt
-  may-break gives system orders many Fault.JournalFull same broken = tt
-  may-break gives system orders many Fault.NoSuchActor same (inl one) =
-      (one.0, one.1, one.2, (one.3.0, one.3.1, for-nobody system.gates many one.3.0.to one.3.0.what same one.3.2))
-  may-break gives system orders many Fault.NoSuchActor same (inr work) = absurd work.1

@@ -1,21 +1,38 @@
--- What stands behind a run that was not broken off and has no report: what was found of a system of the plan as it was to end.
-use Rattle.std.specs.Prelude.{◌≡◌, ℕ, ◌<◌, List, length}
+-- What stands behind a run that has no report: what was found of a system of the plan as it ran, or as it was to end.
+use Rattle.std.specs.Prelude.{◌≡◌, ℕ, ◌<◌, ◌≤◌, Contains, List, length}
 use Rattle.std.specs.Global.{Box}
 use Rattle.mb_actor.specs.Behaviour.{Moment, Reply}
 use Rattle.mb_gate.specs.Names.{actors_of, first_of, known_by, pass_id}
 use Rattle.mb_gate.specs.View.{View}
 use Rattle.mb_gate.specs.declared.gates.Gates.{Gates}
 use Rattle.mb_home.specs.Contents.{Contents}
+use Rattle.mb_journal.specs.Entry.{Entry}
+use Rattle.mb_journal.specs.Identity.{Identity}
+use Rattle.mb_journal.specs.Lawful.{IsLawful}
+use Rattle.mb_journal.specs.Run.{IsRun}
+use Rattle.mb_journal.specs.Run.Stopped.{NoRoom}
 use Rattle.mb_plan.specs.declared.plan.Plan.{Plan}
 use Rattle.mb_queue.specs.Passes.{Sending}
 use Rattle.mb_reckon.specs.Homes.{Disagrees}
 use Rattle.mb_reckon.specs.Rooms.{AreCounted}
 use Rattle.mb_reckon.specs.declared.mismatch.Mismatch.{Mismatch}
+use Rattle.mb_system.specs.Begun.{actors_in}
 use Rattle.mb_system.specs.Members.{IsEndOf}
 use Rattle.mb_wake.specs.declared.waker.Waker.{Waker}
 use Rattle.mb_ways.specs.declared.end_way.EndWay.{EndWay}
 use Rattle.mb_dispatch.specs.Refused.{FindsUnsettled}
 use Rattle.mb_dispatch.specs.Story.{IsRollOf}
+
+-- An actor of the plan, which does what is said of its number, went on from a journal that it can have; and its run had no room, since the journal
+-- has as many entries as the plan allows.
+pub record HasFullJournal (gives : ℕ → Moment → Reply → Type 0) (plan : Plan) : Type 0 where
+  pub who : Identity
+  pub planned : Contains (actors_in plan) who
+  pub before : List Entry
+  pub lawful : IsLawful who (gives who.this.0) before
+  pub journal : List Entry
+  pub run : IsRun who plan.throughput before journal NoRoom
+  pub full : plan.journal_limit ≤ length journal
 
 -- A worker's end of a system of the plan read, one actor after another, whether it has something to run: this is the least that has, and what the
 -- end knows afterwards is what it read.

@@ -12,7 +12,7 @@ use Rattle.mb_system.specs.declared.failure.RunError.TheVariants as Fault
 use Rattle.mb_system.specs.declared.order.Order.{Order}
 use Rattle.mb_system.specs.declared.order.What.{What}
 use Rattle.mb_system.specs.declared.order.What.TheVariants.{Stop, Tell}
-use Rattle.mb_dispatch.specs.Unended.{DoesNotAgree, HasWorkLeft}
+use Rattle.mb_dispatch.specs.Unended.{DoesNotAgree, HasFullJournal, HasWorkLeft}
 use Rattle.mb_dispatch.specs.declared.boxes.WholeError.{WholeError}
 use Rattle.mb_dispatch.specs.declared.boxes.WholeError.TheVariants.{BadPlan, Sends, NoMemory, Run, NotQuiet, Mismatch}
 use Rattle.mb_dispatch.specs.declared.ending.FinishError.{FinishError}
@@ -32,11 +32,12 @@ abbrev pub HasOneForNobody : ℕ → List (List Order) → Type 0
 HasOneForNobody actors orders = (place : ℕ) × (of : List Order) × (slice_get orders place ≡ Some of) × ((order : Order) × Contains of order
     × IsForNobody actors order.to order.what)
 
--- the run is broken off for this fault: `NoSuchActor` only where one of the orders is for nobody
-abbrev pub MayBreak : ℕ → List (List Order) → RunError → Type 0
-MayBreak actors orders Fault.NoMemory = Unit {0}
-MayBreak actors orders Fault.JournalFull = Unit {0}
-MayBreak actors orders Fault.NoSuchActor = HasOneForNobody actors orders
+-- the run is broken off for this fault: `JournalFull` only where an actor of the plan met a journal at its limit, and `NoSuchActor` only where one
+-- of the orders is for nobody
+abbrev pub MayBreak : (ℕ → Moment → Reply → Type 0) → Plan → List (List Order) → RunError → Type 0
+MayBreak gives plan orders Fault.NoMemory = Unit {0}
+MayBreak gives plan orders Fault.JournalFull = HasFullJournal gives plan
+MayBreak gives plan orders Fault.NoSuchActor = HasOneForNobody (length (actors_in plan)) orders
 
 -- nothing is done: the plan is refused, for the first reason of all; or it is not, and there are not as many lists of orders as senders
 abbrev pub IsUnfit : Plan → ℕ → List (List Order) → WholeError → Type 0
@@ -61,7 +62,7 @@ abbrev pub IsNoStory : (ℕ → Moment → Reply → Type 0) → Plan → ℕ �
 IsNoStory gives plan actors orders (BadPlan reason) = (rest : List PlanError) × (reasons plan actors ≡ reason ∷ rest)
 IsNoStory gives plan actors orders Sends = (reasons plan actors ≡ []) × (length orders ≢ plan.senders)
 IsNoStory gives plan actors orders NoMemory = IsRight plan actors orders
-IsNoStory gives plan actors orders (Run error) = IsRight plan actors orders × MayBreak (length (actors_in plan)) orders error
+IsNoStory gives plan actors orders (Run error) = IsRight plan actors orders × MayBreak gives plan orders error
 IsNoStory gives plan actors orders (NotQuiet id) = IsRight plan actors orders × (id.0 < length (actors_in plan)) × HasWorkLeft plan id.0
 IsNoStory gives plan actors orders (Mismatch what) = IsRight plan actors orders × (of_whom what < length (actors_in plan))
     × DoesNotAgree gives plan what

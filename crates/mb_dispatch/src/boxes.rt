@@ -27,8 +27,9 @@ pub enum WholeError {
     Sends,
     /// Memory was refused as the system was built, or as it was to end. The system is let go, with all that it did.
     NoMemory,
-    /// What was to be sent could not be, or the run was broken off: `NoSuchActor` only where something was to be sent to an actor
-    /// that there is not, or an envelope to the guardian. The system is let go, with all that it did.
+    /// What was to be sent could not be, or the run was broken off: `JournalFull` only where the journal of an actor has as many
+    /// entries as the plan allows, `NoSuchActor` only where something was to be sent to an actor that there is not, or an
+    /// envelope to the guardian. The system is let go, with all that it did.
     Run(RunError),
     /// This actor has something to run still.
     NotQuiet(ActorId),

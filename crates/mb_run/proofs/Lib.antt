@@ -4,5 +4,5 @@ pub mod JobLemmas
 pub mod MemberLemmas
 pub mod PlanLemmas
 pub mod FaultLemmas
-pub mod FullLemmas
+pub mod BrokenLemmas
 pub mod EndLemmas

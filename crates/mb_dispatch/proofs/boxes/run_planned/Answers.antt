@@ -2,12 +2,11 @@ use Rattle.std.proofs.Common.{length, rules, sym, ◌∙◌, Vec}
 use Rattle.std.specs.Global.{Global}
 use Rattle.mb_gate.specs.Names.{actors_of}
 use Rattle.mb_reckon.proofs.Lists.{length-mapped}
-use Rattle.mb_system.specs.Begun.{actors_in}
 use Rattle.mb_system.specs.declared.order.Order.{Order}
 use Rattle.mb_dispatch.specs.Refused.{IsComplete}
 use Rattle.mb_dispatch.specs.Untold.{IsNoStory, IsRight, IsUnfit}
-use Rattle.mb_dispatch.proofs.Rolls.{actors-there}
-use Rattle.mb_dispatch.proofs.Sent.{err-of, may-break, orders_of}
+use Rattle.mb_dispatch.proofs.Breaking.{may-break}
+use Rattle.mb_dispatch.proofs.Sent.{err-of, orders_of}
 use Rattle.mb_dispatch.proofs.Story.{no-end-missing, no-sender-missing, senders-there, some-end, story}
 use Rattle.mb_dispatch.proofs.Unended.{unfit, untold}
 use Rattle.mb_dispatch.proofs.Wholly.{of-whole}
@@ -32,11 +31,11 @@ returns-in-Ok-finish-clause-story g c =
 
 pub returns-in-Err-clause-refused : goal.returns-in-Err-clause-refused
 returns-in-Err-clause-refused g c =
-    let right : IsRight c.args.plan (length c.args.actors.items) (orders_of c.args.sends.now) = search rules in
-    let many = actors-there g.K.Behaviours.gives c.args.plan c.in-Ok.built c.in-Ok.ensures.begun in (
+    let orders = orders_of c.args.sends.now in
+    let right : IsRight c.args.plan (length c.args.actors.items) orders = search rules in
+    (
       right,
-      may-break g.K.Behaviours.gives c.in-Ok.built.system (orders_of c.args.sends.now) (length (actors_in c.args.plan)) c.in-Err.error many
-          c.in-Err.ensures.fault,
+      may-break g.K.Behaviours.gives c.args.plan c.in-Ok.built c.in-Ok.ensures.begun orders c.in-Err.error c.in-Err.ensures.fault,
     )
 
 pub without_report-requires : goal.without_report-requires

@@ -5,8 +5,8 @@ use Rattle.mb_system.specs.Unbuilt.{IsNoSystem}
 use Rattle.mb_run.specs.Faults.{IsFaultOf}
 use Rattle.mb_run.specs.Orders.{orders_of}
 use Rattle.mb_run.specs.declared.fault.RunFault.{RunFault}
+use Rattle.mb_run.proofs.BrokenLemmas.{fault-broken}
 use Rattle.mb_run.proofs.EndLemmas.{all-lines, all-ran, all-unended}
-use Rattle.mb_run.proofs.FullLemmas.{fault-broken}
 use Rattle.mb_run.proofs.MemberLemmas.{complete, together}
 use Rattle.mb_run.proofs.PlanLemmas.{ready, sendable-here}
 use Rattle.mb_run.proofs.running.run.Goals as goal
