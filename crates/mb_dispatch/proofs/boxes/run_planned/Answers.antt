@@ -32,8 +32,7 @@ returns-in-Ok-finish-clause-story g c =
 pub returns-in-Err-clause-refused : goal.returns-in-Err-clause-refused
 returns-in-Err-clause-refused g c =
     let orders = orders_of c.args.sends.now in
-    let right : IsRight c.args.plan (length c.args.actors.items) orders = search rules in
-    (
+    let right : IsRight c.args.plan (length c.args.actors.items) orders = search rules in (
       right,
       may-break g.K.Behaviours.gives c.args.plan c.in-Ok.built c.in-Ok.ensures.begun orders c.in-Err.error c.in-Err.ensures.fault,
     )
