@@ -13,7 +13,7 @@ if ! git merge-base --is-ancestor $M $T; then
   fi
 fi
 ps=""
-for x in rw:rw ms:ms bn:bn; do
+for x in jf:jf; do
   h=${x%%:*}; b=${x##*:}
   [ -d /work/w/$h ] || continue
   git fetch -q /work/w/$h $b 2>/dev/null || continue
@@ -25,7 +25,7 @@ cp /tmp/lead/*.py /tmp/lead/*.sh /tmp/lead/*.json /tmp/lead/BRIEF.md /tmp/lead/R
 find /tmp/lead/tree2 -size +2M -delete
 (cd /tmp/lead/tree2 && git add -A . >/dev/null 2>&1); nt=$(git write-tree)
 unset GIT_INDEX_FILE GIT_WORK_TREE GIT_DIR
-side=$(git commit-tree $nt $ps -p 08ebf6c5d34234c5906c5f672fde2d1cdec59bf6 -m "Notes and branches of the session, beside main")
+side=$(git commit-tree $nt $ps -p 3168f6558d0bf6e3048fbf9c49a26cd2a1bf7c19 -m "Notes and branches of the session, beside main")
 new=$(git commit-tree $T^{tree} -p $T -p $side -m "Keep the notes and branches of the session beside main")
 git update-ref refs/heads/main $new
 git reset -q --hard main
