@@ -1,5 +1,5 @@
 //! How a system is built.
-ghost use Rattle.std.specs.Prelude.{◌≡◌, [], IfErr, IfOk, length};
+ghost use Rattle.std.specs.Prelude.{◌≡◌, [], IfErr, IfOk, OnOk, length};
 ghost use Rattle.mb_build.specs.Behaved.{AreBehaved};
 ghost use Rattle.mb_build.specs.Reasons.{reasons};
 ghost use Rattle.mb_system.specs.Begun.{IsBegun, kind_in};
@@ -39,6 +39,7 @@ impl<A: Actor, K: Behaviours> System<A, K> {
     ) -> Result<Built<A, K>, BuildError<A>>
         requires behaved { AreBehaved A.content A.after A.gives K.after K.gives 1 actors.items }
         ensures begun { IfOk result (IsBegun K.gives plan) }
+        ensures right { OnOk result (reasons plan (length actors.items) ≡ []) }
         ensures refused { IfErr result (IsNoSystem plan actors.items) }
     {
         if let Err(reason) = check_plan(&plan, actors.len()) {

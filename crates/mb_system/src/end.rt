@@ -9,7 +9,7 @@ ghost use Rattle.mb_gate.specs.Rule.{IsPart};
 ghost use Rattle.mb_gate.specs.Untouched.{origin_of};
 ghost use Rattle.mb_gate.specs.View.{owes};
 ghost use Rattle.mb_pool.specs.Places.{gates_of, looks};
-ghost use Rattle.mb_pool.specs.Moves.{WasEmpty};
+ghost use Rattle.mb_pool.specs.Moves.{Takes, WasEmpty};
 ghost use Rattle.mb_turn.specs.Caller.{IsPaid, LeavesCaller};
 ghost use Rattle.mb_turn.specs.Fresh.{IsFreshClaim};
 ghost use Rattle.mb_turn.specs.Ran.{HadRoom, LeavesRun};
@@ -97,11 +97,12 @@ impl<A: Actor, K: Behaviours> WorkerEnd<A, K> {
         }
     }
 
-    /// Takes the claim of an actor out of the pool, as it was pushed: the actor's mailbox is to be run. `None` only if each place in
-    /// which it looks was empty at a moment; then the end is as it was.
+    /// Takes the claim of an actor out of the pool, as it was pushed, and no other: the first of the first place that has one. The
+    /// actor's mailbox is to be run. `None` only if each place in which it looks was empty at a moment; then the end is as it was.
     #[inline(always)]
     pub fn take<R: Wait>(&mut self, rt: &R) -> Option<Claim<Place<A, K>>>
         ensures fit { IfSome result (IsFreshClaim K.gives (gates_of self.old.waker.way.end)) }
+        ensures taken { IfSome result (λ claim. Takes (IsFreshClaim K.gives) self.old.waker.way.end claim self.new.waker.way.end) }
         ensures none { IfNone result ((self.new ≡ self.old) × All (WasEmpty (IsFreshClaim K.gives)) (looks self.old.waker.way.end)) }
         ensures same { (self.new.waker.pass ≡ self.old.waker.pass) × (self.new.waker.owed ≡ self.old.waker.owed)
             × (gates_of self.new.waker.way.end ≡ gates_of self.old.waker.way.end) × (self.new.number ≡ self.old.number) }

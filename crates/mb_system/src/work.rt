@@ -117,6 +117,8 @@ impl<A: Actor, K: Behaviours> WorkerEnd<A, K> {
         system.going.leave();
         let backoff = Backoff::new();
         for _ in rt.forever() {
+            // Read before the take: once it is over nobody brings a claim any more, so a take that then finds none has seen all. Read
+            // after it, a claim that was pushed between the two would be left.
             let is_over = system.going.is_over();
             if let Some(claim) = self.take(rt) {
                 system.going.enter();
@@ -124,6 +126,7 @@ impl<A: Actor, K: Behaviours> WorkerEnd<A, K> {
                 return Ok(false);
             }
             if is_over {
+                // since `work` counts this worker off once more
                 system.going.enter();
                 return Ok(true);
             }

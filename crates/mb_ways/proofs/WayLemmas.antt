@@ -1,6 +1,6 @@
 -- What a push and a take by a port make of what was pushed by it.
 use Rattle.std.proofs.Common.{◌≡◌, List, [], ◌∷◌, ◌++◌, refl, sym, ap, ◌∙◌, Option, Some, None, MatchOption}
-use Rattle.std.specs.Prelude.{IfNone}
+use Rattle.std.specs.Prelude.{IfNone, IfSome}
 use Rattle.std.proofs.lemmas.List.{map-append}
 use Rattle.mb_gate.specs.declared.claim.Claim.{Claim}
 use Rattle.mb_gate.specs.Untouched.{Origin}
@@ -39,3 +39,8 @@ module _ {H : Type 0} (IsFit : Option (Origin H) → Claim H → Type 0) where
 pub none-tells : {X : Type 0} (A B C : Type 0) (P : X → Type 0) (r : Option X) → (A → C) → MatchOption r (A × B) P → IfNone r (C × B)
 none-tells A B C P None f h = (f h.0, h.1)
 none-tells A B C P (Some x) f h = tt
+
+-- what an answer of some tells
+pub some-tells : {X : Type 0} (A : Type 0) (P : X → Type 0) (r : Option X) → MatchOption r A P → IfSome r P
+some-tells A P None h = tt
+some-tells A P (Some x) h = h

@@ -1,8 +1,8 @@
 //! A worker's end of the pool as a way into it.
 ghost use Rattle.std.specs.Prelude.{◌≡◌, All, IfNone, IfSome};
 ghost use Rattle.mb_gate.specs.Untouched.{IsUntouched};
-ghost use Rattle.mb_pool.specs.Moves.{WasEmpty};
-ghost use Rattle.mb_pool.specs.Places.{gates_of, looks};
+ghost use Rattle.mb_pool.specs.Moves.{Takes, WasEmpty};
+ghost use Rattle.mb_pool.specs.Places.{gates_of, looks, parts_of};
 ghost use Rattle.mb_ways.specs.Ways.{pushed_first};
 
 use crate::back::back;
@@ -33,11 +33,14 @@ impl<H: Resident> EndWay<H> {
         }
     }
 
-    /// Takes a claim out of the pool, as it was pushed; `None` only where each place in which the end looks was empty at a moment of
-    /// the call, and then the end is as it was.
+    /// Takes a claim out of the pool, as it was pushed, and no other: the first of the first place that has one. `None` only where each
+    /// place in which the end looks was empty at a moment of the call, and then the end is as it was.
     #[inline(always)]
     pub fn take<R: Wait>(&mut self, rt: &R) -> Option<Claim<H>>
         ensures fit { IfSome result (IsUntouched H.is_of H.journal H.mailbox H.rested H.given H.closed_to (gates_of self.old.end)) }
+        ensures taken { IfSome result (λ claim.
+            Takes (IsUntouched H.is_of H.journal H.mailbox H.rested H.given H.closed_to) self.old.end claim self.new.end) }
+        ensures parts { parts_of self.new.end ≡ parts_of self.old.end }
         ensures none { IfNone result ((self.new ≡ self.old)
             × All (WasEmpty (IsUntouched H.is_of H.journal H.mailbox H.rested H.given H.closed_to)) (looks self.old.end)) }
         ensures same { (gates_of self.new.end ≡ gates_of self.old.end) × (pushed_first (looks self.new.end) ≡ pushed_first (looks self.old.end))
@@ -50,7 +53,8 @@ impl<H: Resident> EndWay<H> {
 impl<H: Resident> Way<H> for EndWay<H> {
     ghost use Rattle.std.specs.Prelude.{[], ◌∷◌, ◌++◌, map, IfErr, MatchResult};
     ghost use Rattle.mb_gate.specs.Untouched.{IsUntouched};
-    ghost use Rattle.mb_pool.specs.Places.{gates_of, looks};
+    ghost use Rattle.mb_pool.specs.Moves.{Pushes};
+    ghost use Rattle.mb_pool.specs.Places.{gates_of, looks, parts_of};
     ghost use Rattle.mb_ways.specs.Ways.{IsAsked, pushed_first};
 
     ghost origin = { λ way. gates_of way.end };
@@ -69,6 +73,10 @@ impl<H: Resident> Way<H> for EndWay<H> {
             (λ back. (back.claim ≡ claim) × (pushed_first (looks self.new.end) ≡ pushed_first (looks self.old.end))
             × (map (λ c. c.value) self.new.refused ≡ map (λ c. c.value) self.old.refused ++ claim ∷ [])) }
         ensures asked { IfErr result (λ _. IsAsked (IsUntouched H.is_of H.journal H.mailbox H.rested H.given H.closed_to) self.old.end claim) }
+        ensures put { MatchResult result
+            (λ _. Pushes (IsUntouched H.is_of H.journal H.mailbox H.rested H.given H.closed_to) self.old.end claim self.new.end)
+            (λ _. self.new.end ≡ self.old.end) }
+        ensures parts { parts_of self.new.end ≡ parts_of self.old.end }
     {
         match self.end.push(rt, claim) {
             Ok(()) => Ok(()),

@@ -33,7 +33,8 @@ impl<H: Resident> FeedWay<H> {
 impl<H: Resident> Way<H> for FeedWay<H> {
     ghost use Rattle.std.specs.Prelude.{[], ◌∷◌, ◌++◌, map, IfErr, MatchResult};
     ghost use Rattle.mb_gate.specs.Untouched.{IsUntouched};
-    ghost use Rattle.mb_pool.specs.Places.{gates_of, looks};
+    ghost use Rattle.mb_pool.specs.Moves.{Pushes};
+    ghost use Rattle.mb_pool.specs.Places.{gates_of, looks, parts_of};
     ghost use Rattle.mb_ways.specs.Ways.{IsAsked, pushed_first};
 
     ghost origin = { λ way. gates_of way.feed };
@@ -52,6 +53,10 @@ impl<H: Resident> Way<H> for FeedWay<H> {
             (λ back. (back.claim ≡ claim) × (pushed_first (looks self.new.feed) ≡ pushed_first (looks self.old.feed))
             × (map (λ c. c.value) self.new.refused ≡ map (λ c. c.value) self.old.refused ++ claim ∷ [])) }
         ensures asked { IfErr result (λ _. IsAsked (IsUntouched H.is_of H.journal H.mailbox H.rested H.given H.closed_to) self.old.feed claim) }
+        ensures put { MatchResult result
+            (λ _. Pushes (IsUntouched H.is_of H.journal H.mailbox H.rested H.given H.closed_to) self.old.feed claim self.new.feed)
+            (λ _. self.new.feed ≡ self.old.feed) }
+        ensures parts { parts_of self.new.feed ≡ parts_of self.old.feed }
     {
         match self.feed.push(rt, claim) {
             Ok(()) => Ok(()),

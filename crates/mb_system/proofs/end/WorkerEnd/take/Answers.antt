@@ -12,3 +12,6 @@ returns-clause-fit g c = c.take.ensures.fit
 
 pub returns-clause-same : goal.returns-clause-same
 returns-clause-same g c = (refl, refl, c.take.ensures.same.0, refl)
+
+pub returns-clause-taken : goal.returns-clause-taken
+returns-clause-taken g c = c.take.ensures.taken

@@ -1,6 +1,6 @@
 use Rattle.std.proofs.Common.{ap, refl}
 use Rattle.mb_gate.specs.Untouched.{IsUntouched}
-use Rattle.mb_ways.proofs.WayLemmas.{none-tells, same-gates, taken-same}
+use Rattle.mb_ways.proofs.WayLemmas.{none-tells, same-gates, some-tells, taken-same}
 use Rattle.mb_ways.proofs.end_way.EndWay.take.Goals as goal
 
 pub returns-clause-none : goal.returns-clause-none
@@ -14,3 +14,9 @@ returns-clause-same g c = (
       g.H.Resident.closed_to) _ c.take.result c.args.self.now.end c.take.new.self c.take.ensures.taken,
   refl,
 )
+
+pub returns-clause-taken : goal.returns-clause-taken
+returns-clause-taken g c = some-tells _ _ c.take.result c.take.ensures.taken
+
+pub returns-clause-parts : goal.returns-clause-parts
+returns-clause-parts g c = c.take.ensures.same
