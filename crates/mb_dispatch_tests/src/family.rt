@@ -1,5 +1,5 @@
 //! Parents and children that fail, turn by turn.
-use crate::supervised::{CHILD, ESCALATED, RESTARTED, RESUMED, STOPPED};
+use crate::supervised::{CHILD, ESCALATED, RESTARTED, RESUMED};
 use crate::tale::Step::{DeadSystem, Finish, Run, Send};
 use crate::tale::{Tale, play};
 use mb_journal::Pattern;
@@ -17,6 +17,13 @@ const PARENT_OF_TWO: Part = Part {
     start: &[Spawn(2), Spawn(3)],
     ..COUNTER
 };
+
+const STOPPED: &str = "\
+guardian live state - suspended 0 handled 0 left 0 dead 0 restarts 0
+a1 live state 0 suspended 0 handled 0 left 0 dead 0 restarts 0
+a2 ended state 5 suspended 0 handled 2 left 0 dead 1 restarts 0
+sent 3 handled 2 left 0 dead 1
+";
 
 const THREE: &[Sending] = &[Tell(2, ADD, 5), Tell(2, FAIL, 0), Tell(2, ADD, 7)];
 

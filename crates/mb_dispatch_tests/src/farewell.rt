@@ -166,6 +166,29 @@ sent 3 handled 2 left 0 dead 1
     ],
 };
 
+/// What comes after a poison pill is dead.
+const POISONED: Tale = Tale {
+    story: Story {
+        parts: &[COUNTER],
+        ..PLAIN
+    },
+    steps: &[
+        (
+            Send(&[Tell(1, ADD, 1), Poison(1), Tell(1, ADD, 2)]),
+            "Queued(0), Queued(1), Queued(2)",
+        ),
+        (Run, "(0;1,0) (1;2,2) (0;1,0)"),
+        (
+            Finish,
+            "\
+guardian live state - suspended 0 handled 0 left 0 dead 0 restarts 0
+a1 ended state 1 suspended 0 handled 2 left 0 dead 1 restarts 0
+sent 3 handled 2 left 0 dead 1
+",
+        ),
+    ],
+};
+
 /// The watch was drained when the actor ended: its watcher is told.
 const STOPPED_AND_WATCHED: Tale = Tale {
     story: Story {
@@ -219,7 +242,13 @@ const WATCHES: &[Tale] = &[
     STOPPED_AND_WATCHED,
 ];
 
-const ENDS: &[Tale] = &[LAST_WORDS, TALKATIVE, TOLD_TOO_LATE, GUARDIAN_STOPPED];
+const ENDS: &[Tale] = &[
+    POISONED,
+    LAST_WORDS,
+    TALKATIVE,
+    TOLD_TOO_LATE,
+    GUARDIAN_STOPPED,
+];
 
 #[test]
 fn who_watches_is_told_turn_by_turn(rt: HostRuntime) {

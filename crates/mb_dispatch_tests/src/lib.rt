@@ -30,6 +30,8 @@ mod orders;
 #[cfg(test)]
 mod refused;
 #[cfg(test)]
+mod retried;
+#[cfg(test)]
 mod seen;
 #[cfg(test)]
 mod shown;
