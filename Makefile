@@ -16,8 +16,8 @@ examples: $(PROGRAM)
 	@tools/check_examples $(PROGRAM)
 
 # The gate: the list of definitions, the worked runs, the examples, every proof from nothing, the must-fail edits, the tests, the
-# program by two compilers, the program as a user runs it, also on worker threads and on what it has to refuse, and random scenarios
-# beside a second reader.
+# program by two compilers, the program as a user runs it, also on worker threads, on what it has to refuse and on scenarios whose
+# outcome was worked out by hand, and random scenarios beside a second reader.
 test:
 	tools/check_definitions
 	tools/check_worked_runs
@@ -28,6 +28,7 @@ test:
 	tools/check_worked_runs $(PROGRAM)
 	tools/check_examples $(PROGRAM)
 	tools/check_refusals $(PROGRAM)
+	tools/check_scenarios $(PROGRAM)
 	tools/check_workers $(PROGRAM)
 	tools/compare_with_a_model $(PROGRAM)
 
