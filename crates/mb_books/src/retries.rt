@@ -57,6 +57,10 @@ fn count_asked(limit: usize, children: &[ActorId], asked: &[ActorId]) -> usize
 fn is_permitted(limit: usize, child: ActorId, asked: &[ActorId]) -> bool
     ensures { result ≡ permits (pos limit) (times_in asked.now child + 1) }
 {
+    // Where fewer requests were made in all than the limit allows one child, nobody's have to be counted.
+    if asked.len() < limit {
+        return true;
+    }
     times_of(child, asked) < limit
 }
 
