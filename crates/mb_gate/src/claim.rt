@@ -15,9 +15,13 @@ use mb_status::Status;
 pub struct Claim<H> {
     /// The cell, and what is kept beside it.
     pub home: H,
+    /// The actor that it is of.
     pub(crate) actor: ActorId,
+    /// The actor's status, as its word says.
     pub(crate) status: Status,
+    /// The seat at the gates' table that has the cell out.
     pub(crate) seat: Seat<Slot<H>, Knowledge>,
+    /// What was said in its run, for proofs alone.
     pub(crate) says: Sayings,
     ghost has: { seat.me.0.claim ≡ Some (held_in seat.me.0) },
     ghost of: { (held_in seat.me.0).actor ≡ actor.0 },

@@ -18,10 +18,15 @@ use std::snapshot::Snapshot;
 /// threads may share gates of homes that go from thread to thread and are never shared.
 #[repr(C)]
 pub struct Gates<H: Resident> {
+    /// Room that nobody reads or writes.
     pub(crate) before: [u64; 8],
+    /// The words and slots of all actors, under one rule.
     pub(crate) table: Table<Slot<H>, Knowledge, Key<H>, Law<H>, Global>,
+    /// How many actors there are.
     pub(crate) actors: usize,
+    /// The home with which the first of them began, for proofs alone.
     pub(crate) first: Snapshot<H>,
+    /// Room that nobody reads or writes.
     pub(crate) after: [u64; 8],
     ghost wide: { table.shared.table_id.words ≡ 16 * actors },
     ghost deep: { table.shared.table_id.slots ≡ 2 * actors },

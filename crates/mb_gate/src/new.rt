@@ -18,6 +18,7 @@ use std::snapshot::Snapshot;
 /// There was no memory. The homes come back.
 #[derive(Drop)]
 pub struct NoGates<H> {
+    /// The homes that were handed in, in their order.
     pub homes: Vec<H>,
 }
 

@@ -12,6 +12,7 @@ use atomic_table::Seat;
 /// share of one whole: who has taken in all other passes has the whole, and knows that no other is there.
 #[derive(Drop)]
 pub struct Pass<H> {
+    /// A seat at the gates' table, which has nothing out.
     pub(crate) seat: Seat<Slot<H>, Knowledge>,
     ghost holds_nothing: { (seat.me.1 ≡ []) × (seat.me.0.claim ≡ None) × (seat.me.0.list ≡ None) },
     ghost shares: { is_some_item seat.me.0.share ≡ true },

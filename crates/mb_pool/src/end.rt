@@ -17,10 +17,13 @@ use std::sync::Wait;
 /// A worker's end of a pool. Contracts see of which gates its claims are, in which places it looks, in order, and what was
 /// pushed and taken by way of it in each.
 pub struct WorkerEnd<H: Resident> {
-    // Ends lie beside one another in a list, and each writes its own.
+    /// Room: ends lie beside one another in a list, and each writes its own.
     pub(crate) before: Apart,
+    /// Its port of the place that all share.
     pub(crate) door: Door<H>,
+    /// What it has beside that in a stealing pool.
     pub(crate) member: Option<Member<H>>,
+    /// Room, as before.
     pub(crate) behind: Apart,
 }
 
@@ -97,6 +100,7 @@ impl<H: Resident> WorkerEnd<H> {
     }
 }
 
+/// Puts the claim last: into the end's own deque, if it has one, else into the place that all share.
 fn push_first<H: Resident, R: Wait>(
     rt: &R,
     door: &mut Door<H>,
@@ -121,6 +125,7 @@ fn push_first<H: Resident, R: Wait>(
     }
 }
 
+/// Takes the first claim of the first place that has one, in the order in which the end looks.
 fn take_first<H: Resident, R: Wait>(
     rt: &R,
     door: &mut Door<H>,

@@ -14,6 +14,7 @@ use std::sync::Wait;
 
 /// A way into a pool from outside its workers. Contracts see of which gates its claims are, and what was pushed by way of it.
 pub struct Feed<H: Resident> {
+    /// Its port of the place that all share.
     pub(crate) door: Door<H>,
 }
 

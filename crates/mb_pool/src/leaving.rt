@@ -21,8 +21,11 @@ use std::sync::Wait;
 /// There was no memory to end the pool. All of it comes back as it was.
 #[derive(Drop)]
 pub struct NotLeft<H: Resident> {
+    /// The pool.
     pub pool: Pool<H>,
+    /// Its ends, in the order of their numbers.
     pub ends: Vec<WorkerEnd<H>>,
+    /// Its feeds, in the order in which they were given.
     pub feeds: Vec<Feed<H>>,
 }
 
