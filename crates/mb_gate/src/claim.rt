@@ -11,7 +11,8 @@ use atomic_table::Seat;
 use mb_msg::ActorId;
 use mb_status::Status;
 
-/// The one claim of an actor that a worker holds, with what lies at its home otherwise. It has to be spent.
+/// The one claim of an actor that a worker holds, with what lies at its home otherwise. It has to be spent. (This project's own
+/// profile: `akka.dispatch.Dispatcher.registerForExecution` hands the mailbox itself to an executor.)
 pub struct Claim<H> {
     /// The cell, and what is kept beside it.
     pub home: H,
@@ -48,7 +49,7 @@ impl<H> Claim<H> {
 }
 
 impl<H: Drop> Claim<H> {
-    /// Gives the claim up. Its actor is held for good: nobody can schedule it any more.
+    /// Gives the claim up. Its actor is held for good: nobody can schedule it any more (this project's own profile).
     pub fn abandon(self) {
         let Claim {
             home: _,

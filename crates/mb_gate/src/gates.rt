@@ -11,7 +11,8 @@ use atomic_table::Table;
 use std::alloc::Global;
 use std::snapshot::Snapshot;
 
-/// The status words, cells at home, waiting counts and list gates of some actors. Threads share it.
+/// The status words, cells at home, waiting counts and list gates of some actors. Threads share it. (In Akka each mailbox has its own
+/// status and system messages, `akka.dispatch.Mailbox`; that they lie in one table, and the counts, are this project's own profile.)
 ///
 /// It has room before and behind: wherever it lies, nothing else lies in one line of a processor's memory with what each
 /// step reads of it, so that no writes beside it slow the steps of other processors. Of a home it keeps a memory alone, so that

@@ -15,7 +15,7 @@ use std::marker::Model;
 use std::sync::Wait;
 
 /// A worker's end of a pool. Contracts see of which gates its claims are, in which places it looks, in order, and what was
-/// pushed and taken by way of it in each.
+/// pushed and taken by way of it in each. (In Akka a thread of the executor's; that it has an end is this project's own profile.)
 pub struct WorkerEnd<H: Resident> {
     /// Room: ends lie beside one another in a list, and each writes its own.
     pub(crate) before: Apart,

@@ -13,6 +13,7 @@ use std::marker::Model;
 use std::sync::Wait;
 
 /// A way into a pool from outside its workers. Contracts see of which gates its claims are, and what was pushed by way of it.
+/// (This project's own profile: in Akka any thread calls the executor.)
 pub struct Feed<H: Resident> {
     /// Its port of the place that all share.
     pub(crate) door: Door<H>,

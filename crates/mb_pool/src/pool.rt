@@ -20,7 +20,8 @@ use std::alloc::{AllocError, Global};
 use std::marker::Model;
 use std::snapshot::Snapshot;
 
-/// A pool of claims. Contracts see of which gates its claims are, its places, and how many ends and feeds it has.
+/// A pool of claims: the run queue of an executor (`akka.dispatch.ExecutorServiceConfigurator`). Contracts see of which gates its claims
+/// are, its places, and how many ends and feeds it has.
 pub struct Pool<H: Resident> {
     /// How many actors there are, and so how many claims at most.
     pub(crate) actors: usize,
