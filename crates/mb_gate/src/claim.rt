@@ -33,14 +33,14 @@ pub struct Claim<H> {
 }
 
 impl<H> Claim<H> {
-    /// The actor that it is of.
+    /// The actor that it is of (`akka.dispatch.Mailbox.actor`).
     pub fn actor(&self) -> ActorId
         ensures { result.0 ≡ self.now.actor.0 }
     {
         self.actor
     }
 
-    /// The actor's status, which no other seat changes.
+    /// The actor's status, which no other seat changes (`akka.dispatch.Mailbox.currentStatus`).
     pub fn status(&self) -> Status
         ensures { result ≡ self.now.status }
     {

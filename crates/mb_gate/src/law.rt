@@ -11,7 +11,7 @@ use crate::view::Knowledge;
 use atomic_table::{Join, Play, Split, TableRule};
 use std::marker::PhantomData;
 
-/// The rule of the gates' table.
+/// The rule of the gates' table (this project's own profile, as are its steps; those of a mailbox are in `akka.dispatch.Mailbox`).
 pub struct Law<H> {
     resident: PhantomData<H>,
 }

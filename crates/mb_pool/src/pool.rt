@@ -79,7 +79,8 @@ impl<H: Resident> Model for Pool<H> {
 
 impl<H: Resident> Pool<H> {
     /// A pool of this kind for the claims of these gates, with so many workers' ends, in the order of their numbers, and so many
-    /// feeds. Ends and feeds are values that a thread of their own may have. Without memory for all of it there is no pool.
+    /// feeds. Ends and feeds are values that a thread of their own may have (in Akka an `ExecutorServiceConfigurator` makes the
+    /// executor). Without memory for all of it there is no pool.
     pub fn new(
         alloc: Global,
         gates: &Gates<H>,
