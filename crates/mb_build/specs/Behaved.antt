@@ -1,4 +1,4 @@
--- Actors that are handed in for a system's numbers.
+-- Actors that are handed in for a system's numbers (this project's own profile: Akka makes them by `akka.actor.Props`).
 use Rattle.std.specs.Prelude.{◌≡◌, ℕ, ◌+◌, ℤ, List, [], ◌∷◌}
 use Rattle.mb_actor.specs.Behaviour.{AllowsSame, Moment, Reply}
 use Rattle.mb_actor.specs.declared.message.Message.{Message}

@@ -1,4 +1,4 @@
--- The passes of senders, handed out queue by queue.
+-- The passes of senders, handed out queue by queue (this project's own profile).
 use Rattle.std.specs.Prelude.{ℕ, List, [], ◌∷◌, ◌++◌, map}
 use Rattle.mb_queue.specs.Made.{unused}
 use Rattle.mb_queue.specs.Passes.{Sending, Taking}

@@ -1,4 +1,4 @@
--- What a system begins with: the homes of its actors, and the passes of the senders outside.
+-- What a system begins with: the homes of its actors, and the passes of the senders outside (this project's own profile).
 use Rattle.std.specs.Prelude.{◌≡◌, ℕ, ◌+◌, List, [], ◌∷◌, length, map, slice_get, Some}
 use Rattle.std.specs.Global.{Box}
 use Rattle.mb_msg.specs.Limits.{most_actors}

@@ -1,4 +1,4 @@
--- The queues of a system as they begin.
+-- The queues of a system as they begin (`akka.dispatch.MailboxType.create`; that all are made at once is this project's own profile).
 use Rattle.std.specs.Prelude.{◌≡◌, ℕ, ◌+◌, List, [], ◌∷◌, map}
 use Rattle.mb_lane.specs.Ledger.{lent}
 use Rattle.mb_queue.specs.declared.kind.Kind.{Kind}

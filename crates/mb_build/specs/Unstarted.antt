@@ -1,4 +1,4 @@
--- The cells of a system as they begin.
+-- The cells of a system as they begin (`akka.actor.ActorCell`, before its Create).
 use Rattle.std.specs.Prelude.{[], false}
 use Rattle.mb_cell.specs.Seen.{Seen}
 use Rattle.mb_journal.specs.Identity.{Identity}

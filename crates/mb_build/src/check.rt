@@ -13,7 +13,7 @@ const WORKERS: u32 = 16;
 /// How many envelopes a mailbox with a bound holds at most.
 const CAPACITY: u32 = 65_536;
 
-/// Why no system can be built from a plan.
+/// Why no system can be built from a plan (this project's own profile).
 #[derive(Clone, Copy, Debug, PartialEq, Eq)]
 pub enum PlanError {
     /// It has more than 63 actors.
@@ -32,7 +32,7 @@ pub enum PlanError {
     JournalLimit,
 }
 
-/// Whether a system of this plan can be built with so many actors; if not, the first reason of all.
+/// Whether a system of this plan can be built with so many actors; if not, the first reason of all (this project's own profile).
 pub fn check_plan(plan: &Plan, actors: usize) -> Result<(), PlanError>
     ensures { MatchResult result (λ _. reasons plan.now actors ≡ [])
         (λ reason. (rest : List PlanError) × (reasons plan.now actors ≡ reason ∷ rest)) }

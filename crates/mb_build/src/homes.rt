@@ -26,7 +26,7 @@ use std::alloc::{AllocError, Global};
 use std::snapshot::Snapshot;
 use std::vec;
 
-/// What a system begins with.
+/// What a system begins with (this project's own profile).
 pub struct Housed<A: Actor, K: Behaviours> {
     /// The homes of all actors by number, the guardian's first.
     pub homes: Vec<Box<Home<A, K>>>,

@@ -1,4 +1,5 @@
-//! What a system of actors begins with: the plan is checked, and each actor gets its queue, its cell and its home.
+//! What a system of actors begins with: the plan is checked, and each actor gets its queue, its cell and its home (in Akka
+//! `akka.actor.ActorCell` and its mailbox; plans and homes are this project's own profile).
 //!
 //! The first reason for which a plan is refused is the answer. The homes are the plan's: each of its actor's number, parent,
 //! children, strategy and limit, over an actor handed in that does what is said of that number, with an empty queue of its kind

@@ -17,7 +17,9 @@ use std::alloc::{AllocError, Global};
 /// its passes into the queues from actor 1 on.
 #[derive(Drop)]
 pub(crate) struct Queues {
+    /// One for each actor, by number.
     pub(crate) takes: Vec<TakePass>,
+    /// One list for each sender, in the order of their numbers.
     pub(crate) senders: Vec<Vec<SendPass>>,
 }
 

@@ -1,4 +1,4 @@
--- What a claim's seat knows and has.
+-- What a claim's seat knows and has (this project's own profile: a dispatcher of Akka is handed the mailbox itself).
 use Rattle.std.specs.Prelude.{◌≡◌, ℕ, ◌%◌, ◌==◌, ◌⊎◌, Bool, true, false, ◌||◌, List, [], ◌∷◌, Option, Some, None}
 use Rattle.mb_journal.specs.Entry.{Entry}
 use Rattle.mb_status.specs.Mailbox.{Mailbox, word_of, idle}

@@ -1,4 +1,4 @@
--- What the gates leave at their end.
+-- What the gates leave at their end (this project's own profile).
 use Rattle.std.specs.Prelude.{◌≡◌, ◌≢◌, ◌⊎◌, ℕ, ◌+◌, ◌%◌, ◌<◌, Bool, false, List, length, Option, Some, None, slice_get, slice_set}
 use mathlib.Core.Option.{some}
 use lib.ListN.{get_elem?}

@@ -1,4 +1,5 @@
--- A list that a seat took out, and the words of its gate.
+-- A list that a seat took out, and the words of its gate (`akka.dispatch.SystemMessageQueue.systemEnqueue`, `systemDrain`; that a list
+-- has a gate is this project's own profile).
 use Rattle.std.specs.Prelude.{◌≡◌, ℕ, ◌+◌, ◌*◌, ◌/◌, ◌%◌, ◌==◌, Bool, false, ◌||◌, if◌then◌else◌, List, ◌∷◌, Some, is_some}
 use Rattle.atomic_table.specs.Table.{Me, rest}
 use Rattle.mb_syslist.specs.MessageList.{MessageList, numbered}

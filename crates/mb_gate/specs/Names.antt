@@ -1,4 +1,4 @@
--- How the calls of the gates are spoken of: no crate above needs a table, a seat or a rule.
+-- How the calls of the gates are spoken of: no crate above needs a table, a seat or a rule (this project's own profile).
 use Rattle.std.specs.Prelude.{◌≡◌, ℕ, Bool, List, [], ◌∷◌, ◌++◌}
 use Rattle.atomic_table.specs.Seated.{TableId}
 use Rattle.mb_status.specs.Mailbox.{Mailbox}

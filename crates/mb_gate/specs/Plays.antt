@@ -1,4 +1,5 @@
 -- What each step of the gates tells the seat that makes it. A step does not know its actor, so it is told of it by the word's place.
+-- (The steps are those of `akka.dispatch.Mailbox` and its `SystemMessageQueue`; what a seat knows is this project's own profile.)
 use Rattle.std.specs.Prelude.{◌≡◌, ◌≢◌, ℕ, ◌*◌, ◌/◌, ◌%◌, ◌==◌, Bool, false, not, IsTrue, List, [], ◌∷◌, Some, None, All}
 use mathlib.Core.Option.{some}
 use Rattle.atomic_table.specs.Table.{Me, Step, rest}

@@ -1,4 +1,4 @@
--- The rule of the gates' table: what holds of each actor between any two atomic steps.
+-- The rule of the gates' table: what holds of each actor between any two atomic steps (this project's own profile).
 use Rattle.std.specs.Prelude.{
   ◌≡◌,
   ◌⊎◌,

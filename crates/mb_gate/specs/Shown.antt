@@ -1,5 +1,5 @@
 -- The state of the machine that the table shows of an actor: its words, and all views by what they owe it. The envelopes are no part
--- of the table.
+-- of the table. (This project's own profile.)
 use Rattle.std.specs.Prelude.{◌≡◌, ◌≢◌, ◌↔◌, ◌⊎◌, ℕ, ◌^◌, ◌<◌, ◌≤◌, false, if◌then◌else◌, List, [], ◌++◌, length, map, Option, Some, None, IsNone}
 use mathlib.Core.Option.{some}
 use lib.ListN.{get_elem?}

@@ -1,4 +1,5 @@
--- The gates' words and slots as they begin: each actor's home with its status word, and an empty list.
+-- The gates' words and slots as they begin: each actor's home with its status word, and an empty list (this project's own profile:
+-- in Akka each mailbox has its own, `akka.dispatch.Mailbox`, and begins open).
 use Rattle.std.specs.Prelude.{◌≡◌, ℕ, false, IsTrue, List, [], ◌∷◌, ◌++◌}
 use Rattle.mb_status.specs.Mailbox.{Mailbox, word_of, is_possible}
 use Rattle.mb_syslist.specs.MessageList.{MessageList}

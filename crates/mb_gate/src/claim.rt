@@ -11,13 +11,18 @@ use atomic_table::Seat;
 use mb_msg::ActorId;
 use mb_status::Status;
 
-/// The one claim of an actor that a worker holds, with what lies at its home otherwise. It has to be spent.
+/// The one claim of an actor that a worker holds, with what lies at its home otherwise. It has to be spent. (This project's own
+/// profile: `akka.dispatch.Dispatcher.registerForExecution` hands the mailbox itself to an executor.)
 pub struct Claim<H> {
     /// The cell, and what is kept beside it.
     pub home: H,
+    /// The actor that it is of.
     pub(crate) actor: ActorId,
+    /// The actor's status, as its word says.
     pub(crate) status: Status,
+    /// The seat at the gates' table that has the cell out.
     pub(crate) seat: Seat<Slot<H>, Knowledge>,
+    /// What was said in its run, for proofs alone.
     pub(crate) says: Sayings,
     ghost has: { seat.me.0.claim ≡ Some (held_in seat.me.0) },
     ghost of: { (held_in seat.me.0).actor ≡ actor.0 },
@@ -28,14 +33,14 @@ pub struct Claim<H> {
 }
 
 impl<H> Claim<H> {
-    /// The actor that it is of.
+    /// The actor that it is of (`akka.dispatch.Mailbox.actor`).
     pub fn actor(&self) -> ActorId
         ensures { result.0 ≡ self.now.actor.0 }
     {
         self.actor
     }
 
-    /// The actor's status, which no other seat changes.
+    /// The actor's status, which no other seat changes (`akka.dispatch.Mailbox.currentStatus`).
     pub fn status(&self) -> Status
         ensures { result ≡ self.now.status }
     {
@@ -44,7 +49,7 @@ impl<H> Claim<H> {
 }
 
 impl<H: Drop> Claim<H> {
-    /// Gives the claim up. Its actor is held for good: nobody can schedule it any more.
+    /// Gives the claim up. Its actor is held for good: nobody can schedule it any more (this project's own profile).
     pub fn abandon(self) {
         let Claim {
             home: _,

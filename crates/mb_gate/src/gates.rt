@@ -11,17 +11,23 @@ use atomic_table::Table;
 use std::alloc::Global;
 use std::snapshot::Snapshot;
 
-/// The status words, cells at home, waiting counts and list gates of some actors. Threads share it.
+/// The status words, cells at home, waiting counts and list gates of some actors. Threads share it. (In Akka each mailbox has its own
+/// status and system messages, `akka.dispatch.Mailbox`; that they lie in one table, and the counts, are this project's own profile.)
 ///
 /// It has room before and behind: wherever it lies, nothing else lies in one line of a processor's memory with what each
 /// step reads of it, so that no writes beside it slow the steps of other processors. Of a home it keeps a memory alone, so that
 /// threads may share gates of homes that go from thread to thread and are never shared.
 #[repr(C)]
 pub struct Gates<H: Resident> {
+    /// Room that nobody reads or writes.
     pub(crate) before: [u64; 8],
+    /// The words and slots of all actors, under one rule.
     pub(crate) table: Table<Slot<H>, Knowledge, Key<H>, Law<H>, Global>,
+    /// How many actors there are.
     pub(crate) actors: usize,
+    /// The home with which the first of them began, for proofs alone.
     pub(crate) first: Snapshot<H>,
+    /// Room that nobody reads or writes.
     pub(crate) after: [u64; 8],
     ghost wide: { table.shared.table_id.words ≡ 16 * actors },
     ghost deep: { table.shared.table_id.slots ≡ 2 * actors },

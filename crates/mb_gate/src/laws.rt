@@ -1,3 +1,4 @@
+//! What holds at the gates between any two atomic steps (this project's own profile).
 ghost use Rattle.mb_gate.specs.Shown.{MakesWhole, ShowsMachine, ShowsClaims, ShowsSeen, ShowsClosed, ShowsUnclaimed, ShowsBalance, ShowsNumbers, ReleasesAlike};
 
 use crate::resident::Resident;

@@ -3,16 +3,23 @@ ghost use Rattle.mb_rule.specs.Layout.{word_at, slot_at};
 
 use mb_msg::ActorId;
 
+/// A word: how many envelopes are counted as waiting, modulo 2^64.
 pub const WAITING: usize = 0;
 
+/// A word: 1 once the cell of a closed actor went home for good, else 0.
 pub const FLAG: usize = 7;
 
+/// A word: the mailbox's status, 1 where it is closed, else four times its suspensions and 2 more where it is scheduled.
 pub const STATUS: usize = 8;
 
+/// A word: the gate of the list, 1 while the list is out, 2 where something is listed, 4 where the last drain gave something,
+/// and 8 once it is ended, added up.
 pub const GATE: usize = 9;
 
+/// A slot: the actor's home, nothing while a claim has it.
 pub const CELL: usize = 0;
 
+/// A slot: the list of system messages, nothing while a seat has it out.
 pub const LIST: usize = 1;
 
 /// Where a word of an actor lies: it has sixteen, two lines of a processor's memory. Wherever the first actor's begin (at an

@@ -206,7 +206,8 @@ impl<H: Resident> Gates<H> {
         }
     }
 
-    /// The same in the run of a claim, which is lent beside the pass: what was said stands in its record then.
+    /// The same in the run of a claim, which is lent beside the pass: what was said stands in its record then (this project's own
+    /// profile).
     pub fn sys_enqueue_in_run<R: Wait>(
         &self,
         rt: &R,

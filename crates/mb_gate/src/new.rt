@@ -15,9 +15,10 @@ use mb_syslist::SysList;
 use std::alloc::{AllocError, Global};
 use std::snapshot::Snapshot;
 
-/// There was no memory. The homes come back.
+/// There was no memory. The homes come back (this project's own profile).
 #[derive(Drop)]
 pub struct NoGates<H> {
+    /// The homes that were handed in, in their order.
     pub homes: Vec<H>,
 }
 
@@ -25,7 +26,8 @@ impl<H: Resident> Gates<H> {
     /// The gates of as many actors as there are homes, the first with the number 0, with an empty list each; and a pass,
     /// which knows nothing and owes nothing. Each actor's status is the one that its home says.
     ///
-    /// It answers `NoGates` with the homes if memory was refused.
+    /// It answers `NoGates` with the homes if memory was refused. (This project's own profile: Akka makes each mailbox with its cell,
+    /// `akka.dispatch.Dispatcher.createMailbox`.)
     pub fn new(alloc: Global, homes: Vec<H>) -> Result<(Gates<H>, Pass<H>), NoGates<H>>
         requires some { 0 < vec_len homes }
         requires few { vec_len homes ≤ 4294967296 }

@@ -9,9 +9,11 @@ use atomic_table::Seat;
 /// The right to step on the words of the gates. Each thread has one of its own; a second one is split off it.
 ///
 /// It has no bytes. What it knows exists in clauses alone: what was read and seen of each actor, what it owes each, and its
-/// share of one whole: who has taken in all other passes has the whole, and knows that no other is there.
+/// share of one whole: who has taken in all other passes has the whole, and knows that no other is there. (This project's own
+/// profile.)
 #[derive(Drop)]
 pub struct Pass<H> {
+    /// A seat at the gates' table, which has nothing out.
     pub(crate) seat: Seat<Slot<H>, Knowledge>,
     ghost holds_nothing: { (seat.me.1 ≡ []) × (seat.me.0.claim ≡ None) × (seat.me.0.list ≡ None) },
     ghost shares: { is_some_item seat.me.0.share ≡ true },

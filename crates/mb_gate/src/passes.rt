@@ -10,7 +10,8 @@ use crate::resident::Resident;
 use std::mem;
 
 impl<H: Resident> Gates<H> {
-    /// A second pass, which knows and owes what this one does. What this one counted as sent and as refused stays its own.
+    /// A second pass, which knows and owes what this one does. What this one counted as sent and as refused stays its own (this
+    /// project's own profile).
     pub fn another(&self, pass: &mut Pass<H>) -> Pass<H>
         requires ours { pass_id pass.old ≡ gates_id self.now }
         ensures ours { (pass_id pass.new ≡ pass_id pass.old) × (pass_id result ≡ pass_id pass.old) }
@@ -20,7 +21,7 @@ impl<H: Resident> Gates<H> {
         Pass { seat }
     }
 
-    /// A second pass, which knows nothing and owes nothing.
+    /// A second pass, which knows nothing and owes nothing (this project's own profile).
     pub fn apart(&self, pass: &mut Pass<H>) -> Pass<H>
         requires ours { pass_id pass.old ≡ gates_id self.now }
         ensures ours { (pass_id pass.new ≡ pass_id pass.old) × (pass_id result ≡ pass_id pass.old) }
@@ -31,7 +32,7 @@ impl<H: Resident> Gates<H> {
         Pass { seat }
     }
 
-    /// A pass takes over what another has seen and what it owes; what it said itself stays its own.
+    /// A pass takes over what another has seen and what it owes; what it said itself stays its own (this project's own profile).
     pub fn absorb(&self, pass: &mut Pass<H>, other: Pass<H>)
         requires ours { (pass_id pass.old ≡ gates_id self.now) × (pass_id other ≡ gates_id self.now) }
         ensures ours { pass_id pass.new ≡ pass_id pass.old }

@@ -19,7 +19,7 @@ use mb_msg::ActorId;
 use mb_status::Status;
 
 impl<H: Resident> Gates<H> {
-    /// How many actors there are.
+    /// How many actors there are (this project's own profile).
     pub fn actors(&self) -> usize
         ensures { result ≡ actors_of self.now }
     {

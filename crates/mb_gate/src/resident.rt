@@ -5,7 +5,8 @@ ghost use Rattle.mb_journal.specs.Identity.{Identity};
 
 use mb_status::Status;
 
-/// What lies at home while nobody holds its actor: the cell, and what is kept beside it.
+/// What lies at home while nobody holds its actor: the cell (`akka.actor.ActorCell`), and what is kept beside it (this project's own
+/// profile).
 pub trait Resident: Drop {
     // whether it is this actor's own, where the gates began with that first home: of the actor's number and identity, with its queues
     ghost is_of: { Self → ℕ → Self → Type 0 };

@@ -8,7 +8,9 @@ use std::snapshot::Snapshot;
 /// What was said, the newest first. No value of it is kept: it is what a snapshot remembers.
 #[derive(Drop)]
 pub enum Past {
+    /// Nothing was said yet.
     Nothing,
+    /// After what was said before: to whom, which message, and whether its list was ended.
     Then(Snapshot<Past>, ActorId, SysMsg, bool),
 }
 

@@ -25,7 +25,7 @@ use mb_status::Status;
 use std::mem;
 use std::snapshot::Snapshot;
 
-/// What became of a try to schedule an actor.
+/// What became of a try to schedule an actor (`Mailbox.setAsScheduled`, which answers whether it won).
 pub enum Tried<H> {
     /// The claim is the caller's.
     Got(Claim<H>),

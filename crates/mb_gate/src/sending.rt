@@ -17,7 +17,8 @@ use atomic_table::Seat;
 use mb_msg::ActorId;
 
 impl<H: Resident> Gates<H> {
-    /// Counts an envelope that is about to be queued. From now on the pass owes the actor a look.
+    /// Counts an envelope that is about to be queued. From now on the pass owes the actor a look. (This project's own profile:
+    /// Akka keeps no count, and `akka.dispatch.Mailbox.hasMessages` asks the queue.)
     pub fn note_sent(&self, pass: &mut Pass<H>, id: ActorId)
         requires ours { pass_id pass.old ≡ gates_id self.now }
         requires there { id.0 < actors_of self.now }
@@ -39,7 +40,7 @@ impl<H: Resident> Gates<H> {
             .fetch_add::<Send>(seat, word_index(id, WAITING), 1);
     }
 
-    /// Takes back what `note_sent` counted, since the envelope was refused.
+    /// Takes back what `note_sent` counted, since the envelope was refused (this project's own profile).
     pub fn note_unsent(&self, pass: &mut Pass<H>, id: ActorId)
         requires ours { pass_id pass.old ≡ gates_id self.now }
         requires there { id.0 < actors_of self.now }
@@ -62,7 +63,7 @@ impl<H: Resident> Gates<H> {
             .fetch_sub::<Unsend>(seat, word_index(id, WAITING), 1);
     }
 
-    /// Counts an envelope of the claim's actor as taken.
+    /// Counts an envelope of the claim's actor as taken (this project's own profile).
     pub fn note_taken(&self, claim: &mut Claim<H>)
         requires ours { claim_id claim.old ≡ gates_id self.now }
         requires there { held_actor claim.old < actors_of self.now }

@@ -5,8 +5,11 @@ use std::snapshot::Snapshot;
 /// What lies in a slot of the table: an actor's home or its list, or nothing while a seat has that out.
 #[derive(Drop)]
 pub enum Slot<H> {
+    /// Nothing: a seat has it out.
     Empty,
+    /// An actor's home.
     Home(H),
+    /// An actor's list of system messages.
     List(SysList),
     /// A message that found its list ended. It lies in no slot: a step is told of it.
     Note(SysMsg),

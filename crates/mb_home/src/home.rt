@@ -118,6 +118,7 @@ impl<A: Actor, K: Behaviours> Home<A, K> {
         ensures settled { IsSettled (K.gives cell.who.this.0) [] result }
         ensures rested { IsRested result }
     {
+        // Its contract shows that the journal is lawful, and that its limit is a number of 32 bits.
         let _ = cell.journal();
         Self::unused(alloc, id, cell, take, sends, roll)
     }

@@ -16,6 +16,7 @@ use std::sync::Wait;
 
 /// The kit's unbounded queue under the lane's rule.
 pub struct Blocks {
+    /// The queue itself.
     pub queue: RuledSegQueue<Envelope, Ledger, Accounted>,
 }
 
@@ -30,6 +31,7 @@ impl Drop for Blocks {
 }
 
 impl Blocks {
+    /// An empty lane, and the taker's pass, before it is settled which envelopes the lane has.
     pub fn new(alloc: Global) -> Result<(Blocks, BlocksPass), AllocError>
         ensures { IfOk result (λ r. IsSegPassOf r.0.queue r.1 × IsUnused r.1.me.view.client) }
     {
@@ -37,6 +39,7 @@ impl Blocks {
         Ok((Blocks { queue }, pass))
     }
 
+    /// Puts the envelope last, or answers `NoMemory`.
     #[inline(always)]
     pub fn push<R: Wait>(
         &self,
@@ -56,6 +59,7 @@ impl Blocks {
         }
     }
 
+    /// Takes the first envelope. `None` only if the lane was empty at a moment of the call.
     #[inline(always)]
     pub fn take<R: Wait>(&self, rt: &R, pass: &mut BlocksPass) -> Option<Envelope>
         requires queue { IsSegPassOf self.now.queue pass.old }
@@ -74,6 +78,7 @@ impl Blocks {
         ensures queue { IsSegPassOf self.now.queue pass.new }
         ensures opened { pass.new.me.view.client ≡ Taker S.scope [] [] }
     {
+        // The step settles what this pass knows. The second pass that it splits off is spent, and is let go.
         let _ = self.queue.another::<Opens<S>>(pass);
     }
 

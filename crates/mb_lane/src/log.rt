@@ -8,7 +8,9 @@ use std::snapshot::Snapshot;
 /// What came so far, the newest in front. It is only ever seen through a snapshot.
 #[derive(Drop)]
 pub enum Past<T> {
+    /// Nothing came yet.
     Nothing,
+    /// This came, after what came before.
     Then(Snapshot<Past<T>>, T),
 }
 

@@ -17,7 +17,9 @@ use std::sync::{Arc, Wait};
 /// The kit's queue, which all ports of the lane share, and what this one knows of it.
 #[derive(Drop)]
 enum End {
+    /// Of a lane without a bound.
     Unbounded(Arc<Blocks, Global>, BlocksPass),
+    /// Of a lane with a bound.
     Bounded(Arc<Slots, Global>, SlotsPass),
 }
 
@@ -109,11 +111,13 @@ impl Port {
         self.open_as::<Brand>(senders, to, part);
     }
 
+    /// The same under a brand that knows the senders, the actor and the part.
     fn open_as<S: Scoped>(&mut self, senders: &[SenderId], to: ActorId, part: Part)
         requires unused { IsUnused self.old.ledger }
         requires these { S.scope ≡ scope_of senders.now to.0 part }
         ensures { self.new ≡ record self.old { ledger = Taker (scope_of senders.now to.0 part) [] [] } }
     {
+        // The contract alone names them: `S` says what they are, so nothing of them is read.
         let _ = senders;
         let _ = to;
         let _ = part;
@@ -134,6 +138,7 @@ impl Port {
         self.lend_as::<Brand>(by)
     }
 
+    /// The same under a brand that knows the sender.
     fn lend_as<N: Named>(&mut self, by: SenderId) -> Result<Port, AllocError>
         requires may { MayLend by.0 self.old.ledger }
         requires this { N.by ≡ by.0 }
@@ -142,6 +147,7 @@ impl Port {
             × (port ≡ record self.old { ledger = borrowing by.0 self.old.ledger }))
             (λ _. self.new ≡ self.old) }
     {
+        // The contract alone names it: `N` says who it is.
         let _ = by;
         let end = match &mut self.end {
             End::Unbounded(blocks, pass) => {

@@ -17,6 +17,7 @@ use std::sync::Wait;
 #[derive(Drop)]
 /// The kit's bounded queue under the lane's rule.
 pub struct Slots {
+    /// The queue itself.
     pub queue: RuledArrayQueue<Envelope, Ledger, Accounted>,
 }
 
@@ -24,6 +25,7 @@ pub struct Slots {
 pub type SlotsPass = Pass<Envelope, Ledger>;
 
 impl Slots {
+    /// An empty lane for so many envelopes, and the taker's pass, before it is settled which envelopes the lane has.
     pub fn new(alloc: Global, capacity: usize) -> Result<(Slots, SlotsPass), AllocError>
         requires { 0 < capacity }
         ensures queue { IfOk result (λ r. IsPassOf r.0.queue r.1 × IsUnused (view r.1)) }
@@ -33,6 +35,7 @@ impl Slots {
         Ok((Slots { queue }, pass))
     }
 
+    /// Puts the envelope last, or answers `Full` where it was full at a moment of the call.
     #[inline(always)]
     pub fn push<R: Wait>(
         &self,
@@ -52,6 +55,7 @@ impl Slots {
         }
     }
 
+    /// Takes the first envelope. `None` only if the lane was empty at a moment of the call.
     #[inline(always)]
     pub fn take<R: Wait>(&self, rt: &R, pass: &mut SlotsPass) -> Option<Envelope>
         requires queue { IsPassOf self.now.queue pass.old }
@@ -70,6 +74,7 @@ impl Slots {
         ensures queue { IsPassOf self.now.queue pass.new }
         ensures opened { (view pass.new) ≡ Taker S.scope [] [] }
     {
+        // The step settles what this pass knows. The second pass that it splits off is spent, and is let go.
         let _ = self.queue.another::<Opens<S>>(pass);
     }
 

@@ -1,4 +1,4 @@
--- What a port of a place of claims knows.
+-- What a port of a place of claims knows (this project's own profile).
 use Rattle.mb_gate.specs.declared.claim.Claim.{Claim}
 use Rattle.mb_gate.specs.Untouched.{Origin}
 use Rattle.mb_pool.specs.Ledger.{Ledger}

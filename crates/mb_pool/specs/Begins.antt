@@ -1,4 +1,4 @@
--- How the ports of a new pool are made.
+-- How the ports of a new pool are made (this project's own profile).
 use Rattle.std.specs.Prelude.{◌≡◌, ℕ, ◌+◌, List, [], ◌++◌, length, map, take, drop, Option, Some, None}
 use Rattle.mb_pool.specs.declared.kind.Kind.{Kind}
 use Rattle.mb_pool.specs.declared.kind.Kind.TheVariants.{Shared, Stealing}

@@ -1,4 +1,4 @@
--- What is kept of a port of a deque, as contracts see it.
+-- What is kept of a port of a deque, as contracts see it (this project's own profile).
 use Rattle.std.specs.Prelude.{ℕ, None}
 use Rattle.crossbeam_deque.specs.Handles.{Pass, view, worker_deque, worker_view}
 use Rattle.crossbeam_deque.specs.declared.handles.Worker.{Worker}

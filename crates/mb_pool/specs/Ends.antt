@@ -1,4 +1,4 @@
--- How the ports of a pool are taken in, and its places are emptied.
+-- How the ports of a pool are taken in, and its places are emptied (this project's own profile).
 use Rattle.std.specs.Prelude.{◌≡◌, ℕ, ◌+◌, ◌<◌, ◌≤◌, List, [], ◌∷◌, ◌++◌, length, get_or, map, flat_map, sum_by, All, IsPermutation, Option}
 use Rattle.mb_gate.specs.declared.claim.Claim.{Claim}
 use Rattle.mb_pool.specs.Ledger.{claims_in, joining}

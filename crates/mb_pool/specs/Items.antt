@@ -1,4 +1,4 @@
--- What a queue of the pool holds.
+-- What a queue of the pool holds (this project's own profile).
 use Rattle.std.specs.Prelude.{List, map}
 use Rattle.mb_gate.specs.declared.claim.Claim.{Claim}
 use Rattle.mb_pool.specs.declared.parked.Parked.{Parked}

@@ -1,4 +1,4 @@
--- How a pool begins, and how it ends.
+-- How a pool begins, and how it ends (this project's own profile).
 use Rattle.std.specs.Prelude.{◌≡◌, ◌⊎◌, ◌<◌, ℕ, ◌+◌, List, [], ◌∷◌, ◌++◌, length, map, IsPermutation, Some, None}
 use Rattle.atomic_blocks.specs.Lent.{RowsId}
 use Rattle.mb_gate.specs.declared.claim.Claim.{Claim}

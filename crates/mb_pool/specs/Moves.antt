@@ -1,4 +1,5 @@
--- What the calls on an end or a feed tell.
+-- What the calls on an end or a feed tell (the run queue of the executor of `akka.dispatch.ExecutorServiceConfigurator`; that a full
+-- one gives the claim back is this project's own profile: in Akka it throws).
 use Rattle.std.specs.Prelude.{◌≡◌, ℕ, List, [], ◌∷◌, ◌++◌, length, All, Option, Some, None}
 use Rattle.mb_gate.specs.declared.claim.Claim.{Claim}
 use Rattle.mb_gate.specs.Untouched.{Origin}

@@ -1,4 +1,4 @@
--- What contracts see of a port of the place that all share.
+-- What contracts see of a port of the place that all share (this project's own profile).
 use Rattle.mb_pool.specs.declared.door.Door.{Door}
 use Rattle.mb_pool.specs.declared.door.Door.TheVariants.{Bounded, Unbounded}
 use Rattle.mb_pool.specs.Places.{Look}

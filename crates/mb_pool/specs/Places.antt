@@ -1,4 +1,4 @@
--- What contracts see of a pool, its ends and its feeds.
+-- What contracts see of a pool, its ends and its feeds (this project's own profile).
 use Rattle.std.specs.Prelude.{◌≡◌, ℕ, zero, suc, ◌+◌, List, [], ◌∷◌, ◌++◌, map, flat_map, take, drop, replicate, Option, Some}
 use Rattle.atomic_blocks.specs.Laid.{WebId}
 use Rattle.atomic_blocks.specs.Lent.{RowsId}

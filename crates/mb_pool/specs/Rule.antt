@@ -1,4 +1,4 @@
--- The rule of a place: what holds between any two steps of any threads.
+-- The rule of a place: what holds between any two steps of any threads (this project's own profile).
 use Rattle.std.specs.Prelude.{◌≡◌, ℕ, ◌<◌, ◌≤◌, List, [], ◌∷◌, ◌++◌, length, All, IsPermutation, flat_map, sum_by, Option}
 use Rattle.mb_pool.specs.Ledger.{Turn, turn, turns, Ledger, pushing, taking}
 

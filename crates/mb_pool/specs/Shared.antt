@@ -1,4 +1,4 @@
--- What is kept of a port of the kit's queues, as contracts see it.
+-- What is kept of a port of the kit's queues, as contracts see it (this project's own profile).
 use Rattle.std.specs.Prelude.{Some, None}
 use Rattle.crossbeam_queue.specs.Passes.{Pass, view, ruled_capacity}
 use Rattle.crossbeam_deque.specs.Injected.{InjectorPass, injector_view}

@@ -1,4 +1,4 @@
--- What is kept of an end and of a feed, as contracts see it.
+-- What is kept of an end and of a feed, as contracts see it (this project's own profile).
 use Rattle.std.specs.Prelude.{◌≡◌, ◌<◌, List, [], ◌∷◌, All, Option, Some, None}
 use Rattle.mb_pool.specs.declared.member.Member.{Member}
 use Rattle.mb_gate.specs.Untouched.{Origin}

@@ -1,4 +1,4 @@
--- What went into a pool.
+-- What went into a pool (this project's own profile).
 use Rattle.std.specs.Prelude.{List, take}
 use Rattle.mb_gate.specs.declared.claim.Claim.{Claim}
 use Rattle.mb_pool.specs.Places.{Way, looks, pushed_at}

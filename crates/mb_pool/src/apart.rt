@@ -9,6 +9,7 @@ pub struct Apart {
 }
 
 impl Apart {
+    /// Such memory.
     pub fn new() -> Apart {
         Apart { words: [0; 16] }
     }

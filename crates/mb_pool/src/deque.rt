@@ -17,6 +17,7 @@ const FIRST_SLOTS: usize = 64;
 
 /// The kit's deque under the rule of a place.
 pub struct Deque<H: Resident> {
+    /// The owner's handle of it.
     pub worker: Worker<Parked<H>, Global, Knowledge<H>, Accounted>,
 }
 
@@ -83,6 +84,7 @@ impl<H: Resident> Deque<H> {
             × (worker_flavor self.new.worker ≡ worker_flavor self.old.worker) }
         ensures opened { worker_view self.new.worker ≡ opened S.gates S.members S.members }
     {
+        // The step settles what the owner knows. The second pass that it splits off has no share, and is let go.
         let _ = self.worker.another::<Opens<S>>();
     }
 

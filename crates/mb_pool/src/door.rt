@@ -18,7 +18,9 @@ use std::sync::Wait;
 /// A port of the one place of a shared pool, or of the feeds' place of a stealing one.
 #[derive(Drop)]
 pub enum Door<H: Resident> {
+    /// The place of a shared pool.
     Bounded(SlotsPort<H>),
+    /// The feeds' place of a stealing pool.
     Unbounded(InletPort<H>),
 }
 
@@ -66,11 +68,13 @@ impl<H: Resident> Door<H> {
         self.open_as::<Brand>(gates, members);
     }
 
+    /// The same under a brand that knows the gates and how many shares there are.
     fn open_as<S: Scoped<H>>(&mut self, gates: &Gates<H>, members: usize)
         requires unused { (look_of self.old).ledger ≡ unused }
         requires these { (S.gates ≡ Some (origin_of gates.now)) × (S.members ≡ members) }
         ensures { look_of self.new ≡ record (look_of self.old) { ledger = opened (Some (origin_of gates.now)) members members } }
     {
+        // The contract alone names them: `S` says what they are, so nothing of them is read.
         let _ = gates;
         let _ = members;
         match self {

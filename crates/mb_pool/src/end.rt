@@ -15,12 +15,15 @@ use std::marker::Model;
 use std::sync::Wait;
 
 /// A worker's end of a pool. Contracts see of which gates its claims are, in which places it looks, in order, and what was
-/// pushed and taken by way of it in each.
+/// pushed and taken by way of it in each. (In Akka a thread of the executor's; that it has an end is this project's own profile.)
 pub struct WorkerEnd<H: Resident> {
-    // Ends lie beside one another in a list, and each writes its own.
+    /// Room: ends lie beside one another in a list, and each writes its own.
     pub(crate) before: Apart,
+    /// Its port of the place that all share.
     pub(crate) door: Door<H>,
+    /// What it has beside that in a stealing pool.
     pub(crate) member: Option<Member<H>>,
+    /// Room, as before.
     pub(crate) behind: Apart,
 }
 
@@ -55,7 +58,7 @@ impl<H: Resident> WorkerEnd<H> {
     /// Puts the claim last: in a shared pool into the one place, in a stealing one into the end's own deque. The claim is of
     /// the pool's gates, and nothing of it was changed since it was taken. Refused, it comes back and nothing has changed:
     /// `Full` only where all 64 places of a shared pool were taken at a moment of the call, `NoMemory` where a deque found no
-    /// memory to grow.
+    /// memory to grow. (In Akka a mailbox is given to the executor, by `Dispatcher.registerForExecution`.)
     #[inline]
     pub fn push<R: Wait>(&mut self, rt: &R, claim: Claim<H>) -> Result<(), Refused<H>>
         requires fit { IsUntouched H.is_of H.journal H.mailbox H.rested H.given H.closed_to (gates_of self.old) claim }
@@ -70,7 +73,8 @@ impl<H: Resident> WorkerEnd<H> {
 
     /// Takes the first claim of the first place that has one: in a shared pool of the one place; in a stealing one of the end's
     /// own deque, else of the feeds' place, else of the next ends' deques in order. It is of the pool's gates, and as it was at
-    /// the push. `None` only where each of these places was empty at a moment of the call, not all at the same.
+    /// the push. `None` only where each of these places was empty at a moment of the call, not all at the same. (In Akka the
+    /// executor's threads do so.)
     #[inline]
     pub fn take<R: Wait>(&mut self, rt: &R) -> Option<Claim<H>>
         ensures taken { MatchOption result
@@ -97,6 +101,7 @@ impl<H: Resident> WorkerEnd<H> {
     }
 }
 
+/// Puts the claim last: into the end's own deque, if it has one, else into the place that all share.
 fn push_first<H: Resident, R: Wait>(
     rt: &R,
     door: &mut Door<H>,
@@ -121,6 +126,7 @@ fn push_first<H: Resident, R: Wait>(
     }
 }
 
+/// Takes the first claim of the first place that has one, in the order in which the end looks.
 fn take_first<H: Resident, R: Wait>(
     rt: &R,
     door: &mut Door<H>,

@@ -13,7 +13,9 @@ use std::marker::Model;
 use std::sync::Wait;
 
 /// A way into a pool from outside its workers. Contracts see of which gates its claims are, and what was pushed by way of it.
+/// (This project's own profile: in Akka any thread calls the executor.)
 pub struct Feed<H: Resident> {
+    /// Its port of the place that all share.
     pub(crate) door: Door<H>,
 }
 
@@ -41,7 +43,8 @@ impl<H: Resident> Model for Feed<H> {
 impl<H: Resident> Feed<H> {
     /// Puts the claim last into the place that all ends look in. The claim is of the pool's gates, and nothing of it was
     /// changed since it was taken. Refused, it comes back and nothing has changed: `Full` only where all 64 places of a shared
-    /// pool were taken at a moment of the call, `NoMemory` where a stealing pool found no memory for it.
+    /// pool were taken at a moment of the call, `NoMemory` where a stealing pool found no memory for it. (In Akka a mailbox is given
+    /// to the executor, by `Dispatcher.registerForExecution`.)
     #[inline]
     pub fn push<R: Wait>(&mut self, rt: &R, claim: Claim<H>) -> Result<(), Refused<H>>
         requires fit { IsUntouched H.is_of H.journal H.mailbox H.rested H.given H.closed_to (gates_of self.old) claim }

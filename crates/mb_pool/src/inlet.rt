@@ -16,6 +16,7 @@ use std::sync::Wait;
 /// The kit's injector under the rule of a place.
 #[derive(Drop)]
 pub struct Inlet<H: Resident> {
+    /// The injector itself.
     pub queue: Injector<Parked<H>, Global, Knowledge<H>, Accounted>,
 }
 
@@ -23,6 +24,7 @@ pub struct Inlet<H: Resident> {
 pub type InletPass<H> = InjectorPass<Parked<H>, Knowledge<H>, Global>;
 
 impl<H: Resident> Inlet<H> {
+    /// An empty place without a bound, and its first port, before it is settled of which gates the claims are.
     pub fn new(alloc: Global) -> Result<(Inlet<H>, InletPass<H>), AllocError>
         ensures { IfOk result (λ r. IsInjectorPassOf r.0.queue r.1 × (injector_view r.1 ≡ unused)) }
     {
@@ -30,6 +32,7 @@ impl<H: Resident> Inlet<H> {
         Ok((Inlet { queue }, pass))
     }
 
+    /// Puts the claim last, or gives it back for want of memory.
     #[inline]
     pub fn push<R: Wait>(
         &self,
@@ -52,6 +55,7 @@ impl<H: Resident> Inlet<H> {
         }
     }
 
+    /// Takes the first claim. `None` only if the place was empty at a moment of the call.
     #[inline]
     pub fn take<R: Wait>(&self, rt: &R, pass: &mut InletPass<H>) -> Option<Claim<H>>
         requires queue { IsInjectorPassOf self.now.queue pass.old }
@@ -80,6 +84,7 @@ impl<H: Resident> Inlet<H> {
         ensures queue { IsInjectorPassOf self.now.queue pass.new }
         ensures opened { injector_view pass.new ≡ opened S.gates S.members S.members }
     {
+        // The step settles what this pass knows. The second pass that it splits off has no share, and is let go.
         let _ = self.queue.another::<Opens<S>>(pass);
     }
 

@@ -107,6 +107,7 @@ impl<H: Resident> InletPort<H> {
     pub fn has_none(&self)
         ensures { self.now.spot.capacity ≡ None }
     {
+        // A look at a field shows the proof what holds of each port.
         let _ = &self.pass;
     }
 }

@@ -18,17 +18,20 @@ use mb_gate::{Claim, Resident};
 use std::alloc::Global;
 use std::sync::Wait;
 
-/// There was no memory to end the pool. All of it comes back as it was.
+/// There was no memory to end the pool. All of it comes back as it was (this project's own profile).
 #[derive(Drop)]
 pub struct NotLeft<H: Resident> {
+    /// The pool.
     pub pool: Pool<H>,
+    /// Its ends, in the order of their numbers.
     pub ends: Vec<WorkerEnd<H>>,
+    /// Its feeds, in the order in which they were given.
     pub feeds: Vec<Feed<H>>,
 }
 
 /// Ends a pool, whose ends and feeds are all given, the ends in the order of their numbers: the claims that were pushed and not
 /// taken, each once and as it was pushed. It asks for memory for as many claims as there are actors, and for no other; where
-/// that is refused, all comes back as it was.
+/// that is refused, all comes back as it was (this project's own profile).
 pub fn remaining<H: Resident, R: Wait>(
     rt: &R,
     alloc: Global,

@@ -15,7 +15,9 @@ use std::sync::Wait;
 /// Its own deque, and its ways into those of the next ends in order.
 #[derive(Drop)]
 pub struct Member<H: Resident> {
+    /// The deque to which the end pushes.
     pub own: Own<H>,
+    /// The ways into the deques of the ends behind it, and then of those before it.
     pub thieves: Vec<Thief<H>>,
 }
 

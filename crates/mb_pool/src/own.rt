@@ -84,11 +84,13 @@ impl<H: Resident> Own<H> {
         self.open_as::<Brand>(gates, members);
     }
 
+    /// The same under a brand that knows the gates and how many shares there are.
     fn open_as<S: Scoped<H>>(&mut self, gates: &Gates<H>, members: usize)
         requires unused { self.old.ledger ≡ unused }
         requires these { (S.gates ≡ Some (origin_of gates.now)) × (S.members ≡ members) }
         ensures { self.new ≡ record self.old { ledger = opened (Some (origin_of gates.now)) members members } }
     {
+        // The contract alone names them: `S` says what they are, so nothing of them is read.
         let _ = gates;
         let _ = members;
         self.deque.open::<S>();

@@ -5,6 +5,7 @@ use mb_gate::Claim;
 
 /// A claim in a queue. A claim has to be spent; one in a pool that is dropped is given up.
 pub struct Parked<H> {
+    /// The claim itself.
     pub claim: Claim<H>,
 }
 

@@ -20,13 +20,20 @@ use std::alloc::{AllocError, Global};
 use std::marker::Model;
 use std::snapshot::Snapshot;
 
-/// A pool of claims. Contracts see of which gates its claims are, its places, and how many ends and feeds it has.
+/// A pool of claims: the run queue of an executor (`akka.dispatch.ExecutorServiceConfigurator`). Contracts see of which gates its claims
+/// are, its places, and how many ends and feeds it has.
 pub struct Pool<H: Resident> {
+    /// How many actors there are, and so how many claims at most.
     pub(crate) actors: usize,
+    /// How many ends it has.
     pub(crate) ends: usize,
+    /// How many feeds it has.
     pub(crate) feeds: usize,
+    /// The gates whose claims they are, for proofs alone.
     pub(crate) gates: Snapshot<Gates<H>>,
+    /// A port of the place that all share, for proofs alone.
     pub(crate) door: Snapshot<Door<H>>,
+    /// The ends' own deques, for proofs alone.
     pub(crate) deques: Snapshot<Vec<Own<H>>>,
 }
 
@@ -72,7 +79,8 @@ impl<H: Resident> Model for Pool<H> {
 
 impl<H: Resident> Pool<H> {
     /// A pool of this kind for the claims of these gates, with so many workers' ends, in the order of their numbers, and so many
-    /// feeds. Ends and feeds are values that a thread of their own may have. Without memory for all of it there is no pool.
+    /// feeds. Ends and feeds are values that a thread of their own may have (in Akka an `ExecutorServiceConfigurator` makes the
+    /// executor). Without memory for all of it there is no pool.
     pub fn new(
         alloc: Global,
         gates: &Gates<H>,
@@ -119,6 +127,7 @@ fn pool_of<H: Resident>(
     }
 }
 
+/// The ends of a new pool, each with one of these ports.
 fn ends_of<H: Resident>(
     alloc: Global,
     pool: &Pool<H>,
@@ -130,6 +139,7 @@ fn ends_of<H: Resident>(
     ensures doors { IfOk result (λ _. map look_of doors.new.items ≡ replicate pool.now.feeds (new_door pool.now)) }
     ensures ends { IfOk result (λ ends. ends.items ≡ map (way_of (new_door pool.now)) members.items) }
 {
+    // The contract alone names it: how many feeds it has, and its ports.
     let _ = pool;
     let mut ends = Vec::with_capacity(alloc, members.len())?;
     for member in members {
@@ -146,6 +156,7 @@ fn ends_of<H: Resident>(
     Ok(ends)
 }
 
+/// The feeds of a new pool, each with one of these ports.
 fn feeds_of<H: Resident>(
     alloc: Global,
     pool: &Pool<H>,
@@ -155,6 +166,7 @@ fn feeds_of<H: Resident>(
     requires { map look_of doors.old.items ≡ replicate count (new_door pool.now) }
     ensures { IfOk result (λ feeds. feeds.items ≡ replicate count (of_feed (new_door pool.now))) }
 {
+    // The contract alone names it: how many feeds it has, and its ports.
     let _ = pool;
     let mut feeds = Vec::with_capacity(alloc, count)?;
     for _feed in 0..count {

@@ -17,6 +17,7 @@ use std::sync::Wait;
 /// The kit's bounded queue under the rule of a place.
 #[derive(Drop)]
 pub struct Slots<H: Resident> {
+    /// The queue itself.
     pub queue: RuledArrayQueue<Parked<H>, Knowledge<H>, Accounted>,
 }
 
@@ -24,6 +25,7 @@ pub struct Slots<H: Resident> {
 pub type SlotsPass<H> = Pass<Parked<H>, Knowledge<H>>;
 
 impl<H: Resident> Slots<H> {
+    /// An empty place for so many claims, and its first port, before it is settled of which gates they are.
     pub fn new(alloc: Global, capacity: usize) -> Result<(Slots<H>, SlotsPass<H>), AllocError>
         requires { 0 < capacity }
         ensures queue { IfOk result (λ r. IsPassOf r.0.queue r.1 × (view r.1 ≡ unused)) }
@@ -33,6 +35,7 @@ impl<H: Resident> Slots<H> {
         Ok((Slots { queue }, pass))
     }
 
+    /// Puts the claim last, or gives it back where the place was full at a moment of the call.
     #[inline]
     pub fn push<R: Wait>(
         &self,
@@ -55,6 +58,7 @@ impl<H: Resident> Slots<H> {
         }
     }
 
+    /// Takes the first claim. `None` only if the place was empty at a moment of the call.
     #[inline]
     pub fn take<R: Wait>(&self, rt: &R, pass: &mut SlotsPass<H>) -> Option<Claim<H>>
         requires queue { IsPassOf self.now.queue pass.old }
@@ -77,6 +81,7 @@ impl<H: Resident> Slots<H> {
         ensures queue { (IsPassOf self.now.queue pass.new) × (pass.new.table_id ≡ pass.old.table_id) }
         ensures opened { view pass.new ≡ opened S.gates S.members S.members }
     {
+        // The step settles what this pass knows. The second pass that it splits off has no share, and is let go.
         let _ = self.queue.another::<Opens<S>>(pass);
     }
 

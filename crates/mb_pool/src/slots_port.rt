@@ -108,6 +108,7 @@ impl<H: Resident> SlotsPort<H> {
     pub fn has_bound(&self)
         ensures { IsSome self.now.spot.capacity }
     {
+        // A look at a field shows the proof what holds of each port.
         let _ = &self.pass;
     }
 }

@@ -17,8 +17,11 @@ use std::sync::Wait;
 /// Steals from another end's deque.
 #[derive(Drop)]
 pub struct Thief<H: Resident> {
+    /// The number of the end whose deque it is.
     pub(crate) number: usize,
+    /// The handle by which it steals.
     pub(crate) stealer: Stealer<Parked<H>, Global, Knowledge<H>, Accounted>,
+    /// What it knows of that deque.
     pub(crate) pass: Pass<Parked<H>, Knowledge<H>, Global>,
 }
 
@@ -57,6 +60,7 @@ impl<H: Resident> Thief<H> {
     }
 }
 
+/// Tries until the first claim is stolen or none is there.
 #[inline]
 fn steal_first<H: Resident, R: Wait>(
     rt: &R,

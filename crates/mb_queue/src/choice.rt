@@ -12,9 +12,13 @@ use std::sync::Wait;
 /// The ranks, how many envelopes came in so far, and those that are held.
 #[derive(Drop)]
 pub struct Choice {
+    /// The rows of user messages' kinds.
     pub ranks: Ranks,
+    /// The rank of all other bodies, and of kinds without a row.
     pub other: u32,
+    /// How many came in so far: the number of the next.
     pub next: u64,
+    /// What is held.
     pub waiting: Waiting,
 }
 

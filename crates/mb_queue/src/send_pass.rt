@@ -12,9 +12,13 @@ use std::sync::Wait;
 /// Pushes for one sender. Contracts see which queue it is of, who its sender is, and all that it pushed.
 #[derive(Drop)]
 pub struct SendPass {
+    /// The sender for which it pushes.
     pub(crate) by: SenderId,
+    /// Its port of the one lane, or of the lane of all but control messages.
     pub(crate) main: Port,
+    /// Its port of the lane of control messages, where there is one.
     pub(crate) control: Option<Port>,
+    /// What it pushed, for proofs alone.
     pub(crate) pushed: Log<Envelope>,
 }
 

@@ -16,9 +16,13 @@ use std::sync::Wait;
 /// of the senders whose passes were joined.
 #[derive(Drop)]
 pub struct TakePass {
+    /// The taker's port of the one lane, or of the lane of all but control messages.
     pub(crate) main: Port,
+    /// Whose turn it is, with what that needs: another port, or what is held.
     pub(crate) order: Order,
+    /// What it gave, for proofs alone.
     pub(crate) taken: Log<Envelope>,
+    /// The accounts of the senders, for proofs alone.
     pub(crate) accounts: Log<Account>,
 }
 

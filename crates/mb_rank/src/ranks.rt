@@ -8,7 +8,9 @@ use std::marker::Model;
 /// The rank of the user messages of one kind. The smaller rank goes first.
 #[derive(Clone, Copy, Debug, PartialEq, Eq)]
 pub struct RankRow {
+    /// The kind of user message.
     pub kind: u32,
+    /// Its rank.
     pub rank: u32,
 }
 

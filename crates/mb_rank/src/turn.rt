@@ -14,9 +14,13 @@ use std::snapshot::Snapshot;
 /// choice moves many. Contracts see the envelope too.
 #[derive(Drop)]
 pub(crate) struct Turn {
+    /// The envelope's rank.
     pub(crate) rank: u32,
+    /// The how manieth of all it came in as, from 0.
     pub(crate) number: u64,
+    /// The slot in which the envelope lies.
     pub(crate) slot: usize,
+    /// The envelope, for proofs alone.
     pub(crate) envelope: Snapshot<Envelope>,
 }
 

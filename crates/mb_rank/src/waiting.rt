@@ -17,8 +17,11 @@ pub const HELD_AT_MOST: usize = 1024;
 /// An envelope with what its turn goes by: its rank, and the how manieth of all it came in as, from 0.
 #[derive(Clone, Copy, Debug)]
 pub struct Arrival {
+    /// Its rank.
     pub rank: u32,
+    /// The how manieth of all it came in as.
     pub number: u64,
+    /// The envelope.
     pub envelope: Envelope,
 }
 

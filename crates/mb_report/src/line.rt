@@ -9,13 +9,21 @@ use std::fmt;
 /// What the report says of one actor. Its `Display` is the actor's line.
 #[derive(Drop)]
 pub(crate) struct Line {
+    /// The actor's name.
     pub(crate) name: String,
+    /// Where it stands in its life.
     pub(crate) phase: Phase,
+    /// Its content; the guardian has none.
     pub(crate) state: Option<i64>,
+    /// How often its mailbox is suspended.
     pub(crate) suspended: u64,
+    /// How many envelopes it handled.
     pub(crate) handled: usize,
+    /// How many are left in its queue.
     pub(crate) left: usize,
+    /// How many of those to it are dead letters.
     pub(crate) dead: u128,
+    /// How often it was restarted.
     pub(crate) restarts: usize,
 }
 

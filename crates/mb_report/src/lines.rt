@@ -8,6 +8,7 @@ use std::fmt;
 /// The lines of all actors. Its `Display` is the whole text.
 #[derive(Drop)]
 pub(crate) struct Lines {
+    /// One for each actor, by number.
     pub(crate) lines: Vec<Line>,
     pub(crate) ghost few: { length lines.items ≤ 64 },
     pub(crate) ghost small: { All (λ line. line.dead < 2 ^ 72) lines.items },

@@ -14,8 +14,11 @@ pub const GREATEST: u32 = 4;
 /// It knows how many actors there are.
 #[derive(Drop)]
 pub struct Gambler {
+    /// By which it chooses.
     pub dice: Dice,
+    /// How many actors there are.
     pub actors: u32,
+    /// What it shows.
     pub sum: i64,
 }
 

@@ -18,10 +18,13 @@ pub const FAIL: u32 = 2;
 /// Which envelopes an actor's mailbox holds, and in which order it gives them.
 #[derive(Clone, Copy)]
 pub enum Mailbox {
+    /// All, first in, first out.
     InOrder,
+    /// The same, so many at most.
     Bounded(u32),
     /// These kinds by their ranks, all others by rank 1.
     Ranked(&'static [Rank]),
+    /// All, control messages before all others.
     ControlFirst,
 }
 
@@ -29,14 +32,23 @@ pub enum Mailbox {
 /// does about a child that failed so, or about all of them, and how often it starts one afresh: -1 is no limit.
 #[derive(Clone, Copy)]
 pub struct Part {
+    /// The parent's number.
     pub parent: u32,
+    /// The mailbox.
     pub mailbox: Mailbox,
+    /// What it does at a start.
     pub start: &'static [Deed],
+    /// What it does at a restart.
     pub restart: &'static [Deed],
+    /// What it does at its end.
     pub stop: &'static [Deed],
+    /// What it does about messages, by their kinds.
     pub habits: Habits,
+    /// What it does about a child that failed so; where there is none, the default.
     pub rule: Option<(Pattern, Directive)>,
+    /// Whether that is for all children.
     pub all_for_one: bool,
+    /// How often it starts one afresh.
     pub retries: i64,
 }
 
@@ -56,7 +68,9 @@ pub const COUNTER: Part = Part {
 /// It plays its part.
 #[derive(Drop)]
 pub struct Player {
+    /// The part.
     pub part: Part,
+    /// What it shows.
     pub sum: i64,
 }
 

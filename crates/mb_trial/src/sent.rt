@@ -13,7 +13,9 @@ const OUTSIDE: u32 = 64;
 /// A sender, and its envelopes in order.
 #[derive(Drop)]
 pub struct Sent {
+    /// The sender.
     pub by: SenderId,
+    /// What it sent.
     pub envelopes: Vec<Envelope>,
 }
 

@@ -10,12 +10,19 @@ use std::alloc::{AllocError, Global};
 /// A system of players, each of whose senders is to send the same.
 #[derive(Clone, Copy)]
 pub struct Story<'a> {
+    /// How many workers there are.
     pub workers: u32,
+    /// How they share the work.
     pub pool: Pool,
+    /// How many senders outside there are.
     pub senders: u32,
+    /// How many envelopes a run handles at most.
     pub throughput: u32,
+    /// How many entries a journal may have.
     pub journal_limit: u32,
+    /// Who acts, from number 1 on.
     pub parts: &'a [Part],
+    /// What each sender sends, in order.
     pub sends: &'a [Sending],
 }
 

@@ -7,6 +7,7 @@ use mb_msg::{ActorId, Cause};
 /// It watches this actor.
 #[derive(Drop)]
 pub struct Watcher {
+    /// The actor that it watches.
     pub of: ActorId,
 }
 

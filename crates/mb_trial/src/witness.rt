@@ -12,7 +12,9 @@ use std::sync::atomic::Ordering::SeqCst;
 /// What it shows stands here too.
 #[derive(Drop)]
 pub struct Witness {
+    /// What it shows.
     pub sum: i64,
+    /// Where others see it.
     pub shown: Arc<AtomicI64>,
 }
 

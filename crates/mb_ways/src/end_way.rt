@@ -13,7 +13,7 @@ use mb_wake::{Refused, Way};
 use std::snapshot::Snapshot;
 use std::sync::Wait;
 
-/// A worker's end of the pool, with what the pool refused of it, which takes no bytes.
+/// A worker's end of the pool, with what the pool refused of it, which takes no bytes (this project's own profile).
 #[derive(Drop)]
 pub struct EndWay<H: Resident> {
     /// The end.

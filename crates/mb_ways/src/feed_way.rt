@@ -9,7 +9,7 @@ use mb_wake::{Refused, Way};
 use std::snapshot::Snapshot;
 use std::sync::Wait;
 
-/// A feed of the pool, with what the pool refused of it, which takes no bytes.
+/// A feed of the pool, with what the pool refused of it, which takes no bytes (this project's own profile).
 #[derive(Drop)]
 pub struct FeedWay<H: Resident> {
     /// The feed.

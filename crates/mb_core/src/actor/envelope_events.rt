@@ -9,6 +9,7 @@ use std::alloc::AllocError;
 
 /// The steps on the waiting number and on the envelopes.
 impl ActorState {
+    /// `Sent`: one more is counted as waiting, and the party owes the actor for it as `sending`.
     pub(super) fn count_sent(&mut self, party: usize)
         requires { party < length self.old.owed }
         ensures { Change self.old party Sent self.new }
@@ -24,6 +25,7 @@ impl ActorState {
         );
     }
 
+    /// `Unsent`: one less is counted, and what the party owed as `sending` it owes as `message`. Refused where it owed none.
     pub(super) fn count_unsent(&mut self, party: usize) -> bool
         requires { party < length self.old.owed }
         ensures { IsCarriedOut self.old party Unsent self.new result }
@@ -44,6 +46,7 @@ impl ActorState {
         true
     }
 
+    /// `Taken`: one less is counted, for an envelope that the holder took. Refused to all others.
     pub(super) fn count_taken(&mut self, party: usize) -> bool
         ensures { IsCarriedOut self.old party Taken self.new result }
     {
@@ -54,6 +57,7 @@ impl ActorState {
         true
     }
 
+    /// `Count`: where none is counted the party owes no `message` any more.
     pub(super) fn read_count(&mut self, party: usize)
         requires { party < length self.old.owed }
         ensures { Change self.old party Count self.new }
@@ -70,6 +74,7 @@ impl ActorState {
         }
     }
 
+    /// `Push`: the envelope is the last of the queue.
     pub(super) fn push(&mut self, envelope: Envelope) -> Result<(), AllocError>
         ensures { OnOk result (self.new ≡ record self.old { envelopes = self.old.envelopes ++ envelope ∷ [] }) }
     {
@@ -77,6 +82,7 @@ impl ActorState {
         Ok(())
     }
 
+    /// `Take`: the envelope of this place leaves the queue. Refused to all but the holder, and where there is none.
     pub(super) fn take(&mut self, party: usize, place: usize) -> bool
         ensures { IsCarriedOut self.old party (Take place) self.new result }
     {

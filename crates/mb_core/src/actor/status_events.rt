@@ -10,6 +10,7 @@ use std::alloc::{AllocError, Global};
 
 /// The steps on the status word.
 impl ActorState {
+    /// `Read`: by what the status says the party owes less, or what it owed as `sending` it owes as `message`.
     pub(super) fn read(&mut self, party: usize)
         requires { party < length self.old.owed }
         ensures { Change self.old party Read self.new }
@@ -18,6 +19,7 @@ impl ActorState {
         self.owe(party, debt);
     }
 
+    /// `Schedule`: the party holds the actor and owes it nothing. Refused where it is closed or scheduled already.
     pub(super) fn schedule(&mut self, party: usize) -> bool
         requires { party < length self.old.owed }
         ensures { IsCarriedOut self.old party Schedule self.new result }
@@ -31,6 +33,8 @@ impl ActorState {
         true
     }
 
+    /// `Idle`: nobody holds the actor, these messages are the first of its list unless that is gone, and the party owes it both
+    /// looks. Refused to all but the holder.
     pub(super) fn give_back(
         &mut self,
         alloc: Global,
@@ -60,6 +64,7 @@ impl ActorState {
         Ok(true)
     }
 
+    /// `Suspend`: one suspension more. Refused to all but the holder, and where there are as many as may be.
     pub(super) fn suspend(&mut self, party: usize) -> bool
         ensures { IsCarriedOut self.old party Suspend self.new result }
     {
@@ -70,6 +75,7 @@ impl ActorState {
         true
     }
 
+    /// `Resume`: one suspension less, where there is one. Refused to all but the holder.
     pub(super) fn resume(&mut self, party: usize) -> bool
         ensures { IsCarriedOut self.old party Resume self.new result }
     {
@@ -80,6 +86,7 @@ impl ActorState {
         true
     }
 
+    /// `Close`: closed for good. Refused to all but the holder.
     pub(super) fn close(&mut self, party: usize) -> bool
         ensures { IsCarriedOut self.old party Close self.new result }
     {

@@ -9,6 +9,7 @@ use std::alloc::AllocError;
 
 /// The steps on the system list.
 impl ActorState {
+    /// `SysAdd`: the message is the last of the list, and the party owes the actor a look at it. Refused where the list is gone.
     pub(super) fn add_system(&mut self, party: usize, message: SysMsg) -> Result<bool, AllocError>
         requires { party < length self.old.owed }
         ensures { IfOk result (λ done. IsCarriedOut self.old party (SysAdd message) self.new done) }
@@ -28,6 +29,7 @@ impl ActorState {
         Ok(true)
     }
 
+    /// `SysRead`: where nothing is listed the party owes no `system` any more.
     pub(super) fn read_system(&mut self, party: usize)
         requires { party < length self.old.owed }
         ensures { Change self.old party SysRead self.new }
@@ -44,6 +46,7 @@ impl ActorState {
         }
     }
 
+    /// `SysDrain`: nothing is listed any more. Refused to all but the holder.
     pub(super) fn drain_system(&mut self, party: usize) -> bool
         ensures { IsCarriedOut self.old party SysDrain self.new result }
     {
@@ -56,6 +59,7 @@ impl ActorState {
         true
     }
 
+    /// `SysEnd`: the list is gone for good. Refused to all but the holder, and where the actor is not closed.
     pub(super) fn end_system(&mut self, party: usize) -> bool
         ensures { IsCarriedOut self.old party SysEnd self.new result }
     {

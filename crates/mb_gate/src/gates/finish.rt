@@ -62,6 +62,7 @@ fn take_out<H: Resident>(closed: &mut Closed<Slot<H>, Global>, actor: usize) -> 
     let gate = closed.word(first + GATE);
     let cell = closed.take(2 * actor + CELL);
     let list = closed.take(2 * actor + LIST);
+    // Scheduled, or closed and not flagged: a claim has the cell. An odd gate: a seat has the list.
     if status % 4 != 0 && flag != 1 || gate % 2 != 0 {
         return None;
     }

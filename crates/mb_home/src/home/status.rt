@@ -15,6 +15,7 @@ impl<A: Actor, K: Behaviours> Home<A, K> {
     pub(crate) fn own_status(&self) -> Status
         ensures { result ≡ mailbox_at self.now.cell.who self.now.cell.journal }
     {
+        // Its contract shows that the journal is lawful, so that its suspensions fit a status.
         let _ = self.cell.journal();
         status_of(has_ended(self.cell.phase()), self.cell.count())
     }
