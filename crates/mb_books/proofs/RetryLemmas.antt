@@ -2,14 +2,10 @@
 use Rattle.std.proofs.Common.{◌≡◌, ℕ, ℤ, pos, ◌+◌, ◌<◌, List, [], ◌∷◌, ◌++◌, length, get_or, take, drop, drop-cons, add-one, append_assoc}
 use Rattle.std.proofs.Common.{Bool, true, false, refl, ap, sym, ◌∙◌}
 use Rattle.std.specs.Prelude.{negsuc, ◌&&◌, if◌then◌else◌}
-use Rattle.std.proofs.Common.{arith}
-use Rattle.std.proofs.lemmas.Bool.Decides.{nat_tests}
 use Rattle.std.proofs.lemmas.List.{take_more}
-use Rattle.std.proofs.lemmas.List.Sums.{count_by-le-length}
 use Rattle.std.specs.List.{list_all}
 use Rattle.mb_msg.specs.declared.id.ActorId.{ActorId}
-use Rattle.mb_actor.specs.ActorList.{is_same}
-use Rattle.mb_journal.specs.Retries.{permits, through_refusal, times_in}
+use Rattle.mb_journal.specs.Retries.{permits, through_refusal}
 
 module _ (given : ActorId → Bool) (list : List ActorId) (i : ℕ) (d : ActorId) (within : i < length list) where
   abbrev x : ActorId
@@ -51,7 +47,3 @@ pub all-unlimited : (limit : ℤ) (times : ActorId → ℕ) (list : List ActorId
     true ≡ list_all (λ y. permits limit (times y)) list
 all-unlimited (pos n) times list negative = absurd (negative n refl)
 all-unlimited (negsuc n) times list negative = all-given (λ y. permits (negsuc n) (times y)) list (λ y. refl)
-
--- a child's requests are no more than those of all
-pub few-asked : (limit : ℕ) (y : ActorId) (requests : List ActorId) → length requests < limit → true ≡ permits (pos limit) (times_in requests y + 1)
-few-asked limit y requests few = let least = count_by-le-length (λ z. is_same y z) requests in grind (arith, nat_tests)
