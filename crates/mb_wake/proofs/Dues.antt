@@ -1,10 +1,11 @@
 -- What was seen of an actor that is due.
-use Rattle.std.proofs.Common.{◌≡◌, ◌≢◌, ◌⊎◌, inl, inr, ℕ, ◌==◌, Bool, true, false, if◌then◌else◌, List, [], ◌∷◌, ◌++◌, refl, sym, ap, ◌∙◌, append_assoc}
+use Rattle.std.proofs.Common.{◌≡◌, ◌≢◌, ◌⊎◌, inl, inr, ℕ, ◌==◌, Bool, true, false, if◌then◌else◌}
+use Rattle.std.proofs.Common.{List, [], ◌∷◌, ◌++◌, refl, sym, ap, ◌∙◌, append_assoc}
 use Rattle.mb_status.specs.Mailbox.{Mailbox, word_of, can_schedule}
 use Rattle.mb_rule.specs.Seen.{Each}
 use Rattle.mb_rule.proofs.SeenLemmas.{each_append, each_weaker}
 use Rattle.mb_gate.specs.View.{View, Sight, Read, Counted, Looked, counting, looking}
-use Rattle.mb_wake.specs.Due.{SawSince, SawWaiting, SawDue, GotOnlyDue}
+use Rattle.mb_wake.specs.Due.{SawSince, SawListed, SawWaiting, SawDue, GotOnlyDue}
 use Rattle.mb_wake.specs.Views.{GotAndGaveBack}
 use Rattle.mb_wake.specs.Waking.{Account, HandsOn}
 
@@ -20,7 +21,7 @@ log-if : (b : Bool) (v w : View) (log : List Sight) → v.log ≡ log → w.log 
 log-if true v w log a b = a
 log-if false v w log a b = b
 
-pub saw-listed : (id : ℕ) (b : Bool) (v w : View) → w ≡ looking id b v → b ≡ true → SawSince (Looked id true) v w
+pub saw-listed : (id : ℕ) (b : Bool) (v w : View) → w ≡ looking id b v → b ≡ true → SawListed id v w
 saw-listed id true v w is some = saw-now (Looked id true) v w (ap (λ (u : View). u.log) is)
 saw-listed id false v w is some = absurd (cc)
 
@@ -75,7 +76,7 @@ module _ (u v w : View) (looks : List Sight) where
 -- by a status that was read, and then a look at the list, and then the number of envelopes
 pub due-by : (id : ℕ) (messages system : Bool) (status : Mailbox) (has_messages has_system : Bool) (a b d e : View) (looked counted : List Sight)
     → can_schedule status has_messages has_system ≡ true → b.log ≡ Read id (word_of status) ∷ a.log → d.log ≡ looked ++ b.log
-    → e.log ≡ counted ++ d.log → (has_system ≡ true → (system ≡ true) ⊎ SawSince (Looked id true) b d)
+    → e.log ≡ counted ++ d.log → (has_system ≡ true → (system ≡ true) ⊎ SawListed id b d)
     → (has_messages ≡ true → (messages ≡ true) ⊎ SawWaiting id d e) → SawDue id messages system a e
 due-by id messages system status has_messages has_system a b d e looked counted due read look count listed waiting = record {
   status = status;

@@ -10,7 +10,7 @@ use Rattle.mb_gate.specs.View.{View, reading, winning, counting, looking, idling
 use Rattle.mb_gate.specs.declared.claim.Claim.{Claim}
 use Rattle.mb_wake.specs.declared.owed.Owed.{Owed}
 use Rattle.mb_wake.specs.Views.{GotAndGaveBack}
-use Rattle.mb_wake.specs.Waking.{Account, HandsOn, LosesNoClaim, claims_of}
+use Rattle.mb_wake.specs.Waking.{Account, HandsOn, LosesNoClaim, claims_of_actor}
 
 pub turns-none : (v : View) → GotAndGaveBack [] [] v v
 turns-none v = record { got = refl; returned = refl }
@@ -74,7 +74,7 @@ count-more : (u v w b r br : ℕ) → v ≡ u + b → w ≡ v + r → br ≡ b +
 count-more u v w b r br one two back = omega (arith, one, two, back)
 
 module _ {H : Type 0} where
-  one-claim : (actor id : ℕ) (claim : Claim H) → held_actor claim ≡ id → (if id == actor then 1 else 0) + 0 ≡ claims_of actor (claim ∷ [])
+  one-claim : (actor id : ℕ) (claim : Claim H) → held_actor claim ≡ id → (if id == actor then 1 else 0) + 0 ≡ claims_of_actor actor (claim ∷ [])
   one-claim actor id claim of = ap (λ n. (if n == actor then 1 else 0) + 0) (sym of)
 
   -- after looks, in which no claim is got
@@ -101,12 +101,12 @@ module _ {H : Type 0} where
     pushed = y.pushed ∙ ap (λ l. l ++ y.went) x.pushed ∙ append_assoc a.pushed x.went y.went;
     refused = y.refused ∙ ap (λ l. l ++ y.back) x.refused ∙ append_assoc a.refused x.back y.back;
     got = λ actor.
-        count-both (got_by actor u) (got_by actor v) (got_by actor w) (claims_of actor x.went) (claims_of actor x.back) (claims_of actor y.went)
-        (claims_of actor y.back) (claims_of actor (x.went ++ y.went)) (claims_of actor (x.back ++ y.back)) (x.got actor) (y.got actor)
+        count-both (got_by actor u) (got_by actor v) (got_by actor w) (claims_of_actor actor x.went) (claims_of_actor actor x.back) (claims_of_actor actor y.went)
+        (claims_of_actor actor y.back) (claims_of_actor actor (x.went ++ y.went)) (claims_of_actor actor (x.back ++ y.back)) (x.got actor) (y.got actor)
         (total_append _ x.went y.went) (total_append _ x.back y.back);
     returned = λ actor.
-        count-more (back_by actor u) (back_by actor v) (back_by actor w) (claims_of actor x.back) (claims_of actor y.back)
-        (claims_of actor (x.back ++ y.back)) (x.returned actor) (y.returned actor) (total_append _ x.back y.back);
+        count-more (back_by actor u) (back_by actor v) (back_by actor w) (claims_of_actor actor x.back) (claims_of_actor actor y.back)
+        (claims_of_actor actor (x.back ++ y.back)) (x.returned actor) (y.returned actor) (total_append _ x.back y.back);
   }
 
   -- whom the caller owes a look says nothing of it

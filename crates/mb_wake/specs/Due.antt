@@ -14,6 +14,10 @@ pub record SawSince (sight : Sight) (old new : View) : Type 0 where
 abbrev pub SawWaiting : ℕ → View → View → Type 0
 SawWaiting id old new = (waiting : ℕ) × (waiting ≢ 0) × SawSince (Counted id waiting) old new
 
+-- a look at the actor's list showed system work
+abbrev pub SawListed : ℕ → View → View → Type 0
+SawListed id = SawSince (Looked id true)
+
 -- It read a status of the actor with which this has to be given to a worker: for system work, at which was hinted or which a look
 -- showed; or for envelopes that it may handle, at which was hinted or which were counted.
 pub record SawDue (id : ℕ) (messages system : Bool) (old new : View) : Type 0 where
@@ -23,7 +27,7 @@ pub record SawDue (id : ℕ) (messages system : Bool) (old new : View) : Type 0 
   pub due : can_schedule status has_messages has_system ≡ true
   pub read : SawSince (Read id (word_of status)) old new
   pub waiting : has_messages ≡ true → (messages ≡ true) ⊎ SawWaiting id old new
-  pub listed : has_system ≡ true → (system ≡ true) ⊎ SawSince (Looked id true) old new
+  pub listed : has_system ≡ true → (system ≡ true) ⊎ SawListed id old new
 
 -- each claim that it got is of an actor that it saw to be due
 pub record GotOnlyDue (messages system : Bool) (old new : View) : Type 0 where

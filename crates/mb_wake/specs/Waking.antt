@@ -57,8 +57,8 @@ pub record StopsAt {H : Type 0} (old new : Account H) : Type 0 where
   pub after : (id : ℕ) → held_actor claim ≤ id → id < 64 → is_owed new.owed id ≡ is_owed old.owed id
 
 -- how many of these claims are of this actor
-abbrev pub claims_of : {H : Type 0} → ℕ → List (Claim H) → ℕ
-claims_of {H} actor claims = total (λ (claim : Claim H). if held_actor claim == actor then 1 else 0) claims
+abbrev pub claims_of_actor : {H : Type 0} → ℕ → List (Claim H) → ℕ
+claims_of_actor {H} actor claims = total (λ (claim : Claim H). if held_actor claim == actor then 1 else 0) claims
 
 -- No claim is thrown away: of each actor, the caller's pass got as many as went into the pool and as the pool refused, and gave back as many
 -- as it refused.
@@ -67,5 +67,5 @@ pub record LosesNoClaim {H : Type 0} (old new : Account H) (before after : View)
   pub back : List (Claim H)
   pub pushed : new.pushed ≡ old.pushed ++ went
   pub refused : new.refused ≡ old.refused ++ back
-  pub got : (actor : ℕ) → got_by actor after ≡ got_by actor before + (claims_of actor went + claims_of actor back)
-  pub returned : (actor : ℕ) → back_by actor after ≡ back_by actor before + claims_of actor back
+  pub got : (actor : ℕ) → got_by actor after ≡ got_by actor before + (claims_of_actor actor went + claims_of_actor actor back)
+  pub returned : (actor : ℕ) → back_by actor after ≡ back_by actor before + claims_of_actor actor back

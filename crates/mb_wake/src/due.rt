@@ -1,9 +1,9 @@
 //! Whether an actor has to be given to a worker, and the claim of one that has.
 ghost use Rattle.std.specs.Prelude.{◌≡◌, ◌⊎◌, ◌<◌, [], ◌∷◌, true, false, IfSome, MatchOption, Some};
 ghost use Rattle.mb_core.specs.Actor.{nothing};
-ghost use Rattle.mb_gate.specs.View.{owes, Looked};
+ghost use Rattle.mb_gate.specs.View.{owes};
 ghost use Rattle.mb_gate.specs.Names.{gates_id, pass_id, actors_of, known_by, held_actor};
-ghost use Rattle.mb_wake.specs.Due.{SawSince, SawWaiting, SawDue};
+ghost use Rattle.mb_wake.specs.Due.{SawListed, SawWaiting, SawDue};
 ghost use Rattle.mb_wake.specs.Views.{GotAndGaveBack, LooksAfter};
 ghost use Rattle.mb_gate.specs.Untouched.{origin_of, IsUntouched};
 
@@ -21,7 +21,7 @@ fn has_system<H: Resident>(gates: &Gates<H>, pass: &mut Pass<H>, id: ActorId, hi
     ensures turns { GotAndGaveBack [] [] (known_by pass.old) (known_by pass.new) }
     ensures some { result ≡ true → owes id.0 (known_by pass.new) ≡ owes id.0 (known_by pass.old) }
     ensures none { result ≡ false → owes id.0 (known_by pass.new) ≡ record (owes id.0 (known_by pass.old)) { system = false } }
-    ensures seen { result ≡ true → (hint ≡ true) ⊎ SawSince (Looked id.0 true) (known_by pass.old) (known_by pass.new) }
+    ensures seen { result ≡ true → (hint ≡ true) ⊎ SawListed id.0 (known_by pass.old) (known_by pass.new) }
 {
     if hint {
         return true;
