@@ -74,6 +74,10 @@ count-more : (u v w b r br : ℕ) → v ≡ u + b → w ≡ v + r → br ≡ b +
 count-more u v w b r br one two back = omega (arith, one, two, back)
 
 module _ {H : Type 0} where
+  -- 1 for a claim of this actor, and 0 for another
+  abbrev of-actor : ℕ → Claim H → ℕ
+  of-actor actor claim = if held_actor claim == actor then 1 else 0
+
   one-claim : (actor id : ℕ) (claim : Claim H) → held_actor claim ≡ id → (if id == actor then 1 else 0) + 0 ≡ claims_of_actor actor (claim ∷ [])
   one-claim actor id claim of = ap (λ n. (if n == actor then 1 else 0) + 0) (sym of)
 
@@ -100,13 +104,13 @@ module _ {H : Type 0} where
     back = x.back ++ y.back;
     pushed = y.pushed ∙ ap (λ l. l ++ y.went) x.pushed ∙ append_assoc a.pushed x.went y.went;
     refused = y.refused ∙ ap (λ l. l ++ y.back) x.refused ∙ append_assoc a.refused x.back y.back;
-    got = λ actor.
-        count-both (got_by actor u) (got_by actor v) (got_by actor w) (claims_of_actor actor x.went) (claims_of_actor actor x.back) (claims_of_actor actor y.went)
-        (claims_of_actor actor y.back) (claims_of_actor actor (x.went ++ y.went)) (claims_of_actor actor (x.back ++ y.back)) (x.got actor) (y.got actor)
-        (total_append _ x.went y.went) (total_append _ x.back y.back);
-    returned = λ actor.
-        count-more (back_by actor u) (back_by actor v) (back_by actor w) (claims_of_actor actor x.back) (claims_of_actor actor y.back)
-        (claims_of_actor actor (x.back ++ y.back)) (x.returned actor) (y.returned actor) (total_append _ x.back y.back);
+    got = λ actor. let many : List (Claim H) → ℕ = claims_of_actor actor in
+        count-both (got_by actor u) (got_by actor v) (got_by actor w) (many x.went) (many x.back) (many y.went) (many y.back)
+        (many (x.went ++ y.went)) (many (x.back ++ y.back)) (x.got actor) (y.got actor)
+        (total_append (of-actor actor) x.went y.went) (total_append (of-actor actor) x.back y.back);
+    returned = λ actor. let many : List (Claim H) → ℕ = claims_of_actor actor in
+        count-more (back_by actor u) (back_by actor v) (back_by actor w) (many x.back) (many y.back) (many (x.back ++ y.back))
+        (x.returned actor) (y.returned actor) (total_append (of-actor actor) x.back y.back);
   }
 
   -- whom the caller owes a look says nothing of it

@@ -69,5 +69,5 @@ returns-in_err-pay_one-clause-handed g c = loses-then _ _ _ _ _ _ c.loop-number.
 pub returns-in_err-pay_one-clause-due : goal.returns-in_err-pay_one-clause-due
 returns-in_err-pay_one-clause-due g c =
     let old = c.args.self.now in let mid = c.loop-number.self in let now = c.pay_one.new.self in
-    got-then false false (known_by old.pass) (known_by mid.pass) (known_by now.pass) _ _ c.loop-number.invariant.2.looks.log c.pay_one.ensures.looks.log
-    c.loop-number.invariant.5 c.pay_one.ensures.due
+    let at = c.loop-number.invariant in let paid = c.pay_one.ensures in
+    got-then false false (known_by old.pass) (known_by mid.pass) (known_by now.pass) _ _ at.2.looks.log paid.looks.log at.5 paid.due
