@@ -1,9 +1,9 @@
-use Rattle.std.proofs.Common.{◌<◌, ap, ◌∙◌, arith, false, [], ◌∷◌, ◌++◌}
+use Rattle.std.proofs.Common.{◌<◌, ap, ◌∙◌, arith, refl, false, [], ◌∷◌, ◌++◌}
 use Rattle.mb_gate.specs.Names.{known_by}
 use Rattle.mb_wake.specs.declared.waker.Waker.{Waker}
-use Rattle.mb_wake.proofs.Turns.{loses-then}
-use Rattle.mb_wake.proofs.Dues.{got-then}
-use Rattle.mb_wake.proofs.Pays.{kept-below, kept-on, looked-on, on-failure, paid-next, stops}
+use Rattle.mb_wake.proofs.Turns.{loses-none, loses-then}
+use Rattle.mb_wake.proofs.Dues.{got-none, got-then}
+use Rattle.mb_wake.proofs.Pays.{kept-below, kept-on, looked-on, on-failure, paid-next, paid-none, stops}
 use Rattle.mb_wake.proofs.waker.Waker.pay.Goals as goal
 
 pub returns-in_err-pay_one-clause-looks : goal.returns-in_err-pay_one-clause-looks
@@ -14,6 +14,11 @@ returns-in_err-pay_one-clause-looks g c =
     let paid = c.pay_one.ensures in
     looked-on n old.owed mid.owed now.owed (known_by old.pass) (known_by mid.pass) (known_by now.pass) few c.loop-number.invariant.2
     (λ out. (ap (λ (w : Waker _ _). w.owed) (paid.none out), ap (λ (w : Waker _ _). known_by w.pass) (paid.none out))) paid.looks paid.others
+
+pub loop-number-init : goal.loop-number-init
+loop-number-init g c =
+    let v = known_by c.args.self.now.pass in
+    (refl, refl, paid-none c.args.self.now.owed v, refl, loses-none _ v, got-none false false v v refl)
 
 pub loop-number-preserved : goal.loop-number-preserved
 loop-number-preserved g c =
