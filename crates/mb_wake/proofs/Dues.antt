@@ -2,11 +2,9 @@
 use Rattle.std.proofs.Common.{◌≡◌, ◌≢◌, ◌⊎◌, inl, inr, ℕ, ◌==◌, Bool, true, false, if◌then◌else◌}
 use Rattle.std.proofs.Common.{List, [], ◌∷◌, ◌++◌, refl, sym, ap, ◌∙◌, append_assoc}
 use Rattle.mb_status.specs.Mailbox.{Mailbox, word_of, can_schedule}
-use Rattle.mb_rule.specs.Seen.{Each}
 use Rattle.mb_rule.proofs.SeenLemmas.{each_append, each_weaker}
 use Rattle.mb_gate.specs.View.{View, Sight, Read, Counted, Looked, counting, looking}
 use Rattle.mb_wake.specs.Due.{SawSince, SawListed, SawWaiting, SawDue, GotOnlyDue}
-use Rattle.mb_wake.specs.Views.{GotAndGaveBack}
 use Rattle.mb_wake.specs.Waking.{Account, HandsOn}
 
 second : {A B C : Type 0} → (B → C) → A ⊎ B → A ⊎ C
