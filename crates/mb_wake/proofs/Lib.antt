@@ -1,4 +1,6 @@
 pub mod Views
+pub mod Turns
+pub mod Dues
 pub mod AtHome
 pub mod Debts
 pub mod Bits

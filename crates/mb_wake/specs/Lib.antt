@@ -1,3 +1,4 @@
+pub mod Due
 pub mod Owed
 pub mod Views
 pub mod Waking

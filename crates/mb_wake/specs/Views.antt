@@ -40,3 +40,8 @@ pub record LooksAmong (among : ℕ → Bool) (old new : View) : Type 0 where
   pub said : new.said ≡ old.said
   pub others : (other : ℕ) → among other ≡ false → owes other new ≡ owes other old
   pub share : new.share ≡ old.share
+
+-- It got claims of these actors, and gave back claims of those, the newest first; and no others.
+pub record GotAndGaveBack (of_these of_those : List ℕ) (old new : View) : Type 0 where
+  pub got : new.got ≡ of_these ++ old.got
+  pub returned : new.returned ≡ of_those ++ old.returned

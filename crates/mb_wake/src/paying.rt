@@ -5,9 +5,10 @@ ghost use Rattle.mb_gate.specs.View.{owes};
 ghost use Rattle.mb_gate.specs.Names.{gates_id, held_actor, pass_id, actors_of, known_by};
 ghost use Rattle.mb_gate.specs.Untouched.{origin_of};
 ghost use Rattle.mb_gate.specs.declared.claim.Claim.{Claim};
+ghost use Rattle.mb_wake.specs.Due.{GotOnlyDue};
 ghost use Rattle.mb_wake.specs.Owed.{is_owed};
 ghost use Rattle.mb_wake.specs.Views.{LooksAfter, LooksAmong};
-ghost use Rattle.mb_wake.specs.Waking.{StopsAt};
+ghost use Rattle.mb_wake.specs.Waking.{LosesNoClaim, StopsAt};
 
 use crate::unpaid::Unpaid;
 use crate::waker::Waker;
@@ -35,6 +36,11 @@ impl<H: Resident, W: Way<H>> Waker<H, W> {
         ensures refused { MatchResult result (λ _. W.refused self.new.way ≡ W.refused self.old.way) (λ _. StopsAt
             (record { pushed = W.pushed self.old.way; refused = W.refused self.old.way; owed = self.old.owed })
             (record { pushed = W.pushed self.new.way; refused = W.refused self.new.way; owed = self.new.owed })) }
+        ensures handed { LosesNoClaim
+            (record { pushed = W.pushed self.old.way; refused = W.refused self.old.way; owed = self.old.owed })
+            (record { pushed = W.pushed self.new.way; refused = W.refused self.new.way; owed = self.new.owed })
+            (known_by self.old.pass) (known_by self.new.pass) }
+        ensures due { GotOnlyDue false false (known_by self.old.pass) (known_by self.new.pass) }
     {
         for number in 0..ACTORS {
             if number as usize >= gates.actors() {
@@ -60,6 +66,11 @@ impl<H: Resident, W: Way<H>> Waker<H, W> {
             × (held_actor claim ≡ id.0) × (W.refused self.new.way ≡ W.refused self.old.way ++ claim ∷ [])) }
         ensures none { is_owed self.old.owed id.0 ≡ false → self.new ≡ self.old }
         ensures others { (other : ℕ) → other < 64 → other ≢ id.0 → is_owed self.new.owed other ≡ is_owed self.old.owed other }
+        ensures handed { LosesNoClaim
+            (record { pushed = W.pushed self.old.way; refused = W.refused self.old.way; owed = self.old.owed })
+            (record { pushed = W.pushed self.new.way; refused = W.refused self.new.way; owed = self.new.owed })
+            (known_by self.old.pass) (known_by self.new.pass) }
+        ensures due { GotOnlyDue false false (known_by self.old.pass) (known_by self.new.pass) }
     {
         if !self.owed.contains(id) {
             return Ok(());

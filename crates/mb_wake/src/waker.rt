@@ -4,8 +4,9 @@ ghost use Rattle.mb_gate.specs.View.{owes};
 ghost use Rattle.mb_gate.specs.Names.{gates_id, pass_id, actors_of, known_by};
 ghost use Rattle.mb_gate.specs.Untouched.{origin_of};
 ghost use Rattle.mb_wake.specs.Owed.{is_owed};
+ghost use Rattle.mb_wake.specs.Due.{GotOnlyDue};
 ghost use Rattle.mb_wake.specs.Views.{LooksAfter};
-ghost use Rattle.mb_wake.specs.Waking.{IsWoken};
+ghost use Rattle.mb_wake.specs.Waking.{HandsOn, IsWoken};
 
 use crate::due::{is_due, take_due};
 use crate::owed::Owed;
@@ -29,7 +30,7 @@ pub struct Waker<H, W> {
 impl<H: Resident, W: Way<H>> Waker<H, W> {
     /// Gives the claim of the actor to the pool, where the actor has to be given to a worker
     /// (`Dispatcher.registerForExecution`), and answers whether it did. A hint says that the actor has envelopes, or system
-    /// work, and spares the look.
+    /// work, and spares the look. It takes the claim only of an actor that it saw to be due.
     ///
     /// Where the pool refuses the claim, it goes home, and the actor is owed a look.
     #[inline(always)]
@@ -49,6 +50,11 @@ impl<H: Resident, W: Way<H>> Waker<H, W> {
         ensures woken { IsWoken id.0
             (record { pushed = W.pushed self.old.way; refused = W.refused self.old.way; owed = self.old.owed })
             (record { pushed = W.pushed self.new.way; refused = W.refused self.new.way; owed = self.new.owed }) result }
+        ensures handed { HandsOn id.0
+            (record { pushed = W.pushed self.old.way; refused = W.refused self.old.way; owed = self.old.owed })
+            (record { pushed = W.pushed self.new.way; refused = W.refused self.new.way; owed = self.new.owed })
+            (known_by self.old.pass) (known_by self.new.pass) result }
+        ensures due { GotOnlyDue messages system (known_by self.old.pass) (known_by self.new.pass) }
     {
         if !is_due(gates, &mut self.pass, id, messages, system) {
             return false;
@@ -74,6 +80,10 @@ impl<H: Resident, W: Way<H>> Waker<H, W> {
         ensures woken { IsWoken id.0
             (record { pushed = W.pushed self.old.way; refused = W.refused self.old.way; owed = self.old.owed })
             (record { pushed = W.pushed self.new.way; refused = W.refused self.new.way; owed = self.new.owed }) result }
+        ensures handed { HandsOn id.0
+            (record { pushed = W.pushed self.old.way; refused = W.refused self.old.way; owed = self.old.owed })
+            (record { pushed = W.pushed self.new.way; refused = W.refused self.new.way; owed = self.new.owed })
+            (known_by self.old.pass) (known_by self.new.pass) result }
     {
         let Some(claim) = take_due(rt, gates, &mut self.pass, id, messages, system) else {
             return false;

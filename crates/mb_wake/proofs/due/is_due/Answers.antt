@@ -1,11 +1,13 @@
-use Rattle.std.proofs.Common.{◌≡◌, subst, sym, ap, ◌∙◌}
+use Rattle.std.proofs.Common.{◌≡◌, ◌++◌, [], subst, sym, ap, ◌∙◌}
 use Rattle.mb_status.specs.Mailbox.{word_of, mailbox_of}
 use Rattle.mb_gate.specs.Names.{known_by}
-use Rattle.mb_gate.specs.View.{owes, seeing, Read}
+use Rattle.mb_gate.specs.View.{View, owes, seeing, Read}
 use Rattle.mb_core.specs.Run.{after_reading}
 use Rattle.mb_wake.specs.Views.{LooksAfter}
 use Rattle.mb_wake.proofs.Views.{looks-reading, looks-then, owes-same}
 use Rattle.mb_wake.proofs.Debts.{paid}
+use Rattle.mb_wake.proofs.Turns.{turns-read, turns-then}
+use Rattle.mb_wake.proofs.Dues.{due-by, due-hinted}
 use Rattle.mb_wake.proofs.due.is_due.Goals as goal
 
 pub returns-clause-looks : goal.returns-clause-looks
@@ -42,3 +44,38 @@ pub returns-then-should_process-clause-looks : goal.returns-then-should_process-
 returns-then-should_process-clause-looks g c =
     subst (LooksAfter c.args.id.0 (known_by c.args.pass.now)) (sym c.status-status.ensures.known)
     (looks-reading c.args.id.0 (word_of c.status-status.result) (known_by c.args.pass.now))
+
+pub returns-clause-turns : goal.returns-clause-turns
+returns-clause-turns g c =
+    let id = c.args.id.0 in
+    let a = known_by c.args.pass.now in
+    let b = known_by c.status-status.new.pass in
+    let d = known_by c.has_system-system.new.pass in
+    let e = known_by c.has_messages-messages.new.pass in
+    turns-then [] [] [] [] a b e (turns-read id (word_of c.status-status.result) a b c.status-status.ensures.known)
+    (turns-then [] [] [] [] b d e c.has_system-system.ensures.turns c.has_messages-messages.ensures.turns)
+
+pub returns-then-closed-clause-turns : goal.returns-then-closed-clause-turns
+returns-then-closed-clause-turns g c =
+    turns-read c.args.id.0 (word_of c.status-status.result) (known_by c.args.pass.now) _ c.status-status.ensures.known
+
+pub returns-then-should_process-clause-turns : goal.returns-then-should_process-clause-turns
+returns-then-should_process-clause-turns g c =
+    turns-read c.args.id.0 (word_of c.status-status.result) (known_by c.args.pass.now) _ c.status-status.ensures.known
+
+pub returns-clause-due : goal.returns-clause-due
+returns-clause-due g c is =
+    let id = c.args.id.0 in
+    let a = known_by c.args.pass.now in
+    let b = known_by c.status-status.new.pass in
+    let d = known_by c.has_system-system.new.pass in
+    let e = known_by c.has_messages-messages.new.pass in
+    let look = c.has_system-system.ensures.looks in let count = c.has_messages-messages.ensures.looks in
+    due-by id c.args.messages c.args.system c.status-status.result c.has_messages-messages.result c.has_system-system.result a b d e
+    (look.looks ++ []) (count.looks ++ []) (sym c.can_schedule.ensures ∙ is) (ap (λ (v : View). v.log) c.status-status.ensures.known)
+    look.log count.log c.has_system-system.ensures.seen c.has_messages-messages.ensures.seen
+
+pub returns-then-should_process-clause-due : goal.returns-then-should_process-clause-due
+returns-then-should_process-clause-due g c is =
+    due-hinted c.args.id.0 c.args.messages c.args.system c.status-status.result (known_by c.args.pass.now) (known_by c.status-status.new.pass)
+    (sym c.should_process.ensures ∙ c.if-should_process.true) c.if-messages.true (ap (λ (v : View). v.log) c.status-status.ensures.known)

@@ -5,6 +5,7 @@ use Rattle.mb_gate.specs.Names.{known_by, known_of, held_actor, status_of, gave_
 use Rattle.mb_gate.specs.View.{View, taking_in}
 use Rattle.mb_wake.proofs.AtHome.{extends-same, shut-same, told-nothing, rest-open}
 use Rattle.mb_wake.proofs.Views.{looks-back}
+use Rattle.mb_wake.proofs.Turns.{turns-back}
 use Rattle.mb_wake.proofs.untouched.give_home.Goals as goal
 
 pub release-requires-clause-longer : goal.release-requires-clause-longer
@@ -39,3 +40,11 @@ returns-clause-looks g c =
     looks-back (held_actor claim) (g.H.Resident.journal home) (g.H.Resident.journal home) (g.H.Resident.closed_to home) (word_of (status_of claim))
     (gave_last claim) (g.H.Resident.given home) (held_actor claim) (known_by c.args.pass.now) (known_of claim) (known_by c.release.new.pass) refl
     c.requires.untouched.known c.release.ensures.known
+
+pub returns-clause-turns : goal.returns-clause-turns
+returns-clause-turns g c =
+    let claim = c.args.claim in
+    let home = claim.home in
+    turns-back (held_actor claim) (g.H.Resident.journal home) (g.H.Resident.journal home) (g.H.Resident.closed_to home) (word_of (status_of claim))
+    (gave_last claim) (g.H.Resident.given home) (known_by c.args.pass.now) (known_of claim) (known_by c.release.new.pass) c.requires.untouched.known
+    c.release.ensures.known

@@ -1,8 +1,9 @@
-use Rattle.std.proofs.Common.{◌∙◌, ℕ, refl, subst, ap, inr}
+use Rattle.std.proofs.Common.{◌∙◌, ℕ, [], ◌∷◌, refl, subst, ap, inl, inr}
 use Rattle.mb_gate.specs.Names.{known_by, held_actor}
 use Rattle.mb_gate.specs.declared.claim.Claim.{Claim}
-use Rattle.mb_wake.specs.Views.{LooksAfter}
+use Rattle.mb_wake.specs.Views.{GotAndGaveBack, LooksAfter}
 use Rattle.mb_wake.proofs.Views.{looks-then}
+use Rattle.mb_wake.proofs.Turns.{turns-then}
 use Rattle.mb_wake.proofs.waker.Waker.wake.Goals as goal
 
 pub returns-in-Ok-clause-woken : goal.returns-in-Ok-clause-woken
@@ -29,3 +30,35 @@ returns-in-Err-clause-woken g c = inr (record {
   refused = c.in-Err.ensures.pushed.2;
   owed = c.insert.ensures;
 })
+
+pub returns-in_default-clause-handed : goal.returns-in_default-clause-handed
+returns-in_default-clause-handed g c = inl (refl, c.in_default.ensures.turns)
+
+pub returns-in-Ok-clause-handed : goal.returns-in-Ok-clause-handed
+returns-in-Ok-clause-handed g c = (
+  record {
+    claim = c.in-Some.claim;
+    of = c.in-Some.ensures.claim.0;
+    pushed = c.in-Ok.ensures.pushed.0;
+    refused = c.in-Ok.ensures.pushed.1;
+    owed = refl;
+  },
+  c.in-Some.ensures.turns,
+)
+
+pub returns-in-Err-clause-handed : goal.returns-in-Err-clause-handed
+returns-in-Err-clause-handed g c =
+    let id = c.args.id.0 in
+    let a = known_by c.args.self.now.pass in let b = known_by c.take_due.new.pass in let d = known_by c.give_home.new.pass in
+    let here = ap (λ (k : Claim _). held_actor k) c.in-Err.ensures.pushed.0 ∙ c.in-Some.ensures.claim.0 in
+    inr (
+      record {
+        claim = c.in-Some.claim;
+        of = c.in-Some.ensures.claim.0;
+        pushed = c.in-Err.ensures.pushed.1;
+        refused = c.in-Err.ensures.pushed.2;
+        owed = c.insert.ensures;
+      },
+      turns-then (id ∷ []) [] [] (id ∷ []) a b d c.in-Some.ensures.turns
+          (subst (λ (n : ℕ). GotAndGaveBack [] (n ∷ []) b d) here c.give_home.ensures.turns),
+    )
