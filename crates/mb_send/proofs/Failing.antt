@@ -2,7 +2,6 @@
 use Rattle.std.proofs.Common.{◌≡◌, Err, OnErr, IsErrOf, Ok, Result, ap, subst, sym, ◌∙◌}
 use Rattle.mb_msg.specs.declared.id.ActorId.{ActorId}
 use Rattle.mb_gate.specs.Names.{known_by}
-use Rattle.mb_gate.specs.View.{View}
 use Rattle.mb_send.specs.Answers.{IsSeen}
 use Rattle.mb_send.specs.Faults.{OnlyLooked, SaysTheSame}
 use Rattle.mb_send.specs.declared.book.Book.{Book}

@@ -169,4 +169,6 @@ pub returns-in-Err-clause-woken : goal.returns-in-Err-clause-woken
 returns-in-Err-clause-woken g c = (c.register-in-Err.result, c.register-in-Err.ensures.woken)
 
 pub returns-in_err-ready-clause-woken : goal.returns-in_err-ready-clause-woken
-returns-in_err-ready-clause-woken g c = let waker = c.args.self.now.waker in wakes-nobody _ _ c.args.ticket.to.0 waker waker refl refl
+returns-in_err-ready-clause-woken g c =
+    let waker = c.args.self.now.waker in
+    wakes-nobody g.W.Way.pushed g.W.Way.refused c.args.ticket.to.0 waker waker refl refl

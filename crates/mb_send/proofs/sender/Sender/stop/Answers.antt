@@ -43,8 +43,12 @@ returns-in_default-sys_enqueue-clause-woken g c = (c.register.result, c.register
 pub returns-clause-woken : goal.returns-clause-woken
 returns-clause-woken g c = (c.register-2.result, c.register-2.ensures.woken)
 
-pub returns-then-id-sends-clause-woken : goal.returns-then-id-sends-clause-woken
-returns-then-id-sends-clause-woken g c = let waker = c.args.self.now.waker in wakes-nobody _ _ c.args.id.0 waker waker refl refl
+pub returns-then-id-len-clause-woken : goal.returns-then-id-len-clause-woken
+returns-then-id-len-clause-woken g c =
+    let waker = c.args.self.now.waker in
+    wakes-nobody g.W.Way.pushed g.W.Way.refused c.args.id.0 waker waker refl refl
 
-pub returns-in_default-new-clause-woken : goal.returns-in_default-new-clause-woken
-returns-in_default-new-clause-woken g c = let waker = c.args.self.now.waker in wakes-nobody _ _ c.args.id.0 waker waker refl refl
+pub returns-in_default-clause-woken : goal.returns-in_default-clause-woken
+returns-in_default-clause-woken g c =
+    let waker = c.args.self.now.waker in
+    wakes-nobody g.W.Way.pushed g.W.Way.refused c.args.id.0 waker waker refl refl
