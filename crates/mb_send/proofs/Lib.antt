@@ -5,3 +5,4 @@ pub mod Vouching
 pub mod Bounding
 pub mod Crossing
 pub mod Owing
+pub mod Failing

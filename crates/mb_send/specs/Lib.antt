@@ -3,3 +3,5 @@ pub mod Sends
 pub mod Vouched
 pub mod Bounded
 pub mod Answers
+pub mod Faults
+pub mod Asked

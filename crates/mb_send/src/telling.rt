@@ -9,6 +9,8 @@ ghost use Rattle.mb_wake.specs.Owed.{is_owed};
 ghost use Rattle.mb_send.specs.Sends.{receiving_queues};
 ghost use Rattle.mb_send.specs.Answers.{IsSent, IsBuried, IsTold, reason};
 ghost use Rattle.mb_send.specs.Vouched.{has_seen_closed};
+ghost use Rattle.mb_send.specs.Faults.{OnlyLooked, SaysTheSame};
+ghost use Rattle.mb_send.specs.Asked.{WakesAtMost, account_of};
 
 use crate::put::Put;
 use crate::sender::Sender;
@@ -25,7 +27,8 @@ impl<H: Resident, W: Way<H>> Sender<H, W> {
     /// queue refuses since it is full, or any for want of memory, is a dead letter, which takes a number too.
     ///
     /// It answers `NoMemory` if there was no room for the dead letter that it might become, or the sender's last number is
-    /// used up: then nothing is sent, and no number is used. Whom the sender owed a look, it owes one still.
+    /// used up: then nothing is sent, and no number is used. Whom the sender owed a look, it owes one still, and besides the
+    /// receiver alone, where the pool refused its claim.
     pub fn put<R: Wait>(
         &mut self,
         rt: &R,
@@ -38,11 +41,13 @@ impl<H: Resident, W: Way<H>> Sender<H, W> {
         requires there { (0 < ticket.to.0) × (ticket.to.0 < actors_of gates.now) × (ticket.to.0 < 64) }
         ensures refused { OnErr result (IsErrOf result Unsent.NoMemory × (self.new.book.posted ≡ self.old.book.posted)
             × (self.new.waker ≡ self.old.waker)) }
+        ensures unsent { OnErr result (SaysTheSame self.old.book self.new.book × (self.new.sends ≡ self.old.sends)) }
         ensures sent { IfOk result (IsSent self.old.book.by self.old.book.sent ticket.to body self.old.book.posted self.new.book.posted
             self.old.sends.items (known_by self.old.waker.pass) (known_by self.new.waker.pass)) }
         ensures paid { IfOk result (λ _. (owes ticket.to.0 (known_by self.new.waker.pass) ≡ nothing) ⊎ (is_owed self.new.waker.owed ticket.to.0
             ≡ true)) }
         ensures still { (id : ℕ) → is_owed self.old.waker.owed id ≡ true → is_owed self.new.waker.owed id ≡ true }
+        ensures woken { WakesAtMost ticket.to.0 (account_of W.pushed W.refused self.old.waker) (account_of W.pushed W.refused self.new.waker) }
         ensures ours { (pass_id self.new.waker.pass ≡ pass_id self.old.waker.pass) × (W.origin self.new.waker.way ≡ W.origin self.old.waker.way) }
         ensures same { (self.new.book.by ≡ self.old.book.by) × (vec_len self.new.sends ≡ vec_len self.old.sends) }
         ensures queues { receiving_queues self.new.sends.items ≡ receiving_queues self.old.sends.items }
@@ -71,8 +76,9 @@ impl<H: Resident, W: Way<H>> Sender<H, W> {
     /// Sends this body to the receiver (`ActorRef.tell`): looks, and puts where it saw the receiver open. To one that it saw
     /// closed the envelope is a dead letter.
     ///
-    /// It answers `NoSuchActor` as a look does, and else `NoMemory` as a put does: then nothing is sent, and no number is used.
-    /// Whom the sender owed a look, it owes one still.
+    /// It answers `NoSuchActor` as a look does, and else `NoMemory` as a put does: then nothing is sent, and no number is used;
+    /// what was seen stays seen. Whom the sender owed a look, it owes one still, and besides the receiver alone, where the pool
+    /// refused its claim.
     pub fn tell<R: Wait>(
         &mut self,
         rt: &R,
@@ -85,10 +91,14 @@ impl<H: Resident, W: Way<H>> Sender<H, W> {
         ensures refused { OnErr result ((self.new.book.posted ≡ self.old.book.posted)
             × ((IsErrOf result Unsent.NoSuchActor × ((to.0 ≡ 0) ⊎ (actors_of gates.now ≤ to.0)))
             ⊎ (IsErrOf result Unsent.NoMemory × (0 < to.0) × (to.0 < actors_of gates.now)))) }
+        ensures unknown { IsErrOf result Unsent.NoSuchActor → self.new ≡ self.old }
+        ensures unsent { IsErrOf result Unsent.NoMemory → OnlyLooked to self.old self.new }
+        ensures there { IfOk result (λ _. (0 < to.0) × (to.0 < actors_of gates.now)) }
         ensures told { IfOk result (IsTold self.old.book.by self.old.book.sent to body self.old.book.posted self.new.book.posted
             self.old.sends.items (known_by self.old.waker.pass) (known_by self.new.waker.pass)) }
         ensures paid { IfOk result (λ _. (owes to.0 (known_by self.new.waker.pass) ≡ nothing) ⊎ (is_owed self.new.waker.owed to.0 ≡ true)) }
         ensures still { (id : ℕ) → is_owed self.old.waker.owed id ≡ true → is_owed self.new.waker.owed id ≡ true }
+        ensures woken { WakesAtMost to.0 (account_of W.pushed W.refused self.old.waker) (account_of W.pushed W.refused self.new.waker) }
         ensures ours { (pass_id self.new.waker.pass ≡ pass_id self.old.waker.pass) × (W.origin self.new.waker.way ≡ W.origin self.old.waker.way) }
         ensures same { (self.new.book.by ≡ self.old.book.by) × (vec_len self.new.sends ≡ vec_len self.old.sends) }
         ensures queues { receiving_queues self.new.sends.items ≡ receiving_queues self.old.sends.items }
@@ -105,6 +115,7 @@ impl<H: Resident, W: Way<H>> Sender<H, W> {
         requires closed { has_seen_closed (known_by self.old.waker.pass).log to.0 ≡ true }
         requires there { (0 < to.0) × (to.0 ≤ vec_len self.old.sends) }
         ensures refused { OnErr result (IsErrOf result Unsent.NoMemory × (self.new.book.posted ≡ self.old.book.posted)) }
+        ensures unsent { OnErr result (SaysTheSame self.old.book self.new.book) }
         ensures buried { IfOk result (IsBuried self.old.book.by self.old.book.sent to body self.old.book.posted self.new.book.posted) }
         ensures same { (self.new.waker ≡ self.old.waker) × (self.new.sends ≡ self.old.sends) × (self.new.book.by ≡ self.old.book.by) }
     {

@@ -5,6 +5,7 @@ ghost use Rattle.mb_gate.specs.Names.{actors_of};
 ghost use Rattle.mb_system.specs.Debts.{KeepsDebts};
 ghost use Rattle.mb_system.specs.Members.{IsSenderOf, sender_caller};
 ghost use Rattle.mb_system.specs.Orders.{HasSent, repeated};
+ghost use Rattle.mb_turn.specs.Caller.{OwesForRefusals};
 
 use crate::failure::{RunError, of_sending};
 use crate::sender::Sender;
@@ -54,6 +55,7 @@ impl<A: Actor, K: Behaviours> Sender<A, K> {
         ensures sent { OnOk result (HasSent (repeated repeats.now) self.old self.new) }
         ensures debts { OnOk result (KeepsDebts (actors_of system.now.gates) (sender_caller self.old.inner.waker)
             (sender_caller self.new.inner.waker)) }
+        ensures owed { OwesForRefusals (sender_caller self.old.inner.waker).account (sender_caller self.new.inner.waker).account }
         ensures fault { IfErr result (BreaksSending system.now.gates (repeated repeats.now)) }
     {
         for repeat in repeats {
@@ -76,6 +78,7 @@ impl<A: Actor, K: Behaviours> Sender<A, K> {
         ensures sent { OnOk result (HasSent (replicate times order) self.old self.new) }
         ensures debts { OnOk result (KeepsDebts (actors_of system.now.gates) (sender_caller self.old.inner.waker)
             (sender_caller self.new.inner.waker)) }
+        ensures owed { OwesForRefusals (sender_caller self.old.inner.waker).account (sender_caller self.new.inner.waker).account }
         ensures fault { IfErr result (BreaksSending system.now.gates (replicate times order)) }
     {
         for _ in 0..times {
@@ -85,7 +88,8 @@ impl<A: Actor, K: Behaviours> Sender<A, K> {
     }
 
     /// Sends all this, in order. It stops at the first fault: `NoSuchActor` or `NoMemory` as a tell or a stop answers it. What was
-    /// sent before stays sent. Whom the sender owes a look then, a `pay` looks after.
+    /// sent before stays sent. Whom the sender owes a look then, a `pay` looks after: those whom it owed one, and besides only
+    /// actors whose claims the pool refused.
     pub fn send_all<R: Wait>(
         &mut self,
         rt: &R,
@@ -98,6 +102,7 @@ impl<A: Actor, K: Behaviours> Sender<A, K> {
         ensures sent { OnOk result (HasSent orders.now self.old self.new) }
         ensures debts { OnOk result (KeepsDebts (actors_of system.now.gates) (sender_caller self.old.inner.waker)
             (sender_caller self.new.inner.waker)) }
+        ensures owed { OwesForRefusals (sender_caller self.old.inner.waker).account (sender_caller self.new.inner.waker).account }
         ensures fault { IfErr result (BreaksSending system.now.gates orders.now) }
     {
         for order in orders {
@@ -115,6 +120,7 @@ impl<A: Actor, K: Behaviours> Sender<A, K> {
         ensures sent { OnOk result (HasSent (order ∷ []) self.old self.new) }
         ensures debts { OnOk result (KeepsDebts (actors_of system.now.gates) (sender_caller self.old.inner.waker)
             (sender_caller self.new.inner.waker)) }
+        ensures owed { OwesForRefusals (sender_caller self.old.inner.waker).account (sender_caller self.new.inner.waker).account }
         ensures fault { IfErr result (BreaksSending system.now.gates (order ∷ [])) }
     {
         match order.what {

@@ -5,6 +5,8 @@ ghost use Rattle.mb_gate.specs.Names.{actors_of, known_by};
 ghost use Rattle.mb_gate.specs.Rule.{IsPart};
 ghost use Rattle.mb_gate.specs.View.{owes};
 ghost use Rattle.mb_send.specs.Answers.{IsSeen, IsSent, IsTold, Stops};
+ghost use Rattle.mb_send.specs.Asked.{WakesAtMost};
+ghost use Rattle.mb_send.specs.Faults.{OnlyLooked, SaysTheSame};
 ghost use Rattle.mb_send.specs.declared.unsent.Unsent.TheVariants as Refusal;
 ghost use Rattle.mb_wake.specs.Owed.{is_owed};
 ghost use Rattle.mb_wake.specs.Waking.{StopsAt};
@@ -58,7 +60,7 @@ impl<A: Actor, K: Behaviours> Sender<A, K> {
         ensures seen { IfOk result (λ look. (0 < to.0) × (to.0 < actors_of system.now.gates)
             × IsSeen to look (known_by self.old.inner.waker.pass) (known_by self.new.inner.waker.pass)) }
         ensures same { (self.new.inner.book ≡ self.old.inner.book) × (self.new.inner.sends ≡ self.old.inner.sends)
-            × (self.new.inner.waker.owed ≡ self.old.inner.waker.owed) }
+            × (self.new.inner.waker.owed ≡ self.old.inner.waker.owed) × (self.new.inner.waker.way ≡ self.old.inner.waker.way) }
     {
         self.inner.look(&system.gates, to)
     }
@@ -67,7 +69,7 @@ impl<A: Actor, K: Behaviours> Sender<A, K> {
     /// for want of memory, is a dead letter, which takes a number too.
     ///
     /// It answers `NoMemory` if there was no room for the dead letter that it might become, or the sender's last number is used up:
-    /// then nothing is sent, and no number is used.
+    /// then nothing is sent, and no number is used. It comes to owe a look to the receiver alone, where the pool refused its claim.
     pub fn put<R: Wait>(
         &mut self,
         rt: &R,
@@ -81,11 +83,13 @@ impl<A: Actor, K: Behaviours> Sender<A, K> {
         ensures by { self.new.inner.book.by ≡ self.old.inner.book.by }
         ensures refused { OnErr result (IsErrOf result Refusal.NoMemory × (self.new.inner.book.posted ≡ self.old.inner.book.posted)
             × (self.new.inner.waker ≡ self.old.inner.waker)) }
+        ensures unsent { OnErr result (SaysTheSame self.old.inner.book self.new.inner.book × (self.new.inner.sends ≡ self.old.inner.sends)) }
         ensures sent { IfOk result (IsSent self.old.inner.book.by self.old.inner.book.sent ticket.to body self.old.inner.book.posted
             self.new.inner.book.posted self.old.inner.sends.items (known_by self.old.inner.waker.pass) (known_by self.new.inner.waker.pass)) }
         ensures paid { IfOk result (λ _. (owes ticket.to.0 (known_by self.new.inner.waker.pass) ≡ nothing)
             ⊎ (is_owed self.new.inner.waker.owed ticket.to.0 ≡ true)) }
         ensures still { (id : ℕ) → is_owed self.old.inner.waker.owed id ≡ true → is_owed self.new.inner.waker.owed id ≡ true }
+        ensures woken { WakesAtMost ticket.to.0 (sender_caller self.old.inner.waker).account (sender_caller self.new.inner.waker).account }
     {
         self.inner.put(rt, &system.gates, ticket, body)
     }
@@ -93,7 +97,8 @@ impl<A: Actor, K: Behaviours> Sender<A, K> {
     /// Looks, and puts where the receiver was seen open (`ActorRef.tell`). To one that was seen closed the envelope is a dead
     /// letter.
     ///
-    /// It answers `NoSuchActor` as a look does, and else `NoMemory` as a put does: then nothing is sent, and no number is used.
+    /// It answers `NoSuchActor` as a look does, and else `NoMemory` as a put does: then nothing is sent, and no number is used;
+    /// what was seen stays seen. It comes to owe a look to the receiver alone, where the pool refused its claim.
     #[inline(always)]
     pub fn tell<R: Wait>(
         &mut self,
@@ -108,11 +113,15 @@ impl<A: Actor, K: Behaviours> Sender<A, K> {
         ensures refused { OnErr result ((self.new.inner.book.posted ≡ self.old.inner.book.posted)
             × ((IsErrOf result Refusal.NoSuchActor × ((to.0 ≡ 0) ⊎ (actors_of system.now.gates ≤ to.0)))
             ⊎ (IsErrOf result Refusal.NoMemory × (0 < to.0) × (to.0 < actors_of system.now.gates)))) }
+        ensures unknown { IsErrOf result Refusal.NoSuchActor → self.new ≡ self.old }
+        ensures unsent { IsErrOf result Refusal.NoMemory → OnlyLooked to self.old.inner self.new.inner }
+        ensures there { IfOk result (λ _. (0 < to.0) × (to.0 < actors_of system.now.gates)) }
         ensures told { IfOk result (IsTold self.old.inner.book.by self.old.inner.book.sent to body self.old.inner.book.posted
             self.new.inner.book.posted self.old.inner.sends.items (known_by self.old.inner.waker.pass) (known_by self.new.inner.waker.pass)) }
         ensures paid { IfOk result (λ _. (owes to.0 (known_by self.new.inner.waker.pass) ≡ nothing)
             ⊎ (is_owed self.new.inner.waker.owed to.0 ≡ true)) }
         ensures still { (id : ℕ) → is_owed self.old.inner.waker.owed id ≡ true → is_owed self.new.inner.waker.owed id ≡ true }
+        ensures woken { WakesAtMost to.0 (sender_caller self.old.inner.waker).account (sender_caller self.new.inner.waker).account }
     {
         self.inner.tell(rt, &system.gates, to, body)
     }
@@ -121,6 +130,7 @@ impl<A: Actor, K: Behaviours> Sender<A, K> {
     /// message went nowhere.
     ///
     /// It answers `NoSuchActor` for a number that no actor has, and else `NoMemory` if memory was refused: then nothing has changed.
+    /// It comes to owe a look to this actor alone, where the pool refused its claim.
     pub fn stop<R: Wait>(
         &mut self,
         rt: &R,
@@ -137,6 +147,7 @@ impl<A: Actor, K: Behaviours> Sender<A, K> {
         ensures paid { IfOk result (λ _. (owes id.0 (known_by self.new.inner.waker.pass) ≡ nothing)
             ⊎ (is_owed self.new.inner.waker.owed id.0 ≡ true)) }
         ensures still { (other : ℕ) → is_owed self.old.inner.waker.owed other ≡ true → is_owed self.new.inner.waker.owed other ≡ true }
+        ensures woken { WakesAtMost id.0 (sender_caller self.old.inner.waker).account (sender_caller self.new.inner.waker).account }
     {
         self.inner.stop(rt, &system.gates, id)
     }

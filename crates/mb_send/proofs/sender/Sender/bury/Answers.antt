@@ -7,6 +7,7 @@ use Rattle.mb_gate.specs.Names.{known_by}
 use Rattle.mb_fates.specs.Accepted.{dead_letters}
 use Rattle.mb_send.specs.Vouched.{are_vouched, has_seen_closed}
 use Rattle.mb_send.proofs.Bounding.{bounded-buried}
+use Rattle.mb_send.proofs.Failing.{after-any}
 use Rattle.mb_send.proofs.Vouching.{vouched-dead}
 use Rattle.mb_send.proofs.sender.Sender.bury.Goals as goal
 
@@ -29,3 +30,8 @@ invariant_of-self-2-clause-vouched g c =
     = c.post_dead.ensures.posted ∙ ap (λ (l : List Posting). l ++ posting e (Some why.Closed) ∷ []) c.ready.ensures.same.3 in
     ap (λ (l : List Posting). are_vouched log (dead_letters l)) posted
     ∙ vouched-dead log me.book.posted e why.Closed (ap (has_seen_closed log) to ∙ c.requires.closed) me.vouched
+
+pub returns-in_err-ready-clause-unsent : goal.returns-in_err-ready-clause-unsent
+returns-in_err-ready-clause-unsent g c =
+    let same = c.ready.ensures.same in
+    after-any c.from_residual.result (record { by = same.0; sent = same.1; dead = same.2; posted = same.3 })

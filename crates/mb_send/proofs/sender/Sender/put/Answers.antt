@@ -11,7 +11,8 @@ use Rattle.mb_send.specs.Bounded.{are_of_bounded, may_be_refused, queue_to}
 use Rattle.mb_send.proofs.Bounding.{bounded-queued, bounded-dead, may-find-full}
 use Rattle.mb_gate.specs.Names.{known_by}
 use Rattle.mb_send.proofs.Answering.{why-told}
-use Rattle.mb_send.proofs.Owing.{still-woken}
+use Rattle.mb_send.proofs.Failing.{after-any}
+use Rattle.mb_send.proofs.Owing.{still-woken, wakes-nobody}
 use Rattle.mb_wake.proofs.Views.{does-then, does-sending, does-unsending}
 use Rattle.mb_queue.specs.Passes.{Queue, Sending}
 use Rattle.mb_send.proofs.Routes.{routes-more, routes-dead, queue-there, queues-set}
@@ -155,3 +156,19 @@ returns-in-Ok-clause-still g c = still-woken _ _ _ _ c.register.ensures.woken
 
 pub returns-in-Err-clause-still : goal.returns-in-Err-clause-still
 returns-in-Err-clause-still g c = still-woken _ _ _ _ c.register-in-Err.ensures.woken
+
+pub returns-in_err-ready-clause-unsent : goal.returns-in_err-ready-clause-unsent
+returns-in_err-ready-clause-unsent g c =
+    let same = c.ready.ensures.same in
+    after-any c.from_residual.result (record { by = same.0; sent = same.1; dead = same.2; posted = same.3 }, refl)
+
+pub returns-in-Ok-clause-woken : goal.returns-in-Ok-clause-woken
+returns-in-Ok-clause-woken g c = (c.register.result, c.register.ensures.woken)
+
+pub returns-in-Err-clause-woken : goal.returns-in-Err-clause-woken
+returns-in-Err-clause-woken g c = (c.register-in-Err.result, c.register-in-Err.ensures.woken)
+
+pub returns-in_err-ready-clause-woken : goal.returns-in_err-ready-clause-woken
+returns-in_err-ready-clause-woken g c =
+    let waker = c.args.self.now.waker in
+    wakes-nobody g.W.Way.pushed g.W.Way.refused c.args.ticket.to.0 waker waker refl refl

@@ -1,9 +1,10 @@
-use Rattle.std.proofs.Common.{◌≡◌, [], true, sym, subst}
+use Rattle.std.proofs.Common.{◌≡◌, [], true, refl, sym, subst}
 use Rattle.mb_gate.specs.Named.{NamesBelow}
 use Rattle.mb_gate.specs.Names.{actors_of, known_by}
 use Rattle.mb_gate.specs.View.{View, Pushed}
 use Rattle.mb_fates.specs.Accepted.{dead_letters}
 use Rattle.mb_send.specs.Vouched.{are_vouched}
+use Rattle.mb_send.proofs.Owing.{wakes-nobody}
 use Rattle.mb_send.proofs.Vouching.{vouched-seen, vouched-does}
 use Rattle.mb_send.proofs.sender.Sender.stop.Goals as goal
 
@@ -35,3 +36,19 @@ invariant_of-self-2 g c =
           c.register-2.ensures.looks listed;
       bounded = old.bounded;
     }
+
+pub returns-in_default-sys_enqueue-clause-woken : goal.returns-in_default-sys_enqueue-clause-woken
+returns-in_default-sys_enqueue-clause-woken g c = (c.register.result, c.register.ensures.woken)
+
+pub returns-clause-woken : goal.returns-clause-woken
+returns-clause-woken g c = (c.register-2.result, c.register-2.ensures.woken)
+
+pub returns-then-id-len-clause-woken : goal.returns-then-id-len-clause-woken
+returns-then-id-len-clause-woken g c =
+    let waker = c.args.self.now.waker in
+    wakes-nobody g.W.Way.pushed g.W.Way.refused c.args.id.0 waker waker refl refl
+
+pub returns-in_default-clause-woken : goal.returns-in_default-clause-woken
+returns-in_default-clause-woken g c =
+    let waker = c.args.self.now.waker in
+    wakes-nobody g.W.Way.pushed g.W.Way.refused c.args.id.0 waker waker refl refl

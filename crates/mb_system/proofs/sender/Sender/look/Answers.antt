@@ -25,4 +25,4 @@ pub returns-clause-seen : goal.returns-clause-seen
 returns-clause-seen g c = c.look.ensures.seen
 
 pub returns-clause-same : goal.returns-clause-same
-returns-clause-same g c = (c.look.ensures.same.0, c.look.ensures.same.1, c.look.ensures.same.2)
+returns-clause-same g c = let same = c.look.ensures.same in (same.0, same.1, same.2, same.3)

@@ -33,3 +33,9 @@ returns-clause-still g c = c.put.ensures.still
 
 pub returns-clause-refused : goal.returns-clause-refused
 returns-clause-refused g c = c.put.ensures.refused
+
+pub returns-clause-woken : goal.returns-clause-woken
+returns-clause-woken g c = c.put.ensures.woken
+
+pub returns-clause-unsent : goal.returns-clause-unsent
+returns-clause-unsent g c = c.put.ensures.unsent

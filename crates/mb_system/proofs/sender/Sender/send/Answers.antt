@@ -1,5 +1,6 @@
 use Rattle.std.proofs.Common.{◌∙◌, ◌∷◌, [], Err, ap, subst, sym}
 use Rattle.mb_gate.specs.Names.{actors_of}
+use Rattle.mb_turn.proofs.CallerLemmas.{account-woken}
 use Rattle.mb_system.specs.Faults.{IsToNobody}
 use Rattle.mb_system.proofs.Breaking.{breaks-one, to-nobody}
 use Rattle.mb_system.specs.Orders.{HasSent}
@@ -87,3 +88,15 @@ returns-in-Err-clause-debts g c = tt
 
 pub returns-in-Err-stop-clause-debts : goal.returns-in-Err-stop-clause-debts
 returns-in-Err-stop-clause-debts g c = tt
+
+pub returns-in-Ok-clause-owed : goal.returns-in-Ok-clause-owed
+returns-in-Ok-clause-owed g c = account-woken _ _ _ c.tell.ensures.woken.0 c.tell.ensures.woken.1
+
+pub returns-in-Err-clause-owed : goal.returns-in-Err-clause-owed
+returns-in-Err-clause-owed g c = account-woken _ _ _ c.tell.ensures.woken.0 c.tell.ensures.woken.1
+
+pub returns-in-Ok-stop-clause-owed : goal.returns-in-Ok-stop-clause-owed
+returns-in-Ok-stop-clause-owed g c = account-woken _ _ _ c.stop.ensures.woken.0 c.stop.ensures.woken.1
+
+pub returns-in-Err-stop-clause-owed : goal.returns-in-Err-stop-clause-owed
+returns-in-Err-stop-clause-owed g c = account-woken _ _ _ c.stop.ensures.woken.0 c.stop.ensures.woken.1

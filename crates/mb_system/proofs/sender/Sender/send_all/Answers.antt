@@ -3,14 +3,19 @@ use Rattle.std.proofs.lemmas.List.{take_more}
 use Rattle.mb_gate.specs.Names.{actors_of}
 use Rattle.mb_system.specs.Members.{sender_caller}
 use Rattle.mb_system.specs.Orders.{HasSent}
+use Rattle.mb_turn.proofs.CallerLemmas.{account-none, account-then}
 use Rattle.mb_system.proofs.Debts.{debts-same, debts-then}
 use Rattle.mb_system.proofs.Sending.{sent-none, sent-then}
 use Rattle.mb_system.proofs.sender.Sender.send_all.Goals as goal
 
 pub loop-order-init : goal.loop-order-init
 loop-order-init g c =
-    let first = c.args.self.now in let caller = sender_caller first.inner.waker in
-    (c.requires.ours, sent-none first, debts-same (actors_of c.args.system.now.gates) caller caller refl refl)
+    let first = c.args.self.now in let caller = sender_caller first.inner.waker in (
+      c.requires.ours,
+      sent-none first,
+      debts-same (actors_of c.args.system.now.gates) caller caller refl refl,
+      account-none caller.account,
+    )
 
 pub loop-order-preserved : goal.loop-order-preserved
 loop-order-preserved g c =
@@ -21,6 +26,7 @@ loop-order-preserved g c =
           (sent-then _ _ _ _ _ at.invariant.1 one.sent),
       debts-then (actors_of c.args.system.now.gates) (sender_caller c.args.self.now.inner.waker) (sender_caller at.self.inner.waker)
           (sender_caller c.send.new.self.inner.waker) at.invariant.2 one.debts,
+      account-then _ _ _ at.invariant.3 c.send.ensures.owed,
     )
 
 pub returns-clause-ours : goal.returns-clause-ours
@@ -40,3 +46,9 @@ returns-in_err-send-clause-ours g c = c.send.ensures.ours
 
 pub returns-in_err-send-clause-by : goal.returns-in_err-send-clause-by
 returns-in_err-send-clause-by g c = c.send.ensures.by ∙ c.loop-order.invariant.1.by
+
+pub returns-clause-owed : goal.returns-clause-owed
+returns-clause-owed g c = c.loop-order.invariant.3
+
+pub returns-in_err-send-clause-owed : goal.returns-in_err-send-clause-owed
+returns-in_err-send-clause-owed g c = account-then _ _ _ c.loop-order.invariant.3 c.send.ensures.owed

@@ -1,6 +1,7 @@
 use Rattle.std.proofs.Common.{refl, ◌∙◌, replicate, arith, subst, sym}
 use Rattle.mb_gate.specs.Names.{actors_of}
 use Rattle.mb_system.specs.Members.{sender_caller}
+use Rattle.mb_turn.proofs.CallerLemmas.{account-none, account-then}
 use Rattle.mb_system.proofs.Debts.{debts-same, debts-then}
 use Rattle.mb_system.proofs.Sending.{sent-again, sent-none}
 use Rattle.std.specs.Prelude.{IfErr}
@@ -11,8 +12,12 @@ use Rattle.mb_system.proofs.sender.Sender.send_often.Goals as goal
 
 pub loop-init : goal.loop-init
 loop-init g c =
-    let first = c.args.self.now in let caller = sender_caller first.inner.waker in
-    (c.requires.ours, sent-none first, debts-same (actors_of c.args.system.now.gates) caller caller refl refl)
+    let first = c.args.self.now in let caller = sender_caller first.inner.waker in (
+      c.requires.ours,
+      sent-none first,
+      debts-same (actors_of c.args.system.now.gates) caller caller refl refl,
+      account-none caller.account,
+    )
 
 pub loop-preserved : goal.loop-preserved
 loop-preserved g c =
@@ -21,6 +26,7 @@ loop-preserved g c =
       sent-again c.args.order c.loop.counter c.args.self.now c.loop.self c.send.new.self c.loop.invariant.1 one.sent,
       debts-then (actors_of c.args.system.now.gates) (sender_caller c.args.self.now.inner.waker) (sender_caller c.loop.self.inner.waker)
           (sender_caller c.send.new.self.inner.waker) c.loop.invariant.2 one.debts,
+      account-then _ _ _ c.loop.invariant.3 c.send.ensures.owed,
     )
 
 pub returns-clause-ours : goal.returns-clause-ours
@@ -47,3 +53,9 @@ returns-in_err-send-clause-fault g c =
     let p = err_from_is_err_and c.from_residual.result c.from_residual.ensures.1 in let more = c.loop-test.true in
     subst (λ r. IfErr r breaks) (sym p.1)
     (subst breaks (sym p.2) (breaks-often gates c.args.order c.args.times _ (omega (arith, more)) c.in_err-send.ensures.fault))
+
+pub returns-clause-owed : goal.returns-clause-owed
+returns-clause-owed g c = c.loop.invariant.3
+
+pub returns-in_err-send-clause-owed : goal.returns-in_err-send-clause-owed
+returns-in_err-send-clause-owed g c = account-then _ _ _ c.loop.invariant.3 c.send.ensures.owed

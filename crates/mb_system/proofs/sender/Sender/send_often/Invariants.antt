@@ -1,5 +1,6 @@
 use Rattle.std.proofs.Common.{replicate}
 use Rattle.mb_gate.specs.Names.{actors_of}
+use Rattle.mb_turn.specs.Caller.{OwesForRefusals}
 use Rattle.mb_system.specs.Debts.{KeepsDebts}
 use Rattle.mb_system.specs.Members.{IsSenderOf, sender_caller}
 use Rattle.mb_system.specs.Orders.{HasSent}
@@ -9,3 +10,4 @@ abbrev pub invariant-loop : goal.invariant-loop
 invariant-loop g l =
     IsSenderOf l.system.gates l.self.inner × HasSent (replicate l.counter l.order) l.fn.self l.self
     × KeepsDebts (actors_of l.system.gates) (sender_caller l.fn.self.inner.waker) (sender_caller l.self.inner.waker)
+    × OwesForRefusals (sender_caller l.fn.self.inner.waker).account (sender_caller l.self.inner.waker).account

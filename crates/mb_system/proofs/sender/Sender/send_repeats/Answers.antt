@@ -6,14 +6,19 @@ use Rattle.mb_system.specs.Members.{sender_caller}
 use Rattle.mb_system.specs.Faults.{BreaksSending}
 use Rattle.mb_system.specs.Orders.{HasSent, repeated}
 use Rattle.mb_system.proofs.Breaking.{breaks-repeated}
+use Rattle.mb_turn.proofs.CallerLemmas.{account-none, account-then}
 use Rattle.mb_system.proofs.Debts.{debts-same, debts-then}
 use Rattle.mb_system.proofs.Sending.{repeated-next, sent-none, sent-then}
 use Rattle.mb_system.proofs.sender.Sender.send_repeats.Goals as goal
 
 pub loop-repeat-init : goal.loop-repeat-init
 loop-repeat-init g c =
-    let first = c.args.self.now in let caller = sender_caller first.inner.waker in
-    (c.requires.ours, sent-none first, debts-same (actors_of c.args.system.now.gates) caller caller refl refl)
+    let first = c.args.self.now in let caller = sender_caller first.inner.waker in (
+      c.requires.ours,
+      sent-none first,
+      debts-same (actors_of c.args.system.now.gates) caller caller refl refl,
+      account-none caller.account,
+    )
 
 pub loop-repeat-preserved : goal.loop-repeat-preserved
 loop-repeat-preserved g c =
@@ -24,6 +29,7 @@ loop-repeat-preserved g c =
           (sent-then _ _ _ _ _ at.invariant.1 one.sent),
       debts-then (actors_of c.args.system.now.gates) (sender_caller c.args.self.now.inner.waker) (sender_caller at.self.inner.waker)
           (sender_caller c.send_often.new.self.inner.waker) at.invariant.2 one.debts,
+      account-then _ _ _ at.invariant.3 c.send_often.ensures.owed,
     )
 
 pub returns-in_err-send_often-clause-fault : goal.returns-in_err-send_often-clause-fault
@@ -52,3 +58,9 @@ returns-in_err-send_often-clause-ours g c = c.send_often.ensures.ours
 
 pub returns-in_err-send_often-clause-by : goal.returns-in_err-send_often-clause-by
 returns-in_err-send_often-clause-by g c = c.send_often.ensures.by ∙ c.loop-repeat.invariant.1.by
+
+pub returns-clause-owed : goal.returns-clause-owed
+returns-clause-owed g c = c.loop-repeat.invariant.3
+
+pub returns-in_err-send_often-clause-owed : goal.returns-in_err-send_often-clause-owed
+returns-in_err-send_often-clause-owed g c = account-then _ _ _ c.loop-repeat.invariant.3 c.send_often.ensures.owed

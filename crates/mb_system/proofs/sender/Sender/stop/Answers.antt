@@ -31,3 +31,6 @@ returns-clause-paid g c = c.stop.ensures.paid
 
 pub returns-clause-still : goal.returns-clause-still
 returns-clause-still g c = c.stop.ensures.still
+
+pub returns-clause-woken : goal.returns-clause-woken
+returns-clause-woken g c = c.stop.ensures.woken

@@ -29,3 +29,15 @@ returns-clause-paid g c = c.tell.ensures.paid
 
 pub returns-clause-still : goal.returns-clause-still
 returns-clause-still g c = c.tell.ensures.still
+
+pub returns-clause-woken : goal.returns-clause-woken
+returns-clause-woken g c = c.tell.ensures.woken
+
+pub returns-clause-unsent : goal.returns-clause-unsent
+returns-clause-unsent g c = c.tell.ensures.unsent
+
+pub returns-clause-there : goal.returns-clause-there
+returns-clause-there g c = c.tell.ensures.there
+
+pub returns-clause-unknown : goal.returns-clause-unknown
+returns-clause-unknown g c unknown i = record { inner = c.tell.ensures.unknown unknown i }
