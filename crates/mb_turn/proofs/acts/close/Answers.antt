@@ -2,13 +2,16 @@ use Rattle.std.proofs.Common.{refl, ap, ◌∙◌, subst}
 use Rattle.std.specs.Prelude.{OnOk}
 use Rattle.std.specs.Global.{Box}
 use Rattle.mb_status.specs.Mailbox.{Mailbox, word_of}
+use Rattle.mb_journal.specs.Life.{closed}
 use Rattle.mb_gate.specs.Names.{known_by, status_of}
 use Rattle.mb_gate.specs.Untouched.{origin_of}
 use Rattle.mb_cell.specs.Seen.{Seen}
 use Rattle.mb_queue.specs.Passes.{Taking}
 use Rattle.mb_home.specs.Contents.{Contents}
 use Rattle.mb_turn.specs.Emptied.{FindsNoMore}
+use Rattle.mb_turn.specs.Hold.{hold_of}
 use Rattle.mb_turn.proofs.BesideLemmas.{keeps-then}
+use Rattle.mb_turn.proofs.CleanLemmas.{ended-closed}
 use Rattle.mb_turn.proofs.StatusLemmas.{keeps-written, count-written, running-closed}
 use Rattle.mb_turn.proofs.acts.close.Goals as goal
 
@@ -41,6 +44,13 @@ returns-clause-same g c =
     let old = c.args.claim.now in let new = c.close_mailbox.new.claim in let did = c.close_mailbox.ensures in
     keeps-then _ _ _ (keeps-written old new (status_of new) (word_of (status_of new)) did.ours did.home did.known did.taken refl)
     c.clean_up.ensures.same
+
+pub returns-clause-ended : goal.returns-clause-ended
+returns-clause-ended g c =
+    let mid = c.close_mailbox.new.claim in
+    ap (λ (x : Seen). closed x.who x.journal) c.clean_up.ensures.left
+    ∙ ended-closed g.K.Behaviours.gives (origin_of c.args.gates.now) (known_by c.args.waker.now.pass).log (hold_of mid) mid.home.value.cell.acts
+    (clean_up-requires-clause-closed g c) (clean_up-requires-clause-running g c)
 
 pub returns-clause-emptied : goal.returns-clause-emptied
 returns-clause-emptied g c =
