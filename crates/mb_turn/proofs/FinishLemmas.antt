@@ -187,7 +187,8 @@ pub leaves-run : (throughput : ℕ) (first last : Claim (Box Contents)) (old pas
     turn.envelopes ≤ most_envelopes throughput →
     IsReason last.home.value.cell.who throughput turn.envelopes last.home.value.cell.journal stopped →
     EndsDrained (held_actor last) (known_of last).log stopped → AsksWithRoom last.home.value.cell.who last.home.value.cell.journal stopped →
-    TakesDry (held_actor last) (known_of last).log → IsAmong (Saw (held_actor last) last.home.value.cell.journal) pass.log → TakesOver old pass (known_of last).log → (known_of first).log ≡ [] →
+    TakesDry (held_actor last) (known_of last).log → IsAmong (Saw (held_actor last) last.home.value.cell.journal) pass.log →
+    TakesOver old pass (known_of last).log → (known_of first).log ≡ [] →
     first.home.value.take.taken ≡ begun first.home.value.cell.journal →
     last.home.value.take.taken ≡ begun last.home.value.cell.journal ++ last.home.value.cleaned →
     (closed last.home.value.cell.who last.home.value.cell.journal ≡ false → last.home.value.cleaned ≡ []) →
