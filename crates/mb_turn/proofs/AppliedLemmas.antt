@@ -1,11 +1,13 @@
 -- What a system message that was applied makes of a run, with the acts that it asks for carried out.
-use Rattle.std.proofs.Common.{◌≡◌, ℕ, ◌+◌, ◌<◌, ◌^◌, Bool, List, [], length, refl, sym, ap, ◌∙◌, subst, arith}
-use Rattle.std.specs.Prelude.{Result, Ok, Err, OnErr, IsErrOf}
+use Rattle.std.proofs.Common.{◌≡◌, ℕ, ◌+◌, ◌<◌, ◌≤◌, ◌^◌, ◌⊎◌, inl, inr, Bool, true, false, List, [], length, refl, sym, ap, ◌∙◌, subst, arith}
+use Rattle.std.proofs.Common.{lt_of_not-le}
+use Rattle.std.specs.Prelude.{◌↔◌, Result, Ok, Err, OnErr, IsErrAnd, IsErrOf, is_ok}
 use Rattle.std.specs.Global.{Box}
 use Rattle.mb_actor.specs.Behaviour.{Moment, Reply}
 use Rattle.mb_journal.specs.Acts.{Act}
 use Rattle.mb_journal.specs.declared.error.ReadyError.{ReadyError}
 use Rattle.mb_journal.specs.declared.error.ReadyError.TheVariants.{JournalFull, NoMemory}
+use Rattle.mb_journal.specs.Life.{closed}
 use Rattle.mb_gate.specs.Untouched.{Origin}
 use Rattle.mb_gate.specs.View.{Sight}
 use Rattle.mb_home.specs.Contents.{Contents}
@@ -15,7 +17,7 @@ use Rattle.mb_turn.specs.Hold.{Hold}
 use Rattle.mb_turn.specs.Ran.{IsTurning}
 use Rattle.mb_turn.specs.Running.{IsRunning, IsBeside, KeepsJournal, SameRun, counted_by}
 use Rattle.mb_turn.proofs.BesideLemmas.{beside-home, same-run-then}
-use Rattle.mb_turn.proofs.EmptiedLemmas.{takes-same}
+use Rattle.mb_turn.proofs.EmptiedLemmas.{err-then, takes-same}
 use Rattle.mb_turn.proofs.RunningSteps.{running-same}
 use Rattle.mb_turn.proofs.TurningLemmas.{systems-few, turns-few}
 
@@ -23,14 +25,40 @@ use Rattle.mb_turn.proofs.TurningLemmas.{systems-few, turns-few}
 pub same-keeps : (a b c : Hold) → SameRun a b → KeepsJournal b c → SameRun a c
 same-keeps a b c p q = same-run-then a b c p q.same
 
+-- whether the actor ended is in its journal, so that it stays so where that does
+pub ended-keeps : (a b : Hold) → KeepsJournal a b → closed a.home.cell.who a.home.cell.journal ≡ true →
+    closed b.home.cell.who b.home.cell.journal ≡ true
+ended-keeps a b keeps ended = (λ i. closed (keeps.same.who i) (keeps.journal i)) ∙ ended
+
+-- it ended before, or in a step that failed
+pub ended-either : {T E : Type 0} {P : Type 0} (a b : Hold) (r : Result T E) → KeepsJournal a b →
+    (P → closed a.home.cell.who a.home.cell.journal ≡ true) → OnErr r (closed b.home.cell.who b.home.cell.journal ≡ true) →
+    P ⊎ (is_ok r ≡ false) → closed b.home.cell.who b.home.cell.journal ≡ true
+ended-either a b r keeps before failed (inl ended) = ended-keeps a b keeps (before ended)
+ended-either a b r keeps before failed (inr ill) = err-then r ill failed
+
 -- what answers that there is no memory does not answer that the journal is full
 pub not-full : {T : Type 0} (r : Result T ReadyError) → OnErr r (IsErrOf r NoMemory) → IsErrOf r JournalFull → ⊥
 not-full (Ok x) none full = absurd (cc full)
 not-full (Err e) none full = absurd (cc (none, full))
 
 -- the fault that a result of either kind has
-pub same-fault : {T : Type 0} (fault : ReadyError) → IsErrOf {T = T} (Err fault) JournalFull → fault ≡ JournalFull
+pub same-fault : {T : Type 0} {which : ReadyError} (fault : ReadyError) → IsErrOf {T = T} (Err fault) which → fault ≡ which
 same-fault fault is = cc is
+
+-- and the one that is passed on
+pub passed-fault : {T : Type 0} {which : ReadyError} (r : Result T ReadyError) (fault : ReadyError) → IsErrAnd r (λ passed. passed ≡ fault) →
+    IsErrOf r which → fault ≡ which
+passed-fault (Ok x) fault passed is = absurd passed
+passed-fault {T} (Err e) fault passed is = sym passed ∙ same-fault {T = T} e is
+
+-- what answers that the journal is full exactly where it is: a journal has room where it answers otherwise
+module _ {T : Type 0} (r : Result T ReadyError) (limit n : ℕ) (full : IsErrOf r JournalFull ↔ (limit ≤ n)) where
+  pub room-short : IsErrOf r NoMemory → n < limit
+  room-short short = lt_of_not-le (λ (at_limit : limit ≤ n). absurd (cc (short, full.1 at_limit)))
+
+  pub room-well : (x : T) → r ≡ Ok x → n < limit
+  room-well x well = lt_of_not-le (λ (at_limit : limit ≤ n). absurd (cc (well, full.1 at_limit)))
 
 -- room was made
 module _ (h : Hold) (new : Contents) (ready : Bool) (room : ℕ)
@@ -40,6 +68,9 @@ module _ (h : Hold) (new : Contents) (ready : Bool) (room : ℕ)
 
   journal : new.cell.journal ≡ h.home.cell.journal
   journal = ap (λ (x : Contents). x.cell.journal) same
+
+  pub room-ready : length h.home.cell.journal < h.home.cell.who.limit → length new.cell.journal < new.cell.who.limit
+  room-ready room_left = subst (λ (x : Contents). length x.cell.journal < x.cell.who.limit) (sym same) room_left
 
   pub acts-ready : new.cell.acts ≡ h.home.cell.acts
   acts-ready = ap (λ (x : Contents). x.cell.acts) same

@@ -12,6 +12,7 @@ use Rattle.mb_wake.specs.Owed.{is_owed}
 use Rattle.mb_wake.specs.Waking.{Account, WasRefused, IsWoken}
 use Rattle.mb_wake.proofs.Bits.{same_or_other}
 use Rattle.mb_turn.specs.Caller.{Caller, OwesForRefusals, IsNoTake, IsPaid, GoesFurther}
+use Rattle.mb_turn.proofs.SendingLemmas.{sends-append}
 
 -- it was owed a look before, or its claim was refused
 abbrev OwedOr : {H : Type 0} → Account H → List (Claim H) → ℕ → Type 0
@@ -67,12 +68,21 @@ module _ {H : Type 0} where
   account-woken id a b false (inr refused) = from-refused id a b refused
 
   pub further-none : (c : Caller H) → GoesFurther c c
-  further-none c = record { more = []; took_none = tt; log = refl; account = account-none c.account; debts = λ id. inr refl; share = refl }
+  further-none c = record {
+    more = [];
+    took_none = tt;
+    sends_open = tt;
+    log = refl;
+    account = account-none c.account;
+    debts = λ id. inr refl;
+    share = refl;
+  }
 
   pub further-then : (a b c : Caller H) → GoesFurther a b → GoesFurther b c → GoesFurther a c
   further-then a b c p q = record {
     more = q.more ++ p.more;
     took_none = each_append IsNoTake q.more p.more q.took_none p.took_none;
+    sends_open = sends-append q.more p.more q.sends_open p.sends_open;
     log = q.log ∙ ap (λ l. q.more ++ l) p.log ∙ sym (append_assoc q.more p.more a.view.log);
     account = account-then a.account b.account c.account p.account q.account;
     debts = λ id. by_last id (q.debts id);
@@ -94,6 +104,7 @@ module _ {H : Type 0} where
   further-said said a b same account = record {
     more = [];
     took_none = tt;
+    sends_open = tt;
     log = ap (λ (v : View). v.log) same;
     account = subst (OwesForRefusals a.account) (sym account) (account-none a.account);
     debts = λ id. inr (ap (owes id) same);

@@ -1,7 +1,7 @@
 -- Takes, one after another.
 use Rattle.std.proofs.Common.{◌≡◌, ◌⊎◌, inl, inr, ℕ, true, false, List, [], ◌∷◌, ◌++◌, Option, Some, None}
 use Rattle.std.proofs.Common.{refl, sym, ap, ◌∙◌, subst, append_assoc, append-nil}
-use Rattle.std.specs.Prelude.{◌&&◌, Bool, OnOk, Result, Ok, Err, is_ok}
+use Rattle.std.specs.Prelude.{◌&&◌, Bool, OnErr, OnOk, Result, Ok, Err, is_ok}
 use Rattle.mb_msg.specs.declared.envelope.Envelope.{Envelope}
 use Rattle.mb_queue.specs.Passes.{Taking}
 use Rattle.mb_home.specs.Contents.{Contents}
@@ -43,6 +43,26 @@ ok-so (Err e) f p = tt
 pub ok-then : {T E : Type 0} (r : Result T E) {P : Type 0} → is_ok r ≡ true → OnOk r P → P
 ok-then (Ok x) well p = p
 ok-then (Err e) well p = absurd (cc well)
+
+pub err-so : {T E : Type 0} (r : Result T E) {P Q : Type 0} → (P → Q) → OnErr r P → OnErr r Q
+err-so (Ok x) f p = tt
+err-so (Err e) f p = f p
+
+pub err-always : {T E : Type 0} (r : Result T E) {P : Type 0} → P → OnErr r P
+err-always (Ok x) p = tt
+err-always (Err e) p = p
+
+pub err-then : {T E : Type 0} (r : Result T E) {P : Type 0} → is_ok r ≡ false → OnErr r P → P
+err-then (Ok x) ill p = absurd (cc ill)
+err-then (Err e) ill p = p
+
+pub err-at : {T E : Type 0} (r : Result T E) (fault : E) {P : Type 0} → r ≡ Err fault → OnErr r P → P
+err-at (Ok x) fault is p = absurd (cc is)
+err-at (Err e) fault is p = p
+
+pub and-one : (a b : Bool) → (a && b) ≡ false → (a ≡ false) ⊎ (b ≡ false)
+and-one true b not_both = inr not_both
+and-one false b not_both = inl refl
 
 pub and-both : (a b : Bool) → (a && b) ≡ true → (a ≡ true) × (b ≡ true)
 and-both true true both = (refl, refl)

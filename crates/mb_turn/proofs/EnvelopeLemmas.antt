@@ -1,5 +1,5 @@
 -- Why a run takes no envelope more, and what one that was taken makes of it.
-use Rattle.std.proofs.Common.{◌≡◌, ◌⊎◌, inl, inr, ℕ, ◌*◌, ◌<◌, Bool, true, false, List, [], refl, sym, ap, ◌∙◌, subst}
+use Rattle.std.proofs.Common.{◌≡◌, ◌⊎◌, inl, inr, ℕ, ◌*◌, ◌<◌, Bool, true, false, List, [], length, refl, sym, ap, ◌∙◌, subst}
 use Rattle.std.specs.Prelude.{not, nat_lt, ◌&&◌, OnOk, Result}
 use Rattle.std.specs.Global.{Box}
 use Rattle.mb_status.specs.Mailbox.{word_of, should_process}
@@ -17,7 +17,7 @@ use Rattle.mb_home.specs.Settled.{IsSettled}
 use Rattle.mb_home.specs.Steps.{FindsNone}
 use Rattle.mb_turn.specs.Emptied.{TakesOn}
 use Rattle.mb_turn.specs.Hold.{Hold}
-use Rattle.mb_turn.specs.Ran.{AsksInVain, IsDrained, IsEnough, EndsDrained, HadRoom}
+use Rattle.mb_turn.specs.Ran.{AsksInVain, AsksWithRoom, IsDrained, IsEnough, EndsDrained, HadRoom}
 use Rattle.mb_turn.specs.Running.{IsRunning}
 use Rattle.mb_turn.proofs.CleanLemmas.{running-within, ended-closed}
 use Rattle.mb_turn.proofs.EmptiedLemmas.{finds-one, finds-then, ok-so, take-none}
@@ -28,17 +28,17 @@ use Rattle.mb_turn.proofs.RunningMoves.{status-at}
 -- nothing, unless it is closed
 abbrev pub IsWhy : Taking → Hold → Type 0
 IsWhy from h = (stopped : Stopped) × IsEnough h.home.cell.who h.home.cell.journal stopped × EndsDrained h.actor h.log stopped
-    × AsksInVain from h.home.take stopped
+    × AsksInVain from h.home.take stopped × AsksWithRoom h.home.cell.who h.home.cell.journal stopped
 
 -- the run stopped, for this reason
 abbrev pub HasStopped : Taking → Hold → ℕ → ℕ → Type 0
 HasStopped from h throughput n = (stopped : Stopped) × HadRoom stopped × EndsDrained h.actor h.log stopped × AsksInVain from h.home.take stopped
-    × IsReason h.home.cell.who throughput n h.home.cell.journal stopped
+    × IsReason h.home.cell.who throughput n h.home.cell.journal stopped × AsksWithRoom h.home.cell.who h.home.cell.journal stopped
 
 module _ (gives : ℕ → Moment → Reply → Type 0) (origin : Origin (Box Contents)) (seen : List Sight) (h : Hold)
     (r : IsRunning gives origin [] seen h) where
   at-closing : h.status.closed ≡ true → IsWhy h.home.take h
-  at-closing shut = (AtClosing, ended-closed gives origin seen h [] shut r, tt, tt)
+  at-closing shut = (AtClosing, ended-closed gives origin seen h [] shut r, tt, tt, tt)
 
   -- the status was not open
   pub why-not-open : (h.status.closed ≡ true) ⊎ IsDrained h → should_process h.status ≡ false → IsWhy h.home.take h
@@ -55,6 +55,7 @@ module _ (gives : ℕ → Moment → Reply → Type 0) (origin : Origin (Box Con
           drained.none,
         ),
         drained.last,
+        tt,
         tt,
       )
 
@@ -84,13 +85,15 @@ module _ (gives : ℕ → Moment → Reply → Type 0) (origin : Origin (Box Con
         (ap (λ (x : Contents). x.roll) f.same) (ap (λ (x : Contents). x.dead) f.same) settled (ap (λ (x : Contents). x.rest) f.same))
 
     -- and this is why the run stops
-    pub why-none : IsDrained h → should_process h.status ≡ true → IsWhy h.home.take (record h { home = new })
-    why-none drained t =
+    pub why-none : IsDrained h → should_process h.status ≡ true → length h.home.cell.journal < h.home.cell.who.limit →
+        IsWhy h.home.take (record h { home = new })
+    why-none drained t room =
         let word = word_of h.status in (
           NoEnvelope word,
           subst (λ (x : Contents). IsEnough x.cell.who x.cell.journal (NoEnvelope word)) (sym f.same) (none-there drained t),
           drained.last,
           finds-one h.home.take new.take (take-none h.home new f),
+          subst (λ (x : Contents). length x.cell.journal < x.cell.who.limit) (sym f.same) room,
         )
 
 -- a drain that gave nothing is the last still
@@ -103,33 +106,35 @@ drained-home h new who journal d = record { last = d.last; none = (λ i. next_fr
 -- by now, with fewer envelopes than the throughput allows
 pub reason-why : (from before : Taking) (h : Hold) (throughput n : ℕ) → n < most_envelopes throughput → TakesOn from before → IsWhy before h →
     HasStopped from h throughput n
-reason-why from before h throughput n less takes w = by_reason w.0 w.1 w.2 w.3
+reason-why from before h throughput n less takes w = by_reason w.0 w.1 w.2 w.3 w.4
   where
     by_reason : (stopped : Stopped) → IsEnough h.home.cell.who h.home.cell.journal stopped → EndsDrained h.actor h.log stopped →
-        AsksInVain before h.home.take stopped → HasStopped from h throughput n
-    by_reason UsedUp enough ends asked = absurd enough
-    by_reason (NotOpen word) enough ends asked = (NotOpen word, tt, ends, tt, (less, enough.0, enough.1))
-    by_reason (NoEnvelope word) enough ends asked =
-        (NoEnvelope word, tt, ends, finds-then from before h.home.take takes asked, (less, enough.0, enough.1))
-    by_reason AtClosing enough ends asked = (AtClosing, tt, ends, tt, enough)
-    by_reason NoRoom enough ends asked = absurd enough
+        AsksInVain before h.home.take stopped → AsksWithRoom h.home.cell.who h.home.cell.journal stopped → HasStopped from h throughput n
+    by_reason UsedUp enough ends asked room = absurd enough
+    by_reason (NotOpen word) enough ends asked room = (NotOpen word, tt, ends, tt, (less, enough.0, enough.1), tt)
+    by_reason (NoEnvelope word) enough ends asked room =
+        (NoEnvelope word, tt, ends, finds-then from before h.home.take takes asked, (less, enough.0, enough.1), room)
+    by_reason AtClosing enough ends asked room = (AtClosing, tt, ends, tt, enough, tt)
+    by_reason NoRoom enough ends asked room = absurd enough
 
 -- with as many
 pub reason-used : (gives : ℕ → Moment → Reply → Type 0) (origin : Origin (Box Contents)) (seen : List Sight) (from : Taking) (h : Hold)
     (throughput n : ℕ) → IsRunning gives origin [] seen h → n ≡ most_envelopes throughput → (h.status.closed ≡ true) ⊎ IsDrained h →
     HasStopped from h throughput n
-reason-used gives origin seen from h throughput n r all (inl shut) = (AtClosing, tt, tt, tt, ended-closed gives origin seen h [] shut r)
-reason-used gives origin seen from h throughput n r all (inr drained) = (UsedUp, tt, drained.last, tt, (all, drained.none))
+reason-used gives origin seen from h throughput n r all (inl shut) = (AtClosing, tt, tt, tt, ended-closed gives origin seen h [] shut r, tt)
+reason-used gives origin seen from h throughput n r all (inr drained) = (UsedUp, tt, drained.last, tt, (all, drained.none), tt)
 
 -- the takes of a run begin before
 pub stopped-from : {T E : Type 0} (from before : Taking) (h : Hold) (throughput n : ℕ) → TakesOn from before → (r : Result T E) →
     OnOk r (HasStopped before h throughput n) → OnOk r (HasStopped from h throughput n)
-stopped-from from before h throughput n takes r = ok-so r (λ s. by_reason s.0 s.1 s.2 s.3 s.4)
+stopped-from from before h throughput n takes r = ok-so r (λ s. by_reason s.0 s.1 s.2 s.3 s.4 s.5)
   where
     by_reason : (stopped : Stopped) → HadRoom stopped → EndsDrained h.actor h.log stopped → AsksInVain before h.home.take stopped →
-        IsReason h.home.cell.who throughput n h.home.cell.journal stopped → HasStopped from h throughput n
-    by_reason UsedUp had ends asked reason = (UsedUp, had, ends, tt, reason)
-    by_reason (NotOpen word) had ends asked reason = (NotOpen word, had, ends, tt, reason)
-    by_reason (NoEnvelope word) had ends asked reason = (NoEnvelope word, had, ends, finds-then from before h.home.take takes asked, reason)
-    by_reason AtClosing had ends asked reason = (AtClosing, had, ends, tt, reason)
-    by_reason NoRoom had ends asked reason = (NoRoom, had, ends, tt, reason)
+        IsReason h.home.cell.who throughput n h.home.cell.journal stopped → AsksWithRoom h.home.cell.who h.home.cell.journal stopped →
+        HasStopped from h throughput n
+    by_reason UsedUp had ends asked reason room = (UsedUp, had, ends, tt, reason, room)
+    by_reason (NotOpen word) had ends asked reason room = (NotOpen word, had, ends, tt, reason, room)
+    by_reason (NoEnvelope word) had ends asked reason room =
+        (NoEnvelope word, had, ends, finds-then from before h.home.take takes asked, reason, room)
+    by_reason AtClosing had ends asked reason room = (AtClosing, had, ends, tt, reason, room)
+    by_reason NoRoom had ends asked reason room = (NoRoom, had, ends, tt, reason, room)

@@ -36,13 +36,14 @@ use Rattle.mb_turn.specs.Caller.{Caller, GoesFurther, IsNoTake, IsPaid, LeavesCa
 use Rattle.mb_turn.specs.Dry.{TakesDry}
 use Rattle.mb_turn.specs.Emptied.{FindsNoMore, IsCleared}
 use Rattle.mb_turn.specs.Hold.{Hold, hold_of}
-use Rattle.mb_turn.specs.Ran.{AsksInVain, EndsDrained, EndsEmpty, HadRoom, IsTurning, LeavesRun, systems_in, taken_of}
+use Rattle.mb_turn.specs.Ran.{AsksInVain, AsksWithRoom, EndsDrained, EndsEmpty, HadRoom, IsTurning, LeavesRun, systems_in, taken_of}
 use Rattle.mb_turn.specs.Running.{IsRunning, IsBeside, SameRun}
 use Rattle.mb_turn.proofs.CallerLemmas.{account-then}
 use Rattle.mb_turn.proofs.CleanLemmas.{ended-closed}
 use Rattle.mb_turn.proofs.CountLemmas.{begun-since, begun-turns, counted-all, counts-over}
 use Rattle.mb_turn.proofs.MoveLemmas.{looks-take-none}
 use Rattle.mb_turn.proofs.RestLemmas.{closed-front}
+use Rattle.mb_turn.proofs.SendingLemmas.{looks-send-none, sends-append}
 use Rattle.mb_turn.proofs.RunningMoves.{status-at}
 use Rattle.mb_turn.proofs.ToldLemmas.{told-all}
 
@@ -116,6 +117,8 @@ module _ (actor : ℕ) (journal : List Entry) (v w mid : View) (debts : v.debts 
       own = (looks.looks ++ []) ++ Saw actor journal ∷ g.more;
       took_none = each_append IsNoTake (looks.looks ++ []) (Saw actor journal ∷ g.more)
           (each_append IsNoTake looks.looks [] (looks-take-none actor looks.looks looks.only) tt) (tt, g.took_none);
+      sends_open = sends-append (looks.looks ++ []) (Saw actor journal ∷ g.more)
+          (sends-append looks.looks [] (looks-send-none actor looks.looks looks.only) tt) g.sends_open;
       joined =
           log-after ∙ ap (λ l. (looks.looks ++ []) ++ Saw actor journal ∷ (l ++ v.log)) (sym (ap (λ (x : View). x.log) here) ∙ g.log)
           ∙ ap (λ l. (looks.looks ++ []) ++ Saw actor journal ∷ l) (append_assoc g.more a.view.log v.log)
@@ -183,14 +186,15 @@ pub leaves-run : (throughput : ℕ) (first last : Claim (Box Contents)) (old pas
     taken_with first ≡ first.home.value.cell.journal → SameRun (hold_of first) (hold_of last) → IsTurning (hold_of last) turn →
     turn.envelopes ≤ most_envelopes throughput →
     IsReason last.home.value.cell.who throughput turn.envelopes last.home.value.cell.journal stopped →
-    EndsDrained (held_actor last) (known_of last).log stopped → TakesDry (held_actor last) (known_of last).log →
-    IsAmong (Saw (held_actor last) last.home.value.cell.journal) pass.log → TakesOver old pass (known_of last).log → (known_of first).log ≡ [] →
+    EndsDrained (held_actor last) (known_of last).log stopped → AsksWithRoom last.home.value.cell.who last.home.value.cell.journal stopped →
+    TakesDry (held_actor last) (known_of last).log → IsAmong (Saw (held_actor last) last.home.value.cell.journal) pass.log →
+    TakesOver old pass (known_of last).log → (known_of first).log ≡ [] →
     first.home.value.take.taken ≡ begun first.home.value.cell.journal →
     last.home.value.take.taken ≡ begun last.home.value.cell.journal ++ last.home.value.cleaned →
     (closed last.home.value.cell.who last.home.value.cell.journal ≡ false → last.home.value.cleaned ≡ []) →
     (EndsEmpty stopped (closed first.home.value.cell.who last.home.value.cell.journal) → FindsNoMore first.home.value.take last.home.value.take) →
     LeavesRun throughput first old pass last.home.value.cell.journal turn stopped
-leaves-run throughput first last old pass turn stopped taken same t few reason ends dry saw part fresh at_first at_last keeps empty =
+leaves-run throughput first last old pass turn stopped taken same t few reason ends room dry saw part fresh at_first at_last keeps empty =
     let before : (hold_of last).before ≡ first.home.value.cell.journal = same.before ∙ taken in
     let journal = last.home.value.cell.journal in
     let turns : IsTurns first.home.value.cell.who first.home.value.cell.journal turn.envelopes journal =
@@ -218,6 +222,7 @@ leaves-run throughput first last old pass turn stopped taken same t few reason e
       taken_over = part;
       dry = subst (λ n. TakesDry n (known_of last).log) same.actor dry;
       last = subst (λ n. EndsDrained n (known_of last).log stopped) same.actor ends;
+      room = subst (λ (w : Identity). AsksWithRoom w journal stopped) same.who room;
       started = since.0;
       started_is = since.1;
       cleaned = last.home.value.cleaned;

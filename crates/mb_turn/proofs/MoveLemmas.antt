@@ -7,11 +7,14 @@ use Rattle.mb_gate.specs.View.{Read, Saw, Counted, Looked, Sent, Unsent, Took, P
 use Rattle.mb_wake.specs.Views.{Does, IsLook}
 use Rattle.mb_wake.proofs.Bits.{same_or_other}
 use Rattle.mb_turn.specs.Caller.{Caller, OwesForRefusals, IsNoTake, IsPaid, GoesFurther}
+use Rattle.mb_turn.specs.Sending.{SendsOpen}
+use Rattle.mb_turn.proofs.SendingLemmas.{looks-send-none, sends-append}
 
 -- it saw more, has the share that it had, and owes every other actor what it owed before
 pub record Moves (id : ℕ) (old new : View) : Type 0 where
   pub more : List Sight
   pub took_none : Each IsNoTake more
+  pub sends_open : SendsOpen more
   pub log : new.log ≡ more ++ old.log
   pub others : (other : ℕ) → other ≢ id → owes other new ≡ owes other old
   pub share : new.share ≡ old.share
@@ -31,10 +34,12 @@ look-takes-none id (Ended a given) look = tt
 pub looks-take-none : (id : ℕ) (looks : List Sight) → Each (IsLook id) looks → Each IsNoTake looks
 looks-take-none id looks = each_weaker (IsLook id) IsNoTake looks (look-takes-none id)
 
-pub moves-does : (id : ℕ) (did : List Sight) (told : List Said) (a b : View) → Each IsNoTake did → Does id did told a b → Moves id a b
-moves-does id did told a b none d = record {
+pub moves-does : (id : ℕ) (did : List Sight) (told : List Said) (a b : View) → Each IsNoTake did → SendsOpen did → Does id did told a b →
+    Moves id a b
+moves-does id did told a b none sends d = record {
   more = d.looks ++ did;
   took_none = each_append IsNoTake d.looks did (looks-take-none id d.looks d.only) none;
+  sends_open = sends-append d.looks did (looks-send-none id d.looks d.only) sends;
   log = d.log;
   others = d.others;
   share = d.share;
@@ -44,6 +49,7 @@ pub moves-then : (id : ℕ) (a b c : View) → Moves id a b → Moves id b c →
 moves-then id a b c p q = record {
   more = q.more ++ p.more;
   took_none = each_append IsNoTake q.more p.more q.took_none p.took_none;
+  sends_open = sends-append q.more p.more q.sends_open p.sends_open;
   log = q.log ∙ ap (λ l. q.more ++ l) p.log ∙ sym (append_assoc q.more p.more a.log);
   others = λ other apart. q.others other apart ∙ p.others other apart;
   share = q.share ∙ p.share;
@@ -55,6 +61,7 @@ pub further-moves : {H : Type 0} (id : ℕ) (a b : Caller H) → Moves id a.view
 further-moves id a b m account paid = record {
   more = m.more;
   took_none = m.took_none;
+  sends_open = m.sends_open;
   log = m.log;
   account = account;
   debts = λ other. by_actor other (same_or_other other id);

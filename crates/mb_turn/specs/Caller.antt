@@ -11,6 +11,7 @@ use Rattle.mb_wake.specs.declared.waker.Waker.{Waker}
 use Rattle.mb_gate.specs.Untouched.{Origin, origin_of}
 use Rattle.mb_wake.specs.Owed.{is_owed}
 use Rattle.mb_wake.specs.Waking.{Account}
+use Rattle.mb_turn.specs.Sending.{SendsOpen}
 
 pub record Caller (H : Type 0) : Type 0 where
   pub view : View
@@ -29,10 +30,11 @@ IsNoTake (Pushed a number message) = Unit {0}
 IsNoTake (Drained a given) = Unit {0}
 IsNoTake (Ended a given) = Unit {0}
 
--- it knows besides what it knew what the seat of a claim did, and took no envelope itself
+-- it knows besides what it knew what the seat of a claim did, took no envelope itself, and sent to actors that it read open
 pub record TakesOver (old new : View) (steps : List Sight) : Type 0 where
   pub own : List Sight
   pub took_none : Each IsNoTake own
+  pub sends_open : SendsOpen own
   pub joined : new.log ≡ own ++ (old.log ++ steps)
 
 module _ {H W : Type 0} where
@@ -60,10 +62,12 @@ module _ {H : Type 0} where
   abbrev pub IsPaid : ℕ → Caller H → Type 0
   IsPaid id caller = (owes id caller.view ≡ nothing) ⊎ (is_owed caller.account.owed id ≡ true)
 
-  -- it saw more, took nothing, and has the share that it had; and it owes each actor nothing, or a look, or what it did before
+  -- It saw more, took nothing, sent to actors that it read open, and has the share that it had; and it owes each actor nothing, or a look,
+  -- or what it did before.
   pub record GoesFurther (old new : Caller H) : Type 0 where
     pub more : List Sight
     pub took_none : Each IsNoTake more
+    pub sends_open : SendsOpen more
     pub log : new.view.log ≡ more ++ old.view.log
     pub account : OwesForRefusals old.account new.account
     pub debts : (id : ℕ) → IsPaid id new ⊎ (owes id new.view ≡ owes id old.view)

@@ -3,6 +3,7 @@ pub mod Told
 pub mod Dry
 pub mod Emptied
 pub mod Running
+pub mod Sending
 pub mod Caller
 pub mod Ran
 pub mod Fresh

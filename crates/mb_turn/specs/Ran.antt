@@ -1,5 +1,6 @@
 -- What a run tells.
-use Rattle.std.specs.Prelude.{◌≡◌, ℕ, ◌+◌, ◌==◌, if◌then◌else◌, Bool, true, false, List, [], ◌∷◌, ◌++◌, None, length}
+use Rattle.std.specs.Prelude.{◌≡◌, ◌<◌, ◌⊎◌, ℕ, ◌+◌, ◌==◌, if◌then◌else◌, Bool, true, false, List, [], ◌∷◌, ◌++◌, None}
+use Rattle.std.specs.Prelude.{length}
 use Rattle.std.specs.Global.{Box}
 use Rattle.mb_msg.specs.declared.envelope.Envelope.{Envelope}
 use Rattle.mb_journal.specs.Aside.{next_front}
@@ -80,6 +81,18 @@ AsksInVain old new (NoEnvelope word) = FindsNoMore old new
 AsksInVain old new AtClosing = Unit {0}
 AsksInVain old new NoRoom = Unit {0}
 
+-- where it stopped since no envelope was there, it had room for one as it asked
+abbrev pub AsksWithRoom : Identity → List Entry → Stopped → Type 0
+AsksWithRoom who journal UsedUp = Unit {0}
+AsksWithRoom who journal (NotOpen word) = Unit {0}
+AsksWithRoom who journal (NoEnvelope word) = length journal < who.limit
+AsksWithRoom who journal AtClosing = Unit {0}
+AsksWithRoom who journal NoRoom = Unit {0}
+
+-- memory can have been refused: the journal has room for an entry, so that one was asked for, or the actor ended, and its envelopes need places
+abbrev pub IsShortOfMemory : Identity → List Entry → Type 0
+IsShortOfMemory who journal = (length journal < who.limit) ⊎ (closed who journal ≡ true)
+
 -- the run ends with an empty queue, by why it stopped and whether the actor ended: no envelope was there, or all were cleaned up
 abbrev pub EndsEmpty : Stopped → Bool → Type 0
 EndsEmpty UsedUp ended = ended ≡ true
@@ -92,7 +105,7 @@ EndsEmpty NoRoom ended = ⊥
 -- the entries of either kind. Of its own steps, which the pass has taken over besides what it knew before, each that took an envelope came when
 -- no system message was left to be drained, and they count as many envelopes as taken as were begun and cleaned up: none is cleaned up unless the
 -- actor ended. Where it stopped since no envelope was there, or the actor ended and there was room for all, these are all that the takes of its
--- home's pass gave, and the last take found none.
+-- home's pass gave, and the last take found none; in the first case the journal has room for one more.
 pub record LeavesRun (throughput : ℕ) (claim : Claim (Box Contents)) (old pass : View) (journal : List Entry) (turn : Turn) (stopped : Stopped)
     : Type 0 where
   pub run : IsRun claim.home.value.cell.who throughput claim.home.value.cell.journal journal stopped
@@ -104,6 +117,7 @@ pub record LeavesRun (throughput : ℕ) (claim : Claim (Box Contents)) (old pass
   pub taken_over : TakesOver old pass steps
   pub dry : TakesDry (held_actor claim) steps
   pub last : EndsDrained (held_actor claim) steps stopped
+  pub room : AsksWithRoom claim.home.value.cell.who journal stopped
   pub started : List Envelope
   pub started_is : begun journal ≡ begun claim.home.value.cell.journal ++ started
   pub cleaned : List Envelope

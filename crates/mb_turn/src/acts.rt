@@ -1,7 +1,8 @@
 //! The acts of a message.
-ghost use Rattle.std.specs.Prelude.{◌≡◌, [], ◌∷◌, true, IsErrOf, OnErr, OnOk};
+ghost use Rattle.std.specs.Prelude.{◌≡◌, [], ◌∷◌, true, false, IsErrOf, OnErr, OnOk};
 ghost use Rattle.mb_books.specs.ActQueue.{act_of};
 ghost use Rattle.mb_journal.specs.Acts.Act.{CloseSelf};
+ghost use Rattle.mb_journal.specs.Life.{closed};
 ghost use Rattle.mb_gate.specs.Names.{known_by};
 ghost use Rattle.mb_gate.specs.Untouched.{origin_of};
 ghost use Rattle.mb_turn.specs.Caller.{IsWakerOf, caller_of, GoesFurther};
@@ -41,6 +42,7 @@ pub(crate) fn carry_out<A: Actor, K: Behaviours, W: Way<Place<A, K>>, R: Wait>(
     ensures cleared { OnOk result (IsCleared (hold_of claim.old) (hold_of claim.new)) }
     ensures goes { GoesFurther (caller_of W.pushed W.refused waker.old) (caller_of W.pushed W.refused waker.new) }
     ensures refused { OnErr result (IsErrOf result ReadyError.NoMemory) }
+    ensures ended { OnErr result (closed claim.new.home.value.cell.who claim.new.home.value.cell.journal ≡ true) }
 {
     let mut is_clean = true;
     while let Some(act) = claim.home.next_act() {
@@ -53,6 +55,7 @@ pub(crate) fn carry_out<A: Actor, K: Behaviours, W: Way<Place<A, K>>, R: Wait>(
 fn answer_of(is_clean: bool) -> Result<(), ReadyError>
     ensures refused { OnErr result (IsErrOf result ReadyError.NoMemory) }
     ensures clean { OnOk result (is_clean ≡ true) }
+    ensures not_clean { OnErr result (is_clean ≡ false) }
 {
     if is_clean {
         Ok(())
@@ -79,6 +82,7 @@ fn carry<A: Actor, K: Behaviours, W: Way<Place<A, K>>, R: Wait>(
     ensures left { claim.new.home.value.cell.acts ≡ claim.old.home.value.cell.acts }
     ensures same { KeepsJournal (hold_of claim.old) (hold_of claim.new) }
     ensures cleared { OnOk result (IsCleared (hold_of claim.old) (hold_of claim.new)) }
+    ensures ended { OnErr result (closed claim.new.home.value.cell.who claim.new.home.value.cell.journal ≡ true) }
     ensures goes { GoesFurther (caller_of W.pushed W.refused waker.old) (caller_of W.pushed W.refused waker.new) }
 {
     match act {
@@ -119,6 +123,7 @@ fn close<A: Actor, K: Behaviours, W: Way<Place<A, K>>, R: Wait>(
     ensures left { claim.new.home.value.cell.acts ≡ claim.old.home.value.cell.acts }
     ensures same { KeepsJournal (hold_of claim.old) (hold_of claim.new) }
     ensures emptied { OnOk result (FindsNoMore claim.old.home.value.take claim.new.home.value.take) }
+    ensures ended { closed claim.new.home.value.cell.who claim.new.home.value.cell.journal ≡ true }
     ensures goes { GoesFurther (caller_of W.pushed W.refused waker.old) (caller_of W.pushed W.refused waker.new) }
 {
     gates.close_mailbox(claim);

@@ -7,7 +7,7 @@ ghost use Rattle.mb_gate.specs.Untouched.{origin_of};
 ghost use Rattle.mb_turn.specs.Caller.{IsWakerOf, caller_of, GoesFurther};
 ghost use Rattle.mb_turn.specs.Emptied.{IsCleared};
 ghost use Rattle.mb_turn.specs.Hold.{hold_of};
-ghost use Rattle.mb_turn.specs.Ran.{IsTurning, IsDrained, IsEnough, HadRoom, AsksInVain, EndsDrained};
+ghost use Rattle.mb_turn.specs.Ran.{IsTurning, IsDrained, IsEnough, HadRoom, AsksInVain, AsksWithRoom, EndsDrained, IsShortOfMemory};
 ghost use Rattle.mb_turn.specs.Running.{IsRunning, IsBeside, SameRun};
 
 use crate::acts::carry_out;
@@ -46,8 +46,10 @@ pub(crate) fn apply_envelopes<A: Actor, K: Behaviours, W: Way<Place<A, K>>, R: W
     ensures few { turn.new.envelopes ≤ most_envelopes throughput }
     ensures ended { IfOk result (λ _. (stopped : Stopped) × HadRoom stopped × EndsDrained (held_actor claim.new) (known_of claim.new).log stopped
         × AsksInVain claim.old.home.value.take claim.new.home.value.take stopped
-        × IsReason claim.new.home.value.cell.who throughput turn.new.envelopes claim.new.home.value.cell.journal stopped) }
+        × IsReason claim.new.home.value.cell.who throughput turn.new.envelopes claim.new.home.value.cell.journal stopped
+        × AsksWithRoom claim.new.home.value.cell.who claim.new.home.value.cell.journal stopped) }
     ensures full { IsErrOf result ReadyError.JournalFull → claim.new.home.value.cell.who.limit ≤ length claim.new.home.value.cell.journal }
+    ensures short { IsErrOf result ReadyError.NoMemory → IsShortOfMemory claim.new.home.value.cell.who claim.new.home.value.cell.journal }
 {
     for _handled in 0..throughput.max(1) {
         let took = apply_envelope(rt, gates, waker, claim, turn)?;
@@ -83,9 +85,11 @@ fn apply_envelope<A: Actor, K: Behaviours, W: Way<Place<A, K>>, R: Wait>(
     ensures took { IfOk result (λ took. MatchBool took (turn.new.envelopes ≡ turn.old.envelopes + 1)
         ((turn.new ≡ turn.old) × ((stopped : Stopped) × IsEnough claim.new.home.value.cell.who claim.new.home.value.cell.journal stopped
         × EndsDrained (held_actor claim.new) (known_of claim.new).log stopped
-        × AsksInVain claim.old.home.value.take claim.new.home.value.take stopped))) }
+        × AsksInVain claim.old.home.value.take claim.new.home.value.take stopped
+        × AsksWithRoom claim.new.home.value.cell.who claim.new.home.value.cell.journal stopped))) }
     ensures few { turn.new.envelopes ≤ turn.old.envelopes + 1 }
     ensures full { IsErrOf result ReadyError.JournalFull → claim.new.home.value.cell.who.limit ≤ length claim.new.home.value.cell.journal }
+    ensures short { IsErrOf result ReadyError.NoMemory → IsShortOfMemory claim.new.home.value.cell.who claim.new.home.value.cell.journal }
 {
     let status = claim.status();
     if !status.should_process() {

@@ -9,7 +9,7 @@ ghost use Rattle.mb_turn.specs.Caller.{IsWakerOf, caller_of, GoesFurther, IsPaid
 ghost use Rattle.mb_turn.specs.Emptied.{IsCleared};
 ghost use Rattle.mb_turn.specs.Fresh.{IsFreshClaim};
 ghost use Rattle.mb_turn.specs.Hold.{hold_of};
-ghost use Rattle.mb_turn.specs.Ran.{IsTurning, AsksInVain, EndsDrained, HadRoom, LeavesRun};
+ghost use Rattle.mb_turn.specs.Ran.{IsTurning, AsksInVain, AsksWithRoom, EndsDrained, HadRoom, IsShortOfMemory, LeavesRun};
 ghost use Rattle.mb_turn.specs.Running.{IsRunning, IsBeside, SameRun};
 ghost use Rattle.mb_turn.specs.declared.turn.Turn.{Turn};
 
@@ -27,8 +27,9 @@ use std::sync::Wait;
 /// counts as 1), each followed by all system messages that came. Then the cell goes home, and the actor is given to a worker
 /// again where it has to be.
 ///
-/// It answers `JournalFull` or `NoMemory` if there was no room for the next message, or for an envelope of an actor that
-/// ended: then the run ends there, what was drained stays beside the cell, and no envelope was taken for it.
+/// It answers `JournalFull` if the journal was full before the next message, or before it asked for one more envelope, and else
+/// `NoMemory` if memory was refused then, or for an envelope of an actor that ended: then the run ends there, what was drained
+/// stays beside the cell, and no envelope was taken for it.
 pub fn run_mailbox<A: Actor, K: Behaviours, W: Way<Place<A, K>>, R: Wait>(
     rt: &R,
     gates: &Gates<Place<A, K>>,
@@ -47,6 +48,9 @@ pub fn run_mailbox<A: Actor, K: Behaviours, W: Way<Place<A, K>>, R: Wait>(
         × LeavesRun throughput claim (known_by waker.old.pass) (known_by waker.new.pass) journal turn stopped)
         (λ _. (turn : Turn) × LeavesRun throughput claim (known_by waker.old.pass) (known_by waker.new.pass) journal turn NoRoom
         × (IsErrOf result ReadyError.JournalFull → claim.home.value.cell.who.limit ≤ length journal)) }
+    ensures short { IsErrOf result ReadyError.NoMemory → (journal : List Entry) × (turn : Turn)
+        × LeavesRun throughput claim (known_by waker.old.pass) (known_by waker.new.pass) journal turn NoRoom
+        × IsShortOfMemory claim.home.value.cell.who journal }
 {
     let mut claim = claim;
     let actor = claim.actor();
@@ -88,8 +92,10 @@ fn run_claim<A: Actor, K: Behaviours, W: Way<Place<A, K>>, R: Wait>(
     ensures few { turn.new.envelopes ≤ most_envelopes throughput }
     ensures ended { IfOk result (λ _. (stopped : Stopped) × HadRoom stopped × EndsDrained (held_actor claim.new) (known_of claim.new).log stopped
         × AsksInVain claim.old.home.value.take claim.new.home.value.take stopped
-        × IsReason claim.new.home.value.cell.who throughput turn.new.envelopes claim.new.home.value.cell.journal stopped) }
+        × IsReason claim.new.home.value.cell.who throughput turn.new.envelopes claim.new.home.value.cell.journal stopped
+        × AsksWithRoom claim.new.home.value.cell.who claim.new.home.value.cell.journal stopped) }
     ensures full { IsErrOf result ReadyError.JournalFull → claim.new.home.value.cell.who.limit ≤ length claim.new.home.value.cell.journal }
+    ensures short { IsErrOf result ReadyError.NoMemory → IsShortOfMemory claim.new.home.value.cell.who claim.new.home.value.cell.journal }
 {
     apply_systems(rt, gates, waker, claim, turn)?;
     apply_envelopes(rt, gates, waker, throughput, claim, turn)

@@ -8,7 +8,7 @@ ghost use Rattle.mb_gate.specs.Untouched.{origin_of};
 ghost use Rattle.mb_turn.specs.Caller.{IsWakerOf, caller_of, GoesFurther};
 ghost use Rattle.mb_turn.specs.Emptied.{IsCleared};
 ghost use Rattle.mb_turn.specs.Hold.{hold_of};
-ghost use Rattle.mb_turn.specs.Ran.{IsTurning, IsDrained};
+ghost use Rattle.mb_turn.specs.Ran.{IsTurning, IsDrained, IsShortOfMemory};
 ghost use Rattle.mb_turn.specs.Running.{IsRunning, IsBeside, SameRun, KeepsJournal};
 
 use crate::acts::carry_out;
@@ -45,6 +45,7 @@ pub(crate) fn apply_systems<A: Actor, K: Behaviours, W: Way<Place<A, K>>, R: Wai
     ensures cleared { OnOk result (IsCleared (hold_of claim.old) (hold_of claim.new)) }
     ensures goes { GoesFurther (caller_of W.pushed W.refused waker.old) (caller_of W.pushed W.refused waker.new) }
     ensures full { IsErrOf result ReadyError.JournalFull → claim.new.home.value.cell.who.limit ≤ length claim.new.home.value.cell.journal }
+    ensures short { IsErrOf result ReadyError.NoMemory → IsShortOfMemory claim.new.home.value.cell.who claim.new.home.value.cell.journal }
 {
     if is_quiet(gates, claim) {
         return Ok(());
@@ -102,6 +103,7 @@ fn apply_all<A: Actor, K: Behaviours, W: Way<Place<A, K>>, R: Wait>(
     ensures cleared { OnOk result (IsCleared (hold_of claim.old) (hold_of claim.new)) }
     ensures goes { GoesFurther (caller_of W.pushed W.refused waker.old) (caller_of W.pushed W.refused waker.new) }
     ensures full { IsErrOf result ReadyError.JournalFull → claim.new.home.value.cell.who.limit ≤ length claim.new.home.value.cell.journal }
+    ensures short { IsErrOf result ReadyError.NoMemory → IsShortOfMemory claim.new.home.value.cell.who claim.new.home.value.cell.journal }
 {
     for _ in rt.forever() {
         if claim.status().closed() {
@@ -142,6 +144,7 @@ fn apply_one<A: Actor, K: Behaviours, W: Way<Place<A, K>>, R: Wait>(
     ensures cleared { OnOk result (IsCleared (hold_of claim.old) (hold_of claim.new)) }
     ensures goes { GoesFurther (caller_of W.pushed W.refused waker.old) (caller_of W.pushed W.refused waker.new) }
     ensures full { IsErrOf result ReadyError.JournalFull → claim.new.home.value.cell.who.limit ≤ length claim.new.home.value.cell.journal }
+    ensures short { IsErrOf result ReadyError.NoMemory → IsShortOfMemory claim.new.home.value.cell.who claim.new.home.value.cell.journal }
 {
     claim.home.ready()?;
     claim.home.apply_next();

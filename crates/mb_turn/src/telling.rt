@@ -7,6 +7,7 @@ ghost use Rattle.mb_turn.specs.Caller.{IsWakerOf, caller_of, GoesFurther};
 ghost use Rattle.mb_turn.specs.Emptied.{IsCleared};
 ghost use Rattle.mb_turn.specs.Hold.{hold_of};
 ghost use Rattle.mb_turn.specs.Running.{IsRunning, IsBeside, KeepsJournal};
+ghost use Rattle.mb_turn.specs.Sending.{IsSentOrDead};
 
 use crate::place::Place;
 use mb_actor::{Actor, Behaviours};
@@ -36,6 +37,7 @@ pub(crate) fn tell<A: Actor, K: Behaviours, W: Way<Place<A, K>>, R: Wait>(
     ensures same { KeepsJournal (hold_of claim.old) (hold_of claim.new) }
     ensures cleared { IsCleared (hold_of claim.old) (hold_of claim.new) }
     ensures goes { GoesFurther (caller_of W.pushed W.refused waker.old) (caller_of W.pushed W.refused waker.new) }
+    ensures told { IsSentOrDead to body (known_by waker.old.pass) (known_by waker.new.pass) claim.old.home.value claim.new.home.value }
 {
     let status = gates.status(&mut waker.pass, to);
     if status.closed() {

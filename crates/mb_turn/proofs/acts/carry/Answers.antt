@@ -10,7 +10,7 @@ use Rattle.mb_home.specs.Contents.{Contents}
 use Rattle.mb_turn.specs.Hold.{hold_of}
 use Rattle.mb_turn.specs.Running.{IsRunning}
 use Rattle.mb_turn.proofs.CallerLemmas.{further-none}
-use Rattle.mb_turn.proofs.EmptiedLemmas.{cleared-found, cleared-same, ok-so}
+use Rattle.mb_turn.proofs.EmptiedLemmas.{cleared-found, cleared-same, err-always, ok-so}
 use Rattle.mb_turn.proofs.RunningSteps.{running-suspend, suspend-closed}
 use Rattle.mb_turn.proofs.StatusLemmas.{keeps-written, beside-written, running-suspended, running-resumed}
 use Rattle.mb_turn.proofs.acts.carry.Goals as goal
@@ -51,6 +51,9 @@ returns-in-Tell-clause-beside g c = c.tell.ensures.beside
 pub returns-in-Tell-clause-same : goal.returns-in-Tell-clause-same
 returns-in-Tell-clause-same g c = c.tell.ensures.same
 
+pub returns-in-Tell-clause-ended : goal.returns-in-Tell-clause-ended
+returns-in-Tell-clause-ended g c = tt
+
 pub returns-in-Tell-clause-goes : goal.returns-in-Tell-clause-goes
 returns-in-Tell-clause-goes g c = c.tell.ensures.goes
 
@@ -65,6 +68,9 @@ returns-in-Sys-clause-beside g c = c.say.ensures.beside
 
 pub returns-in-Sys-clause-same : goal.returns-in-Sys-clause-same
 returns-in-Sys-clause-same g c = c.say.ensures.same
+
+pub returns-in-Sys-clause-ended : goal.returns-in-Sys-clause-ended
+returns-in-Sys-clause-ended g c = tt
 
 pub returns-in-Sys-clause-goes : goal.returns-in-Sys-clause-goes
 returns-in-Sys-clause-goes g c = c.say.ensures.goes
@@ -126,6 +132,9 @@ returns-in-SuspendSelf-clause-cleared g c =
     cleared-same (hold_of old) (hold_of c.suspend.new.claim) (ap (λ (m : Mailbox). m.closed) did.status ∙ suspend-closed (status_of old))
     (ap (λ (b : Box Contents). b.value.take) did.home)
 
+pub returns-in-SuspendSelf-clause-ended : goal.returns-in-SuspendSelf-clause-ended
+returns-in-SuspendSelf-clause-ended g c = tt
+
 pub returns-in-SuspendSelf-clause-goes : goal.returns-in-SuspendSelf-clause-goes
 returns-in-SuspendSelf-clause-goes g c = further-none _
 
@@ -168,6 +177,9 @@ returns-in-ResumeSelf-clause-cleared g c =
     cleared-same (hold_of c.args.claim.now) (hold_of c.resume.new.claim) (ap (λ (m : Mailbox). m.closed) did.status)
     (ap (λ (b : Box Contents). b.value.take) did.home)
 
+pub returns-in-ResumeSelf-clause-ended : goal.returns-in-ResumeSelf-clause-ended
+returns-in-ResumeSelf-clause-ended g c = tt
+
 pub returns-in-ResumeSelf-clause-goes : goal.returns-in-ResumeSelf-clause-goes
 returns-in-ResumeSelf-clause-goes g c = further-none _
 
@@ -205,3 +217,6 @@ returns-in-CloseSelf-clause-goes g c = c.close.ensures.goes
 pub returns-in-CloseSelf-clause-cleared : goal.returns-in-CloseSelf-clause-cleared
 returns-in-CloseSelf-clause-cleared g c =
     ok-so c.close.result (cleared-found (hold_of c.args.claim.now) (hold_of c.close.new.claim)) c.close.ensures.emptied
+
+pub returns-in-CloseSelf-clause-ended : goal.returns-in-CloseSelf-clause-ended
+returns-in-CloseSelf-clause-ended g c = err-always c.close.result c.close.ensures.ended

@@ -1,4 +1,5 @@
 use Rattle.std.proofs.Common.{◌≡◌, ◌∷◌, [], List, length, refl, sym, ap, ◌∙◌, subst, arith}
+use Rattle.std.specs.Prelude.{◌&&◌, is_ok}
 use Rattle.mb_books.specs.ActQueue.{act_of}
 use Rattle.mb_journal.specs.Acts.{Act}
 use Rattle.mb_gate.specs.Names.{known_by}
@@ -7,9 +8,10 @@ use Rattle.mb_home.specs.Contents.{Contents}
 use Rattle.mb_home.specs.Settled.{IsSettled}
 use Rattle.mb_turn.specs.Hold.{Hold, hold_of}
 use Rattle.mb_turn.specs.Running.{IsRunning}
+use Rattle.mb_turn.proofs.AppliedLemmas.{ended-either, ended-keeps}
 use Rattle.mb_turn.proofs.BesideLemmas.{keeps-same, keeps-then}
 use Rattle.mb_turn.proofs.CallerLemmas.{further-none, further-then}
-use Rattle.mb_turn.proofs.EmptiedLemmas.{and-both, cleared-same, cleared-then, ok-so, ok-then}
+use Rattle.mb_turn.proofs.EmptiedLemmas.{and-both, and-one, cleared-same, cleared-then, err-so, ok-so, ok-then}
 use Rattle.mb_turn.proofs.TellingLemmas.{running-own, running-next, beside-next, keeps-next}
 use Rattle.mb_turn.proofs.acts.carry_out.Goals as goal
 
@@ -21,6 +23,7 @@ loop-act-init g c = (
   keeps-same _,
   further-none _,
   λ clean. cleared-same (hold_of c.args.claim.now) (hold_of c.args.claim.now) refl refl,
+  λ not_clean. absurd (cc not_clean),
 )
 
 pub next_act-requires : goal.next_act-requires
@@ -65,6 +68,11 @@ loop-act-preserved g c =
           cleared-then (hold_of c.args.claim.now) before (hold_of c.carry.new.claim) c.loop-act.invariant.3.same.takes (c.loop-act.invariant.5 both.0)
           (cleared-then before next (hold_of c.carry.new.claim) (keeps-next before new same).same.takes
           (cleared-same before next refl (ap (λ (x : Contents). x.take) same)) carried),
+      λ not_clean. let before = hold_of c.loop-act.claim in
+          let keeps = keeps-then before (record before { home = new }) (hold_of c.carry.new.claim) (keeps-next before new same) c.carry.ensures.same in
+          ended-either before (hold_of c.carry.new.claim) c.carry.result keeps c.loop-act.invariant.6 c.carry.ensures.ended
+          (and-one c.loop-act.is_clean (is_ok c.carry.result)
+          (ap (λ b. c.loop-act.is_clean && b) (sym c.is_ok-is_clean.ensures.value) ∙ not_clean)),
     )
 
 pub loop-act-smaller : goal.loop-act-smaller
@@ -115,3 +123,13 @@ returns-clause-cleared g c =
     (λ clean. cleared-then (hold_of c.args.claim.now) before (record before { home = new }) c.loop-act.invariant.3.same.takes
     (c.loop-act.invariant.5 clean)
     (cleared-same before (record before { home = new }) refl (ap (λ (x : Contents). x.take) same))) c.answer_of.ensures.clean
+
+pub returns-clause-ended : goal.returns-clause-ended
+returns-clause-ended g c =
+    let new : Contents = c.next_act.new.self in
+    let same = subst (λ (x : Contents). new ≡ record x { cell = record x.cell { acts = new.cell.acts } }) c.deref_mut.ensures.value
+    c.next_act.ensures.same in
+    let before = hold_of c.loop-act.claim in
+    err-so c.answer_of.result
+    (λ not_clean. ended-keeps before (record before { home = new }) (keeps-next before new same) (c.loop-act.invariant.6 not_clean))
+    c.answer_of.ensures.not_clean

@@ -1,4 +1,5 @@
-use Rattle.std.proofs.Common.{◌≡◌, true, length}
+use Rattle.std.proofs.Common.{◌≡◌, true, false, length}
+use Rattle.mb_journal.specs.Life.{closed}
 use Rattle.mb_gate.specs.Names.{known_by}
 use Rattle.mb_gate.specs.Untouched.{origin_of}
 use Rattle.mb_turn.specs.Caller.{IsWakerOf, caller_of, GoesFurther}
@@ -15,6 +16,7 @@ invariant-loop-act g l =
     × KeepsJournal (hold_of l.initial.claim) (hold_of l.claim)
     × GoesFurther (caller_of g.W.Way.pushed g.W.Way.refused l.initial.waker) (caller_of g.W.Way.pushed g.W.Way.refused l.waker)
     × (l.is_clean ≡ true → IsCleared (hold_of l.initial.claim) (hold_of l.claim))
+    × (l.is_clean ≡ false → closed l.claim.home.value.cell.who l.claim.home.value.cell.journal ≡ true)
 
 abbrev pub decreases-loop-act : goal.decreases-loop-act
 decreases-loop-act g l = length l.claim.home.value.cell.acts

@@ -2,13 +2,16 @@ use Rattle.std.proofs.Common.{refl, ap, ◌∙◌, subst}
 use Rattle.std.specs.Prelude.{OnOk}
 use Rattle.std.specs.Global.{Box}
 use Rattle.mb_status.specs.Mailbox.{Mailbox, word_of}
+use Rattle.mb_journal.specs.Life.{closed}
 use Rattle.mb_gate.specs.Names.{known_by, status_of}
 use Rattle.mb_gate.specs.Untouched.{origin_of}
 use Rattle.mb_cell.specs.Seen.{Seen}
 use Rattle.mb_queue.specs.Passes.{Taking}
 use Rattle.mb_home.specs.Contents.{Contents}
 use Rattle.mb_turn.specs.Emptied.{FindsNoMore}
+use Rattle.mb_turn.specs.Hold.{hold_of}
 use Rattle.mb_turn.proofs.BesideLemmas.{keeps-then}
+use Rattle.mb_turn.proofs.CleanLemmas.{ended-closed}
 use Rattle.mb_turn.proofs.StatusLemmas.{keeps-written, count-written, running-closed}
 use Rattle.mb_turn.proofs.acts.close.Goals as goal
 
@@ -41,6 +44,17 @@ returns-clause-same g c =
     let old = c.args.claim.now in let new = c.close_mailbox.new.claim in let did = c.close_mailbox.ensures in
     keeps-then _ _ _ (keeps-written old new (status_of new) (word_of (status_of new)) did.ours did.home did.known did.taken refl)
     c.clean_up.ensures.same
+
+pub returns-clause-ended : goal.returns-clause-ended
+returns-clause-ended g c =
+    let old = c.args.claim.now in let new = c.close_mailbox.new.claim in let did = c.close_mailbox.ensures in
+    let gives = g.K.Behaviours.gives in
+    let origin = origin_of c.args.gates.now in
+    let seen = (known_by c.args.waker.now.pass).log in
+    ap (λ (x : Seen). closed x.who x.journal) c.clean_up.ensures.left
+    ∙ ended-closed gives origin seen (hold_of new) new.home.value.cell.acts (ap (λ (m : Mailbox). m.closed) did.status)
+    (running-closed old new (status_of new) (word_of (status_of new)) did.ours did.home did.known did.taken refl gives origin seen did.status
+    c.requires.running)
 
 pub returns-clause-emptied : goal.returns-clause-emptied
 returns-clause-emptied g c =

@@ -1,7 +1,8 @@
-use Rattle.std.proofs.Common.{◌≡◌, ◌≤◌, List, [], refl, sym, ap, ◌∙◌, subst, arith}
-use Rattle.std.specs.Prelude.{IsTrue, Err}
+use Rattle.std.proofs.Common.{◌≡◌, ◌≤◌, inl, inr, List, [], length, refl, sym, ap, ◌∙◌, subst, arith}
+use Rattle.std.specs.Prelude.{◌↔◌, IsErrOf, IsTrue, Err}
 use Rattle.std.specs.Global.{Box}
 use Rattle.mb_journal.specs.declared.error.ReadyError.{ReadyError}
+use Rattle.mb_journal.specs.declared.error.ReadyError.TheVariants.{JournalFull}
 use Rattle.mb_status.specs.Mailbox.{Mailbox, word_of, should_process}
 use Rattle.mb_journal.specs.Acts.{Act}
 use Rattle.mb_journal.specs.Reading.{IsOpen}
@@ -16,11 +17,12 @@ use Rattle.mb_home.specs.Steps.{most_tells, Begins, FindsNone}
 use Rattle.mb_home.specs.Taken.{TakesOut}
 use Rattle.mb_turn.specs.Hold.{Hold, hold_of}
 use Rattle.mb_turn.specs.Running.{IsRunning}
-use Rattle.mb_turn.proofs.AppliedLemmas.{same-keeps, same-fault, not-full, acts-ready, keeps-ready, beside-ready, running-ready, envelopes-fit}
+use Rattle.mb_turn.proofs.AppliedLemmas.{same-keeps, same-fault, passed-fault, not-full, room-short, room-well, acts-ready, room-ready, keeps-ready, beside-ready}
+use Rattle.mb_turn.proofs.AppliedLemmas.{running-ready, envelopes-fit}
 use Rattle.mb_turn.proofs.BesideLemmas.{keeps-same, keeps-then, same-run-then}
 use Rattle.mb_turn.proofs.CallerLemmas.{further-none}
 use Rattle.mb_turn.proofs.CleanLemmas.{hold-one}
-use Rattle.mb_turn.proofs.EmptiedLemmas.{cleared-open, cleared-same, cleared-then, take-begun, take-none, takes-one, takes-same, takes-then}
+use Rattle.mb_turn.proofs.EmptiedLemmas.{cleared-open, cleared-same, cleared-then, err-at, take-begun, take-none, takes-one, takes-same, takes-then}
 use Rattle.mb_turn.proofs.EnvelopeLemmas.{IsWhy, why-not-open, why-none, is-open, drained-open, drained-home, running-found}
 use Rattle.mb_turn.proofs.ReadingLemmas.{open-reading, count-none}
 use Rattle.mb_turn.proofs.RunningMoves.{status-at}
@@ -147,6 +149,17 @@ returns-in_err-ready-clause-turning g c =
 pub returns-in_err-ready-clause-goes : goal.returns-in_err-ready-clause-goes
 returns-in_err-ready-clause-goes g c = further-none _
 
+pub returns-in_err-ready-clause-short : goal.returns-in_err-ready-clause-short
+returns-in_err-ready-clause-short g c =
+    λ short. (let same = subst (λ (x : Contents). c.ready.new.self
+    ≡ record x { cell = record x.cell { is_ready = c.ready.new.self.cell.is_ready }; room = c.ready.new.self.room }) c.deref_mut.ensures.value
+    c.ready.ensures.same in
+    let full = subst (λ (x : Contents). IsErrOf c.ready.result JournalFull ↔ (x.cell.who.limit ≤ length x.cell.journal)) c.deref_mut.ensures.value
+    c.ready.ensures.full in
+    inl (room-ready (hold_of c.args.claim.now) c.ready.new.self _ _ same
+    (room-short c.ready.result _ _ full (c.in_err-ready.was ∙ ap (λ (f : ReadyError). Err f) (passed-fault c.from_residual.result
+    c.in_err-ready.field-0.0 c.from_residual.ensures.1 short)))))
+
 -- ---- there was
 
 pub take_next-requires : goal.take_next-requires
@@ -252,12 +265,15 @@ returns-in_default-clause-took g c =
     let r : IsRunning gives origin [] seen h = running-ready old mid _ _ same gives origin seen c.requires.running
     kept in
     let t = sym (c.should_process.ensures ∙ ap should_process c.status-status.ensures) ∙ c.if-not-should_process.false in
+    let full = subst (λ (x : Contents). IsErrOf c.ready.result JournalFull ↔ (x.cell.who.limit ≤ length x.cell.journal)) c.deref_mut.ensures.value
+    c.ready.ensures.full in
     let found = subst (λ (x : Contents). FindsNone x new) c.deref_mut-2.ensures.value c.in_default.ensures.none in
     let drained = drained-home old mid (ap (λ (x : Contents). x.cell.who) same)
     (ap (λ (x : Contents). x.cell.journal) same) (drained-open gives origin seen old c.requires.running c.requires.whole t) in (
       refl,
       subst (λ (k : Taking). IsWhy k (record h { home = new })) (ap (λ (x : Contents). x.take) same)
-          (why-none gives origin seen h r new found (acts-ready old mid _ _ same ∙ c.requires.carried_out) drained t),
+          (why-none gives origin seen h r new found (acts-ready old mid _ _ same ∙ c.requires.carried_out) drained t
+          (room-ready old mid _ _ same (room-well c.ready.result _ _ full _ c.in_ok-ready.was))),
     )
 
 -- ---- one was
@@ -464,3 +480,6 @@ pub returns-in-Err-clause-full : goal.returns-in-Err-clause-full
 returns-in-Err-clause-full g c =
     λ full. absurd (not-full c.carry_out.result c.carry_out.ensures.refused
     (c.in-Err.is ∙ ap (λ (f : ReadyError). Err f) (same-fault c.in-Err.fault full)))
+
+pub returns-in-Err-clause-short : goal.returns-in-Err-clause-short
+returns-in-Err-clause-short g c = λ short. inr (err-at c.carry_out.result c.in-Err.fault c.in-Err.is c.carry_out.ensures.ended)

@@ -11,6 +11,7 @@ use Rattle.mb_wake.specs.Views.{LooksAfter}
 use Rattle.mb_turn.specs.Caller.{IsPaid, caller_of}
 use Rattle.mb_turn.specs.Emptied.{IsCleared}
 use Rattle.mb_turn.specs.Hold.{hold_of}
+use Rattle.mb_turn.specs.Ran.{IsShortOfMemory}
 use Rattle.mb_turn.proofs.AppliedLemmas.{same-fault}
 use Rattle.mb_turn.proofs.CallerLemmas.{account-woken}
 use Rattle.mb_turn.proofs.EnvelopeLemmas.{HasStopped}
@@ -159,7 +160,7 @@ returns-in-Ok-clause-ran g c =
         ended.1,
         leaves-run c.args.throughput c.args.claim last (known_by c.args.waker.now.pass) (known_by c.register.new.self.pass) turn ended.0
             taken run.ensures.turning.1
-            run.ensures.turning.0 run.ensures.few ended.4 ended.2 run.ensures.running.dry saw part fresh at_first
+            run.ensures.turning.0 run.ensures.few ended.4 ended.2 ended.5 run.ensures.running.dry saw part fresh at_first
             run.ensures.running.settled.taken run.ensures.running.settled.open_keeps empty,
       ),
     )
@@ -186,9 +187,39 @@ returns-in-Err-clause-ran g c =
         turn,
         leaves-run c.args.throughput c.args.claim last (known_by c.args.waker.now.pass) (known_by c.register.new.self.pass) turn NoRoom
             taken run.ensures.turning.1
-            run.ensures.turning.0 run.ensures.few tt tt run.ensures.running.dry saw part fresh at_first
+            run.ensures.turning.0 run.ensures.few tt tt tt run.ensures.running.dry saw part fresh at_first
             run.ensures.running.settled.taken run.ensures.running.settled.open_keeps (λ ends. absurd ends),
         λ full. subst (λ (w : Identity). w.limit ≤ length journal) run.ensures.turning.1.who
             (run.ensures.full (c.in-Err.is ∙ ap (λ (f : ReadyError). Err f) (same-fault c.in-Err.fault full))),
       ),
     )
+
+pub returns-in-Err-clause-short : goal.returns-in-Err-clause-short
+returns-in-Err-clause-short g c = λ short.
+    let run = c.run_claim-outcome in
+    let last = run.new.claim in
+    let turn = run.new.turn in
+    let journal = last.home.value.cell.journal in
+    let here : c.actor-actor.result.0 ≡ held_actor last = c.actor-actor.ensures ∙ sym run.ensures.turning.1.actor in
+    let looks =
+    subst (λ n. LooksAfter n (known_by c.release.new.pass) (known_by c.register.new.self.pass)) here c.register.ensures.looks in
+    let saw = saw-journal (held_actor last) journal (known_of last) (known_by run.new.waker.pass) (known_by c.release.new.pass)
+    run.ensures.running.owes_nothing c.release.ensures.known (known_by c.register.new.self.pass) looks in
+    let part = steps-taken (held_actor last) journal (known_of last) (known_by run.new.waker.pass) (known_by c.release.new.pass)
+    run.ensures.running.owes_nothing c.release.ensures.known (known_by c.register.new.self.pass) looks
+    (caller_of g.W.Way.pushed g.W.Way.refused c.args.waker.now) (caller_of g.W.Way.pushed g.W.Way.refused run.new.waker) refl run.ensures.goes in
+    let taken = taken-fresh g.K.Behaviours.gives (origin_of c.args.gates.now) c.args.claim c.requires.untouched in
+    let fresh = log-fresh g.K.Behaviours.gives (origin_of c.args.gates.now) c.args.claim c.requires.untouched in
+    let at_first = taken-begun g.K.Behaviours.gives (origin_of c.args.gates.now) c.args.claim c.requires.untouched in (
+      journal,
+      turn,
+      leaves-run c.args.throughput c.args.claim last (known_by c.args.waker.now.pass) (known_by c.register.new.self.pass) turn NoRoom
+          taken run.ensures.turning.1
+          run.ensures.turning.0 run.ensures.few tt tt tt run.ensures.running.dry saw part fresh at_first
+          run.ensures.running.settled.taken run.ensures.running.settled.open_keeps (λ ends. absurd ends),
+      subst (λ (w : Identity). IsShortOfMemory w journal) run.ensures.turning.1.who
+          (run.ensures.short (c.in-Err.is ∙ ap (λ (f : ReadyError). Err f) (same-fault c.in-Err.fault short))),
+    )
+
+pub returns-in-Ok-clause-short : goal.returns-in-Ok-clause-short
+returns-in-Ok-clause-short g c = λ short. absurd (cc short)

@@ -40,7 +40,7 @@ returns-clause-goes g c =
     let id = c.args.whom.0 in
     let a = known_by c.args.waker.now.pass in let b = known_by c.sys_enqueue_in_run.new.pass in let d = known_by c.register.new.self.pass in
     further-moves id _ _
-    (moves-does id _ _ a d (tt, tt)
+    (moves-does id _ _ a d (tt, tt) tt
     (does-then id _ _ a b d (does-enlisting id c.in-Ok.field-0 c.set.new.self a b c.in-Ok.ensures.listed) c.register.ensures.looks))
     (account-woken id _ _ c.register.result c.register.ensures.woken) c.register.ensures.paid
 

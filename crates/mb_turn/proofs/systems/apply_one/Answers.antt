@@ -1,6 +1,9 @@
-use Rattle.std.proofs.Common.{◌≡◌, List, [], false, sym, ap, ◌∙◌, subst, arith}
+use Rattle.std.proofs.Common.{◌≡◌, ◌≤◌, inl, inr, List, [], false, length, sym, ap, ◌∙◌, subst, arith}
+use Rattle.std.specs.Prelude.{◌↔◌, Err, IsErrOf}
 use Rattle.mb_journal.specs.Acts.{Act}
 use Rattle.mb_journal.specs.Life.{closed}
+use Rattle.mb_journal.specs.declared.error.ReadyError.{ReadyError}
+use Rattle.mb_journal.specs.declared.error.ReadyError.TheVariants.{JournalFull, NoMemory}
 use Rattle.mb_cell.specs.Seen.{Seen}
 use Rattle.mb_gate.specs.Names.{known_by}
 use Rattle.mb_gate.specs.Untouched.{origin_of}
@@ -10,10 +13,11 @@ use Rattle.mb_home.specs.Settled.{IsSettled}
 use Rattle.mb_home.specs.Steps.{HasNext, AppliesNext}
 use Rattle.mb_turn.specs.Hold.{Hold, hold_of}
 use Rattle.mb_turn.specs.Running.{IsRunning}
-use Rattle.mb_turn.proofs.AppliedLemmas.{same-keeps, not-full, acts-ready, keeps-ready, beside-ready, running-ready, systems-fit}
+use Rattle.mb_turn.proofs.AppliedLemmas.{passed-fault, same-keeps, not-full, room-short, acts-ready, room-ready, keeps-ready, beside-ready, running-ready}
+use Rattle.mb_turn.proofs.AppliedLemmas.{systems-fit}
 use Rattle.mb_turn.proofs.BesideLemmas.{same-run-then}
 use Rattle.mb_turn.proofs.CallerLemmas.{further-none}
-use Rattle.mb_turn.proofs.EmptiedLemmas.{cleared-open, cleared-then, ok-so, takes-same}
+use Rattle.mb_turn.proofs.EmptiedLemmas.{cleared-open, cleared-then, err-at, ok-so, takes-same}
 use Rattle.mb_turn.proofs.RunningMoves.{journal-open, running-applied, beside-applied}
 use Rattle.mb_turn.proofs.TurningLemmas.{turning-keeps, turning-applied, same-applied}
 use Rattle.mb_turn.proofs.systems.apply_one.Goals as goal
@@ -75,6 +79,17 @@ returns-in_err-ready-clause-turning g c =
 
 pub returns-in_err-ready-clause-goes : goal.returns-in_err-ready-clause-goes
 returns-in_err-ready-clause-goes g c = further-none _
+
+pub returns-in_err-ready-clause-short : goal.returns-in_err-ready-clause-short
+returns-in_err-ready-clause-short g c =
+    λ short. (let same = subst (λ (x : Contents). c.ready.new.self
+    ≡ record x { cell = record x.cell { is_ready = c.ready.new.self.cell.is_ready }; room = c.ready.new.self.room }) c.deref_mut.ensures.value
+    c.ready.ensures.same in
+    let full = subst (λ (x : Contents). IsErrOf c.ready.result JournalFull ↔ (x.cell.who.limit ≤ length x.cell.journal)) c.deref_mut.ensures.value
+    c.ready.ensures.full in
+    inl (room-ready (hold_of c.args.claim.now) c.ready.new.self _ _ same
+    (room-short c.ready.result _ _ full (c.in_err-ready.was ∙ ap (λ (f : ReadyError). Err f) (passed-fault c.from_residual.result
+    c.in_err-ready.field-0.0 c.from_residual.ensures.1 short)))))
 
 -- ---- there was
 
@@ -190,3 +205,6 @@ returns-clause-cleared g c =
 
 pub returns-clause-full : goal.returns-clause-full
 returns-clause-full g c = λ full. absurd (not-full _ c.carry_out.ensures.refused full)
+
+pub returns-clause-short : goal.returns-clause-short
+returns-clause-short g c = λ short. inr (err-at c.carry_out.result NoMemory short c.carry_out.ensures.ended)

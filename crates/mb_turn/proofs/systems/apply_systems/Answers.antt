@@ -53,6 +53,9 @@ returns-clause-goes g c = c.apply_all.ensures.goes
 pub returns-clause-full : goal.returns-clause-full
 returns-clause-full g c = c.apply_all.ensures.full
 
+pub returns-clause-short : goal.returns-clause-short
+returns-clause-short g c = c.apply_all.ensures.short
+
 -- ---- no system message is due
 
 pub returns-then-is_quiet-clause-running : goal.returns-then-is_quiet-clause-running

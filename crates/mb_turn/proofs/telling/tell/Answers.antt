@@ -1,21 +1,22 @@
-use Rattle.std.proofs.Common.{inl, [], ◌∷◌, List, refl, sym, ap, ◌∙◌, subst, arith}
+use Rattle.std.proofs.Common.{inl, inr, ◌==◌, [], ◌∷◌, List, refl, sym, ap, ◌∙◌, subst, arith}
 use Rattle.mb_status.specs.Mailbox.{word_of}
 use Rattle.mb_msg.specs.declared.dead_letter.Why.TheVariants.{Closed}
 use Rattle.mb_journal.specs.Acts.Act.{Tell}
 use Rattle.mb_gate.specs.Names.{known_by}
 use Rattle.mb_gate.specs.Untouched.{origin_of}
-use Rattle.mb_gate.specs.View.{Sight}
+use Rattle.mb_gate.specs.View.{Sight, Sent, Unsent}
 use Rattle.mb_home.specs.Contents.{Contents}
 use Rattle.mb_home.specs.Settled.{IsSettled}
 use Rattle.mb_home.specs.Steps.{Pushes, Buries, reason_of}
-use Rattle.mb_wake.proofs.Views.{looks-read, does-then, does-sending, does-unsending}
+use Rattle.mb_wake.proofs.Views.{looks-none, looks-read, does-then, does-sending, does-unsending}
 use Rattle.mb_turn.specs.Hold.{hold_of}
 use Rattle.mb_turn.specs.Running.{IsRunning}
 use Rattle.mb_turn.proofs.CallerLemmas.{account-none, account-woken}
 use Rattle.mb_turn.proofs.EmptiedLemmas.{cleared-same}
-use Rattle.mb_turn.proofs.MoveLemmas.{moves-does, moves-then, further-moves}
+use Rattle.mb_turn.proofs.MoveLemmas.{moves-does, further-moves}
 use Rattle.mb_turn.proofs.SayLemmas.{running-goes}
-use Rattle.mb_turn.proofs.TellingLemmas.{running-own, told-below, log-closed, paid-closed, keeps-home, beside-cell}
+use Rattle.mb_turn.proofs.SendingLemmas.{does-read, open-word, sends-one, sends-back}
+use Rattle.mb_turn.proofs.TellingLemmas.{running-own, told-below, closed-word, log-closed, paid-closed, keeps-home, beside-cell}
 use Rattle.mb_turn.proofs.TellingLemmas.{running-pushed, running-refused_push, running-told_closed}
 use Rattle.mb_turn.proofs.telling.tell.Goals as goal
 
@@ -140,8 +141,23 @@ returns-then-closed-clause-goes g c =
     let a = known_by c.args.waker.now.pass in let b = known_by c.status-status.new.pass in
     let known = c.status-status.ensures.known in
     let shut = sym c.closed.ensures ∙ c.if-closed.true in
-    further-moves id _ _ (moves-does id [] [] a b tt (looks-read id (word_of c.status-status.result) a b known)) (account-none _)
+    further-moves id _ _ (moves-does id [] [] a b tt tt (looks-read id (word_of c.status-status.result) a b known)) (account-none _)
     (inl (paid-closed id c.status-status.result a b shut known))
+
+pub returns-then-closed-clause-told : goal.returns-then-closed-clause-told
+returns-then-closed-clause-told g c =
+    let buried = subst (λ (x : Contents). Buries x c.bury_closed.new.self c.args.to c.args.body Closed) c.deref_mut.ensures.value
+    c.bury_closed.ensures.buried in
+    let id = c.args.to.0 in
+    let word = word_of c.status-status.result in
+    let a = known_by c.args.waker.now.pass in let b = known_by c.status-status.new.pass in
+    let shut = sym c.closed.ensures ∙ c.if-closed.true in
+    inl (record {
+      word = word;
+      shut = ap (λ w. w == 1) (closed-word c.status-status.result shut);
+      did = does-read id word [] [] a b b c.status-status.ensures.known (looks-none id b);
+      buried = buried;
+    })
 
 -- ---- it was pushed
 
@@ -150,10 +166,27 @@ returns-in-Ok-clause-goes g c =
     let id = c.args.to.0 in
     let a = known_by c.args.waker.now.pass in let b = known_by c.status-status.new.pass in
     let d = known_by c.note_sent.new.pass in let e = known_by c.register.new.self.pass in
+    let word = word_of c.status-status.result in
+    let open_yet = open-word c.status-status.result (sym c.closed.ensures ∙ c.if-closed.false) in
     further-moves id _ _
-    (moves-then id a b e (moves-does id [] [] a b tt (looks-read id (word_of c.status-status.result) a b c.status-status.ensures.known))
-    (moves-does id _ [] b e (tt, tt) (does-then id _ [] b d e (does-sending id b d c.note_sent.ensures.known) c.register.ensures.looks)))
+    (moves-does id _ [] a e (tt, (tt, tt)) (sends-one id word open_yet) (does-read id word (Sent id 1 ∷ []) [] a b e c.status-status.ensures.known
+    (does-then id _ [] b d e (does-sending id b d c.note_sent.ensures.known) c.register.ensures.looks)))
     (account-woken id _ _ c.register.result c.register.ensures.woken) c.register.ensures.paid
+
+pub returns-in-Ok-clause-told : goal.returns-in-Ok-clause-told
+returns-in-Ok-clause-told g c =
+    let pushed = subst (λ (x : Contents). Pushes x c.push.new.self c.args.to c.args.body) c.deref_mut-2.ensures.value c.in-Ok.ensures.pushed in
+    let id = c.args.to.0 in
+    let word = word_of c.status-status.result in
+    let a = known_by c.args.waker.now.pass in let b = known_by c.status-status.new.pass in
+    let d = known_by c.note_sent.new.pass in let e = known_by c.register.new.self.pass in
+    inr (inl (record {
+      word = word;
+      not_closed = open-word c.status-status.result (sym c.closed.ensures ∙ c.if-closed.false);
+      did = does-read id word (Sent id 1 ∷ []) [] a b e c.status-status.ensures.known
+          (does-then id _ [] b d e (does-sending id b d c.note_sent.ensures.known) c.register.ensures.looks);
+      pushed = pushed;
+    }))
 
 pub returns-in-Ok-clause-running : goal.returns-in-Ok-clause-running
 returns-in-Ok-clause-running g c =
@@ -198,11 +231,31 @@ returns-in-Err-clause-goes g c =
     let a = known_by c.args.waker.now.pass in let b = known_by c.status-status.new.pass in
     let d = known_by c.note_sent.new.pass in let e = known_by c.note_unsent.new.pass in
     let f = known_by c.register-in-Err.new.self.pass in
+    let word = word_of c.status-status.result in
+    let open_yet = open-word c.status-status.result (sym c.closed.ensures ∙ c.if-closed.false) in
     further-moves id _ _
-    (moves-then id a b f (moves-does id [] [] a b tt (looks-read id (word_of c.status-status.result) a b c.status-status.ensures.known))
-    (moves-does id _ [] b f (tt, (tt, tt)) (does-then id _ [] b e f (does-unsending id b d e c.note_sent.ensures.known c.note_unsent.ensures.known)
-    c.register-in-Err.ensures.looks)))
+    (moves-does id _ [] a f (tt, (tt, (tt, tt))) (sends-back id word open_yet)
+    (does-read id word (Unsent id 1 ∷ Sent id 1 ∷ []) [] a b f c.status-status.ensures.known
+    (does-then id _ [] b e f (does-unsending id b d e c.note_sent.ensures.known c.note_unsent.ensures.known) c.register-in-Err.ensures.looks)))
     (account-woken id _ _ c.register-in-Err.result c.register-in-Err.ensures.woken) c.register-in-Err.ensures.paid
+
+pub returns-in-Err-clause-told : goal.returns-in-Err-clause-told
+returns-in-Err-clause-told g c =
+    let buried = subst (λ (x : Contents). Buries x c.push.new.self c.args.to c.args.body (reason_of c.in-Err.field-0)) c.deref_mut-2.ensures.value
+    c.in-Err.ensures.pushed.1 in
+    let id = c.args.to.0 in
+    let word = word_of c.status-status.result in
+    let a = known_by c.args.waker.now.pass in let b = known_by c.status-status.new.pass in
+    let d = known_by c.note_sent.new.pass in let e = known_by c.note_unsent.new.pass in
+    let f = known_by c.register-in-Err.new.self.pass in
+    inr (inr (record {
+      word = word;
+      not_closed = open-word c.status-status.result (sym c.closed.ensures ∙ c.if-closed.false);
+      did = does-read id word (Unsent id 1 ∷ Sent id 1 ∷ []) [] a b f c.status-status.ensures.known
+          (does-then id _ [] b e f (does-unsending id b d e c.note_sent.ensures.known c.note_unsent.ensures.known) c.register-in-Err.ensures.looks);
+      refused = c.in-Err.field-0;
+      buried = buried;
+    }))
 
 pub returns-in-Err-clause-running : goal.returns-in-Err-clause-running
 returns-in-Err-clause-running g c =
