@@ -207,8 +207,10 @@ only-more before between after id waiting is so =
     either actor (inl kept) (inl was) = inl (kept ∙ was)
     either actor (inl kept) (inr less) = inr (kept ∙ less.0, among-more {X = ℕ × ℕ} (actor, 0) (id, waiting) so.counts less.1)
     either actor (inr none) (inl was) =
-        inr (none.0 ∙ (λ i. record (was i) { message = false }),
-          record { before = []; after = so.counts; joined = λ i. (none.1 i, none.2 i) ∷ so.counts })
+        inr (
+          none.0 ∙ (λ i. record (was i) { message = false }),
+          record { before = []; after = so.counts; joined = λ i. (none.1 i, none.2 i) ∷ so.counts },
+        )
     either actor (inr none) (inr less) =
         inr (none.0 ∙ (λ i. record (less.0 i) { message = false }), among-more {X = ℕ × ℕ} (actor, 0) (id, waiting) so.counts less.1)
 
