@@ -1,6 +1,6 @@
 -- What comes back after it was read, and what is known then.
 use Rattle.std.proofs.Common.{◌≡◌, ℕ, ◌+◌, ◌<◌, ◌≤◌, List, [], ◌∷◌, ◌++◌, length, refl, sym, ap, ◌∙◌, subst, Some, append_assoc}
-use Rattle.std.proofs.Common.{arith, drop, get_or}
+use Rattle.std.proofs.Common.{arith, drop, get_or, map}
 use Rattle.std.specs.Prelude.{All, AllPairs, IfOk, MatchOption, Ok, Result, None, Option, ◌≢◌, slice_get, slice_set}
 use Rattle.std.specs.Global.{Box}
 use Rattle.std.specs.Vec.{with_item}
@@ -13,9 +13,12 @@ use Rattle.mb_gate.specs.Rule.{IsAmong, IsPart}
 use Rattle.mb_gate.specs.View.{Counted, Sight, View}
 use Rattle.mb_home.specs.Contents.{Contents}
 use Rattle.mb_pool.specs.Places.{gates_of}
-use Rattle.mb_reckon.specs.Rooms.{AreCounted}
+use Rattle.mb_reckon.specs.Rooms.{AreCounted, HasOnlyCounted}
 use Rattle.mb_reckon.specs.Settled.{AreSettledBy, IsUnsettled}
-use Rattle.mb_reckon.proofs.Lists.{length-mapped}
+use Rattle.mb_reckon.proofs.Lists.{length-mapped, mapped}
+use Rattle.mb_reckon.proofs.Steps.{only-part}
+use Rattle.mb_report.specs.declared.report.ActorReport.{ActorReport}
+use Rattle.mb_report.specs.declared.report.Report.{Report}
 use Rattle.mb_ways.specs.declared.end_way.EndWay.{EndWay}
 use Rattle.mb_system.specs.Belonging.{BelongsTogether, senders_numbers}
 use Rattle.mb_system.specs.Members.{IsEndOf, IsSenderOf, ends_numbers}
@@ -24,7 +27,7 @@ use Rattle.mb_system.specs.declared.end.WorkerEnd.{WorkerEnd}
 use Rattle.mb_system.specs.declared.sender.Sender.{Sender}
 use Rattle.mb_system.specs.declared.system.System.{System}
 use Rattle.mb_dispatch.specs.Belonging.{AreThere, HasAllSeen, HasRead, IsBack, WasSettled}
-use Rattle.mb_dispatch.specs.Refused.{FindsSettled, FindsUnsettled, IsComplete}
+use Rattle.mb_dispatch.specs.Refused.{FindsSettled, FindsUnsettled, IsComplete, LeavesCounted}
 use Rattle.mb_dispatch.proofs.Gathered.{seen_by_end, seen_by_sender}
 use Rattle.mb_dispatch.proofs.Parts.{AllSeen, part-trans}
 use Rattle.mb_dispatch.proofs.Settling.{settled-part}
@@ -38,7 +41,7 @@ module _ {X : Type 0} where
 
 found-part : (many : ℕ) (before after : View) → FindsSettled many before after → IsPart before.log after.log
 found-part many before after found =
-    part-trans before.log found.0.log after.log (settled-part 0 many before found.0 found.1) found.2
+    part-trans before.log found.0.log after.log (settled-part 0 many before found.0 found.1) (only-part found.0 after found.2)
 
 -- what is among a part is among all
 among-part : {X : Type 0} (x : X) (part all : List X) → IsPart part all → IsAmong x part → IsAmong x all
@@ -50,6 +53,13 @@ among-part x part all is among =
       after = among.after ++ is.after;
       joined = is.joined ∙ ap (λ l. is.before ++ l) inner ∙ sym (append_assoc is.before among.before (x ∷ (among.after ++ is.after)));
     }
+
+-- as many are left as were counted, each of which was read
+pub left-counted : (report : Report) (waiting : List ℕ) (log : List Sight)
+    → map (λ (a : ActorReport). length a.left.items) report.actors.items ≡ waiting → AreCounted log waiting → LeavesCounted log report
+left-counted report waiting log same all id a found =
+    all id (length a.left.items)
+    (ap (λ l. slice_get l id) (sym same) ∙ mapped (λ (a : ActorReport). length a.left.items) report.actors.items id a found)
 
 pub ok-at : {X E : Type 0} (P : X → Type 0) (result : Result X E) (x : X) → result ≡ Ok x → IfOk result P → P x
 ok-at {X} {E} P result x is all = subst (λ (r : Result X E). IfOk r P) is all
@@ -179,9 +189,9 @@ module _ {A K : Type 0} where
       sym two.knew ∙ ap (λ (e : WorkerEnd A K). known_by e.waker.pass) (sym (same-first one.first' two.first one.rest two.rest same)) ∙ one.knows
 
   abbrev pub ReadMore : Built A K → Built A K → Type 0
-  ReadMore = HasRead (λ (before : View) (after : View). IsPart before.log after.log)
+  ReadMore = HasRead HasOnlyCounted
 
-  -- nothing was to run, and then more was read
+  -- nothing was to run, and then waiting numbers were read
   pub settled-then-read : (many : ℕ) (old between new : Built A K) → HasRead (AreSettledBy 0 many) old between → ReadMore between new
       → HasRead (FindsSettled many) old new
   settled-then-read many old between new settled more = (
@@ -191,7 +201,7 @@ module _ {A K : Type 0} where
     (
       settled.1,
       settled.3,
-      subst (λ (v : View). IsPart v.log more.1.log)
+      subst (λ (v : View). HasOnlyCounted v more.1)
           (known-between old between new settled.0 settled.1 more.0 more.1 settled.2 more.2) more.3,
     ),
   )
@@ -228,7 +238,7 @@ module _ {A K : Type 0} where
         are = back.was;
         read = found.3.0;
         settled = subst (λ (v : View). AreSettledBy 0 (actors_of old.system.gates) v found.3.0) (sym back.knew) found.3.1;
-        among = part-trans found.3.0.log found.1.log log found.3.2 last;
+        among = part-trans found.3.0.log found.1.log log (only-part found.3.0 found.1 found.3.2) last;
       }
 
   -- what was counted as the first end read it was seen

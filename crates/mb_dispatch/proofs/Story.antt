@@ -10,7 +10,7 @@ use Rattle.mb_actor.specs.Behaviour.{Moment, Reply}
 use Rattle.mb_actor.specs.declared.message.Message.{Message}
 use Rattle.mb_fates.specs.Accepted.{accepted}
 use Rattle.mb_fates.specs.declared.posting.Posting.{Posting}
-use Rattle.mb_gate.specs.Names.{first_of, known_by}
+use Rattle.mb_gate.specs.Names.{actors_of, first_of, known_by}
 use Rattle.mb_gate.specs.Rule.{IsPart}
 use Rattle.mb_gate.specs.View.{Sight, View}
 use Rattle.mb_gate.specs.declared.gates.Gates.{Gates}
@@ -20,6 +20,7 @@ use Rattle.mb_queue.specs.Passes.{Sending}
 use Rattle.mb_report.specs.declared.report.Report.{Report}
 use Rattle.mb_build.specs.Handed.{passes_of}
 use Rattle.mb_build.specs.Numbers.{numbers}
+use Rattle.mb_reckon.specs.Homes.{CameHome}
 use Rattle.mb_reckon.specs.Seen.{GoesOnFromAll}
 use Rattle.mb_reckon.specs.Whole.{IsWhole}
 use Rattle.mb_reckon.proofs.Lists.{at-place, from-mapped, length-mapped, there}
@@ -32,6 +33,7 @@ use Rattle.mb_system.specs.declared.end.WorkerEnd.{WorkerEnd}
 use Rattle.mb_system.specs.declared.order.Order.{Order}
 use Rattle.mb_system.specs.declared.sender.Sender.{Sender}
 use Rattle.mb_dispatch.specs.Belonging.{AreAnswers, AreThere, HasAllSeen}
+use Rattle.mb_dispatch.specs.Refused.{HasComeHome}
 use Rattle.mb_dispatch.specs.Sent.{HaveSent}
 use Rattle.mb_dispatch.specs.Story.{DidOrders, IsStory}
 use Rattle.mb_dispatch.proofs.Parts.{part-trans}
@@ -159,8 +161,9 @@ module _ {A K : Type 0} (gives : ℕ → Moment → Reply → Type 0) (plan : Pl
         → AreAnswers now.system.senders now.senders.items answers
         → IsWhole after gives (first_of now.system.gates).value.roll log answers report
         → All (λ (e : WorkerEnd A K). GoesOnFromAll report (known_by e.waker.pass)) now.ends.items
-        → All (λ (s : Sender A K). GoesOnFromAll report (known_by s.inner.waker.pass)) now.senders.items → IsStory after gives plan orders report
-    story after report log answers saw seen answered whole ends_seen senders_seen =
+        → All (λ (s : Sender A K). GoesOnFromAll report (known_by s.inner.waker.pass)) now.senders.items
+        → HasComeHome gives now report → IsStory after gives plan orders report
+    story after report log answers saw seen answered whole ends_seen senders_seen home =
         let knows = λ (s : Sender A K). known_by s.inner.waker.pass in
         let knew = λ (e : WorkerEnd A K). known_by e.waker.pass in
         let IsTold = λ (v : View). IsPart v.log log × GoesOnFromAll report v in record {
@@ -171,6 +174,15 @@ module _ {A K : Type 0} (gives : ℕ → Moment → Reply → Type 0) (plan : Pl
           many = answered.length_is ∙ ap (λ s. s.senders) system ∙ begun.numbers.1;
           whole = subst (λ (g : Gates (Box Contents)). IsWhole after gives (first_of g).value.roll log answers report)
               (ap (λ s. s.gates) system) whole;
+          homes = record {
+            first = (first_of built.system.gates).value;
+            rolled = refl;
+            view = home.view;
+            home = subst (λ (n : ℕ). CameHome gives (first_of built.system.gates).value n home.view report) (sym built.system.roll)
+                (subst (λ (g : Gates (Box Contents)). CameHome gives (first_of g).value (actors_of g) home.view report)
+                (ap (λ s. s.gates) system) home.home);
+            counted = home.counted;
+          };
           knew = map knows now.senders.items;
           all_knew = length-mapped knows now.senders.items ∙ sent.many ∙ senders-there.0;
           ends = map knew now.ends.items;

@@ -1,14 +1,15 @@
 -- Why there is no report.
-use Rattle.std.specs.Prelude.{◌≡◌, ℕ, ◌<◌, List}
+use Rattle.std.specs.Prelude.{◌≡◌, ℕ, ◌<◌, List, Some, length, slice_get}
 use Rattle.mb_actor.specs.Behaviour.{Moment, Reply}
 use Rattle.mb_gate.specs.Names.{actors_of, first_of}
-use Rattle.mb_gate.specs.Rule.{IsPart}
-use Rattle.mb_gate.specs.View.{View}
+use Rattle.mb_gate.specs.Rule.{IsAmong}
+use Rattle.mb_gate.specs.View.{Counted, Sight, View}
 use Rattle.mb_queue.specs.Passes.{Sending}
+use Rattle.mb_report.specs.declared.report.ActorReport.{ActorReport}
 use Rattle.mb_report.specs.declared.report.Report.{Report}
 use Rattle.mb_reckon.specs.Homes.{CameHome, Disagrees}
 use Rattle.mb_reckon.specs.Mismatched.{of_whom}
-use Rattle.mb_reckon.specs.Rooms.{AreCounted}
+use Rattle.mb_reckon.specs.Rooms.{AreCounted, HasOnlyCounted}
 use Rattle.mb_reckon.specs.declared.mismatch.Mismatch.{Mismatch as What}
 use Rattle.mb_reckon.specs.Settled.{AreSettledBy, IsUnsettled}
 use Rattle.mb_system.specs.Belonging.{senders_numbers}
@@ -18,12 +19,17 @@ use Rattle.mb_dispatch.specs.Belonging.{AreThere, AreWays, HasAllSeen, HasRead, 
 use Rattle.mb_dispatch.specs.declared.ending.FinishError.{FinishError}
 use Rattle.mb_dispatch.specs.declared.ending.FinishError.TheVariants.{MissingEnd, MissingSender, NotQuiet, NoMemory, Mismatch}
 
--- by what was read, this actor is the least that had something to run; or so many had nothing to run, and then more was read
+-- by what was read, this actor is the least that had something to run; or so many had nothing to run, and then
+-- waiting numbers alone were read
 abbrev pub FindsUnsettled : ℕ → View → View → Type 0
 FindsUnsettled id before after = (between : View) × AreSettledBy 0 id before between × IsUnsettled id between after
 
 abbrev pub FindsSettled : ℕ → View → View → Type 0
-FindsSettled many before after = (between : View) × AreSettledBy 0 many before between × IsPart between.log after.log
+FindsSettled many before after = (between : View) × AreSettledBy 0 many before between × HasOnlyCounted between after
+
+-- as many envelopes are left to each actor as were read as waiting for it
+abbrev pub LeavesCounted : List Sight → Report → Type 0
+LeavesCounted log report = (id : ℕ) (a : ActorReport) → slice_get report.actors.items id ≡ Some a → IsAmong (Counted id (length a.left.items)) log
 
 module _ {A K : Type 0} where
   -- all ends and senders are there
@@ -68,8 +74,10 @@ module _ {A K : Type 0} where
   DisagreesIfSaid gives built (NotQuiet id back) = Unit {0}
   DisagreesIfSaid gives built (NoMemory back) = Unit {0}
 
-  -- each home came, and the report counts all that each list gave; all that ends and senders saw was known then
+  -- Each home came; the report counts all that each list gave, tells as cleaned up and as dead letters what the homes do, and as left as many as
+  -- were read as waiting. All that ends and senders saw was known then.
   pub record HasComeHome (gives : ℕ → Moment → Reply → Type 0) (built : Built A K) (report : Report) : Type 0 where
     pub view : View
     pub seen : HasAllSeen built view.log
     pub home : CameHome gives (first_of built.system.gates).value (actors_of built.system.gates) view report
+    pub counted : LeavesCounted view.log report

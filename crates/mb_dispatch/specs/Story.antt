@@ -7,18 +7,21 @@ use Rattle.mb_fates.specs.Accepted.{accepted}
 use Rattle.mb_fates.specs.declared.posting.Posting.{Posting}
 use Rattle.mb_gate.specs.Rule.{IsPart}
 use Rattle.mb_gate.specs.View.{Pushed, Sight, View}
+use Rattle.mb_home.specs.Contents.{Contents}
 use Rattle.mb_home.specs.Roll.{Enrolled}
 use Rattle.mb_msg.specs.declared.system.SysMsg.TheVariants.{Create}
 use Rattle.mb_plan.specs.declared.actor_plan.ActorPlan.{ActorPlan}
 use Rattle.mb_plan.specs.declared.plan.Plan.{Plan}
 use Rattle.mb_queue.specs.Made.{bound_of, turns_in}
 use Rattle.mb_queue.specs.declared.kind.Kind.{Kind}
+use Rattle.mb_reckon.specs.Homes.{CameHome}
 use Rattle.mb_reckon.specs.Seen.{GoesOnFromAll}
 use Rattle.mb_reckon.specs.Whole.{IsWhole}
 use Rattle.mb_report.specs.declared.report.Report.{Report}
 use Rattle.mb_system.specs.Begun.{actors_in}
 use Rattle.mb_system.specs.Orders.{addressed, said_to, stopped_by, told_by}
 use Rattle.mb_system.specs.declared.order.Order.{Order}
+use Rattle.mb_dispatch.specs.Refused.{LeavesCounted}
 
 -- the actor that was handed in for this number: the first for 1, since 0 is the guardian's
 abbrev pub handed_in : {A : Type 0} → List A → ℕ → Option A
@@ -60,8 +63,18 @@ pub record DidOrders (orders : List Order) (postings : List Posting) (knew : Vie
   pub accepted_are : addressed (accepted postings) ≡ told_by orders
   pub said : said_to knew.said ≡ reverse (stopped_by orders)
 
+-- The report is by what gates with this roll left: each home came, and the report counts all that each list gave, tells as cleaned up and as dead
+-- letters what the homes do, and as left as many as were read as waiting.
+pub record IsOfHomes (gives : ℕ → Moment → Reply → Type 0) (roll : List Enrolled) (report : Report) : Type 0 where
+  pub first : Contents
+  pub rolled : first.roll ≡ roll
+  pub view : View
+  pub home : CameHome gives first (length roll) view report
+  pub counted : LeavesCounted view.log report
+
 -- The report is whole of the actors of this plan, and of its senders outside, of whom each did the orders of its place: it speaks of all that
--- the senders and the workers' ends saw, and goes on from that; and they saw that a Create went into the guardian's list.
+-- the senders and the workers' ends saw, and goes on from that; and they saw that a Create went into the guardian's list. It is by what gates with
+-- this roll left.
 pub record IsStory (after : ℕ → List Message → ℤ) (gives : ℕ → Moment → Reply → Type 0) (plan : Plan) (orders : List (List Order)) (report : Report)
     : Type 0 where
   pub roll : List Enrolled
@@ -70,6 +83,7 @@ pub record IsStory (after : ℕ → List Message → ℤ) (gives : ℕ → Momen
   pub outside : List (List Posting)
   pub many : length outside ≡ plan.senders
   pub whole : IsWhole after gives roll log outside report
+  pub homes : IsOfHomes gives roll report
   pub knew : List View
   pub all_knew : length knew ≡ plan.senders
   pub ends : List View

@@ -2,9 +2,8 @@
 ghost use Rattle.std.specs.Prelude.{◌≡◌, ◌<◌, ◌≤◌, [], All, List, IfErr, IfOk, IfSome, MatchOption, length, vec_capacity};
 ghost use Rattle.mb_fates.specs.declared.posting.Posting.{Posting};
 ghost use Rattle.mb_gate.specs.Names.{actors_of, first_of, known_by};
-ghost use Rattle.mb_gate.specs.Rule.{IsPart};
 ghost use Rattle.mb_gate.specs.View.{Sight};
-ghost use Rattle.mb_reckon.specs.Rooms.{AreCounted, IsRoom, counted_in};
+ghost use Rattle.mb_reckon.specs.Rooms.{AreCounted, HasOnlyCounted, IsRoom, counted_in};
 ghost use Rattle.mb_reckon.specs.Settled.{AreSettledBy};
 ghost use Rattle.mb_system.specs.Belonging.{BelongsTogether};
 ghost use Rattle.mb_system.specs.Members.{IsEndOf};
@@ -93,7 +92,7 @@ fn room_of<A: Actor, K: Behaviours>(built: &mut Built<A, K>) -> Option<(Room<A, 
     requires ours { All (λ e. IsEndOf built.old.system.gates e.waker) built.old.ends.items }
     requires some { 0 < length built.old.ends.items }
     requires few { length built.old.senders.items ≤ 16 }
-    ensures read { HasRead (λ before after. IsPart before.log after.log) built.old built.new }
+    ensures read { HasRead HasOnlyCounted built.old built.new }
     ensures room { IfSome result (λ made. IsRoom (actors_of built.old.system.gates) (length built.old.senders.items) made.0
         × (made.1.items ≡ []) × (length built.old.senders.items ≤ vec_capacity made.1)) }
     ensures waiting { IfSome result (λ made. HasRead (λ _ after. AreCounted after.log (counted_in made.0)) built.old built.new) }

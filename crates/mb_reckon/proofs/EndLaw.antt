@@ -3,6 +3,7 @@ use Rattle.std.proofs.Common.{◌≡◌, ◌≢◌, ◌⊎◌, ℕ, ◌^◌, ◌
 use Rattle.std.proofs.Common.{subst, arith, Option, Some}
 use Rattle.std.specs.Prelude.{All, slice_get}
 use Rattle.std.proofs.lemmas.Option.{same_Some}
+use Rattle.mb_msg.specs.declared.dead_letter.DeadLetter.{DeadLetter}
 use Rattle.mb_msg.specs.declared.envelope.Envelope.{Envelope}
 use Rattle.mb_actor.specs.Behaviour.{Moment, Reply}
 use Rattle.mb_actor.specs.declared.message.Message.{Message}
@@ -18,7 +19,7 @@ use Rattle.mb_home.specs.Roll.{Enrolled, queues_of as roll_queues}
 use Rattle.mb_report.specs.declared.report.ActorReport.{ActorReport}
 use Rattle.mb_report.specs.declared.report.Report.{Report}
 use Rattle.mb_report.specs.declared.report.SenderReport.{SenderReport}
-use Rattle.mb_reckon.specs.Apart.{AreApart, IsDone, end_of, ended_of, sent_of}
+use Rattle.mb_reckon.specs.Apart.{AreApart, IsDone, end_of, ended_of, sent_in, sent_of}
 use Rattle.mb_reckon.specs.Homes.{AreHomes, CameHome, Place}
 use Rattle.mb_reckon.specs.Outside.{AreOutsiders, HasKnownSenders}
 use Rattle.mb_reckon.specs.Seen.{GoesOnFrom, GoesOnFromAll}
@@ -29,7 +30,7 @@ use Rattle.mb_reckon.specs.declared.outsider.Outsider.{Outsider}
 use Rattle.mb_reckon.specs.declared.room.Ended.{Ended}
 use Rattle.mb_reckon.proofs.Columns.{different}
 use Rattle.mb_reckon.proofs.Gathering.{Gathered, gathered, numbers-rise}
-use Rattle.mb_reckon.proofs.Lists.{alike, at-place, each-place, from-mapped, length-mapped, mapped-to, same-maps, there, within}
+use Rattle.mb_reckon.proofs.Lists.{alike, at-place, became, each-place, from-mapped, in-first, length-mapped, mapped, mapped-to, same-maps, there, within}
 use Rattle.mb_reckon.proofs.Parties.{Party}
 use Rattle.mb_reckon.proofs.Standing.{Stands, many-left, own_word, shut, stands}
 use Rattle.mb_reckon.proofs.WholeLaw.{counts-given, whole}
@@ -156,6 +157,19 @@ module _ {A K : Type 0} (gives : ℕ → Moment → Reply → Type 0) (first : C
       pub report-seen : GoesOnFromAll report v
       report-seen = all-go-on v.log (λ i l found. (stands-at i l found).kept)
 
+      -- of each actor as many envelopes are left as were counted
+      pub report-counted : map (λ (a : ActorReport). length a.left.items) report.actors.items ≡ waiting
+      report-counted =
+          became (λ (a : ActorReport). length a.left.items) report.actors.items waiting
+          (shows.many ∙ many-ended ∙ sym counted)
+          (λ i a w found is.
+          let lt = within report.actors.items i a found in let c = shows.many in let d = many-ended in let m = many-lefts in
+          let e = there ended i (omega (arith, lt, c)) in
+          let q = taken.many in let t = ap length apart.takes_are in let k = length-mapped (λ (l : Place). l.home.value.take) lefts in
+          let es = there envelopes i (omega (arith, lt, c, d, m, q, t, k)) in
+          let one = shows.each i e.0 es.0 w a e.1 es.1 is found in
+          ap length one.shows.left_is ∙ one.counted)
+
       -- each home came, and all that its list gave is counted
       pub report-home : CameHome gives first n v report
       report-home = record {
@@ -175,4 +189,22 @@ module _ {A K : Type 0} (gives : ℕ → Moment → Reply → Type 0) (first : C
               counts-given after gives first v.log id l (stands-at id l here) done es.0 a (shown id l es.0 a here es.1 found).0 l.given
                   (left.each id (Some l) (omega (arith, b, m)) is).5,
             );
+        cleaned = λ id l a is found.
+            let x = from-mapped (λ (x : Place). Some x) lefts id (Some l) (ap (λ y. slice_get y id) (sym apart.are) ∙ is) in
+            let here : slice_get lefts id ≡ Some l = x.1 ∙ x.2 in
+            let b = within lefts id l here in
+            let q = taken.many in let t = ap length apart.takes_are in let k = length-mapped (λ (l : Place). l.home.value.take) lefts in
+            let es = there envelopes id (omega (arith, b, q, t, k)) in
+            (shown id l es.0 a here es.1 found).0.cleaned_is;
+        dead = λ id l s is found.
+            let x = from-mapped (λ (x : Place). Some x) lefts id (Some l) (ap (λ y. slice_get y id) (sym apart.are) ∙ is) in
+            let here : slice_get lefts id ≡ Some l = x.1 ∙ x.2 in
+            let of_home = λ (l : Place). sent_in l.home.value in
+            let others = map {A = Outsider} {B = ℕ × List DeadLetter} (λ o. (o.book.sent, o.book.dead.items)) outs in
+            let same : sent_of s ≡ sent_in l.home.value
+            = same_Some (sent_of s) (sent_in l.home.value)
+            (sym (mapped sent_of report.senders.items id s found)
+            ∙ ap (λ y. slice_get y id) (sents ∙ ap (λ y. y ++ others) apart.senders_are)
+            ∙ in-first (map of_home lefts) others id (of_home l) (mapped of_home lefts id l here)) in
+            ap (λ (x : ℕ × List DeadLetter). x.1) same;
       }

@@ -84,6 +84,16 @@ module _ {X Y : Type 0} where
       at_each y r ys all zero z w is found = subst (λ (p : X × Y). R zero p.0 p.1) (λ j. (same_Some x z is j, same_Some y w found j)) r
       at_each y r ys all (suc i) z w is found = all i z w is found
 
+  -- a list became one that has what each element became
+  pub became : (f : X → Y) (xs : List X) (ys : List Y) → length xs ≡ length ys
+      → ((i : ℕ) (x : X) (y : Y) → slice_get xs i ≡ Some x → slice_get ys i ≡ Some y → f x ≡ y) → map f xs ≡ ys
+  became f [] [] many each = refl
+  became f [] (y ∷ ys) many each = absurd (omega (arith, many))
+  became f (x ∷ xs) [] many each = absurd (omega (arith, many))
+  became f (x ∷ xs) (y ∷ ys) many each =
+      ap (λ z. z ∷ map f xs) (each zero x y refl refl)
+      ∙ ap (λ l. y ∷ l) (became f xs ys (omega (arith, many)) (λ i z w is found. each (suc i) z w is found))
+
 module _ {X Y Z : Type 0} where
   -- two lists that became the same have the same at each place
   pub alike : (f : X → Z) (g : Y → Z) (xs : List X) (ys : List Y) (i : ℕ) (x : X) (y : Y) → map f xs ≡ map g ys → slice_get xs i ≡ Some x

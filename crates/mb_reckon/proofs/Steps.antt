@@ -4,6 +4,7 @@ use Rattle.std.proofs.Common.{refl, sym, ap, ◌∙◌, subst, arith, append-nil
 use Rattle.std.specs.Prelude.{All, Vec, if◌then◌else◌, slice_get}
 use Rattle.std.specs.List.{AllZip}
 use Rattle.std.specs.Global.{Box, Global}
+use Rattle.std.proofs.lemmas.Bool.{eqb-true}
 use Rattle.std.proofs.lemmas.List.{map-append}
 use Rattle.std.proofs.lemmas.List.Elements.{All-nil, All-cons, All-push}
 use Rattle.std.proofs.lemmas.Option.{none-some, same_Some}
@@ -20,7 +21,7 @@ use Rattle.mb_home.specs.declared.home.Parts.{Parts}
 use Rattle.mb_report.specs.declared.report.ActorReport.{ActorReport}
 use Rattle.mb_report.specs.declared.report.SenderReport.{SenderReport}
 use Rattle.mb_reckon.specs.Apart.{AreApart, IsDone, IsOpened, end_of, ended_of, sent_in, sent_of}
-use Rattle.mb_reckon.specs.Rooms.{AreCounted, IsEnough}
+use Rattle.mb_reckon.specs.Rooms.{AreCounted, HasOnlyCounted, IsEnough}
 use Rattle.mb_reckon.specs.Settled.{AreSettledBy, IsSettledBy, one_more}
 use Rattle.mb_reckon.specs.Shown.{ShowsCell, ShowsOne}
 use Rattle.mb_journal.specs.Life.{phase}
@@ -150,6 +151,75 @@ one-counted old new counts counts' id n grown longer many each = λ i m is.
     subst (IsAmong (Counted i m)) (sym grown)
     (each-more (λ i m. IsAmong (Counted i m) (Counted id n ∷ old)) counts n (λ i m is. among-more (Counted i m) (Counted id n) old (each i m is))
     (record { before = []; after = old; joined = ap (λ k. Counted k n ∷ old) (sym many) }) i m (sym (ap (λ l. slice_get l i) longer) ∙ is))
+
+-- nothing was read; and one more count was
+pub only-none : (v : View) → HasOnlyCounted v v
+only-none v = record { counts = []; log_is = refl; same = refl; owed = λ actor. inl refl }
+
+counting-same : (id waiting : ℕ) (v : View)
+    → counting id waiting v ≡ record v { log = (counting id waiting v).log; debts = (counting id waiting v).debts }
+counting-same id waiting v = by_test (waiting == 0)
+  where
+    by_test : (b : Bool)
+        → (let w : View = if b then owing id (record (owes id v) { message = false }) (seeing (Counted id waiting) v) else seeing (Counted id waiting) v
+        in w ≡ record v { log = w.log; debts = w.debts })
+    by_test true = refl
+    by_test false = refl
+
+-- only who was counted to have none waiting is owed less
+owed-one : (actor id waiting : ℕ) (v : View) → (owes actor (counting id waiting v) ≡ owes actor v)
+    ⊎ ((owes actor (counting id waiting v) ≡ record (owes actor v) { message = false }) × (id ≡ actor) × (waiting ≡ 0))
+owed-one actor id waiting v = by_count (waiting == 0) refl
+  where
+    by_actor : (b : Bool) → (id == actor) ≡ b → waiting ≡ 0
+        → ((if b then (record (owes id v) { message = false }) else owes actor v) ≡ owes actor v)
+        ⊎ (((if b then (record (owes id v) { message = false }) else owes actor v) ≡ record (owes actor v) { message = false })
+        × (id ≡ actor) × (waiting ≡ 0))
+    by_actor true is none =
+        let same : id ≡ actor = eqb-true id actor is in inr (ap (λ (n : ℕ). record (owes n v) { message = false }) same, same, none)
+    by_actor false is none = inl refl
+
+    by_count : (b : Bool) → (waiting == 0) ≡ b
+        → (let w : View = if b then owing id (record (owes id v) { message = false }) (seeing (Counted id waiting) v) else seeing (Counted id waiting) v
+        in (owes actor w ≡ owes actor v) ⊎ ((owes actor w ≡ record (owes actor v) { message = false }) × (id ≡ actor) × (waiting ≡ 0)))
+    by_count true is = by_actor (id == actor) refl (eqb-true waiting 0 is)
+    by_count false is = inl refl
+
+pub only-more : (before between after : View) (id waiting : ℕ) → after ≡ counting id waiting between → HasOnlyCounted before between
+    → HasOnlyCounted before after
+only-more before between after id waiting is so =
+    let now = counting id waiting between in
+    subst (HasOnlyCounted before) (sym is) (record {
+      counts = (id, waiting) ∷ so.counts;
+      log_is = counting-log id waiting between ∙ ap (λ l. Counted id waiting ∷ l) so.log_is;
+      same = counting-same id waiting between ∙ ap (λ (w : View). record w { log = now.log; debts = now.debts }) so.same;
+      owed = λ actor. either actor (owed-one actor id waiting between) (so.owed actor);
+    })
+  where
+    either : (actor : ℕ)
+        → (owes actor (counting id waiting between) ≡ owes actor between)
+        ⊎ ((owes actor (counting id waiting between) ≡ record (owes actor between) { message = false }) × (id ≡ actor) × (waiting ≡ 0))
+        → (owes actor between ≡ owes actor before)
+        ⊎ ((owes actor between ≡ record (owes actor before) { message = false }) × IsAmong (actor, 0) so.counts)
+        → (owes actor (counting id waiting between) ≡ owes actor before)
+        ⊎ ((owes actor (counting id waiting between) ≡ record (owes actor before) { message = false })
+        × IsAmong (actor, 0) ((id, waiting) ∷ so.counts))
+    either actor (inl kept) (inl was) = inl (kept ∙ was)
+    either actor (inl kept) (inr less) = inr (kept ∙ less.0, among-more {X = ℕ × ℕ} (actor, 0) (id, waiting) so.counts less.1)
+    either actor (inr none) (inl was) =
+        inr (
+          none.0 ∙ (λ i. record (was i) { message = false }),
+          record { before = []; after = so.counts; joined = λ i. (none.1 i, none.2 i) ∷ so.counts },
+        )
+    either actor (inr none) (inr less) =
+        inr (none.0 ∙ (λ i. record (less.0 i) { message = false }), among-more {X = ℕ × ℕ} (actor, 0) (id, waiting) so.counts less.1)
+
+pub only-part : (before after : View) → HasOnlyCounted before after → IsPart before.log after.log
+only-part before after so = record {
+  before = map (λ (c : ℕ × ℕ). Counted c.0 c.1) so.counts;
+  after = [];
+  joined = so.log_is ∙ ap (λ l. map (λ (c : ℕ × ℕ). Counted c.0 c.1) so.counts ++ l) (sym (append-nil before.log));
+}
 
 -- ---- the room
 

@@ -2,9 +2,11 @@
 use Rattle.std.proofs.Common.{◌≡◌, ◌≢◌, ◌⊎◌, ℕ, zero, suc, ◌+◌, ◌%◌, ◌^◌, ◌<◌, ℤ, Bool, true, false, List, [], ◌∷◌, ◌++◌}
 use Rattle.std.proofs.Common.{length, map, get_or, refl, sym, ap, ◌∙◌, subst, arith, length-drop, Some, None}
 use Rattle.std.specs.Prelude.{All, Contains, if◌then◌else◌, slice_get}
-use Rattle.std.proofs.lemmas.List.Elements.{All-contains, All-weaker}
+use Rattle.std.proofs.lemmas.List.Elements.{All-contains, All-head, All-weaker}
 use Rattle.std.proofs.lemmas.Option.{get_or_from_slice_get, same_Some}
 use Rattle.mb_msg.specs.declared.dead_letter.DeadLetter.{DeadLetter}
+use Rattle.mb_msg.specs.declared.dead_letter.Why.{Why}
+use Rattle.mb_msg.specs.declared.dead_letter.Why.TheVariants as why
 use Rattle.mb_msg.specs.declared.envelope.Envelope.{Envelope}
 use Rattle.mb_actor.specs.Behaviour.{Moment, Reply}
 use Rattle.mb_actor.specs.declared.message.Message.{Message}
@@ -35,13 +37,13 @@ use Rattle.mb_home.specs.AtHome.{given_of}
 use Rattle.mb_home.specs.Contents.{Contents}
 use Rattle.mb_home.specs.Numbers.{applied_numbers, numbers_in, times}
 use Rattle.mb_home.specs.Roll.{Enrolled, queues_of}
-use Rattle.mb_home.specs.Settled.{aside_at_end}
+use Rattle.mb_home.specs.Settled.{IsOwn, IsReason, aside_at_end}
 use Rattle.mb_home.proofs.EndLaw.{dead-at-end}
 use Rattle.mb_home.proofs.OnceLaw.{stands-once}
 use Rattle.mb_report.specs.declared.report.ActorReport.{ActorReport}
 use Rattle.mb_report.specs.declared.report.Report.{Report}
 use Rattle.mb_report.specs.declared.report.SenderReport.{SenderReport}
-use Rattle.mb_reckon.specs.Apart.{IsDone, end_of, sent_of}
+use Rattle.mb_reckon.specs.Apart.{IsDone, end_of, sent_in, sent_of}
 use Rattle.mb_reckon.specs.Homes.{CountsGiven, Place}
 use Rattle.mb_reckon.specs.Outside.{HasKnownSenders, IsSenderAmong}
 use Rattle.mb_reckon.specs.Shown.{ShowsCell}
@@ -50,7 +52,7 @@ use Rattle.mb_reckon.specs.Whole.{CountsSystems, IsPutAmong, IsReportOf, IsRight
 use Rattle.mb_reckon.specs.declared.outsider.Outsider.{Outsider}
 use Rattle.mb_reckon.proofs.Columns.{in-column, sender-in-column}
 use Rattle.mb_reckon.proofs.Gathering.{Gathered, IsShut}
-use Rattle.mb_reckon.proofs.Lists.{alike, at-place, from-mapped, length-mapped, mapped, there, within}
+use Rattle.mb_reckon.proofs.Lists.{alike, at-place, from-mapped, in-first, length-mapped, mapped, there, within}
 use Rattle.mb_reckon.proofs.Parties.{HasReason, IsParty, Party}
 use Rattle.mb_reckon.proofs.Standing.{Stands}
 
@@ -65,6 +67,27 @@ ended-phase Ending t = absurd (cc t)
 none-at-end : (who : Identity) (journal : List Entry) → closed who journal ≡ false → aside_at_end who journal ≡ 0
 none-at-end who [] open_yet = refl
 none-at-end who (e ∷ before) open_yet = ap (λ (b : Bool). if b then length (aside who before) else 0) open_yet
+
+-- an actor's dead letters are never cleaned-up ones
+never-cleaned : (roll : List Enrolled) (w : Why) (to : ℕ) → IsReason roll w to → w ≡ why.Cleaned → ⊥
+never-cleaned roll why.Closed to is same = absurd (let no : why.Closed ≡ why.Cleaned = same in cc no)
+never-cleaned roll why.Full to is same = absurd (let no : why.Full ≡ why.Cleaned = same in cc no)
+never-cleaned roll why.NoMemory to is same = absurd (let no : why.NoMemory ≡ why.Cleaned = same in cc no)
+never-cleaned roll why.Cleaned to is same = absurd is
+
+-- the queue of the first actor, the guardian, has no senders; and nothing is of a queue that has none
+no-senders : (h : Contents) → IsOwn h → h.cell.who.this.0 ≡ 0 → h.take.queue.senders ≡ []
+no-senders h own first = by_test (is_guardian h.cell.who) refl
+  where
+    by_test : (b : Bool) → is_guardian h.cell.who ≡ b → h.take.queue.senders ≡ []
+    by_test true is = own.nobody is
+    by_test false is = absurd (let above = own.not_zero is in omega (arith, above, first))
+
+of-nobody : (queue : Queue) (es : List Envelope) → queue.senders ≡ [] → All (IsOfQueue queue) es → es ≡ []
+of-nobody queue [] none all = refl
+of-nobody queue (e ∷ es) none all =
+    let among : Contains [] e.by.0 = subst (λ (senders : List ℕ). Contains senders e.by.0) none (All-head (IsOfQueue queue) e es all).0 in
+    absurd (let lt : among.0 < 0 = among.1 in omega (arith, lt))
 
 module _ (after : ℕ → List Message → ℤ) (gives : ℕ → Moment → Reply → Type 0) (first : Contents) (log : List Sight) where
   -- ---- one actor
@@ -263,6 +286,29 @@ module _ (after : ℕ → List Message → ℤ) (gives : ℕ → Moment → Repl
               is.reasons),
         )
 
+    -- an actor's dead letters are its home's
+    letters-of : (i : ℕ) (l : Place) (p : Party) → slice_get lefts i ≡ Some l → slice_get g.parties i ≡ Some p
+        → l.home.value.dead ≡ dead_letters p.postings
+    letters-of i l p found is =
+        let of_home = λ (l : Place). sent_in l.home.value in
+        let others = map {A = Outsider} {B = ℕ × List DeadLetter} (λ o. (o.book.sent, o.book.dead.items)) outs in
+        let here : p.sent ≡ sent_in l.home.value
+        = same_Some p.sent (sent_in l.home.value)
+        (sym (mapped (λ (p : Party). p.sent) g.parties i p is) ∙ ap (λ y. slice_get y i) g.sents
+        ∙ in-first (map of_home lefts) others i (of_home l) (mapped of_home lefts i l found)) in
+        sym (ap (λ (x : ℕ × List DeadLetter). x.1) here) ∙ (g.each i p is).dead_is
+
+    not-cleaned-clause : (place : ℕ) → place < length first.roll
+        → All (λ (d : DeadLetter). d.why ≢ why.Cleaned) (dead_letters (answers place))
+    not-cleaned-clause place lt =
+        let l = there lefts place (omega (arith, lt, many)) in
+        let p = there g.parties place (let m = g.many in omega (arith, lt, many, m)) in
+        let h = l.0.home.value in
+        subst (λ ds. All (λ (d : DeadLetter). d.why ≢ why.Cleaned) ds)
+        (letters-of place l.0 p.0 l.1 p.1 ∙ ap dead_letters (sym (answers-at place p.0 p.1)))
+        (All-weaker (λ (d : DeadLetter). IsReason h.roll d.why d.envelope.to.0) (λ (d : DeadLetter). d.why ≢ why.Cleaned)
+        (λ d is. never-cleaned h.roll d.why d.envelope.to.0 is) h.dead (stands place l.0 l.1).own.settled.reasons)
+
     -- ---- one sender and one receiver
 
     module _ (place k : ℕ) (a : ActorReport) (lt : place < length report.senders.items)
@@ -409,6 +455,14 @@ module _ (after : ℕ → List Message → ℤ) (gives : ℕ → Moment → Repl
         (one.place, omega (arith, among, m, n, many), one.number_is)) (t.taken ++ x.left)
         (taken.known id t x.left (mapped (λ (l : Place). l.home.value.take) lefts id x.l x.there_is) x.left_there))
 
+    -- nothing for the guardian
+    nobody-clause : (a : ActorReport) → slice_get report.actors.items 0 ≡ Some a → fates_in a ≡ []
+    nobody-clause a found =
+        let x = at-actor 0 a found in let t = x.l.home.value.take in let st = stands 0 x.l x.there_is in
+        fates-are 0 x.l st (done 0 x.l x.there_is) x.left a x.shows
+        ∙ of-nobody t.queue (t.taken ++ x.left) (no-senders x.l.home.value st.own.settled.own st.own.number)
+        (taken.known 0 t x.left (mapped (λ (l : Place). l.home.value.take) lefts 0 x.l x.there_is) x.left_there)
+
     pub whole : IsWhole after gives first.roll log (map (λ (o : Outsider). o.book.posted) outs) report
     whole = record {
       many = (
@@ -422,6 +476,8 @@ module _ (after : ℕ → List Message → ℤ) (gives : ℕ → Moment → Repl
       sent = sender-clause;
       once = once-clause;
       nothing_else = nothing-clause;
+      nobody = nobody-clause;
+      not_cleaned = not-cleaned-clause;
       in_order = order-clause;
       parts_in_order = parts-clause;
       left_in_parts = left-clause;

@@ -15,6 +15,7 @@ use Rattle.mb_home.specs.Steps.{IsRested}
 use Rattle.mb_queue.specs.Passes.{Sending}
 use Rattle.mb_report.specs.declared.report.ActorReport.{ActorReport}
 use Rattle.mb_report.specs.declared.report.Report.{Report}
+use Rattle.mb_report.specs.declared.report.SenderReport.{SenderReport}
 use Rattle.mb_rule.specs.Shares.{IsWhole}
 use Rattle.mb_reckon.specs.Mismatched.{IsMismatch}
 use Rattle.mb_reckon.specs.declared.mismatch.Mismatch.{Mismatch}
@@ -57,10 +58,15 @@ module _ (gives : ℕ → Moment → Reply → Type 0) (first : Contents) (actor
     pub why : IsMismatch all outside waiting what
     pub held : IsOutIfHeld v what
 
-  -- each home came, and the report counts all that the actor's list gave
+  -- Each home came; and the report counts all that the actor's list gave, tells as cleaned up what the home's clean-up took out, and as the
+  -- actor's dead letters the home's.
   pub record CameHome (report : Report) : Type 0 where
     pub all : List (Option Place)
     pub left : AreHomes gives first actors v all
     pub came : (id : ℕ) → id < actors → IsNotOut v id
     pub given : (id : ℕ) (l : Place) (a : ActorReport) → slice_get all id ≡ Some (Some l) → slice_get report.actors.items id ≡ Some a
         → (l.listed ≡ false) × CountsGiven l.home.value.cell.who l.given a
+    pub cleaned : (id : ℕ) (l : Place) (a : ActorReport) → slice_get all id ≡ Some (Some l) → slice_get report.actors.items id ≡ Some a
+        → a.cleaned.items ≡ l.home.value.cleaned
+    pub dead : (id : ℕ) (l : Place) (s : SenderReport) → slice_get all id ≡ Some (Some l) → slice_get report.senders.items id ≡ Some s
+        → s.dead.items ≡ l.home.value.dead

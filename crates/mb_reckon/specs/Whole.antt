@@ -102,6 +102,10 @@ module _ (after : ℕ → List Message → ℤ) (gives : ℕ → Moment → Repl
         × StandsAsOften (sender_number (length roll) place) id (answers place) (fates_in a)
     pub nothing_else : (id : ℕ) (a : ActorReport) → slice_get report.actors.items id ≡ Some a
         → All (λ (e : Envelope). (place : ℕ) × (place < length report.senders.items) × (e.by.0 ≡ sender_number (length roll) place)) (fates_in a)
+    -- nobody can send the guardian an envelope
+    pub nobody : (a : ActorReport) → slice_get report.actors.items 0 ≡ Some a → fates_in a ≡ []
+    -- an envelope that an actor sent is never dead as cleaned up
+    pub not_cleaned : (place : ℕ) → place < length roll → All (λ (d : DeadLetter). d.why ≢ why.Cleaned) (dead_letters (answers place))
     -- in the sender's order where the receiver's mailbox is first in, first out
     pub in_order : (place id : ℕ) (e : Enrolled) (a : ActorReport) → place < length report.senders.items → 0 < id → slice_get roll id ≡ Some e
         → slice_get report.actors.items id ≡ Some a → e.turns ≡ first_in_first_out

@@ -41,6 +41,7 @@ pub fn reckon<A: Actor, K: Behaviours, R: Wait>(
         IsWhole K.after K.gives (first_of gates).value.roll (known_by pass).log (map (λ o. o.book.posted) outside.items) report) }
     ensures seen { IfOk result (λ report. GoesOnFromAll report (known_by pass)) }
     ensures home { IfOk result (CameHome K.gives (first_of gates).value (actors_of gates) (known_by pass)) }
+    ensures counted { IfOk result (λ report. map (λ a. length a.left.items) report.actors.items ≡ counted_in room) }
     ensures whom { IfErr result (λ mismatch. of_whom mismatch < actors_of gates) }
     ensures why { IfErr result (Disagrees K.gives (first_of gates).value (actors_of gates) (known_by pass) (map (λ o. o.sends.items) outside.items)
         (counted_in room)) }

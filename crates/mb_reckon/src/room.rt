@@ -3,7 +3,7 @@ ghost use Rattle.std.specs.Prelude.{◌≡◌, ◌≤◌, IfOk, length};
 ghost use Rattle.std.specs.List.{AllZip};
 ghost use Rattle.mb_gate.specs.Names.{actors_of, gates_id, known_by, pass_id};
 ghost use Rattle.mb_gate.specs.Rule.{IsPart};
-ghost use Rattle.mb_reckon.specs.Rooms.{AreCounted, IsEnough, IsRoom, counted_in};
+ghost use Rattle.mb_reckon.specs.Rooms.{AreCounted, HasOnlyCounted, IsEnough, IsRoom, counted_in};
 
 use crate::place::Place;
 use mb_actor::{Actor, Behaviours};
@@ -46,6 +46,7 @@ pub fn make_room<A: Actor, K: Behaviours>(
     requires few { (actors_of gates.now ≤ 64) × (outside ≤ 16) }
     ensures ours { pass_id pass.new ≡ pass_id pass.old }
     ensures known { IsPart (known_by pass.old).log (known_by pass.new).log }
+    ensures only { HasOnlyCounted (known_by pass.old) (known_by pass.new) }
     ensures room { IfOk result (IsRoom (actors_of gates.now) outside) }
     ensures waiting { IfOk result (λ room. AreCounted (known_by pass.new).log (counted_in room)) }
 {
@@ -74,6 +75,7 @@ fn make_lefts<H: Resident>(
     requires few { actors_of gates.now ≤ 64 }
     ensures ours { pass_id pass.new ≡ pass_id pass.old }
     ensures known { IsPart (known_by pass.old).log (known_by pass.new).log }
+    ensures only { HasOnlyCounted (known_by pass.old) (known_by pass.new) }
     ensures counted { IfOk result (λ made. length made.0.items ≡ actors_of gates.now) }
     ensures room { IfOk result (λ made. AllZip IsEnough made.0.items made.1.items) }
     ensures waiting { IfOk result (λ made. AreCounted (known_by pass.new).log made.0.items) }

@@ -16,6 +16,7 @@ use Rattle.mb_home.specs.Roll.{Enrolled}
 use Rattle.mb_build.proofs.HouseLemmas.{length-who}
 use Rattle.mb_plan.specs.declared.plan.Plan.{Plan}
 use Rattle.mb_reader.specs.declared.scenario.Sending.{Sending}
+use Rattle.mb_reckon.specs.Homes.{CameHome}
 use Rattle.mb_reckon.specs.Seen.{GoesOnFromAll}
 use Rattle.mb_reckon.proofs.Lists.{at-place, length-mapped, there, within}
 use Rattle.mb_report.specs.declared.report.Report.{Report}
@@ -97,6 +98,14 @@ module _ {A K : Type 0} (after : ℕ → List Message → ℤ) (gives : ℕ → 
         outside = ended.answers;
         many = ended.answered.length_is ∙ senders;
         whole = ended.whole;
+        homes = record {
+          first = (first_of built.system.gates).value;
+          rolled = refl;
+          view = ended.home.view;
+          home = subst (λ (n : ℕ). CameHome gives (first_of built.system.gates).value n ended.home.view report) (sym built.system.roll)
+              ended.home.home;
+          counted = ended.home.counted;
+        };
         sent = spoken-at ready ended;
         ends = map knew built.ends.items;
         all_ends = length-mapped knew built.ends.items ∙ many-ends (λ number. orders_of number sends) built ready ∙ workers;

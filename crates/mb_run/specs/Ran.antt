@@ -13,7 +13,7 @@ use Rattle.mb_reckon.specs.Seen.{GoesOnFromAll}
 use Rattle.mb_reckon.specs.Whole.{IsWhole}
 use Rattle.mb_report.specs.declared.report.Report.{Report}
 use Rattle.mb_system.specs.Orders.{addressed, said_to, stopped_by, told_by}
-use Rattle.mb_dispatch.specs.Story.{IsRollOf}
+use Rattle.mb_dispatch.specs.Story.{IsOfHomes, IsRollOf}
 use Rattle.mb_run.specs.Orders.{orders_of}
 
 -- what was seen is among all that was, and the report goes on from it
@@ -29,7 +29,7 @@ pub record HasSpoken (sends : List Sending) (log : List Sight) (report : Report)
   pub among : IsSeenIn log report view
 
 -- The report is whole of the actors of this plan, each of which does what is said of its number, and of senders outside each of whom sent what is
--- said of it; and it goes on from all that these, and the workers' ends, saw.
+-- said of it, by what gates with this roll left; and it goes on from all that these, and the workers' ends, saw.
 pub record HasRun (after : ℕ → List Message → ℤ) (gives : ℕ → Moment → Reply → Type 0) (plan : Plan) (sends : List Sending) (report : Report)
     : Type 0 where
   pub roll : List Enrolled
@@ -38,6 +38,7 @@ pub record HasRun (after : ℕ → List Message → ℤ) (gives : ℕ → Moment
   pub outside : List (List Posting)
   pub many : length outside ≡ plan.senders
   pub whole : IsWhole after gives roll log outside report
+  pub homes : IsOfHomes gives roll report
   pub sent : (number : ℕ) (postings : List Posting) → slice_get outside number ≡ Some postings → HasSpoken sends log report number postings
   pub ends : List View
   pub all_ends : length ends ≡ plan.workers

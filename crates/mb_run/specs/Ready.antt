@@ -15,6 +15,7 @@ use Rattle.mb_system.specs.declared.end.WorkerEnd.{WorkerEnd}
 use Rattle.mb_system.specs.declared.order.Order.{Order}
 use Rattle.mb_system.specs.declared.sender.Sender.{Sender}
 use Rattle.mb_dispatch.specs.Belonging.{AreAnswers, HasAllSeen}
+use Rattle.mb_dispatch.specs.Refused.{HasComeHome}
 use Rattle.mb_run.specs.Senders.{HaveSentAll}
 
 module _ {A K : Type 0} where
@@ -25,12 +26,14 @@ module _ {A K : Type 0} where
     pub senders : HaveSentAll built.system.gates orders 0 built.senders.items
     pub many : length built.senders.items ≡ built.system.senders
 
-  -- the report is whole of the actors of the system and of what its senders were answered, and goes on from what these and the ends saw
+  -- the report is whole of the actors of the system and of what its senders were answered, by what the gates left, and goes on from what these and
+  -- the ends saw
   pub record IsEnded (after : ℕ → List Message → ℤ) (gives : ℕ → Moment → Reply → Type 0) (built : Built A K) (report : Report) : Type 0 where
     pub log : List Sight
     pub all_seen : HasAllSeen built log
     pub answers : List (List Posting)
     pub answered : AreAnswers built.system.senders built.senders.items answers
     pub whole : IsWhole after gives (first_of built.system.gates).value.roll log answers report
+    pub home : HasComeHome gives built report
     pub goes_on : All (λ (e : WorkerEnd A K). GoesOnFromAll report (known_by e.waker.pass)) built.ends.items
         × All (λ (s : Sender A K). GoesOnFromAll report (known_by s.inner.waker.pass)) built.senders.items

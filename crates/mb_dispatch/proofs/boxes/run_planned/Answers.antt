@@ -27,7 +27,7 @@ returns-in-Ok-finish-clause-story g c =
     let right = c.in_ok-check.ensures in
     story g.K.Behaviours.gives c.args.plan c.in-Ok.built begun (orders_of c.args.sends.now) c.send_and_run.new.built
     right.1 went.system went.ends went.sent g.K.Behaviours.after
-    c.in-Ok-finish.report end.whole.0 end.whole.2.0 went.saw end.whole.1 end.whole.2.1 end.whole.2.2 end.seen.0 end.seen.1
+    c.in-Ok-finish.report end.whole.0 end.whole.2.0 went.saw end.whole.1 end.whole.2.1 end.whole.2.2 end.seen.0 end.seen.1 end.home
 
 pub returns-in-Err-clause-refused : goal.returns-in-Err-clause-refused
 returns-in-Err-clause-refused g c =

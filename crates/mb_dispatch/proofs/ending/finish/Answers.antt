@@ -12,7 +12,7 @@ use Rattle.mb_reckon.specs.declared.outsider.Outsider.{Outsider}
 use Rattle.mb_system.specs.Belonging.{senders_numbers}
 use Rattle.mb_system.specs.Members.{ends_numbers}
 use Rattle.mb_dispatch.specs.Belonging.{AreThere, HasRead}
-use Rattle.mb_dispatch.proofs.Back.{counted-all, back-complete, back-ends, back-some, back-together, settled-then-read, some-end}
+use Rattle.mb_dispatch.proofs.Back.{counted-all, back-complete, back-ends, back-some, back-together, left-counted, settled-then-read, some-end}
 use Rattle.mb_dispatch.proofs.Closing.{as-many-outside, came-answers, came-known, came-outside, came-room, came-ways, gathered, goes-on}
 use Rattle.mb_dispatch.proofs.Places.{as-many-senders, outside-all}
 use Rattle.mb_dispatch.proofs.ending.finish.Goals as goal
@@ -175,11 +175,14 @@ returns-in-Ok-clause-home g c =
     let gates = c.gather-gates.result.0 in let v = known_by c.gather-gates.result.1 in let log = v.log in
     let outside = c.gather-gates.new.outside.items in
     let came = gathered built b2 gates log outside found c.gather-gates.ensures.gates.0 c.gather-gates.ensures.seen c.gather-gates.ensures.outside in
+    let waiting = counted_in c.in-Some-room_of.room in
     record {
       view = v;
       seen = came.seen;
       home = subst (λ (h : Gates (Box Contents)). CameHome g.K.Behaviours.gives (first_of h).value (actors_of h) v c.in-Ok.report) came.gates_are
           c.in-Ok.ensures.home;
+      counted = left-counted c.in-Ok.report waiting log c.in-Ok.ensures.counted
+          (counted-all b1 b2 log waiting c.in-Some-room_of.ensures.waiting c.gather-gates.ensures.seen.0);
     }
 
 pub returns-in-Err-clause-why : goal.returns-in-Err-clause-why

@@ -15,7 +15,7 @@ returns-in_default-clause-read g c =
       known_by first.waker.pass,
       known_by pass,
       read-again built first pass c.requires.some c.index_mut.ensures.value c.make_room-room.ensures.ours,
-      c.make_room-room.ensures.known,
+      c.make_room-room.ensures.only,
     )
 
 pub returns-clause-read : goal.returns-clause-read
@@ -24,7 +24,7 @@ returns-clause-read g c =
       known_by first.waker.pass,
       known_by pass,
       read-again built first pass c.requires.some c.index_mut.ensures.value c.make_room-room.ensures.ours,
-      c.make_room-room.ensures.known,
+      c.make_room-room.ensures.only,
     )
 
 pub returns-clause-room : goal.returns-clause-room

@@ -13,7 +13,7 @@ use Rattle.mb_reckon.specs.Seen.{GoesOnFromAll}
 use Rattle.mb_reckon.specs.Shown.{ShowsAll}
 use Rattle.mb_reckon.specs.Whole.{IsWhole}
 use Rattle.mb_reckon.proofs.Answered.{err-each, err-of, ok-each}
-use Rattle.mb_reckon.proofs.EndLaw.{report-home, report-seen, report-whole, rows-different, rows-queues}
+use Rattle.mb_reckon.proofs.EndLaw.{report-counted, report-home, report-seen, report-whole, rows-different, rows-queues}
 use Rattle.mb_reckon.proofs.Lists.{length-mapped}
 use Rattle.mb_reckon.proofs.Mismatches.{why-not-come, why-otherwise, why-too-much}
 use Rattle.mb_reckon.proofs.Steps.{as-many, zip-empty, zip-many}
@@ -215,3 +215,21 @@ returns-in-Ok-clause-home g c =
     c.requires.outside c.add_outside.ensures.small (λ r. r.items) c.add_outside.new.rows.items c.add_outside.ensures.rows g.K.Behaviours.after
     c.requires.senders lefts c.in-Ok.ensures.taken c.deref.result.now waits report s.0
     (ap (λ (w : Vec SenderReport Global). map sent_of w.items) s.1 ∙ c.add_outside.ensures.senders)) c.report_on.ensures.shows
+
+pub returns-in-Ok-clause-counted : goal.returns-in-Ok-clause-counted
+returns-in-Ok-clause-counted g c =
+    let apart = c.in_ok-take_apart.ensures.apart in let ended = c.take_apart.new.ended.items in
+    let takes = c.take_apart.new.takes.items in let before = map (λ r. r.items) c.take_apart.new.rows.items in
+    let lefts = map (λ l. l.items) c.take_rests.new.lefts.items in
+    let first = (first_of c.args.gates).value in let v = known_by c.args.pass in
+    let same : c.deref.result.now ≡ c.args.room.waiting.items = search rules in
+    let waits : length c.deref.result.now ≡ actors_of c.args.gates = ap length same ∙ c.requires.room.counted in
+    ok-each c.report_on.result
+    (λ report. ShowsAll g.K.Behaviours.after ended lefts c.deref.result.now report.actors.items × (report.senders ≡ c.add_outside.new.senders))
+    (λ report. map (λ a. length a.left.items) report.actors.items ≡ c.args.room.waiting.items)
+    (λ report s.
+    report-counted g.K.Behaviours.gives first (actors_of c.args.gates) v c.finish-all.result.items
+    c.finish-all.ensures.left ended takes before c.take_apart.new.senders.items apart c.args.outside.items c.requires.few.0 c.requires.roll
+    c.requires.outside c.add_outside.ensures.small (λ r. r.items) c.add_outside.new.rows.items c.add_outside.ensures.rows g.K.Behaviours.after
+    c.requires.senders lefts c.in-Ok.ensures.taken c.deref.result.now waits report s.0
+    (ap (λ (w : Vec SenderReport Global). map sent_of w.items) s.1 ∙ c.add_outside.ensures.senders) ∙ same) c.report_on.ensures.shows

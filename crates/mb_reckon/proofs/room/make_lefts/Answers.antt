@@ -2,7 +2,7 @@ use Rattle.std.proofs.Common.{◌+◌, ◌∷◌, [], length, refl, ap, ◌∙�
 use Rattle.mb_gate.specs.Names.{known_by}
 use Rattle.mb_gate.specs.View.{View, Counted}
 use Rattle.mb_reckon.specs.Rooms.{IsEnough}
-use Rattle.mb_reckon.proofs.Steps.{counting-log, none-counted, one-counted, part-more, part-same, zip-more, zip-none}
+use Rattle.mb_reckon.proofs.Steps.{counting-log, none-counted, one-counted, only-more, only-none, part-more, part-same, zip-more, zip-none}
 use Rattle.mb_reckon.proofs.room.make_lefts.Goals as goal
 
 pub returns-in_err-counts-clause-known : goal.returns-in_err-counts-clause-known
@@ -10,6 +10,12 @@ returns-in_err-counts-clause-known g c = part-same (known_by c.args.pass.now).lo
 
 pub returns-in_err-lefts-clause-known : goal.returns-in_err-lefts-clause-known
 returns-in_err-lefts-clause-known g c = part-same (known_by c.args.pass.now).log
+
+pub returns-in_err-counts-clause-only : goal.returns-in_err-counts-clause-only
+returns-in_err-counts-clause-only g c = only-none (known_by c.args.pass.now)
+
+pub returns-in_err-lefts-clause-only : goal.returns-in_err-lefts-clause-only
+returns-in_err-lefts-clause-only g c = only-none (known_by c.args.pass.now)
 
 pub loop-number-init : goal.loop-number-init
 loop-number-init g c = (
@@ -21,6 +27,7 @@ loop-number-init g c = (
   refl,
   ap length c.in_ok-lefts.ensures.items,
   none-counted (known_by c.args.pass.now).log c.in_ok-counts.counts.items c.in_ok-counts.ensures.items,
+  only-none (known_by c.args.pass.now),
 )
 
 pub returns-in_err-room-clause-known : goal.returns-in_err-room-clause-known
@@ -28,6 +35,12 @@ returns-in_err-room-clause-known g c =
     let at = c.loop-number in let w = c.waiting-waiting.result in
     part-more (known_by c.args.pass.now).log (known_by at.pass).log (known_by c.waiting-waiting.new.pass).log (Counted at.number w)
     (ap (λ (v : View). v.log) c.waiting-waiting.ensures.known ∙ counting-log at.number w (known_by at.pass)) at.invariant.1
+
+pub returns-in_err-room-clause-only : goal.returns-in_err-room-clause-only
+returns-in_err-room-clause-only g c =
+    let at = c.loop-number in
+    only-more (known_by c.args.pass.now) (known_by at.pass) (known_by c.waiting-waiting.new.pass) at.number c.waiting-waiting.result
+    c.waiting-waiting.ensures.known at.invariant.8
 
 pub loop-number-preserved : goal.loop-number-preserved
 loop-number-preserved g c =
@@ -45,4 +58,6 @@ loop-number-preserved g c =
       one-counted (known_by at.pass).log (known_by c.waiting-waiting.new.pass).log at.counts.items first.new.self.items at.number w
           (ap (λ (v : View). v.log) c.waiting-waiting.ensures.known ∙ counting-log at.number w (known_by at.pass)) first.ensures.items
           at.invariant.2 at.invariant.7,
+      only-more (known_by c.args.pass.now) (known_by at.pass) (known_by c.waiting-waiting.new.pass) at.number w c.waiting-waiting.ensures.known
+          at.invariant.8,
     )
