@@ -1,7 +1,9 @@
-//! A whole run on threads, of any actors. Nothing here knows of accounts.
-ghost use Rattle.std.specs.Prelude.{◌≡◌, IfOk, length, map};
+//! A whole run on threads, of any actors.
+ghost use Rattle.std.specs.Prelude.{◌≡◌, ◌+◌, IfOk, length, map};
 ghost use Rattle.mb_build.specs.Behaved.{AreBehaved};
+ghost use Rattle.mb_dispatch.specs.Story.{IsStory};
 ghost use Rattle.mb_system.specs.Begun.{IsBegun};
+ghost use Rattle.mb_system.specs.Orders.{repeated};
 
 use anyhow::{anyhow, bail};
 use mb_actor::{Actor, Behaviours};
@@ -14,6 +16,10 @@ use std::thread::Threads;
 
 /// Builds a system of this plan and these actors, in the order of their numbers from 1 on; runs its workers while each sender
 /// sends what stands at its place, each on a thread of its own; and ends it: the report. After an error all is let go.
+///
+/// Whatever the schedule was, the report is the story of such a run: each sender was answered for all that stands at its place,
+/// in order and for nothing else; each envelope was handled once, or is left, or is a dead letter; and each actor's state is what
+/// that very actor has after the messages since its last start.
 pub fn run_on_threads<A: Actor + Send, K: Behaviours + Send, R: Threads + Wait + Sync>(
     rt: &R,
     alloc: Global,
@@ -23,6 +29,8 @@ pub fn run_on_threads<A: Actor + Send, K: Behaviours + Send, R: Threads + Wait +
 ) -> anyhow::Result<Report>
     requires behaved { AreBehaved A.content A.after A.gives K.after K.gives 1 actors.items }
     requires many { length sends.items ≡ plan.senders }
+    ensures story { IfOk result (IsStory K.after K.gives plan (map (λ rows. repeated rows.items) sends.items)) }
+    ensures many { IfOk result (λ report. length report.actors.items ≡ length plan.actors.items + 1) }
 {
     let Built {
         system,
@@ -47,7 +55,7 @@ pub fn run_on_threads<A: Actor + Send, K: Behaviours + Send, R: Threads + Wait +
     }
 }
 
-// A system of this plan and these actors.
+// The system as it begins.
 fn build<A: Actor, K: Behaviours, R: Wait>(
     rt: &R,
     alloc: Global,
@@ -71,7 +79,8 @@ fn jobs_of<A: Actor, K: Behaviours>(
     sends: Vec<Vec<Repeat>>,
 ) -> Result<Vec<Job<A, K>>, AllocError>
     requires { length senders.items ≡ length sends.items }
-    ensures { IfOk result (λ jobs. map (λ job. job.sender) jobs.items ≡ senders.items) }
+    ensures by { IfOk result (λ jobs. map (λ job. job.sender) jobs.items ≡ senders.items) }
+    ensures sends { IfOk result (λ jobs. map (λ job. job.sends) jobs.items ≡ sends.items) }
 {
     let mut jobs = Vec::new(alloc);
     let mut rows = sends.into_iter();
