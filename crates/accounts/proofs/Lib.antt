@@ -1,1 +1,1 @@
-mod Done
+pub mod Done
