@@ -4,7 +4,7 @@ PREFIX ?= /usr/local
 PROGRAM := crates/mailrun/out/mailrun
 SOURCES := crates.txt HANDLES $(shell find crates -path '*/out' -prune -o \( -name '*.rt' -o -name '*.antt' \) -print)
 
-.PHONY: run examples test check bench install
+.PHONY: run examples test refuse check bench install
 .DEFAULT_GOAL := run
 
 # Runs a scenario and prints its report: make run [SCENARIO=path]
@@ -17,7 +17,8 @@ examples: $(PROGRAM)
 
 # The gate: the list of definitions, the worked runs, the examples, every proof from nothing, the must-fail edits, the tests, the
 # program by two compilers, the program as a user runs it, also on worker threads, on what it has to refuse and on scenarios whose
-# outcome was worked out by hand, and random scenarios beside a second reader.
+# outcome was worked out by hand, what becomes of refused allocations, where a C compiler is there, and random scenarios beside a second
+# reader.
 test:
 	tools/check_definitions
 	tools/check_worked_runs
@@ -30,7 +31,13 @@ test:
 	tools/check_refusals $(PROGRAM)
 	tools/check_scenarios $(PROGRAM)
 	tools/check_workers $(PROGRAM)
+	@if command -v "$${CC:-cc}" > /dev/null; then $(MAKE) --no-print-directory refuse; else echo 'no C compiler: no allocation was refused'; fi
 	tools/compare_with_a_model $(PROGRAM)
+
+# Refuses each allocation of the program in turn, and each of a whole run by the tests that the gate has built.
+refuse: $(PROGRAM)
+	tools/refuse_each_allocation $(PROGRAM)
+	tools/refuse_each_allocation_of_a_system crates/mb_dispatch_tests/out/mb_dispatch_tests_tests
 
 # Proves what changed since the last check, lowest crate first.
 check:
