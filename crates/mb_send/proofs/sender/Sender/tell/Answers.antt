@@ -13,7 +13,8 @@ returns-in_err-look-clause-unknown g c unknown = c.in_err-look.ensures.refused.0
 
 pub returns-in_err-look-clause-woken : goal.returns-in_err-look-clause-woken
 returns-in_err-look-clause-woken g c =
-    let same = c.look.ensures.same in wakes-nobody g.W.Way.pushed g.W.Way.refused c.args.to.0 c.args.self.now.waker c.look.new.self.waker same.3 same.2
+    let same = c.look.ensures.same in
+    wakes-nobody g.W.Way.pushed g.W.Way.refused c.args.to.0 c.args.self.now.waker c.look.new.self.waker same.3 same.2
 
 pub returns-in-Open-clause-woken : goal.returns-in-Open-clause-woken
 returns-in-Open-clause-woken g c =
@@ -29,8 +30,8 @@ returns-in-Open-clause-woken g c =
 pub returns-in-Closed-clause-woken : goal.returns-in-Closed-clause-woken
 returns-in-Closed-clause-woken g c =
     let same = c.look.ensures.same in let waker = c.bury.ensures.same.0 in
-    wakes-nobody g.W.Way.pushed g.W.Way.refused c.args.to.0 c.args.self.now.waker c.bury.new.self.waker (ap (λ (w : Waker _ _). w.way) waker ∙ same.3)
-    (ap (λ (w : Waker _ _). w.owed) waker ∙ same.2)
+    wakes-nobody g.W.Way.pushed g.W.Way.refused c.args.to.0 c.args.self.now.waker c.bury.new.self.waker
+    (ap (λ (w : Waker _ _). w.way) waker ∙ same.3) (ap (λ (w : Waker _ _). w.owed) waker ∙ same.2)
 
 pub returns-in-Open-clause-unsent : goal.returns-in-Open-clause-unsent
 returns-in-Open-clause-unsent g c memory =
