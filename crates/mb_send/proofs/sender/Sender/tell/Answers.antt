@@ -1,5 +1,7 @@
 use Rattle.std.proofs.Common.{◌∙◌, ℕ, ap, subst}
 use Rattle.mb_msg.specs.declared.id.ActorId.{ActorId}
+use Rattle.mb_wake.specs.Owed.{is_owed}
+use Rattle.mb_wake.specs.declared.owed.Owed.{Owed}
 use Rattle.mb_wake.specs.declared.waker.Waker.{Waker}
 use Rattle.mb_send.specs.Answers.{shows}
 use Rattle.mb_send.specs.Asked.{WakesAtMost, account_of}
@@ -53,3 +55,6 @@ returns-in-Open-clause-unknown g c unknown =
 pub returns-in-Closed-clause-unknown : goal.returns-in-Closed-clause-unknown
 returns-in-Closed-clause-unknown g c unknown =
     not-unknown c.bury.result (at-fault c.bury.result _ c.bury.ensures.refused unknown).0 unknown
+
+pub returns-in-Open-clause-still : goal.returns-in-Open-clause-still
+returns-in-Open-clause-still g c id owed = c.put.ensures.still id (ap (λ (o : Owed). is_owed o id) c.look.ensures.same.2 ∙ owed)
