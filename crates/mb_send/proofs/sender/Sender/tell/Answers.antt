@@ -1,5 +1,7 @@
 use Rattle.std.proofs.Common.{◌∙◌, ℕ, ap, subst}
 use Rattle.mb_msg.specs.declared.id.ActorId.{ActorId}
+use Rattle.mb_wake.specs.Owed.{is_owed}
+use Rattle.mb_wake.specs.declared.owed.Owed.{Owed}
 use Rattle.mb_wake.specs.declared.waker.Waker.{Waker}
 use Rattle.mb_send.specs.Answers.{shows}
 use Rattle.mb_send.specs.Asked.{WakesAtMost, account_of}
@@ -13,7 +15,8 @@ returns-in_err-look-clause-unknown g c unknown = c.in_err-look.ensures.refused.0
 
 pub returns-in_err-look-clause-woken : goal.returns-in_err-look-clause-woken
 returns-in_err-look-clause-woken g c =
-    let same = c.look.ensures.same in wakes-nobody g.W.Way.pushed g.W.Way.refused c.args.to.0 c.args.self.now.waker c.look.new.self.waker same.3 same.2
+    let same = c.look.ensures.same in
+    wakes-nobody g.W.Way.pushed g.W.Way.refused c.args.to.0 c.args.self.now.waker c.look.new.self.waker same.3 same.2
 
 pub returns-in-Open-clause-woken : goal.returns-in-Open-clause-woken
 returns-in-Open-clause-woken g c =
@@ -29,8 +32,8 @@ returns-in-Open-clause-woken g c =
 pub returns-in-Closed-clause-woken : goal.returns-in-Closed-clause-woken
 returns-in-Closed-clause-woken g c =
     let same = c.look.ensures.same in let waker = c.bury.ensures.same.0 in
-    wakes-nobody g.W.Way.pushed g.W.Way.refused c.args.to.0 c.args.self.now.waker c.bury.new.self.waker (ap (λ (w : Waker _ _). w.way) waker ∙ same.3)
-    (ap (λ (w : Waker _ _). w.owed) waker ∙ same.2)
+    wakes-nobody g.W.Way.pushed g.W.Way.refused c.args.to.0 c.args.self.now.waker c.bury.new.self.waker
+    (ap (λ (w : Waker _ _). w.way) waker ∙ same.3) (ap (λ (w : Waker _ _). w.owed) waker ∙ same.2)
 
 pub returns-in-Open-clause-unsent : goal.returns-in-Open-clause-unsent
 returns-in-Open-clause-unsent g c memory =
@@ -52,3 +55,6 @@ returns-in-Open-clause-unknown g c unknown =
 pub returns-in-Closed-clause-unknown : goal.returns-in-Closed-clause-unknown
 returns-in-Closed-clause-unknown g c unknown =
     not-unknown c.bury.result (at-fault c.bury.result _ c.bury.ensures.refused unknown).0 unknown
+
+pub returns-in-Open-clause-still : goal.returns-in-Open-clause-still
+returns-in-Open-clause-still g c id owed = c.put.ensures.still id (ap (λ (o : Owed). is_owed o id) c.look.ensures.same.2 ∙ owed)

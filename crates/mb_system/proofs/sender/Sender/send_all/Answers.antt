@@ -1,8 +1,13 @@
 use Rattle.std.proofs.Common.{refl, subst, sym, ◌∙◌}
+use Rattle.std.specs.Prelude.{IfErr}
 use Rattle.std.proofs.lemmas.List.{take_more}
+use Rattle.std.proofs.lemmas.List.Elements.{Contains-get_or}
+use Rattle.std.proofs.lemmas.Result.{err_from_is_err_and}
 use Rattle.mb_gate.specs.Names.{actors_of}
 use Rattle.mb_system.specs.Members.{sender_caller}
+use Rattle.mb_system.specs.Faults.{BreaksSending}
 use Rattle.mb_system.specs.Orders.{HasSent}
+use Rattle.mb_system.proofs.Breaking.{breaks-many}
 use Rattle.mb_turn.proofs.CallerLemmas.{account-none, account-then}
 use Rattle.mb_system.proofs.Debts.{debts-same, debts-then}
 use Rattle.mb_system.proofs.Sending.{sent-none, sent-then}
@@ -52,3 +57,11 @@ returns-clause-owed g c = c.loop-order.invariant.3
 
 pub returns-in_err-send-clause-owed : goal.returns-in_err-send-clause-owed
 returns-in_err-send-clause-owed g c = account-then _ _ _ c.loop-order.invariant.3 c.send.ensures.owed
+
+pub returns-in_err-send-clause-fault : goal.returns-in_err-send-clause-fault
+returns-in_err-send-clause-fault g c =
+    let gates = c.args.system.now.gates in let orders = c.args.orders.now in
+    let p = err_from_is_err_and c.from_residual.result c.from_residual.ensures.1 in
+    let there = Contains-get_or orders c.loop-order.order-index _ c.loop-order-test.true in
+    subst (λ r. IfErr r (BreaksSending gates orders)) (sym p.1)
+    (subst (BreaksSending gates orders) (sym p.2) (breaks-many gates orders _ c.in_err-send.field-0.0 there c.in_err-send.ensures.fault))
