@@ -1,5 +1,5 @@
 -- What a run came to, once its system has ended.
-use Rattle.std.proofs.Common.{◌≡◌, ℕ, ◌+◌, ◌-◌, ℤ, List, ◌++◌, length, map, reverse, sym, ap, ◌∙◌, subst, arith, Some}
+use Rattle.std.proofs.Common.{◌≡◌, ℕ, ◌+◌, ◌-◌, ℤ, List, ◌++◌, length, map, refl, reverse, sym, ap, ◌∙◌, subst, arith, Some}
 use Rattle.std.specs.Prelude.{Err, IfErr, IfOk, Ok, Result, ◌<◌, slice_get}
 use Rattle.std.proofs.lemmas.List.{append-nil, length-map}
 use Rattle.std.proofs.lemmas.List.Elements.{All-map}

@@ -14,7 +14,7 @@ use Rattle.mb_system.proofs.Saw.{saw-same, saw-then}
 pub leaves-woken : {H : Type 0} (id : ℕ) (a b : Caller H) (woken : Bool) → LooksAfter id a.view b.view → IsWoken id a.account b.account woken
     → IsPaid id b → LeavesCaller a b
 leaves-woken id a b woken looks w paid =
-    let moves = moves-does id [] [] a.view b.view tt looks in
+    let moves = moves-does id [] [] a.view b.view tt tt looks in
     let g = further-moves id a b moves (account-woken id a.account b.account woken w) paid in
     record {
       log = record { before = g.more; after = []; joined = g.log ∙ ap (λ l. g.more ++ l) (sym (append-nil a.view.log)) };
