@@ -1,7 +1,7 @@
 -- What the last step of a run needs, and what it leaves.
 use Rattle.std.proofs.Common.{◌≡◌, ◌≢◌, ◌⊎◌, inl, inr, ℕ, ◌+◌, ◌≤◌, ◌==◌, Bool, true, false, ◌||◌, List, [], ◌∷◌, ◌++◌}
 use Rattle.std.proofs.Common.{refl, sym, ap, ◌∙◌, subst, append_assoc, append-nil, length, arith}
-use Rattle.std.specs.Prelude.{MatchBool, if◌then◌else◌}
+use Rattle.std.specs.Prelude.{MatchBool, if◌then◌else◌, reverse}
 use Rattle.std.specs.Global.{Box}
 use Rattle.mb_status.specs.Mailbox.{Mailbox, word_of, idle}
 use Rattle.mb_msg.specs.declared.envelope.Envelope.{Envelope}
@@ -38,6 +38,7 @@ use Rattle.mb_turn.specs.Emptied.{FindsNoMore, IsCleared}
 use Rattle.mb_turn.specs.Hold.{Hold, hold_of}
 use Rattle.mb_turn.specs.Ran.{AsksInVain, AsksWithRoom, EndsDrained, EndsEmpty, HadRoom, IsTurning, LeavesRun, systems_in, taken_of}
 use Rattle.mb_turn.specs.Running.{IsRunning, IsBeside, SameRun}
+use Rattle.mb_turn.specs.Saying.{SaysAsRecorded}
 use Rattle.mb_turn.proofs.CallerLemmas.{account-then}
 use Rattle.mb_turn.proofs.CleanLemmas.{ended-closed}
 use Rattle.mb_turn.proofs.CountLemmas.{begun-since, begun-turns, counted-all, counts-over}
@@ -63,6 +64,13 @@ module _ (gives : ℕ → Moment → Reply → Type 0) (origin : Origin (Box Con
   pub home-told : IsSaidSince c.home.value.cell.who (held_actor c) (status_of c).closed c.home.value.cell.journal (taken_with c) (recorded_by c)
   home-told =
       told-all c.home.value.cell.who (held_actor c) (taken_with c) (status_of c).closed c.home.value.cell.journal (recorded_by c) r.told
+
+  -- and so by whether its journal has ended
+  pub journal-told : IsSaidSince c.home.value.cell.who (held_actor c) (closed c.home.value.cell.who c.home.value.cell.journal) c.home.value.cell.journal
+      (taken_with c) (recorded_by c)
+  journal-told =
+      subst (λ b. IsSaidSince c.home.value.cell.who (held_actor c) b c.home.value.cell.journal (taken_with c) (recorded_by c))
+      (ap (λ (m : Mailbox). m.closed) (status-at (hold_of c) r.leads)) home-told
 
   pub home-rest : IsBeside (hold_of c) → ((status_of c).closed ≡ true) ⊎ (gave_last c ≡ false) → IsRested c.home.value
   home-rest s why = by_test (status_of c).closed refl why
@@ -188,13 +196,15 @@ pub leaves-run : (throughput : ℕ) (first last : Claim (Box Contents)) (old pas
     IsReason last.home.value.cell.who throughput turn.envelopes last.home.value.cell.journal stopped →
     EndsDrained (held_actor last) (known_of last).log stopped → AsksWithRoom last.home.value.cell.who last.home.value.cell.journal stopped →
     TakesDry (held_actor last) (known_of last).log → IsAmong (Saw (held_actor last) last.home.value.cell.journal) pass.log →
-    TakesOver old pass (known_of last).log → (known_of first).log ≡ [] →
+    TakesOver old pass (known_of last).log → SaysAsRecorded (recorded_by first) old.said (recorded_by last) pass.said → recorded_by first ≡ [] →
+    IsSaidSince last.home.value.cell.who (held_actor last) (closed last.home.value.cell.who last.home.value.cell.journal) last.home.value.cell.journal
+    (taken_with last) (recorded_by last) → (known_of first).log ≡ [] →
     first.home.value.take.taken ≡ begun first.home.value.cell.journal →
     last.home.value.take.taken ≡ begun last.home.value.cell.journal ++ last.home.value.cleaned →
     (closed last.home.value.cell.who last.home.value.cell.journal ≡ false → last.home.value.cleaned ≡ []) →
     (EndsEmpty stopped (closed first.home.value.cell.who last.home.value.cell.journal) → FindsNoMore first.home.value.take last.home.value.take) →
     LeavesRun throughput first old pass last.home.value.cell.journal turn stopped
-leaves-run throughput first last old pass turn stopped taken same t few reason ends room dry saw part fresh at_first at_last keeps empty =
+leaves-run throughput first last old pass turn stopped taken same t few reason ends room dry saw part says unsaid since_told fresh at_first at_last keeps empty =
     let before : (hold_of last).before ≡ first.home.value.cell.journal = same.before ∙ taken in
     let journal = last.home.value.cell.journal in
     let turns : IsTurns first.home.value.cell.who first.home.value.cell.journal turn.envelopes journal =
@@ -220,6 +230,13 @@ leaves-run throughput first last old pass turn stopped taken same t few reason e
       seen = subst (λ n. IsAmong (Saw n journal) pass.log) same.actor saw;
       steps = (known_of last).log;
       taken_over = part;
+      told = recorded_by last;
+      told_is =
+          subst (λ (x : Identity × ℕ × List Entry). IsSaidSince x.0 x.1 (closed x.0 journal) journal x.2 (recorded_by last))
+          (λ i. (same.who i, same.actor i, before i)) since_told;
+      said =
+          says.said_is
+          ∙ ap (λ l. reverse l ++ old.said) (sym (says.record_is ∙ ap (λ l. l ++ says.more) unsaid));
       dry = subst (λ n. TakesDry n (known_of last).log) same.actor dry;
       last = subst (λ n. EndsDrained n (known_of last).log stopped) same.actor ends;
       room = subst (λ (w : Identity). AsksWithRoom w journal stopped) same.who room;

@@ -2,6 +2,7 @@ pub mod ToldLemmas
 pub mod ShutLemmas
 pub mod LeadLemmas
 pub mod SendingLemmas
+pub mod SayingLemmas
 pub mod CallerLemmas
 pub mod HoldLemmas
 pub mod RestLemmas

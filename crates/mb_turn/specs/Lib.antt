@@ -4,6 +4,7 @@ pub mod Dry
 pub mod Emptied
 pub mod Running
 pub mod Sending
+pub mod Saying
 pub mod Caller
 pub mod Ran
 pub mod Fresh

@@ -1,6 +1,6 @@
 -- What a run tells.
 use Rattle.std.specs.Prelude.{◌≡◌, ◌<◌, ◌⊎◌, ℕ, ◌+◌, ◌==◌, if◌then◌else◌, Bool, true, false, List, [], ◌∷◌, ◌++◌, None}
-use Rattle.std.specs.Prelude.{length}
+use Rattle.std.specs.Prelude.{length, reverse}
 use Rattle.std.specs.Global.{Box}
 use Rattle.mb_msg.specs.declared.envelope.Envelope.{Envelope}
 use Rattle.mb_journal.specs.Aside.{next_front}
@@ -17,7 +17,8 @@ use Rattle.mb_rule.specs.Summed.{total}
 use Rattle.mb_gate.specs.declared.claim.Claim.{Claim}
 use Rattle.mb_gate.specs.Names.{held_actor}
 use Rattle.mb_gate.specs.Rule.{IsAmong}
-use Rattle.mb_gate.specs.View.{View, Sight, Saw, Took}
+use Rattle.mb_gate.specs.Record.{IsSaidSince}
+use Rattle.mb_gate.specs.View.{View, Sight, Said, Saw, Took}
 use Rattle.mb_gate.specs.Waiting.{counted_off}
 use Rattle.mb_home.specs.Contents.{Contents}
 use Rattle.mb_turn.specs.declared.turn.Turn.{Turn}
@@ -105,7 +106,8 @@ EndsEmpty NoRoom ended = ⊥
 -- the entries of either kind. Of its own steps, which the pass has taken over besides what it knew before, each that took an envelope came when
 -- no system message was left to be drained, and they count as many envelopes as taken as were begun and cleaned up: none is cleaned up unless the
 -- actor ended. Where it stopped since no envelope was there, or the actor ended and there was room for all, these are all that the takes of its
--- home's pass gave, and the last take found none; in the first case the journal has room for one more.
+-- home's pass gave, and the last take found none; in the first case the journal has room for one more. The pass said what the new
+-- entries have to say, each late message answered at once, and nothing else.
 pub record LeavesRun (throughput : ℕ) (claim : Claim (Box Contents)) (old pass : View) (journal : List Entry) (turn : Turn) (stopped : Stopped)
     : Type 0 where
   pub run : IsRun claim.home.value.cell.who throughput claim.home.value.cell.journal journal stopped
@@ -115,6 +117,10 @@ pub record LeavesRun (throughput : ℕ) (claim : Claim (Box Contents)) (old pass
   pub seen : IsAmong (Saw (held_actor claim) journal) pass.log
   pub steps : List Sight
   pub taken_over : TakesOver old pass steps
+  pub told : List Said
+  pub told_is : IsSaidSince claim.home.value.cell.who (held_actor claim) (closed claim.home.value.cell.who journal) journal
+      claim.home.value.cell.journal told
+  pub said : pass.said ≡ reverse told ++ old.said
   pub dry : TakesDry (held_actor claim) steps
   pub last : EndsDrained (held_actor claim) steps stopped
   pub room : AsksWithRoom claim.home.value.cell.who journal stopped

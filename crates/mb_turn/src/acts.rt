@@ -3,12 +3,13 @@ ghost use Rattle.std.specs.Prelude.{◌≡◌, [], ◌∷◌, true, false, IsErr
 ghost use Rattle.mb_books.specs.ActQueue.{act_of};
 ghost use Rattle.mb_journal.specs.Acts.Act.{CloseSelf};
 ghost use Rattle.mb_journal.specs.Life.{closed};
-ghost use Rattle.mb_gate.specs.Names.{known_by};
+ghost use Rattle.mb_gate.specs.Names.{known_by, recorded_by};
 ghost use Rattle.mb_gate.specs.Untouched.{origin_of};
 ghost use Rattle.mb_turn.specs.Caller.{IsWakerOf, caller_of, GoesFurther};
 ghost use Rattle.mb_turn.specs.Emptied.{FindsNoMore, IsCleared};
 ghost use Rattle.mb_turn.specs.Hold.{hold_of};
 ghost use Rattle.mb_turn.specs.Running.{IsRunning, IsBeside, KeepsJournal};
+ghost use Rattle.mb_turn.specs.Saying.{SaysAsRecorded};
 
 use crate::clean_up::clean_up;
 use crate::place::Place;
@@ -41,6 +42,7 @@ pub(crate) fn carry_out<A: Actor, K: Behaviours, W: Way<Place<A, K>>, R: Wait>(
     ensures same { KeepsJournal (hold_of claim.old) (hold_of claim.new) }
     ensures cleared { OnOk result (IsCleared (hold_of claim.old) (hold_of claim.new)) }
     ensures goes { GoesFurther (caller_of W.pushed W.refused waker.old) (caller_of W.pushed W.refused waker.new) }
+    ensures says { SaysAsRecorded (recorded_by claim.old) (known_by waker.old.pass).said (recorded_by claim.new) (known_by waker.new.pass).said }
     ensures refused { OnErr result (IsErrOf result ReadyError.NoMemory) }
     ensures ended { OnErr result (closed claim.new.home.value.cell.who claim.new.home.value.cell.journal ≡ true) }
 {
@@ -84,6 +86,7 @@ fn carry<A: Actor, K: Behaviours, W: Way<Place<A, K>>, R: Wait>(
     ensures cleared { OnOk result (IsCleared (hold_of claim.old) (hold_of claim.new)) }
     ensures ended { OnErr result (closed claim.new.home.value.cell.who claim.new.home.value.cell.journal ≡ true) }
     ensures goes { GoesFurther (caller_of W.pushed W.refused waker.old) (caller_of W.pushed W.refused waker.new) }
+    ensures says { SaysAsRecorded (recorded_by claim.old) (known_by waker.old.pass).said (recorded_by claim.new) (known_by waker.new.pass).said }
 {
     match act {
         Act::Tell(to, body) => {
@@ -125,6 +128,7 @@ fn close<A: Actor, K: Behaviours, W: Way<Place<A, K>>, R: Wait>(
     ensures emptied { OnOk result (FindsNoMore claim.old.home.value.take claim.new.home.value.take) }
     ensures ended { closed claim.new.home.value.cell.who claim.new.home.value.cell.journal ≡ true }
     ensures goes { GoesFurther (caller_of W.pushed W.refused waker.old) (caller_of W.pushed W.refused waker.new) }
+    ensures says { SaysAsRecorded (recorded_by claim.old) (known_by waker.old.pass).said (recorded_by claim.new) (known_by waker.new.pass).said }
 {
     gates.close_mailbox(claim);
     clean_up(rt, gates, waker, claim)

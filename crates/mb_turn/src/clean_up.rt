@@ -1,6 +1,6 @@
 //! What is done with what is left when an actor ends (`Mailbox.cleanUp`).
 ghost use Rattle.std.specs.Prelude.{◌≡◌, [], true, List, OnOk};
-ghost use Rattle.mb_gate.specs.Names.{known_by, known_of, held_actor, status_of, given_to};
+ghost use Rattle.mb_gate.specs.Names.{known_by, known_of, held_actor, status_of, given_to, recorded_by};
 ghost use Rattle.mb_gate.specs.View.{Sight};
 ghost use Rattle.mb_home.specs.AtHome.{given_of};
 ghost use Rattle.mb_gate.specs.Untouched.{origin_of};
@@ -9,6 +9,7 @@ ghost use Rattle.mb_turn.specs.Dry.{WasEnded};
 ghost use Rattle.mb_turn.specs.Emptied.{FindsNoMore};
 ghost use Rattle.mb_turn.specs.Hold.{hold_of};
 ghost use Rattle.mb_turn.specs.Running.{IsRunning, IsBeside, KeepsJournal};
+ghost use Rattle.mb_turn.specs.Saying.{SaysAsRecorded};
 
 use crate::place::Place;
 use crate::saying::answer;
@@ -38,6 +39,7 @@ pub(crate) fn clean_up<A: Actor, K: Behaviours, W: Way<Place<A, K>>, R: Wait>(
     ensures same { KeepsJournal (hold_of claim.old) (hold_of claim.new) }
     ensures emptied { OnOk result (FindsNoMore claim.old.home.value.take claim.new.home.value.take) }
     ensures goes { GoesFurther (caller_of W.pushed W.refused waker.old) (caller_of W.pushed W.refused waker.new) }
+    ensures says { SaysAsRecorded (recorded_by claim.old) (known_by waker.old.pass).said (recorded_by claim.new) (known_by waker.new.pass).said }
 {
     let listed = gates.sys_close(rt, claim);
     drop_systems(rt, gates, waker, claim);
@@ -65,6 +67,7 @@ fn drop_systems<A: Actor, K: Behaviours, W: Way<Place<A, K>>, R: Wait>(
     ensures log { (known_of claim.new).log ≡ (known_of claim.old).log }
     ensures same { KeepsJournal (hold_of claim.old) (hold_of claim.new) }
     ensures goes { GoesFurther (caller_of W.pushed W.refused waker.old) (caller_of W.pushed W.refused waker.new) }
+    ensures says { SaysAsRecorded (recorded_by claim.old) (known_by waker.old.pass).said (recorded_by claim.new) (known_by waker.new.pass).said }
 {
     let actor = claim.actor();
     let parent = claim.home.parent();
@@ -91,6 +94,7 @@ fn clean_envelopes<A: Actor, K: Behaviours, R: Wait>(
     ensures left { claim.new.home.value.cell ≡ claim.old.home.value.cell }
     ensures same { KeepsJournal (hold_of claim.old) (hold_of claim.new) }
     ensures emptied { OnOk result (FindsNoMore claim.old.home.value.take claim.new.home.value.take) }
+    ensures recorded { recorded_by claim.new ≡ recorded_by claim.old }
 {
     for _ in rt.forever() {
         if !claim.home.clean_next(rt)? {

@@ -2,13 +2,14 @@
 ghost use Rattle.std.specs.Prelude.{◌≡◌, ◌⊎◌, ◌≤◌, ◌+◌, [], true, length, IfOk, IsErrOf, MatchBool, OnOk};
 ghost use Rattle.mb_journal.specs.Run.{Stopped, IsReason, most_envelopes};
 ghost use Rattle.mb_gate.specs.Names.{status_of, held_actor, known_of};
-ghost use Rattle.mb_gate.specs.Names.{known_by};
+ghost use Rattle.mb_gate.specs.Names.{known_by, recorded_by};
 ghost use Rattle.mb_gate.specs.Untouched.{origin_of};
 ghost use Rattle.mb_turn.specs.Caller.{IsWakerOf, caller_of, GoesFurther};
 ghost use Rattle.mb_turn.specs.Emptied.{IsCleared};
 ghost use Rattle.mb_turn.specs.Hold.{hold_of};
 ghost use Rattle.mb_turn.specs.Ran.{IsTurning, IsDrained, IsEnough, HadRoom, AsksInVain, AsksWithRoom, EndsDrained, IsShortOfMemory};
 ghost use Rattle.mb_turn.specs.Running.{IsRunning, IsBeside, SameRun};
+ghost use Rattle.mb_turn.specs.Saying.{SaysAsRecorded};
 
 use crate::acts::carry_out;
 use crate::place::Place;
@@ -43,6 +44,7 @@ pub(crate) fn apply_envelopes<A: Actor, K: Behaviours, W: Way<Place<A, K>>, R: W
     ensures turning { IsTurning (hold_of claim.new) turn.new × SameRun (hold_of claim.old) (hold_of claim.new) }
     ensures cleared { OnOk result (IsCleared (hold_of claim.old) (hold_of claim.new)) }
     ensures goes { GoesFurther (caller_of W.pushed W.refused waker.old) (caller_of W.pushed W.refused waker.new) }
+    ensures says { SaysAsRecorded (recorded_by claim.old) (known_by waker.old.pass).said (recorded_by claim.new) (known_by waker.new.pass).said }
     ensures few { turn.new.envelopes ≤ most_envelopes throughput }
     ensures ended { IfOk result (λ _. (stopped : Stopped) × HadRoom stopped × EndsDrained (held_actor claim.new) (known_of claim.new).log stopped
         × AsksInVain claim.old.home.value.take claim.new.home.value.take stopped
@@ -82,6 +84,7 @@ fn apply_envelope<A: Actor, K: Behaviours, W: Way<Place<A, K>>, R: Wait>(
     ensures turning { IsTurning (hold_of claim.new) turn.new × SameRun (hold_of claim.old) (hold_of claim.new) }
     ensures cleared { OnOk result (IsCleared (hold_of claim.old) (hold_of claim.new)) }
     ensures goes { GoesFurther (caller_of W.pushed W.refused waker.old) (caller_of W.pushed W.refused waker.new) }
+    ensures says { SaysAsRecorded (recorded_by claim.old) (known_by waker.old.pass).said (recorded_by claim.new) (known_by waker.new.pass).said }
     ensures took { IfOk result (λ took. MatchBool took (turn.new.envelopes ≡ turn.old.envelopes + 1)
         ((turn.new ≡ turn.old) × ((stopped : Stopped) × IsEnough claim.new.home.value.cell.who claim.new.home.value.cell.journal stopped
         × EndsDrained (held_actor claim.new) (known_of claim.new).log stopped

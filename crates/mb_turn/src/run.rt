@@ -3,7 +3,7 @@ ghost use Rattle.std.specs.Prelude.{◌≡◌, ◌≤◌, [], length, List, Matc
 ghost use Rattle.mb_journal.specs.Entry.{Entry};
 ghost use Rattle.mb_journal.specs.Run.{Stopped, IsReason, most_envelopes};
 ghost use Rattle.mb_journal.specs.Run.Stopped.{NoRoom};
-ghost use Rattle.mb_gate.specs.Names.{actors_of, first_of, known_by, known_of, held_actor};
+ghost use Rattle.mb_gate.specs.Names.{actors_of, first_of, known_by, known_of, held_actor, recorded_by};
 ghost use Rattle.mb_gate.specs.Untouched.{origin_of};
 ghost use Rattle.mb_turn.specs.Caller.{IsWakerOf, caller_of, GoesFurther, IsPaid, LeavesCaller};
 ghost use Rattle.mb_turn.specs.Emptied.{IsCleared};
@@ -11,6 +11,7 @@ ghost use Rattle.mb_turn.specs.Fresh.{IsFreshClaim};
 ghost use Rattle.mb_turn.specs.Hold.{hold_of};
 ghost use Rattle.mb_turn.specs.Ran.{IsTurning, AsksInVain, AsksWithRoom, EndsDrained, HadRoom, IsShortOfMemory, LeavesRun};
 ghost use Rattle.mb_turn.specs.Running.{IsRunning, IsBeside, SameRun};
+ghost use Rattle.mb_turn.specs.Saying.{SaysAsRecorded};
 ghost use Rattle.mb_turn.specs.declared.turn.Turn.{Turn};
 
 use crate::envelopes::apply_envelopes;
@@ -89,6 +90,7 @@ fn run_claim<A: Actor, K: Behaviours, W: Way<Place<A, K>>, R: Wait>(
     ensures turning { IsTurning (hold_of claim.new) turn.new × SameRun (hold_of claim.old) (hold_of claim.new) }
     ensures cleared { OnOk result (IsCleared (hold_of claim.old) (hold_of claim.new)) }
     ensures goes { GoesFurther (caller_of W.pushed W.refused waker.old) (caller_of W.pushed W.refused waker.new) }
+    ensures says { SaysAsRecorded (recorded_by claim.old) (known_by waker.old.pass).said (recorded_by claim.new) (known_by waker.new.pass).said }
     ensures few { turn.new.envelopes ≤ most_envelopes throughput }
     ensures ended { IfOk result (λ _. (stopped : Stopped) × HadRoom stopped × EndsDrained (held_actor claim.new) (known_of claim.new).log stopped
         × AsksInVain claim.old.home.value.take claim.new.home.value.take stopped

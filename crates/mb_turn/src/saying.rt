@@ -1,7 +1,7 @@
 //! System messages that an actor sends.
 ghost use Rattle.std.specs.Prelude.{◌≡◌, ◌<◌, ◌∷◌, IfSome};
 ghost use Rattle.mb_journal.specs.Acts.Act.{Sys};
-ghost use Rattle.mb_gate.specs.Names.{actors_of, known_by};
+ghost use Rattle.mb_gate.specs.Names.{actors_of, known_by, recorded_by};
 ghost use Rattle.mb_gate.specs.Named.{NamesBelow};
 ghost use Rattle.mb_gate.specs.Untouched.{origin_of};
 ghost use Rattle.mb_turn.specs.Caller.{IsWakerOf, caller_of, GoesFurther};
@@ -9,6 +9,7 @@ ghost use Rattle.mb_turn.specs.Emptied.{IsCleared};
 ghost use Rattle.mb_turn.specs.Hold.{hold_of};
 ghost use Rattle.mb_turn.specs.Notice.{IsAnswered, IsNotified, asker};
 ghost use Rattle.mb_turn.specs.Running.{IsRunning, IsBeside, KeepsJournal};
+ghost use Rattle.mb_turn.specs.Saying.{SaysAsRecorded};
 
 use crate::place::Place;
 use mb_actor::{Actor, Behaviours};
@@ -40,6 +41,7 @@ pub(crate) fn say<A: Actor, K: Behaviours, W: Way<Place<A, K>>, R: Wait>(
     ensures same { KeepsJournal (hold_of claim.old) (hold_of claim.new) }
     ensures cleared { IsCleared (hold_of claim.old) (hold_of claim.new) }
     ensures goes { GoesFurther (caller_of W.pushed W.refused waker.old) (caller_of W.pushed W.refused waker.new) }
+    ensures says { SaysAsRecorded (recorded_by claim.old) (known_by waker.old.pass).said (recorded_by claim.new) (known_by waker.new.pass).said }
 {
     match gates.sys_enqueue_in_run(rt, &mut waker.pass, claim, to, node) {
         Ok(_) => {
@@ -69,6 +71,7 @@ pub(crate) fn answer<A: Actor, K: Behaviours, W: Way<Place<A, K>>, R: Wait>(
     ensures ours { IsWakerOf W.origin gates.now waker.new }
     ensures answered { IsAnswered (asker parent node) ended.0 claim.old claim.new }
     ensures goes { GoesFurther (caller_of W.pushed W.refused waker.old) (caller_of W.pushed W.refused waker.new) }
+    ensures says { SaysAsRecorded (recorded_by claim.old) (known_by waker.old.pass).said (recorded_by claim.new) (known_by waker.new.pass).said }
 {
     match asker_of(parent, node.msg()) {
         Some(whom) => notify(rt, gates, waker, claim, whom, ended, node),
@@ -109,6 +112,7 @@ fn notify<A: Actor, K: Behaviours, W: Way<Place<A, K>>, R: Wait>(
     ensures ours { IsWakerOf W.origin gates.now waker.new }
     ensures told { IsNotified whom.0 ended.0 claim.old claim.new }
     ensures goes { GoesFurther (caller_of W.pushed W.refused waker.old) (caller_of W.pushed W.refused waker.new) }
+    ensures says { SaysAsRecorded (recorded_by claim.old) (known_by waker.old.pass).said (recorded_by claim.new) (known_by waker.new.pass).said }
 {
     node.set(SysMsg::Died(ended));
     let Ok(_) = gates.sys_enqueue_in_run(rt, &mut waker.pass, claim, whom, node) else {

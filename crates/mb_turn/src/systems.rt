@@ -3,13 +3,14 @@ ghost use Rattle.std.specs.Prelude.{◌≡◌, ◌≢◌, ◌⊎◌, ◌≤◌, 
 ghost use Rattle.mb_gate.specs.View.{Sight};
 ghost use Rattle.mb_gate.specs.Names.{status_of};
 ghost use Rattle.mb_home.specs.Steps.{HasNext, IsRested};
-ghost use Rattle.mb_gate.specs.Names.{known_by};
+ghost use Rattle.mb_gate.specs.Names.{known_by, recorded_by};
 ghost use Rattle.mb_gate.specs.Untouched.{origin_of};
 ghost use Rattle.mb_turn.specs.Caller.{IsWakerOf, caller_of, GoesFurther};
 ghost use Rattle.mb_turn.specs.Emptied.{IsCleared};
 ghost use Rattle.mb_turn.specs.Hold.{hold_of};
 ghost use Rattle.mb_turn.specs.Ran.{IsTurning, IsDrained, IsShortOfMemory};
 ghost use Rattle.mb_turn.specs.Running.{IsRunning, IsBeside, SameRun, KeepsJournal};
+ghost use Rattle.mb_turn.specs.Saying.{SaysAsRecorded};
 
 use crate::acts::carry_out;
 use crate::place::Place;
@@ -44,6 +45,7 @@ pub(crate) fn apply_systems<A: Actor, K: Behaviours, W: Way<Place<A, K>>, R: Wai
     ensures whole { IfOk result (λ _. ((status_of claim.new).closed ≡ true) ⊎ IsDrained (hold_of claim.new)) }
     ensures cleared { OnOk result (IsCleared (hold_of claim.old) (hold_of claim.new)) }
     ensures goes { GoesFurther (caller_of W.pushed W.refused waker.old) (caller_of W.pushed W.refused waker.new) }
+    ensures says { SaysAsRecorded (recorded_by claim.old) (known_by waker.old.pass).said (recorded_by claim.new) (known_by waker.new.pass).said }
     ensures full { IsErrOf result ReadyError.JournalFull → claim.new.home.value.cell.who.limit ≤ length claim.new.home.value.cell.journal }
     ensures short { IsErrOf result ReadyError.NoMemory → IsShortOfMemory claim.new.home.value.cell.who claim.new.home.value.cell.journal }
 {
@@ -70,6 +72,7 @@ fn is_quiet<A: Actor, K: Behaviours>(
     ensures same { KeepsJournal (hold_of claim.old) (hold_of claim.new) }
     ensures cleared { IsCleared (hold_of claim.old) (hold_of claim.new) }
     ensures drained { result ≡ true → IsDrained (hold_of claim.new) }
+    ensures recorded { recorded_by claim.new ≡ recorded_by claim.old }
 {
     if claim.status().closed() || claim.home.has_next() {
         return false;
@@ -102,6 +105,7 @@ fn apply_all<A: Actor, K: Behaviours, W: Way<Place<A, K>>, R: Wait>(
     ensures whole { IfOk result (λ _. ((status_of claim.new).closed ≡ true) ⊎ IsDrained (hold_of claim.new)) }
     ensures cleared { OnOk result (IsCleared (hold_of claim.old) (hold_of claim.new)) }
     ensures goes { GoesFurther (caller_of W.pushed W.refused waker.old) (caller_of W.pushed W.refused waker.new) }
+    ensures says { SaysAsRecorded (recorded_by claim.old) (known_by waker.old.pass).said (recorded_by claim.new) (known_by waker.new.pass).said }
     ensures full { IsErrOf result ReadyError.JournalFull → claim.new.home.value.cell.who.limit ≤ length claim.new.home.value.cell.journal }
     ensures short { IsErrOf result ReadyError.NoMemory → IsShortOfMemory claim.new.home.value.cell.who claim.new.home.value.cell.journal }
 {
@@ -143,6 +147,7 @@ fn apply_one<A: Actor, K: Behaviours, W: Way<Place<A, K>>, R: Wait>(
     ensures envelopes { turn.new.envelopes ≡ turn.old.envelopes }
     ensures cleared { OnOk result (IsCleared (hold_of claim.old) (hold_of claim.new)) }
     ensures goes { GoesFurther (caller_of W.pushed W.refused waker.old) (caller_of W.pushed W.refused waker.new) }
+    ensures says { SaysAsRecorded (recorded_by claim.old) (known_by waker.old.pass).said (recorded_by claim.new) (known_by waker.new.pass).said }
     ensures full { IsErrOf result ReadyError.JournalFull → claim.new.home.value.cell.who.limit ≤ length claim.new.home.value.cell.journal }
     ensures short { IsErrOf result ReadyError.NoMemory → IsShortOfMemory claim.new.home.value.cell.who claim.new.home.value.cell.journal }
 {
@@ -170,6 +175,7 @@ fn drain<A: Actor, K: Behaviours, R: Wait>(
     ensures same { KeepsJournal (hold_of claim.old) (hold_of claim.new) }
     ensures cleared { IsCleared (hold_of claim.old) (hold_of claim.new) }
     ensures drained { result ≡ false → IsDrained (hold_of claim.new) }
+    ensures recorded { recorded_by claim.new ≡ recorded_by claim.old }
     ensures some { result ≡ true → claim.new.home.value.rest ≢ [] }
 {
     let drained = gates.sys_drain(rt, claim);

@@ -1,12 +1,13 @@
 //! What an actor tells.
 ghost use Rattle.std.specs.Prelude.{◌≡◌, ◌∷◌};
 ghost use Rattle.mb_journal.specs.Acts.Act.{Tell};
-ghost use Rattle.mb_gate.specs.Names.{known_by};
+ghost use Rattle.mb_gate.specs.Names.{known_by, recorded_by};
 ghost use Rattle.mb_gate.specs.Untouched.{origin_of};
 ghost use Rattle.mb_turn.specs.Caller.{IsWakerOf, caller_of, GoesFurther};
 ghost use Rattle.mb_turn.specs.Emptied.{IsCleared};
 ghost use Rattle.mb_turn.specs.Hold.{hold_of};
 ghost use Rattle.mb_turn.specs.Running.{IsRunning, IsBeside, KeepsJournal};
+ghost use Rattle.mb_turn.specs.Saying.{SaysAsRecorded};
 ghost use Rattle.mb_turn.specs.Sending.{IsSentOrDead};
 
 use crate::place::Place;
@@ -37,6 +38,7 @@ pub(crate) fn tell<A: Actor, K: Behaviours, W: Way<Place<A, K>>, R: Wait>(
     ensures same { KeepsJournal (hold_of claim.old) (hold_of claim.new) }
     ensures cleared { IsCleared (hold_of claim.old) (hold_of claim.new) }
     ensures goes { GoesFurther (caller_of W.pushed W.refused waker.old) (caller_of W.pushed W.refused waker.new) }
+    ensures says { SaysAsRecorded (recorded_by claim.old) (known_by waker.old.pass).said (recorded_by claim.new) (known_by waker.new.pass).said }
     ensures told { IsSentOrDead to body (known_by waker.old.pass) (known_by waker.new.pass) claim.old.home.value claim.new.home.value }
 {
     let status = gates.status(&mut waker.pass, to);

@@ -13,6 +13,7 @@ use Rattle.mb_turn.proofs.CallerLemmas.{further-none}
 use Rattle.mb_turn.proofs.EmptiedLemmas.{cleared-found, cleared-same, err-always, ok-so}
 use Rattle.mb_turn.proofs.RunningSteps.{running-suspend, suspend-closed}
 use Rattle.mb_turn.proofs.StatusLemmas.{keeps-written, beside-written, running-suspended, running-resumed}
+use Rattle.mb_turn.proofs.SayingLemmas.{says-still}
 use Rattle.mb_turn.proofs.acts.carry.Goals as goal
 
 -- ---- a tell, and a system message
@@ -220,3 +221,20 @@ returns-in-CloseSelf-clause-cleared g c =
 
 pub returns-in-CloseSelf-clause-ended : goal.returns-in-CloseSelf-clause-ended
 returns-in-CloseSelf-clause-ended g c = err-always c.close.result c.close.ensures.ended
+
+-- ---- what was said stands in the record
+
+pub returns-in-Tell-clause-says : goal.returns-in-Tell-clause-says
+returns-in-Tell-clause-says g c = c.tell.ensures.says
+
+pub returns-in-Sys-clause-says : goal.returns-in-Sys-clause-says
+returns-in-Sys-clause-says g c = c.say.ensures.says
+
+pub returns-in-SuspendSelf-clause-says : goal.returns-in-SuspendSelf-clause-says
+returns-in-SuspendSelf-clause-says g c = says-still _ _ _ _ c.suspend.ensures.taken.recorded refl
+
+pub returns-in-ResumeSelf-clause-says : goal.returns-in-ResumeSelf-clause-says
+returns-in-ResumeSelf-clause-says g c = says-still _ _ _ _ c.resume.ensures.taken.recorded refl
+
+pub returns-in-CloseSelf-clause-says : goal.returns-in-CloseSelf-clause-says
+returns-in-CloseSelf-clause-says g c = c.close.ensures.says

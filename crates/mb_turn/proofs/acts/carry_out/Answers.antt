@@ -13,6 +13,7 @@ use Rattle.mb_turn.proofs.BesideLemmas.{keeps-same, keeps-then}
 use Rattle.mb_turn.proofs.CallerLemmas.{further-none, further-then}
 use Rattle.mb_turn.proofs.EmptiedLemmas.{and-both, and-one, cleared-same, cleared-then, err-so, ok-so, ok-then}
 use Rattle.mb_turn.proofs.TellingLemmas.{running-own, running-next, beside-next, keeps-next}
+use Rattle.mb_turn.proofs.SayingLemmas.{says-still, says-then}
 use Rattle.mb_turn.proofs.acts.carry_out.Goals as goal
 
 pub loop-act-init : goal.loop-act-init
@@ -24,6 +25,7 @@ loop-act-init g c = (
   further-none _,
   λ clean. cleared-same (hold_of c.args.claim.now) (hold_of c.args.claim.now) refl refl,
   λ not_clean. absurd (cc not_clean),
+  says-still _ _ _ _ refl refl,
 )
 
 pub next_act-requires : goal.next_act-requires
@@ -73,6 +75,7 @@ loop-act-preserved g c =
           ended-either before (hold_of c.carry.new.claim) c.carry.result keeps c.loop-act.invariant.6 c.carry.ensures.ended
           (and-one c.loop-act.is_clean (is_ok c.carry.result)
           (ap (λ b. c.loop-act.is_clean && b) (sym c.is_ok-is_clean.ensures.value) ∙ not_clean)),
+      says-then _ _ _ _ _ _ c.loop-act.invariant.7 c.carry.ensures.says,
     )
 
 pub loop-act-smaller : goal.loop-act-smaller
@@ -133,3 +136,6 @@ returns-clause-ended g c =
     err-so c.answer_of.result
     (λ not_clean. ended-keeps before (record before { home = new }) (keeps-next before new same) (c.loop-act.invariant.6 not_clean))
     c.answer_of.ensures.not_clean
+
+pub returns-clause-says : goal.returns-clause-says
+returns-clause-says g c = c.loop-act.invariant.7

@@ -1,11 +1,12 @@
 use Rattle.std.proofs.Common.{◌≡◌, true, false, length}
 use Rattle.mb_journal.specs.Life.{closed}
-use Rattle.mb_gate.specs.Names.{known_by}
+use Rattle.mb_gate.specs.Names.{known_by, recorded_by}
 use Rattle.mb_gate.specs.Untouched.{origin_of}
 use Rattle.mb_turn.specs.Caller.{IsWakerOf, caller_of, GoesFurther}
 use Rattle.mb_turn.specs.Emptied.{IsCleared}
 use Rattle.mb_turn.specs.Hold.{hold_of}
 use Rattle.mb_turn.specs.Running.{IsRunning, IsBeside, KeepsJournal}
+use Rattle.mb_turn.specs.Saying.{SaysAsRecorded}
 use Rattle.mb_turn.proofs.acts.carry_out.Given as goal
 
 abbrev pub invariant-loop-act : goal.invariant-loop-act
@@ -17,6 +18,7 @@ invariant-loop-act g l =
     × GoesFurther (caller_of g.W.Way.pushed g.W.Way.refused l.initial.waker) (caller_of g.W.Way.pushed g.W.Way.refused l.waker)
     × (l.is_clean ≡ true → IsCleared (hold_of l.initial.claim) (hold_of l.claim))
     × (l.is_clean ≡ false → closed l.claim.home.value.cell.who l.claim.home.value.cell.journal ≡ true)
+    × SaysAsRecorded (recorded_by l.initial.claim) (known_by l.initial.waker.pass).said (recorded_by l.claim) (known_by l.waker.pass).said
 
 abbrev pub decreases-loop-act : goal.decreases-loop-act
 decreases-loop-act g l = length l.claim.home.value.cell.acts

@@ -13,6 +13,7 @@ use Rattle.mb_turn.specs.Hold.{hold_of}
 use Rattle.mb_turn.proofs.BesideLemmas.{keeps-then}
 use Rattle.mb_turn.proofs.CleanLemmas.{ended-closed}
 use Rattle.mb_turn.proofs.StatusLemmas.{keeps-written, count-written, running-closed}
+use Rattle.mb_turn.proofs.SayingLemmas.{says-still, says-then}
 use Rattle.mb_turn.proofs.acts.close.Goals as goal
 
 pub close_mailbox-requires-clause-ours : goal.close_mailbox-requires-clause-ours
@@ -56,3 +57,6 @@ pub returns-clause-emptied : goal.returns-clause-emptied
 returns-clause-emptied g c =
     subst (λ (k : Taking). OnOk c.clean_up.result (FindsNoMore k c.clean_up.new.claim.home.value.take))
     (ap (λ (b : Box Contents). b.value.take) c.close_mailbox.ensures.home) c.clean_up.ensures.emptied
+
+pub returns-clause-says : goal.returns-clause-says
+returns-clause-says g c = says-then _ _ _ _ _ _ (says-still _ _ _ _ c.close_mailbox.ensures.taken.recorded refl) c.clean_up.ensures.says

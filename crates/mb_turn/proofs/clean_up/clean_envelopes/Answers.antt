@@ -31,6 +31,7 @@ loop-init g c = (
   refl,
   refl,
   keeps-same _,
+  refl,
 )
 
 pub clean_next-requires-clause-ended : goal.clean_next-requires-clause-ended
@@ -167,4 +168,11 @@ loop-preserved g c =
           (keeps-taken _ new ours did.same.1 did.same.0 did.known did.taken l.home.value (ap (λ (x : Seen). x.who) cell)
           (one-more mid.take.taken l.home.value.take.taken found.envelope found.took)
           (takes-one _ _ _ (take-cleaned _ _ found)) (ap (λ (x : Seen). x.journal) cell)),
+      did.taken.recorded ∙ inv.10,
     )
+
+pub returns-in_err-clean_next-clause-recorded : goal.returns-in_err-clean_next-clause-recorded
+returns-in_err-clean_next-clause-recorded g c = c.loop.invariant.10
+
+pub returns-then-not-branch-clause-recorded : goal.returns-then-not-branch-clause-recorded
+returns-then-not-branch-clause-recorded g c = c.loop.invariant.10

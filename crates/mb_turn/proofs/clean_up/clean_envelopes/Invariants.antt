@@ -1,5 +1,5 @@
 use Rattle.std.proofs.Common.{◌≡◌, List, [], true}
-use Rattle.mb_gate.specs.Names.{known_of, held_actor, status_of, given_to}
+use Rattle.mb_gate.specs.Names.{known_of, held_actor, status_of, given_to, recorded_by}
 use Rattle.mb_gate.specs.View.{Sight}
 use Rattle.mb_home.specs.AtHome.{given_of}
 use Rattle.mb_gate.specs.Untouched.{origin_of}
@@ -18,3 +18,4 @@ invariant-loop g l =
     × (given_of l.claim.home.value ≡ given_of l.initial.claim.home.value) × (given_to l.claim ≡ given_to l.initial.claim)
     × (l.claim.home.value.cell ≡ l.initial.claim.home.value.cell)
     × KeepsJournal (hold_of l.initial.claim) (hold_of l.claim)
+    × (recorded_by l.claim ≡ recorded_by l.initial.claim)

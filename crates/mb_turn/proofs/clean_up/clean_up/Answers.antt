@@ -19,6 +19,7 @@ use Rattle.mb_turn.proofs.CleanLemmas.{keeps-ended, running-end, was-ended}
 use Rattle.mb_turn.proofs.EmptiedLemmas.{finds-then, ok-so, takes-same, takes-then}
 use Rattle.mb_turn.proofs.RunningSteps.{running-kept}
 use Rattle.mb_turn.proofs.TellingLemmas.{running-own, keeps-home, settled-here}
+use Rattle.mb_turn.proofs.SayingLemmas.{says-still, says-then}
 use Rattle.mb_turn.proofs.clean_up.clean_up.Goals as goal
 
 pub sys_close-listed-requires-clause-ours : goal.sys_close-listed-requires-clause-ours
@@ -127,3 +128,9 @@ returns-clause-emptied g c =
 
 pub returns-clause-goes : goal.returns-clause-goes
 returns-clause-goes g c = further-then _ _ _ c.drop_systems.ensures.goes c.drop_systems-2.ensures.goes
+
+pub returns-clause-says : goal.returns-clause-says
+returns-clause-says g c =
+    says-then _ _ _ _ _ _ (says-still _ _ _ _ c.sys_close-listed.ensures.recorded refl)
+    (says-then _ _ _ _ _ _ c.drop_systems.ensures.says
+    (says-then _ _ _ _ _ _ c.drop_systems-2.ensures.says (says-still _ _ _ _ c.clean_envelopes.ensures.recorded refl)))

@@ -22,6 +22,7 @@ use Rattle.mb_turn.proofs.CleanLemmas.{status-answered, known-answered}
 use Rattle.mb_turn.proofs.NamedLemmas.{named-first}
 use Rattle.mb_turn.proofs.SayLemmas.{running-goes, keeps-answered, home-answered}
 use Rattle.mb_turn.proofs.TellingLemmas.{running-own, keeps-home}
+use Rattle.mb_turn.proofs.SayingLemmas.{says-still, says-then}
 use Rattle.mb_turn.proofs.clean_up.drop_systems.Goals as goal
 
 pub loop-node-init : goal.loop-node-init
@@ -35,6 +36,7 @@ loop-node-init g c = (
   refl,
   keeps-same _,
   further-none _,
+  says-still _ _ _ _ refl refl,
 )
 
 pub drop_next-requires-clause-ended : goal.drop_next-requires-clause-ended
@@ -100,6 +102,7 @@ loop-node-preserved g c =
           (keeps-then _ _ _ (keeps-home (hold_of l) mid cell (ap (λ (x : Contents). x.take) same))
           (keeps-answered c.actor-actor.result.0 _ new asked told)),
       further-then _ _ _ inv.8 c.answer.ensures.goes,
+      says-then _ _ _ _ _ _ inv.9 c.answer.ensures.says,
     )
 
 pub loop-node-smaller : goal.loop-node-smaller
@@ -146,3 +149,6 @@ returns-clause-same g c =
     let cell = ap (λ (x : Contents). x.cell) c.in_default.ensures.same ∙ ap (λ (x : Contents). x.cell) c.deref_mut.ensures.value in
     let take = ap (λ (x : Contents). x.take) c.in_default.ensures.same ∙ ap (λ (x : Contents). x.take) c.deref_mut.ensures.value in
     keeps-then _ _ _ c.loop-node.invariant.7 (keeps-home (hold_of c.loop-node.claim) c.drop_next.new.self cell take)
+
+pub returns-clause-says : goal.returns-clause-says
+returns-clause-says g c = c.loop-node.invariant.9

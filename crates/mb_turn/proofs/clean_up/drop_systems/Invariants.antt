@@ -1,10 +1,11 @@
 use Rattle.std.proofs.Common.{◌≡◌, true, length}
-use Rattle.mb_gate.specs.Names.{known_by, known_of, status_of, given_to}
+use Rattle.mb_gate.specs.Names.{known_by, known_of, status_of, given_to, recorded_by}
 use Rattle.mb_home.specs.AtHome.{given_of}
 use Rattle.mb_gate.specs.Untouched.{origin_of}
 use Rattle.mb_turn.specs.Caller.{IsWakerOf, caller_of, GoesFurther}
 use Rattle.mb_turn.specs.Hold.{hold_of}
 use Rattle.mb_turn.specs.Running.{IsRunning, KeepsJournal}
+use Rattle.mb_turn.specs.Saying.{SaysAsRecorded}
 use Rattle.mb_turn.proofs.clean_up.drop_systems.Given as goal
 
 abbrev pub invariant-loop-node : goal.invariant-loop-node
@@ -16,6 +17,7 @@ invariant-loop-node g l =
     × (l.claim.home.value.cell ≡ l.initial.claim.home.value.cell) × ((known_of l.claim).log ≡ (known_of l.initial.claim).log)
     × KeepsJournal (hold_of l.initial.claim) (hold_of l.claim)
     × GoesFurther (caller_of g.W.Way.pushed g.W.Way.refused l.initial.waker) (caller_of g.W.Way.pushed g.W.Way.refused l.waker)
+    × SaysAsRecorded (recorded_by l.initial.claim) (known_by l.initial.waker.pass).said (recorded_by l.claim) (known_by l.waker.pass).said
 
 abbrev pub decreases-loop-node : goal.decreases-loop-node
 decreases-loop-node g l = length l.claim.home.value.rest

@@ -29,6 +29,7 @@ use Rattle.mb_turn.proofs.RunningMoves.{status-at}
 use Rattle.mb_turn.proofs.TakenLemmas.{same-begun, turning-counted, running-counted-begun, beside-counted-begun}
 use Rattle.mb_turn.proofs.TellingLemmas.{keeps-asked, beside-cell}
 use Rattle.mb_turn.proofs.TurningLemmas.{turning-keeps}
+use Rattle.mb_turn.proofs.SayingLemmas.{says-still, says-then}
 use Rattle.mb_turn.proofs.envelopes.apply_envelope.Goals as goal
 
 -- ---- what goes on as it was, and what the acts tell
@@ -482,3 +483,20 @@ returns-in-Err-clause-full g c =
 
 pub returns-in-Err-clause-short : goal.returns-in-Err-clause-short
 returns-in-Err-clause-short g c = λ short. inr (err-at c.carry_out.result c.in-Err.fault c.in-Err.is c.carry_out.ensures.ended)
+
+-- ---- what was said stands in the record
+
+pub returns-then-not-should_process-clause-says : goal.returns-then-not-should_process-clause-says
+returns-then-not-should_process-clause-says g c = says-still _ _ _ _ refl refl
+
+pub returns-in_err-ready-clause-says : goal.returns-in_err-ready-clause-says
+returns-in_err-ready-clause-says g c = says-still _ _ _ _ refl refl
+
+pub returns-in_default-clause-says : goal.returns-in_default-clause-says
+returns-in_default-clause-says g c = says-still _ _ _ _ refl refl
+
+pub returns-in-Ok-clause-says : goal.returns-in-Ok-clause-says
+returns-in-Ok-clause-says g c = says-then _ _ _ _ _ _ (says-still _ _ _ _ c.note_taken.ensures.taken.recorded refl) c.carry_out.ensures.says
+
+pub returns-in-Err-clause-says : goal.returns-in-Err-clause-says
+returns-in-Err-clause-says g c = says-then _ _ _ _ _ _ (says-still _ _ _ _ c.note_taken.ensures.taken.recorded refl) c.carry_out.ensures.says

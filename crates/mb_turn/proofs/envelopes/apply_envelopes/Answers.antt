@@ -9,6 +9,7 @@ use Rattle.mb_turn.proofs.BesideLemmas.{keeps-same, same-run-then}
 use Rattle.mb_turn.proofs.CallerLemmas.{further-none, further-then}
 use Rattle.mb_turn.proofs.EmptiedLemmas.{cleared-same, cleared-then}
 use Rattle.mb_turn.proofs.EnvelopeLemmas.{IsWhy, reason-why, reason-used}
+use Rattle.mb_turn.proofs.SayingLemmas.{says-still, says-then}
 use Rattle.mb_turn.proofs.envelopes.apply_envelopes.Goals as goal
 
 pub loop-handled-init : goal.loop-handled-init
@@ -23,6 +24,7 @@ loop-handled-init g c = (
   c.requires.whole,
   further-none _,
   cleared-same (hold_of c.args.claim.now) (hold_of c.args.claim.now) refl refl,
+  says-still _ _ _ _ refl refl,
 )
 
 -- ---- what holds between two envelopes, and what one of the steps tells
@@ -180,6 +182,7 @@ loop-handled-preserved g c =
           c.loop-handled.invariant.9
           (cleared-then (hold_of c.loop-handled.claim) h (hold_of c.apply_systems.new.claim) c.apply_envelope.ensures.turning.1.takes
           c.in_ok-took.ensures.cleared c.in_ok-apply_systems.ensures.cleared),
+      says-then _ _ _ _ _ _ (says-then _ _ _ _ _ _ c.loop-handled.invariant.10 c.apply_envelope.ensures.says) c.apply_systems.ensures.says,
     )
 
 -- the throughput was used up
@@ -192,3 +195,15 @@ returns-clause-ended g c =
 
 pub returns-clause-cleared : goal.returns-clause-cleared
 returns-clause-cleared g c = c.loop-handled.invariant.9
+
+pub returns-in_err-took-clause-says : goal.returns-in_err-took-clause-says
+returns-in_err-took-clause-says g c = says-then _ _ _ _ _ _ c.loop-handled.invariant.10 c.apply_envelope.ensures.says
+
+pub returns-then-not-took-clause-says : goal.returns-then-not-took-clause-says
+returns-then-not-took-clause-says g c = says-then _ _ _ _ _ _ c.loop-handled.invariant.10 c.apply_envelope.ensures.says
+
+pub returns-in_err-apply_systems-clause-says : goal.returns-in_err-apply_systems-clause-says
+returns-in_err-apply_systems-clause-says g c = says-then _ _ _ _ _ _ (says-then _ _ _ _ _ _ c.loop-handled.invariant.10 c.apply_envelope.ensures.says) c.apply_systems.ensures.says
+
+pub returns-clause-says : goal.returns-clause-says
+returns-clause-says g c = c.loop-handled.invariant.10

@@ -4,6 +4,7 @@ use Rattle.mb_turn.proofs.BesideLemmas.{same-run-then}
 use Rattle.mb_turn.proofs.CallerLemmas.{further-then}
 use Rattle.mb_turn.proofs.EmptiedLemmas.{cleared-then, ok-so}
 use Rattle.mb_turn.proofs.EnvelopeLemmas.{stopped-from}
+use Rattle.mb_turn.proofs.SayingLemmas.{says-then}
 use Rattle.mb_turn.proofs.run.run_claim.Goals as goal
 
 pub returns-in_err-apply_systems-clause-few : goal.returns-in_err-apply_systems-clause-few
@@ -30,3 +31,9 @@ pub returns-clause-ended : goal.returns-clause-ended
 returns-clause-ended g c =
     stopped-from c.args.claim.now.home.value.take _ (hold_of c.apply_envelopes.new.claim) c.args.throughput c.apply_envelopes.new.turn.envelopes
     c.apply_systems.ensures.turning.1.takes c.apply_envelopes.result c.apply_envelopes.ensures.ended
+
+pub returns-in_err-apply_systems-clause-says : goal.returns-in_err-apply_systems-clause-says
+returns-in_err-apply_systems-clause-says g c = c.apply_systems.ensures.says
+
+pub returns-clause-says : goal.returns-clause-says
+returns-clause-says g c = says-then _ _ _ _ _ _ c.apply_systems.ensures.says c.apply_envelopes.ensures.says

@@ -5,18 +5,20 @@ use Rattle.mb_journal.specs.Identity.{Identity}
 use Rattle.mb_journal.specs.Life.{closed}
 use Rattle.mb_journal.specs.Run.{IsReason}
 use Rattle.mb_journal.specs.Run.Stopped.{NoRoom}
-use Rattle.mb_gate.specs.Names.{known_by, known_of, held_actor, actors_of}
+use Rattle.mb_gate.specs.Names.{known_by, known_of, held_actor, actors_of, recorded_by}
+use Rattle.mb_gate.specs.View.{View}
 use Rattle.mb_gate.specs.Untouched.{origin_of}
 use Rattle.mb_wake.specs.Views.{LooksAfter}
 use Rattle.mb_turn.specs.Caller.{IsPaid, caller_of}
 use Rattle.mb_turn.specs.Emptied.{IsCleared}
 use Rattle.mb_turn.specs.Hold.{hold_of}
 use Rattle.mb_turn.specs.Ran.{IsShortOfMemory}
+use Rattle.mb_turn.specs.Saying.{SaysAsRecorded}
 use Rattle.mb_turn.proofs.AppliedLemmas.{same-fault}
 use Rattle.mb_turn.proofs.CallerLemmas.{account-woken}
 use Rattle.mb_turn.proofs.EnvelopeLemmas.{HasStopped}
 use Rattle.mb_turn.proofs.FinishLemmas.{home-own, home-longer, home-fold, home-told, home-rest, saw-journal, steps-taken, leaves-caller, leaves-run}
-use Rattle.mb_turn.proofs.FinishLemmas.{ends-cleared, ends-empty}
+use Rattle.mb_turn.proofs.FinishLemmas.{ends-cleared, ends-empty, journal-told}
 use Rattle.mb_turn.proofs.FreshLemmas.{taken-fresh, log-fresh, taken-begun, running-fresh, beside-fresh, turning-fresh}
 use Rattle.mb_turn.proofs.run.run_mailbox.Goals as goal
 
@@ -140,6 +142,9 @@ returns-in-Ok-clause-ran g c =
     let part = steps-taken (held_actor last) journal (known_of last) (known_by run.new.waker.pass) (known_by c.release.new.pass)
     run.ensures.running.owes_nothing c.release.ensures.known (known_by c.register.new.self.pass) looks
     (caller_of g.W.Way.pushed g.W.Way.refused c.args.waker.now) (caller_of g.W.Way.pushed g.W.Way.refused run.new.waker) refl run.ensures.goes in
+    let says = subst (λ l. SaysAsRecorded (recorded_by c.args.claim) (known_by c.args.waker.now.pass).said (recorded_by last) l)
+    (sym (c.register.ensures.looks.said ∙ ap (λ (v : View). v.said) c.release.ensures.known)) run.ensures.says in
+    let told = journal-told _ _ _ last run.ensures.running in
     let taken = taken-fresh g.K.Behaviours.gives (origin_of c.args.gates.now) c.args.claim c.requires.untouched in
     let fresh = log-fresh g.K.Behaviours.gives (origin_of c.args.gates.now) c.args.claim c.requires.untouched in
     let at_first = taken-begun g.K.Behaviours.gives (origin_of c.args.gates.now) c.args.claim c.requires.untouched in
@@ -160,7 +165,7 @@ returns-in-Ok-clause-ran g c =
         ended.1,
         leaves-run c.args.throughput c.args.claim last (known_by c.args.waker.now.pass) (known_by c.register.new.self.pass) turn ended.0
             taken run.ensures.turning.1
-            run.ensures.turning.0 run.ensures.few ended.4 ended.2 ended.5 run.ensures.running.dry saw part fresh at_first
+            run.ensures.turning.0 run.ensures.few ended.4 ended.2 ended.5 run.ensures.running.dry saw part says c.requires.untouched.recorded told fresh at_first
             run.ensures.running.settled.taken run.ensures.running.settled.open_keeps empty,
       ),
     )
@@ -179,6 +184,9 @@ returns-in-Err-clause-ran g c =
     let part = steps-taken (held_actor last) journal (known_of last) (known_by run.new.waker.pass) (known_by c.release.new.pass)
     run.ensures.running.owes_nothing c.release.ensures.known (known_by c.register.new.self.pass) looks
     (caller_of g.W.Way.pushed g.W.Way.refused c.args.waker.now) (caller_of g.W.Way.pushed g.W.Way.refused run.new.waker) refl run.ensures.goes in
+    let says = subst (λ l. SaysAsRecorded (recorded_by c.args.claim) (known_by c.args.waker.now.pass).said (recorded_by last) l)
+    (sym (c.register.ensures.looks.said ∙ ap (λ (v : View). v.said) c.release.ensures.known)) run.ensures.says in
+    let told = journal-told _ _ _ last run.ensures.running in
     let taken = taken-fresh g.K.Behaviours.gives (origin_of c.args.gates.now) c.args.claim c.requires.untouched in
     let fresh = log-fresh g.K.Behaviours.gives (origin_of c.args.gates.now) c.args.claim c.requires.untouched in
     let at_first = taken-begun g.K.Behaviours.gives (origin_of c.args.gates.now) c.args.claim c.requires.untouched in (
@@ -187,7 +195,7 @@ returns-in-Err-clause-ran g c =
         turn,
         leaves-run c.args.throughput c.args.claim last (known_by c.args.waker.now.pass) (known_by c.register.new.self.pass) turn NoRoom
             taken run.ensures.turning.1
-            run.ensures.turning.0 run.ensures.few tt tt tt run.ensures.running.dry saw part fresh at_first
+            run.ensures.turning.0 run.ensures.few tt tt tt run.ensures.running.dry saw part says c.requires.untouched.recorded told fresh at_first
             run.ensures.running.settled.taken run.ensures.running.settled.open_keeps (λ ends. absurd ends),
         λ full. subst (λ (w : Identity). w.limit ≤ length journal) run.ensures.turning.1.who
             (run.ensures.full (c.in-Err.is ∙ ap (λ (f : ReadyError). Err f) (same-fault c.in-Err.fault full))),
@@ -208,6 +216,9 @@ returns-in-Err-clause-short g c = λ short.
     let part = steps-taken (held_actor last) journal (known_of last) (known_by run.new.waker.pass) (known_by c.release.new.pass)
     run.ensures.running.owes_nothing c.release.ensures.known (known_by c.register.new.self.pass) looks
     (caller_of g.W.Way.pushed g.W.Way.refused c.args.waker.now) (caller_of g.W.Way.pushed g.W.Way.refused run.new.waker) refl run.ensures.goes in
+    let says = subst (λ l. SaysAsRecorded (recorded_by c.args.claim) (known_by c.args.waker.now.pass).said (recorded_by last) l)
+    (sym (c.register.ensures.looks.said ∙ ap (λ (v : View). v.said) c.release.ensures.known)) run.ensures.says in
+    let told = journal-told _ _ _ last run.ensures.running in
     let taken = taken-fresh g.K.Behaviours.gives (origin_of c.args.gates.now) c.args.claim c.requires.untouched in
     let fresh = log-fresh g.K.Behaviours.gives (origin_of c.args.gates.now) c.args.claim c.requires.untouched in
     let at_first = taken-begun g.K.Behaviours.gives (origin_of c.args.gates.now) c.args.claim c.requires.untouched in (
@@ -216,7 +227,7 @@ returns-in-Err-clause-short g c = λ short.
         turn,
         leaves-run c.args.throughput c.args.claim last (known_by c.args.waker.now.pass) (known_by c.register.new.self.pass) turn NoRoom
             taken run.ensures.turning.1
-            run.ensures.turning.0 run.ensures.few tt tt tt run.ensures.running.dry saw part fresh at_first
+            run.ensures.turning.0 run.ensures.few tt tt tt run.ensures.running.dry saw part says c.requires.untouched.recorded told fresh at_first
             run.ensures.running.settled.taken run.ensures.running.settled.open_keeps (λ ends. absurd ends),
         subst (λ (w : Identity). IsShortOfMemory w journal) run.ensures.turning.1.who
             (run.ensures.short (c.in-Err.is ∙ ap (λ (f : ReadyError). Err f) (same-fault c.in-Err.fault short))),

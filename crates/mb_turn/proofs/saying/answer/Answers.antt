@@ -5,6 +5,7 @@ use Rattle.mb_gate.specs.Names.{actors_of}
 use Rattle.mb_turn.proofs.CallerLemmas.{further-none}
 use Rattle.mb_turn.proofs.NamedLemmas.{asker-there}
 use Rattle.mb_turn.specs.Notice.{asker, IsAnswered}
+use Rattle.mb_turn.proofs.SayingLemmas.{says-still}
 use Rattle.mb_turn.proofs.saying.answer.Goals as goal
 
 pub notify-requires-clause-there : goal.notify-requires-clause-there
@@ -28,3 +29,9 @@ returns-in-None-clause-answered g c =
 
 pub returns-in-None-clause-goes : goal.returns-in-None-clause-goes
 returns-in-None-clause-goes g c = further-none _
+
+pub returns-in-Some-clause-says : goal.returns-in-Some-clause-says
+returns-in-Some-clause-says g c = c.notify.ensures.says
+
+pub returns-in-None-clause-says : goal.returns-in-None-clause-says
+returns-in-None-clause-says g c = says-still _ _ _ _ refl refl

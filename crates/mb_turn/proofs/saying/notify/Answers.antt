@@ -1,11 +1,13 @@
-use Rattle.std.proofs.Common.{arith, sym, refl, subst, ◌∙◌}
+use Rattle.std.proofs.Common.{arith, sym, refl, ap, subst, ◌∙◌}
 use Rattle.std.specs.Prelude.{is_err}
 use Rattle.mb_gate.specs.Named.{NamesBelow}
 use Rattle.mb_gate.specs.Names.{actors_of, known_by}
+use Rattle.mb_gate.specs.View.{View}
 use Rattle.mb_wake.proofs.Views.{does-then, does-enlisting}
 use Rattle.mb_turn.proofs.CallerLemmas.{account-woken, further-said}
 use Rattle.mb_turn.proofs.MoveLemmas.{moves-does, further-moves}
 use Rattle.mb_turn.proofs.SayLemmas.{notified}
+use Rattle.mb_turn.proofs.SayingLemmas.{says-one}
 use Rattle.mb_turn.proofs.saying.notify.Goals as goal
 
 pub sys_enqueue_in_run-requires-clause-ours : goal.sys_enqueue_in_run-requires-clause-ours
@@ -51,3 +53,14 @@ returns-in_default-clause-told g c =
 
 pub returns-in_default-clause-goes : goal.returns-in_default-clause-goes
 returns-in_default-clause-goes g c = further-said _ _ _ c.in_default.ensures.ended.1 refl
+
+pub returns-clause-says : goal.returns-clause-says
+returns-clause-says g c =
+    let id = c.args.whom.0 in
+    let a = known_by c.args.waker.now.pass in let b = known_by c.sys_enqueue_in_run.new.pass in let d = known_by c.register.new.self.pass in
+    says-one _ _ _ _ _ c.in-Ok.ensures.recorded.record_is
+    (does-then id _ _ a b d (does-enlisting id c.in-Ok.field-0 c.set.new.self a b c.in-Ok.ensures.listed) c.register.ensures.looks).said
+
+pub returns-in_default-clause-says : goal.returns-in_default-clause-says
+returns-in_default-clause-says g c =
+    says-one _ _ _ _ _ c.in_default.ensures.recorded.record_is (ap (λ (v : View). v.said) c.in_default.ensures.ended.1)

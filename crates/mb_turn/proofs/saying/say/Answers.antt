@@ -4,6 +4,7 @@ use Rattle.mb_status.specs.Mailbox.{Mailbox}
 use Rattle.mb_gate.specs.Named.{NamesBelow}
 use Rattle.mb_gate.specs.Names.{actors_of, known_by}
 use Rattle.mb_gate.specs.Untouched.{origin_of}
+use Rattle.mb_gate.specs.View.{View}
 use Rattle.mb_home.specs.Contents.{Contents}
 use Rattle.mb_wake.proofs.Views.{does-then, does-enlisting}
 use Rattle.mb_turn.specs.Hold.{hold_of}
@@ -15,6 +16,7 @@ use Rattle.mb_turn.proofs.EmptiedLemmas.{cleared-same}
 use Rattle.mb_turn.proofs.MoveLemmas.{moves-does, further-moves}
 use Rattle.mb_turn.proofs.SayLemmas.{running-goes, running-said, running-refused, keeps-recorded, keeps-answered, beside-said, beside-answered}
 use Rattle.mb_turn.proofs.SayLemmas.{home-answered}
+use Rattle.mb_turn.proofs.SayingLemmas.{says-one, says-then}
 use Rattle.mb_turn.proofs.saying.say.Goals as goal
 
 -- ---- the waker stays one of these gates
@@ -137,3 +139,17 @@ returns-in-Err-clause-cleared g c =
     cleared-same (hold_of c.args.claim.now) (hold_of new)
     (ap (λ (m : Mailbox). m.closed) (status-answered c.args.to.0 mid new asked told ∙ said.status))
     (ap (λ (b : Box Contents). b.value.take) (home-answered c.args.to.0 mid new asked told ∙ said.home))
+
+-- ---- what was said stands in the record
+
+pub returns-in-Ok-clause-says : goal.returns-in-Ok-clause-says
+returns-in-Ok-clause-says g c =
+    let id = c.args.to.0 in
+    let a = known_by c.args.waker.now.pass in let b = known_by c.sys_enqueue_in_run.new.pass in let d = known_by c.register.new.self.pass in
+    says-one _ _ _ _ _ c.in-Ok.ensures.recorded.record_is
+    (does-then id _ _ a b d (does-enlisting id c.in-Ok.field-0 c.args.node a b c.in-Ok.ensures.listed) c.register.ensures.looks).said
+
+pub returns-in-Err-clause-says : goal.returns-in-Err-clause-says
+returns-in-Err-clause-says g c =
+    says-then _ _ _ _ _ _
+    (says-one _ _ _ _ _ c.in-Err.ensures.recorded.record_is (ap (λ (v : View). v.said) c.in-Err.ensures.ended.1)) c.answer.ensures.says

@@ -11,6 +11,7 @@ use Rattle.mb_turn.proofs.BesideLemmas.{keeps-same, same-run-then}
 use Rattle.mb_turn.proofs.CallerLemmas.{further-none, further-then}
 use Rattle.mb_turn.proofs.EmptiedLemmas.{cleared-same, cleared-then}
 use Rattle.mb_turn.proofs.TurningLemmas.{turning-keeps}
+use Rattle.mb_turn.proofs.SayingLemmas.{says-still, says-then}
 use Rattle.mb_turn.proofs.systems.apply_all.Goals as goal
 
 pub loop-init : goal.loop-init
@@ -26,6 +27,7 @@ loop-init g c = (
   refl,
   further-none _,
   cleared-same (hold_of c.args.claim.now) (hold_of c.args.claim.now) refl refl,
+  says-still _ _ _ _ refl refl,
 )
 
 -- ---- what holds between two steps, and what one of them tells
@@ -138,6 +140,7 @@ loop-preserved-then-has_next g c = (
   further-then _ _ _ c.loop.invariant.9 c.apply_one.ensures.goes,
   cleared-then (hold_of c.args.claim.now) (hold_of c.loop.claim) (hold_of c.apply_one.new.claim) c.loop.invariant.7.takes c.loop.invariant.10
       c.in_ok-apply_one.ensures.cleared,
+  says-then _ _ _ _ _ _ c.loop.invariant.11 c.apply_one.ensures.says,
 )
 
 -- ---- none is: the list is drained
@@ -185,4 +188,14 @@ loop-preserved g c = (
   c.loop.invariant.9,
   cleared-then (hold_of c.args.claim.now) (hold_of c.loop.claim) (hold_of c.drain.new.claim) c.loop.invariant.7.takes c.loop.invariant.10
       c.drain.ensures.cleared,
+  says-then _ _ _ _ _ _ c.loop.invariant.11 (says-still _ _ _ _ c.drain.ensures.recorded refl),
 )
+
+pub returns-in_err-apply_one-clause-says : goal.returns-in_err-apply_one-clause-says
+returns-in_err-apply_one-clause-says g c = says-then _ _ _ _ _ _ c.loop.invariant.11 c.apply_one.ensures.says
+
+pub returns-then-closed-clause-says : goal.returns-then-closed-clause-says
+returns-then-closed-clause-says g c = c.loop.invariant.11
+
+pub returns-then-not-drain-clause-says : goal.returns-then-not-drain-clause-says
+returns-then-not-drain-clause-says g c = says-then _ _ _ _ _ _ c.loop.invariant.11 (says-still _ _ _ _ c.drain.ensures.recorded refl)

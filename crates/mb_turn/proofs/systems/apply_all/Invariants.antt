@@ -1,11 +1,12 @@
 use Rattle.std.proofs.Common.{◌≡◌, []}
-use Rattle.mb_gate.specs.Names.{known_by}
+use Rattle.mb_gate.specs.Names.{known_by, recorded_by}
 use Rattle.mb_gate.specs.Untouched.{origin_of}
 use Rattle.mb_turn.specs.Caller.{IsWakerOf, caller_of, GoesFurther}
 use Rattle.mb_turn.specs.Emptied.{IsCleared}
 use Rattle.mb_turn.specs.Hold.{hold_of}
 use Rattle.mb_turn.specs.Ran.{IsTurning}
 use Rattle.mb_turn.specs.Running.{IsRunning, IsBeside, SameRun}
+use Rattle.mb_turn.specs.Saying.{SaysAsRecorded}
 use Rattle.mb_turn.proofs.systems.apply_all.Given as goal
 
 abbrev pub invariant-loop : goal.invariant-loop
@@ -18,3 +19,4 @@ invariant-loop g l =
     × (l.turn.envelopes ≡ l.initial.turn.envelopes)
     × GoesFurther (caller_of g.W.Way.pushed g.W.Way.refused l.initial.waker) (caller_of g.W.Way.pushed g.W.Way.refused l.waker)
     × IsCleared (hold_of l.initial.claim) (hold_of l.claim)
+    × SaysAsRecorded (recorded_by l.initial.claim) (known_by l.initial.waker.pass).said (recorded_by l.claim) (known_by l.waker.pass).said

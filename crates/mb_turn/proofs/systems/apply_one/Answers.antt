@@ -20,6 +20,7 @@ use Rattle.mb_turn.proofs.CallerLemmas.{further-none}
 use Rattle.mb_turn.proofs.EmptiedLemmas.{cleared-open, cleared-then, err-at, ok-so, takes-same}
 use Rattle.mb_turn.proofs.RunningMoves.{journal-open, running-applied, beside-applied}
 use Rattle.mb_turn.proofs.TurningLemmas.{turning-keeps, turning-applied, same-applied}
+use Rattle.mb_turn.proofs.SayingLemmas.{says-still}
 use Rattle.mb_turn.proofs.systems.apply_one.Goals as goal
 
 -- ---- there was no room
@@ -207,3 +208,9 @@ returns-clause-full g c = λ full. absurd (not-full _ c.carry_out.ensures.refuse
 
 pub returns-clause-short : goal.returns-clause-short
 returns-clause-short g c = λ short. inr (err-at c.carry_out.result NoMemory short c.carry_out.ensures.ended)
+
+pub returns-in_err-ready-clause-says : goal.returns-in_err-ready-clause-says
+returns-in_err-ready-clause-says g c = says-still _ _ _ _ refl refl
+
+pub returns-clause-says : goal.returns-clause-says
+returns-clause-says g c = c.carry_out.ensures.says

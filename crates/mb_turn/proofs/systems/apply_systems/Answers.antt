@@ -6,6 +6,7 @@ use Rattle.mb_turn.proofs.BesideLemmas.{same-run-then}
 use Rattle.mb_turn.proofs.CallerLemmas.{further-none}
 use Rattle.mb_turn.proofs.EmptiedLemmas.{cleared-then, ok-so}
 use Rattle.mb_turn.proofs.TurningLemmas.{turning-keeps}
+use Rattle.mb_turn.proofs.SayingLemmas.{says-still, says-then}
 use Rattle.mb_turn.proofs.systems.apply_systems.Goals as goal
 
 pub is_quiet-requires-clause-running : goal.is_quiet-requires-clause-running
@@ -96,3 +97,9 @@ returns-clause-cleared g c =
     ok-so c.apply_all.result
     (cleared-then (hold_of c.args.claim.now) (hold_of c.is_quiet.new.claim) (hold_of c.apply_all.new.claim) c.is_quiet.ensures.same.same.takes
     c.is_quiet.ensures.cleared) c.apply_all.ensures.cleared
+
+pub returns-then-is_quiet-clause-says : goal.returns-then-is_quiet-clause-says
+returns-then-is_quiet-clause-says g c = says-still _ _ _ _ c.is_quiet.ensures.recorded refl
+
+pub returns-clause-says : goal.returns-clause-says
+returns-clause-says g c = says-then _ _ _ _ _ _ (says-still _ _ _ _ c.is_quiet.ensures.recorded refl) c.apply_all.ensures.says

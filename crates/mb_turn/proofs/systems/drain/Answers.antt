@@ -142,3 +142,9 @@ returns-then-is_empty-clause-cleared g c =
     let did = c.sys_drain-drained.ensures in
     cleared-open (hold_of c.args.claim.now) (hold_of c.sys_drain-drained.new.claim)
     (ap (λ (m : Mailbox). m.closed) did.same.0 ∙ c.requires.not_closed)
+
+pub returns-clause-recorded : goal.returns-clause-recorded
+returns-clause-recorded g c = c.sys_drain-drained.ensures.recorded
+
+pub returns-then-is_empty-clause-recorded : goal.returns-then-is_empty-clause-recorded
+returns-then-is_empty-clause-recorded g c = c.sys_drain-drained.ensures.recorded

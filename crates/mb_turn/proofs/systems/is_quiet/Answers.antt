@@ -134,3 +134,12 @@ returns-clause-cleared g c =
     let did = c.sys_is_drained.ensures in
     cleared-same (hold_of c.args.claim.now) (hold_of c.sys_is_drained.new.claim) (ap (λ (m : Mailbox). m.closed) did.same.0)
     (ap (λ (b : Box Contents). b.value.take) did.same.1)
+
+pub returns-then-closed-clause-recorded : goal.returns-then-closed-clause-recorded
+returns-then-closed-clause-recorded g c = refl
+
+pub returns-then-sys_is_drained-clause-recorded : goal.returns-then-sys_is_drained-clause-recorded
+returns-then-sys_is_drained-clause-recorded g c = c.sys_is_drained.ensures.recorded
+
+pub returns-clause-recorded : goal.returns-clause-recorded
+returns-clause-recorded g c = c.sys_is_drained.ensures.recorded

@@ -4,7 +4,7 @@ use Rattle.mb_msg.specs.declared.dead_letter.Why.TheVariants.{Closed}
 use Rattle.mb_journal.specs.Acts.Act.{Tell}
 use Rattle.mb_gate.specs.Names.{known_by}
 use Rattle.mb_gate.specs.Untouched.{origin_of}
-use Rattle.mb_gate.specs.View.{Sight, Sent, Unsent}
+use Rattle.mb_gate.specs.View.{View, Sight, Sent, Unsent}
 use Rattle.mb_home.specs.Contents.{Contents}
 use Rattle.mb_home.specs.Settled.{IsSettled}
 use Rattle.mb_home.specs.Steps.{Pushes, Buries, reason_of}
@@ -18,6 +18,7 @@ use Rattle.mb_turn.proofs.SayLemmas.{running-goes}
 use Rattle.mb_turn.proofs.SendingLemmas.{does-read, open-word, sends-one, sends-back}
 use Rattle.mb_turn.proofs.TellingLemmas.{running-own, told-below, closed-word, log-closed, paid-closed, keeps-home, beside-cell}
 use Rattle.mb_turn.proofs.TellingLemmas.{running-pushed, running-refused_push, running-told_closed}
+use Rattle.mb_turn.proofs.SayingLemmas.{says-still}
 use Rattle.mb_turn.proofs.telling.tell.Goals as goal
 
 -- ---- the waker stays one of these gates
@@ -296,3 +297,27 @@ returns-in-Err-clause-cleared g c =
     c.in-Err.ensures.pushed.1 in
     cleared-same (hold_of c.args.claim.now) (record (hold_of c.args.claim.now) { home = c.push.new.self }) refl
     (ap (λ (x : Contents). x.take) buried.same)
+
+-- ---- nothing was said
+
+pub returns-then-closed-clause-says : goal.returns-then-closed-clause-says
+returns-then-closed-clause-says g c = says-still _ _ _ _ refl (ap (λ (v : View). v.said) c.status-status.ensures.known)
+
+pub returns-in-Ok-clause-says : goal.returns-in-Ok-clause-says
+returns-in-Ok-clause-says g c =
+    let id = c.args.to.0 in
+    let b = known_by c.status-status.new.pass in
+    let d = known_by c.note_sent.new.pass in let e = known_by c.register.new.self.pass in
+    says-still _ _ _ _ refl
+    ((does-then id _ [] b d e (does-sending id b d c.note_sent.ensures.known) c.register.ensures.looks).said
+    ∙ ap (λ (v : View). v.said) c.status-status.ensures.known)
+
+pub returns-in-Err-clause-says : goal.returns-in-Err-clause-says
+returns-in-Err-clause-says g c =
+    let id = c.args.to.0 in
+    let b = known_by c.status-status.new.pass in
+    let d = known_by c.note_sent.new.pass in let e = known_by c.note_unsent.new.pass in
+    let f = known_by c.register-in-Err.new.self.pass in
+    says-still _ _ _ _ refl
+    ((does-then id _ [] b e f (does-unsending id b d e c.note_sent.ensures.known c.note_unsent.ensures.known) c.register-in-Err.ensures.looks).said
+    ∙ ap (λ (v : View). v.said) c.status-status.ensures.known)
