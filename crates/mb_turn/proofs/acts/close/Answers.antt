@@ -48,10 +48,14 @@ returns-clause-same g c =
 
 pub returns-clause-ended : goal.returns-clause-ended
 returns-clause-ended g c =
-    let mid = c.close_mailbox.new.claim in
+    let old = c.args.claim.now in let new = c.close_mailbox.new.claim in let did = c.close_mailbox.ensures in
+    let gives = g.K.Behaviours.gives in
+    let origin = origin_of c.args.gates.now in
+    let seen = (known_by c.args.waker.now.pass).log in
     ap (λ (x : Seen). closed x.who x.journal) c.clean_up.ensures.left
-    ∙ ended-closed g.K.Behaviours.gives (origin_of c.args.gates.now) (known_by c.args.waker.now.pass).log (hold_of mid) mid.home.value.cell.acts
-    (clean_up-requires-clause-closed g c) (clean_up-requires-clause-running g c)
+    ∙ ended-closed gives origin seen (hold_of new) new.home.value.cell.acts (ap (λ (m : Mailbox). m.closed) did.status)
+    (running-closed old new (status_of new) (word_of (status_of new)) did.ours did.home did.known did.taken refl gives origin seen did.status
+    c.requires.running)
 
 pub returns-clause-emptied : goal.returns-clause-emptied
 returns-clause-emptied g c =

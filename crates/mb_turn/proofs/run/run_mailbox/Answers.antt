@@ -223,15 +223,13 @@ returns-in-Err-clause-short g c = λ short.
     let fresh = log-fresh g.K.Behaviours.gives (origin_of c.args.gates.now) c.args.claim c.requires.untouched in
     let at_first = taken-begun g.K.Behaviours.gives (origin_of c.args.gates.now) c.args.claim c.requires.untouched in (
       journal,
-      (
-        turn,
-        leaves-run c.args.throughput c.args.claim last (known_by c.args.waker.now.pass) (known_by c.register.new.self.pass) turn NoRoom
-            taken run.ensures.turning.1
-            run.ensures.turning.0 run.ensures.few tt tt tt run.ensures.running.dry saw part says c.requires.untouched.recorded told fresh at_first
-            run.ensures.running.settled.taken run.ensures.running.settled.open_keeps (λ ends. absurd ends),
-        subst (λ (w : Identity). IsShortOfMemory w journal) run.ensures.turning.1.who
-            (run.ensures.short (c.in-Err.is ∙ ap (λ (f : ReadyError). Err f) (same-fault c.in-Err.fault short))),
-      ),
+      turn,
+      leaves-run c.args.throughput c.args.claim last (known_by c.args.waker.now.pass) (known_by c.register.new.self.pass) turn NoRoom
+          taken run.ensures.turning.1
+          run.ensures.turning.0 run.ensures.few tt tt tt run.ensures.running.dry saw part says c.requires.untouched.recorded told fresh at_first
+          run.ensures.running.settled.taken run.ensures.running.settled.open_keeps (λ ends. absurd ends),
+      subst (λ (w : Identity). IsShortOfMemory w journal) run.ensures.turning.1.who
+          (run.ensures.short (c.in-Err.is ∙ ap (λ (f : ReadyError). Err f) (same-fault c.in-Err.fault short))),
     )
 
 pub returns-in-Ok-clause-short : goal.returns-in-Ok-clause-short

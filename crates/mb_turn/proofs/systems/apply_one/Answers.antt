@@ -89,7 +89,7 @@ returns-in_err-ready-clause-short g c =
     let full = subst (λ (x : Contents). IsErrOf c.ready.result JournalFull ↔ (x.cell.who.limit ≤ length x.cell.journal)) c.deref_mut.ensures.value
     c.ready.ensures.full in
     inl (room-ready (hold_of c.args.claim.now) c.ready.new.self _ _ same
-    (room-short c.ready.result _ _ full (c.in_err-ready.was ∙ ap (λ (f : ReadyError). Err f) (same-fault c.in_err-ready.field-0 short)))))
+    (room-short c.ready.result _ _ full (c.in_err-ready.was ∙ ap (λ (f : ReadyError). Err f) (same-fault c.in_err-ready.field-0.0 short)))))
 
 -- ---- there was
 
