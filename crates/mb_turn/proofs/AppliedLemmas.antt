@@ -1,7 +1,7 @@
 -- What a system message that was applied makes of a run, with the acts that it asks for carried out.
 use Rattle.std.proofs.Common.{◌≡◌, ℕ, ◌+◌, ◌<◌, ◌≤◌, ◌^◌, ◌⊎◌, inl, inr, Bool, true, false, List, [], length, refl, sym, ap, ◌∙◌, subst, arith}
 use Rattle.std.proofs.Common.{lt_of_not-le}
-use Rattle.std.specs.Prelude.{◌↔◌, Result, Ok, Err, OnErr, IsErrOf, is_ok}
+use Rattle.std.specs.Prelude.{◌↔◌, Result, Ok, Err, OnErr, IsErrAnd, IsErrOf, is_ok}
 use Rattle.std.specs.Global.{Box}
 use Rattle.mb_actor.specs.Behaviour.{Moment, Reply}
 use Rattle.mb_journal.specs.Acts.{Act}
@@ -45,6 +45,12 @@ not-full (Err e) none full = absurd (cc (none, full))
 -- the fault that a result of either kind has
 pub same-fault : {T : Type 0} {which : ReadyError} (fault : ReadyError) → IsErrOf {T = T} (Err fault) which → fault ≡ which
 same-fault fault is = cc is
+
+-- and the one that is passed on
+pub passed-fault : {T : Type 0} {which : ReadyError} (r : Result T ReadyError) (fault : ReadyError) → IsErrAnd r (λ passed. passed ≡ fault) →
+    IsErrOf r which → fault ≡ which
+passed-fault (Ok x) fault passed is = absurd passed
+passed-fault {T} (Err e) fault passed is = sym passed ∙ same-fault {T = T} e is
 
 -- what answers that the journal is full exactly where it is: a journal has room where it answers otherwise
 module _ {T : Type 0} (r : Result T ReadyError) (limit n : ℕ) (full : IsErrOf r JournalFull ↔ (limit ≤ n)) where

@@ -17,7 +17,7 @@ use Rattle.mb_home.specs.Steps.{most_tells, Begins, FindsNone}
 use Rattle.mb_home.specs.Taken.{TakesOut}
 use Rattle.mb_turn.specs.Hold.{Hold, hold_of}
 use Rattle.mb_turn.specs.Running.{IsRunning}
-use Rattle.mb_turn.proofs.AppliedLemmas.{same-keeps, same-fault, not-full, room-short, room-well, acts-ready, room-ready, keeps-ready, beside-ready}
+use Rattle.mb_turn.proofs.AppliedLemmas.{same-keeps, same-fault, passed-fault, not-full, room-short, room-well, acts-ready, room-ready, keeps-ready, beside-ready}
 use Rattle.mb_turn.proofs.AppliedLemmas.{running-ready, envelopes-fit}
 use Rattle.mb_turn.proofs.BesideLemmas.{keeps-same, keeps-then, same-run-then}
 use Rattle.mb_turn.proofs.CallerLemmas.{further-none}
@@ -158,7 +158,8 @@ returns-in_err-ready-clause-short g c =
     let full = subst (λ (x : Contents). IsErrOf c.ready.result JournalFull ↔ (x.cell.who.limit ≤ length x.cell.journal)) c.deref_mut.ensures.value
     c.ready.ensures.full in
     inl (room-ready (hold_of c.args.claim.now) c.ready.new.self _ _ same
-    (room-short c.ready.result _ _ full (c.in_err-ready.was ∙ ap (λ (f : ReadyError). Err f) (same-fault c.in_err-ready.field-0.0 short)))))
+    (room-short c.ready.result _ _ full (c.in_err-ready.was ∙ ap (λ (f : ReadyError). Err f) (passed-fault c.from_residual.result
+    c.in_err-ready.field-0.0 c.from_residual.ensures.1 short)))))
 
 -- ---- there was
 
