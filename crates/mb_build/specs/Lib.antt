@@ -7,3 +7,4 @@ pub mod Made
 pub mod Behaved
 pub mod Unstarted
 pub mod Housed
+pub mod Planned

@@ -1,93 +1,126 @@
--- Why a whole run is broken off, in the words of the plan.
-use Rattle.std.proofs.Common.{◌≡◌, ◌<◌, ◌≤◌, inl, inr, ℕ, zero, suc, ◌+◌, List, [], ◌∷◌, length, sym, ap, ◌∙◌, subst, Some, arith}
-use Rattle.std.specs.Prelude.{slice_get}
+-- For which faults sending, work and a whole run are broken off.
+use Rattle.std.proofs.Common.{◌≡◌, ◌≤◌, ℕ, List, [], ◌∷◌, ◌<◌, zero, suc, length, refl, subst, sym, ◌∙◌, arith, inl, inr, get_or}
+use Rattle.std.specs.Prelude.{◌≢◌, ◌⊎◌, ⊤, Contains, replicate, Err, IsErrOf, MatchResult, Ok, OnErr, Result, Some}
 use Rattle.std.specs.Global.{Box}
-use Rattle.std.proofs.lemmas.Option.{get_or_from_slice_get, none-some, same_Some, slice_get_within}
-use Rattle.mb_msg.specs.declared.id.ActorId.{ActorId}
+use Rattle.std.proofs.lemmas.List.Elements.{All-cons, All-contains, All-nil, Contains-append_left, Contains-append_right}
 use Rattle.mb_actor.specs.Behaviour.{Moment, Reply}
-use Rattle.mb_journal.specs.Identity.{Identity}
-use Rattle.mb_journal.specs.Lawful.{IsLawful}
-use Rattle.mb_journal.specs.Run.{IsRun}
+use Rattle.mb_journal.specs.Entry.{Entry}
+use Rattle.mb_journal.specs.Run.{Stopped}
 use Rattle.mb_journal.specs.Run.Stopped.{NoRoom}
-use Rattle.mb_journal.specs.declared.strategy.Strategy.{Strategy}
-use Rattle.mb_plan.specs.declared.plan.Plan.{Plan}
-use Rattle.mb_gate.specs.Names.{actors_of, first_of}
+use Rattle.mb_journal.specs.declared.error.ReadyError.{ReadyError}
+use Rattle.mb_journal.specs.declared.error.ReadyError.TheVariants as Ready
+use Rattle.mb_gate.specs.Names.{known_by}
+use Rattle.mb_gate.specs.Untouched.{origin_of}
+use Rattle.mb_gate.specs.View.{View}
+use Rattle.mb_gate.specs.declared.claim.Claim.{Claim}
 use Rattle.mb_gate.specs.declared.gates.Gates.{Gates}
 use Rattle.mb_home.specs.Contents.{Contents}
-use Rattle.mb_home.specs.Roll.{Enrolled}
-use Rattle.mb_build.specs.Identities.{planned_from}
-use Rattle.mb_reckon.proofs.Lists.{mapped-to}
-use Rattle.mb_system.specs.Begun.{IsBegun, actors_in}
-use Rattle.mb_system.specs.Faults.{CameToLimit, IsToNobody}
-use Rattle.mb_system.specs.declared.built.Built.{Built}
+use Rattle.mb_send.specs.declared.unsent.Unsent.{Unsent}
+use Rattle.mb_send.specs.declared.unsent.Unsent.TheVariants as Refusal
+use Rattle.mb_home.specs.Fresh.{IsFreshClaim}
+use Rattle.mb_turn.specs.Ran.{HadRoom, LeavesRun}
+use Rattle.mb_turn.specs.declared.turn.Turn.{Turn}
+use Rattle.mb_dispatch.specs.Beside.{AnyZip}
+use Rattle.mb_dispatch.specs.Faults.{BreaksRun, BreaksWork, CameToLimit, BreaksSending, IsToNobody}
+use Rattle.mb_dispatch.specs.Orders.{repeated}
 use Rattle.mb_system.specs.declared.end.WorkerEnd.{WorkerEnd}
 use Rattle.mb_system.specs.declared.failure.RunError.{RunError}
-use Rattle.mb_system.specs.declared.failure.RunError.TheVariants as Fault
-use Rattle.mb_system.specs.declared.order.Order.{Order}
-use Rattle.mb_system.specs.declared.order.What.{What}
-use Rattle.mb_system.specs.declared.order.What.TheVariants.{Stop, Tell}
-use Rattle.mb_dispatch.specs.Sent.{BreaksOff}
-use Rattle.mb_dispatch.specs.Unended.{HasFullJournal}
-use Rattle.mb_dispatch.specs.Untold.{IsForNobody, MayBreak}
-use Rattle.mb_dispatch.proofs.Rolls.{actors-there, of-plan}
+use Rattle.mb_system.specs.declared.failure.RunError.TheVariants.{JournalFull, NoMemory, NoSuchActor}
+use Rattle.mb_dispatch.specs.declared.job.Job.{Job}
+use Rattle.mb_dispatch.specs.declared.order.Order.{Order}
+use Rattle.mb_dispatch.specs.declared.order.Repeat.{Repeat}
+use Rattle.mb_system.specs.declared.system.System.{System}
+use Rattle.mb_dispatch.proofs.Sides.{one_after, one_before}
 
--- each actor's journal may have as many entries as the plan says
-limit-of : (actors limit : ℕ) (all : List ActorId) (number : ℕ) (parents : List ActorId) (strategies : List Strategy) (place : ℕ) (who : Identity)
-    → slice_get (planned_from actors limit all number parents strategies) place ≡ Some who → who.limit ≡ limit
-limit-of actors limit all number [] [] place who is = absurd (none-some who is)
-limit-of actors limit all number [] (s ∷ strategies) place who is = absurd (none-some who is)
-limit-of actors limit all number (p ∷ parents) [] place who is = absurd (none-some who is)
-limit-of actors limit all number (p ∷ parents) (s ∷ strategies) zero who is = ap (λ (w : Identity). w.limit) (sym (same_Some _ who is))
-limit-of actors limit all number (p ∷ parents) (s ∷ strategies) (suc place) who is =
-    limit-of actors limit all (number + 1) parents strategies place who is
+module _ (gates : Gates (Box Contents)) where
+  -- one order was refused for its receiver
+  pub breaks-one : (order : Order) (fault : RunError) → (fault ≡ NoSuchActor → IsToNobody gates order.to order.what) → fault ≢ JournalFull
+      → BreaksSending gates (order ∷ []) fault
+  breaks-one order NoMemory unknown sending = tt
+  breaks-one order JournalFull unknown sending = sending refl
+  breaks-one order NoSuchActor unknown sending = (order, (0, omega arith, refl), unknown refl)
 
-limit-planned : (plan : Plan) (place : ℕ) (who : Identity) → slice_get (actors_in plan) place ≡ Some who → who.limit ≡ plan.journal_limit
-limit-planned plan zero who is = ap (λ (w : Identity). w.limit) (sym (same_Some _ who is))
-limit-planned plan (suc place) who is = limit-of _ plan.journal_limit _ 1 _ _ place who is
+  -- and it is one of these
+  pub breaks-many : (orders : List Order) (order : Order) (fault : RunError) → Contains orders order → BreaksSending gates (order ∷ []) fault
+      → BreaksSending gates orders fault
+  breaks-many orders order NoMemory there breaks = tt
+  breaks-many orders order JournalFull there breaks = breaks
+  breaks-many orders order NoSuchActor there breaks =
+      let P : Order → Type 0 = λ o. Contains orders o in
+      (breaks.0, All-contains P (order ∷ []) breaks.0 (All-cons P order [] there (All-nil P)) breaks.1, breaks.2)
 
--- what is to nobody by the gates is for none of so many actors
-for-nobody : (gates : Gates (Box Contents)) (many : ℕ) (to : ActorId) (what : What) → actors_of gates ≡ many → IsToNobody gates to what
-    → IsForNobody many to what
-for-nobody gates many to (Tell body) same (inl guardian) = inl guardian
-for-nobody gates many to (Tell body) same (inr beyond) = inr (subst (λ n. n ≤ to.0) same beyond)
-for-nobody gates many to Stop same beyond = subst (λ n. n ≤ to.0) same beyond
+  -- it is sent more than once
+  pub breaks-often : (order : Order) (times : ℕ) (fault : RunError) → 0 < times → BreaksSending gates (order ∷ []) fault
+      → BreaksSending gates (replicate times order) fault
+  breaks-often order zero fault some breaks = absurd (omega (arith, some))
+  breaks-often order (suc n) fault some breaks =
+      breaks-many (replicate (suc n) order) order fault (0, omega arith, refl) breaks
 
-module _ {A K : Type 0} (gives : ℕ → Moment → Reply → Type 0) (plan : Plan) (built : Built A K) (begun : IsBegun gives plan built) where
-  -- the actor whose journal came to its limit is one of the plan
-  pub full-journal : (end : WorkerEnd A K) → CameToLimit gives built.system end → HasFullJournal gives plan
-  full-journal end came =
-      let home = came.claim.home.value in let who = home.cell.who in
-      let own = came.fresh.ours.own in
-      let roll = (first_of built.system.gates).value.roll in
-      let at = ap (λ r. slice_get r who.this.0) (sym own.roll) ∙ own.settled.own.enrolled in
-      let here : slice_get (actors_in plan) who.this.0 ≡ Some who =
-      mapped-to (λ (e : Enrolled). e.who) roll (actors_in plan) who.this.0 _ (of-plan gives plan built begun).who at in record {
-        who = who;
-        planned = (
-          who.this.0,
-          slice_get_within (actors_in plan) who.this.0 who here,
-          get_or_from_slice_get (actors_in plan) who.this.0 who who here,
-        );
-        before = home.cell.journal;
-        lawful = subst (λ n. IsLawful who (gives n) home.cell.journal) (sym own.number) own.settled.lawful;
-        journal = came.journal;
-        run = subst (λ t. IsRun who t home.cell.journal came.journal NoRoom) begun.numbers.2 came.left.run;
-        full = let le = came.full in let limit = limit-planned plan who.this.0 who here in omega (arith, le, limit);
-      }
+  among-repeated : (repeats : List Repeat) (i : ℕ) (d : Repeat) (order : Order) → i < length repeats
+      → Contains (replicate (get_or repeats i d).times (get_or repeats i d).order) order → Contains (repeated repeats) order
+  among-repeated [] i d order lt there = absurd (omega (arith, lt))
+  among-repeated (r ∷ repeats) zero d order lt there = Contains-append_left (replicate r.times r.order) (repeated repeats) order there
+  among-repeated (r ∷ repeats) (suc i) d order lt there =
+      Contains-append_right (replicate r.times r.order) (repeated repeats) order (among-repeated repeats i d order (omega (arith, lt)) there)
 
-  -- for which faults a whole run may be broken off
-  pub may-break : (orders : List (List Order)) (error : RunError) → BreaksOff gives built.system orders error → MayBreak gives plan orders error
-  may-break orders Fault.NoMemory broken = tt
-  may-break orders Fault.JournalFull (inl one) = absurd one.3
-  may-break orders Fault.JournalFull (inr work) = full-journal work.0 work.1
-  may-break orders Fault.NoSuchActor (inl one) = (
-    one.0,
-    one.1,
-    one.2,
-    (
-      one.3.0,
-      one.3.1,
-      for-nobody built.system.gates (length (actors_in plan)) one.3.0.to one.3.0.what (actors-there gives plan built begun) one.3.2,
-    ),
-  )
-  may-break orders Fault.NoSuchActor (inr work) = absurd work.1
+  -- and it is one of those that are sent more than once
+  pub breaks-repeated : (repeats : List Repeat) (i : ℕ) (d : Repeat) (fault : RunError) → i < length repeats
+      → BreaksSending gates (replicate (get_or repeats i d).times (get_or repeats i d).order) fault → BreaksSending gates (repeated repeats) fault
+  breaks-repeated repeats i d NoMemory lt breaks = tt
+  breaks-repeated repeats i d JournalFull lt breaks = breaks
+  breaks-repeated repeats i d NoSuchActor lt breaks = (breaks.0, among-repeated repeats i d breaks.0 lt breaks.1, breaks.2)
+
+-- a tell, or a stop, was refused
+IsOfMemory : {T : Type 0} → Result T Unsent → Type 0
+IsOfMemory (Err Refusal.NoMemory) = ⊤
+IsOfMemory _ = ⊥
+
+pub to-nobody : {T : Type 0} (P Q M : Type 0) (result : Result T Unsent) → OnErr result (P × ((IsErrOf result Refusal.NoSuchActor × Q) ⊎ M))
+    → (M → IsErrOf result Refusal.NoMemory) → result ≡ Err Refusal.NoSuchActor → Q
+unfolding IsOfMemory
+to-nobody {T} P Q M (Ok x) refused memory e = absurd (subst (λ (r : Result T Unsent). OnErr r ⊥) e tt)
+to-nobody P Q M (Err error) (p, inl q) memory e = q.1
+to-nobody P Q M (Err error) (p, inr m) memory e = absurd (subst IsOfMemory (sym (memory m) ∙ e) tt)
+
+module _ {A K : Type 0} (gives : ℕ → Moment → Reply → Type 0) (system : System A K) where
+  pub came-to-limit : (before : View) (end : WorkerEnd A K) (claim : Claim (Box Contents)) → IsFreshClaim gives (Some (origin_of system.gates)) claim
+      → (result : Result Turn ReadyError)
+      → (journal : List Entry) × MatchResult result
+      (λ turn. (stopped : Stopped) × HadRoom stopped
+      × LeavesRun system.throughput claim before (known_by end.waker.pass) journal turn stopped)
+      (λ _. (turn : Turn) × LeavesRun system.throughput claim before (known_by end.waker.pass) journal turn NoRoom
+      × (IsErrOf result Ready.JournalFull → claim.home.value.cell.who.limit ≤ length journal))
+      → result ≡ Err Ready.JournalFull → CameToLimit gives system end
+  came-to-limit before end claim fresh (Ok turn) ran e = absurd (subst (λ (r : Result Turn ReadyError). OnErr r ⊥) e tt)
+  came-to-limit before end claim fresh (Err error) (journal, ran) e = record {
+    claim = claim;
+    fresh = fresh;
+    before = before;
+    journal = journal;
+    turn = ran.0;
+    left = ran.1;
+    full = ran.2 e;
+  }
+
+  -- a run of a mailbox was broken off
+  pub breaks-work : (end : WorkerEnd A K) (fault : RunError) → (fault ≡ JournalFull → CameToLimit gives system end) → fault ≢ NoSuchActor
+      → BreaksWork gives system end fault
+  breaks-work end NoMemory full known = tt
+  breaks-work end JournalFull full known = full refl
+  breaks-work end NoSuchActor full known = known refl
+
+  -- one of the ends was broken off, or one of the jobs
+  pub breaks-by-end : (before ends : List (WorkerEnd A K)) (jobs : List (Job A K)) (fault : RunError)
+      → AnyZip (λ old new. BreaksWork gives system new fault) before ends → BreaksRun gives system ends jobs fault
+  breaks-by-end before ends jobs NoMemory any = tt
+  breaks-by-end before ends jobs JournalFull any =
+      one_after (λ old new. CameToLimit gives system new) (λ new. CameToLimit gives system new) (λ old new is. is) before ends any
+  breaks-by-end before ends jobs NoSuchActor any = absurd (one_after (λ old new. ⊥) (λ new. ⊥) (λ old new is. is) before ends any).2
+
+  pub breaks-by-job : (ends : List (WorkerEnd A K)) (jobs after : List (Job A K)) (fault : RunError)
+      → AnyZip (λ old new. BreaksSending system.gates (repeated old.sends.items) fault) jobs after → BreaksRun gives system ends jobs fault
+  breaks-by-job ends jobs after NoMemory any = tt
+  breaks-by-job ends jobs after JournalFull any = absurd (one_before (λ old new. ⊥) (λ old. ⊥) (λ old new is. is) jobs after any).2
+  breaks-by-job ends jobs after NoSuchActor any =
+      let P : Job A K → Type 0 = λ job. BreaksSending system.gates (repeated job.sends.items) NoSuchActor in
+      one_before (λ old new. P old) P (λ old new is. is) jobs after any

@@ -1,6 +1,6 @@
-pub mod Belonging
-pub mod Refused
-pub mod Sent
-pub mod Story
-pub mod Unended
-pub mod Untold
+pub mod Orders
+pub mod Beside
+pub mod Found
+pub mod Jobs
+pub mod Faults
+pub mod FullJournal

@@ -1,22 +1,22 @@
-//! The dispatcher: systems of actors, those who send to them from outside, and the workers that run their mailboxes
-//! (`akka.actor.ActorSystem`, `akka.dispatch.Dispatcher`).
-//!
-//! A system is built from a plan and the actors themselves, and comes with its workers' ends and its senders. These may go to
-//! threads of their own. At the end all come together, and the report tells what became of each actor and each envelope.
+//! The dispatcher at work: the workers of a system run the mailboxes of its actors, on one thread or each on a thread of its own,
+//! while its senders send what they are to send (`akka.dispatch.Dispatcher`).
 #![tactic(auto)]
 
-mod boxes;
-mod ending;
-mod leaving;
-mod missing;
-mod sending;
+mod beside;
+mod failure;
+mod job;
+mod mailbox;
+mod order;
+mod quiet;
+mod running;
+mod working;
 
-pub use boxes::{WholeError, run_boxed, run_whole};
-pub use ending::{FinishError, finish};
-pub use mb_build::PlanError;
-pub use mb_reckon::Mismatch;
+pub use job::Job;
+pub use mailbox::run_mailbox;
 pub use mb_send::{Look, Put, Ticket, Unsent};
-pub use mb_system::{
-    BuildError, Built, Job, Order, Repeat, RunError, Sender, System, What, WorkerEnd,
-};
+pub use mb_system::{Built, RunError, Sender, System, WorkerEnd};
 pub use mb_turn::Turn;
+pub use order::{Order, Repeat, What, send_all};
+pub use quiet::run_quietly;
+pub use running::run;
+pub use working::work;

@@ -16,12 +16,12 @@ use Rattle.mb_system.specs.declared.built.Built.{Built}
 use Rattle.mb_system.specs.declared.end.WorkerEnd.{WorkerEnd}
 use Rattle.mb_system.specs.declared.sender.Sender.{Sender}
 use Rattle.mb_system.specs.declared.system.System.{System}
-use Rattle.mb_system.proofs.There.{end-at, sender-at}
-use Rattle.mb_system.proofs.Together.{AreSendersOf, again, by_of, end-again, sender-again}
-use Rattle.mb_dispatch.specs.Belonging.{IsBack}
-use Rattle.mb_dispatch.specs.Refused.{IsRefusal}
-use Rattle.mb_dispatch.specs.declared.ending.FinishError.{FinishError}
-use Rattle.mb_dispatch.specs.declared.ending.FinishError.TheVariants.{MissingEnd, MissingSender, NotQuiet, NoMemory, Mismatch}
+use Rattle.mb_dispatch.proofs.There.{end-at, sender-at}
+use Rattle.mb_dispatch.proofs.Together.{AreSendersOf, again, by_of, end-again, sender-again}
+use Rattle.mb_shutdown.specs.Belonging.{IsBack}
+use Rattle.mb_shutdown.specs.Refused.{IsRefusal}
+use Rattle.mb_shutdown.specs.declared.ending.FinishError.{FinishError}
+use Rattle.mb_shutdown.specs.declared.ending.FinishError.TheVariants.{MissingEnd, MissingSender, NotQuiet, NoMemory, Mismatch}
 
 -- an end took a claim
 pub took : {A K : Type 0} (gates : Gates (Box Contents)) (old new : WorkerEnd A K)

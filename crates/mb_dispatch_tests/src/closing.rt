@@ -2,7 +2,8 @@
 ghost use Rattle.mb_system.specs.Belonging.{BelongsTogether};
 
 use crate::company::Company;
-use mb_dispatch::{Built, Mismatch};
+use mb_dispatch::Built;
+use mb_shutdown::Mismatch;
 use mb_trial::{Adding, Player};
 
 /// Why there is no report.

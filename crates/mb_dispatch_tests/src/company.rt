@@ -7,11 +7,12 @@ ghost use Rattle.mb_system.specs.Members.{IsEndOf};
 use crate::closing::{Refusal, Unfinished, come_back};
 use crate::together::begin;
 use mb_dispatch::{
-    Built, FinishError, Look, Put, RunError, Sender, System, Ticket, Turn, Unsent, WorkerEnd,
-    finish,
+    Built, Look, Put, RunError, Sender, System, Ticket, Turn, Unsent, WorkerEnd, run_mailbox,
+    run_quietly, work,
 };
 use mb_msg::{ActorId, Body};
 use mb_report::Report;
+use mb_shutdown::{FinishError, finish};
 use mb_trial::{Adding, Player, Story, plan_of, players_of};
 use std::alloc::{AllocError, Global};
 use std::marker::Model;
@@ -110,7 +111,7 @@ impl Company {
         if self.ends.len() == 0 {
             return None;
         }
-        Some(self.ends[0].run_quietly(rt, &self.system))
+        Some(run_quietly(rt, &self.system, &mut self.ends[0]))
     }
 
     /// Registers an actor: whether its claim went to the pool.
@@ -134,7 +135,7 @@ impl Company {
         if self.ends.len() == 0 {
             return None;
         }
-        Some(self.ends[0].work(rt, &self.system))
+        Some(work(rt, &self.system, &mut self.ends[0]))
     }
 
     /// Tells an actor this body.
@@ -193,7 +194,7 @@ fn run_next<R: Wait>(
     ensures ours { IsEndOf system.now.gates end.new.waker }
 {
     match end.take(rt) {
-        Some(claim) => end.run_mailbox(rt, system, claim).ok(),
+        Some(claim) => run_mailbox(rt, system, end, claim).ok(),
         None => None,
     }
 }

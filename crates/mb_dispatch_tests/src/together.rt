@@ -6,9 +6,11 @@ ghost use Rattle.mb_system.specs.Belonging.{BelongsTogether};
 use crate::orders::each_once;
 use crate::seen::see;
 use mb_actor::{Actor, Behaviours};
-use mb_dispatch::{Built, Job, Sender, System, finish};
+use mb_dispatch::{Built, Job, Sender, run};
+use mb_startup::build;
 use mb_plan::Plan;
 use mb_report::Report;
+use mb_shutdown::finish;
 use mb_trial::{Adding, Player, Sending, Story, plan_and_sends, players_of, sends_at, text_of};
 use std::alloc::{AllocError, Global};
 use std::process::Abort;
@@ -72,7 +74,7 @@ pub fn report_of<A: Actor + Send, K: Behaviours + Send, R: Threads + Wait + Sync
     let mut jobs = jobs_of(alloc, senders, sends)?;
     let workers = ends.as_mut_slice();
     let tasks = jobs.as_mut_slice();
-    let has_run = system.run(rt, workers, tasks).is_ok();
+    let has_run = run(rt, &system, workers, tasks).is_ok();
     let senders = senders_of(alloc, jobs)?;
     let ended = Built {
         system,
@@ -93,7 +95,7 @@ pub fn begin<A: Actor, K: Behaviours, R: Wait>(
     requires behaved { AreBehaved A.content A.after A.gives K.after K.gives 1 actors.items }
     ensures { IfOk result BelongsTogether }
 {
-    match System::<A, K>::build(rt, alloc, plan, actors) {
+    match build::<A, K, R>(rt, alloc, plan, actors) {
         Ok(built) => Ok(built),
         Err(_) => Err(AllocError),
     }

@@ -1,5 +1,5 @@
 //! Plans of which no system is built.
-use mb_dispatch::{BuildError, PlanError, System};
+use mb_startup::{BuildError, PlanError, build};
 use mb_msg::ActorId;
 use mb_plan::Plan;
 use mb_trial::{Adding, COUNTER, Mailbox, PLAIN, Part, Player, Story, plan_of, players_of};
@@ -99,7 +99,7 @@ fn refusal<R: Wait>(
 ) -> Result<Option<PlanError>, AllocError> {
     let plan = plan_of(alloc, story)?;
     let players = players_of(alloc, actors)?;
-    match System::<Player, Adding>::build(rt, alloc, plan, players) {
+    match build::<Player, Adding, R>(rt, alloc, plan, players) {
         Ok(_) => Ok(None),
         Err(BuildError::BadPlan(reason, plan, players)) => {
             if is_plan_of(&plan, story) && players.len() == actors.len() {

@@ -7,3 +7,4 @@ pub mod Roll
 pub mod Settled
 pub mod Steps
 pub mod Taken
+pub mod Fresh

@@ -8,6 +8,7 @@
 mod home;
 mod laws;
 mod named;
+mod place;
 
 pub use home::{Home, Parts};
 pub use laws::{
@@ -15,3 +16,4 @@ pub use laws::{
     what_waits_at_the_end_is_dead,
 };
 pub use named::Named;
+pub use place::Place;

@@ -20,17 +20,17 @@ use Rattle.mb_reckon.specs.Homes.{CameHome}
 use Rattle.mb_reckon.specs.Seen.{GoesOnFromAll}
 use Rattle.mb_reckon.proofs.Lists.{at-place, length-mapped, there, within}
 use Rattle.mb_report.specs.declared.report.Report.{Report}
-use Rattle.mb_dispatch.specs.Refused.{DisagreesIfSaid, IsRefusal}
-use Rattle.mb_dispatch.specs.Story.{IsRollOf}
-use Rattle.mb_dispatch.specs.declared.ending.FinishError.{FinishError}
-use Rattle.mb_dispatch.specs.declared.ending.FinishError.TheVariants as end
-use Rattle.mb_dispatch.proofs.Unended.{does-not-agree, work-left}
-use Rattle.mb_system.specs.Begun.{IsBegun}
-use Rattle.mb_system.specs.Orders.{addressed, said_to, stopped_by}
+use Rattle.mb_build.specs.Planned.{IsRollOf}
+use Rattle.mb_startup.specs.Begun.{IsBegun}
+use Rattle.mb_dispatch.specs.Orders.{addressed, said_to, stopped_by}
 use Rattle.mb_system.specs.declared.built.Built.{Built}
 use Rattle.mb_system.specs.declared.end.WorkerEnd.{WorkerEnd}
 use Rattle.mb_system.specs.declared.sender.Sender.{Sender}
 use Rattle.mb_system.specs.declared.system.System.{System}
+use Rattle.mb_shutdown.specs.Refused.{DisagreesIfSaid, IsRefusal}
+use Rattle.mb_shutdown.specs.declared.ending.FinishError.{FinishError}
+use Rattle.mb_shutdown.specs.declared.ending.FinishError.TheVariants as end
+use Rattle.mb_shutdown.proofs.Unended.{does-not-agree, work-left}
 use Rattle.mb_run.specs.Broken.{IsToldAs, IsUnended}
 use Rattle.mb_run.specs.Faults.{IsFaultOf}
 use Rattle.mb_run.specs.Orders.{orders_of}
@@ -145,9 +145,9 @@ module _ {A K : Type 0} (after : ℕ → List Message → ℤ) (gives : ℕ → 
   fault-unended JournalFull found = absurd found
   fault-unended (NotQuiet id) found = (
     subst (λ n. id.0 < n) (ap (λ (s : System A K). actors_of s.gates) same ∙ actors-planned gives plan first begun) found.within,
-    work-left gives plan first begun built same ready.ends id.0 found.back found.within found.read,
+    work-left plan built of-plan ready.ends id.0 found.back found.within found.read,
   )
-  fault-unended Mismatch found = (found.0, does-not-agree gives plan first begun built same found.0 found.1)
+  fault-unended Mismatch found = (found.0, does-not-agree plan built of-plan gives found.0 (ap (λ (s : System A K). s.senders) same ∙ begun.numbers.1) found.1)
 
   pub all-unended : (result : Result Report RunFault) → IfErr result (IsUnended gives built) → IfErr result (IsFaultOf gives plan)
   all-unended (Ok report) found = found

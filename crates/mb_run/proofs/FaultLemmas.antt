@@ -10,17 +10,17 @@ use Rattle.mb_gate.specs.Names.{actors_of}
 use Rattle.mb_gate.specs.declared.gates.Gates.{Gates}
 use Rattle.mb_home.specs.Contents.{Contents}
 use Rattle.mb_reader.specs.declared.scenario.Sending.{Sending}
-use Rattle.mb_system.specs.Faults.{BreaksRun, BreaksSending, BreaksWork, IsToNobody}
-use Rattle.mb_system.specs.Orders.{repeated}
+use Rattle.mb_dispatch.specs.Orders.{repeated}
 use Rattle.mb_system.specs.declared.end.WorkerEnd.{WorkerEnd}
 use Rattle.mb_system.specs.declared.failure.RunError.{RunError}
 use Rattle.mb_system.specs.declared.failure.RunError.TheVariants as error
-use Rattle.mb_system.specs.declared.job.Job.{Job}
-use Rattle.mb_system.specs.declared.order.Order.{Order}
-use Rattle.mb_system.specs.declared.order.What.{What}
-use Rattle.mb_system.specs.declared.order.What.TheVariants.{Tell, Stop}
+use Rattle.mb_dispatch.specs.declared.order.Order.{Order}
+use Rattle.mb_dispatch.specs.declared.order.What.{What}
+use Rattle.mb_dispatch.specs.declared.order.What.TheVariants.{Tell, Stop}
 use Rattle.mb_system.specs.declared.sender.Sender.{Sender}
 use Rattle.mb_system.specs.declared.system.System.{System}
+use Rattle.mb_dispatch.specs.Faults.{BreaksRun, BreaksSending, BreaksWork, IsToNobody}
+use Rattle.mb_dispatch.specs.declared.job.Job.{Job}
 use Rattle.mb_run.specs.Broken.{IsBrokenOff, IsToldOf}
 use Rattle.mb_run.specs.Given.{AreSendable, IsOrderable, IsReceiver, IsSendable}
 use Rattle.mb_run.specs.Orders.{order_of, orders_of}

@@ -4,11 +4,12 @@ use Rattle.std.specs.Global.{Box}
 use Rattle.std.proofs.lemmas.List.Elements.{All-cons, All-head, All-nil, All-tail}
 use Rattle.mb_gate.specs.declared.gates.Gates.{Gates}
 use Rattle.mb_home.specs.Contents.{Contents}
-use Rattle.mb_system.specs.Members.{AreJobsOf, IsSenderOf}
-use Rattle.mb_system.specs.Orders.{AreDone, repeated}
-use Rattle.mb_system.specs.declared.job.Job.{Job}
-use Rattle.mb_system.specs.declared.order.Order.{Order}
+use Rattle.mb_system.specs.Members.{IsSenderOf}
+use Rattle.mb_dispatch.specs.Orders.{repeated}
+use Rattle.mb_dispatch.specs.declared.order.Order.{Order}
 use Rattle.mb_system.specs.declared.sender.Sender.{Sender}
+use Rattle.mb_dispatch.specs.Jobs.{AreJobsOf, AreDone}
+use Rattle.mb_dispatch.specs.declared.job.Job.{Job}
 use Rattle.mb_run.specs.Senders.{AreJobs, HasSentAll, HaveSentAll}
 use Rattle.mb_run.proofs.SenderLemmas.{all-then}
 

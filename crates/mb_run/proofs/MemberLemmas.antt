@@ -12,10 +12,10 @@ use Rattle.mb_system.specs.Belonging.{BelongsTogether, senders_numbers}
 use Rattle.mb_system.specs.Members.{ends_numbers}
 use Rattle.mb_system.specs.declared.built.Built.{Built}
 use Rattle.mb_system.specs.declared.end.WorkerEnd.{WorkerEnd}
-use Rattle.mb_system.specs.declared.order.Order.{Order}
+use Rattle.mb_dispatch.specs.declared.order.Order.{Order}
 use Rattle.mb_system.specs.declared.sender.Sender.{Sender}
-use Rattle.mb_dispatch.specs.Belonging.{AreThere}
-use Rattle.mb_dispatch.specs.Refused.{IsComplete}
+use Rattle.mb_shutdown.specs.Belonging.{AreThere}
+use Rattle.mb_shutdown.specs.Refused.{IsComplete}
 use Rattle.mb_run.specs.Ready.{IsReady}
 use Rattle.mb_run.specs.Senders.{HaveSentAll}
 use Rattle.mb_run.proofs.SenderLemmas.{all-ours}

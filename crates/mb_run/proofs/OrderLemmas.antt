@@ -7,7 +7,7 @@ use Rattle.std.proofs.lemmas.Grind.{flat_map-append}
 use Rattle.std.proofs.lemmas.List.{append-nil, take_more}
 use Rattle.std.proofs.lemmas.List.Elements.{filter-append}
 use Rattle.mb_reader.specs.declared.scenario.Sending.{Sending}
-use Rattle.mb_system.specs.declared.order.Order.{Order}
+use Rattle.mb_dispatch.specs.declared.order.Order.{Order}
 use Rattle.mb_run.specs.Orders.{order_of, orders_of, sends_by}
 
 -- what one send is to be sent, as often as it says

@@ -7,14 +7,14 @@ use Rattle.mb_queue.specs.Passes.{Sending}
 use Rattle.mb_gate.specs.Names.{actors_of, first_of}
 use Rattle.mb_build.specs.Numbers.{numbers}
 use Rattle.mb_build.proofs.HouseLemmas.{length-who}
-use Rattle.mb_system.specs.Begun.{AreNewSenders, IsBegun}
+use Rattle.mb_reader.specs.declared.scenario.Sending.{Sending as Planned}
+use Rattle.mb_startup.specs.Begun.{AreNewSenders, IsBegun}
 use Rattle.mb_system.specs.declared.built.Built.{Built}
 use Rattle.mb_system.specs.declared.sender.Sender.{Sender}
-use Rattle.mb_system.proofs.Sending.{sent-none}
-use Rattle.mb_reader.specs.declared.scenario.Sending.{Sending as Planned}
-use Rattle.mb_dispatch.specs.Story.{IsRollOf}
-use Rattle.mb_dispatch.proofs.Rolls.{actors-there, of-plan}
-use Rattle.mb_dispatch.proofs.Story.{ends-there, senders-there}
+use Rattle.mb_dispatch.proofs.Sending.{sent-none}
+use Rattle.mb_build.specs.Planned.{IsRollOf}
+use Rattle.mb_startup.proofs.Rolls.{actors-there, of-plan}
+use Rattle.mb_startup.proofs.There.{ends-there, senders-there}
 use Rattle.mb_run.specs.Given.{AreSendable}
 use Rattle.mb_run.specs.Ready.{IsReady}
 use Rattle.mb_run.specs.Senders.{HaveSentAll}

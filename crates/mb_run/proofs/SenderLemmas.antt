@@ -10,10 +10,10 @@ use Rattle.mb_msg.specs.declared.envelope.Body.TheVariants.{User}
 use Rattle.mb_gate.specs.declared.gates.Gates.{Gates}
 use Rattle.mb_home.specs.Contents.{Contents}
 use Rattle.mb_system.specs.Members.{IsSenderOf}
-use Rattle.mb_system.specs.Orders.{HasSent}
-use Rattle.mb_system.specs.declared.order.Order.{Order}
+use Rattle.mb_dispatch.specs.Orders.{HasSent}
+use Rattle.mb_dispatch.specs.declared.order.Order.{Order}
 use Rattle.mb_system.specs.declared.sender.Sender.{Sender}
-use Rattle.mb_system.proofs.Sending.{sent-then}
+use Rattle.mb_dispatch.proofs.Sending.{sent-then}
 use Rattle.mb_reader.specs.declared.scenario.Sending.{Sending as Planned}
 use Rattle.mb_reader.specs.declared.scenario.What.TheVariants.{Envelope}
 use Rattle.mb_run.specs.Orders.{order_of, orders_of}

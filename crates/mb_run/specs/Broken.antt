@@ -1,18 +1,18 @@
 -- Why a system's run was broken off, or it has no end.
 use Rattle.std.specs.Prelude.{◌≡◌, ℕ, ◌<◌}
 use Rattle.mb_actor.specs.Behaviour.{Moment, Reply}
-use Rattle.mb_dispatch.specs.Belonging.{HasRead}
-use Rattle.mb_dispatch.specs.Refused.{DisagreesAtEnd, FindsUnsettled}
-use Rattle.mb_dispatch.specs.declared.ending.FinishError.{FinishError}
-use Rattle.mb_dispatch.specs.declared.ending.FinishError.TheVariants as end
 use Rattle.mb_gate.specs.Names.{actors_of}
 use Rattle.mb_reckon.specs.declared.mismatch.Mismatch.{Mismatch as What}
 use Rattle.mb_system.specs.declared.built.Built.{Built}
-use Rattle.mb_system.specs.Faults.{CameToLimit}
 use Rattle.mb_system.specs.declared.end.WorkerEnd.{WorkerEnd}
 use Rattle.mb_system.specs.declared.failure.RunError.{RunError}
 use Rattle.mb_system.specs.declared.failure.RunError.TheVariants as error
 use Rattle.mb_system.specs.declared.system.System.{System}
+use Rattle.mb_shutdown.specs.Belonging.{HasRead}
+use Rattle.mb_shutdown.specs.Refused.{DisagreesAtEnd, FindsUnsettled}
+use Rattle.mb_shutdown.specs.declared.ending.FinishError.{FinishError}
+use Rattle.mb_shutdown.specs.declared.ending.FinishError.TheVariants as end
+use Rattle.mb_dispatch.specs.Faults.{CameToLimit}
 use Rattle.mb_run.specs.declared.fault.RunFault.{RunFault}
 use Rattle.mb_run.specs.declared.fault.RunFault.TheVariants.{NoMemory, JournalFull, NotQuiet, Mismatch}
 

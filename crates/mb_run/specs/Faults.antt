@@ -3,7 +3,8 @@ use Rattle.std.specs.Prelude.{ℕ, ◌+◌, ◌<◌, length}
 use Rattle.mb_actor.specs.Behaviour.{Moment, Reply}
 use Rattle.mb_plan.specs.declared.plan.Plan.{Plan}
 use Rattle.mb_reckon.specs.declared.mismatch.Mismatch.{Mismatch as What}
-use Rattle.mb_dispatch.specs.Unended.{DoesNotAgree, HasFullJournal, HasWorkLeft}
+use Rattle.mb_shutdown.specs.Unended.{DoesNotAgree, HasWorkLeft}
+use Rattle.mb_dispatch.specs.FullJournal.{HasFullJournal}
 use Rattle.mb_run.specs.declared.fault.RunFault.{RunFault}
 use Rattle.mb_run.specs.declared.fault.RunFault.TheVariants.{NoMemory, JournalFull, NotQuiet, Mismatch}
 

@@ -4,9 +4,9 @@ use Rattle.mb_build.specs.Reasons.{reasons}
 use Rattle.mb_msg.specs.declared.id.ActorId.{ActorId}
 use Rattle.mb_plan.specs.declared.plan.Plan.{Plan}
 use Rattle.mb_reader.specs.declared.scenario.Sending.{Sending}
-use Rattle.mb_system.specs.declared.order.Order.{Order}
-use Rattle.mb_system.specs.declared.order.What.{What}
-use Rattle.mb_system.specs.declared.order.What.TheVariants.{Tell, Stop}
+use Rattle.mb_dispatch.specs.declared.order.Order.{Order}
+use Rattle.mb_dispatch.specs.declared.order.What.{What}
+use Rattle.mb_dispatch.specs.declared.order.What.TheVariants.{Tell, Stop}
 use Rattle.mb_run.specs.Orders.{order_of}
 
 -- the receiver is one of so many actors; an envelope is not for the guardian, which has the number 0

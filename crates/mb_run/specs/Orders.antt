@@ -4,9 +4,9 @@ use Rattle.std.specs.List.{flat_map}
 use Rattle.mb_reader.specs.declared.scenario.Sending.{Sending}
 use Rattle.mb_reader.specs.declared.scenario.What.{What as Said}
 use Rattle.mb_reader.specs.declared.scenario.What.TheVariants as said
-use Rattle.mb_system.specs.declared.order.Order.{Order}
-use Rattle.mb_system.specs.declared.order.What.{What}
-use Rattle.mb_system.specs.declared.order.What.TheVariants.{Tell, Stop}
+use Rattle.mb_dispatch.specs.declared.order.Order.{Order}
+use Rattle.mb_dispatch.specs.declared.order.What.{What}
+use Rattle.mb_dispatch.specs.declared.order.What.TheVariants.{Tell, Stop}
 
 -- an envelope is told, and a stop is none
 abbrev pub what_of : Said → What

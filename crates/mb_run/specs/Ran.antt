@@ -12,8 +12,9 @@ use Rattle.mb_reader.specs.declared.scenario.Sending.{Sending}
 use Rattle.mb_reckon.specs.Seen.{GoesOnFromAll}
 use Rattle.mb_reckon.specs.Whole.{IsWhole}
 use Rattle.mb_report.specs.declared.report.Report.{Report}
-use Rattle.mb_system.specs.Orders.{addressed, said_to, stopped_by, told_by}
-use Rattle.mb_dispatch.specs.Story.{IsOfHomes, IsRollOf}
+use Rattle.mb_dispatch.specs.Orders.{addressed, said_to, stopped_by, told_by}
+use Rattle.mb_build.specs.Planned.{IsRollOf}
+use Rattle.mb_shutdown.specs.Homes.{IsOfHomes}
 use Rattle.mb_run.specs.Orders.{orders_of}
 
 -- what was seen is among all that was, and the report goes on from it

@@ -12,10 +12,10 @@ use Rattle.mb_report.specs.declared.report.Report.{Report}
 use Rattle.mb_system.specs.Members.{AreEndsOf, ends_numbers}
 use Rattle.mb_system.specs.declared.built.Built.{Built}
 use Rattle.mb_system.specs.declared.end.WorkerEnd.{WorkerEnd}
-use Rattle.mb_system.specs.declared.order.Order.{Order}
+use Rattle.mb_dispatch.specs.declared.order.Order.{Order}
 use Rattle.mb_system.specs.declared.sender.Sender.{Sender}
-use Rattle.mb_dispatch.specs.Belonging.{AreAnswers, HasAllSeen}
-use Rattle.mb_dispatch.specs.Refused.{HasComeHome}
+use Rattle.mb_shutdown.specs.Belonging.{AreAnswers, HasAllSeen}
+use Rattle.mb_shutdown.specs.Refused.{HasComeHome}
 use Rattle.mb_run.specs.Senders.{HaveSentAll}
 
 module _ {A K : Type 0} where

@@ -6,10 +6,10 @@ use Rattle.mb_gate.specs.Names.{known_by}
 use Rattle.mb_gate.specs.declared.gates.Gates.{Gates}
 use Rattle.mb_home.specs.Contents.{Contents}
 use Rattle.mb_system.specs.Members.{IsSenderOf}
-use Rattle.mb_system.specs.Orders.{HasSent, repeated}
-use Rattle.mb_system.specs.declared.job.Job.{Job}
-use Rattle.mb_system.specs.declared.order.Order.{Order}
+use Rattle.mb_dispatch.specs.Orders.{HasSent, repeated}
+use Rattle.mb_dispatch.specs.declared.order.Order.{Order}
 use Rattle.mb_system.specs.declared.sender.Sender.{Sender}
+use Rattle.mb_dispatch.specs.declared.job.Job.{Job}
 
 module _ {A K : Type 0} (gates : Gates (Box Contents)) where
   -- the sender of this number, counted from 0, was answered for nothing and had said nothing at first, and sent these since

@@ -2,7 +2,7 @@
 ghost use Rattle.std.specs.Prelude.{◌≡◌, [], IfErr, OnOk, length, replicate};
 ghost use Rattle.mb_gate.specs.Names.{actors_of};
 ghost use Rattle.mb_system.specs.Members.{IsSenderOf};
-ghost use Rattle.mb_system.specs.Orders.{HasSent};
+ghost use Rattle.mb_dispatch.specs.Orders.{HasSent};
 ghost use Rattle.mb_run.specs.Broken.{IsBrokenOff};
 ghost use Rattle.mb_run.specs.Given.{AreSendable, IsOrderable};
 ghost use Rattle.mb_run.specs.Orders.{orders_of};
@@ -13,8 +13,9 @@ ghost use Rattle.mb_run.specs.declared.fault.RunFault.TheVariants.{NoMemory};
 use crate::fault::{RunFault, of_run};
 use crate::orders::order_of;
 use mb_actor::{Actor, Behaviours};
-use mb_dispatch::{Built, Order, Sender, System};
+use mb_dispatch::{Order, run_quietly, send_all};
 use mb_reader::Sending;
+use mb_system::{Built, Sender, System};
 use std::sync::Wait;
 
 /// Sends all, and runs what there is to run.
@@ -30,7 +31,7 @@ pub(crate) fn run_alone<A: Actor, K: Behaviours, R: Wait>(
     ensures fault { IfErr result (IsBrokenOff K.gives built.old.system) }
 {
     send_in_turn(rt, &built.system, &mut built.senders, sends)?;
-    if let Err(error) = built.ends[0].run_quietly(rt, &built.system) {
+    if let Err(error) = run_quietly(rt, &built.system, &mut built.ends[0]) {
         return Err(of_run(error));
     }
     Ok(())
@@ -71,7 +72,7 @@ fn send_often<A: Actor, K: Behaviours, R: Wait>(
     ensures fault { IfErr result (λ fault. fault ≡ NoMemory) }
 {
     for _ in 0..times {
-        if let Err(error) = sender.send_all(rt, system, &[order]) {
+        if let Err(error) = send_all(rt, system, sender, &[order]) {
             return Err(of_run(error));
         }
     }

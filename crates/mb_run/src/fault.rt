@@ -3,8 +3,8 @@ ghost use Rattle.std.specs.Prelude.{◌≡◌, ◌≢◌};
 ghost use Rattle.mb_system.specs.declared.failure.RunError.TheVariants as Fault;
 ghost use Rattle.mb_run.specs.Broken.{IsToldOf};
 
-use mb_dispatch::RunError;
 use mb_msg::ActorId;
+use mb_system::RunError;
 use std::alloc::AllocError;
 
 /// Why a run gave no report.

@@ -1,6 +1,6 @@
 //! What the sends of a scenario are to a sender.
 ghost use Rattle.std.specs.Prelude.{◌≡◌, ◌++◌, [], ◌∷◌, IfOk, OnOk};
-ghost use Rattle.mb_system.specs.Orders.{repeated};
+ghost use Rattle.mb_dispatch.specs.Orders.{repeated};
 ghost use Rattle.mb_run.specs.Orders.{order_of, orders_of};
 
 use mb_dispatch::{Order, Repeat, What};

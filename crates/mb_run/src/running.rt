@@ -3,7 +3,7 @@ ghost use Rattle.std.specs.Prelude.{◌≡◌, ℕ, ◌+◌, IfErr, IfOk, OnOk, 
 ghost use Rattle.mb_build.specs.Behaved.{AreBehaved};
 ghost use Rattle.mb_gate.specs.Names.{actors_of};
 ghost use Rattle.mb_system.specs.Belonging.{BelongsTogether};
-ghost use Rattle.mb_dispatch.specs.Refused.{IsComplete, IsOfWhole};
+ghost use Rattle.mb_shutdown.specs.Refused.{IsComplete, IsOfWhole};
 ghost use Rattle.mb_run.specs.Broken.{IsBrokenOff, IsToldAs, IsUnended};
 ghost use Rattle.mb_run.specs.Faults.{IsFaultOf};
 ghost use Rattle.mb_run.specs.Given.{AreSendable, CanRun};
@@ -15,10 +15,12 @@ use crate::alone::run_alone;
 use crate::fault::RunFault;
 use crate::together::run_together;
 use mb_actor::{Actor, Behaviours};
-use mb_dispatch::{BuildError, Built, FinishError, System, finish};
+use mb_startup::{BuildError, build};
 use mb_plan::Plan;
 use mb_reader::Sending;
 use mb_report::Report;
+use mb_shutdown::{FinishError, finish};
+use mb_system::Built;
 use std::alloc::Global;
 use std::sync::Wait;
 use std::thread::Threads;
@@ -42,7 +44,7 @@ pub fn run<A: Actor + Send, K: Behaviours + Send, R: Threads + Wait + Sync>(
     ensures many { IfOk result (λ report. length report.actors.items ≡ length plan.actors.items + 1) }
     ensures fault { IfErr result (IsFaultOf K.gives plan) }
 {
-    let mut built = match System::<A, K>::build(rt, alloc, plan, actors) {
+    let mut built = match build::<A, K, R>(rt, alloc, plan, actors) {
         Ok(built) => built,
         Err(BuildError::BadPlan(_, _, _)) => unreachable!(),
         Err(BuildError::NoMemory) => return Err(RunFault::NoMemory),

@@ -10,8 +10,9 @@ ghost use Rattle.mb_run.specs.Senders.{AreJobs};
 use crate::fault::{RunFault, of_run};
 use crate::orders::repeats_of;
 use mb_actor::{Actor, Behaviours};
-use mb_dispatch::{Built, Job, Sender};
+use mb_dispatch::{Job, run};
 use mb_reader::Sending;
+use mb_system::{Built, Sender};
 use std::alloc::{AllocError, Global};
 use std::mem;
 use std::sync::Wait;
@@ -32,7 +33,7 @@ pub(crate) fn run_together<A: Actor + Send, K: Behaviours + Send, R: Threads + W
 {
     let senders = mem::replace(&mut built.senders, Vec::new(alloc));
     let mut jobs = jobs_of(alloc, senders, sends)?;
-    if let Err(error) = built.system.run(rt, &mut built.ends, &mut jobs) {
+    if let Err(error) = run(rt, &built.system, &mut built.ends, &mut jobs) {
         return Err(of_run(error));
     }
     let senders = senders_of(alloc, jobs)?;

@@ -1,4 +1,4 @@
--- Ends, senders and jobs may go to other threads where actors and their kind of behaviours may, and threads may share the system then.
+-- Ends and senders may go to other threads where actors and their kind of behaviours may, and threads may share the system then.
 use Prim.Native.Nat.{ℕ}
 use denote.RattleType.{RattleType}
 use mir.Syntax.{Ty}
@@ -26,7 +26,6 @@ use Rattle.mb_ways.specs.contracts.feed_way.FeedWay as feed_way
 use Rattle.mb_ways.proofs.Crossing.{end_way_send, feed_way_send}
 use Rattle.mb_system.proofs.going.Going.TheSendSync as going
 use Rattle.mb_system.specs.contracts.end.WorkerEnd as end
-use Rattle.mb_system.specs.contracts.job.Job as job
 use Rattle.mb_system.specs.contracts.sender.Sender as sender
 use Rattle.mb_system.specs.contracts.system.System as system
 
@@ -66,9 +65,6 @@ module _ (A K : RattleType) (gA : actor.Ghosts A.Denot) (gK : behaviours.Ghosts 
         (feed_way_send (ThePlace A K gA gK) (place_ghosts A K gA gK) place_send),
     tt,
   )
-
-  pub job_send : IsSend (job.the_row A K gA gK)
-  job_send = declared_send (job.the_type A K gA gK) (sender_send, (search (sendable, std_crosses) depth 20, tt))
 
   pub system_sync : IsSync (system.the_row A K gA gK)
   system_sync = declared_sync (system.the_type A K gA gK) (

@@ -2,7 +2,7 @@
 use Rattle.std.proofs.Common.{◌≡◌, ◌≢◌, ◌⊎◌, inl, inr, ℕ, ◌+◌, ◌<◌, ◌≤◌, Bool, true, false, refl, sym, ap, ◌∙◌, subst, arith}
 use Rattle.mb_core.specs.Actor.{nothing}
 use Rattle.mb_gate.specs.View.{owes}
-use Rattle.mb_turn.specs.Caller.{Caller, IsPaid, LeavesCaller}
+use Rattle.mb_wake.specs.Caller.{Caller, IsPaid, LeavesCaller}
 use Rattle.mb_wake.specs.Owed.{is_owed}
 use Rattle.mb_wake.specs.Views.{LooksAmong}
 use Rattle.mb_wake.proofs.Bits.{same_or_other}

@@ -2,9 +2,9 @@
 use Rattle.std.proofs.Common.{◌≡◌, ◌⊎◌, inl, inr, ◌++◌, [], Bool, ℕ, ap, refl, sym, ◌∙◌, Option, Some, None}
 use Rattle.std.specs.Prelude.{IfNone}
 use Rattle.std.proofs.lemmas.List.{append-nil}
-use Rattle.mb_turn.specs.Caller.{Caller, IsPaid, LeavesCaller}
-use Rattle.mb_turn.proofs.CallerLemmas.{account-none, account-then, account-woken}
-use Rattle.mb_turn.proofs.MoveLemmas.{further-moves, moves-does}
+use Rattle.mb_wake.specs.Caller.{Caller, IsPaid, LeavesCaller}
+use Rattle.mb_wake.proofs.CallerLemmas.{account-none, account-then, account-woken}
+use Rattle.mb_wake.proofs.MoveLemmas.{further-moves, moves-does}
 use Rattle.mb_gate.specs.View.{owes}
 use Rattle.mb_wake.specs.Views.{LooksAfter}
 use Rattle.mb_wake.specs.Waking.{IsWoken}

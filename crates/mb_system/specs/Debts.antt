@@ -7,10 +7,11 @@ use Rattle.mb_gate.specs.Names.{actors_of}
 use Rattle.mb_gate.specs.View.{owes}
 use Rattle.mb_gate.specs.declared.gates.Gates.{Gates}
 use Rattle.mb_home.specs.Contents.{Contents}
-use Rattle.mb_turn.specs.Caller.{Caller, IsPaid}
+use Rattle.mb_wake.specs.Caller.{Caller, IsPaid}
 use Rattle.mb_wake.specs.Owed.{is_owed}
 use Rattle.mb_system.specs.Members.{end_caller}
 use Rattle.mb_system.specs.declared.end.WorkerEnd.{WorkerEnd}
+use Rattle.mb_system.specs.declared.sender.Sender.{Sender}
 
 module _ {H : Type 0} (actors : ℕ) where
   -- it owes each of so many actors nothing, or a look
@@ -39,3 +40,7 @@ FirstHasPaid gates (end ∷ ends) = HasPaid (actors_of gates) (end_caller end.wa
 abbrev pub FirstOwesNothing : {A K : Type 0} → Gates (Box Contents) → List (WorkerEnd A K) → Type 0
 FirstOwesNothing gates [] = Unit {0}
 FirstOwesNothing gates (end ∷ ends) = OwesNothing (actors_of gates) (end_caller end.waker)
+
+-- nobody is owed a look by the sender
+abbrev pub OwesNobody : {A K : Type 0} → Gates (Box Contents) → Sender A K → Type 0
+OwesNobody gates s = (id : ℕ) → id < actors_of gates → is_owed s.inner.waker.owed id ≡ false

@@ -2,11 +2,3 @@ pub mod Enrolled
 pub mod Members
 pub mod Debts
 pub mod Belonging
-pub mod Shared
-pub mod Begun
-pub mod Founded
-pub mod Unbuilt
-pub mod Orders
-pub mod Beside
-pub mod Faults
-pub mod Found

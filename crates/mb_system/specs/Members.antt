@@ -2,7 +2,6 @@
 use Rattle.std.specs.Prelude.{◌≡◌, ℕ, ◌+◌, ◌<◌, false, List, All, drop, map, vec_len}
 use Rattle.std.specs.Global.{Box}
 use Rattle.std.specs.List.{AllZip}
-use Rattle.mb_msg.specs.declared.id.SenderId.{SenderId}
 use Rattle.mb_gate.specs.declared.gates.Gates.{Gates}
 use Rattle.mb_gate.specs.Names.{actors_of, first_of, known_by}
 use Rattle.mb_gate.specs.Rule.{IsPart}
@@ -11,14 +10,13 @@ use Rattle.mb_home.specs.Roll.{queues_of}
 use Rattle.mb_pool.specs.Places.{Way, gates_of, looks}
 use Rattle.mb_send.specs.Sends.{receiving_queues}
 use Rattle.mb_send.specs.declared.sender.Sender.{Sender}
-use Rattle.mb_turn.specs.Caller.{Caller, caller_of, IsWakerOf}
+use Rattle.mb_wake.specs.Caller.{Caller, caller_of, IsWakerOf}
 use Rattle.mb_wake.specs.Owed.{is_owed}
 use Rattle.mb_wake.specs.declared.waker.Waker.{Waker}
 use Rattle.mb_ways.specs.Ways.{pushed_first}
 use Rattle.mb_ways.specs.declared.end_way.EndWay.{EndWay}
 use Rattle.mb_ways.specs.declared.feed_way.FeedWay.{FeedWay}
 use Rattle.mb_system.specs.declared.end.WorkerEnd.{WorkerEnd}
-use Rattle.mb_system.specs.declared.job.Job.{Job}
 use Rattle.mb_system.specs.declared.sender.Sender.{Sender as OutsideSender}
 
 -- the end's pass and its way into the pool are of these gates
@@ -45,10 +43,6 @@ module _ {A K : Type 0} where
   abbrev pub ends_numbers : List (WorkerEnd A K) → List ℕ
   ends_numbers = map (λ (e : WorkerEnd A K). e.number)
 
-  -- who the senders of these jobs are
-  abbrev pub jobs_senders : List (Job A K) → List SenderId
-  jobs_senders = map (λ (j : Job A K). j.sender.inner.book.by)
-
   -- the ends of the pool that these ends have, and the feeds that these senders have
   abbrev pub ways_of_ends : List (WorkerEnd A K) → List (Way (Box Contents))
   ways_of_ends = map (λ (e : WorkerEnd A K). e.waker.way.end)
@@ -56,12 +50,9 @@ module _ {A K : Type 0} where
   abbrev pub ways_of_senders : List (OutsideSender A K) → List (Way (Box Contents))
   ways_of_senders = map (λ (s : OutsideSender A K). s.inner.waker.way.feed)
 
-  -- all these ends are of the gates; and so are the senders of these jobs
+  -- all these ends are of the gates
   abbrev pub AreEndsOf : Gates (Box Contents) → List (WorkerEnd A K) → Type 0
   AreEndsOf gates = All (λ (e : WorkerEnd A K). IsEndOf gates e.waker)
-
-  abbrev pub AreJobsOf : Gates (Box Contents) → List (Job A K) → Type 0
-  AreJobsOf gates = All (λ (j : Job A K). IsSenderOf gates j.sender.inner)
 
   -- what each of these ends saw is still among what it sees
   abbrev pub SeeOn : List (WorkerEnd A K) → List (WorkerEnd A K) → Type 0

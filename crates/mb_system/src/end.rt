@@ -1,19 +1,13 @@
 //! A worker's end of a system.
-ghost use Rattle.std.specs.Prelude.{◌≡◌, ◌<◌, ◌≤◌, ℕ, false, true, List, All, IfNone, IfSome, IsErrOf, MatchResult, OnErr, OnOk, Some, length};
+ghost use Rattle.std.specs.Prelude.{◌≡◌, ◌<◌, ℕ, false, true, All, IfNone, IfSome, IsErrOf, MatchResult, OnErr, OnOk};
 ghost use Rattle.mb_core.specs.Actor.{nothing};
-ghost use Rattle.mb_journal.specs.Entry.{Entry};
-ghost use Rattle.mb_journal.specs.Run.{Stopped};
-ghost use Rattle.mb_journal.specs.Run.Stopped.{NoRoom};
-ghost use Rattle.mb_gate.specs.Names.{actors_of, held_actor, known_by};
+ghost use Rattle.mb_gate.specs.Names.{actors_of, known_by};
 ghost use Rattle.mb_gate.specs.Rule.{IsPart};
-ghost use Rattle.mb_gate.specs.Untouched.{origin_of};
 ghost use Rattle.mb_gate.specs.View.{owes};
 ghost use Rattle.mb_pool.specs.Places.{gates_of, looks};
 ghost use Rattle.mb_pool.specs.Moves.{Takes, WasEmpty};
-ghost use Rattle.mb_turn.specs.Caller.{IsPaid, LeavesCaller};
-ghost use Rattle.mb_turn.specs.Fresh.{IsFreshClaim};
-ghost use Rattle.mb_turn.specs.Ran.{HadRoom, LeavesRun};
-ghost use Rattle.mb_turn.specs.declared.turn.Turn.{Turn as TurnType};
+ghost use Rattle.mb_wake.specs.Caller.{IsPaid, LeavesCaller};
+ghost use Rattle.mb_home.specs.Fresh.{IsFreshClaim};
 ghost use Rattle.mb_wake.specs.Owed.{is_owed};
 ghost use Rattle.mb_wake.specs.Views.{LooksAfter};
 ghost use Rattle.mb_wake.specs.Waking.{IsWoken, StopsAt};
@@ -25,9 +19,8 @@ use crate::parting::pass_of;
 use crate::system::System;
 use mb_actor::{Actor, Behaviours};
 use mb_gate::{Claim, Pass};
-use mb_journal::ReadyError;
+use mb_home::Place;
 use mb_msg::ActorId;
-use mb_turn::{Place, Turn, run_mailbox};
 use mb_wake::Waker;
 use mb_ways::EndWay;
 use std::sync::Wait;
@@ -108,34 +101,6 @@ impl<A: Actor, K: Behaviours> WorkerEnd<A, K> {
             × (gates_of self.new.waker.way.end ≡ gates_of self.old.waker.way.end) × (self.new.number ≡ self.old.number) }
     {
         self.waker.way.take(rt)
-    }
-
-    /// Runs the mailbox of the claim's actor (`Mailbox.run`), and gives the claim home; then the actor is given to the pool again
-    /// where it has to be.
-    ///
-    /// It answers `JournalFull` or `NoMemory` if there was no room for the next message, or for an envelope of an actor that ended:
-    /// then the run ends there, and what it did stays done. The claim went home all the same, and the end may be used on.
-    #[inline(always)]
-    pub fn run_mailbox<R: Wait>(
-        &mut self,
-        rt: &R,
-        system: &System<A, K>,
-        claim: Claim<Place<A, K>>,
-    ) -> Result<Turn, ReadyError>
-        requires ours { IsEndOf system.now.gates self.old.waker }
-        requires untouched { IsFreshClaim K.gives (Some (origin_of system.now.gates)) claim }
-        ensures ours { IsEndOf system.now.gates self.new.waker }
-        ensures leaves { LeavesCaller (end_caller self.old.waker) (end_caller self.new.waker) }
-        ensures paid { IsPaid (held_actor claim) (end_caller self.new.waker) }
-        ensures ran { (journal : List Entry) × MatchResult result
-            (λ turn. (stopped : Stopped) × HadRoom stopped
-            × LeavesRun system.now.throughput claim (known_by self.old.waker.pass) (known_by self.new.waker.pass) journal turn stopped)
-            (λ _. (turn : TurnType)
-            × LeavesRun system.now.throughput claim (known_by self.old.waker.pass) (known_by self.new.waker.pass) journal turn NoRoom
-            × (IsErrOf result ReadyError.JournalFull → claim.home.value.cell.who.limit ≤ length journal)) }
-        ensures number { self.new.number ≡ self.old.number }
-    {
-        run_mailbox(rt, &system.gates, &mut self.waker, system.throughput, claim)
     }
 
     /// Looks again after each actor that it owes a look.

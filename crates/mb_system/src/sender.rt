@@ -1,5 +1,5 @@
 //! A sender outside the actors.
-ghost use Rattle.std.specs.Prelude.{◌≡◌, ◌⊎◌, ℕ, ◌<◌, ◌≤◌, true, false, IfOk, IsErrOf, MatchResult, OnErr, OnOk};
+ghost use Rattle.std.specs.Prelude.{◌≡◌, ◌⊎◌, ℕ, ◌<◌, ◌≤◌, true, IfOk, IsErrOf, MatchResult, OnErr, OnOk};
 ghost use Rattle.mb_core.specs.Actor.{nothing};
 ghost use Rattle.mb_gate.specs.Names.{actors_of, known_by};
 ghost use Rattle.mb_gate.specs.Rule.{IsPart};
@@ -10,19 +10,18 @@ ghost use Rattle.mb_send.specs.Faults.{OnlyLooked, SaysTheSame};
 ghost use Rattle.mb_send.specs.declared.unsent.Unsent.TheVariants as Refusal;
 ghost use Rattle.mb_wake.specs.Owed.{is_owed};
 ghost use Rattle.mb_wake.specs.Waking.{StopsAt};
-ghost use Rattle.mb_system.specs.Debts.{KeepsDebts};
+ghost use Rattle.mb_system.specs.Debts.{KeepsDebts, OwesNobody};
 ghost use Rattle.mb_system.specs.Members.{IsSenderOf, sender_caller};
-ghost use Rattle.mb_system.specs.Orders.{OwesNobody};
 
 use crate::failure::{RunError, of_debts};
 use crate::parting::parts_of;
 use crate::system::System;
 use mb_actor::{Actor, Behaviours};
 use mb_gate::Pass;
+use mb_home::Place;
 use mb_msg::{ActorId, Body};
 use mb_queue::SendPass;
 use mb_send::{Book, Look, Put, Ticket, Unsent};
-use mb_turn::Place;
 use mb_ways::FeedWay;
 use std::sync::Wait;
 

@@ -6,8 +6,8 @@ ghost use Rattle.mb_system.specs.Enrolled.{AreKnown};
 use crate::going::Going;
 use mb_actor::{Actor, Behaviours};
 use mb_gate::Gates;
+use mb_home::Place;
 use mb_pool::Pool;
-use mb_turn::Place;
 use std::alloc::Global;
 
 /// A system of actors (`akka.actor.ActorSystem`): what its workers and senders share.

@@ -15,7 +15,7 @@ use Rattle.mb_journal.specs.Identity.{Identity}
 use Rattle.mb_journal.specs.Run.{IsBlock, IsTurns, IsOfEnvelope}
 use Rattle.mb_journal.specs.Run.IsBlock.{no_more, one_more}
 use Rattle.mb_journal.specs.Run.IsTurns.{a_block, a_turn}
-use Rattle.mb_turn.specs.Caller.{IsNoTake, TakesOver}
+use Rattle.mb_wake.specs.Caller.{IsNoTake, TakesOver}
 use Rattle.mb_turn.specs.Dry.{TakesDry}
 use Rattle.mb_turn.specs.Ran.{taken_of}
 

@@ -32,18 +32,18 @@ use Rattle.mb_wake.specs.Views.{LooksAfter}
 use Rattle.mb_wake.proofs.Bits.{same_or_other}
 use Rattle.mb_wake.proofs.Views.{owes-other}
 use Rattle.mb_turn.specs.declared.turn.Turn.{Turn}
-use Rattle.mb_turn.specs.Caller.{Caller, GoesFurther, IsNoTake, IsPaid, LeavesCaller, OwesForRefusals, TakesOver}
+use Rattle.mb_wake.specs.Caller.{Caller, GoesFurther, IsNoTake, IsPaid, LeavesCaller, OwesForRefusals, TakesOver}
 use Rattle.mb_turn.specs.Dry.{TakesDry}
 use Rattle.mb_turn.specs.Emptied.{FindsNoMore, IsCleared}
 use Rattle.mb_turn.specs.Hold.{Hold, hold_of}
 use Rattle.mb_turn.specs.Ran.{AsksInVain, AsksWithRoom, EndsDrained, EndsEmpty, HadRoom, IsTurning, LeavesRun, systems_in, taken_of}
 use Rattle.mb_turn.specs.Running.{IsRunning, IsBeside, SameRun}
-use Rattle.mb_turn.proofs.CallerLemmas.{account-then}
+use Rattle.mb_wake.proofs.CallerLemmas.{account-then}
 use Rattle.mb_turn.proofs.CleanLemmas.{ended-closed}
 use Rattle.mb_turn.proofs.CountLemmas.{begun-since, begun-turns, counted-all, counts-over}
-use Rattle.mb_turn.proofs.MoveLemmas.{looks-take-none}
+use Rattle.mb_wake.proofs.MoveLemmas.{looks-take-none}
 use Rattle.mb_turn.proofs.RestLemmas.{closed-front}
-use Rattle.mb_turn.proofs.SendingLemmas.{looks-send-none, sends-append}
+use Rattle.mb_wake.proofs.SendingLemmas.{looks-send-none, sends-append}
 use Rattle.mb_turn.proofs.RunningMoves.{status-at}
 use Rattle.mb_turn.proofs.ToldLemmas.{told-all}
 

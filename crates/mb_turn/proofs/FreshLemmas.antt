@@ -23,7 +23,7 @@ use Rattle.mb_home.specs.Roll.{Enrolled}
 use Rattle.mb_home.specs.Steps.{IsRested}
 use Rattle.mb_home.proofs.CarryLemmas.{same-word}
 use Rattle.mb_turn.specs.declared.turn.Turn.{Turn}
-use Rattle.mb_turn.specs.Fresh.{IsFreshClaim}
+use Rattle.mb_home.specs.Fresh.{IsFreshClaim}
 use Rattle.mb_turn.specs.Hold.{Hold, hold_of}
 use Rattle.mb_turn.specs.Ran.{IsTurning}
 use Rattle.mb_turn.specs.Running.{IsRunning, IsBeside, IsShutTo}

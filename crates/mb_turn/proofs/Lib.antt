@@ -1,8 +1,6 @@
 pub mod ToldLemmas
 pub mod ShutLemmas
 pub mod LeadLemmas
-pub mod SendingLemmas
-pub mod CallerLemmas
 pub mod HoldLemmas
 pub mod RestLemmas
 pub mod SettledLemmas
@@ -13,7 +11,6 @@ pub mod EmptiedLemmas
 pub mod RunningMoves
 pub mod AnswerLemmas
 pub mod NamedLemmas
-pub mod MoveLemmas
 pub mod SayLemmas
 pub mod TellingLemmas
 pub mod StatusLemmas

@@ -12,7 +12,7 @@ use Rattle.mb_gate.specs.Record.{answered_to, notice}
 use Rattle.mb_gate.specs.Untouched.{Origin}
 use Rattle.mb_gate.specs.View.{Sight, Said}
 use Rattle.mb_home.specs.Contents.{Contents}
-use Rattle.mb_turn.specs.Caller.{Caller, GoesFurther}
+use Rattle.mb_wake.specs.Caller.{Caller, GoesFurther}
 use Rattle.mb_turn.specs.Hold.{Hold, hold_of}
 use Rattle.mb_turn.specs.Notice.{IsAnswered, IsNotified, asker}
 use Rattle.mb_turn.specs.Running.{IsRunning, IsBeside, KeepsJournal}

@@ -4,7 +4,5 @@ pub mod Dry
 pub mod Emptied
 pub mod Running
 pub mod Sending
-pub mod Caller
 pub mod Ran
-pub mod Fresh
 pub mod Notice

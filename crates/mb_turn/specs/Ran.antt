@@ -21,7 +21,7 @@ use Rattle.mb_gate.specs.View.{View, Sight, Saw, Took}
 use Rattle.mb_gate.specs.Waiting.{counted_off}
 use Rattle.mb_home.specs.Contents.{Contents}
 use Rattle.mb_turn.specs.declared.turn.Turn.{Turn}
-use Rattle.mb_turn.specs.Caller.{TakesOver}
+use Rattle.mb_wake.specs.Caller.{TakesOver}
 use Rattle.mb_turn.specs.Dry.{DrainedLast, TakesDry}
 use Rattle.mb_turn.specs.Emptied.{FindsNoMore, IsEmptied}
 use Rattle.mb_turn.specs.Hold.{Hold}

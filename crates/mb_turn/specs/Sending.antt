@@ -1,34 +1,15 @@
 -- How a run sends the envelopes of its tells (`akka.dispatch.Mailbox`: what comes to a closed one is a dead letter; that an envelope is counted at
 -- the gates before it is queued is this project's own profile).
-use Rattle.std.specs.Prelude.{◌≡◌, ◌⊎◌, ℕ, true, false, List, [], ◌∷◌}
+use Rattle.std.specs.Prelude.{◌≡◌, ◌⊎◌, ℕ, true, false, [], ◌∷◌}
 use Rattle.mb_status.specs.Mailbox.{mailbox_of}
 use Rattle.mb_msg.specs.declared.dead_letter.Why.TheVariants.{Closed}
 use Rattle.mb_msg.specs.declared.envelope.Body.{Body}
 use Rattle.mb_msg.specs.declared.id.ActorId.{ActorId}
 use Rattle.mb_lane.specs.declared.refused.PushError.{PushError}
-use Rattle.mb_gate.specs.View.{View, Sight, Read, Sent, Unsent}
+use Rattle.mb_gate.specs.View.{View, Read, Sent, Unsent}
 use Rattle.mb_home.specs.Contents.{Contents}
 use Rattle.mb_home.specs.Steps.{Pushes, Buries, reason_of}
 use Rattle.mb_wake.specs.Views.{Does}
-
--- by what a pass saw and did, the newest first: the last was a reading of this actor's word that showed it open
-pub record ReadOpenLast (actor : ℕ) (log : List Sight) : Type 0 where
-  pub word : ℕ
-  pub not_closed : (mailbox_of word).closed ≡ false
-  pub before : List Sight
-  pub last : log ≡ Read actor word ∷ before
-
--- the last was that an envelope to this actor was counted
-pub record CountedLast (actor : ℕ) (log : List Sight) : Type 0 where
-  pub before : List Sight
-  pub last : log ≡ Sent actor 1 ∷ before
-
--- each envelope was counted right after a reading that showed its receiver open, and once; and each that was taken back, right after that
-abbrev pub SendsOpen : List Sight → Type 0
-SendsOpen [] = Unit {0}
-SendsOpen (Sent a n ∷ log) = (n ≡ 1) × ReadOpenLast a log × SendsOpen log
-SendsOpen (Unsent a n ∷ log) = (n ≡ 1) × CountedLast a log × SendsOpen log
-SendsOpen (_ ∷ log) = SendsOpen log
 
 -- the receiver was read closed, and what is told to it is a dead letter for that reason
 pub record TellsClosed (to : ActorId) (body : Body) (old new : View) (home left : Contents) : Type 0 where

@@ -4,16 +4,16 @@ ghost use Rattle.mb_gate.specs.Names.{known_by, known_of, held_actor, status_of,
 ghost use Rattle.mb_gate.specs.View.{Sight};
 ghost use Rattle.mb_home.specs.AtHome.{given_of};
 ghost use Rattle.mb_gate.specs.Untouched.{origin_of};
-ghost use Rattle.mb_turn.specs.Caller.{IsWakerOf, caller_of, GoesFurther};
+ghost use Rattle.mb_wake.specs.Caller.{IsWakerOf, caller_of, GoesFurther};
 ghost use Rattle.mb_turn.specs.Dry.{WasEnded};
 ghost use Rattle.mb_turn.specs.Emptied.{FindsNoMore};
 ghost use Rattle.mb_turn.specs.Hold.{hold_of};
 ghost use Rattle.mb_turn.specs.Running.{IsRunning, IsBeside, KeepsJournal};
 
-use crate::place::Place;
 use crate::saying::answer;
 use mb_actor::{Actor, Behaviours};
 use mb_gate::{Claim, Gates};
+use mb_home::Place;
 use mb_wake::{Waker, Way};
 use std::alloc::AllocError;
 use std::sync::Wait;

@@ -8,13 +8,11 @@
 mod acts;
 mod clean_up;
 mod envelopes;
-mod place;
 mod run;
 mod saying;
 mod systems;
 mod telling;
 mod turn;
 
-pub use place::Place;
 pub use run::run_mailbox;
 pub use turn::Turn;

@@ -4,15 +4,15 @@ ghost use Rattle.mb_journal.specs.Acts.Act.{Sys};
 ghost use Rattle.mb_gate.specs.Names.{actors_of, known_by};
 ghost use Rattle.mb_gate.specs.Named.{NamesBelow};
 ghost use Rattle.mb_gate.specs.Untouched.{origin_of};
-ghost use Rattle.mb_turn.specs.Caller.{IsWakerOf, caller_of, GoesFurther};
+ghost use Rattle.mb_wake.specs.Caller.{IsWakerOf, caller_of, GoesFurther};
 ghost use Rattle.mb_turn.specs.Emptied.{IsCleared};
 ghost use Rattle.mb_turn.specs.Hold.{hold_of};
 ghost use Rattle.mb_turn.specs.Notice.{IsAnswered, IsNotified, asker};
 ghost use Rattle.mb_turn.specs.Running.{IsRunning, IsBeside, KeepsJournal};
 
-use crate::place::Place;
 use mb_actor::{Actor, Behaviours};
 use mb_gate::{Claim, Gates};
+use mb_home::Place;
 use mb_msg::{ActorId, SysMsg};
 use mb_syslist::{ListClosed, Node};
 use mb_wake::{Waker, Way};

@@ -3,15 +3,15 @@ ghost use Rattle.std.specs.Prelude.{◌≡◌, ◌∷◌};
 ghost use Rattle.mb_journal.specs.Acts.Act.{Tell};
 ghost use Rattle.mb_gate.specs.Names.{known_by};
 ghost use Rattle.mb_gate.specs.Untouched.{origin_of};
-ghost use Rattle.mb_turn.specs.Caller.{IsWakerOf, caller_of, GoesFurther};
+ghost use Rattle.mb_wake.specs.Caller.{IsWakerOf, caller_of, GoesFurther};
 ghost use Rattle.mb_turn.specs.Emptied.{IsCleared};
 ghost use Rattle.mb_turn.specs.Hold.{hold_of};
 ghost use Rattle.mb_turn.specs.Running.{IsRunning, IsBeside, KeepsJournal};
 ghost use Rattle.mb_turn.specs.Sending.{IsSentOrDead};
 
-use crate::place::Place;
 use mb_actor::{Actor, Behaviours};
 use mb_gate::{Claim, Gates};
+use mb_home::Place;
 use mb_msg::{ActorId, Body};
 use mb_wake::{Waker, Way};
 use std::sync::Wait;

@@ -6,3 +6,6 @@ pub mod Debts
 pub mod Bits
 pub mod Pays
 pub mod Crossing
+pub mod SendingLemmas
+pub mod CallerLemmas
+pub mod MoveLemmas

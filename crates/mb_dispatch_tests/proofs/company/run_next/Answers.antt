@@ -1,6 +1,6 @@
 use Rattle.std.proofs.Common.{ℕ, subst}
 use Rattle.mb_actor.specs.Behaviour.{Moment, Reply}
-use Rattle.mb_turn.specs.Fresh.{IsFreshClaim}
+use Rattle.mb_home.specs.Fresh.{IsFreshClaim}
 use Rattle.mb_dispatch_tests.proofs.Kept.{took}
 use Rattle.mb_dispatch_tests.proofs.company.run_next.Goals as goal
 

@@ -1,9 +1,10 @@
 use Rattle.std.proofs.Common.{map, refl, ap, ◌∙◌}
 use Rattle.std.proofs.lemmas.List.Elements.{All-same}
-use Rattle.mb_system.proofs.Together.{ends-back, jobs-back, jobs-ours, run-again, sender_in}
-use Rattle.mb_system.specs.Members.{IsEndOf, IsSenderOf, jobs_senders}
+use Rattle.mb_system.specs.Members.{IsEndOf, IsSenderOf}
 use Rattle.mb_system.specs.declared.end.WorkerEnd.{WorkerEnd}
-use Rattle.mb_system.specs.declared.job.Job.{Job}
+use Rattle.mb_dispatch.proofs.Together.{ends-back, jobs-back, jobs-ours, run-again, sender_in}
+use Rattle.mb_dispatch.specs.Jobs.{jobs_senders}
+use Rattle.mb_dispatch.specs.declared.job.Job.{Job}
 use Rattle.mb_dispatch_tests.proofs.together.report_of.Goals as goal
 
 pub run-requires-clause-ends : goal.run-requires-clause-ends

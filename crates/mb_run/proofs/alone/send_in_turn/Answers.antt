@@ -3,7 +3,7 @@ use Rattle.std.proofs.lemmas.List.{length-set, take_all}
 use Rattle.std.proofs.lemmas.List.Elements.{All-get_or}
 use Rattle.mb_gate.specs.Names.{actors_of}
 use Rattle.mb_system.specs.Members.{IsSenderOf}
-use Rattle.mb_system.specs.Orders.{HasSent}
+use Rattle.mb_dispatch.specs.Orders.{HasSent}
 use Rattle.mb_run.specs.Given.{IsOrderable, IsSendable}
 use Rattle.mb_run.specs.Orders.{orders_of}
 use Rattle.mb_run.specs.Senders.{HaveSentAll}

@@ -1,7 +1,6 @@
 use Rattle.std.proofs.Common.{[], ◌∷◌}
-use Rattle.mb_system.proofs.Sending.{sent-none}
+use Rattle.mb_dispatch.proofs.Sending.{sent-none, sent-again}
 use Rattle.mb_run.proofs.FaultLemmas.{one-for-somebody, told-of-sending}
-use Rattle.mb_system.proofs.Sending.{sent-again}
 use Rattle.mb_run.proofs.alone.send_often.Goals as goal
 
 pub loop-init : goal.loop-init
@@ -10,7 +9,7 @@ loop-init g c = (c.requires.ours, sent-none c.args.sender.now)
 pub loop-preserved : goal.loop-preserved
 loop-preserved g c = (
   c.send_all.ensures.ours,
-  sent-again c.args.order c.loop.counter c.args.sender.now c.loop.sender c.send_all.new.self c.loop.invariant.1 c.in_default.ensures.sent,
+  sent-again c.args.order c.loop.counter c.args.sender.now c.loop.sender c.send_all.new.sender c.loop.invariant.1 c.in_default.ensures.sent,
 )
 
 pub of_run-requires : goal.of_run-requires

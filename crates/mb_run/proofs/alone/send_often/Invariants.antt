@@ -1,6 +1,6 @@
 use Rattle.std.proofs.Common.{replicate}
 use Rattle.mb_system.specs.Members.{IsSenderOf}
-use Rattle.mb_system.specs.Orders.{HasSent}
+use Rattle.mb_dispatch.specs.Orders.{HasSent}
 use Rattle.mb_run.proofs.alone.send_often.Given as goal
 
 abbrev pub invariant-loop : goal.invariant-loop

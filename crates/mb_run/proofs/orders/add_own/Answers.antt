@@ -1,6 +1,6 @@
 use Rattle.std.proofs.Common.{◌∙◌, ◌++◌, ap, sym, replicate}
-use Rattle.mb_system.specs.Orders.{repeated}
-use Rattle.mb_system.proofs.Sending.{repeated-push}
+use Rattle.mb_dispatch.specs.Orders.{repeated}
+use Rattle.mb_dispatch.proofs.Sending.{repeated-push}
 use Rattle.mb_run.proofs.OrderLemmas.{orders-own}
 use Rattle.mb_run.proofs.orders.add_own.Goals as goal
 

@@ -1,6 +1,6 @@
 use Rattle.std.proofs.Common.{◌∙◌, ap}
 use Rattle.std.proofs.lemmas.List.{take_all}
-use Rattle.mb_system.specs.Orders.{repeated}
+use Rattle.mb_dispatch.specs.Orders.{repeated}
 use Rattle.mb_run.specs.Orders.{orders_of}
 use Rattle.mb_run.proofs.OrderLemmas.{orders-step}
 use Rattle.mb_run.proofs.orders.repeats_of.Goals as goal

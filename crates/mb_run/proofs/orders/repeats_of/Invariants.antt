@@ -1,5 +1,5 @@
 use Rattle.std.proofs.Common.{◌≡◌, take}
-use Rattle.mb_system.specs.Orders.{repeated}
+use Rattle.mb_dispatch.specs.Orders.{repeated}
 use Rattle.mb_run.specs.Orders.{orders_of}
 use Rattle.mb_run.proofs.orders.repeats_of.Given as goal
 

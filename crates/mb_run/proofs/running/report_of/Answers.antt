@@ -1,6 +1,6 @@
 use Rattle.std.proofs.Common.{rules}
 use Rattle.mb_gate.specs.Names.{actors_of}
-use Rattle.mb_dispatch.proofs.Wholly.{of-whole}
+use Rattle.mb_shutdown.proofs.Wholly.{of-whole}
 use Rattle.mb_run.proofs.EndLemmas.{unended}
 use Rattle.mb_run.proofs.running.report_of.Goals as goal
 

@@ -1,7 +1,7 @@
 use Rattle.std.proofs.Common.{ap, length, sym, ◌∙◌, subst, arith, IfErr, Result}
 use Rattle.std.proofs.lemmas.Result.{err_from_is_err_and}
 use Rattle.mb_report.specs.declared.report.Report.{Report}
-use Rattle.mb_system.specs.Unbuilt.{IsNoSystem}
+use Rattle.mb_startup.specs.Unbuilt.{IsNoSystem}
 use Rattle.mb_run.specs.Faults.{IsFaultOf}
 use Rattle.mb_run.specs.Orders.{orders_of}
 use Rattle.mb_run.specs.declared.fault.RunFault.{RunFault}

@@ -2,10 +2,10 @@ use Rattle.std.proofs.Common.{◌≡◌, ℕ, ◌∙◌, List, [], ap, length, m
 use Rattle.std.proofs.lemmas.List.{with_items_is}
 use Rattle.mb_gate.specs.Names.{actors_of}
 use Rattle.mb_reckon.proofs.Lists.{length-mapped}
-use Rattle.mb_system.specs.Members.{AreEndsOf, AreJobsOf, ends_numbers}
-use Rattle.mb_system.specs.Orders.{AreDone}
-use Rattle.mb_system.specs.declared.job.Job.{Job}
-use Rattle.mb_system.specs.declared.order.Order.{Order}
+use Rattle.mb_system.specs.Members.{AreEndsOf, ends_numbers}
+use Rattle.mb_dispatch.specs.declared.order.Order.{Order}
+use Rattle.mb_dispatch.specs.Jobs.{AreJobsOf, AreDone}
+use Rattle.mb_dispatch.specs.declared.job.Job.{Job}
 use Rattle.mb_run.specs.Orders.{orders_of}
 use Rattle.mb_run.specs.Senders.{AreJobs, HaveSentAll}
 use Rattle.mb_run.proofs.FaultLemmas.{orderable, run-for-somebody, told-of-run}

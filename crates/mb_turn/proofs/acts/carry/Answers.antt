@@ -9,7 +9,7 @@ use Rattle.mb_gate.specs.Untouched.{origin_of}
 use Rattle.mb_home.specs.Contents.{Contents}
 use Rattle.mb_turn.specs.Hold.{hold_of}
 use Rattle.mb_turn.specs.Running.{IsRunning}
-use Rattle.mb_turn.proofs.CallerLemmas.{further-none}
+use Rattle.mb_wake.proofs.CallerLemmas.{further-none}
 use Rattle.mb_turn.proofs.EmptiedLemmas.{cleared-found, cleared-same, err-always, ok-so}
 use Rattle.mb_turn.proofs.RunningSteps.{running-suspend, suspend-closed}
 use Rattle.mb_turn.proofs.StatusLemmas.{keeps-written, beside-written, running-suspended, running-resumed}

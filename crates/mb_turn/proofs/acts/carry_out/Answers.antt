@@ -10,7 +10,7 @@ use Rattle.mb_turn.specs.Hold.{Hold, hold_of}
 use Rattle.mb_turn.specs.Running.{IsRunning}
 use Rattle.mb_turn.proofs.AppliedLemmas.{ended-either, ended-keeps}
 use Rattle.mb_turn.proofs.BesideLemmas.{keeps-same, keeps-then}
-use Rattle.mb_turn.proofs.CallerLemmas.{further-none, further-then}
+use Rattle.mb_wake.proofs.CallerLemmas.{further-none, further-then}
 use Rattle.mb_turn.proofs.EmptiedLemmas.{and-both, and-one, cleared-same, cleared-then, err-so, ok-so, ok-then}
 use Rattle.mb_turn.proofs.TellingLemmas.{running-own, running-next, beside-next, keeps-next}
 use Rattle.mb_turn.proofs.acts.carry_out.Goals as goal

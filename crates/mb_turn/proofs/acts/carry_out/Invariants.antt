@@ -2,7 +2,7 @@ use Rattle.std.proofs.Common.{◌≡◌, true, false, length}
 use Rattle.mb_journal.specs.Life.{closed}
 use Rattle.mb_gate.specs.Names.{known_by}
 use Rattle.mb_gate.specs.Untouched.{origin_of}
-use Rattle.mb_turn.specs.Caller.{IsWakerOf, caller_of, GoesFurther}
+use Rattle.mb_wake.specs.Caller.{IsWakerOf, caller_of, GoesFurther}
 use Rattle.mb_turn.specs.Emptied.{IsCleared}
 use Rattle.mb_turn.specs.Hold.{hold_of}
 use Rattle.mb_turn.specs.Running.{IsRunning, IsBeside, KeepsJournal}

@@ -14,7 +14,7 @@ use Rattle.mb_turn.specs.Dry.{WasEnded}
 use Rattle.mb_turn.specs.Hold.{hold_of}
 use Rattle.mb_turn.specs.Running.{IsRunning}
 use Rattle.mb_turn.proofs.BesideLemmas.{beside-closed, keeps-then}
-use Rattle.mb_turn.proofs.CallerLemmas.{further-then}
+use Rattle.mb_wake.proofs.CallerLemmas.{further-then}
 use Rattle.mb_turn.proofs.CleanLemmas.{keeps-ended, running-end, was-ended}
 use Rattle.mb_turn.proofs.EmptiedLemmas.{finds-then, ok-so, takes-same, takes-then}
 use Rattle.mb_turn.proofs.RunningSteps.{running-kept}

@@ -16,7 +16,7 @@ use Rattle.mb_home.specs.Settled.{IsSettled}
 use Rattle.mb_turn.specs.Hold.{hold_of}
 use Rattle.mb_turn.specs.Notice.{asker}
 use Rattle.mb_turn.proofs.BesideLemmas.{keeps-same, keeps-then}
-use Rattle.mb_turn.proofs.CallerLemmas.{further-none, further-then}
+use Rattle.mb_wake.proofs.CallerLemmas.{further-none, further-then}
 use Rattle.mb_turn.proofs.CleanLemmas.{given-dropped, running-less, running-within, ended-closed, running-departed}
 use Rattle.mb_turn.proofs.CleanLemmas.{status-answered, known-answered}
 use Rattle.mb_turn.proofs.NamedLemmas.{named-first}

@@ -2,7 +2,7 @@ use Rattle.std.proofs.Common.{◌≡◌, true, length}
 use Rattle.mb_gate.specs.Names.{known_by, known_of, status_of, given_to}
 use Rattle.mb_home.specs.AtHome.{given_of}
 use Rattle.mb_gate.specs.Untouched.{origin_of}
-use Rattle.mb_turn.specs.Caller.{IsWakerOf, caller_of, GoesFurther}
+use Rattle.mb_wake.specs.Caller.{IsWakerOf, caller_of, GoesFurther}
 use Rattle.mb_turn.specs.Hold.{hold_of}
 use Rattle.mb_turn.specs.Running.{IsRunning, KeepsJournal}
 use Rattle.mb_turn.proofs.clean_up.drop_systems.Given as goal

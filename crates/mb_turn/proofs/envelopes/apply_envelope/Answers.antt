@@ -20,7 +20,7 @@ use Rattle.mb_turn.specs.Running.{IsRunning}
 use Rattle.mb_turn.proofs.AppliedLemmas.{same-keeps, same-fault, passed-fault, not-full, room-short, room-well, acts-ready, room-ready, keeps-ready, beside-ready}
 use Rattle.mb_turn.proofs.AppliedLemmas.{running-ready, envelopes-fit}
 use Rattle.mb_turn.proofs.BesideLemmas.{keeps-same, keeps-then, same-run-then}
-use Rattle.mb_turn.proofs.CallerLemmas.{further-none}
+use Rattle.mb_wake.proofs.CallerLemmas.{further-none}
 use Rattle.mb_turn.proofs.CleanLemmas.{hold-one}
 use Rattle.mb_turn.proofs.EmptiedLemmas.{cleared-open, cleared-same, cleared-then, err-at, take-begun, take-none, takes-one, takes-same, takes-then}
 use Rattle.mb_turn.proofs.EnvelopeLemmas.{IsWhy, why-not-open, why-none, is-open, drained-open, drained-home, running-found}

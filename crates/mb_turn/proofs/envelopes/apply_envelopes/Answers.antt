@@ -6,7 +6,7 @@ use Rattle.mb_gate.specs.Untouched.{origin_of}
 use Rattle.mb_turn.specs.declared.turn.Turn.{Turn}
 use Rattle.mb_turn.specs.Hold.{hold_of}
 use Rattle.mb_turn.proofs.BesideLemmas.{keeps-same, same-run-then}
-use Rattle.mb_turn.proofs.CallerLemmas.{further-none, further-then}
+use Rattle.mb_wake.proofs.CallerLemmas.{further-none, further-then}
 use Rattle.mb_turn.proofs.EmptiedLemmas.{cleared-same, cleared-then}
 use Rattle.mb_turn.proofs.EnvelopeLemmas.{IsWhy, reason-why, reason-used}
 use Rattle.mb_turn.proofs.envelopes.apply_envelopes.Goals as goal

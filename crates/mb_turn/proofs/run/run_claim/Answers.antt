@@ -1,7 +1,7 @@
 use Rattle.std.proofs.Common.{◌∙◌, arith}
 use Rattle.mb_turn.specs.Hold.{hold_of}
 use Rattle.mb_turn.proofs.BesideLemmas.{same-run-then}
-use Rattle.mb_turn.proofs.CallerLemmas.{further-then}
+use Rattle.mb_wake.proofs.CallerLemmas.{further-then}
 use Rattle.mb_turn.proofs.EmptiedLemmas.{cleared-then, ok-so}
 use Rattle.mb_turn.proofs.EnvelopeLemmas.{stopped-from}
 use Rattle.mb_turn.proofs.run.run_claim.Goals as goal

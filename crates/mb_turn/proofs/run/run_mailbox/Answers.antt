@@ -8,12 +8,12 @@ use Rattle.mb_journal.specs.Run.Stopped.{NoRoom}
 use Rattle.mb_gate.specs.Names.{known_by, known_of, held_actor, actors_of}
 use Rattle.mb_gate.specs.Untouched.{origin_of}
 use Rattle.mb_wake.specs.Views.{LooksAfter}
-use Rattle.mb_turn.specs.Caller.{IsPaid, caller_of}
+use Rattle.mb_wake.specs.Caller.{IsPaid, caller_of}
 use Rattle.mb_turn.specs.Emptied.{IsCleared}
 use Rattle.mb_turn.specs.Hold.{hold_of}
 use Rattle.mb_turn.specs.Ran.{IsShortOfMemory}
 use Rattle.mb_turn.proofs.AppliedLemmas.{same-fault}
-use Rattle.mb_turn.proofs.CallerLemmas.{account-woken}
+use Rattle.mb_wake.proofs.CallerLemmas.{account-woken}
 use Rattle.mb_turn.proofs.EnvelopeLemmas.{HasStopped}
 use Rattle.mb_turn.proofs.FinishLemmas.{home-own, home-longer, home-fold, home-told, home-rest, saw-journal, steps-taken, leaves-caller, leaves-run}
 use Rattle.mb_turn.proofs.FinishLemmas.{ends-cleared, ends-empty}

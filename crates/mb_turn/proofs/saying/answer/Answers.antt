@@ -2,7 +2,7 @@ use Rattle.std.proofs.Common.{◌<◌, Option, refl, sym, ap, subst, ◌∙◌}
 use Rattle.std.specs.Prelude.{IfSome}
 use Rattle.mb_msg.specs.declared.id.ActorId.{ActorId}
 use Rattle.mb_gate.specs.Names.{actors_of}
-use Rattle.mb_turn.proofs.CallerLemmas.{further-none}
+use Rattle.mb_wake.proofs.CallerLemmas.{further-none}
 use Rattle.mb_turn.proofs.NamedLemmas.{asker-there}
 use Rattle.mb_turn.specs.Notice.{asker, IsAnswered}
 use Rattle.mb_turn.proofs.saying.answer.Goals as goal

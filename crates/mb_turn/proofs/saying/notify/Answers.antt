@@ -3,8 +3,8 @@ use Rattle.std.specs.Prelude.{is_err}
 use Rattle.mb_gate.specs.Named.{NamesBelow}
 use Rattle.mb_gate.specs.Names.{actors_of, known_by}
 use Rattle.mb_wake.proofs.Views.{does-then, does-enlisting}
-use Rattle.mb_turn.proofs.CallerLemmas.{account-woken, further-said}
-use Rattle.mb_turn.proofs.MoveLemmas.{moves-does, further-moves}
+use Rattle.mb_wake.proofs.CallerLemmas.{account-woken, further-said}
+use Rattle.mb_wake.proofs.MoveLemmas.{moves-does, further-moves}
 use Rattle.mb_turn.proofs.SayLemmas.{notified}
 use Rattle.mb_turn.proofs.saying.notify.Goals as goal
 

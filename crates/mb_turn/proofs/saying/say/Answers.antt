@@ -9,10 +9,10 @@ use Rattle.mb_wake.proofs.Views.{does-then, does-enlisting}
 use Rattle.mb_turn.specs.Hold.{hold_of}
 use Rattle.mb_turn.specs.Notice.{asker}
 use Rattle.mb_turn.proofs.BesideLemmas.{keeps-then}
-use Rattle.mb_turn.proofs.CallerLemmas.{account-woken, further-said, further-then}
+use Rattle.mb_wake.proofs.CallerLemmas.{account-woken, further-said, further-then}
 use Rattle.mb_turn.proofs.CleanLemmas.{status-answered}
 use Rattle.mb_turn.proofs.EmptiedLemmas.{cleared-same}
-use Rattle.mb_turn.proofs.MoveLemmas.{moves-does, further-moves}
+use Rattle.mb_wake.proofs.MoveLemmas.{moves-does, further-moves}
 use Rattle.mb_turn.proofs.SayLemmas.{running-goes, running-said, running-refused, keeps-recorded, keeps-answered, beside-said, beside-answered}
 use Rattle.mb_turn.proofs.SayLemmas.{home-answered}
 use Rattle.mb_turn.proofs.saying.say.Goals as goal

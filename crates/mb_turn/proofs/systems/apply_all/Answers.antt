@@ -8,7 +8,7 @@ use Rattle.mb_home.specs.Steps.{HasNext, IsRested}
 use Rattle.mb_turn.specs.Hold.{hold_of}
 use Rattle.mb_turn.proofs.AppliedLemmas.{same-keeps}
 use Rattle.mb_turn.proofs.BesideLemmas.{keeps-same, same-run-then}
-use Rattle.mb_turn.proofs.CallerLemmas.{further-none, further-then}
+use Rattle.mb_wake.proofs.CallerLemmas.{further-none, further-then}
 use Rattle.mb_turn.proofs.EmptiedLemmas.{cleared-same, cleared-then}
 use Rattle.mb_turn.proofs.TurningLemmas.{turning-keeps}
 use Rattle.mb_turn.proofs.systems.apply_all.Goals as goal

@@ -16,7 +16,7 @@ use Rattle.mb_turn.specs.Running.{IsRunning}
 use Rattle.mb_turn.proofs.AppliedLemmas.{passed-fault, same-keeps, not-full, room-short, acts-ready, room-ready, keeps-ready, beside-ready, running-ready}
 use Rattle.mb_turn.proofs.AppliedLemmas.{systems-fit}
 use Rattle.mb_turn.proofs.BesideLemmas.{same-run-then}
-use Rattle.mb_turn.proofs.CallerLemmas.{further-none}
+use Rattle.mb_wake.proofs.CallerLemmas.{further-none}
 use Rattle.mb_turn.proofs.EmptiedLemmas.{cleared-open, cleared-then, err-at, ok-so, takes-same}
 use Rattle.mb_turn.proofs.RunningMoves.{journal-open, running-applied, beside-applied}
 use Rattle.mb_turn.proofs.TurningLemmas.{turning-keeps, turning-applied, same-applied}

@@ -3,7 +3,7 @@ use Rattle.mb_cell.specs.Seen.{Seen}
 use Rattle.mb_gate.specs.Names.{known_by}
 use Rattle.mb_turn.specs.Hold.{hold_of}
 use Rattle.mb_turn.proofs.BesideLemmas.{same-run-then}
-use Rattle.mb_turn.proofs.CallerLemmas.{further-none}
+use Rattle.mb_wake.proofs.CallerLemmas.{further-none}
 use Rattle.mb_turn.proofs.EmptiedLemmas.{cleared-then, ok-so}
 use Rattle.mb_turn.proofs.TurningLemmas.{turning-keeps}
 use Rattle.mb_turn.proofs.systems.apply_systems.Goals as goal

@@ -11,11 +11,11 @@ use Rattle.mb_home.specs.Steps.{Pushes, Buries, reason_of}
 use Rattle.mb_wake.proofs.Views.{looks-none, looks-read, does-then, does-sending, does-unsending}
 use Rattle.mb_turn.specs.Hold.{hold_of}
 use Rattle.mb_turn.specs.Running.{IsRunning}
-use Rattle.mb_turn.proofs.CallerLemmas.{account-none, account-woken}
+use Rattle.mb_wake.proofs.CallerLemmas.{account-none, account-woken}
 use Rattle.mb_turn.proofs.EmptiedLemmas.{cleared-same}
-use Rattle.mb_turn.proofs.MoveLemmas.{moves-does, further-moves}
+use Rattle.mb_wake.proofs.MoveLemmas.{moves-does, further-moves}
 use Rattle.mb_turn.proofs.SayLemmas.{running-goes}
-use Rattle.mb_turn.proofs.SendingLemmas.{does-read, open-word, sends-one, sends-back}
+use Rattle.mb_wake.proofs.SendingLemmas.{does-read, open-word, sends-one, sends-back}
 use Rattle.mb_turn.proofs.TellingLemmas.{running-own, told-below, closed-word, log-closed, paid-closed, keeps-home, beside-cell}
 use Rattle.mb_turn.proofs.TellingLemmas.{running-pushed, running-refused_push, running-told_closed}
 use Rattle.mb_turn.proofs.telling.tell.Goals as goal

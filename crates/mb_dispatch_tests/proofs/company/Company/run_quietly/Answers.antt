@@ -11,4 +11,4 @@ run_quietly-requires g c =
 pub invariant_of-self : goal.invariant_of-self
 invariant_of-self g c =
     let was = c.self.inside in
-    with-end was.system was.ends was.senders _ c.run_quietly.new.self refl c.run_quietly.ensures.ours c.self.invariant
+    with-end was.system was.ends was.senders _ c.run_quietly.new.end refl c.run_quietly.ensures.ours c.self.invariant

@@ -11,4 +11,4 @@ work-requires g c =
 pub invariant_of-self : goal.invariant_of-self
 invariant_of-self g c =
     let was = c.self.inside in
-    with-end was.system was.ends was.senders _ c.work.new.self refl c.work.ensures.ours c.self.invariant
+    with-end was.system was.ends was.senders _ c.work.new.end refl c.work.ensures.ours c.self.invariant

@@ -1,5 +1,5 @@
 use Rattle.std.proofs.Common.{◌≡◌}
-use Rattle.mb_turn.specs.Caller.{LeavesCaller}
+use Rattle.mb_wake.specs.Caller.{LeavesCaller}
 use Rattle.mb_system.specs.Debts.{HasPaid}
 use Rattle.mb_system.specs.Members.{IsEndOf, end_caller}
 use Rattle.mb_system.proofs.end.WorkerEnd.register_all.Given as goal

@@ -1,0 +1,109 @@
+-- What holds of each thing that was done beside others, or of one of them, holds of all, or of one that there is; and of the first of two faults.
+use Rattle.std.proofs.Common.{◌≡◌, suc, List, [], ◌∷◌, length, get_or, map, set, refl, sym, ap, ◌∙◌, subst, arith, inl, inr}
+use Rattle.std.specs.Prelude.{All, Contains, Err, IfErr, MatchResult, Ok, OnOk, Result}
+use Rattle.std.specs.Global.{Box}
+use Rattle.std.specs.List.{AllZip}
+use Rattle.std.proofs.lemmas.List.Elements.{All-cons, All-nil, All-set}
+use Rattle.mb_gate.specs.declared.gates.Gates.{Gates}
+use Rattle.mb_home.specs.Contents.{Contents}
+use Rattle.mb_system.specs.Members.{AreEndsOf, IsEndOf, ends_numbers}
+use Rattle.mb_system.specs.declared.end.WorkerEnd.{WorkerEnd}
+use Rattle.mb_dispatch.specs.Beside.{AnyZip}
+
+module _ {T : Type 0} where
+  pub all_after : (R : T → T → Type 0) (Q : T → Type 0) → ((x y : T) → R x y → Q y) → (xs ys : List T) → AllZip R xs ys → All Q ys
+  all_after R Q f [] [] each = All-nil Q
+  all_after R Q f [] (y ∷ ys) each = absurd each
+  all_after R Q f (x ∷ xs) [] each = absurd each
+  all_after R Q f (x ∷ xs) (y ∷ ys) each = All-cons Q y ys (f x y each.0) (all_after R Q f xs ys each.1)
+
+  pub same_after : {X : Type 0} (R : T → T → Type 0) (of : T → X) → ((x y : T) → R x y → of y ≡ of x) → (xs ys : List T) → AllZip R xs ys
+      → map of ys ≡ map of xs
+  same_after R of f [] [] each = refl
+  same_after R of f [] (y ∷ ys) each = absurd each
+  same_after R of f (x ∷ xs) [] each = absurd each
+  same_after R of f (x ∷ xs) (y ∷ ys) each = λ i. f x y each.0 i ∷ same_after R of f xs ys each.1 i
+
+  pub as_many_after : (R : T → T → Type 0) (xs ys : List T) → AllZip R xs ys → length ys ≡ length xs
+  as_many_after R [] [] each = refl
+  as_many_after R [] (y ∷ ys) each = absurd each
+  as_many_after R (x ∷ xs) [] each = absurd each
+  as_many_after R (x ∷ xs) (y ∷ ys) each = ap suc (as_many_after R xs ys each.1)
+
+  -- one thing after another was done with each
+  pub zip_then : (R S Q : T → T → Type 0) → ((x y z : T) → R x y → S y z → Q x z) → (xs ys zs : List T) → AllZip R xs ys → AllZip S ys zs
+      → AllZip Q xs zs
+  zip_then R S Q f [] [] [] p q = tt
+  zip_then R S Q f [] [] (z ∷ zs) p q = absurd q
+  zip_then R S Q f [] (y ∷ ys) zs p q = absurd p
+  zip_then R S Q f (x ∷ xs) [] zs p q = absurd p
+  zip_then R S Q f (x ∷ xs) (y ∷ ys) [] p q = absurd q
+  zip_then R S Q f (x ∷ xs) (y ∷ ys) (z ∷ zs) p q = (f x y z p.0 q.0, zip_then R S Q f xs ys zs p.1 q.1)
+
+  -- nothing was, or something with the first
+  pub zip_same : (R : T → T → Type 0) → ((x : T) → R x x) → (xs : List T) → AllZip R xs xs
+  zip_same R f [] = tt
+  zip_same R f (x ∷ xs) = (f x, zip_same R f xs)
+
+  pub zip_first : (R : T → T → Type 0) → ((x : T) → R x x) → (xs : List T) (old new : T) → old ≡ get_or xs 0 old → R old new
+      → AllZip R xs (set xs 0 new)
+  zip_first R f [] old new there did = tt
+  zip_first R f (x ∷ xs) old new there did = (subst (λ y. R y new) there did, zip_same R f xs)
+
+  -- another stands first, of which this is the same
+  pub same_first : {X : Type 0} (of : T → X) (xs : List T) (old new : T) → old ≡ get_or xs 0 old → of new ≡ of old → map of (set xs 0 new) ≡ map of xs
+  same_first of [] old new there same = refl
+  same_first of (x ∷ xs) old new there same = λ i. (same ∙ ap of there) i ∷ map of xs
+
+  contains_more : (x y : T) (xs : List T) → Contains xs x → Contains (y ∷ xs) x
+  contains_more x y xs in_rest = (suc in_rest.0, omega (arith, in_rest.1), in_rest.2)
+
+  contains_first : (x : T) (xs : List T) → Contains (x ∷ xs) x
+  contains_first x xs = (0, omega arith, refl)
+
+  pub one_before : (R : T → T → Type 0) (Q : T → Type 0) → ((x y : T) → R x y → Q x) → (xs ys : List T) → AnyZip R xs ys
+      → (x : T) × Contains xs x × Q x
+  one_before R Q f [] ys any = absurd any
+  one_before R Q f (x ∷ xs) [] any = absurd any
+  one_before R Q f (x ∷ xs) (y ∷ ys) (inl here) = (x, contains_first x xs, f x y here)
+  one_before R Q f (x ∷ xs) (y ∷ ys) (inr there) =
+      let one = one_before R Q f xs ys there in (one.0, contains_more one.0 x xs one.1, one.2)
+
+  pub one_after : (R : T → T → Type 0) (Q : T → Type 0) → ((x y : T) → R x y → Q y) → (xs ys : List T) → AnyZip R xs ys
+      → (y : T) × Contains ys y × Q y
+  one_after R Q f [] ys any = absurd any
+  one_after R Q f (x ∷ xs) [] any = absurd any
+  one_after R Q f (x ∷ xs) (y ∷ ys) (inl here) = (y, contains_first y ys, f x y here)
+  one_after R Q f (x ∷ xs) (y ∷ ys) (inr there) =
+      let one = one_after R Q f xs ys there in (one.0, contains_more one.0 y ys one.1, one.2)
+
+-- another end stands first, with the same number
+module _ {A K : Type 0} (gates : Gates (Box Contents)) where
+  pub first_changed : (ends : List (WorkerEnd A K)) (old new : WorkerEnd A K) → old ≡ get_or ends 0 old → AreEndsOf gates ends
+      → IsEndOf gates new.waker → new.number ≡ old.number → AreEndsOf gates (set ends 0 new) × (ends_numbers (set ends 0 new) ≡ ends_numbers ends)
+  first_changed ends old new there all ours same = (
+    All-set (λ (e : WorkerEnd A K). IsEndOf gates e.waker) ends 0 new ours all,
+    same_first (λ (e : WorkerEnd A K). e.number) ends old new there same,
+  )
+
+-- r is the first fault of a and b
+module _ {E : Type 0} where
+  pub on_ok : {P : Type 0} (r : Result (Unit {0}) E) → P → OnOk r P
+  on_ok (Ok x) p = p
+  on_ok (Err e) p = tt
+
+  pub on_ok_and : {T : Type 0} (P Q : Type 0) (r : Result T E) → OnOk r P → OnOk r Q → OnOk r (P × Q)
+  on_ok_and P Q (Ok x) p q = (p, q)
+  on_ok_and P Q (Err e) p q = tt
+
+  pub ok_first : (P : Type 0) (a b r : Result (Unit {0}) E) → MatchResult a (λ _. r ≡ b) (λ _. r ≡ a) → OnOk a P → OnOk r P
+  ok_first P (Ok x) b r is p = on_ok r p
+  ok_first P (Err e) b r is p = subst (λ (q : Result (Unit {0}) E). OnOk q P) (sym is) tt
+
+  pub ok_rest : (P : Type 0) (a b r : Result (Unit {0}) E) → MatchResult a (λ _. r ≡ b) (λ _. r ≡ a) → OnOk b P → OnOk r P
+  ok_rest P (Ok x) b r is p = subst (λ (q : Result (Unit {0}) E). OnOk q P) (sym is) p
+  ok_rest P (Err e) b r is p = subst (λ (q : Result (Unit {0}) E). OnOk q P) (sym is) tt
+
+  pub err_of : (Q : E → Type 0) (a b r : Result (Unit {0}) E) → MatchResult a (λ _. r ≡ b) (λ _. r ≡ a) → IfErr a Q → IfErr b Q → IfErr r Q
+  err_of Q (Ok x) b r is qa qb = subst (λ (q : Result (Unit {0}) E). IfErr q Q) (sym is) qb
+  err_of Q (Err e) b r is qa qb = subst (λ (q : Result (Unit {0}) E). IfErr q Q) (sym is) qa

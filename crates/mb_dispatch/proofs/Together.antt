@@ -1,0 +1,92 @@
+-- All that belongs to a system still does, after something was done with its ends and its senders.
+use Rattle.std.proofs.Common.{◌≡◌, ◌≢◌, ◌+◌, ◌-◌, ◌<◌, ◌≤◌, List, ℕ, Vec, length, map, get_or, set, sym, ap, ◌∙◌, subst}
+use Rattle.std.specs.Prelude.{All, AllPairs}
+use Rattle.std.specs.Global.{Box, Global}
+use Rattle.std.specs.Vec.{with_items}
+use Rattle.std.proofs.Math.Seq.{map-set_same}
+use Rattle.std.proofs.lemmas.List.{with_items_is}
+use Rattle.std.proofs.lemmas.List.Elements.{All-map, All-same, All-set}
+use Rattle.mb_msg.specs.Limits.{most_actors}
+use Rattle.mb_msg.specs.declared.id.SenderId.{SenderId}
+use Rattle.mb_gate.specs.declared.gates.Gates.{Gates}
+use Rattle.mb_home.specs.Contents.{Contents}
+use Rattle.mb_system.specs.Belonging.{BelongsTogether}
+use Rattle.mb_system.specs.Members.{AreEndsOf, IsEndOf, IsSenderOf, ends_numbers}
+use Rattle.mb_dispatch.specs.Jobs.{AreJobsOf, jobs_senders}
+use Rattle.mb_system.specs.declared.built.Built.{Built}
+use Rattle.mb_system.specs.declared.end.WorkerEnd.{WorkerEnd}
+use Rattle.mb_dispatch.specs.declared.job.Job.{Job}
+use Rattle.mb_system.specs.declared.sender.Sender.{Sender}
+use Rattle.mb_system.specs.declared.system.System.{System}
+use Rattle.mb_dispatch.proofs.Alike.{all-alike, as-long, from-looks, look-alike, twice}
+
+module _ {A K : Type 0} where
+  abbrev pub by_of : Sender A K → SenderId
+  by_of s = s.inner.book.by
+
+  abbrev pub sender_in : Job A K → Sender A K
+  sender_in j = j.sender
+
+  abbrev pub AreSendersOf : Gates (Box Contents) → List (Sender A K) → Type 0
+  AreSendersOf gates = All (λ (s : Sender A K). IsSenderOf gates s.inner)
+
+  -- the ends and the senders are of the system still, and those are the same senders
+  pub again : (old new : Built A K) → new.system ≡ old.system → AreEndsOf old.system.gates new.ends.items
+      → AreSendersOf old.system.gates new.senders.items → map by_of new.senders.items ≡ map by_of old.senders.items → BelongsTogether old
+      → BelongsTogether new
+  again old new same ends senders by was = record {
+    ends = subst (λ (s : System A K). AreEndsOf s.gates new.ends.items) (sym same) ends;
+    senders = subst (λ (s : System A K). AreSendersOf s.gates new.senders.items) (sym same) senders;
+    once = subst (AllPairs (λ a b. a ≢ b))
+        (sym (look-alike by_of (λ (b : SenderId). b.0 - most_actors) new.senders.items old.senders.items by)) was.once;
+    numbered = all-alike by_of (λ (b : SenderId). (most_actors ≤ b.0) × (b.0 < most_actors + new.system.senders)) new.senders.items
+        old.senders.items by (subst (λ (s : System A K). All
+        (λ (x : Sender A K). (most_actors ≤ x.inner.book.by.0) × (x.inner.book.by.0 < most_actors + s.senders)) old.senders.items) (sym same)
+        was.numbered);
+  }
+
+  -- the end, or the sender, of this place did something
+  pub end-again : (old new : Built A K) (place : ℕ) (e : WorkerEnd A K) → new.system ≡ old.system → new.senders.items ≡ old.senders.items
+      → new.ends.items ≡ set old.ends.items place e → IsEndOf old.system.gates e.waker → BelongsTogether old → BelongsTogether new
+  end-again old new place e same senders ends ours was =
+      let P = λ (x : WorkerEnd A K). IsEndOf old.system.gates x.waker in
+      let Q = λ (x : Sender A K). IsSenderOf old.system.gates x.inner in
+      again old new same (All-same P new.ends.items (set old.ends.items place e) ends (All-set P old.ends.items place e ours was.ends))
+      (All-same Q new.senders.items old.senders.items senders was.senders) (ap (map by_of) senders) was
+
+  pub sender-again : (old new : Built A K) (place : ℕ) (s s' : Sender A K) → new.system ≡ old.system → new.ends.items ≡ old.ends.items
+      → new.senders.items ≡ set old.senders.items place s' → IsSenderOf old.system.gates s'.inner
+      → s'.inner.book.by ≡ (get_or old.senders.items place s).inner.book.by → BelongsTogether old → BelongsTogether new
+  sender-again old new place s s' same ends senders ours by was =
+      let P = λ (x : WorkerEnd A K). IsEndOf old.system.gates x.waker in
+      let Q = λ (x : Sender A K). IsSenderOf old.system.gates x.inner in
+      again old new same (All-same P new.ends.items old.ends.items ends was.ends)
+      (All-same Q new.senders.items (set old.senders.items place s') senders (All-set Q old.senders.items place s' ours was.senders))
+      (ap (map by_of) senders ∙ map-set_same by_of old.senders.items place s' s by) was
+
+  -- jobs of a system's senders are the system's
+  pub jobs-ours : (built : Built A K) (jobs : List (Job A K)) → map sender_in jobs ≡ built.senders.items → BelongsTogether built
+      → AreJobsOf built.system.gates jobs
+  jobs-ours built jobs are was =
+      from-looks sender_in (λ (s : Sender A K). IsSenderOf built.system.gates s.inner) jobs
+      (subst (AreSendersOf built.system.gates) (sym are) was.senders)
+
+  -- all belongs together after a run, whatever that answered
+  pub run-again : (old new : Built A K) (before after : List (Job A K)) → new.system ≡ old.system → AreEndsOf old.system.gates new.ends.items
+      → map sender_in before ≡ old.senders.items → AreJobsOf old.system.gates after → jobs_senders after ≡ jobs_senders before
+      → new.senders.items ≡ map sender_in after → BelongsTogether old → BelongsTogether new
+  run-again old new before after same ends were ours by are was =
+      let Q = λ (x : Sender A K). IsSenderOf old.system.gates x.inner in
+      again old new same ends (All-same Q new.senders.items (map sender_in after) are (All-map Q sender_in after ours))
+      (ap (map by_of) are ∙ twice sender_in by_of after ∙ by ∙ sym (twice sender_in by_of before) ∙ ap (map by_of) were) was
+
+  -- ends, and jobs, that were lent to a run as a slice come back
+  pub ends-back : (v : Vec (WorkerEnd A K) Global) (lent new : List (WorkerEnd A K)) → lent ≡ v.items → ends_numbers new ≡ ends_numbers lent
+      → (with_items v new).items ≡ new
+  ends-back v lent new is same =
+      with_items_is v new (as-long (λ (e : WorkerEnd A K). e.number) new lent same ∙ ap length is ∙ sym v.ok.0)
+
+  pub jobs-back : (v : Vec (Job A K) Global) (lent new : List (Job A K)) → lent ≡ v.items → jobs_senders new ≡ jobs_senders lent
+      → (with_items v new).items ≡ new
+  jobs-back v lent new is same =
+      with_items_is v new (as-long (λ (j : Job A K). j.sender.inner.book.by) new lent same ∙ ap length is ∙ sym v.ok.0)

@@ -1,0 +1,48 @@
+use Rattle.std.proofs.Common.{◌≡◌, ◌≤◌, ◌∙◌, ℕ, length, subst}
+use Rattle.std.specs.Prelude.{vec_capacity}
+use Rattle.mb_gate.specs.Names.{actors_of, known_by}
+use Rattle.mb_reckon.specs.Rooms.{AreCounted, IsRoom, counted_in}
+use Rattle.mb_shutdown.proofs.Back.{first-ours, ok-at, read-again}
+use Rattle.mb_shutdown.proofs.ending.room_of.Goals as goal
+
+pub make_room-room-requires-clause-ours : goal.make_room-room-requires-clause-ours
+make_room-room-requires-clause-ours g c =
+    first-ours c.args.built.now c.index_mut.result.now c.requires.some c.index_mut.ensures.value c.requires.ours
+
+pub returns-in_default-clause-read : goal.returns-in_default-clause-read
+returns-in_default-clause-read g c =
+    let built = c.args.built.now in let first = c.index_mut.result.now in let pass = c.make_room-room.new.pass in (
+      known_by first.waker.pass,
+      known_by pass,
+      read-again built first pass c.requires.some c.index_mut.ensures.value c.make_room-room.ensures.ours,
+      c.make_room-room.ensures.only,
+    )
+
+pub returns-clause-read : goal.returns-clause-read
+returns-clause-read g c =
+    let built = c.args.built.now in let first = c.index_mut.result.now in let pass = c.make_room-room.new.pass in (
+      known_by first.waker.pass,
+      known_by pass,
+      read-again built first pass c.requires.some c.index_mut.ensures.value c.make_room-room.ensures.ours,
+      c.make_room-room.ensures.only,
+    )
+
+pub returns-clause-room : goal.returns-clause-room
+returns-clause-room g c =
+    let built = c.args.built.now in let actors = actors_of built.system.gates in
+    let many : c.len-senders.result ≡ length built.senders.items = c.len-senders.ensures ∙ built.senders.ok.0 in (
+      subst (λ (n : ℕ). IsRoom actors n c.in-Ok-Ok.room) many
+          (ok-at (IsRoom actors c.len-senders.result) c.make_room-room.result c.in-Ok-Ok.room c.in-Ok-Ok.is-0 c.make_room-room.ensures.room),
+      c.in-Ok-Ok.ensures.items,
+      subst (λ (n : ℕ). n ≤ vec_capacity c.in-Ok-Ok.outside) many c.in-Ok-Ok.ensures.capacity,
+    )
+
+pub returns-clause-waiting : goal.returns-clause-waiting
+returns-clause-waiting g c =
+    let built = c.args.built.now in let first = c.index_mut.result.now in let pass = c.make_room-room.new.pass in (
+      known_by first.waker.pass,
+      known_by pass,
+      read-again built first pass c.requires.some c.index_mut.ensures.value c.make_room-room.ensures.ours,
+      ok-at (λ room. AreCounted (known_by pass).log (counted_in room)) c.make_room-room.result c.in-Ok-Ok.room c.in-Ok-Ok.is-0
+          c.make_room-room.ensures.waiting,
+    )

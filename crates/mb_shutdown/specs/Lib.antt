@@ -1,0 +1,4 @@
+pub mod Belonging
+pub mod Refused
+pub mod Homes
+pub mod Unended

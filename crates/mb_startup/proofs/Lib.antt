@@ -1,0 +1,9 @@
+pub mod Right
+pub mod Known
+pub mod Opened
+pub mod Sharing
+pub mod Founded
+pub mod Owing
+pub mod Led
+pub mod Rolls
+pub mod There

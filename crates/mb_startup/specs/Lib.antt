@@ -1,0 +1,4 @@
+pub mod Shared
+pub mod Begun
+pub mod Founded
+pub mod Unbuilt

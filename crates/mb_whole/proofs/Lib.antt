@@ -1,0 +1,5 @@
+pub mod Sent
+pub mod Chosen
+pub mod Story
+pub mod Untold
+pub mod Breaking

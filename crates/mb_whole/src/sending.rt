@@ -1,0 +1,72 @@
+//! All that is to be sent, and a run of what that leaves to run.
+ghost use Rattle.std.specs.Prelude.{◌≡◌, ◌≢◌, [], All, IfErr, OnOk, length, map};
+ghost use Rattle.mb_system.specs.Belonging.{BelongsTogether};
+ghost use Rattle.mb_dispatch.specs.Faults.{BreaksSending};
+ghost use Rattle.mb_system.specs.Members.{IsSenderOf, SeeOn, ends_numbers};
+ghost use Rattle.mb_whole.specs.Sent.{BreaksOff, BreaksOne, FoundNothing, HasSentAndPaid, HaveSent};
+
+use mb_actor::{Actor, Behaviours};
+use mb_dispatch::{Order, run_quietly, send_all};
+use mb_system::{Built, RunError, Sender, System};
+use std::sync::Wait;
+
+/// Sends by each sender what stands at its place, and runs on this thread what there is to run. Nobody is owed a look then, by
+/// the senders or by the end that ran, and that found the pool empty, where it looks.
+///
+/// It stops at the first fault of a sender, in their order, and then of the run.
+pub(crate) fn send_and_run<A: Actor, K: Behaviours, R: Wait>(
+    rt: &R,
+    built: &mut Built<A, K>,
+    sends: &[Vec<Order>],
+) -> Result<(), RunError>
+    requires together { BelongsTogether built.old }
+    requires some { built.old.ends.items ≢ [] }
+    requires many { length built.old.senders.items ≡ length sends.now }
+    ensures system { built.new.system ≡ built.old.system }
+    ensures together { OnOk result (BelongsTogether built.new) }
+    ensures ends { OnOk result (ends_numbers built.new.ends.items ≡ ends_numbers built.old.ends.items) }
+    ensures sent { OnOk result (HaveSent built.old.system.gates (map (λ orders. orders.items) sends.now) built.old.senders.items
+        built.new.senders.items) }
+    ensures saw { OnOk result (SeeOn built.old.ends.items built.new.ends.items) }
+    ensures quiet { OnOk result (FoundNothing K.gives built.old.system.gates built.new.ends.items) }
+    ensures fault { IfErr result (BreaksOff K.gives built.old.system (map (λ orders. orders.items) sends.now)) }
+{
+    send_each(rt, &built.system, &mut built.senders, sends)?;
+    let _turns = run_quietly(rt, &built.system, &mut built.ends[0])?;
+    Ok(())
+}
+
+// Sends by each of these what stands at its place.
+fn send_each<A: Actor, K: Behaviours, R: Wait>(
+    rt: &R,
+    system: &System<A, K>,
+    senders: &mut [Sender<A, K>],
+    sends: &[Vec<Order>],
+) -> Result<(), RunError>
+    requires ours { All (λ s. IsSenderOf system.now.gates s.inner) senders.old }
+    requires many { length senders.old ≡ length sends.now }
+    ensures ours { All (λ s. IsSenderOf system.now.gates s.inner) senders.new }
+    ensures sent { OnOk result (HaveSent system.now.gates (map (λ orders. orders.items) sends.now) senders.old senders.new) }
+    ensures fault { IfErr result (BreaksOne system.now.gates (map (λ orders. orders.items) sends.now)) }
+{
+    for place in 0..senders.len() {
+        send_and_pay(rt, system, &mut senders[place], &sends[place])?;
+    }
+    Ok(())
+}
+
+// Sends all, and leaves nobody who is owed a look.
+fn send_and_pay<A: Actor, K: Behaviours, R: Wait>(
+    rt: &R,
+    system: &System<A, K>,
+    sender: &mut Sender<A, K>,
+    orders: &[Order],
+) -> Result<(), RunError>
+    requires ours { IsSenderOf system.now.gates sender.old.inner }
+    ensures ours { IsSenderOf system.now.gates sender.new.inner }
+    ensures sent { OnOk result (HasSentAndPaid system.now.gates orders.now sender.old sender.new) }
+    ensures fault { IfErr result (BreaksSending system.now.gates orders.now) }
+{
+    send_all(rt, system, sender, orders)?;
+    sender.pay(rt, system)
+}
