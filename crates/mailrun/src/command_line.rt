@@ -1,6 +1,6 @@
 //! Arguments: there may be none.
-use crate::arguments::argument_count;
 use crate::driven::{COUNT, ran};
+use mb_streams::argument_count;
 use std::env::{Env, FillError};
 
 /// Arguments as a system gives them: bytes, the program's own path first.

@@ -1,7 +1,6 @@
 //! `mailrun`: reads a scenario, runs its actors, and prints the report.
 #![tactic(auto)]
 
-mod arguments;
 #[cfg(test)]
 mod command_line;
 #[cfg(test)]
@@ -13,17 +12,17 @@ mod reports;
 #[cfg(test)]
 mod streams;
 
-use arguments::argument_count;
-use mb_program::{Watched, run_program};
+use mb_program::run_on_streams;
+use mb_streams::argument_count;
 use std::process::ExitCode;
 
 fn main(rt: HostRuntime) -> ExitCode {
-    ExitCode::from(run_program(
+    ExitCode::from(run_on_streams(
         &rt,
         rt.alloc(),
         argument_count(&rt),
-        &mut Watched::new(rt.stdin()),
-        &mut Watched::new(rt.stdout()),
-        &mut Watched::new(rt.stderr()),
+        rt.stdin(),
+        rt.stdout(),
+        rt.stderr(),
     ))
 }

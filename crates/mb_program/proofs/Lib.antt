@@ -1,9 +1,12 @@
 pub mod Actors
-pub mod Checks
+pub mod BrokenLemmas
+pub mod EndLemmas
 pub mod Endings
-pub mod InputLemmas
-pub mod Names
-pub mod Passed
+pub mod FaultLemmas
+pub mod JobLemmas
+pub mod MemberLemmas
+pub mod OrderLemmas
+pub mod PlanLemmas
 pub mod Refusals
 pub mod Runnable
-pub mod WrittenLemmas
+pub mod SenderLemmas

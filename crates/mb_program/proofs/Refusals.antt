@@ -5,9 +5,9 @@ use Rattle.mb_reader.specs.Reading.{Finds, IsReadAs, too_long, in_document}
 use Rattle.mb_reader.specs.declared.fault.Fault.TheVariants.{NoMemory, NotToml, BadScenario}
 use Rattle.mb_format.specs.Place.{Fault as Found}
 use Rattle.mb_program.specs.Answer.{IsRefused}
-use Rattle.mb_program.specs.Failure.{exit_status}
-use Rattle.mb_program.specs.declared.failure.Failure.{Failure}
-use Rattle.mb_program.specs.declared.failure.Failure.TheVariants.{Os, Arguments, JournalFull, NotQuiet, Mismatch, Input}
+use Rattle.mb_streams.specs.Failure.{exit_status}
+use Rattle.mb_streams.specs.declared.failure.Failure.{Failure}
+use Rattle.mb_streams.specs.declared.failure.Failure.TheVariants.{Os, Arguments, JournalFull, NotQuiet, Mismatch, Input}
 
 nothing_found : (text : List ℕ) (scenario : ScenarioData) (found : Found) → IsReadAs text scenario → Finds text found → ⊥
 nothing_found text scenario found read (too_long long is) = let short = read.1.short in omega arith

@@ -26,15 +26,15 @@ use Rattle.mb_reader.specs.declared.scenario.Sending.{Sending}
 use Rattle.mb_reader.specs.declared.scenario.What.{What}
 use Rattle.mb_reader.specs.declared.scenario.What.TheVariants.{Envelope, Stop}
 use Rattle.mb_script.specs.Script.{Scripted}
-use Rattle.mb_run.specs.Given.{AreSendable, CanRun, IsReceiver, IsSendable}
-use Rattle.mb_run.specs.Faults.{IsFaultOf}
-use Rattle.mb_run.specs.Orders.{what_of}
-use Rattle.mb_run.specs.declared.fault.RunFault.{RunFault}
-use Rattle.mb_run.specs.declared.fault.RunFault.TheVariants.{NoMemory, JournalFull, NotQuiet, Mismatch}
+use Rattle.mb_program.specs.Given.{AreSendable, CanRun, IsReceiver, IsSendable}
+use Rattle.mb_program.specs.Faults.{IsFaultOf}
+use Rattle.mb_program.specs.Orders.{what_of}
+use Rattle.mb_streams.specs.declared.fault.RunFault.{RunFault}
+use Rattle.mb_streams.specs.declared.fault.RunFault.TheVariants.{NoMemory, JournalFull, NotQuiet, Mismatch}
 use Rattle.mb_program.specs.Answer.{IsRefused}
-use Rattle.mb_program.specs.Failure.{failure_of_run}
+use Rattle.mb_streams.specs.Failure.{failure_of_run}
 use Rattle.mb_program.specs.Scripts.{gives_at}
-use Rattle.mb_program.proofs.Passed.{AreActorData, IsActorData, IsBoundData, IsPassed, IsReceived, IsSendData, length-items, passed, senders-right}
+use Rattle.mb_reader.proofs.Passed.{AreActorData, IsActorData, IsBoundData, IsPassed, IsReceived, IsSendData, length-items, passed, senders-right}
 
 -- ---- no reason against the plan
 

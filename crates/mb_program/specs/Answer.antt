@@ -1,31 +1,20 @@
 -- What the program makes of its input (this project's own profile).
-use Rattle.std.specs.Prelude.{◌≡◌, ℕ, ◌<◌, ◌≤◌, Bool, true, false, IsTrue, ◌⊎◌, List, length, take, Option, IfSome}
-use Rattle.std.specs.Io.KnownBytes.{Appends, Consumes}
+use Rattle.std.specs.Prelude.{◌≡◌, ℕ, ◌<◌, Bool, false, IsTrue, List, Option}
+use Rattle.std.specs.Io.KnownBytes.{Appends}
 use Rattle.mb_reader.specs.Plans.{ScenarioData}
 use Rattle.mb_reader.specs.Reading.{IsReadAs, Refuses}
 use Rattle.mb_reader.specs.declared.fault.Fault.TheVariants.{NoMemory, NotToml, BadScenario}
 use Rattle.mb_report.specs.Lines.{report_text_of}
 use Rattle.mb_report.specs.declared.report.Report.{Report}
-use Rattle.mb_run.specs.declared.fault.RunFault.{RunFault}
-use Rattle.mb_run.specs.declared.fault.RunFault.TheVariants as run
-use Rattle.mb_program.specs.Failure.{exit_status}
-use Rattle.mb_program.specs.Ran.{EndsIn, IsOfScenario}
-use Rattle.mb_program.specs.Watching.{Watching}
-use Rattle.mb_program.specs.Written.{AppendsBeginning}
-use Rattle.mb_program.specs.declared.failure.Failure.{Failure}
-use Rattle.mb_program.specs.declared.failure.Failure.TheVariants.{Os, Arguments, JournalFull, NotQuiet, Mismatch, Input}
-
--- how many bytes of the input are read at most: one more than a scenario may have
-abbrev pub most_read : ℕ
-most_read = 1048577
-
--- this text was read: where it is known which bytes the reader has, the first of them, as many as are read at most
-abbrev pub IsRead : Option (List ℕ) → List ℕ → Type 0
-IsRead known text = IfSome known (λ input. text ≡ take most_read input)
-
--- the reader lost some of its known bytes, from the front, and no more than are read at most
-abbrev pub TakesAtMost : ℕ → Option (List ℕ) → Option (List ℕ) → Type 0
-TakesAtMost most old new = (taken : List ℕ) × Consumes old new taken × (length taken ≤ most)
+use Rattle.mb_streams.specs.declared.fault.RunFault.{RunFault}
+use Rattle.mb_streams.specs.declared.fault.RunFault.TheVariants as run
+use Rattle.mb_streams.specs.Failure.{exit_status}
+use Rattle.mb_streams.specs.Input.{IsRead}
+use Rattle.mb_streams.specs.Watching.{Watching}
+use Rattle.mb_streams.specs.Written.{AppendsBeginning}
+use Rattle.mb_streams.specs.declared.failure.Failure.{Failure}
+use Rattle.mb_streams.specs.declared.failure.Failure.TheVariants.{Os, Arguments, JournalFull, NotQuiet, Mismatch, Input}
+use Rattle.mb_program.specs.Scenario.{EndsIn, IsOfScenario}
 
 -- these bytes are the text of the report of a run of the scenario
 pub record TellsOfARun (scenario : ScenarioData) (bytes : List ℕ) : Type 0 where
@@ -85,27 +74,3 @@ pub data IsCutShort {W : Type 0} (contents : W → Option (List ℕ)) (known : O
   nothing : new ≡ old → IsCutShort contents known old new
   a_beginning : (report : List ℕ) → IsTrue new.failed → IsAnswer known report →
       AppendsBeginning (contents old.stream) (contents new.stream) report → IsCutShort contents known old new
-
--- the line was said: a beginning of it, and the whole line unless writing it failed
-abbrev pub IsLineSaid : Option (List ℕ) → Option (List ℕ) → Bool → List ℕ → Type 0
-IsLineSaid old new failed line = AppendsBeginning old new line × (failed ≡ false → Appends old new line)
-
--- reading ended in this failure: the reader failed, or memory was refused and it did not
-abbrev pub IsReadFailure : Bool → Bool → Failure → Type 0
-IsReadFailure before after Os = IsTrue after
-IsReadFailure before after Arguments = ⊥
-IsReadFailure before after JournalFull = ⊥
-IsReadFailure before after (NotQuiet id) = ⊥
-IsReadFailure before after Mismatch = ⊥
-IsReadFailure before after (Input NoMemory) = after ≡ before
-IsReadFailure before after (Input NotToml) = ⊥
-IsReadFailure before after (Input (BadScenario place reason)) = ⊥
-
--- what is said where a failure is met: it; or, where no memory was had for its line, that
-abbrev pub IsSaidFor : Failure → Failure → Type 0
-IsSaidFor Os said = said ≡ Os
-IsSaidFor Arguments said = said ≡ Arguments
-IsSaidFor JournalFull said = said ≡ JournalFull
-IsSaidFor (NotQuiet id) said = (said ≡ NotQuiet id) ⊎ (said ≡ Input NoMemory)
-IsSaidFor Mismatch said = said ≡ Mismatch
-IsSaidFor (Input fault) said = (said ≡ Input fault) ⊎ (said ≡ Input NoMemory)

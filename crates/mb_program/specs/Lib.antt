@@ -1,6 +1,10 @@
-pub mod Answer
-pub mod Failure
+pub mod Orders
+pub mod Given
+pub mod Senders
+pub mod Ready
 pub mod Ran
+pub mod Faults
+pub mod Broken
 pub mod Scripts
-pub mod Watching
-pub mod Written
+pub mod Scenario
+pub mod Answer

@@ -1,23 +1,46 @@
--- What stands behind the report of a scenario.
-use Rattle.std.specs.Prelude.{◌≡◌}
+-- What a run comes to.
+use Rattle.std.specs.Prelude.{◌≡◌, ℕ, ℤ, List, All, Some, length, reverse, slice_get}
+use Rattle.mb_actor.specs.Behaviour.{Moment, Reply}
+use Rattle.mb_actor.specs.declared.message.Message.{Message}
+use Rattle.mb_fates.specs.Accepted.{accepted}
+use Rattle.mb_fates.specs.declared.posting.Posting.{Posting}
+use Rattle.mb_gate.specs.Rule.{IsPart}
+use Rattle.mb_gate.specs.View.{Sight, View}
+use Rattle.mb_home.specs.Roll.{Enrolled}
 use Rattle.mb_plan.specs.declared.plan.Plan.{Plan}
-use Rattle.mb_reader.specs.Plans.{ScenarioData}
-use Rattle.mb_reader.specs.View.{plan_data}
+use Rattle.mb_reader.specs.declared.scenario.Sending.{Sending}
+use Rattle.mb_reckon.specs.Seen.{GoesOnFromAll}
+use Rattle.mb_reckon.specs.Whole.{IsWhole}
 use Rattle.mb_report.specs.declared.report.Report.{Report}
-use Rattle.mb_run.specs.Faults.{IsFaultOf}
-use Rattle.mb_run.specs.Ran.{HasRun}
-use Rattle.mb_run.specs.declared.fault.RunFault.{RunFault}
-use Rattle.mb_program.specs.Scripts.{after_at, gives_at}
+use Rattle.mb_dispatch.specs.Orders.{addressed, said_to, stopped_by, told_by}
+use Rattle.mb_build.specs.Planned.{IsRollOf}
+use Rattle.mb_shutdown.specs.Homes.{IsOfHomes}
+use Rattle.mb_program.specs.Orders.{orders_of}
 
--- The report is whole of the actors of the scenario's plan, each of which does what its script says, and of the scenario's senders, each of which
--- sent what the scenario says of it.
-pub record IsOfScenario (scenario : ScenarioData) (report : Report) : Type 0 where
-  pub plan : Plan
-  pub planned : plan_data plan ≡ scenario.plan
-  pub ran : HasRun (after_at scenario.scripts) (gives_at scenario.scripts) plan scenario.sends report
+-- what was seen is among all that was, and the report goes on from it
+abbrev pub IsSeenIn : List Sight → Report → View → Type 0
+IsSeenIn log report view = IsPart view.log log × GoesOnFromAll report view
 
--- a run of the actors of the scenario's plan, each of which does what its script says, came to this fault
-pub record EndsIn (scenario : ScenarioData) (fault : RunFault) : Type 0 where
-  pub plan : Plan
-  pub planned : plan_data plan ≡ scenario.plan
-  pub fault_of : IsFaultOf (gives_at scenario.scripts) plan fault
+-- The sender of this number was answered for the envelopes of all its sends, each as often as it says, in the order of the text and for nothing
+-- else; and it said a Terminate for each of its stops, as often, in that order, and nothing else: what was said stands with the newest first.
+pub record HasSpoken (sends : List Sending) (log : List Sight) (report : Report) (number : ℕ) (postings : List Posting) : Type 0 where
+  pub told : addressed (accepted postings) ≡ told_by (orders_of number sends)
+  pub view : View
+  pub said : said_to view.said ≡ reverse (stopped_by (orders_of number sends))
+  pub among : IsSeenIn log report view
+
+-- The report is whole of the actors of this plan, each of which does what is said of its number, and of senders outside each of whom sent what is
+-- said of it, by what gates with this roll left; and it goes on from all that these, and the workers' ends, saw.
+pub record HasRun (after : ℕ → List Message → ℤ) (gives : ℕ → Moment → Reply → Type 0) (plan : Plan) (sends : List Sending) (report : Report)
+    : Type 0 where
+  pub roll : List Enrolled
+  pub planned : IsRollOf plan roll
+  pub log : List Sight
+  pub outside : List (List Posting)
+  pub many : length outside ≡ plan.senders
+  pub whole : IsWhole after gives roll log outside report
+  pub homes : IsOfHomes gives roll report
+  pub sent : (number : ℕ) (postings : List Posting) → slice_get outside number ≡ Some postings → HasSpoken sends log report number postings
+  pub ends : List View
+  pub all_ends : length ends ≡ plan.workers
+  pub seen : All (IsSeenIn log report) ends

@@ -1,11 +1,12 @@
+//! What the program answers to a text.
 ghost use Rattle.std.specs.Prelude.{IfErr, IfOk, string_bytes};
 ghost use Rattle.mb_program.specs.Answer.{IsReport, IsRefused};
 
-use crate::failure::Failure;
+use crate::running::run;
 use mb_reader::{Scenario, read};
 use mb_report::report_text;
-use mb_run::run;
 use mb_script::Script;
+use mb_streams::Failure;
 use std::alloc::Global;
 use std::marker::Brand;
 use std::sync::Wait;

@@ -1,17 +1,14 @@
+//! From the bytes of its input to those of its output.
 ghost use Rattle.std.specs.Prelude.{◌≡◌, ◌≢◌, ◌<◌, ◌≤◌, ◌||◌, false, IfSome, IfOk, IfErr, take, string_bytes};
-ghost use Rattle.mb_program.specs.Answer.{most_read, HasReported, IsAnswer, IsAtFault, IsCutShort, IsLineSaid, IsMet, IsSaidFor, TakesAtMost};
-ghost use Rattle.mb_program.specs.Failure.{error_line, exit_status};
-ghost use Rattle.mb_program.specs.declared.failure.Failure.{Failure};
-ghost use Rattle.mb_program.specs.declared.failure.Failure.TheVariants.{Input};
-ghost use Rattle.mb_reader.specs.declared.fault.Fault.TheVariants.{NoMemory};
+ghost use Rattle.mb_streams.specs.Failure.{error_line, exit_status};
+ghost use Rattle.mb_streams.specs.Input.{most_read, TakesAtMost};
+ghost use Rattle.mb_streams.specs.Saying.{IsLineSaid};
+ghost use Rattle.mb_streams.specs.declared.failure.Failure.{Failure};
+ghost use Rattle.mb_program.specs.Answer.{HasReported, IsAnswer, IsAtFault, IsCutShort, IsMet};
 
 use crate::answer::answer;
-use crate::failure::Failure;
-use crate::input::read_input;
-use crate::watched::Watched;
-use mb_msg::ActorId;
-use mb_reader::Fault;
-use std::alloc::{AllocError, Global};
+use mb_streams::{Failure, Watched, hand_out, read_input};
+use std::alloc::Global;
 use std::io::{Read, Write};
 use std::sync::Wait;
 use std::thread::Threads;
@@ -52,9 +49,31 @@ pub fn run_program<T: Threads + Wait + Sync, R: Read, W: Write, E: Write>(
         × IsLineSaid (E.contents errors.old.stream) (E.contents errors.new.stream) errors.new.failed (error_line failure) }
 {
     if arguments > 0 {
-        return refuse(alloc, errors, &Failure::Arguments);
+        return hand_out(alloc, writer, errors, &Err(Failure::Arguments));
     }
     drive(rt, alloc, reader, writer, errors)
+}
+
+/// The same on streams of which no call was made yet.
+pub fn run_on_streams<T: Threads + Wait + Sync, R: Read + Drop, W: Write + Drop, E: Write + Drop>(
+    rt: &T,
+    alloc: Global,
+    arguments: usize,
+    reader: R,
+    writer: W,
+    errors: E,
+) -> u8
+    ensures status { result ≤ 2 }
+    ensures refused { 0 < arguments → result ≡ 2 }
+{
+    run_program(
+        rt,
+        alloc,
+        arguments,
+        &mut Watched::new(reader),
+        &mut Watched::new(writer),
+        &mut Watched::new(errors),
+    )
 }
 
 /// Reads a scenario, runs it, and writes its report. The answer is the exit status: 0 with the report written, 2 where
@@ -91,13 +110,8 @@ pub fn drive<T: Threads + Wait + Sync, R: Read, W: Write, E: Write>(
     ensures silent { IfSome (R.remaining reader.old.stream) (λ input. (failure : Failure) → IsAtFault (take most_read input) failure →
         writer.new ≡ writer.old) }
 {
-    match answer_to(rt, alloc, reader) {
-        Ok(report) => match writer.send(report.as_bytes()) {
-            Ok(()) => 0,
-            Err(_) => refuse(alloc, errors, &Failure::Os),
-        },
-        Err(failure) => refuse(alloc, errors, &failure),
-    }
+    let report = answer_to(rt, alloc, reader);
+    hand_out(alloc, writer, errors, &report)
 }
 
 /// The report of the scenario that the reader gives.
@@ -113,70 +127,4 @@ fn answer_to<T: Threads + Wait + Sync, R: Read>(
 {
     let text = read_input(alloc, reader)?;
     Ok(answer(rt, alloc, &text)?)
-}
-
-/// Says why there is no report, as far as that can be written, and answers the exit status. Where there is no memory for
-/// the line, that is the failure.
-fn refuse<E: Write>(alloc: Global, errors: &mut Watched<E>, failure: &Failure) -> u8
-    requires errors { errors.old.failed ≡ false }
-    ensures { (said : Failure) × IsSaidFor failure.now said × (result ≡ exit_status said)
-        × IsLineSaid (E.contents errors.old.stream) (E.contents errors.new.stream) errors.new.failed (error_line said) }
-{
-    match failure {
-        Failure::Os => say(errors, failure, "mailrun: 2 Os\n"),
-        Failure::Arguments => say(
-            errors,
-            failure,
-            "mailrun: 12 BadScenario arguments: too many\n",
-        ),
-        Failure::JournalFull => say(errors, failure, "mailrun: 6 JournalFull\n"),
-        Failure::Mismatch => say(errors, failure, "mailrun: 10 Mismatch\n"),
-        Failure::NotQuiet(id) => match not_quiet_line(alloc, *id) {
-            Ok(line) => say(errors, failure, line.as_str()),
-            Err(_) => say_no_memory(errors),
-        },
-        Failure::Input(fault) => match fault_line(alloc, fault) {
-            Ok(line) => say(errors, failure, line.as_str()),
-            Err(_) => say_no_memory(errors),
-        },
-    }
-}
-
-/// The line of an actor that has something to run still.
-fn not_quiet_line(alloc: Global, id: ActorId) -> Result<String, AllocError>
-    ensures { IfOk result (λ line. string_bytes line ≡ error_line (Failure.NotQuiet id)) }
-{
-    let number = id.0;
-    format!(in alloc; "mailrun: 9 NotQuiet {number}\n")
-}
-
-/// The line of a fault of the input.
-fn fault_line(alloc: Global, fault: &Fault) -> Result<String, AllocError>
-    ensures { IfOk result (λ line. string_bytes line ≡ error_line (Failure.Input fault.now)) }
-{
-    format!(in alloc; "mailrun: {fault}\n")
-}
-
-/// Says that memory was refused, which needs none.
-fn say_no_memory<E: Write>(errors: &mut Watched<E>) -> u8
-    requires errors { errors.old.failed ≡ false }
-    ensures { (result ≡ exit_status (Input NoMemory))
-        × IsLineSaid (E.contents errors.old.stream) (E.contents errors.new.stream) errors.new.failed (error_line (Input NoMemory)) }
-{
-    say(
-        errors,
-        &Failure::Input(Fault::NoMemory),
-        "mailrun: 1 NoMemory\n",
-    )
-}
-
-/// Says the line of a failure, as far as it can be written, and answers the exit status.
-fn say<E: Write>(errors: &mut Watched<E>, failure: &Failure, line: &str) -> u8
-    requires errors { errors.old.failed ≡ false }
-    requires line { line.now ≡ error_line failure.now }
-    ensures { (result ≡ exit_status failure.now)
-        × IsLineSaid (E.contents errors.old.stream) (E.contents errors.new.stream) errors.new.failed (error_line failure.now) }
-{
-    let _ = errors.send(line.as_bytes());
-    failure.status()
 }

@@ -5,11 +5,11 @@ use Rattle.std.proofs.lemmas.Result.{err_from_is_err_and}
 use Rattle.mb_reader.specs.View.{scenario_data}
 use Rattle.mb_reader.specs.declared.scenario.Sending.{Sending}
 use Rattle.mb_report.specs.Lines.{report_text_of}
-use Rattle.mb_run.specs.Given.{CanRun}
-use Rattle.mb_run.specs.Ran.{HasRun}
+use Rattle.mb_program.specs.Given.{CanRun}
+use Rattle.mb_program.specs.Ran.{HasRun}
 use Rattle.mb_program.specs.Answer.{IsRefused}
 use Rattle.mb_program.specs.Scripts.{after_at, gives_at}
-use Rattle.mb_program.specs.declared.failure.Failure.{Failure}
+use Rattle.mb_streams.specs.declared.failure.Failure.{Failure}
 use Rattle.mb_program.proofs.Actors.{all-behaved}
 use Rattle.mb_program.proofs.Runnable.{as-many-names, can-run, refused-run}
 use Rattle.mb_program.proofs.answer.answer.Goals as goal

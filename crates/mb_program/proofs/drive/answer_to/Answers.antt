@@ -2,8 +2,9 @@ use Rattle.std.proofs.Common.{ℕ, List, sym, subst, ◌∙◌, IfErr, Result}
 use Rattle.std.proofs.Common.{String}
 use Rattle.std.specs.declared.alloc.Global.{Global}
 use Rattle.std.proofs.lemmas.Result.{err_from_is_err_and}
-use Rattle.mb_program.specs.Answer.{IsMet, IsRead}
-use Rattle.mb_program.specs.declared.failure.Failure.{Failure}
+use Rattle.mb_streams.specs.Input.{IsRead}
+use Rattle.mb_program.specs.Answer.{IsMet}
+use Rattle.mb_streams.specs.declared.failure.Failure.{Failure}
 use Rattle.mb_program.proofs.Endings.{met_refused, met_unread}
 use Rattle.mb_program.proofs.drive.answer_to.Goals as goal
 

@@ -1,0 +1,104 @@
+//! The whole run.
+ghost use Rattle.std.specs.Prelude.{◌≡◌, ℕ, ◌+◌, IfErr, IfOk, OnOk, [], length};
+ghost use Rattle.mb_build.specs.Behaved.{AreBehaved};
+ghost use Rattle.mb_gate.specs.Names.{actors_of};
+ghost use Rattle.mb_system.specs.Belonging.{BelongsTogether};
+ghost use Rattle.mb_shutdown.specs.Refused.{IsComplete, IsOfWhole};
+ghost use Rattle.mb_program.specs.Broken.{IsBrokenOff, IsToldAs, IsUnended};
+ghost use Rattle.mb_program.specs.Faults.{IsFaultOf};
+ghost use Rattle.mb_program.specs.Given.{AreSendable, CanRun};
+ghost use Rattle.mb_program.specs.Orders.{orders_of};
+ghost use Rattle.mb_program.specs.Ran.{HasRun};
+ghost use Rattle.mb_program.specs.Ready.{IsEnded, IsReady};
+
+use crate::alone::run_alone;
+use crate::together::run_together;
+use mb_actor::{Actor, Behaviours};
+use mb_startup::{BuildError, build};
+use mb_plan::Plan;
+use mb_reader::Sending;
+use mb_report::Report;
+use mb_shutdown::{FinishError, finish};
+use mb_streams::RunFault;
+use mb_system::Built;
+use std::alloc::Global;
+use std::sync::Wait;
+use std::thread::Threads;
+
+/// Builds a system of a plan from which one can be built, and of its actors, in the order of their numbers from 1 on; has its
+/// senders send; runs it; and ends it: the report. A quiet run is one on the calling thread alone, after all was sent.
+///
+/// The faults are `NoMemory`, `JournalFull` once the journal of an actor has as many entries as it may have, `NotQuiet` and
+/// `Mismatch`.
+pub fn run<A: Actor + Send, K: Behaviours + Send, R: Threads + Wait + Sync>(
+    rt: &R,
+    alloc: Global,
+    plan: Plan,
+    actors: Vec<A>,
+    sends: &[Sending],
+    is_quiet: bool,
+) -> Result<Report, RunFault>
+    requires can_run { CanRun plan (length actors.items) sends.now }
+    requires behaved { AreBehaved A.content A.after A.gives K.after K.gives 1 actors.items }
+    ensures ran { IfOk result (HasRun K.after K.gives plan sends.now) }
+    ensures many { IfOk result (λ report. length report.actors.items ≡ length plan.actors.items + 1) }
+    ensures fault { IfErr result (IsFaultOf K.gives plan) }
+{
+    let mut built = match build::<A, K, R>(rt, alloc, plan, actors) {
+        Ok(built) => built,
+        Err(BuildError::BadPlan(_, _, _)) => unreachable!(),
+        Err(BuildError::NoMemory) => return Err(RunFault::NoMemory),
+    };
+    send_and_run(rt, alloc, &mut built, sends, is_quiet)?;
+    report_of(rt, built)
+}
+
+/// Has the senders send, and the ends run what there is to run.
+fn send_and_run<A: Actor + Send, K: Behaviours + Send, R: Threads + Wait + Sync>(
+    rt: &R,
+    alloc: Global,
+    built: &mut Built<A, K>,
+    sends: &[Sending],
+    is_quiet: bool,
+) -> Result<(), RunFault>
+    requires ready { IsReady (λ _. []) built.old }
+    requires sendable { AreSendable built.old.system.senders (actors_of built.old.system.gates) sends.now }
+    ensures system { built.new.system ≡ built.old.system }
+    ensures ready { OnOk result (IsReady (λ number. orders_of number sends.now) built.new) }
+    ensures fault { IfErr result (IsBrokenOff K.gives built.old.system) }
+{
+    if is_quiet {
+        return run_alone(rt, built, sends);
+    }
+    run_together(rt, alloc, built, sends)
+}
+
+/// The report of a system that was run.
+fn report_of<A: Actor, K: Behaviours, R: Wait>(
+    rt: &R,
+    built: Built<A, K>,
+) -> Result<Report, RunFault>
+    requires together { BelongsTogether built }
+    requires complete { IsComplete built }
+    ensures ended { IfOk result (IsEnded K.after K.gives built) }
+    ensures fault { IfErr result (IsUnended K.gives built) }
+{
+    match finish(rt, built) {
+        Ok(report) => Ok(report),
+        Err(error) => Err(fault_of(&error)),
+    }
+}
+
+/// How it is told that there is no report of a system of which nothing is missing.
+fn fault_of<A: Actor, K: Behaviours>(error: &FinishError<A, K>) -> RunFault
+    requires { (actors : ℕ) × IsOfWhole actors error.now }
+    ensures { IsToldAs error.now result }
+{
+    match error {
+        FinishError::NotQuiet(id, _) => RunFault::NotQuiet(*id),
+        FinishError::NoMemory(_) => RunFault::NoMemory,
+        FinishError::Mismatch(_) => RunFault::Mismatch,
+        FinishError::MissingEnd(_, _) => unreachable!(),
+        FinishError::MissingSender(_, _) => unreachable!(),
+    }
+}

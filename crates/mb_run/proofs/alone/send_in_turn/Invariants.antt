@@ -1,9 +1,0 @@
-use Rattle.std.proofs.Common.{◌≡◌, length, take}
-use Rattle.mb_run.specs.Orders.{orders_of}
-use Rattle.mb_run.specs.Senders.{HaveSentAll}
-use Rattle.mb_run.proofs.alone.send_in_turn.Given as goal
-
-abbrev pub invariant-loop-sending : goal.invariant-loop-sending
-invariant-loop-sending g l =
-    (length l.senders ≡ length l.initial.senders)
-    × HaveSentAll l.system.gates (λ number. orders_of number (take l.sending-index l.sends)) 0 l.senders

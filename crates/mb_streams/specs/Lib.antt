@@ -1,0 +1,6 @@
+pub mod Failure
+pub mod HandedOut
+pub mod Input
+pub mod Saying
+pub mod Watching
+pub mod Written
