@@ -1,9 +1,9 @@
 -- What is left, once a take found nothing.
 use Rattle.std.proofs.Common.{◌≡◌, ◌≢◌, ◌<◌, ℕ, zero, suc, List, [], ◌∷◌, ◌++◌, length}
-use Rattle.std.proofs.Common.{map, take, drop, set, refl, sym, ap, ◌∙◌, subst, arith, slice_get, Some}
+use Rattle.std.proofs.Common.{map, take, drop, set, refl, sym, ap, ◌∙◌, subst, arith, get_or, slice_get, Some}
 use Rattle.std.specs.List.{All}
-use Rattle.std.proofs.lemmas.List.{length-append}
-use Rattle.std.proofs.lemmas.List.Elements.{All-nil, All-cons, All-head, All-tail}
+use Rattle.std.proofs.lemmas.List.{get_or-take, length-append, length-take}
+use Rattle.std.proofs.lemmas.List.Elements.{All-nil, All-cons, All-get_or, All-head, All-tail}
 use Rattle.mb_msg.specs.declared.envelope.Envelope.{Envelope}
 use Rattle.mb_queue.specs.Fates.{AllJoined, InOrder}
 use Rattle.mb_queue.specs.Passes.{IsOfQueue, Queue, Sending, Taking, Turns, first_in_first_out, control_first}
@@ -72,6 +72,16 @@ module _ {R : Type 0} where
       → takes ≡ items ++ one ∷ [] → length items < length rooms
   place-there rooms all takes items done one many is last =
       let a = ap length is ∙ length-append takes done in let b = ap length last ∙ length-append items (one ∷ []) in omega (arith, many, a, b)
+
+  -- what holds of each of as many rooms as there are receivers left, holds of the room of the last of them
+  pub last-in : (P : R → Type 0) (rooms : List R) (all takes items done : List Taking) (one : Taking) (n : ℕ) (d : R)
+      → length rooms ≡ length all → all ≡ takes ++ done → takes ≡ items ++ one ∷ [] → n ≡ length items
+      → All P (take (length takes) rooms) → P (get_or rooms n d)
+  last-in P rooms all takes items done one n d many is last place each =
+      let there = place-there rooms all takes items done one many is last in let a = ap length last ∙ length-append items (one ∷ []) in
+      let long = length-take (length takes) rooms in let lt : n < length takes = omega (arith, a, place) in
+      subst P (get_or-take (length takes) rooms n d lt)
+      (All-get_or P (take (length takes) rooms) n d (omega (arith, long, lt, there, place)) each)
 
   -- what is told of the one that was set, is told of the one in its place
   pub same-set : (f g : R → ℕ) (xs : List R) (n : ℕ) (x : R) → f x ≡ g x → n < length xs

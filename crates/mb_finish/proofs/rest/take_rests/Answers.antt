@@ -1,10 +1,11 @@
 use Rattle.std.proofs.Common.{rules, ◌≡◌, ◌<◌, ◌++◌, ◌∷◌, [], ℕ, suc, length}
-use Rattle.std.proofs.Common.{map, take, drop, set, sym, ap, ◌∙◌, subst, append_assoc, arith}
+use Rattle.std.proofs.Common.{map, take, drop, set, refl, sym, ap, ◌∙◌, subst, append_assoc, arith}
 use Rattle.std.specs.Prelude.{All, get_or, slice_get, vec_capacity, vec_len}
-use Rattle.std.proofs.lemmas.List.{length-append, length-set}
+use Rattle.std.proofs.Math.ListN.{drop_of_length-le}
+use Rattle.std.proofs.lemmas.List.{append-nil, length-append, length-set, take_all}
 use Rattle.std.proofs.lemmas.Option.{slice_get-get_or}
 use Rattle.mb_finish.specs.Rest.{AreRests}
-use Rattle.mb_finish.proofs.RestLemmas.{all-fewer, in-place, place-there, rests-more, same-last, same-set, take-fewer, take-set}
+use Rattle.mb_finish.proofs.RestLemmas.{all-fewer, in-place, last-in, place-there, rests-more, same-last, same-set, take-fewer, take-set}
 use Rattle.mb_finish.proofs.rest.take_rests.Goals as goal
 
 pub loop-take-preserved : goal.loop-take-preserved
@@ -58,5 +59,41 @@ returns-then-not-take_rest-clause-full g c =
     let place : c.len-place.result ≡ length items = search rules in
     same-set (λ r. vec_len r) (λ r. vec_capacity r) at.rooms c.len-place.result c.take_rest.new.room (c.take_rest.ensures.full (search rules))
     (subst (λ n. n < length at.rooms) (sym place)
+    (place-there at.rooms c.args.takes.items at.takes.items items at.invariant.2.0 c.in-Some.take at.invariant.0 at.invariant.2.1
+    c.in-Some.ensures.items))
+
+pub loop-take-init : goal.loop-take-init
+loop-take-init g c =
+    let ways = c.args.takes.items in let rooms = c.args.rooms.now in let many = c.requires.many in
+    let whole : take (length ways) rooms ≡ rooms = take_all (length ways) rooms (omega (arith, many)) in
+    let none : drop (length ways) rooms ≡ [] = drop_of_length-le rooms (omega (arith, many)) in (
+      many,
+      subst (All (λ room. room.items ≡ [])) (sym whole) c.requires.empty,
+      ([], sym (append-nil ways), subst (λ l. AreRests [] (map (λ room. room.items) l)) (sym none) tt),
+      refl,
+    )
+
+-- the last receiver has its place among the rooms
+pub bounds-rooms-place : goal.bounds-rooms-place
+bounds-rooms-place g c =
+    let at = c.loop-take in let items = c.pop.new.self.items in let place : c.len-place.result ≡ length items = search rules in
+    subst (λ n. n < length at.rooms) (sym place) (place-there at.rooms c.args.takes.items at.takes.items items at.invariant.2.0
+    c.in-Some.take at.invariant.0 at.invariant.2.1 c.in-Some.ensures.items)
+
+pub offset_bounds-rooms-place : goal.offset_bounds-rooms-place
+offset_bounds-rooms-place g c = let below : c.len-place.result < length c.loop-take.rooms = bounds-rooms-place g c in search rules
+
+pub take_rest-requires : goal.take_rest-requires
+take_rest-requires g c =
+    let at = c.loop-take in let items = c.pop.new.self.items in let place : c.len-place.result ≡ length items = search rules in
+    record {
+      empty = last-in (λ r. r.items ≡ []) at.rooms c.args.takes.items at.takes.items items at.invariant.2.0 c.in-Some.take
+          c.len-place.result c.index-rooms-place.result at.invariant.0 at.invariant.2.1 c.in-Some.ensures.items place at.invariant.1;
+    }
+
+pub returns-then-not-take_rest-clause-place : goal.returns-then-not-take_rest-clause-place
+returns-then-not-take_rest-clause-place g c =
+    let at = c.loop-take in let items = c.pop.new.self.items in let place : c.len-place.result ≡ length items = search rules in
+    subst (λ n. n < length c.args.takes.items) (sym place) (subst (λ n. length items < n) at.invariant.0
     (place-there at.rooms c.args.takes.items at.takes.items items at.invariant.2.0 c.in-Some.take at.invariant.0 at.invariant.2.1
     c.in-Some.ensures.items))
