@@ -1,6 +1,6 @@
 -- What a result says.
 use Rattle.std.proofs.Common.{subst, sym}
-use Rattle.std.specs.Prelude.{◌≡◌, Result, Ok, Err, IfErr, IfOk, IsErrAnd}
+use Rattle.std.specs.Prelude.{◌≡◌, Result, Ok, Err, IfErr, IfOk, IsErrAnd, OnOk}
 
 -- what holds of each good result then
 pub ok-each : {T E : Type 0} (r : Result T E) (P Q : T → Type 0) → ((x : T) → P x → Q x) → IfOk r P → IfOk r Q
@@ -16,3 +16,12 @@ err-each (Err e) P Q f h = f e h
 pub err-of : {T E : Type 0} (Q : E → Type 0) (r : Result T E) (e : E) → IsErrAnd r (λ y. y ≡ e) → Q e → IfErr r Q
 err-of Q (Ok x) e passed holds = tt
 err-of Q (Err y) e passed holds = subst Q (sym passed) holds
+
+-- and a fault says nothing of a good result
+pub ok-none : {T E : Type 0} (P : Type 0) (r : Result T E) (e : E) → IsErrAnd r (λ y. y ≡ e) → OnOk r P
+ok-none P (Ok x) e passed = absurd passed
+ok-none P (Err y) e passed = tt
+
+pub if-none : {T E : Type 0} (P : T → Type 0) (r : Result T E) (e : E) → IsErrAnd r (λ y. y ≡ e) → IfOk r P
+if-none P (Ok x) e passed = absurd passed
+if-none P (Err y) e passed = tt

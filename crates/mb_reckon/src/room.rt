@@ -51,8 +51,25 @@ pub fn make_room<A: Actor, K: Behaviours>(
     ensures waiting { IfOk result (λ room. AreCounted (known_by pass.new).log (counted_in room)) }
 {
     let actors = gates.actors();
-    let senders = actors + outside;
     let (waiting, lefts) = make_lefts(alloc, gates, pass)?;
+    room_around(alloc, actors, outside, waiting, lefts)
+}
+
+// The room that there is for the envelopes, and room for all else.
+fn room_around<A: Actor, K: Behaviours>(
+    alloc: Global,
+    actors: usize,
+    outside: usize,
+    waiting: Vec<u64>,
+    lefts: Vec<Vec<Envelope>>,
+) -> Result<Room<A, K>, AllocError>
+    requires few { (actors ≤ 64) × (outside ≤ 16) }
+    requires counted { length waiting.items ≡ actors }
+    requires lefts { AllZip IsEnough waiting.items lefts.items }
+    ensures room { IfOk result (IsRoom actors outside) }
+    ensures waiting { IfOk result (λ room. counted_in room ≡ waiting.items) }
+{
+    let senders = actors + outside;
     Ok(Room {
         waiting,
         homes: Vec::with_capacity(alloc, actors)?,

@@ -1,8 +1,10 @@
 use Rattle.std.proofs.Common.{rules, ◌≡◌, ◌≢◌, ◌⊎◌, ◌<◌, ◌∷◌, List, [], ℕ, suc, length, map, drop, refl, sym, ap, ◌∙◌, subst, length-append, arith}
-use Rattle.std.specs.Prelude.{get_or}
+use Rattle.std.specs.Prelude.{get_or, slice_get}
 use Rattle.std.specs.Vec.Iter.{into_iter_items}
-use Rattle.std.proofs.lemmas.Option.{slice_get-get_or}
+use Rattle.std.proofs.lemmas.List.{length-drop, nil_from_length}
+use Rattle.std.proofs.lemmas.Option.{none-some, slice_get-get_or}
 use Rattle.mb_msg.specs.declared.envelope.Envelope.{Envelope}
+use Rattle.mb_report.specs.declared.report.ActorReport.{ActorReport}
 use Rattle.mb_reckon.specs.Mismatched.{CanHandle, IsOtherwiseFor}
 use Rattle.mb_reckon.proofs.Lists.{within}
 use Rattle.mb_reckon.proofs.Mismatches.{otherwise-at}
@@ -69,3 +71,60 @@ returns-then-not-agrees-clause-differs g c =
     (drop-first c.args.lefts.items k left rest' steps') (slice_get-get_or c.args.waiting.now k 0 inside)
     (subst (λ (x : List Envelope × ℕ). (length x.0 ≢ x.1) ⊎ ((x.0 ≢ []) × CanHandle one.cell))
     (λ i. (same i, ap (λ n. get_or c.args.waiting.now n 0) here i)) c.if-not-agrees.ensures))
+
+pub loop-one-init : goal.loop-one-init
+loop-one-init g c =
+    let none = c.requires.room.0 in let empty = ap length none in (
+      c.into_iter-one-iterator.ensures.into_iter_gives.0 ∙ ap (λ (l : List ActorReport). drop (length l) c.args.ended.items) (sym none),
+      c.into_iter-lefts.ensures.rest ∙ ap (λ (l : List ActorReport). drop (length l) c.args.lefts.items) (sym none),
+      (omega (arith, empty)),
+      refl,
+      search rules,
+      λ place e left n a e_is left_is n_is a_is. absurd (none-some a (sym (ap (λ l. slice_get l place) none) ∙ a_is)),
+    )
+
+pub unreachable-requires : goal.unreachable-requires
+unreachable-requires g c =
+    let at = c.loop-one in let one = c.in-Some.one in let k : ℕ = length at.actors.items in let rest = into_iter_items c.next.new.self in
+    let steps : one ∷ rest ≡ drop k c.args.ended.items = sym c.in-Some.ensures.steps.0 ∙ at.invariant.0 in
+    let below = within c.args.ended.items k one (drop-first c.args.ended.items k one rest steps) in
+    let none : into_iter_items at.lefts ≡ [] = nil_from_length (into_iter_items at.lefts) (sym at.lefts.rest.ok.0 ∙ c.in_default.ensures.cases.0) in
+    let left = length-drop k c.args.lefts.items in let over = ap length (sym at.invariant.1 ∙ none) in let many = c.requires.many.0 in
+    omega (arith, below, left, over, many)
+
+pub bounds-waiting-place : goal.bounds-waiting-place
+bounds-waiting-place g c =
+    let at = c.loop-one in let one = c.in-Some.one in let k : ℕ = length at.actors.items in let rest = into_iter_items c.next.new.self in
+    let steps : one ∷ rest ≡ drop k c.args.ended.items = sym c.in-Some.ensures.steps.0 ∙ at.invariant.0 in
+    let below = within c.args.ended.items k one (drop-first c.args.ended.items k one rest steps) in
+    let here : c.len-place.result ≡ k = search rules in let many = c.requires.many.1 in
+    omega (arith, here, below, many)
+
+pub offset_bounds-waiting-place : goal.offset_bounds-waiting-place
+offset_bounds-waiting-place g c =
+    let at = c.loop-one in let one = c.in-Some.one in let k : ℕ = length at.actors.items in let rest = into_iter_items c.next.new.self in
+    let steps : one ∷ rest ≡ drop k c.args.ended.items = sym c.in-Some.ensures.steps.0 ∙ at.invariant.0 in
+    let below = within c.args.ended.items k one (drop-first c.args.ended.items k one rest steps) in
+    let here : c.len-place.result ≡ k = search rules in let few = c.requires.many.2 in
+    omega (arith, here, below, few)
+
+pub overflow_cast-result : goal.overflow_cast-result
+overflow_cast-result g c =
+    let at = c.loop-one in let one = c.in-Some.one in let k : ℕ = length at.actors.items in let rest = into_iter_items c.next.new.self in
+    let steps : one ∷ rest ≡ drop k c.args.ended.items = sym c.in-Some.ensures.steps.0 ∙ at.invariant.0 in
+    let below = within c.args.ended.items k one (drop-first c.args.ended.items k one rest steps) in
+    let here : c.len-place.result ≡ k = search rules in let few = c.requires.many.2 in
+    omega (arith, here, below, few)
+
+pub push_reserved-requires : goal.push_reserved-requires
+push_reserved-requires g c =
+    let at = c.loop-one in let one = c.in-Some.one in let k : ℕ = length at.actors.items in let rest = into_iter_items c.next.new.self in
+    let steps : one ∷ rest ≡ drop k c.args.ended.items = sym c.in-Some.ensures.steps.0 ∙ at.invariant.0 in
+    let below = within c.args.ended.items k one (drop-first c.args.ended.items k one rest steps) in
+    let room = c.requires.room.1 in let same = at.invariant.3 in omega (arith, below, room, same)
+
+pub returns-then-not-agrees-clause-shows : goal.returns-then-not-agrees-clause-shows
+returns-then-not-agrees-clause-shows g c = tt
+
+pub returns-clause-differs : goal.returns-clause-differs
+returns-clause-differs g c = tt
