@@ -1,8 +1,9 @@
 -- Cells that are made one by one.
 use Rattle.std.proofs.Common.{◌≡◌, ◌≤◌, ◌<◌, ◌==◌, ℕ, suc, ◌+◌, Bool, true, false, if◌then◌else◌, List, [], ◌∷◌, ◌++◌}
-use Rattle.std.proofs.Common.{length, map, refl, sym, ap, ◌∙◌, append_assoc, arith}
+use Rattle.std.proofs.Common.{length, map, drop, get_or, refl, sym, ap, ◌∙◌, append_assoc, arith}
 use Rattle.std.specs.Prelude.{All}
-use Rattle.std.proofs.lemmas.List.{length-map}
+use Rattle.std.proofs.lemmas.Bool.{eq-eqb, ne_eqb}
+use Rattle.std.proofs.lemmas.List.{drop_more, length-map}
 use Rattle.std.proofs.lemmas.List.Elements.{All-cons, All-nil}
 use Rattle.mb_msg.specs.declared.id.ActorId.{ActorId}
 use Rattle.mb_journal.specs.declared.strategy.Strategy.{Strategy}
@@ -35,6 +36,26 @@ children-below most number parent [] le = All-nil (λ (x : ActorId). x.0 < most)
 children-below most number parent (p ∷ parents) le =
     below-if most (p.0 == parent) number (children_from (number + 1) parent parents) (omega (arith, le))
     (children-below most (number + 1) parent parents (omega (arith, le)))
+
+-- the next actor is a child, and comes after those before; or it is not
+module _ (number parent index : ℕ) (old new parents whole : List ActorId) (lt : index < length parents)
+    (so_far : old ++ children_from number parent (drop index parents) ≡ whole) where
+  abbrev next : ActorId
+  next = get_or parents index (record { 0 = 0 })
+
+  abbrev rest : List ActorId
+  rest = children_from (number + 1) parent (drop (index + 1) parents)
+
+  pub child-more : next.0 ≡ parent → new ≡ old ++ id number ∷ [] → new ++ rest ≡ whole
+  child-more same pushed =
+      ap (λ l. l ++ rest) pushed ∙ append_assoc old (id number ∷ []) rest
+      ∙ ap (λ b. old ++ (if b then id number ∷ rest else rest)) (sym (eq-eqb next.0 parent same))
+      ∙ ap (λ l. old ++ children_from number parent l) (sym (drop_more parents index (record { 0 = 0 }) lt)) ∙ so_far
+
+  pub child-other : (next.0 ≡ parent → ⊥) → new ≡ old → new ++ rest ≡ whole
+  child-other other same =
+      ap (λ l. l ++ rest) same ∙ ap (λ b. old ++ (if b then id number ∷ rest else rest)) (sym (ne_eqb next.0 parent other))
+      ∙ ap (λ l. old ++ children_from number parent l) (sym (drop_more parents index (record { 0 = 0 }) lt)) ∙ so_far
 
 -- a cell with its children
 pub cell-is : (actors limit : ℕ) (all : List ActorId) (number place : ℕ) (p : ActorId) (s : Strategy) (prepared : List ActorId) (c : Seen)

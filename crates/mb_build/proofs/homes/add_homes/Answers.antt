@@ -60,6 +60,18 @@ unreachable-requires-in_default-next g c =
     here.rows-left cells made.0 made.1 ways rows c.requires.cells.0 c.requires.cells.1 made.2 made.3
     at.yielded cell rest place all at.invariant.count empty
 
+pub overflow_cast-len : goal.overflow_cast-len
+overflow_cast-len g c =
+    let at = c.loop-cell in let cells = c.args.cells.items in let made = c.requires.made in let ways = c.args.takes.items in
+    let rows = map (λ row. row.items) (into_iter_items c.args.rows.now) in
+    let cell = c.in-Some.cell in let rest = into_iter_items c.next.new.self in let place = length at.homes.items in
+    let steps : into_iter_items at.cell-iterator ≡ cell ∷ rest = c.in-Some.ensures.steps.0 in
+    let all = ap (λ l. at.yielded ++ l) (sym steps) ∙ at.invariant.cells in
+    let number : c.len.result ≡ place = search rules in
+    let lt = here.place-in cells made.0 made.1 ways rows c.requires.cells.0 c.requires.cells.1 made.2 made.3
+    at.yielded cell rest place all at.invariant.count in
+    let few = c.requires.few in omega (arith, number, lt, few)
+
 pub new-home-requires-clause-number : goal.new-home-requires-clause-number
 new-home-requires-clause-number g c =
     let at = c.loop-cell in let cells = c.args.cells.items in let made = c.requires.made in let ways = c.args.takes.items in

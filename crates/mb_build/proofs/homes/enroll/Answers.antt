@@ -25,3 +25,14 @@ loop-number-preserved g c =
       ap length c.push_reserved.ensures.items ∙ length_push at.roll.items _ ∙ ap (λ n. n + 1) at.invariant.1,
       c.push_reserved.ensures.capacity ∙ at.invariant.2,
     )
+
+pub bounds-cells-number : goal.bounds-cells-number
+bounds-cells-number g c = let test = c.loop-number-test.true in omega (arith, test)
+
+pub bounds-takes-number : goal.bounds-takes-number
+bounds-takes-number g c = let test = c.loop-number-test.true in let count = c.requires in omega (arith, test, count)
+
+pub push_reserved-requires : goal.push_reserved-requires
+push_reserved-requires g c =
+    let at = c.loop-number in let test = c.loop-number-test.true in let many = at.invariant.1 in let room = at.invariant.2 in
+    omega (arith, test, many, room)

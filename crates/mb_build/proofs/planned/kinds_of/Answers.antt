@@ -1,5 +1,5 @@
-use Rattle.std.proofs.Common.{◌+◌, ◌∷◌, [], length, length-append, ap, subst, ◌∙◌}
-use Rattle.mb_build.specs.Kinds.{Queues}
+use Rattle.std.proofs.Common.{◌+◌, ◌∷◌, [], length, length-append, sym, ap, subst, ◌∙◌}
+use Rattle.mb_build.specs.Kinds.{AreQueues, Queues}
 use Rattle.mb_build.proofs.KindLemmas.{queues-next}
 use Rattle.mb_build.proofs.planned.kinds_of.Goals as goal
 
@@ -11,3 +11,7 @@ loop-plan-preserved c =
       ap length c.push_reserved.ensures.items ∙ length-append at.kinds.items (kind ∷ []) ∙ ap (λ n. n + 1) at.invariant.1,
       c.push_reserved.ensures.capacity ∙ at.invariant.2,
     )
+
+pub loop-plan-init : goal.loop-plan-init
+loop-plan-init c =
+    let none = c.in_ok-kinds.ensures.items in (subst (AreQueues []) (sym none) tt, ap length none, c.in_ok-kinds.ensures.exact)
