@@ -172,3 +172,21 @@ pub returns-in_err-ready-clause-woken : goal.returns-in_err-ready-clause-woken
 returns-in_err-ready-clause-woken g c =
     let waker = c.args.self.now.waker in
     wakes-nobody g.W.Way.pushed g.W.Way.refused c.args.ticket.to.0 waker waker refl refl
+
+-- the pass is the sender's, and pushes to the receiver's queue
+pub push-requires-clause-sender : goal.push-requires-clause-sender
+push-requires-clause-sender g c =
+    let id = c.args.ticket.to.0 in let items = c.args.self.now.sends.items in let book = c.args.self.now.book in
+    let k = id - 1 in let old = c.index_mut.result.now in
+    let lt : k < length items = omega (arith, c.requires.all, c.requires.there.0, c.requires.there.1) in
+    let route = c.args.self.now.routes k old (slice_get_read items (length items) k old refl lt c.index_mut.ensures.value) in
+    ap (λ (x : Envelope). x.by.0) c.next-envelope.ensures ∙ ap (λ (s : SenderId). s.0) c.ready.ensures.same.0 ∙ sym route.sender
+
+pub push-requires-clause-addressed : goal.push-requires-clause-addressed
+push-requires-clause-addressed g c =
+    let id = c.args.ticket.to.0 in let items = c.args.self.now.sends.items in let book = c.args.self.now.book in
+    let k = id - 1 in let old = c.index_mut.result.now in
+    let lt : k < length items = omega (arith, c.requires.all, c.requires.there.0, c.requires.there.1) in
+    let route = c.args.self.now.routes k old (slice_get_read items (length items) k old refl lt c.index_mut.ensures.value) in
+    let sum : id ≡ k + 1 = omega (arith, c.requires.there.0) in
+    ap (λ (x : Envelope). x.to.0) c.next-envelope.ensures ∙ sum ∙ sym route.receiver

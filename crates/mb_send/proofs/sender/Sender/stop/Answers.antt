@@ -1,7 +1,9 @@
-use Rattle.std.proofs.Common.{◌≡◌, [], true, refl, sym, subst}
+use Rattle.std.proofs.Common.{◌≡◌, ◌∙◌, [], true, refl, sym, ap, subst}
 use Rattle.mb_gate.specs.Named.{NamesBelow}
 use Rattle.mb_gate.specs.Names.{actors_of, known_by}
-use Rattle.mb_gate.specs.View.{View, Pushed}
+use Rattle.mb_gate.specs.View.{View, Pushed, enlisting}
+use Rattle.mb_msg.specs.declared.system.SysMsg.TheVariants as system
+use Rattle.mb_wake.proofs.Views.{does-enlisting, does-then}
 use Rattle.mb_fates.specs.Accepted.{dead_letters}
 use Rattle.mb_send.specs.Vouched.{are_vouched}
 use Rattle.mb_send.proofs.Owing.{wakes-nobody}
@@ -52,3 +54,10 @@ pub returns-in_default-clause-woken : goal.returns-in_default-clause-woken
 returns-in_default-clause-woken g c =
     let waker = c.args.self.now.waker in
     wakes-nobody g.W.Way.pushed g.W.Way.refused c.args.id.0 waker waker refl refl
+
+pub returns-clause-stopped : goal.returns-clause-stopped
+returns-clause-stopped g c =
+    let id = c.args.id.0 in let number = c.in-Ok-sys_enqueue.field-0 in
+    let a = known_by c.args.self.now.waker.pass in let b = known_by c.sys_enqueue.new.pass in let d = known_by c.register-2.new.self.pass in
+    let listed = c.in-Ok-sys_enqueue.ensures.listed ∙ ap (λ m. enlisting id number m a) c.in-Ok.ensures in
+    (number, does-then id _ _ a b d (does-enlisting id number system.Terminate a b listed) c.register-2.ensures.looks)
