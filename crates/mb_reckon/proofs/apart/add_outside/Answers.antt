@@ -1,7 +1,11 @@
-use Rattle.std.proofs.Common.{◌≡◌, ◌+◌, ◌<◌, ◌^◌, ◌++◌, ◌∷◌, [], length, refl, sym, ap, ◌∙◌, append_assoc, length-append, arith}
+use Rattle.std.proofs.Common.{◌≡◌, ◌+◌, ◌<◌, ◌^◌, ◌++◌, ◌∷◌, [], length, map, ℕ, List, refl, sym, ap, ◌∙◌, subst, append-nil, append_assoc, length-append, arith}
+use Rattle.std.specs.Prelude.{All}
+use Rattle.std.proofs.lemmas.List.{nil_from_length}
 use Rattle.std.proofs.lemmas.List.Elements.{All-push}
 use Rattle.std.specs.Vec.Iter.{into_iter_items}
+use Rattle.mb_msg.specs.declared.dead_letter.DeadLetter.{DeadLetter}
 use Rattle.mb_reckon.specs.Apart.{sent_of}
+use Rattle.mb_reckon.specs.declared.outsider.Outsider.{Outsider}
 use Rattle.mb_reckon.proofs.Steps.{added}
 use Rattle.mb_reckon.proofs.apart.add_outside.Goals as goal
 
@@ -24,3 +28,29 @@ loop-outsider-preserved c =
       (omega (arith, a, fewer, more_rows, same_rows)),
       (omega (arith, b, fewer, more_senders, same_senders)),
     )
+
+pub returns-clause-rows : goal.returns-clause-rows
+returns-clause-rows c =
+    let at = c.loop-outsider in
+    let none : into_iter_items at.outsider-iterator ≡ [] =
+    nil_from_length (into_iter_items at.outsider-iterator) (sym at.outsider-iterator.rest.ok.0 ∙ c.in-None.ensures.steps.0) in
+    let all : at.yielded ≡ c.args.outside.items = sym (append-nil at.yielded) ∙ ap (λ l. at.yielded ++ l) (sym none) ∙ at.invariant.3 in
+    subst (λ (l : List Outsider). map (λ r. r.items) at.rows.items ≡ map (λ r. r.items) c.args.rows.now.items ++ map (λ o. o.sends.items) l) all
+    at.invariant.0
+
+pub returns-clause-senders : goal.returns-clause-senders
+returns-clause-senders c =
+    let at = c.loop-outsider in
+    let none : into_iter_items at.outsider-iterator ≡ [] =
+    nil_from_length (into_iter_items at.outsider-iterator) (sym at.outsider-iterator.rest.ok.0 ∙ c.in-None.ensures.steps.0) in
+    let all : at.yielded ≡ c.args.outside.items = sym (append-nil at.yielded) ∙ ap (λ l. at.yielded ++ l) (sym none) ∙ at.invariant.3 in
+    subst (λ (l : List Outsider). map sent_of at.senders.items
+    ≡ map sent_of c.args.senders.now.items ++ map {A = Outsider} {B = ℕ × List DeadLetter} (λ o. (o.book.sent, o.book.dead.items)) l) all at.invariant.1
+
+pub returns-clause-small : goal.returns-clause-small
+returns-clause-small c =
+    let at = c.loop-outsider in
+    let none : into_iter_items at.outsider-iterator ≡ [] =
+    nil_from_length (into_iter_items at.outsider-iterator) (sym at.outsider-iterator.rest.ok.0 ∙ c.in-None.ensures.steps.0) in
+    let all : at.yielded ≡ c.args.outside.items = sym (append-nil at.yielded) ∙ ap (λ l. at.yielded ++ l) (sym none) ∙ at.invariant.3 in
+    subst (All (λ (o : Outsider). o.book.sent < 2 ^ 64)) all at.invariant.2
