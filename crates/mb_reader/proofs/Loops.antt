@@ -1,7 +1,8 @@
 -- One more turn of a loop that reads the items of an array.
-use Rattle.std.proofs.Common.{◌≡◌, ℕ, ◌+◌, ◌<◌, List, [], ◌∷◌, ◌++◌, length, map, get_or, drop, add-one}
-use Rattle.std.proofs.Common.{append_assoc, ap, sym, ◌∙◌}
+use Rattle.std.proofs.Common.{◌≡◌, ℕ, ◌+◌, ◌<◌, ◌≤◌, List, [], ◌∷◌, ◌++◌, length, map, get_or, drop, add-one}
+use Rattle.std.proofs.Common.{append-nil, append_assoc, ap, sym, ◌∙◌}
 use Rattle.std.proofs.lemmas.List.{map-append}
+use Rattle.std.proofs.Math.ListN.{drop_of_length-le}
 use Rattle.std.proofs.Math.Seq.{drop-cons}
 use Rattle.toml.specs.Data.{Data}
 use Rattle.toml.specs.View.{view, items_view}
@@ -11,6 +12,16 @@ use Rattle.mb_reader.specs.Fields.{map_items}
 next : (values : List Value) (index : ℕ) (value : Value) → index < length values →
     drop index values ≡ get_or values index value ∷ drop (index + 1) values
 next values index value inside = rw add-one (drop-cons values index value inside)
+
+-- at first nothing is read yet, and at last all are
+pub none_read : {A : Type 0} (read : Data → A) (values : List Value) (rows : List A) → rows ≡ [] →
+    rows ++ map_items read (items_view values) ≡ map_items read (items_view values)
+none_read {A} read values rows none = ap (λ (rs : List A). rs ++ map_items read (items_view values)) none
+
+pub all_read : {A : Type 0} (read : Data → A) (values : List Value) (index : ℕ) (rows whole : List A) → length values ≤ index →
+    rows ++ map_items read (items_view (drop index values)) ≡ whole → rows ≡ whole
+all_read read values index rows whole over so =
+    sym (append-nil rows) ∙ ap (λ (vs : List Value). rows ++ map_items read (items_view vs)) (sym (drop_of_length-le values over)) ∙ so
 
 -- what one item more is read as, and those that are left, are all
 pub past_value :
