@@ -1,4 +1,4 @@
-use Rattle.std.proofs.Common.{◌≡◌, ◌++◌, [], ◌∷◌, List, Some, ap, ◌∙◌, arith}
+use Rattle.std.proofs.Common.{rules, ◌≡◌, ◌++◌, [], ◌∷◌, List, Some, refl, ap, ◌∙◌, arith}
 use Rattle.mb_msg.specs.declared.dead_letter.Why.TheVariants as why
 use Rattle.mb_msg.specs.declared.envelope.Envelope.{Envelope}
 use Rattle.mb_fates.specs.declared.posting.Posting.{Posting}
@@ -35,3 +35,33 @@ pub returns-in_err-ready-clause-unsent : goal.returns-in_err-ready-clause-unsent
 returns-in_err-ready-clause-unsent g c =
     let same = c.ready.ensures.same in
     after-any c.from_residual.result (record { by = same.0; sent = same.1; dead = same.2; posted = same.3 })
+
+pub returns-in_err-ready-clause-refused : goal.returns-in_err-ready-clause-refused
+returns-in_err-ready-clause-refused g c = search rules
+
+pub returns-in_err-ready-clause-buried : goal.returns-in_err-ready-clause-buried
+returns-in_err-ready-clause-buried g c = search rules
+
+pub returns-in_err-ready-clause-same : goal.returns-in_err-ready-clause-same
+returns-in_err-ready-clause-same g c = (refl, refl, c.ready.ensures.same.0)
+
+pub post_dead-requires-clause-next : goal.post_dead-requires-clause-next
+post_dead-requires-clause-next g c = search rules
+
+pub post_dead-requires-clause-number : goal.post_dead-requires-clause-number
+post_dead-requires-clause-number g c = search rules
+
+pub post_dead-requires-clause-room : goal.post_dead-requires-clause-room
+post_dead-requires-clause-room g c = search rules
+
+pub returns-clause-refused : goal.returns-clause-refused
+returns-clause-refused g c = tt
+
+pub returns-clause-unsent : goal.returns-clause-unsent
+returns-clause-unsent g c = tt
+
+pub returns-clause-buried : goal.returns-clause-buried
+returns-clause-buried g c = search rules
+
+pub returns-clause-same : goal.returns-clause-same
+returns-clause-same g c = (refl, refl, c.post_dead.ensures.by ∙ c.ready.ensures.same.0)

@@ -1,4 +1,4 @@
-use Rattle.std.proofs.Common.{◌≡◌, true, sym, subst}
+use Rattle.std.proofs.Common.{rules, ◌≡◌, true, refl, sym, subst}
 use Rattle.mb_status.specs.Mailbox.{word_of}
 use Rattle.mb_gate.specs.Names.{known_by}
 use Rattle.mb_gate.specs.View.{View, Read}
@@ -17,3 +17,30 @@ invariant_of-self g c =
           (vouched-seen (Read c.args.to.0 (word_of c.status-status.result)) (known_by old.waker.pass).log dead old.vouched);
       bounded = old.bounded;
     }
+
+pub returns-then-to-eq0-clause-refused : goal.returns-then-to-eq0-clause-refused
+returns-then-to-eq0-clause-refused g c = search rules
+
+pub returns-then-to-eq0-clause-seen : goal.returns-then-to-eq0-clause-seen
+returns-then-to-eq0-clause-seen g c = tt
+
+pub returns-then-to-eq0-clause-same : goal.returns-then-to-eq0-clause-same
+returns-then-to-eq0-clause-same g c = (refl, refl, refl, refl, refl)
+
+pub returns-then-closed-clause-refused : goal.returns-then-closed-clause-refused
+returns-then-closed-clause-refused g c = tt
+
+pub returns-then-closed-clause-seen : goal.returns-then-closed-clause-seen
+returns-then-closed-clause-seen g c = search rules
+
+pub returns-then-closed-clause-same : goal.returns-then-closed-clause-same
+returns-then-closed-clause-same g c = (refl, refl, refl, refl, c.status-status.ensures.ours)
+
+pub returns-clause-refused : goal.returns-clause-refused
+returns-clause-refused g c = tt
+
+pub returns-clause-seen : goal.returns-clause-seen
+returns-clause-seen g c = search rules
+
+pub returns-clause-same : goal.returns-clause-same
+returns-clause-same g c = (refl, refl, refl, refl, c.status-status.ensures.ours)
