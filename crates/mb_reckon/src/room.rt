@@ -66,8 +66,7 @@ fn room_around<A: Actor, K: Behaviours>(
     requires few { (actors ≤ 64) × (outside ≤ 16) }
     requires counted { length waiting.items ≡ actors }
     requires lefts { AllZip IsEnough waiting.items lefts.items }
-    ensures room { IfOk result (IsRoom actors outside) }
-    ensures waiting { IfOk result (λ room. counted_in room ≡ waiting.items) }
+    ensures { IfOk result (λ room. IsRoom actors outside room × (counted_in room ≡ waiting.items)) }
 {
     let senders = actors + outside;
     Ok(Room {

@@ -15,12 +15,14 @@ loop-parent-preserved c =
     let at = c.loop-parent in let parents = c.args.parents.now in let new = c.if-parent-this.children in let old = at.children.items in
     let whole = children_from 1 c.args.this.0 parents in (
       ap (λ n. n + 1) at.invariant.0,
-      elim c.if-parent-this.branch [ then-parent-this+in_ok-push w ↦
-      child-more at.number c.args.this.0 at.parent-index old new.items parents whole c.loop-parent-test.true at.invariant.1
-      w.if-parent-this.true (ap (λ (v : Vec ActorId). v.items) w.children-is ∙ w.in_ok-push.ensures.items)
-      | else-parent-this w ↦
-      child-other at.number c.args.this.0 at.parent-index old new.items parents whole c.loop-parent-test.true at.invariant.1
-      w.if-parent-this.false (ap (λ (v : Vec ActorId). v.items) w.children-is) ],
+      elim c.if-parent-this.branch [
+        | then-parent-this+in_ok-push w ↦
+            child-more at.number c.args.this.0 at.parent-index old new.items parents whole c.loop-parent-test.true at.invariant.1
+            w.if-parent-this.true (ap (λ (v : Vec ActorId). v.items) w.children-is ∙ w.in_ok-push.ensures.items)
+        | else-parent-this w ↦
+            child-other at.number c.args.this.0 at.parent-index old new.items parents whole c.loop-parent-test.true at.invariant.1
+            w.if-parent-this.false (ap (λ (v : Vec ActorId). v.items) w.children-is)
+      ],
     )
 
 pub overflow_add-number : goal.overflow_add-number

@@ -1,11 +1,11 @@
+use Rattle.std.proofs.Common.{arith}
+use Rattle.std.proofs.lemmas.Grind.{common_steps}
 use Rattle.mb_reader.specs.Plans.{planned_rank}
-use Rattle.mb_reader.proofs.Loops.{all_read, none_read, past_value}
+use Rattle.mb_reader.proofs.Loops.{all_read, none_read}
 use Rattle.mb_reader.proofs.actors.ranks_of.Goals as goal
 
 pub loop-value-preserved : goal.loop-value-preserved
-loop-value-preserved c =
-    past_value planned_rank c.args.values.now c.loop-value.value-index c.value-item.result c.loop-value.rows.items c.push.new.self.items
-    c.planned_rank.result _ c.loop-value-test.true c.value-item.is c.planned_rank.ensures c.in_ok-push.ensures.items c.loop-value.invariant
+loop-value-preserved c = grind (arith, common_steps)
 
 pub loop-value-init : goal.loop-value-init
 loop-value-init c =

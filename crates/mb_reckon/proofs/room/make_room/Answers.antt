@@ -1,6 +1,6 @@
 use Rattle.std.proofs.Common.{sym, subst}
-use Rattle.mb_gate.specs.Names.{known_by}
-use Rattle.mb_reckon.specs.Rooms.{AreCounted, counted_in}
+use Rattle.mb_gate.specs.Names.{actors_of, known_by}
+use Rattle.mb_reckon.specs.Rooms.{AreCounted, IsRoom, counted_in}
 use Rattle.mb_reckon.proofs.Answered.{ok-each}
 use Rattle.mb_reckon.proofs.room.make_room.Goals as goal
 
@@ -22,8 +22,12 @@ returns-clause-known g c = c.make_lefts.ensures.known
 pub returns-clause-only : goal.returns-clause-only
 returns-clause-only g c = c.make_lefts.ensures.only
 
+pub returns-clause-room : goal.returns-clause-room
+returns-clause-room g c = ok-each c.room_around.result _ (λ room. IsRoom (actors_of c.args.gates.now) c.args.outside room)
+    (λ room made. subst (λ n. IsRoom n c.args.outside room) c.actors-actors.ensures made.0) c.room_around.ensures
+
 pub returns-clause-waiting : goal.returns-clause-waiting
 returns-clause-waiting g c =
     let log = (known_by c.make_lefts.new.pass).log in
     ok-each c.room_around.result _ (λ room. AreCounted log (counted_in room))
-    (λ room same. subst (AreCounted log) (sym same) c.in_ok-waiting.ensures.waiting) c.room_around.ensures.waiting
+    (λ room made. subst (AreCounted log) (sym made.1) c.in_ok-waiting.ensures.waiting) c.room_around.ensures

@@ -27,15 +27,6 @@ returns-then-to-eq0-clause-seen g c = tt
 pub returns-then-to-eq0-clause-same : goal.returns-then-to-eq0-clause-same
 returns-then-to-eq0-clause-same g c = (refl, refl, refl, refl, refl)
 
-pub returns-then-closed-clause-refused : goal.returns-then-closed-clause-refused
-returns-then-closed-clause-refused g c = tt
-
-pub returns-then-closed-clause-seen : goal.returns-then-closed-clause-seen
-returns-then-closed-clause-seen g c = search rules
-
-pub returns-then-closed-clause-same : goal.returns-then-closed-clause-same
-returns-then-closed-clause-same g c = (refl, refl, refl, refl, c.status-status.ensures.ours)
-
 pub returns-clause-refused : goal.returns-clause-refused
 returns-clause-refused g c = tt
 

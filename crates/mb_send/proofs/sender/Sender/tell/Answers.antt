@@ -76,12 +76,12 @@ returns-in_err-look-clause-still g c =
 
 pub returns-in_err-look-clause-ours : goal.returns-in_err-look-clause-ours
 returns-in_err-look-clause-ours g c =
-    let same = c.look.ensures.same in 
+    let same = c.look.ensures.same in
     (same.4, ap g.W.Way.origin same.3)
 
 pub returns-in_err-look-clause-same : goal.returns-in_err-look-clause-same
 returns-in_err-look-clause-same g c =
-    let same = c.look.ensures.same in 
+    let same = c.look.ensures.same in
     (ap (λ (b : Book). b.by) same.0, ap vec_len same.1)
 
 pub returns-in_err-look-clause-queues : goal.returns-in_err-look-clause-queues
@@ -89,7 +89,7 @@ returns-in_err-look-clause-queues g c = ap (λ (s : Vec Sending). receiving_queu
 
 pub put-requires-clause-ours : goal.put-requires-clause-ours
 put-requires-clause-ours g c =
-    let same = c.look.ensures.same in 
+    let same = c.look.ensures.same in
     (same.4 ∙ c.requires.ours.0, ap g.W.Way.origin same.3 ∙ c.requires.ours.1)
 
 pub put-requires-clause-all : goal.put-requires-clause-all
@@ -109,12 +109,12 @@ returns-in-Open-clause-refused g c = search rules
 
 pub returns-in-Open-clause-ours : goal.returns-in-Open-clause-ours
 returns-in-Open-clause-ours g c =
-    let same = c.look.ensures.same in 
+    let same = c.look.ensures.same in
     (c.put.ensures.ours.0 ∙ same.4, c.put.ensures.ours.1 ∙ ap g.W.Way.origin same.3)
 
 pub returns-in-Open-clause-same : goal.returns-in-Open-clause-same
 returns-in-Open-clause-same g c =
-    let same = c.look.ensures.same in 
+    let same = c.look.ensures.same in
     (c.put.ensures.same.0 ∙ ap (λ (b : Book). b.by) same.0, c.put.ensures.same.1 ∙ ap vec_len same.1)
 
 pub returns-in-Open-clause-queues : goal.returns-in-Open-clause-queues
