@@ -12,7 +12,7 @@ use Rattle.mb_reckon.specs.Rooms.{IsEnough}
 use Rattle.mb_reckon.specs.Seen.{GoesOnFromAll}
 use Rattle.mb_reckon.specs.Shown.{ShowsAll}
 use Rattle.mb_reckon.specs.Whole.{IsWhole}
-use Rattle.mb_reckon.proofs.Answered.{err-each, err-of, ok-each}
+use Rattle.mb_reckon.proofs.Answered.{err-each, err-of, if-none, ok-each}
 use Rattle.mb_reckon.proofs.EndLaw.{report-counted, report-home, report-seen, report-whole, rows-different, rows-queues}
 use Rattle.mb_reckon.proofs.Lists.{length-mapped}
 use Rattle.mb_reckon.proofs.Mismatches.{why-not-come, why-otherwise, why-too-much}
@@ -81,6 +81,15 @@ add_outside-requires g c =
     let more = c.take_apart.ensures.room.0 in let more' = c.take_apart.ensures.room.1 in let a = c.requires.room.rows.1 in
     let b = c.requires.room.senders.1 in
     record { room = ((omega (arith, rows, of, n, more, a)), (omega (arith, senders, n, more', b))) }
+
+pub take_rests-requires-clause-some : goal.take_rests-requires-clause-some
+take_rests-requires-clause-some g c =
+    let apart = c.in_ok-take_apart.ensures.apart in
+    let n = c.finish-all.ensures.left.many in
+    let many = as-many c.finish-all.result.items c.take_apart.new.ended.items c.take_apart.new.takes.items
+    (map (λ r. r.items) c.take_apart.new.rows.items) c.take_apart.new.senders.items apart in
+    let takes = many.of_takes in let some = c.args.gates.some.0 in let few = c.requires.few.0 in
+    ((omega (arith, takes, n, some)), (omega (arith, takes, n, few)))
 
 pub take_rests-requires-clause-many : goal.take_rests-requires-clause-many
 take_rests-requires-clause-many g c =
@@ -233,3 +242,27 @@ returns-in-Ok-clause-counted g c =
     c.requires.outside c.add_outside.ensures.small (λ r. r.items) c.add_outside.new.rows.items c.add_outside.ensures.rows g.K.Behaviours.after
     c.requires.senders lefts c.in-Ok.ensures.taken c.deref.result.now waits report s.0
     (ap (λ (w : Vec SenderReport Global). map sent_of w.items) s.1 ∙ c.add_outside.ensures.senders) ∙ same) c.report_on.ensures.shows
+
+pub returns-in_err-take_apart-clause-whole : goal.returns-in_err-take_apart-clause-whole
+returns-in_err-take_apart-clause-whole g c = if-none _ c.from_residual.result c.in_err-take_apart.field-0.0 c.from_residual.ensures.1
+
+pub returns-clause-whole : goal.returns-clause-whole
+returns-clause-whole g c = tt
+
+pub returns-in_err-take_apart-clause-seen : goal.returns-in_err-take_apart-clause-seen
+returns-in_err-take_apart-clause-seen g c = if-none _ c.from_residual.result c.in_err-take_apart.field-0.0 c.from_residual.ensures.1
+
+pub returns-clause-seen : goal.returns-clause-seen
+returns-clause-seen g c = tt
+
+pub returns-in_err-take_apart-clause-home : goal.returns-in_err-take_apart-clause-home
+returns-in_err-take_apart-clause-home g c = if-none _ c.from_residual.result c.in_err-take_apart.field-0.0 c.from_residual.ensures.1
+
+pub returns-clause-home : goal.returns-clause-home
+returns-clause-home g c = tt
+
+pub returns-in_err-take_apart-clause-counted : goal.returns-in_err-take_apart-clause-counted
+returns-in_err-take_apart-clause-counted g c = if-none _ c.from_residual.result c.in_err-take_apart.field-0.0 c.from_residual.ensures.1
+
+pub returns-clause-counted : goal.returns-clause-counted
+returns-clause-counted g c = tt

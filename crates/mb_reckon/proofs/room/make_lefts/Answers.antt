@@ -2,6 +2,7 @@ use Rattle.std.proofs.Common.{◌+◌, ◌∷◌, [], length, refl, ap, ◌∙�
 use Rattle.mb_gate.specs.Names.{known_by}
 use Rattle.mb_gate.specs.View.{View, Counted}
 use Rattle.mb_reckon.specs.Rooms.{IsEnough}
+use Rattle.mb_reckon.proofs.Answered.{if-none}
 use Rattle.mb_reckon.proofs.Steps.{counting-log, none-counted, one-counted, only-more, only-none, part-more, part-same, zip-more, zip-none}
 use Rattle.mb_reckon.proofs.room.make_lefts.Goals as goal
 
@@ -61,3 +62,30 @@ loop-number-preserved g c =
       only-more (known_by c.args.pass.now) (known_by at.pass) (known_by c.waiting-waiting.new.pass) at.number w c.waiting-waiting.ensures.known
           at.invariant.8,
     )
+
+pub returns-in_err-counts-clause-counted : goal.returns-in_err-counts-clause-counted
+returns-in_err-counts-clause-counted g c = if-none _ c.from_residual.result c.in_err-counts.field-0.0 c.from_residual.ensures.1
+
+pub returns-in_err-counts-clause-room : goal.returns-in_err-counts-clause-room
+returns-in_err-counts-clause-room g c = if-none _ c.from_residual.result c.in_err-counts.field-0.0 c.from_residual.ensures.1
+
+pub returns-in_err-counts-clause-waiting : goal.returns-in_err-counts-clause-waiting
+returns-in_err-counts-clause-waiting g c = if-none _ c.from_residual.result c.in_err-counts.field-0.0 c.from_residual.ensures.1
+
+pub returns-in_err-lefts-clause-counted : goal.returns-in_err-lefts-clause-counted
+returns-in_err-lefts-clause-counted g c = if-none _ c.from_residual-in_err-lefts.result c.in_err-lefts.field-0.0 c.from_residual-in_err-lefts.ensures.1
+
+pub returns-in_err-lefts-clause-room : goal.returns-in_err-lefts-clause-room
+returns-in_err-lefts-clause-room g c = if-none _ c.from_residual-in_err-lefts.result c.in_err-lefts.field-0.0 c.from_residual-in_err-lefts.ensures.1
+
+pub returns-in_err-lefts-clause-waiting : goal.returns-in_err-lefts-clause-waiting
+returns-in_err-lefts-clause-waiting g c = if-none _ c.from_residual-in_err-lefts.result c.in_err-lefts.field-0.0 c.from_residual-in_err-lefts.ensures.1
+
+pub returns-in_err-room-clause-counted : goal.returns-in_err-room-clause-counted
+returns-in_err-room-clause-counted g c = if-none _ c.from_residual-in_err-room.result c.in_err-room.field-0.0 c.from_residual-in_err-room.ensures.1
+
+pub returns-in_err-room-clause-room : goal.returns-in_err-room-clause-room
+returns-in_err-room-clause-room g c = if-none _ c.from_residual-in_err-room.result c.in_err-room.field-0.0 c.from_residual-in_err-room.ensures.1
+
+pub returns-in_err-room-clause-waiting : goal.returns-in_err-room-clause-waiting
+returns-in_err-room-clause-waiting g c = if-none _ c.from_residual-in_err-room.result c.in_err-room.field-0.0 c.from_residual-in_err-room.ensures.1
