@@ -1,4 +1,5 @@
 pub mod CellLemmas
+pub mod FaultLemmas
 pub mod FreshLemmas
 pub mod HandedLemmas
 pub mod HomeLemmas

@@ -18,6 +18,7 @@ use Rattle.mb_build.proofs.HomeLemmas as here
 use Rattle.mb_build.proofs.HomeLemmas.{whose}
 use Rattle.mb_build.proofs.OwnLemmas.{all-unused}
 use Rattle.mb_build.proofs.RollLemmas.{drop-next, take-next}
+use Rattle.mb_build.proofs.FaultLemmas.{if-none}
 use Rattle.mb_build.proofs.homes.add_homes.Goals as goal
 
 pub loop-cell-init : goal.loop-cell-init
@@ -232,3 +233,12 @@ returns-clause-rest g c =
     let all : at.yielded ≡ cells = sym (append-nil at.yielded) ∙ ap (λ l. at.yielded ++ l) (sym none) ∙ at.invariant.cells in
     let many : length at.homes.items ≡ length cells = at.invariant.count ∙ ap length all in
     at.invariant.rows ∙ ap (λ n. drop n (into_iter_items c.args.rows.now)) many
+
+pub returns-in_err-add-clause-first : goal.returns-in_err-add-clause-first
+returns-in_err-add-clause-first g c = if-none _ c.from_residual.result c.in_err-add.field-0.0 c.from_residual.ensures.1
+
+pub returns-in_err-add-clause-fresh : goal.returns-in_err-add-clause-fresh
+returns-in_err-add-clause-fresh g c = if-none _ c.from_residual.result c.in_err-add.field-0.0 c.from_residual.ensures.1
+
+pub returns-in_err-add-clause-rest : goal.returns-in_err-add-clause-rest
+returns-in_err-add-clause-rest g c = if-none _ c.from_residual.result c.in_err-add.field-0.0 c.from_residual.ensures.1
