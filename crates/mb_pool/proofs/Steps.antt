@@ -4,6 +4,8 @@ use mathlib.Core.Option.{some}
 use lib.ListN.{get_elem?}
 use Rattle.crossbeam_queue.specs.Fifo as fifo
 use Rattle.crossbeam_deque.specs.Tasks as tasks
+use Rattle.crossbeam_deque.specs.Handles.{Pass, IsPassOf, SamePass}
+use Rattle.atomic_blocks.specs.Lent.{RowsId}
 use Rattle.mb_gate.specs.declared.claim.Claim.{Claim}
 use Rattle.mb_pool.specs.declared.parked.Parked.{Parked}
 use Rattle.mb_pool.specs.Items.{claims_of}
@@ -99,3 +101,7 @@ module _ {G H : Type 0} (IsFit : Option G → Claim H → Type 0) where
       → PutsLast IsFit v p.claim w
   unfolding head_of
   put v w p t = subst (λ y. PutsLast IsFit v y w) (sym (ap (head_of p.claim) t.1)) t.2
+
+-- a pass stays one of its deque
+pub same_deque : {T A V : Type 0} (deque : RowsId × A) (old new : Pass T V A) → IsPassOf deque old → SamePass old new → IsPassOf deque new
+same_deque deque old new is same = (same.0 ∙ is.0, same.1 ∙ is.1, same.3, same.4)

@@ -1,5 +1,5 @@
 //! A port of the place that every end and every feed has a share of.
-ghost use Rattle.std.specs.Prelude.{◌≡◌, ◌<◌, [], Some, MatchOption, MatchResult};
+ghost use Rattle.std.specs.Prelude.{◌≡◌, ◌<◌, [], IsSome, None, Some, MatchOption, MatchResult};
 ghost use Rattle.mb_pool.specs.Ledger.{borrowing, joining, lending, opened, unused};
 ghost use Rattle.mb_pool.specs.Moves.{given_back, IsRefusal};
 ghost use Rattle.mb_gate.specs.Untouched.{origin_of, IsUntouched};
@@ -16,12 +16,20 @@ use std::marker::Brand;
 use std::sync::Wait;
 
 /// A port of the one place of a shared pool, or of the feeds' place of a stealing one.
-#[derive(Drop)]
 pub enum Door<H: Resident> {
     /// The place of a shared pool.
     Bounded(SlotsPort<H>),
     /// The feeds' place of a stealing pool.
     Unbounded(InletPort<H>),
+}
+
+// Written out: of a derived `Drop` each function that lets one go would prove again how all that is inside is let go.
+impl<H: Resident> Drop for Door<H> {
+    fn drop(self) {
+        match self {
+            Door::Bounded(_) | Door::Unbounded(_) => {}
+        }
+    }
 }
 
 impl<H: Resident> Door<H> {
@@ -109,17 +117,41 @@ impl<H: Resident> Door<H> {
         requires shares { (0 < (look_of self.old).ledger.shares) × (0 < (look_of other).ledger.shares) }
         ensures { look_of self.new ≡ record (look_of self.old) { ledger = joining (look_of self.old).ledger (look_of other).ledger } }
     {
-        match (self, other) {
-            (Door::Bounded(port), Door::Bounded(other)) => port.join(other),
-            (Door::Unbounded(port), Door::Unbounded(other)) => port.join(other),
-            (Door::Bounded(port), Door::Unbounded(other)) => {
+        match self {
+            Door::Bounded(port) => {
                 port.has_bound();
-                other.has_none();
+                port.join(other.into_bounded());
+            }
+            Door::Unbounded(port) => {
+                port.has_none();
+                port.join(other.into_unbounded());
+            }
+        }
+    }
+
+    /// The port of a shared pool's place.
+    fn into_bounded(self) -> SlotsPort<H>
+        requires { IsSome (look_of self).spot.capacity }
+        ensures { result ≡ look_of self }
+    {
+        match self {
+            Door::Bounded(port) => port,
+            Door::Unbounded(port) => {
+                port.has_none();
                 unreachable!()
             }
-            (Door::Unbounded(port), Door::Bounded(other)) => {
-                port.has_none();
-                other.has_bound();
+        }
+    }
+
+    /// The port of the feeds' place of a stealing pool.
+    fn into_unbounded(self) -> InletPort<H>
+        requires { (look_of self).spot.capacity ≡ None }
+        ensures { result ≡ look_of self }
+    {
+        match self {
+            Door::Unbounded(port) => port,
+            Door::Bounded(port) => {
+                port.has_bound();
                 unreachable!()
             }
         }

@@ -1,5 +1,5 @@
 //! The feeds' place of a stealing pool, over the kit's injector.
-ghost use Rattle.std.specs.Prelude.{◌≡◌, ◌<◌, [], IfOk, MatchOption, MatchResult};
+ghost use Rattle.std.specs.Prelude.{◌≡◌, ◌<◌, [], MatchOption, MatchResult};
 ghost use Rattle.crossbeam_deque.specs.Injected.{injector_view, IsInjectorPassOf};
 ghost use Rattle.mb_pool.specs.Ledger.{borrowing, joining, lending, opened, unused};
 ghost use Rattle.mb_pool.specs.Rule.{Moment, PutsLast, TakesFirst};
@@ -10,7 +10,7 @@ use crate::parked::Parked;
 use crate::rule::{Accounted, Joins, Lends, Opens, Pushed, Scoped, Taken};
 use crossbeam_deque::{Injector, InjectorPass, Steal};
 use mb_gate::{Claim, Resident};
-use std::alloc::{AllocError, Global};
+use std::alloc::Global;
 use std::sync::Wait;
 
 /// The kit's injector under the rule of a place.
@@ -24,14 +24,6 @@ pub struct Inlet<H: Resident> {
 pub type InletPass<H> = InjectorPass<Parked<H>, Knowledge<H>, Global>;
 
 impl<H: Resident> Inlet<H> {
-    /// An empty place without a bound, and its first port, before it is settled of which gates the claims are.
-    pub fn new(alloc: Global) -> Result<(Inlet<H>, InletPass<H>), AllocError>
-        ensures { IfOk result (λ r. IsInjectorPassOf r.0.queue r.1 × (injector_view r.1 ≡ unused)) }
-    {
-        let (queue, pass) = Injector::new_as(alloc)?;
-        Ok((Inlet { queue }, pass))
-    }
-
     /// Puts the claim last, or gives it back for want of memory.
     #[inline]
     pub fn push<R: Wait>(

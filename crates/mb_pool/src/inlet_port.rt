@@ -8,16 +8,23 @@ ghost use Rattle.mb_gate.specs.Untouched.{IsUntouched};
 use crate::inlet::{Inlet, InletPass};
 use crate::refused::Refused;
 use crate::rule::Scoped;
+use crossbeam_deque::Injector;
 use mb_gate::{Claim, Resident};
 use std::alloc::{AllocError, Global};
 use std::marker::Model;
 use std::sync::{Arc, Wait};
 
 /// The kit's queue, which all ports of the place share, and what this one knows of it.
-#[derive(Drop)]
 pub struct InletPort<H: Resident> {
     inlet: Arc<Inlet<H>, Global>,
     pass: InletPass<H>,
+}
+
+// Written out: of a derived `Drop` each function that lets one go would prove again how all that is inside is let go.
+impl<H: Resident> Drop for InletPort<H> {
+    fn drop(self) {
+        let InletPort { inlet: _, pass: _ } = self;
+    }
 }
 
 impl<H: Resident> Model for InletPort<H> {
@@ -38,8 +45,8 @@ impl<H: Resident> InletPort<H> {
     pub fn new(alloc: Global) -> Result<InletPort<H>, AllocError>
         ensures { IfOk result (λ port. (port.spot.capacity ≡ None) × (port.ledger ≡ unused)) }
     {
-        let (inlet, pass) = Inlet::new(alloc)?;
-        let inlet = Arc::new(alloc, inlet)?;
+        let (queue, pass) = Injector::new_as(alloc)?;
+        let inlet = Arc::new(alloc, Inlet { queue })?;
         Ok(InletPort { inlet, pass })
     }
 

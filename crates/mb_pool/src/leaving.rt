@@ -11,7 +11,6 @@ use crate::door::Door;
 use crate::end::WorkerEnd;
 use crate::feed::Feed;
 use crate::gather::gather;
-use crate::member::Member;
 use crate::own::Own;
 use crate::pool::Pool;
 use mb_gate::{Claim, Resident};
@@ -103,8 +102,7 @@ fn empty_end<H: Resident, R: Wait>(rt: &R, end: WorkerEnd<H>, left: &mut Vec<Cla
 {
     let (door, member) = end.into_parts();
     if let Some(member) = member {
-        let Member { own, thieves: _ } = member;
-        empty_own(rt, own, left);
+        empty_own(rt, member.into_own(), left);
         return door;
     }
     door
@@ -149,6 +147,11 @@ fn keep<H: Resident, R: Wait>(rt: &R, left: &mut Vec<Claim<H>>, claim: Claim<H>)
         return;
     }
     claim.abandon();
+    stop(rt)
+}
+
+/// It never returns.
+fn stop<R: Wait>(rt: &R) -> ! {
     for _ in rt.forever() {}
     unreachable!()
 }

@@ -13,12 +13,28 @@ use mb_gate::{Claim, Resident};
 use std::sync::Wait;
 
 /// Its own deque, and its ways into those of the next ends in order.
-#[derive(Drop)]
 pub struct Member<H: Resident> {
     /// The deque to which the end pushes.
     pub own: Own<H>,
     /// The ways into the deques of the ends behind it, and then of those before it.
     pub thieves: Vec<Thief<H>>,
+}
+
+// Written out: of a derived `Drop` each function that lets one go would prove again how all that is inside is let go.
+impl<H: Resident> Drop for Member<H> {
+    fn drop(self) {
+        let Member { own: _, thieves: _ } = self;
+    }
+}
+
+impl<H: Resident> Member<H> {
+    /// The deque to which the end pushes.
+    pub fn into_own(self) -> Own<H>
+        ensures { result ≡ self.own }
+    {
+        let Member { own, thieves: _ } = self;
+        own
+    }
 }
 
 /// Takes the first claim of the first of these places that has one: the end's own deque, the feeds' place, the next ends'

@@ -1,5 +1,5 @@
 //! The place of a shared pool, over the kit's ring of slots.
-ghost use Rattle.std.specs.Prelude.{◌≡◌, ◌<◌, [], IfOk, MatchOption, MatchResult};
+ghost use Rattle.std.specs.Prelude.{◌≡◌, ◌<◌, [], MatchOption, MatchResult};
 ghost use Rattle.crossbeam_queue.specs.Passes.{view, IsPassOf, ruled_capacity};
 ghost use Rattle.mb_pool.specs.Ledger.{borrowing, joining, lending, opened, unused};
 ghost use Rattle.mb_pool.specs.Moves.{WasFull};
@@ -11,7 +11,6 @@ use crate::parked::Parked;
 use crate::rule::{Accounted, Joins, Lends, Opens, Pushed, Scoped, Taken};
 use crossbeam_queue::{Pass, RuledArrayQueue};
 use mb_gate::{Claim, Resident};
-use std::alloc::{AllocError, Global};
 use std::sync::Wait;
 
 /// The kit's bounded queue under the rule of a place.
@@ -25,16 +24,6 @@ pub struct Slots<H: Resident> {
 pub type SlotsPass<H> = Pass<Parked<H>, Knowledge<H>>;
 
 impl<H: Resident> Slots<H> {
-    /// An empty place for so many claims, and its first port, before it is settled of which gates they are.
-    pub fn new(alloc: Global, capacity: usize) -> Result<(Slots<H>, SlotsPass<H>), AllocError>
-        requires { 0 < capacity }
-        ensures queue { IfOk result (λ r. IsPassOf r.0.queue r.1 × (view r.1 ≡ unused)) }
-        ensures capacity { IfOk result (λ r. ruled_capacity r.0.queue ≡ capacity) }
-    {
-        let (queue, pass) = RuledArrayQueue::ruled(alloc, capacity)?;
-        Ok((Slots { queue }, pass))
-    }
-
     /// Puts the claim last, or gives it back where the place was full at a moment of the call.
     #[inline]
     pub fn push<R: Wait>(

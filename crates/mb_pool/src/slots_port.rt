@@ -8,16 +8,23 @@ ghost use Rattle.mb_gate.specs.Untouched.{IsUntouched};
 use crate::refused::Refused;
 use crate::rule::Scoped;
 use crate::slots::{Slots, SlotsPass};
+use crossbeam_queue::RuledArrayQueue;
 use mb_gate::{Claim, Resident};
 use std::alloc::{AllocError, Global};
 use std::marker::Model;
 use std::sync::{Arc, Wait};
 
 /// The kit's queue, which all ports of the place share, and what this one knows of it.
-#[derive(Drop)]
 pub struct SlotsPort<H: Resident> {
     slots: Arc<Slots<H>, Global>,
     pass: SlotsPass<H>,
+}
+
+// Written out: of a derived `Drop` each function that lets one go would prove again how all that is inside is let go.
+impl<H: Resident> Drop for SlotsPort<H> {
+    fn drop(self) {
+        let SlotsPort { slots: _, pass: _ } = self;
+    }
 }
 
 impl<H: Resident> Model for SlotsPort<H> {
@@ -39,8 +46,8 @@ impl<H: Resident> SlotsPort<H> {
         requires { 0 < capacity }
         ensures { IfOk result (λ port. (port.spot.capacity ≡ Some capacity) × (port.ledger ≡ unused)) }
     {
-        let (slots, pass) = Slots::new(alloc, capacity)?;
-        let slots = Arc::new(alloc, slots)?;
+        let (queue, pass) = RuledArrayQueue::ruled(alloc, capacity)?;
+        let slots = Arc::new(alloc, Slots { queue })?;
         Ok(SlotsPort { slots, pass })
     }
 

@@ -1,10 +1,11 @@
-use Rattle.std.proofs.Common.{◌≡◌, ◌∷◌, MatchResult, subst, sym}
+use Rattle.std.proofs.Common.{◌≡◌, ◌∷◌, MatchResult, ap, subst, sym}
 use Rattle.mb_pool.specs.Moves.{given_back, IsRefusedBy, Pushes, PutsFirst}
+use Rattle.mb_pool.specs.declared.refused.Refused.TheVariants.{NoMemory}
 use Rattle.mb_pool.specs.Parts.{look_of}
-use Rattle.mb_pool.specs.Places.{looks, parts_of}
+use Rattle.mb_pool.specs.Places.{Look, looks, part_of, parts_of}
 use Rattle.mb_gate.specs.Untouched.{IsUntouched}
 use Rattle.mb_pool.specs.Ways.{AreOpen, way_of}
-use Rattle.mb_pool.proofs.Ports.{door_open, feed_parts, own_open, push_by_door, push_by_own, push_same}
+use Rattle.mb_pool.proofs.Ports.{door_open, feed_parts, own_open, own_parts, push_by_door, push_by_own, push_same, put_part, refused_by_own, stealing}
 use Rattle.mb_pool.proofs.end.push_first.Goals as goal
 
 pub push-requires-clause-share : goal.push-requires-clause-share
@@ -53,3 +54,32 @@ returns-in-Ok-clause-pushed g c =
     (push_by_own (IsUntouched g.H.Resident.is_of g.H.Resident.journal g.H.Resident.mailbox g.H.Resident.rested g.H.Resident.given
     g.H.Resident.closed_to)
     m.own new door door m.thieves.items m.thieves.items c.args.claim c.push-in-Some.ensures.spot c.in-Ok.ensures.pushed)
+
+pub push-requires-clause-fit : goal.push-requires-clause-fit
+push-requires-clause-fit g c = c.requires.fit
+
+pub returns-in-Ok-clause-same : goal.returns-in-Ok-clause-same
+returns-in-Ok-clause-same g c =
+    let m = c.in-Some.member in let new = c.push-in-Some.new.self in let door = look_of c.args.door.now in
+    subst (λ o. parts_of (stealing new door m.thieves.items) ≡ parts_of (way_of door o)) (sym c.in-Some.is)
+    (own_parts m.own new door m.thieves.items (put_part (IsUntouched g.H.Resident.is_of g.H.Resident.journal g.H.Resident.mailbox g.H.Resident.rested g.H.Resident.given
+    g.H.Resident.closed_to) m.own new c.args.claim c.push-in-Some.ensures.spot c.in-Ok.ensures.pushed))
+
+pub returns-in-Err-clause-pushed : goal.returns-in-Err-clause-pushed
+returns-in-Err-clause-pushed g c =
+    let m = c.in-Some.member in let new = c.push-in-Some.new.self in let door = look_of c.args.door.now in let h = c.in-Err.ensures.pushed in
+    subst (λ o. (c.in-Err.back ≡ c.args.claim) × (stealing new door m.thieves.items ≡ way_of door o)
+    × IsRefusedBy (IsUntouched g.H.Resident.is_of g.H.Resident.journal g.H.Resident.mailbox g.H.Resident.rested g.H.Resident.given
+    g.H.Resident.closed_to) (way_of door o) (NoMemory c.in-Err.back))
+    (sym c.in-Some.is) (
+      h.0,
+      ap (λ (l : Look _). stealing l door m.thieves.items) h.1,
+      refused_by_own (IsUntouched g.H.Resident.is_of g.H.Resident.journal g.H.Resident.mailbox g.H.Resident.rested g.H.Resident.given
+          g.H.Resident.closed_to) m.own new door door m.thieves.items m.thieves.items c.in-Err.back c.push-in-Some.ensures.unbounded,
+    )
+
+pub returns-in-Err-clause-same : goal.returns-in-Err-clause-same
+returns-in-Err-clause-same g c =
+    let m = c.in-Some.member in let new = c.push-in-Some.new.self in let door = look_of c.args.door.now in
+    subst (λ o. parts_of (stealing new door m.thieves.items) ≡ parts_of (way_of door o)) (sym c.in-Some.is)
+    (own_parts m.own new door m.thieves.items (ap (λ (l : Look _). part_of l) c.in-Err.ensures.pushed.1))

@@ -1,6 +1,9 @@
-use Rattle.std.proofs.Common.{◌≡◌, ◌∷◌, ◌++◌, [], ap, append_assoc, sym, ◌∙◌}
+use Rattle.std.proofs.Common.{rules, ◌≡◌, ◌∷◌, ◌++◌, [], ap, append_assoc, length, subst, sym, ◌∙◌}
 use Rattle.std.specs.Vec.Iter.{into_iter_items}
+use Rattle.mb_pool.specs.Ends.{Gathers}
 use Rattle.mb_pool.proofs.Ending.{among_now, gathers_at, may_own}
+use Rattle.mb_pool.proofs.Gathering.{gathers_none}
+use Rattle.mb_pool.proofs.Taking.{drained}
 use Rattle.mb_pool.proofs.gather.join_all.Goals as goal
 
 pub join_own-requires : goal.join_own-requires
@@ -21,3 +24,12 @@ loop-thief-preserved g c =
           c.join_own.ensures at.invariant.1
           (among_now c.args.ends.now at.ends c.args.thieves.items at.yielded rest t all c.requires at.invariant.1),
     )
+
+pub loop-thief-init : goal.loop-thief-init
+loop-thief-init g c = (search rules, gathers_none c.args.ends.now)
+
+pub returns : goal.returns
+returns g c =
+    let at = c.loop-thief in let rest = into_iter_items at.thief-iterator in
+    let none : length rest ≡ 0 = sym at.thief-iterator.rest.ok.0 ∙ c.in-None.ensures.steps.0 in
+    subst (λ l. Gathers c.args.ends.now l at.ends) (drained at.yielded rest c.args.thieves.items none at.invariant.0) at.invariant.1

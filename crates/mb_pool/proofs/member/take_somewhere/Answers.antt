@@ -4,7 +4,7 @@ use Rattle.mb_pool.specs.Parts.{look_of}
 use Rattle.mb_gate.specs.Untouched.{IsUntouched}
 use Rattle.mb_pool.specs.Ways.{HasShare, way_of}
 use Rattle.mb_pool.proofs.Lent.{refilled}
-use Rattle.mb_pool.proofs.Ports.{door_open, next_open, own_open, own_parts, took_door, took_next, took_own, took_part}
+use Rattle.mb_pool.proofs.Ports.{door_open, next_open, own_open, own_parts, took_door, took_door_same, took_next, took_next_same, took_own, took_part}
 use Rattle.mb_pool.proofs.Stealing.{as_many, found_in, of_none}
 use Rattle.mb_pool.proofs.member.take_somewhere.Goals as goal
 
@@ -47,6 +47,30 @@ returns-clause-taken g c = let m = c.args.member.now in let d = look_of c.args.d
     lent new r c.steal_from_next.ensures ∙ ap length c.as_mut_slice.ensures.value ∙ sym v.ok.0 in
     let back = take v.len (new ++ drop (length new) v.items) in
     took_next (IsUntouched g.H.Resident.is_of g.H.Resident.journal g.H.Resident.mailbox g.H.Resident.rested g.H.Resident.given
+    g.H.Resident.closed_to)
+    m.own c.take.new.self d (look_of c.take-2.new.self) v.items back none.0 none.1 none'.0 none'.1 r
+    (found_in (IsUntouched g.H.Resident.is_of g.H.Resident.journal g.H.Resident.mailbox g.H.Resident.rested g.H.Resident.given
+    g.H.Resident.closed_to)
+    lent new v.items back r c.as_mut_slice.ensures.value (refilled v.len v.items new count) c.steal_from_next.ensures)
+
+pub returns-in-Some-take-clause-same : goal.returns-in-Some-take-clause-same
+returns-in-Some-take-clause-same g c = let m = c.args.member.now in let d = look_of c.args.door.now in
+    let none = of_none _ _ c.take.result c.in_default.is c.take.ensures.taken in
+    took_door_same (IsUntouched g.H.Resident.is_of g.H.Resident.journal g.H.Resident.mailbox g.H.Resident.rested g.H.Resident.given
+    g.H.Resident.closed_to)
+    m.own c.take.new.self d (look_of c.take-2.new.self) m.thieves.items m.thieves.items none.0 none.1 c.in-Some-take.claim c.take-2.ensures.spot
+    c.in-Some-take.ensures.taken
+
+pub returns-clause-same : goal.returns-clause-same
+returns-clause-same g c = let m = c.args.member.now in let d = look_of c.args.door.now in let v = m.thieves in
+    let none = of_none _ _ c.take.result c.in_default.is c.take.ensures.taken in
+    let none' = of_none _ _ c.take-2.result c.in_default-take.is c.take-2.ensures.taken in
+    let lent = c.as_mut_slice.result.now in let new = c.steal_from_next.new.thieves in let r = c.steal_from_next.result in
+    let count = as_many (IsUntouched g.H.Resident.is_of g.H.Resident.journal g.H.Resident.mailbox g.H.Resident.rested g.H.Resident.given
+    g.H.Resident.closed_to)
+    lent new r c.steal_from_next.ensures ∙ ap length c.as_mut_slice.ensures.value ∙ sym v.ok.0 in
+    let back = take v.len (new ++ drop (length new) v.items) in
+    took_next_same (IsUntouched g.H.Resident.is_of g.H.Resident.journal g.H.Resident.mailbox g.H.Resident.rested g.H.Resident.given
     g.H.Resident.closed_to)
     m.own c.take.new.self d (look_of c.take-2.new.self) v.items back none.0 none.1 none'.0 none'.1 r
     (found_in (IsUntouched g.H.Resident.is_of g.H.Resident.journal g.H.Resident.mailbox g.H.Resident.rested g.H.Resident.given

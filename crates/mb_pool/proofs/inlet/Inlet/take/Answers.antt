@@ -1,7 +1,7 @@
-use Rattle.std.proofs.Common.{sym, subst, ◌<◌}
+use Rattle.std.proofs.Common.{◌∙◌, [], refl, sym, subst, ◌<◌}
 use Rattle.crossbeam_deque.specs.Injected.{injector_view}
 use Rattle.mb_gate.specs.Untouched.{IsUntouched}
-use Rattle.mb_pool.specs.Rule.{TakesFirst}
+use Rattle.mb_pool.specs.Rule.{Moment, TakesFirst}
 use Rattle.mb_pool.proofs.Steps.{deque_take, deque_empty, took}
 use Rattle.mb_pool.proofs.inlet.Inlet.take.Goals as goal
 
@@ -15,3 +15,26 @@ returns-in-Success-clause-taken g c =
     g.H.Resident.closed_to) l c.open.result (injector_view c.steal_as.new.pass)) c.loop.invariant.1
     (took (IsUntouched g.H.Resident.is_of g.H.Resident.journal g.H.Resident.mailbox g.H.Resident.rested g.H.Resident.given
     g.H.Resident.closed_to) _ _ _ c.open.result c.open.ensures c.in-Success.ensures.rule)
+
+pub loop-init : goal.loop-init
+loop-init g c = (c.requires.queue, refl)
+
+pub steal_as-requires-clause-queue : goal.steal_as-requires-clause-queue
+steal_as-requires-clause-queue g c = c.loop.invariant.0
+
+pub returns-in-Success-clause-queue : goal.returns-in-Success-clause-queue
+returns-in-Success-clause-queue g c = c.steal_as.ensures.same.0
+
+pub returns-in-Empty-clause-queue : goal.returns-in-Empty-clause-queue
+returns-in-Empty-clause-queue g c = c.steal_as.ensures.same.0
+
+pub returns-in-Empty-clause-taken : goal.returns-in-Empty-clause-taken
+returns-in-Empty-clause-taken g c =
+    let found = c.in-Empty.ensures.rule in (
+      found.0 ∙ c.loop.invariant.1,
+      subst (λ l. Moment (IsUntouched g.H.Resident.is_of g.H.Resident.journal g.H.Resident.mailbox g.H.Resident.rested g.H.Resident.given
+          g.H.Resident.closed_to) l []) c.loop.invariant.1 found.1,
+    )
+
+pub loop-preserved : goal.loop-preserved
+loop-preserved g c = (c.steal_as.ensures.same.0, c.in-Retry.ensures.rule ∙ c.loop.invariant.1)

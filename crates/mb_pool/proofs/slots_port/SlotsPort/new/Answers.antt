@@ -1,5 +1,5 @@
 use Rattle.mb_pool.proofs.Moves.{begins}
-use Rattle.mb_pool.proofs.slots.Slots.new.Goals as goal
+use Rattle.mb_pool.proofs.slots_port.SlotsPort.new.Goals as goal
 
 pub ruled-requires-clause-rule : goal.ruled-requires-clause-rule
 ruled-requires-clause-rule g c = begins _
