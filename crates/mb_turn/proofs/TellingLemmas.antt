@@ -1,8 +1,9 @@
 -- What a tell makes of a run.
-use Rattle.std.proofs.Common.{◌≡◌, ℕ, ◌<◌, ◌*◌, ◌+◌, true, List, [], ◌∷◌, length, refl, sym, ap, ◌∙◌, subst, arith}
-use Rattle.std.specs.Prelude.{if◌then◌else◌}
+use Rattle.std.proofs.Common.{◌≡◌, ℕ, ◌<◌, ◌*◌, ◌+◌, Bool, true, false, List, [], ◌∷◌, length, inl, inr, refl, sym, ap, ◌∙◌, subst, arith}
+use Rattle.std.specs.Prelude.{if◌then◌else◌, MatchBool}
 use Rattle.std.specs.Global.{Box}
 use Rattle.mb_status.specs.Mailbox.{Mailbox, word_of, mailbox_of}
+use Rattle.mb_msg.specs.declared.dead_letter.DeadLetter.{DeadLetter}
 use Rattle.mb_msg.specs.declared.dead_letter.Why.{Why}
 use Rattle.mb_msg.specs.declared.dead_letter.Why.TheVariants.{Closed}
 use Rattle.mb_msg.specs.declared.envelope.Body.{Body}
@@ -20,16 +21,20 @@ use Rattle.mb_rule.specs.Seen.{Each}
 use Rattle.mb_gate.specs.Untouched.{Origin}
 use Rattle.mb_gate.specs.View.{View, Sight, Read, owes, seeing, reading}
 use Rattle.mb_home.specs.AtHome.{closed_receivers, receiver_if_closed}
-use Rattle.mb_queue.specs.Passes.{Taking}
+use Rattle.mb_queue.specs.Passes.{Sending, Taking}
 use Rattle.mb_home.specs.Contents.{Contents}
 use Rattle.mb_home.specs.Settled.{IsSettled}
 use Rattle.mb_home.specs.Steps.{Pushes, Buries, next_envelope, reason_of}
 use Rattle.mb_home.proofs.SettleLemmas.{many-sends}
 use Rattle.mb_home.proofs.TellSteps.{told-there}
-use Rattle.mb_wake.proofs.Views.{owes-same}
+use Rattle.mb_wake.specs.Views.{LooksAfter}
+use Rattle.mb_wake.proofs.MoveLemmas.{Moves, moves-does}
+use Rattle.mb_wake.proofs.SendingLemmas.{sends-one, sends-back}
+use Rattle.mb_wake.proofs.Views.{owes-same, does-then}
 use Rattle.mb_turn.specs.Emptied.{TakesOn}
 use Rattle.mb_turn.specs.Hold.{Hold}
 use Rattle.mb_turn.specs.Running.{IsRunning, IsBeside, KeepsJournal, IsShutTo, counted_by}
+use Rattle.mb_turn.specs.Sending.{IsSentOrDead, TellsOpen, TellsRefused}
 use Rattle.mb_turn.proofs.BesideLemmas.{beside-home}
 use Rattle.mb_turn.proofs.EmptiedLemmas.{takes-same}
 use Rattle.mb_turn.proofs.RunningSteps.{running-seen, running-same, running-told}
@@ -53,14 +58,15 @@ settled-here gives actor old new number cell s =
 pub closed-word : (m : Mailbox) → m.closed ≡ true → word_of m ≡ 1
 closed-word m shut = ap (λ b. if b then 1 else 4 * m.count + (if m.scheduled then 2 else 0)) shut
 
-pub log-closed : (id : ℕ) (m : Mailbox) (a b : View) → m.closed ≡ true → b ≡ reading id (word_of m) a → b.log ≡ Read id 1 ∷ a.log
-log-closed id m a b shut known = ap (λ (v : View). v.log) known ∙ ap (λ w. Read id w ∷ a.log) (closed-word m shut)
+pub read-closed : (id : ℕ) (m : Mailbox) (a b : View) → m.closed ≡ true → b ≡ reading id (word_of m) a → b ≡ reading id 1 a
+read-closed id m a b shut known = known ∙ ap (λ w. reading id w a) (closed-word m shut)
 
-pub paid-closed : (id : ℕ) (m : Mailbox) (a b : View) → m.closed ≡ true → b ≡ reading id (word_of m) a → owes id b ≡ nothing
-paid-closed id m a b shut known =
-    ap (owes id) known
-    ∙ owes-same id (after_reading (mailbox_of (word_of m)) (owes id a)) (seeing (Read id (word_of m)) a)
-    ∙ ap (λ w. after_reading (mailbox_of w) (owes id a)) (closed-word m shut)
+pub log-closed : (id : ℕ) (a b : View) → b ≡ reading id 1 a → b.log ≡ Read id 1 ∷ a.log
+log-closed id a b known = ap (λ (v : View). v.log) known
+
+pub paid-closed : (id : ℕ) (a b : View) → b ≡ reading id 1 a → owes id b ≡ nothing
+paid-closed id a b known =
+    ap (owes id) known ∙ owes-same id (after_reading (mailbox_of 1) (owes id a)) (seeing (Read id 1) a)
 
 -- ---- a home whose cell and whose drained messages stay
 
@@ -84,6 +90,21 @@ module _ (h : Hold) (new : Contents) (cell : new.cell ≡ h.home.cell) where
   pub beside-cell : new.rest ≡ h.home.rest → new.dropped ≡ h.home.dropped → IsBeside h → IsBeside (record h { home = new })
   beside-cell rest dropped s =
       beside-home h s new (ap (λ (c : Seen). c.who) cell) (ap (λ (c : Seen). c.journal) cell) rest dropped
+
+-- a home of which what it tells changed its own passes, how many it sent, its dead letters and the room for them
+module _ (h : Hold) (new : Contents)
+    (same : new ≡ record h.home { sends = new.sends; sent = new.sent; dead = new.dead; room = new.room }) where
+  pub cell-told : new.cell ≡ h.home.cell
+  cell-told = ap (λ (x : Contents). x.cell) same
+
+  pub take-told : new.take ≡ h.home.take
+  take-told = ap (λ (x : Contents). x.take) same
+
+  pub keeps-told : KeepsJournal h (record h { home = new })
+  keeps-told = keeps-home h new cell-told take-told
+
+  pub beside-told : IsBeside h → IsBeside (record h { home = new })
+  beside-told = beside-cell h new cell-told (ap (λ (x : Contents). x.rest) same) (ap (λ (x : Contents). x.dropped) same)
 
 -- the next act was taken out to be carried out
 module _ (h : Hold) (new : Contents) (same : new ≡ record h.home { cell = record h.home.cell { acts = new.cell.acts } }) where
@@ -154,6 +175,13 @@ module _ (gives : ℕ → Moment → Reply → Type 0) (origin : Origin (Box Con
         IsRunning gives origin new.cell.acts seen (record h { home = new })
     running-refused_push refused b = running-buried (reason_of refused) b (none-known refused)
 
+    -- it was queued, or refused
+    pub running-sent : (queued : Bool) (a b : View) →
+        MatchBool queued (TellsOpen to body a b h.home new) (TellsRefused to body a b h.home new) →
+        IsRunning gives origin new.cell.acts seen (record h { home = new })
+    running-sent true a b t = running-pushed t.pushed
+    running-sent false a b t = running-refused_push t.refused t.buried
+
 -- one that was read closed
 pub running-told_closed : (gives : ℕ → Moment → Reply → Type 0) (origin : Origin (Box Contents)) (seen : List Sight) (h : Hold) (to : ActorId)
     (body : Body) (new : Contents) → IsRunning gives origin (Tell to body ∷ h.home.cell.acts) seen h →
@@ -162,3 +190,32 @@ pub running-told_closed : (gives : ℕ → Moment → Reply → Type 0) (origin 
 running-told_closed gives origin seen h to body new r settled b =
     running-buried gives origin (Read to.0 1 ∷ seen) h to body
     (running-seen gives origin (Tell to body ∷ h.home.cell.acts) (Read to.0 1 ∷ []) seen h r) new settled Closed b (shut-read seen h to.0, tt)
+
+-- ---- an envelope that was queued, or refused
+
+module _ (to : ActorId) (body : Body) where
+  -- and then looks
+  pub sent-then : (queued : Bool) (a b c : View) (home left : Contents) →
+      MatchBool queued (TellsOpen to body a b home left) (TellsRefused to body a b home left) → LooksAfter to.0 b c →
+      MatchBool queued (TellsOpen to body a c home left) (TellsRefused to body a c home left)
+  sent-then true a b c home left t looks =
+      record { word = t.word; not_closed = t.not_closed; did = does-then to.0 _ [] a b c t.did looks; pushed = t.pushed }
+  sent-then false a b c home left t looks =
+      record { word = t.word; not_closed = t.not_closed; did = does-then to.0 _ [] a b c t.did looks; refused = t.refused; buried = t.buried }
+
+  pub sent-moves : (queued : Bool) (a b : View) (home left : Contents) →
+      MatchBool queued (TellsOpen to body a b home left) (TellsRefused to body a b home left) → Moves to.0 a b
+  sent-moves true a b home left t = moves-does to.0 _ [] a b (tt, (tt, tt)) (sends-one to.0 t.word t.not_closed) t.did
+  sent-moves false a b home left t = moves-does to.0 _ [] a b (tt, (tt, (tt, tt))) (sends-back to.0 t.word t.not_closed) t.did
+
+  pub sent-told : (queued : Bool) (a b : View) (home left : Contents) →
+      MatchBool queued (TellsOpen to body a b home left) (TellsRefused to body a b home left) → IsSentOrDead to body a b home left
+  sent-told true a b home left t = inr (inl t)
+  sent-told false a b home left t = inr (inr t)
+
+-- all of the home but its own passes, how many it sent, its dead letters and the room for them is as it was
+pub leaves-rest : (old new : Contents) (sends : List Sending) (sent : ℕ) (dead : List DeadLetter) (room : ℕ) →
+    new ≡ record old { sends = sends; sent = sent; dead = dead; room = room } →
+    new ≡ record old { sends = new.sends; sent = new.sent; dead = new.dead; room = new.room }
+leaves-rest old new sends sent dead room is =
+    is ∙ sym (ap (λ (x : Contents). record old { sends = x.sends; sent = x.sent; dead = x.dead; room = x.room }) is)
