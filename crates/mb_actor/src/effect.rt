@@ -5,7 +5,7 @@ use mb_msg::ActorId;
 
 /// What an actor asks for while it is called. It is carried out after the call (this project's own profile: Akka
 /// carries it out at once).
-#[derive(Clone, Copy, Debug, PartialEq, Eq)]
+#[derive(Clone, Copy, PartialEq, Eq)]
 pub enum Effect {
     /// Send a message of this kind and value to this actor.
     Tell { to: ActorId, kind: u32, value: i64 },

@@ -1,5 +1,5 @@
 /// Where an actor stands in its life (Akka's actor life cycle).
-#[derive(Clone, Copy, Debug, PartialEq, Eq)]
+#[derive(Clone, Copy, PartialEq, Eq)]
 pub enum Phase {
     /// Not started yet.
     Fresh,

@@ -2,7 +2,7 @@ use mb_msg::{ActorId, Body};
 use mb_syslist::Node;
 
 /// What a cell asks for after a message, to be carried out before the next.
-#[derive(Debug, Drop)]
+#[derive(Drop)]
 pub enum Act {
     /// Send an envelope with this body to this actor.
     Tell(ActorId, Body),

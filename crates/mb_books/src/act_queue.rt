@@ -9,7 +9,7 @@ use std::alloc::{AllocError, Global};
 use std::marker::Model;
 
 /// What is to be carried out, before a node is there for it.
-#[derive(Clone, Copy, Debug)]
+#[derive(Clone, Copy)]
 pub(crate) enum Task {
     Tell(ActorId, Body),
     Sys(ActorId, SysMsg),

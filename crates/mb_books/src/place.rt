@@ -2,7 +2,7 @@ use mb_journal::Strategy;
 use mb_msg::ActorId;
 
 /// Where an actor stands among the others, which never changes (Akka's `ActorContext`).
-#[derive(Debug, Drop)]
+#[derive(Drop)]
 pub struct Place {
     pub this: ActorId,
     pub parent: Option<ActorId>,

@@ -2,7 +2,7 @@ use mb_actor::{Answer, Effect};
 use mb_msg::{Envelope, SysMsg};
 
 /// What came to an actor, and what became of it, without the effects. The fields lie in an order that takes 56 bytes.
-#[derive(Clone, Copy, Debug, PartialEq, Eq)]
+#[derive(Clone, Copy, PartialEq, Eq)]
 pub enum Arrival {
     /// An envelope that was handled: what the actor answered, if it was called, and the status word that was read
     /// before.
@@ -29,7 +29,7 @@ pub enum Arrival {
 }
 
 /// An entry of a journal, as it is read.
-#[derive(Clone, Copy, Debug)]
+#[derive(Clone, Copy)]
 pub struct Record<'a> {
     /// What came, and what became of it.
     pub arrival: Arrival,

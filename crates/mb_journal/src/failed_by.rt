@@ -1,7 +1,7 @@
 use mb_msg::ActorId;
 
 /// Who made an actor fail (Akka's `FailedInfo`).
-#[derive(Clone, Copy, Debug, PartialEq, Eq)]
+#[derive(Clone, Copy, PartialEq, Eq)]
 pub enum FailedBy {
     /// The actor has not failed.
     Nobody,

@@ -18,7 +18,6 @@ use std::marker::Model;
 /// What came to an actor and what became of it (this project's own profile: Akka keeps no journal).
 ///
 /// Room for an entry is made beforehand, by `ready`: to add the entry takes no memory.
-#[derive(Debug)]
 pub struct Journal {
     rows: Vec<Row>,
     effects: Vec<Effect>,

@@ -4,7 +4,7 @@ use std::mem::size_of;
 
 /// A row of the journal: an entry without its effects, and where they end in the list of all effects. They begin where
 /// those of the row before end.
-#[derive(Clone, Copy, Debug)]
+#[derive(Clone, Copy)]
 pub(crate) struct Row {
     pub(crate) arrival: Arrival,
     pub(crate) end: usize,
