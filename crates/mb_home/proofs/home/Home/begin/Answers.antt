@@ -1,11 +1,10 @@
-use Rattle.std.proofs.Common.{◌≡◌, sym, ap, subst}
+use Rattle.std.proofs.Common.{sym, ap, subst}
 use Rattle.mb_status.specs.Mailbox.{word_of}
 use Rattle.mb_cell.specs.MayHandle.{MayHandle}
 use Rattle.mb_cell.specs.Seen.{Seen, TakesEnvelope}
 use Rattle.mb_home.specs.Carried.{LeadsOn}
 use Rattle.mb_home.specs.Contents.{Contents}
 use Rattle.mb_home.specs.Settled.{IsSettled}
-use Rattle.mb_home.specs.Steps.{Begins}
 use Rattle.mb_home.proofs.TakenLemmas.{may-begin, begins-taken, leads-begun, settled-begins}
 use Rattle.mb_home.proofs.home.Home.begin.Goals as goal
 

@@ -3,6 +3,18 @@ use Rattle.std.proofs.lemmas.Option.{slice_get_read}
 use Rattle.mb_home.proofs.TellSteps.{pushed-into}
 use Rattle.mb_home.proofs.home.tells.push_into.Goals as goal
 
+pub push-requires-clause-sender : goal.push-requires-clause-sender
+push-requires-clause-sender g c =
+    (c.requires.fits c.index_mut.result.now
+    (slice_get_read c.args.sends.now.items (length c.args.sends.now.items) c.args.place c.index_mut.result.now refl c.requires.there
+    c.index_mut.ensures.value)).0
+
+pub push-requires-clause-addressed : goal.push-requires-clause-addressed
+push-requires-clause-addressed g c =
+    (c.requires.fits c.index_mut.result.now
+    (slice_get_read c.args.sends.now.items (length c.args.sends.now.items) c.args.place c.index_mut.result.now refl c.requires.there
+    c.index_mut.ensures.value)).1
+
 pub returns : goal.returns
 returns g c =
     record {
