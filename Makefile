@@ -2,29 +2,41 @@
 SCENARIO ?= examples/count.toml
 PREFIX ?= /usr/local
 PROGRAM := crates/mailrun/out/mailrun
-SOURCES := crates.txt HANDLES $(shell find crates -path '*/out' -prune -o \( -name '*.rt' -o -name '*.antt' \) -print)
 
-.PHONY: run examples test refuse check bench install
+.PHONY: run prove quick examples test refuse check wrong-bodies bench install proved
 .DEFAULT_GOAL := run
 
-# Runs a scenario and prints its report: make run [SCENARIO=path]
-run: $(PROGRAM)
-	@$(PROGRAM) < $(SCENARIO)
+# Runs a scenario and prints its report: make run [SCENARIO=path]. Where the program is not proved yet, an unproved build of its
+# sources runs. (Make ends with 2 where the run fails; tools/run ends with the program's own status.)
+run:
+	@tools/run $(SCENARIO)
+
+# Proves the program, or another crate, with all that it stands on, and builds it: make prove [CRATE=name]. What was proved before and
+# did not change takes seconds.
+prove:
+	@tools/prove $(CRATE)
+
+# What needs no proof: the list of definitions, the worked runs and the examples beside a second reader, and each example, scenario and
+# worked run by an unproved build.
+quick:
+	tools/check_definitions
+	tools/check_worked_runs
+	tools/check_examples
+	tools/try_scenarios
 
 # Runs each scenario of examples/, and sees to it that the report is printed that stands beside it.
-examples: $(PROGRAM)
+examples: proved
 	@tools/check_examples $(PROGRAM)
 
 # The gate: the list of definitions, the worked runs, the examples, every proof from nothing, the must-fail edits, the tests, the
 # program by two compilers, the program as a user runs it, also on worker threads, on what it has to refuse and on scenarios whose
 # outcome was worked out by hand, what becomes of refused allocations, where a C compiler is there, and random scenarios beside a second
-# reader.
+# reader. The program that `rt ci` proves and leaves is the one that all that follows runs.
 test:
 	tools/check_definitions
 	tools/check_worked_runs
 	tools/check_examples
-	rt ci
-	@$(MAKE) --no-print-directory $(PROGRAM)
+	sum=$$(tools/prove --sum) && rt ci && tools/prove --note $$sum
 	tools/check_program $(PROGRAM)
 	tools/check_worked_runs $(PROGRAM)
 	tools/check_examples $(PROGRAM)
@@ -35,24 +47,26 @@ test:
 	tools/compare_with_a_model $(PROGRAM)
 
 # Refuses each allocation of the program in turn, and each of a whole run by the tests that the gate has built.
-refuse: $(PROGRAM)
+refuse: proved
 	tools/refuse_each_allocation $(PROGRAM)
 	tools/refuse_each_allocation_of_a_system crates/mb_dispatch_tests/out/mb_dispatch_tests_tests
 
-# Proves what changed since the last check, lowest crate first.
+# Proves what changed since the last check, the crates of tests too, lowest crate first.
 check:
 	rt all check
+
+# Tries the wrong bodies that the gate leaves out: make wrong-bodies [CRATE=name]
+wrong-bodies:
+	tools/try_wrong_bodies $(CRATE)
 
 # What the parts cost: messages through a cell and its journal, the queues, the gates and the pools.
 bench:
 	@tools/prove bench
-	@cd crates/bench && rt run
+	@crates/bench/out/bench
 
 # Installs the one binary: make install [PREFIX=path]
-install: $(PROGRAM)
+install: proved
 	install -D -m 755 $(PROGRAM) $(DESTDIR)$(PREFIX)/bin/mailrun
 
-$(PROGRAM): $(SOURCES)
+proved:
 	@tools/prove mailrun
-	@cd crates/mailrun && rt run < stdin > out/make.log 2>&1 || { cat out/make.log >&2; exit 1; }
-	@touch $(PROGRAM)
