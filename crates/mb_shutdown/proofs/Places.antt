@@ -1,12 +1,12 @@
 -- The numbers of those that are there, by their places.
 use Rattle.std.proofs.Common.{◌≡◌, ◌⊎◌, inl, inr, ℕ, zero, suc, ◌+◌, ◌-◌, ◌<◌, ◌≤◌, List, [], ◌∷◌, length, map, refl, sym, ap, ◌∙◌, subst, Some}
 use Rattle.std.proofs.Common.{arith, get_or}
-use Rattle.std.specs.Prelude.{All, AllPairs, Bool, Contains, IsPermutation, IsTrue, MatchBool, MatchOption, None, Option, is_some, slice_get, ◌≢◌, ◌↔◌, false, true}
+use Rattle.std.specs.Prelude.{All, AllPairs, Bool, Contains, IsPermutation, IsTrue, MatchOption, None, Option, is_some, slice_get, ◌≢◌, ◌↔◌}
 use Rattle.std.specs.List.{AllWithin, HoldsAt, swap}
 use Rattle.std.proofs.lemmas.Bool.{cases_eq}
 use Rattle.std.proofs.lemmas.List.Elements.{All-get_or, All-weaker}
 use Rattle.std.proofs.lemmas.List.Edits.{swapped_from_swap}
-use Rattle.std.proofs.lemmas.List.Sorted.{All-permutation, Contains-permutation, IsPermutation-map, IsPermutation-swap, IsPermutation-sym, length_permutation}
+use Rattle.std.proofs.lemmas.List.Sorted.{Contains-permutation, IsPermutation-map, IsPermutation-swap, IsPermutation-sym, length_permutation}
 use Rattle.std.proofs.lemmas.Option.{get_or_from_slice_get, none-some, same_Some, slice_get-get_or, slice_get_within}
 use Rattle.mb_build.specs.Numbers.{numbers}
 use Rattle.mb_reckon.proofs.Lists.{at-place, each-place, from-mapped, length-mapped, mapped, there}
@@ -78,13 +78,6 @@ module _ {X : Type 0} (f : X → ℕ) where
       none found.0 one.0 (omega arith) (slice_get_within xs found.0 one.0 one.1)
       (ap f (get_or_from_slice_get xs found.0 one.0 one.0 one.1) ∙ one.2)
 
-  pub found-any : (xs : List X) (n : ℕ) (any : Bool)
-      → MatchBool any ((k : ℕ) × (k < length xs) × HoldsAt (λ x. f x ≡ n) xs k) (AllWithin (λ x. f x ≡ n → ⊥) xs 0 (length xs))
-      → IsTrue any ↔ Contains (map f xs) n
-  found-any xs n true found =
-      (λ _. contains-at (map f xs) found.0 n (found-at xs n found.0 found.1 found.2), λ _. refl)
-  found-any xs n false none = (λ e. absurd (cc), λ is_there. absurd (of-none xs n none is_there))
-
   pub found-place : (xs : List X) (n : ℕ) (place : Option ℕ)
       → MatchOption place (AllWithin (λ x. f x ≡ n → ⊥) xs 0 (length xs))
       (λ k. (k < length xs) × HoldsAt (λ x. f x ≡ n) xs k × AllWithin (λ x. f x ≡ n → ⊥) xs 0 k)
@@ -93,7 +86,7 @@ module _ {X : Type 0} (f : X → ℕ) where
   found-place xs n (Some k) found = found-at xs n k found.0 found.1
 
   -- the one of the next number comes to its place
-  placed-more : (xs ys : List X) (p o : ℕ) → ArePlaced (map f xs) p → p < length xs → slice_get (map f xs) o ≡ Some p → ys ≡ swap xs p o
+  pub placed-more : (xs ys : List X) (p o : ℕ) → ArePlaced (map f xs) p → p < length xs → slice_get (map f xs) o ≡ Some p → ys ≡ swap xs p o
       → ArePlaced (map f ys) (p + 1)
   placed-more xs ys p o placed lt is swapped =
       let other = from-mapped f xs o p is in let x = other.0 in
@@ -114,49 +107,15 @@ module _ {X : Type 0} (f : X → ℕ) where
           mapped f ys k one.0
           (slice_get-get_or ys k d (omega (arith, many, in_k)) ∙ ap Some (now ∙ get_or_from_slice_get xs k one.0 d one.1)) ∙ ap Some one.2
 
-module _ {A K : Type 0} where
-  -- a sender outside the actors is named by its own number, or by its number as a sender
-  pub place-outside : (senders : List (Sender A K)) (n place : ℕ) → slice_get (map (λ (s : Sender A K). s.inner.book.by.0) senders) place ≡ Some (64 + n)
-      → slice_get (senders_numbers senders) place ≡ Some n
-  place-outside senders n place is =
-      let one = from-mapped (λ (s : Sender A K). s.inner.book.by.0) senders place (64 + n) is in
-      mapped (λ (s : Sender A K). s.inner.book.by.0 - 64) senders place one.0 one.1
-      ∙ ap Some (ap (λ (m : ℕ). m - 64) one.2 ∙ (omega arith))
+  -- one that was there is still there, in a place
+  pub still-there : (now was : List X) (many n : ℕ) → IsPermutation now was → AreThere many (map f was) → n < many → Contains (map f now) n
+  still-there now was many n same all lt =
+      Contains-permutation (map f was) (map f now) n (IsPermutation-map f was now (IsPermutation-sym now was same)) (all n lt)
 
-  pub outside-number : (senders : List (Sender A K)) (n : ℕ) → All (λ (s : Sender A K). 64 ≤ s.inner.book.by.0) senders
-      → Contains (senders_numbers senders) n → Contains (map (λ (s : Sender A K). s.inner.book.by.0) senders) (64 + n)
-  outside-number senders n outside is_there =
-      let found = at-contained (senders_numbers senders) n is_there in
-      let one = from-mapped (λ (s : Sender A K). s.inner.book.by.0 - 64) senders found.0 n found.1 in
-      let least = at-place (λ (s : Sender A K). 64 ≤ s.inner.book.by.0) senders found.0 one.0 outside one.1 in
-      let e = one.2 in
-      contains-at (map (λ (s : Sender A K). s.inner.book.by.0) senders) found.0 (64 + n)
-      (mapped (λ (s : Sender A K). s.inner.book.by.0) senders found.0 one.0 one.1 ∙ ap Some (omega (arith, least, e)))
-
-  pub outside-there : (senders : List (Sender A K)) (n : ℕ) → Contains (map (λ (s : Sender A K). s.inner.book.by.0) senders) (64 + n)
-      → Contains (senders_numbers senders) n
-  outside-there senders n is_there =
-      let found = at-contained (map (λ (s : Sender A K). s.inner.book.by.0) senders) (64 + n) is_there in
-      contains-at (senders_numbers senders) found.0 n (place-outside senders n found.0 found.1)
-
-  pub sender-placed : (old new : List (Sender A K)) (place other : ℕ) → ArePlaced (senders_numbers old) place → place < length old
-      → slice_get (senders_numbers old) other ≡ Some place → new ≡ swap old place other → ArePlaced (senders_numbers new) (place + 1)
-  sender-placed = placed-more (λ (s : Sender A K). s.inner.book.by.0 - 64)
-
-  -- a sender that was there is still there, in a place
-  pub still-there : (now was : List (Sender A K)) (many n : ℕ) → IsPermutation now was → All (λ (s : Sender A K). 64 ≤ s.inner.book.by.0) was
-      → AreThere many (senders_numbers was) → n < many → Contains (map (λ (s : Sender A K). s.inner.book.by.0) now) (64 + n)
-  still-there now was many n same outside all lt =
-      let back = IsPermutation-sym now was same in
-      outside-number now n (All-permutation (λ (s : Sender A K). 64 ≤ s.inner.book.by.0) was now back outside)
-      (Contains-permutation (senders_numbers was) (senders_numbers now) n
-      (IsPermutation-map (λ (s : Sender A K). s.inner.book.by.0 - 64) was now back) (all n lt))
-
-  pub numbers-placed : (now : List (Sender A K)) (place : ℕ) → length now ≤ place → ArePlaced (senders_numbers now) place
-      → senders_numbers now ≡ numbers 0 (length now)
+  pub numbers-placed : (now : List X) (place : ℕ) → length now ≤ place → ArePlaced (map f now) place → map f now ≡ numbers 0 (length now)
   numbers-placed now place all placed =
-      let many = length-mapped (λ (s : Sender A K). s.inner.book.by.0 - 64) now in
-      in-order (senders_numbers now) 0 (λ k lt. placed k (omega (arith, lt, many, all)) ∙ ap Some (omega arith)) ∙ ap (numbers 0) many
+      let many = length-mapped f now in
+      in-order (map f now) 0 (λ k lt. placed k (omega (arith, lt, many, all)) ∙ ap Some (omega arith)) ∙ ap (numbers 0) many
 
 -- ---- as many as there are numbers
 

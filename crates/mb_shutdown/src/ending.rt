@@ -13,7 +13,7 @@ ghost use Rattle.mb_shutdown.specs.Belonging.{AreAnswers, HasAllSeen, HasRead, I
 ghost use Rattle.mb_shutdown.specs.Refused.{DisagreesIfSaid, FindsUnsettled, HasComeHome, IsComplete, IsRefusal};
 
 use crate::leaving::gather;
-use crate::missing::{missing_end, missing_sender};
+use crate::missing::missing;
 use mb_actor::{Actor, Behaviours};
 use mb_msg::ActorId;
 use mb_reckon::{Mismatch, Outsider, Room, first_unsettled, make_room, reckon};
@@ -56,10 +56,10 @@ pub fn finish<A: Actor, K: Behaviours, R: Wait>(
     ensures refused { IfErr result (IsRefusal built) }
     ensures why { IfErr result (DisagreesIfSaid K.gives built) }
 {
-    if let Some(number) = missing_end(&built) {
+    if let Some(number) = missing(built.system.workers, &built.ends) {
         return Err(FinishError::MissingEnd(number, built));
     }
-    if let Some(number) = missing_sender(&built) {
+    if let Some(number) = missing(built.system.senders, &built.senders) {
         return Err(FinishError::MissingSender(number, built));
     }
     let mut built = built;

@@ -5,6 +5,7 @@
 mod ending;
 mod leaving;
 mod missing;
+mod numbered;
 
 pub use ending::{FinishError, finish};
 pub use mb_reckon::Mismatch;

@@ -11,32 +11,49 @@ use Rattle.mb_reckon.specs.Whole.{IsWhole}
 use Rattle.mb_reckon.specs.declared.outsider.Outsider.{Outsider}
 use Rattle.mb_system.specs.Belonging.{senders_numbers}
 use Rattle.mb_system.specs.Members.{ends_numbers}
-use Rattle.mb_shutdown.specs.Belonging.{AreThere, HasRead}
+use Rattle.mb_shutdown.specs.Belonging.{AreThere, HasRead, IsLeastMissing}
 use Rattle.mb_shutdown.proofs.Back.{counted-all, back-complete, back-ends, back-some, back-together, left-counted, settled-then-read, some-end}
 use Rattle.mb_shutdown.proofs.Closing.{as-many-outside, came-answers, came-known, came-outside, came-room, came-ways, gathered, goes-on}
-use Rattle.mb_shutdown.proofs.Places.{as-many-senders, outside-all}
+use Rattle.mb_shutdown.proofs.Places.{as-many-senders}
 use Rattle.mb_shutdown.proofs.ending.finish.Goals as goal
 
 pub returns-in-Some-clause-refused : goal.returns-in-Some-clause-refused
-returns-in-Some-clause-refused g c = (c.in-Some.ensures, refl)
+returns-in-Some-clause-refused g c =
+    let built = c.args.built in
+    (subst (λ l. IsLeastMissing built.system.workers (ends_numbers l) c.in-Some.number) c.deref.ensures.value c.in-Some.ensures, refl)
 
-pub missing_sender-requires : goal.missing_sender-requires
-missing_sender-requires g c =
-    let built = c.args.built in record {
-      outside = outside-all built.system.senders built.senders.items c.requires.together.numbered;
-    }
+pub returns-in-Some-missing-clause-refused : goal.returns-in-Some-missing-clause-refused
+returns-in-Some-missing-clause-refused g c =
+    let built = c.args.built in (
+      subst (λ l. AreThere built.system.workers (ends_numbers l)) c.deref.ensures.value c.in_default.ensures,
+      subst (λ l. IsLeastMissing built.system.senders (senders_numbers l) c.in-Some-missing.number) c.deref-2.ensures.value c.in-Some-missing.ensures,
+      refl,
+    )
 
 pub unsettled-requires : goal.unsettled-requires
 unsettled-requires g c =
     let built = c.args.built in record {
       ours = c.requires.together.ends;
-      some = some-end built.ends.items built.system.workers built.system.some c.in_default.ensures;
+      some = some-end built.ends.items built.system.workers built.system.some
+          (subst (λ l. AreThere built.system.workers (ends_numbers l)) c.deref.ensures.value c.in_default.ensures);
     }
+
+pub returns-in-Some-unsettled-clause-refused : goal.returns-in-Some-unsettled-clause-refused
+returns-in-Some-unsettled-clause-refused g c =
+    let built = c.args.built in (
+      (
+        subst (λ l. AreThere built.system.workers (ends_numbers l)) c.deref.ensures.value c.in_default.ensures,
+        subst (λ l. AreThere built.system.senders (senders_numbers l)) c.deref-2.ensures.value c.in_default-missing.ensures,
+      ),
+      c.in-Some-unsettled.ensures.0,
+      c.in-Some-unsettled.ensures.1,
+    )
 
 pub room_of-requires : goal.room_of-requires
 room_of-requires g c =
     let built = c.args.built in let b1 = c.unsettled.new.built in let together = c.requires.together in
-    let senders : AreThere built.system.senders (senders_numbers built.senders.items) = c.in_default-missing_sender.ensures in
+    let senders : AreThere built.system.senders (senders_numbers built.senders.items) =
+    subst (λ l. AreThere built.system.senders (senders_numbers l)) c.deref-2.ensures.value c.in_default-missing.ensures in
     let settled : HasRead (AreSettledBy 0 (actors_of built.system.gates)) built b1 = c.in_default-unsettled.ensures in
     let many = as-many-senders built.system.senders built.senders.items senders together.numbered together.once in
     let same = ap length settled.2.senders in
@@ -49,8 +66,10 @@ room_of-requires g c =
 pub returns-in_default-room_of-clause-refused : goal.returns-in_default-room_of-clause-refused
 returns-in_default-room_of-clause-refused g c =
     let built = c.args.built in let b1 = c.unsettled.new.built in let b2 = c.room_of.new.built in
-    let ends : AreThere built.system.workers (ends_numbers built.ends.items) = c.in_default.ensures in
-    let senders : AreThere built.system.senders (senders_numbers built.senders.items) = c.in_default-missing_sender.ensures in
+    let ends : AreThere built.system.workers (ends_numbers built.ends.items) =
+    subst (λ l. AreThere built.system.workers (ends_numbers l)) c.deref.ensures.value c.in_default.ensures in
+    let senders : AreThere built.system.senders (senders_numbers built.senders.items) =
+    subst (λ l. AreThere built.system.senders (senders_numbers l)) c.deref-2.ensures.value c.in_default-missing.ensures in
     let settled : HasRead (AreSettledBy 0 (actors_of built.system.gates)) built b1 = c.in_default-unsettled.ensures in
     let found = settled-then-read (actors_of built.system.gates) built b1 b2 settled c.room_of.ensures.read in
     ((ends, senders), found)
@@ -58,8 +77,10 @@ returns-in_default-room_of-clause-refused g c =
 pub gather-gates-requires-clause-together : goal.gather-gates-requires-clause-together
 gather-gates-requires-clause-together g c =
     let built = c.args.built in let b1 = c.unsettled.new.built in let b2 = c.room_of.new.built in
-    let ends : AreThere built.system.workers (ends_numbers built.ends.items) = c.in_default.ensures in
-    let senders : AreThere built.system.senders (senders_numbers built.senders.items) = c.in_default-missing_sender.ensures in
+    let ends : AreThere built.system.workers (ends_numbers built.ends.items) =
+    subst (λ l. AreThere built.system.workers (ends_numbers l)) c.deref.ensures.value c.in_default.ensures in
+    let senders : AreThere built.system.senders (senders_numbers built.senders.items) =
+    subst (λ l. AreThere built.system.senders (senders_numbers l)) c.deref-2.ensures.value c.in_default-missing.ensures in
     let settled : HasRead (AreSettledBy 0 (actors_of built.system.gates)) built b1 = c.in_default-unsettled.ensures in
     let found = settled-then-read (actors_of built.system.gates) built b1 b2 settled c.room_of.ensures.read in
     back-together built b2 found.0 found.1 found.2 c.requires.together
@@ -67,8 +88,10 @@ gather-gates-requires-clause-together g c =
 pub gather-gates-requires-clause-complete : goal.gather-gates-requires-clause-complete
 gather-gates-requires-clause-complete g c =
     let built = c.args.built in let b1 = c.unsettled.new.built in let b2 = c.room_of.new.built in
-    let ends : AreThere built.system.workers (ends_numbers built.ends.items) = c.in_default.ensures in
-    let senders : AreThere built.system.senders (senders_numbers built.senders.items) = c.in_default-missing_sender.ensures in
+    let ends : AreThere built.system.workers (ends_numbers built.ends.items) =
+    subst (λ l. AreThere built.system.workers (ends_numbers l)) c.deref.ensures.value c.in_default.ensures in
+    let senders : AreThere built.system.senders (senders_numbers built.senders.items) =
+    subst (λ l. AreThere built.system.senders (senders_numbers l)) c.deref-2.ensures.value c.in_default-missing.ensures in
     let settled : HasRead (AreSettledBy 0 (actors_of built.system.gates)) built b1 = c.in_default-unsettled.ensures in
     let found = settled-then-read (actors_of built.system.gates) built b1 b2 settled c.room_of.ensures.read in
     back-complete built b2 found.0 found.1 found.2 (ends, senders)
@@ -83,8 +106,10 @@ gather-gates-requires-clause-room g c =
 pub reckon-requires : goal.reckon-requires
 reckon-requires g c =
     let built = c.args.built in let b1 = c.unsettled.new.built in let b2 = c.room_of.new.built in
-    let ends : AreThere built.system.workers (ends_numbers built.ends.items) = c.in_default.ensures in
-    let senders : AreThere built.system.senders (senders_numbers built.senders.items) = c.in_default-missing_sender.ensures in
+    let ends : AreThere built.system.workers (ends_numbers built.ends.items) =
+    subst (λ l. AreThere built.system.workers (ends_numbers l)) c.deref.ensures.value c.in_default.ensures in
+    let senders : AreThere built.system.senders (senders_numbers built.senders.items) =
+    subst (λ l. AreThere built.system.senders (senders_numbers l)) c.deref-2.ensures.value c.in_default-missing.ensures in
     let settled : HasRead (AreSettledBy 0 (actors_of built.system.gates)) built b1 = c.in_default-unsettled.ensures in
     let found = settled-then-read (actors_of built.system.gates) built b1 b2 settled c.room_of.ensures.read in
     let gates = c.gather-gates.result.0 in let log = (known_by c.gather-gates.result.1).log in
@@ -108,8 +133,10 @@ reckon-requires g c =
 pub returns-in-Ok-clause-whole : goal.returns-in-Ok-clause-whole
 returns-in-Ok-clause-whole g c =
     let built = c.args.built in let b1 = c.unsettled.new.built in let b2 = c.room_of.new.built in
-    let ends : AreThere built.system.workers (ends_numbers built.ends.items) = c.in_default.ensures in
-    let senders : AreThere built.system.senders (senders_numbers built.senders.items) = c.in_default-missing_sender.ensures in
+    let ends : AreThere built.system.workers (ends_numbers built.ends.items) =
+    subst (λ l. AreThere built.system.workers (ends_numbers l)) c.deref.ensures.value c.in_default.ensures in
+    let senders : AreThere built.system.senders (senders_numbers built.senders.items) =
+    subst (λ l. AreThere built.system.senders (senders_numbers l)) c.deref-2.ensures.value c.in_default-missing.ensures in
     let settled : HasRead (AreSettledBy 0 (actors_of built.system.gates)) built b1 = c.in_default-unsettled.ensures in
     let found = settled-then-read (actors_of built.system.gates) built b1 b2 settled c.room_of.ensures.read in
     let gates = c.gather-gates.result.0 in let log = (known_by c.gather-gates.result.1).log in
@@ -129,8 +156,10 @@ returns-in-Ok-clause-whole g c =
 pub returns-in-Ok-clause-quiet : goal.returns-in-Ok-clause-quiet
 returns-in-Ok-clause-quiet g c =
     let built = c.args.built in let b1 = c.unsettled.new.built in let b2 = c.room_of.new.built in
-    let ends : AreThere built.system.workers (ends_numbers built.ends.items) = c.in_default.ensures in
-    let senders : AreThere built.system.senders (senders_numbers built.senders.items) = c.in_default-missing_sender.ensures in
+    let ends : AreThere built.system.workers (ends_numbers built.ends.items) =
+    subst (λ l. AreThere built.system.workers (ends_numbers l)) c.deref.ensures.value c.in_default.ensures in
+    let senders : AreThere built.system.senders (senders_numbers built.senders.items) =
+    subst (λ l. AreThere built.system.senders (senders_numbers l)) c.deref-2.ensures.value c.in_default-missing.ensures in
     let settled : HasRead (AreSettledBy 0 (actors_of built.system.gates)) built b1 = c.in_default-unsettled.ensures in
     let found = settled-then-read (actors_of built.system.gates) built b1 b2 settled c.room_of.ensures.read in
     let gates = c.gather-gates.result.0 in let log = (known_by c.gather-gates.result.1).log in
@@ -141,8 +170,10 @@ returns-in-Ok-clause-quiet g c =
 pub returns-in-Ok-clause-seen : goal.returns-in-Ok-clause-seen
 returns-in-Ok-clause-seen g c =
     let built = c.args.built in let b1 = c.unsettled.new.built in let b2 = c.room_of.new.built in
-    let ends : AreThere built.system.workers (ends_numbers built.ends.items) = c.in_default.ensures in
-    let senders : AreThere built.system.senders (senders_numbers built.senders.items) = c.in_default-missing_sender.ensures in
+    let ends : AreThere built.system.workers (ends_numbers built.ends.items) =
+    subst (λ l. AreThere built.system.workers (ends_numbers l)) c.deref.ensures.value c.in_default.ensures in
+    let senders : AreThere built.system.senders (senders_numbers built.senders.items) =
+    subst (λ l. AreThere built.system.senders (senders_numbers l)) c.deref-2.ensures.value c.in_default-missing.ensures in
     let settled : HasRead (AreSettledBy 0 (actors_of built.system.gates)) built b1 = c.in_default-unsettled.ensures in
     let found = settled-then-read (actors_of built.system.gates) built b1 b2 settled c.room_of.ensures.read in
     let gates = c.gather-gates.result.0 in let log = (known_by c.gather-gates.result.1).log in
@@ -153,8 +184,10 @@ returns-in-Ok-clause-seen g c =
 pub returns-in-Err-clause-refused : goal.returns-in-Err-clause-refused
 returns-in-Err-clause-refused g c =
     let built = c.args.built in let b1 = c.unsettled.new.built in let b2 = c.room_of.new.built in
-    let ends : AreThere built.system.workers (ends_numbers built.ends.items) = c.in_default.ensures in
-    let senders : AreThere built.system.senders (senders_numbers built.senders.items) = c.in_default-missing_sender.ensures in
+    let ends : AreThere built.system.workers (ends_numbers built.ends.items) =
+    subst (λ l. AreThere built.system.workers (ends_numbers l)) c.deref.ensures.value c.in_default.ensures in
+    let senders : AreThere built.system.senders (senders_numbers built.senders.items) =
+    subst (λ l. AreThere built.system.senders (senders_numbers l)) c.deref-2.ensures.value c.in_default-missing.ensures in
     let settled : HasRead (AreSettledBy 0 (actors_of built.system.gates)) built b1 = c.in_default-unsettled.ensures in
     let found = settled-then-read (actors_of built.system.gates) built b1 b2 settled c.room_of.ensures.read in
     let gates = c.gather-gates.result.0 in let log = (known_by c.gather-gates.result.1).log in
@@ -168,8 +201,10 @@ returns-in-Err-clause-refused g c =
 pub returns-in-Ok-clause-home : goal.returns-in-Ok-clause-home
 returns-in-Ok-clause-home g c =
     let built = c.args.built in let b1 = c.unsettled.new.built in let b2 = c.room_of.new.built in
-    let ends : AreThere built.system.workers (ends_numbers built.ends.items) = c.in_default.ensures in
-    let senders : AreThere built.system.senders (senders_numbers built.senders.items) = c.in_default-missing_sender.ensures in
+    let ends : AreThere built.system.workers (ends_numbers built.ends.items) =
+    subst (λ l. AreThere built.system.workers (ends_numbers l)) c.deref.ensures.value c.in_default.ensures in
+    let senders : AreThere built.system.senders (senders_numbers built.senders.items) =
+    subst (λ l. AreThere built.system.senders (senders_numbers l)) c.deref-2.ensures.value c.in_default-missing.ensures in
     let settled : HasRead (AreSettledBy 0 (actors_of built.system.gates)) built b1 = c.in_default-unsettled.ensures in
     let found = settled-then-read (actors_of built.system.gates) built b1 b2 settled c.room_of.ensures.read in
     let gates = c.gather-gates.result.0 in let v = known_by c.gather-gates.result.1 in let log = v.log in
@@ -188,8 +223,10 @@ returns-in-Ok-clause-home g c =
 pub returns-in-Err-clause-why : goal.returns-in-Err-clause-why
 returns-in-Err-clause-why g c =
     let built = c.args.built in let b1 = c.unsettled.new.built in let b2 = c.room_of.new.built in
-    let ends : AreThere built.system.workers (ends_numbers built.ends.items) = c.in_default.ensures in
-    let senders : AreThere built.system.senders (senders_numbers built.senders.items) = c.in_default-missing_sender.ensures in
+    let ends : AreThere built.system.workers (ends_numbers built.ends.items) =
+    subst (λ l. AreThere built.system.workers (ends_numbers l)) c.deref.ensures.value c.in_default.ensures in
+    let senders : AreThere built.system.senders (senders_numbers built.senders.items) =
+    subst (λ l. AreThere built.system.senders (senders_numbers l)) c.deref-2.ensures.value c.in_default-missing.ensures in
     let settled : HasRead (AreSettledBy 0 (actors_of built.system.gates)) built b1 = c.in_default-unsettled.ensures in
     let found = settled-then-read (actors_of built.system.gates) built b1 b2 settled c.room_of.ensures.read in
     let gates = c.gather-gates.result.0 in let v = known_by c.gather-gates.result.1 in let log = v.log in

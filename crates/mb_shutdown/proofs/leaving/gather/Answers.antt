@@ -1,4 +1,4 @@
-use Rattle.std.proofs.Common.{◌≡◌, ◌≤◌, ◌∷◌, length, map, refl, sym, ap, ◌∙◌, subst, arith, length-append}
+use Rattle.std.proofs.Common.{◌≡◌, ◌∷◌, length, map, refl, sym, ap, ◌∙◌, subst, arith, length-append}
 use Rattle.std.specs.Prelude.{IsPermutation}
 use Rattle.std.specs.Vec.Iter.{into_iter_items}
 use Rattle.std.proofs.lemmas.List.{nil_from_length}
@@ -12,7 +12,7 @@ use Rattle.mb_system.specs.Members.{IsSenderOf}
 use Rattle.mb_shutdown.specs.Belonging.{brings}
 use Rattle.mb_shutdown.proofs.Back.{some-end}
 use Rattle.mb_shutdown.proofs.Gathered.{end-ours, ends-all, ends-first, ends-more, seen_by_sender, sender-ours, senders-all, senders-first, senders-more}
-use Rattle.mb_shutdown.proofs.Places.{all-there, as-many-senders, outside-all}
+use Rattle.mb_shutdown.proofs.Places.{all-there, as-many-senders}
 use Rattle.mb_shutdown.proofs.leaving.gather.Goals as goal
 
 pub arrange-requires : goal.arrange-requires
@@ -23,8 +23,6 @@ arrange-requires g c =
     let long = ap length is in
     let few = built.system.few.1 in record {
       few = omega (arith, long, many, few);
-      outside = All-same (λ s. 64 ≤ s.inner.book.by.0) c.deref_mut.result.now built.senders.items is
-          (outside-all built.system.senders built.senders.items together.numbered);
       there = all-there built.system.senders c.deref_mut.result.now built.senders.items is many c.requires.complete.1;
     }
 
@@ -64,11 +62,11 @@ loop-end-preserved g c =
 
 pub loop-sender-init : goal.loop-sender-init
 loop-sender-init g c =
-    let built = c.args.built in let at = c.loop-end in let together = c.requires.together in let now = c.arrange.new.senders in
+    let built = c.args.built in let at = c.loop-end in let together = c.requires.together in let now = c.arrange.new.all in
     let many = as-many-senders built.system.senders built.senders.items c.requires.complete.1 together.numbered together.once in
     let is = c.deref_mut.ensures.value in
     let same : IsPermutation now built.senders.items = subst (λ l. IsPermutation now l) is c.arrange.ensures.same in
-    let long : length now ≡ length built.senders.items = c.arrange.auto.senders ∙ ap length is in
+    let long : length now ≡ length built.senders.items = c.arrange.auto.all ∙ ap length is in
     let rest : into_iter_items c.into_iter-sender-iterator.result ≡ now =
     c.into_iter-sender-iterator.ensures.into_iter_gives.0 ∙ refilled built.senders.len built.senders.items now (long ∙ sym built.senders.ok.0) in
     let left = ap length rest in
