@@ -28,12 +28,13 @@ quick:
 examples: proved
 	@tools/check_examples $(PROGRAM)
 
-# The gate: the list of definitions, the worked runs, the examples, every proof from nothing, the must-fail edits, the tests, the
-# program by two compilers, the program as a user runs it, also on worker threads, on what it has to refuse and on scenarios whose
-# outcome was worked out by hand, what becomes of refused allocations, where a C compiler is there, and random scenarios beside a second
-# reader. The program that `rt ci` proves and leaves is the one that all that follows runs.
+# The gate: the list of definitions, that of the wrong bodies, the worked runs, the examples, every proof from nothing, the must-fail
+# edits, the tests, the program by two compilers, the program as a user runs it, also on worker threads, on what it has to refuse and on
+# scenarios whose outcome was worked out by hand, what becomes of refused allocations, where a C compiler is there, and random scenarios
+# beside a second reader.
 test:
 	tools/check_definitions
+	tools/check_wrong_bodies
 	tools/check_worked_runs
 	tools/check_examples
 	sum=$$(tools/prove --sum) && rt ci && tools/prove --note $$sum

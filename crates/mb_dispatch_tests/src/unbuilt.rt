@@ -1,7 +1,7 @@
 //! Plans of which no system is built.
-use mb_startup::{BuildError, PlanError, build};
 use mb_msg::ActorId;
 use mb_plan::Plan;
+use mb_startup::{BuildError, PlanError, build};
 use mb_trial::{Adding, COUNTER, Mailbox, PLAIN, Part, Player, Story, plan_of, players_of};
 use std::alloc::{AllocError, Global};
 use std::sync::Wait;

@@ -3,55 +3,67 @@
 use mb_core::{ActorState, Debt, Event, Messages, Step};
 use mb_msg::{ActorId, Body, Envelope, SenderId, SysMsg};
 use std::alloc::Global;
-use std::test::Fail;
 
 /// The actor of the tables.
 pub const ACTOR: ActorId = ActorId(0);
 
 /// The steps of a text, apart by commas.
-pub fn events_of(alloc: Global, text: &str) -> Result<Vec<Event>, Fail> {
+pub fn events_of(alloc: Global, text: &str) -> Option<Vec<Event>> {
     let mut events = Vec::new(alloc);
-    if text.is_empty() {
-        return Ok(events);
+    if text.is_empty() || add_events(&mut events, alloc, text).is_some() {
+        return Some(events);
     }
+    None
+}
+
+fn add_events(events: &mut Vec<Event>, alloc: Global, text: &str) -> Option<()> {
     for step in text.split(',') {
-        events.push(event_of(alloc, ACTOR, step.trim())?)?;
+        events.push(event_of(alloc, ACTOR, step.trim())?).ok()?;
     }
-    Ok(events)
+    Some(())
 }
 
 /// A step with its party: `1 add terminate`.
-pub fn event_of(alloc: Global, actor: ActorId, text: &str) -> Result<Event, Fail> {
-    let (party, step) = text.split_once(' ').ok_or("no step")?;
-    Ok(Event {
+pub fn event_of(alloc: Global, actor: ActorId, text: &str) -> Option<Event> {
+    let (party, step) = text.split_once(' ')?;
+    Some(Event {
         party: number(party)? as usize,
         actor,
         step: step_of(alloc, actor, step)?,
     })
 }
 
-fn number(text: &str) -> Result<u32, Fail> {
-    Ok(text.parse::<u32>().ok().ok_or("no number")?)
+fn number(text: &str) -> Option<u32> {
+    text.parse::<u32>().ok()
 }
 
 /// A step: its name, and what it takes.
-pub fn step_of(alloc: Global, actor: ActorId, text: &str) -> Result<Step, Fail> {
-    if let Some(step) = plain_step(text) {
-        return Ok(step);
+pub fn step_of(alloc: Global, actor: ActorId, text: &str) -> Option<Step> {
+    match plain_step(text) {
+        Some(step) => Some(step),
+        None => step_with(alloc, actor, text),
     }
+}
+
+/// A step that takes something.
+fn step_with(alloc: Global, actor: ActorId, text: &str) -> Option<Step> {
     let (name, rest) = text.split_once(' ').unwrap_or((text, ""));
-    Ok(match name {
-        "idle" => Step::Idle(Messages::new(messages_of(alloc, rest)?)),
-        "push" => Step::Push(Envelope {
-            by: SenderId(64),
-            number: u64::from(number(rest)?),
-            to: actor,
-            body: Body::PoisonPill,
-        }),
-        "take" => Step::Take(number(rest)? as usize),
-        "add" => Step::SysAdd(message_of(rest).ok_or("no message")?),
-        _ => return Err(Fail::from("no such step")),
-    })
+    match name {
+        "idle" => Some(Step::Idle(Messages::new(messages_of(alloc, rest)?))),
+        "push" => Some(Step::Push(envelope_of(actor, number(rest)?))),
+        "take" => Some(Step::Take(number(rest)? as usize)),
+        "add" => Some(Step::SysAdd(message_of(rest)?)),
+        _ => None,
+    }
+}
+
+fn envelope_of(to: ActorId, number: u32) -> Envelope {
+    Envelope {
+        by: SenderId(64),
+        number: u64::from(number),
+        to,
+        body: Body::PoisonPill,
+    }
 }
 
 /// A step that takes nothing.
@@ -82,12 +94,20 @@ fn message_of(text: &str) -> Option<SysMsg> {
 }
 
 /// System messages by their names.
-pub fn messages_of(alloc: Global, text: &str) -> Result<Vec<SysMsg>, Fail> {
+pub fn messages_of(alloc: Global, text: &str) -> Option<Vec<SysMsg>> {
     let mut messages = Vec::new(alloc);
-    for word in text.split_whitespace() {
-        messages.push(message_of(word).ok_or("no message")?)?;
+    if add_messages(&mut messages, text).is_some() {
+        Some(messages)
+    } else {
+        None
     }
-    Ok(messages)
+}
+
+fn add_messages(messages: &mut Vec<SysMsg>, text: &str) -> Option<()> {
+    for word in text.split_whitespace() {
+        messages.push(message_of(word)?).ok()?;
+    }
+    Some(())
 }
 
 /// Whether this is what is seen of the actor.

@@ -5,11 +5,10 @@
 //! are its status word, the number counted as waiting, the numbers of its envelopes, its system work, who holds it, what
 //! the parties 0 and 1 owe it (`s` a look at the system work, `m` one at the envelopes, `g` that it is sending), and `!`
 //! where a worker should take it.
-use crate::words::{ACTOR, event_of, events_of, shows};
+use crate::machine::words::{ACTOR, event_of, events_of, shows};
 use mb_core::{Event, replay};
 use std::alloc::Global;
 use std::process::Abort;
-use std::test::Fail;
 
 const STATUS: &str = "
 Read of an open mailbox: what was being sent, is sent; all else stays owed.
@@ -201,46 +200,39 @@ fn case_of(line: &str) -> Option<Case<'_>> {
 }
 
 /// Whether these steps leave what is seen then, or `no` where they are no run.
-fn leave(alloc: Global, word: u64, events: &[Event], after: &str) -> Result<bool, Fail> {
-    match replay(alloc, &[word], 2, events)? {
-        None => Ok(after == "no"),
-        Some(model) => Ok(
-            model
-                .actors()
-                .first()
-                .is_some_and(|actor| shows(actor, after)),
-        ),
+fn leave(alloc: Global, word: u64, events: &[Event], after: &str) -> Option<bool> {
+    match replay(alloc, &[word], 2, events).ok()? {
+        None => Some(after == "no"),
+        Some(model) => Some(shows(model.actors().first()?, after)),
     }
 }
 
 /// Whether the steps before are a run, and the case's step leaves what it says.
-fn is_right(alloc: Global, case: Case<'_>) -> Result<bool, Fail> {
+fn is_right(alloc: Global, case: Case<'_>) -> Option<bool> {
     let mut events = events_of(alloc, case.before)?;
     if leave(alloc, case.word, &events, "no")? {
-        return Ok(false);
+        return Some(false);
     }
-    events.push(event_of(alloc, ACTOR, case.step)?)?;
+    events.push(event_of(alloc, ACTOR, case.step)?).ok()?;
     leave(alloc, case.word, &events, case.after)
 }
 
 /// A table has so many cases, all of which are right.
-fn try_each<R: Abort>(rt: &R, alloc: Global, table: &str, cases: u64) -> Result<(), Fail> {
+fn try_each<R: Abort>(rt: &R, alloc: Global, table: &str, cases: u64) {
     let mut count = 0u64;
     for line in table.lines() {
         if let Some(case) = case_of(line) {
-            assert!(rt; is_right(alloc, case)?, "{line}");
+            assert!(rt; is_right(alloc, case) == Some(true), "{line}");
             count = count.wrapping_add(1);
         }
     }
     assert!(rt; count == cases, "{count} cases");
-    Ok(())
 }
 
 #[test]
-fn each_step_by_its_table(rt: HostRuntime) -> Result<(), Fail> {
-    let alloc = rt.alloc();
-    try_each(&rt, alloc, STATUS, 55)?;
-    try_each(&rt, alloc, ENVELOPES, 44)?;
-    try_each(&rt, alloc, SYSTEM, 25)?;
-    try_each(&rt, alloc, RUNS, 8)
+fn each_step_by_its_table(rt: HostRuntime) {
+    try_each(&rt, rt.alloc(), STATUS, 55);
+    try_each(&rt, rt.alloc(), ENVELOPES, 44);
+    try_each(&rt, rt.alloc(), SYSTEM, 25);
+    try_each(&rt, rt.alloc(), RUNS, 8);
 }

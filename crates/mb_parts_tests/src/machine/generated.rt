@@ -1,12 +1,10 @@
 //! Generated runs against the laws.
 ghost use Rattle.std.specs.Prelude.{◌<◌};
 
-use crate::words::step_of;
+use crate::machine::words::step_of;
 use mb_core::{ActorState, Debt, Event, replay};
 use mb_msg::ActorId;
 use std::alloc::Global;
-use std::process::Abort;
-use std::test::Fail;
 
 const ACTORS: [u64; 3] = [0, 4, 1];
 
@@ -59,12 +57,12 @@ impl Numbers {
         (self.state >> 33) % limit
     }
 
-    fn event(&mut self, alloc: Global) -> Result<Event, Fail> {
+    fn event(&mut self, alloc: Global) -> Option<Event> {
         let party = self.below(3) as usize;
         let actor = ActorId(self.below(3) as u32);
         let words = STEPS[self.below(24) as usize];
         let step = step_of(alloc, actor, words)?;
-        Ok(Event { party, actor, step })
+        Some(Event { party, actor, step })
     }
 }
 
@@ -103,33 +101,44 @@ struct Tally {
 }
 
 impl Tally {
-    /// One step more, if it is allowed, and then the laws.
-    fn go_on<R: Abort>(
-        &mut self,
-        rt: &R,
-        alloc: Global,
-        events: &mut Vec<Event>,
-        event: Event,
-    ) -> Result<(), Fail> {
-        events.push(event)?;
-        let Some(model) = replay(alloc, &ACTORS, PARTIES, events)? else {
-            let _ = events.pop();
-            return Ok(());
-        };
+    /// One step more, if it is allowed: whether the laws hold then.
+    fn go_on(&mut self, alloc: Global, events: &mut Vec<Event>, event: Event) -> Option<bool> {
+        events.push(event).ok()?;
+        match replay(alloc, &ACTORS, PARTIES, events).ok()? {
+            Some(model) => Some(self.count(model.actors())),
+            None => {
+                let _ = events.pop();
+                Some(true)
+            }
+        }
+    }
+
+    /// Counts a run with these actors: whether each is lawful.
+    fn count(&mut self, actors: &[ActorState]) -> bool {
         self.runs = self.runs.wrapping_add(1);
-        for actor in model.actors() {
-            let runs = self.runs;
-            assert!(rt; is_lawful(actor), "run {runs}");
+        let mut are_lawful = true;
+        for actor in actors {
+            are_lawful &= is_lawful(actor);
             self.held = self.held.wrapping_add(u64::from(actor.holder().is_some()));
             self.runnable = self.runnable.wrapping_add(u64::from(actor.is_runnable()));
         }
-        Ok(())
+        are_lawful
+    }
+
+    /// Sixty steps by chance, those that are not allowed left out: whether all laws held.
+    fn run(&mut self, alloc: Global, numbers: &mut Numbers) -> Option<bool> {
+        let mut events = Vec::new(alloc);
+        let mut are_lawful = true;
+        for _ in 0..60u64 {
+            let event = numbers.event(alloc)?;
+            are_lawful &= self.go_on(alloc, &mut events, event)?;
+        }
+        Some(are_lawful)
     }
 }
 
 #[test]
-fn every_generated_run_is_lawful(rt: HostRuntime) -> Result<(), Fail> {
-    let alloc = rt.alloc();
+fn every_generated_run_is_lawful(rt: HostRuntime) {
     let mut numbers = Numbers { state: 1 };
     let mut tally = Tally {
         runs: 0,
@@ -137,12 +146,7 @@ fn every_generated_run_is_lawful(rt: HostRuntime) -> Result<(), Fail> {
         runnable: 0,
     };
     for _ in 0..100u64 {
-        let mut events = Vec::new(alloc);
-        for _ in 0..60u64 {
-            let event = numbers.event(alloc)?;
-            tally.go_on(&rt, alloc, &mut events, event)?;
-        }
+        assert_eq!(rt; tally.run(rt.alloc(), &mut numbers), Some(true));
     }
     assert!(rt; tally.runs > 2000 && tally.held > 500 && tally.runnable > 500);
-    Ok(())
 }
