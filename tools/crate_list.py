@@ -108,18 +108,12 @@ def sum_of(name):
     return total.hexdigest()
 
 
-def verb_for(name):
-    """The command of `rt` that proves the crate and builds it: a program runs once, tests run, and a library is built."""
-    if (ROOT / "crates" / name / "src" / "main.rt").exists():
-        return "run"
-    return "test" if name.endswith("_tests") else "lib"
-
-
 def made_of(name, root=ROOT):
-    """The folder that a proof of the crate writes to, and the file there that it leaves: a program, or a library's mark."""
-    out, verb = root / "crates" / name / "out", verb_for(name)
-    made = {"run": out / name, "test": out / f"{name}_tests", "lib": out / "rlib" / "stamp"}[verb]
-    return made.parent, made
+    """The file in the crate's out/ that its proof leaves: the program, the tests, or of a library a mark."""
+    out = root / "crates" / name / "out"
+    if (ROOT / "crates" / name / "src" / "main.rt").exists():
+        return out / name
+    return out / (f"{name}_tests" if name.endswith("_tests") else "library")
 
 
 @functools.cache
@@ -129,15 +123,15 @@ def kit():
 
 def note_proved(name, root=ROOT):
     """Notes that what stands here was proved, of the sources as they are."""
-    folder, made = made_of(name, root)
-    (folder / "proved").write_text(f"{sum_of(name)}\n{hashlib.sha256(made.read_bytes()).hexdigest()}\n{kit()}\n")
+    made = made_of(name, root)
+    made.with_name("proved").write_text(f"{sum_of(name)}\n{hashlib.sha256(made.read_bytes()).hexdigest()}\n{kit()}\n")
 
 
 def is_proved(name, root=ROOT, by_this_kit=True):
     """Whether the crate's note says that what stands here was proved of the sources as they are."""
-    folder, made = made_of(name, root)
+    made = made_of(name, root)
     try:
-        sources, result, version = (folder / "proved").read_text().splitlines()
+        sources, result, version = made.with_name("proved").read_text().splitlines()
         is_same = result == hashlib.sha256(made.read_bytes()).hexdigest()
         return is_same and sources == sum_of(name) and (not by_this_kit or version == kit())
     except (OSError, ValueError):

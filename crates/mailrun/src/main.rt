@@ -1,28 +1,17 @@
 //! `mailrun`: reads a scenario, runs its actors, and prints the report.
 #![tactic(auto)]
 
-#[cfg(test)]
-mod command_line;
-#[cfg(test)]
-mod driven;
-#[cfg(test)]
-mod refusals;
-#[cfg(test)]
-mod reports;
-#[cfg(test)]
-mod streams;
-
-use mb_program::run_on_streams;
+use mb_program::{Watched, run_program};
 use mb_streams::argument_count;
 use std::process::ExitCode;
 
 fn main(rt: HostRuntime) -> ExitCode {
-    ExitCode::from(run_on_streams(
+    ExitCode::from(run_program(
         &rt,
         rt.alloc(),
         argument_count(&rt),
-        rt.stdin(),
-        rt.stdout(),
-        rt.stderr(),
+        &mut Watched::new(rt.stdin()),
+        &mut Watched::new(rt.stdout()),
+        &mut Watched::new(rt.stderr()),
     ))
 }

@@ -54,28 +54,6 @@ pub fn run_program<T: Threads + Wait + Sync, R: Read, W: Write, E: Write>(
     drive(rt, alloc, reader, writer, errors)
 }
 
-/// The same on streams of which no call was made yet.
-pub fn run_on_streams<T: Threads + Wait + Sync, R: Read + Drop, W: Write + Drop, E: Write + Drop>(
-    rt: &T,
-    alloc: Global,
-    arguments: usize,
-    reader: R,
-    writer: W,
-    errors: E,
-) -> u8
-    ensures status { result ≤ 2 }
-    ensures refused { 0 < arguments → result ≡ 2 }
-{
-    run_program(
-        rt,
-        alloc,
-        arguments,
-        &mut Watched::new(reader),
-        &mut Watched::new(writer),
-        &mut Watched::new(errors),
-    )
-}
-
 /// Reads a scenario, runs it, and writes its report. The answer is the exit status: 0 with the report written, 2 where
 /// the input is no scenario, and 1 where the run failed, memory was refused, reading failed, or writing did. But for the report
 /// nothing is written on `writer`; on a failure `errors` gets one line that says which, if it can be written.

@@ -12,6 +12,6 @@ mod orders;
 mod running;
 mod together;
 
-pub use drive::{run_on_streams, run_program};
+pub use drive::run_program;
 pub use mb_streams::{RunFault, Watched};
 pub use running::run;

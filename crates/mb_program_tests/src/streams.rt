@@ -1,6 +1,6 @@
 //! What streams that fail lead to.
 use crate::driven::{COUNT, COUNT_REPORT, ran};
-use mb_program::run_on_streams;
+use mb_program::{Watched, run_program};
 use std::alloc::Global;
 use std::io;
 use std::io::{Read, Write};
@@ -128,7 +128,14 @@ fn with_room<T: Threads + Wait + Sync>(
         room: error,
         fails,
     };
-    let status = run_on_streams(rt, alloc, 0, &mut rest, &mut writer, &mut errors);
+    let status = run_program(
+        rt,
+        alloc,
+        0,
+        &mut Watched::new(&mut rest),
+        &mut Watched::new(&mut writer),
+        &mut Watched::new(&mut errors),
+    );
     (status, writer, errors)
 }
 
@@ -190,7 +197,14 @@ fn flushes(rt: HostRuntime) {
             fails,
         };
         let mut errors = Vec::new(rt.alloc());
-        let status = run_on_streams(&rt, rt.alloc(), 0, &mut rest, &mut writer, &mut errors);
+        let status = run_program(
+            &rt,
+            rt.alloc(),
+            0,
+            &mut Watched::new(&mut rest),
+            &mut Watched::new(&mut writer),
+            &mut Watched::new(&mut errors),
+        );
         assert_eq!(rt; status, u8::from(fails));
         assert_eq!(rt; writer.taken.as_slice(), COUNT_REPORT.as_bytes());
         assert_eq!(rt; writer.flushes, 1);

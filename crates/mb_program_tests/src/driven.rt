@@ -1,5 +1,5 @@
 //! Whole runs, from bytes to bytes.
-use mb_program::run_on_streams;
+use mb_program::{Watched, run_program};
 use std::alloc::Global;
 use std::io::Read;
 use std::process::Abort;
@@ -41,7 +41,14 @@ pub fn ran<T: Threads + Wait + Sync>(
 ) -> (u8, Vec<u8>, Vec<u8>) {
     let mut written = Vec::new(alloc);
     let mut errors = Vec::new(alloc);
-    let status = run_on_streams(rt, alloc, arguments, reader, &mut written, &mut errors);
+    let status = run_program(
+        rt,
+        alloc,
+        arguments,
+        &mut Watched::new(reader),
+        &mut Watched::new(&mut written),
+        &mut Watched::new(&mut errors),
+    );
     (status, written, errors)
 }
 
