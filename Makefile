@@ -16,10 +16,10 @@ run:
 prove:
 	@tools/prove $(CRATE)
 
-# What needs no proof: the list of definitions, the worked runs and the examples beside a second reader, and each example, scenario and
+# What needs no proof: what the documents name, the worked runs and the examples beside a second reader, and each example, scenario and
 # worked run by an unproved build.
 quick:
-	tools/check_definitions
+	tools/documents --check
 	tools/check_worked_runs
 	tools/check_examples
 	tools/try_scenarios
@@ -28,12 +28,12 @@ quick:
 examples: proved
 	@tools/check_examples $(PROGRAM)
 
-# The gate: the list of definitions, that of the wrong bodies, the worked runs, the examples, every proof from nothing, the must-fail
+# The gate: what the documents name, the list of the wrong bodies, the worked runs, the examples, every proof from nothing, the must-fail
 # edits, the tests, the program by two compilers, the program as a user runs it, also on worker threads, on what it has to refuse and on
 # scenarios whose outcome was worked out by hand, what becomes of refused allocations, where a C compiler is there, and random scenarios
 # beside a second reader.
 test:
-	tools/check_definitions
+	tools/documents --check
 	tools/check_wrong_bodies
 	tools/check_worked_runs
 	tools/check_examples

@@ -1,0 +1,188 @@
+"""The definitions in specs/ as the documents tell of them: each with its kind and its comment, which is the source of what is said.
+
+A definition that a contract can cite needs a sentence. A contract can cite what its file imports by `ghost use
+Rattle.CRATE.specs.MODULE.{names}`, and `rt tidy` leaves no import that is not used. (Types of the code, `specs.declared`, are described
+where they stand, and lemmas say nothing new.) The sentence is the comment above the definition; of one that has none it stands in
+tools/uncommented_definitions.
+"""
+
+import dataclasses
+import functools
+import re
+
+import crate_list
+from crate_list import ROOT
+
+DEFINITION = re.compile(r"( *)(?:(?:abbrev|unfoldable) pub|pub (record|data)|pub(?! mod\b)) ([^\s:({]+)")
+CONSTRUCTOR = re.compile(r" +([^\s:]+) : ")
+IMPORT = re.compile(r"ghost use Rattle\.(\w+)\.specs\.([\w.]+)\.\{([^}]*)\}", re.S)
+SENTENCES = "tools/uncommented_definitions"
+# A comment with fewer letters says nothing.
+SHORTEST = 10
+
+
+@dataclasses.dataclass
+class Definition:
+    name: str
+    kind: str
+    comment: str
+    constructors: list
+
+
+def comment_above(lines, at):
+    """The comment that ends right above this line."""
+    first = at
+    while first > 0 and lines[first - 1].lstrip().startswith("--"):
+        first -= 1
+    return " ".join(line.lstrip().removeprefix("--").strip() for line in lines[first:at])
+
+
+def kind_of(word, header, body):
+    """What a definition is: data, a fact that can be proved, a test that can be computed, or a function."""
+    takes = "(" in header or "→" in header
+    if word:
+        return "fact" if takes else "cases" if word == "data" else "record"
+    if re.search(r"(→|:) Type \d$", header):
+        is_type = "(" not in header and not re.search(r"[≡≤<⊎⊥]|→|\. |Unit|Is[TF]", body) and not re.search(r": .*[^0 ] → Type \d$", header)
+        return "type" if is_type else "fact"
+    result = header.rpartition(" → " if "→" in header else " : ")[2]
+    return "test" if result == "Bool" else "function" if takes else "value"
+
+
+def indent_of(line):
+    return len(line) - len(line.lstrip(" "))
+
+
+@functools.cache
+def definitions(file):
+    """The definitions of a file, in their order. One that is indented counts where a `module _ .. where` holds it."""
+    found, lines, section = [], (ROOT / file).read_text().splitlines(), ""
+    for at, line in enumerate(lines):
+        if line and line[0] not in " -}":
+            section = line if line.startswith("module ") else ""
+        match = DEFINITION.match(line)
+        if not match or match[1] and not (section and len(match[1]) == 2):
+            continue
+        below = next((it for it in range(at + 1, len(lines)) if indent_of(lines[it]) <= len(match[1])), len(lines))
+        header, _, _ = " ".join(it.strip() for it in lines[at:below]).partition(" where ")
+        end = next((it for it in range(below, len(lines)) if not lines[it]), len(lines))
+        kind = kind_of(match[2], ("(" if "(" in section else "") + header, "" if match[2] else " ".join(lines[below:end]))
+        held = [CONSTRUCTOR.match(line) for line in lines[at + 1 : below]] if match[2] == "data" else []
+        found.append(Definition(match[3], kind, comment_above(lines, at), [it[1] for it in held if it]))
+    return found
+
+
+def opening(file):
+    """The comment with which a file begins."""
+    lines = (ROOT / file).read_text().splitlines()
+    first = next((at for at, line in enumerate(lines) if not line.startswith("--")), len(lines))
+    return comment_above(lines, first)
+
+
+def files():
+    """The files of definitions, crate by crate: all in specs/ but lists of modules and lemmas."""
+    for crate in crate_list.rows():
+        folder = ROOT / "crates" / crate / "specs"
+        for path in sorted(folder.rglob("*.antt")):
+            file = path.relative_to(ROOT).as_posix()
+            if path.stem != "Lib" and not path.stem.endswith("Lemmas") and definitions(file):
+                yield crate, file
+
+
+def standing_for(file, name):
+    """The definition of a file that a name stands for: of a constructor, its type."""
+    return next((it for it in definitions(file) if name == it.name or name in it.constructors), None)
+
+
+def said_of(file, told):
+    """The sentence of a definition: its comment, or else what stands in the list of those that have none."""
+    return told.comment if len(told.comment) >= SHORTEST else sentences().get((file, told.name), told.comment)
+
+
+def imported(crate, module, name):
+    """The file and the name of what is imported from this module."""
+    parts = module.split(".")
+    for count in range(len(parts), 0, -1):
+        file = f"crates/{crate}/specs/{'/'.join(parts[:count])}.antt"
+        if (ROOT / file).exists():
+            return file, (name if count == len(parts) else parts[count])
+    return f"crates/{crate}/specs/{'/'.join(parts)}.antt", name
+
+
+@functools.cache
+def cited():
+    """Each definition that some contract may cite, by file and name, with a source file that imports it."""
+    found = {}
+    for crate in crate_list.rows():
+        for source in sorted((ROOT / "crates" / crate / "src").rglob("*.rt")):
+            for owner, module, names in IMPORT.findall(source.read_text()):
+                if owner not in crate_list.rows() or module.split(".")[0] == "declared" or module.endswith("Lemmas"):
+                    continue
+                for name in (part.split(" as ")[0].strip() for part in names.split(",") if part.strip()):
+                    found.setdefault(imported(owner, module, name), source.relative_to(ROOT).as_posix())
+    return found
+
+
+@functools.cache
+def sentences():
+    """What is said of the definitions that have no comment, by file and name."""
+    found, file = {}, ""
+    for line in (ROOT / SENTENCES).read_text().splitlines():
+        if line.startswith("crates/"):
+            file = line
+        elif line.startswith("  "):
+            name, _, sentence = line.strip().partition(": ")
+            found[file, name] = sentence
+    return found
+
+
+def faults():
+    """Definitions without a sentence, and sentences without a definition."""
+    for (file, name), source in sorted(cited().items()):
+        told = standing_for(file, name) if (ROOT / file).exists() else None
+        if not told:
+            yield f"{file}: no definition {name}, which {source} imports"
+        elif len(said_of(file, told)) < SHORTEST:
+            yield f"{file}: {told.name}, cited in {source}, has no comment, and no sentence in {SENTENCES}"
+    for file, name in sentences():
+        told = [it for it in definitions(file) if it.name == name] if (ROOT / file).exists() else []
+        if not told or len(told[0].comment) >= SHORTEST:
+            yield f"{SENTENCES}: {name} of {file} {'has a comment of its own' if told else 'is not there'}"
+
+
+def as_markdown(text):
+    """A comment as a sentence in a cell."""
+    text = text[:1].upper() + text[1:]
+    text += "" if not text or text[-1] in ".:" else "."
+    parts = re.split(r"(`[^`]*`)", text)
+    plain = (part if part.startswith("`") else re.sub(r"([<*])", r"\\\1", part) for part in parts)
+    return "".join(plain).replace("|", "\\|")
+
+
+def section(crate, file):
+    """What the document says of one file."""
+    rows, bare = [], []
+    for it in definitions(file):
+        said = said_of(file, it)
+        cases = f" Cases: {', '.join(f'`{case}`' for case in it.constructors)}." if it.constructors else ""
+        rows += [f"| `{it.name}` | {it.kind} | {as_markdown(said)}{cases} |"] if said else []
+        bare += [] if said else [f"`{it.name}`"]
+    module = file.partition("/specs/")[2].removesuffix(".antt")
+    text = [f"**[{module}](../{file})** {as_markdown(opening(file))}".rstrip(), ""]
+    text += ["| Name | Kind | What it says |", "|---|---|---|", *rows, ""] if rows else []
+    return text + ([f"No contract cites, and no comment tells of: {', '.join(bare)}.", ""] if bare else [])
+
+
+def generated():
+    """The generated part of the document."""
+    names = dict.fromkeys(crate for crate, _ in files())
+    text, last = [", ".join(f"[{name}](#{name})" for name in names) + ".", ""], ""
+    for crate, file in files():
+        text += [f"### {crate}", ""] if crate != last else []
+        text += section(crate, file)
+        last = crate
+    return "\n".join(text)
+
+
+def count():
+    return sum(len(definitions(file)) for _, file in files())
