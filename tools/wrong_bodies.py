@@ -1,0 +1,81 @@
+"""The wrong bodies: files NAME.edit in crates/CRATE/must-fail, which the gate tries, or in crates/CRATE/wrong-bodies, which
+`tools/try_wrong_bodies` tries. Each has lines `file:`, then `old:` and `new:`, as often as something changes."""
+
+import os
+import re
+import sys
+
+import crate_list
+from crate_list import ROOT
+
+GATE, REST = "must-fail", "wrong-bodies"
+# How many letters of what stays the same are shown on each side, and how many of a text at most.
+ABOUT, MOST = 30, 120
+
+
+def edits(folder):
+    """The files of the wrong bodies in folders of this name, by their names, of which each has its own."""
+    files = sorted(ROOT.glob(f"crates/*/{folder}/*.edit"))
+    found = {file.stem: file for file in files}
+    for file in files:
+        if found[file.stem] != file:
+            sys.exit(f"wrong bodies: two are called {file.stem}")
+    return found
+
+
+def changes(edit):
+    """What an edit changes: the file within its crate, the old text and the new one, in order."""
+    path, old = "", ""
+    for line in edit.read_text().split("\n"):
+        if line.startswith("file: "):
+            path = line.removeprefix("file: ").strip()
+        elif line.startswith("old: "):
+            old = line.removeprefix("old: ")
+        elif line.startswith("new:"):
+            yield path, old, line.removeprefix("new:").removeprefix(" ")
+
+
+def shortened(text, before, after):
+    """The text where two differ, so many letters from its ends, with some words about it."""
+    first, last = max(before - ABOUT, 0), len(text) - max(after - ABOUT, 0)
+    first = text.rfind(" ", 0, first) + 1 if first else 0
+    space = text.find(" ", last)
+    last = space if space >= 0 and last < len(text) else len(text)
+    shown = re.sub(r"\s+", " ", text[first:last])
+    shown = shown if len(shown) <= MOST else f"{shown[: MOST * 2 // 3]} … {shown[-MOST // 4 :]}"
+    return ("… " if first else "") + shown + (" …" if last < len(text) else "")
+
+
+def told(old, new):
+    """A change as a line of a table tells of it: the two texts where they differ."""
+    old, new = old.strip(), new.strip()
+    before = len(os.path.commonprefix([old, new]))
+    after = len(os.path.commonprefix([old[before:][::-1], new[before:][::-1]]))
+    old, new = (shortened(text, before, after).replace("|", "\\|") for text in (old, new))
+    return f"`{old}` becomes `{new}`" if new else f"`{old}` goes"
+
+
+def row(edit):
+    """The row of a wrong body."""
+    parts, last = [], ""
+    for path, old, new in changes(edit):
+        parts.append((f"`{path}`: " if path != last else "") + told(old, new))
+        last = path
+    tried = "yes" if edit.parent.name == GATE else "no"
+    return f"| [{edit.stem}](../{edit.relative_to(ROOT).as_posix()}) | {tried} | {'; '.join(parts)} |"
+
+
+def generated():
+    """The document that lists them all, crate by crate."""
+    gate, rest = edits(GATE), edits(REST)
+    text = ["# Wrong bodies", ""]
+    text += ["Each changes the code so that a contract has to refuse it, and stands here with its file. The gate tries those with a"]
+    text += ["`yes`; `tools/try_wrong_bodies CRATE` tries the others. [PROOFS](PROOFS.md) says which promise each breaks. Written by"]
+    text += ["`tools/documents`; change nothing here by hand.", ""]
+    for crate in crate_list.rows():
+        own = [edit for edit in [*gate.values(), *rest.values()] if edit.parent.parent.name == crate]
+        if own:
+            tried = sum(edit.parent.name == GATE for edit in own)
+            text += [f"## {crate}", "", f"{len(own)}, of which the gate tries {tried}.", ""]
+            text += ["| Wrong body | Gate | What it changes |", "|---|---|---|", *map(row, sorted(own, key=lambda edit: edit.stem)), ""]
+    return "\n".join(text)
