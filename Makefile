@@ -16,33 +16,30 @@ run:
 prove:
 	@tools/prove $(CRATE)
 
-# What needs no proof: what the documents name, the worked runs and the examples beside a second reader, and each example, scenario and
-# worked run by an unproved build.
+# What needs no proof: what the documents name, the schema, the scenarios as they stand, the examples and whole runs beside a second reader,
+# and each scenario by an unproved build.
 quick:
 	tools/documents --check
-	tools/check_worked_runs
-	tools/check_examples
+	tools/check_schema
+	tools/check_scenarios
 	tools/try_scenarios
 
 # Runs each scenario of examples/, and sees to it that the report is printed that stands beside it.
 examples: proved
-	@tools/check_examples $(PROGRAM)
+	@tools/check_scenarios $(PROGRAM) examples
 
-# The gate: what the documents name, the list of the wrong bodies, the worked runs, the examples, every proof from nothing, the must-fail
-# edits, the tests, the program by two compilers, the program as a user runs it, also on worker threads, on what it has to refuse and on
-# scenarios whose outcome was worked out by hand, what becomes of refused allocations, where a C compiler is there, and random scenarios
-# beside a second reader.
+# The gate: what the documents name, the list of the wrong bodies, the schema, the scenarios as they stand, every proof from nothing, the
+# must-fail edits, the tests, the program by two compilers, the program on all scenarios, whose outcomes were worked out by hand, as a user
+# runs it, and on worker threads, what becomes of refused allocations, where a C compiler is there, and random scenarios beside a second
+# reader.
 test:
 	tools/documents --check
 	tools/check_wrong_bodies
-	tools/check_worked_runs
-	tools/check_examples
+	tools/check_schema
+	tools/check_scenarios
 	sum=$$(tools/prove --sum) && rt ci && tools/prove --note $$sum
-	tools/check_program $(PROGRAM)
-	tools/check_worked_runs $(PROGRAM)
-	tools/check_examples $(PROGRAM)
-	tools/check_refusals $(PROGRAM)
 	tools/check_scenarios $(PROGRAM)
+	tools/check_program $(PROGRAM)
 	tools/check_workers $(PROGRAM)
 	@if command -v "$${CC:-cc}" > /dev/null; then $(MAKE) --no-print-directory refuse; else echo 'no C compiler: no allocation was refused'; fi
 	tools/compare_with_a_model $(PROGRAM)
