@@ -46,8 +46,7 @@ test:
 
 # Refuses each allocation of the program in turn, and each of a whole run by the tests that the gate has built.
 refuse: proved
-	tools/refuse_each_allocation $(PROGRAM)
-	tools/refuse_each_allocation_of_a_system crates/mb_dispatch_tests/out/mb_dispatch_tests_tests
+	tools/refuse_each_allocation program=$(PROGRAM) system=crates/mb_dispatch_tests/out/mb_dispatch_tests_tests
 
 # Proves what changed since the last check, the crates of tests too, lowest crate first.
 check:
