@@ -16,10 +16,13 @@ run:
 prove:
 	@tools/prove $(CRATE)
 
-# What needs no proof: what the documents name, the schema, the scenarios as they stand, the examples and whole runs beside a second reader,
-# and each scenario by an unproved build.
+# What needs no proof: what the documents name, the pictures, the commands that need no program, the schema, the scenarios as they stand,
+# the examples and whole runs beside a second reader, and each scenario by an unproved build.
 quick:
 	tools/documents --check
+	tools/draw_layers --check
+	tools/draw_states --check
+	tools/check_commands
 	tools/check_schema
 	tools/check_scenarios
 	tools/try_scenarios
@@ -28,12 +31,15 @@ quick:
 examples: proved
 	@tools/check_scenarios $(PROGRAM) examples
 
-# The gate: what the documents name, the list of the wrong bodies, the schema, the scenarios as they stand, every proof from nothing, the
-# must-fail edits, the tests, the program by two compilers, the program on all scenarios, whose outcomes were worked out by hand, as a user
-# runs it, and on worker threads, what becomes of refused allocations, where a C compiler is there, and random scenarios beside a second
-# reader.
+# The gate: what the documents name, the pictures, the list of the wrong bodies, the schema, the scenarios as they stand, every proof from
+# nothing, the must-fail edits, the tests, the program by two compilers, the program on all scenarios, whose outcomes were worked out by
+# hand, as a user runs it, and on worker threads, the commands of the documents, what becomes of refused allocations, where a C compiler is
+# there, and random scenarios beside a second reader.
 test:
 	tools/documents --check
+	tools/draw_layers --check
+	tools/draw_states --check
+	tools/check_commands
 	tools/check_wrong_bodies
 	tools/check_schema
 	tools/check_scenarios
@@ -41,6 +47,7 @@ test:
 	tools/check_scenarios $(PROGRAM)
 	tools/check_program $(PROGRAM)
 	tools/check_workers $(PROGRAM)
+	tools/check_commands $(PROGRAM)
 	@if command -v "$${CC:-cc}" > /dev/null; then $(MAKE) --no-print-directory refuse; else echo 'no C compiler: no allocation was refused'; fi
 	tools/compare_with_a_model $(PROGRAM)
 

@@ -1,7 +1,8 @@
-"""What the documents name is there: files, crates, links with their headings, and in the table of docs/PROOFS.md each clause.
+"""What the documents name is there: files, crates, links with their headings, and what docs/PROOFS.md names of a crate in its section.
 
 A path is one that begins with a folder of this repository, or with a crate's name (`mb_gate/specs/Rule`, the ending may be left out).
-A `*`, and CRATE and NAME where they stand for one, fit any. What a build writes (`out`) is not looked for.
+A `*`, and CRATE and NAME where they stand for one, fit any. What a build writes (`out`) is not looked for. In the section of a crate in
+docs/PROOFS.md a path may begin within the crate's folder, and a name may follow it (`src/list.rt::push`).
 """
 
 import functools
@@ -16,16 +17,26 @@ CRATE = re.compile(r"`(mb_\w+)(?:`|::)")
 LINK = re.compile(r"\]\(([^()\s]+)\)")
 WORD = re.compile(r"[^\W\d][\w-]*")
 ENDINGS = ("", ".antt", ".rt", ".edit", ".md")
+PROOFS = ROOT / "docs/PROOFS.md"
+# A path within a crate's folder, maybe with the crate before it, and a name in that file.
+WITHIN = re.compile(r"((?:mb_\w+/)?(?:src|specs|proofs|must-fail|wrong-bodies)/[\w./-]*\w)(?:::(.*))?")
+WRONG_BODY = re.compile(r"(?:mb_\w+/)?(?:must-fail|wrong-bodies)/\w+")
+# How many words docs/PROOFS.md has at most, and a cell of its tables.
+MOST_WORDS, MOST_IN_A_CELL = 6000, 40
 
 
 def documents():
     return [ROOT / "README.md", *sorted((ROOT / "docs").glob("*.md"))]
 
 
-def is_there(path):
-    """Whether some file or folder of the repository fits the path."""
+def fitting(path):
+    """The files and folders of the repository that fit the path."""
     path = re.sub(r"\b(CRATE|NAME)\b", "*", path)
-    return any(next(ROOT.glob(path + ending), None) for ending in ENDINGS)
+    return [file for ending in ENDINGS for file in ROOT.glob(path + ending)]
+
+
+def is_there(path):
+    return bool(fitting(path))
 
 
 def missing_paths(text):
@@ -64,30 +75,57 @@ def words(crate):
     return {word for file in crate_list.sources(crate) for word in WORD.findall(file.read_text())}
 
 
-@functools.cache
-def rows_of_proofs():
-    """The rows of the table of docs/PROOFS.md: the crates that a row is about, and its cells."""
-    found, crates = [], []
-    for line in (ROOT / "docs/PROOFS.md").read_text().splitlines():
-        cells = [cell.strip() for cell in re.split(r"(?<!\\)\|", line)[1:-1]]
-        if len(cells) == 4:
-            crates = [name for name in re.findall(r"`(\w+)`", cells[0]) if name in crate_list.rows()] or crates
-            found.append((crates, cells))
-    return found
+def cells_of(line):
+    """The cells of a table's row."""
+    return [cell.strip() for cell in re.split(r"(?<!\\)\|", line)[1:-1]]
 
 
-def missing_clauses():
-    """What the contract's column names in backticks, and none of the row's crates has. A word of a crate that the column names counts."""
-    for crates, cells in rows_of_proofs():
-        named = [name for name in crate_list.rows() if re.search(rf"\b{name}\b", cells[2])]
-        known = {"impl", "for", "crates", "antt", "rt", *crate_list.rows(), *crate_list.PARTS}.union(*map(words, [*crates, *named]))
-        for token in re.findall(r"`([^`]+)`", cells[2]):
-            file = token if "/" in token else ""
-            if re.match(r"(src|specs|proofs)/", file):
-                if not any(is_there(f"crates/{crate}/{file}") for crate in [*crates, *named]):
-                    yield f"there is no {file} in {', '.join(crates)}"
-            elif not file:
-                yield from (f"{', '.join(crates)} has no `{word}` (of `{token}`)" for word in WORD.findall(token) if word not in known)
+def lines_of_proofs():
+    """The lines of docs/PROOFS.md that are about crates, each with the crates that its heading names."""
+    crates = []
+    for line in PROOFS.read_text().splitlines():
+        if line.startswith("#"):
+            crates = [name for name in re.findall(r"`(\w+)`", line) if name in crate_list.rows()]
+        elif crates:
+            yield crates, line
+
+
+def missing_names():
+    """What a line of docs/PROOFS.md names in backticks, and is not there: a file, a word of the file before it, or of the line's crates."""
+    for crates, line in lines_of_proofs():
+        named = [*crates, *(name for name in crate_list.rows() if re.search(rf"\b{name}\b", line))]
+        known = {*crate_list.rows(), *crate_list.PARTS}.union(*map(words, named))
+        for token in re.findall(r"`([^`]+)`", line):
+            if within := WITHIN.fullmatch(token):
+                path, name = within.groups()
+                files = [file for folder in ("", *(f"{crate}/" for crate in crates)) for file in fitting(f"crates/{folder}{path}")]
+                if not files:
+                    yield f"there is no {path} in {', '.join(crates)}"
+                elif name and not any(name in WORD.findall(file.read_text()) for file in files):
+                    yield f"{path} has no `{name}`"
+            elif "/" not in token:
+                missing = [word for word in WORD.findall(token) if word not in known]
+                yield from (f"{', '.join(crates)} has no `{word}` (of `{token}`)" for word in missing)
+
+
+def row_faults():
+    """What is wrong with the rows of docs/PROOFS.md: each has a claim, its contract, and in backticks wrong bodies alone, or crates."""
+    for crates, cells in ((crates, cells_of(line)) for crates, line in lines_of_proofs()):
+        if cells and not (len(cells) == 3 and all(cells)):
+            yield f"a row of {', '.join(crates)} is no claim with its contract and wrong bodies: {cells[0]}"
+        for token in re.findall(r"`([^`]+)`", " ".join(cells[2:])):
+            if token not in crate_list.rows() and not WRONG_BODY.fullmatch(token):
+                yield f"`{token}` is no wrong body"
+
+
+def length_faults():
+    """Whether docs/PROOFS.md, or a cell of it, is too long."""
+    text = PROOFS.read_text()
+    if len(text.split()) > MOST_WORDS:
+        yield f"it has {len(text.split())} words, more than {MOST_WORDS}"
+    for cell in (cell for line in text.splitlines() for cell in cells_of(line)):
+        if len(cell.split()) > MOST_IN_A_CELL:
+            yield f"a cell has {len(cell.split())} words, more than {MOST_IN_A_CELL}: {cell}"
 
 
 def faults():
@@ -95,4 +133,4 @@ def faults():
         text = document.read_text()
         for fault in [*missing_paths(text), *missing_crates(text), *missing_targets(document, text)]:
             yield f"{document.relative_to(ROOT)}: {fault}"
-    yield from (f"docs/PROOFS.md: {fault}" for fault in missing_clauses())
+    yield from (f"docs/PROOFS.md: {fault}" for fault in [*missing_names(), *row_faults(), *length_faults()])

@@ -70,8 +70,8 @@ def generated():
     gate, rest = edits(GATE), edits(REST)
     text = ["# Wrong bodies", ""]
     text += ["Each changes the code so that a contract has to refuse it, and stands here with its file. The gate tries those with a"]
-    text += ["`yes`; `tools/try_wrong_bodies CRATE` tries the others. [PROOFS](PROOFS.md) says which promise each breaks. Written by"]
-    text += ["`tools/documents`; change nothing here by hand.", ""]
+    text += ["`yes`; `make wrong-bodies CRATE=name` tries the others. [PROOFS](PROOFS.md) names some at the claims that they break."]
+    text += ["Written by `tools/documents`; change nothing here by hand.", ""]
     for crate in crate_list.rows():
         own = [edit for edit in [*gate.values(), *rest.values()] if edit.parent.parent.name == crate]
         if own:
