@@ -2,8 +2,7 @@
 
 A definition that a contract can cite needs a sentence. A contract can cite what its file imports by `ghost use
 Rattle.CRATE.specs.MODULE.{names}`, and `rt tidy` leaves no import that is not used. (Types of the code, `specs.declared`, are described
-where they stand, and lemmas say nothing new.) The sentence is the comment above the definition; of one that has none it stands in
-tools/uncommented_definitions.
+where they stand, and lemmas say nothing new.) The sentence is the comment above the definition.
 """
 
 import dataclasses
@@ -16,7 +15,6 @@ from crate_list import ROOT
 DEFINITION = re.compile(r"( *)(?:(?:abbrev|unfoldable) pub|pub (record|data)|pub(?! mod\b)) ([^\s:({]+)")
 CONSTRUCTOR = re.compile(r" +([^\s:]+) : ")
 IMPORT = re.compile(r"ghost use Rattle\.(\w+)\.specs\.([\w.]+)\.\{([^}]*)\}", re.S)
-SENTENCES = "tools/uncommented_definitions"
 # A comment with fewer letters says nothing.
 SHORTEST = 10
 
@@ -94,11 +92,6 @@ def standing_for(file, name):
     return next((it for it in definitions(file) if name == it.name or name in it.constructors), None)
 
 
-def said_of(file, told):
-    """The sentence of a definition: its comment, or else what stands in the list of those that have none."""
-    return told.comment if len(told.comment) >= SHORTEST else sentences().get((file, told.name), told.comment)
-
-
 def imported(crate, module, name):
     """The file and the name of what is imported from this module."""
     parts = module.split(".")
@@ -123,31 +116,14 @@ def cited():
     return found
 
 
-@functools.cache
-def sentences():
-    """What is said of the definitions that have no comment, by file and name."""
-    found, file = {}, ""
-    for line in (ROOT / SENTENCES).read_text().splitlines():
-        if line.startswith("crates/"):
-            file = line
-        elif line.startswith("  "):
-            name, _, sentence = line.strip().partition(": ")
-            found[file, name] = sentence
-    return found
-
-
 def faults():
-    """Definitions without a sentence, and sentences without a definition."""
+    """Definitions that a contract cites and that have no comment, or that are not there."""
     for (file, name), source in sorted(cited().items()):
         told = standing_for(file, name) if (ROOT / file).exists() else None
         if not told:
             yield f"{file}: no definition {name}, which {source} imports"
-        elif len(said_of(file, told)) < SHORTEST:
-            yield f"{file}: {told.name}, cited in {source}, has no comment, and no sentence in {SENTENCES}"
-    for file, name in sentences():
-        told = [it for it in definitions(file) if it.name == name] if (ROOT / file).exists() else []
-        if not told or len(told[0].comment) >= SHORTEST:
-            yield f"{SENTENCES}: {name} of {file} {'has a comment of its own' if told else 'is not there'}"
+        elif len(told.comment) < SHORTEST:
+            yield f"{file}: {told.name}, cited in {source}, has no comment"
 
 
 def as_markdown(text):
@@ -163,7 +139,7 @@ def section(crate, file):
     """What the document says of one file."""
     rows, bare = [], []
     for it in definitions(file):
-        said = said_of(file, it)
+        said = it.comment
         cases = f" Cases: {', '.join(f'`{case}`' for case in it.constructors)}." if it.constructors else ""
         rows += [f"| `{it.name}` | {it.kind} | {as_markdown(said)}{cases} |"] if said else []
         bare += [] if said else [f"`{it.name}`"]

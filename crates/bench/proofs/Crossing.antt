@@ -3,9 +3,9 @@ use denote.RattleType.{RattleType}
 use denote.Param.Send.{IsSend, sendable}
 use denote.Param.SendFields.{declared_send}
 use Rattle.mb_msg.proofs.id.ActorId.TheSendSync as actor
-use Rattle.mb_desk.proofs.desk.Desk.TheSendSync as desk
-use Rattle.mb_desk.specs.contracts.desk.Desk as desk_row
-use Rattle.mb_desk.specs.contracts.desk.DeskResident.TheImpl as resident
+use Rattle.mb_testkit.proofs.stub_home.StubHome.TheSendSync as desk
+use Rattle.mb_testkit.specs.contracts.stub_home.StubHome as stub_home_row
+use Rattle.mb_testkit.specs.contracts.stub_home.StubHomeMailboxState.TheImpl as resident
 use Rattle.mb_gate.specs.contracts.gates.Gates as gates
 use Rattle.mb_gate.proofs.Crossing.{pass_send}
 use Rattle.mb_pool.proofs.Crossing.{end_send}
@@ -13,7 +13,7 @@ use Rattle.bench.proofs.times.Times.TheSendSync as times
 use Rattle.bench.specs.contracts.pools.worker.Worker as worker
 
 abbrev pub TheGates : RattleType
-TheGates = gates.the_row desk_row.the_row resident.ghosts
+TheGates = gates.the_row stub_home_row.the_row resident.ghosts
 
 pub worker_crosses : IsSend worker.the_row
 worker_crosses = declared_send worker.the_type (

@@ -29,7 +29,7 @@ use Rattle.mb_journal.proofs.CreateLemmas.{count-create, messages-create, phase-
 use Rattle.mb_journal.proofs.EnvelopeLemmas.{count-handled, ever_aside-handled, failure_of-user, messages-handled, phase-handled}
 use Rattle.mb_journal.proofs.LawfulLemmas.{ever_aside-applied}
 use Rattle.mb_journal.proofs.TestLemmas.{if_false, if_true}
-use Rattle.mb_cell.specs.Seen.{IsOf, Seen, TakesEnvelope, TakesSystem, with_entry}
+use Rattle.mb_cell.specs.CellView.{IsOf, CellView, TakesEnvelope, TakesSystem, with_entry}
 use Rattle.bench.specs.Idle.{IsIdle, open_mailbox}
 use Rattle.bench.specs.Steady.{IsSteady}
 
@@ -50,11 +50,11 @@ unfolding next_number
 next_number-none = refl
 
 -- an actor that is idle has not ended
-pub idle-not_closed : (cell : Seen) → IsIdle cell → closed cell.who cell.journal ≡ false
+pub idle-not_closed : (cell : CellView) → IsIdle cell → closed cell.who cell.journal ≡ false
 idle-not_closed cell idle = ap (λ p. phase_is p Ended) idle.live
 
 -- an open mailbox shows the word of an actor that is idle
-pub idle-open : (cell : Seen) (m : Mailbox) → IsIdle cell → m ≡ open_mailbox → IsOpen cell.who cell.journal (word_of m)
+pub idle-open : (cell : CellView) (m : Mailbox) → IsIdle cell → m ≡ open_mailbox → IsOpen cell.who cell.journal (word_of m)
 idle-open cell m idle is =
     subst (λ (b : Mailbox). IsOpen cell.who cell.journal (word_of b)) (sym is)
     (record { open_word = refl; same_count = sym idle.unsuspended; same_closing = sym (idle-not_closed cell idle) })
@@ -62,14 +62,14 @@ idle-open cell m idle is =
 -- ---- the start
 
 -- a cell to which nothing came, and that has room
-abbrev pub ready_cell : Identity → Seen
+abbrev pub ready_cell : Identity → CellView
 ready_cell who = record { who = who; journal = []; acts = []; is_ready = true }
 
 -- the cell without what is to be carried out
-abbrev pub taken : Seen → Seen
+abbrev pub taken : CellView → CellView
 taken cell = record cell { acts = [] }
 
-pub record Starts (who : Identity) (cell : Seen) : Type 0 where
+pub record Starts (who : Identity) (cell : CellView) : Type 0 where
   pub same_who : cell.who ≡ who
   pub idle : IsIdle (taken cell)
   pub one : length cell.journal ≡ 1
@@ -114,23 +114,23 @@ last_entry : (who : Identity) (gives : Moment → Reply → Type 0) (before : Li
 unfolding AreLawful
 last_entry who gives before e lawful = lawful.entries.0
 
-pub starts_actor : (gives : ℕ → Moment → Reply → Type 0) (who : Identity) (ready cell : Seen) → is_guardian who ≡ false → IsSteady (gives
+pub starts_actor : (gives : ℕ → Moment → Reply → Type 0) (who : Identity) (ready cell : CellView) → is_guardian who ≡ false → IsSteady (gives
     who.this.0) →
     ready ≡ ready_cell who → TakesSystem ready cell 0 Create → IsLawful cell.who (gives cell.who.this.0) cell.journal → Starts who cell
 starts_actor gives who ready cell an_actor steady is_ready took lawful =
     let e : Entry = System 0 Create took.outcome in
-    let is : cell ≡ with_entry (ready_cell who) e = took.adds ∙ ap (λ (s : Seen). with_entry s e) is_ready in
-    let there : IsLawful who (gives who.this.0) (e ∷ []) = subst (λ (s : Seen). IsLawful s.who (gives s.who.this.0) s.journal) is lawful in
-    subst (λ (s : Seen). Starts who s) (sym is)
+    let is : cell ≡ with_entry (ready_cell who) e = took.adds ∙ ap (λ (s : CellView). with_entry s e) is_ready in
+    let there : IsLawful who (gives who.this.0) (e ∷ []) = subst (λ (s : CellView). IsLawful s.who (gives s.who.this.0) s.journal) is lawful in
+    subst (λ (s : CellView). Starts who s) (sym is)
     (started_by who (gives who.this.0) took.outcome an_actor steady (last_entry who (gives who.this.0) [] e there))
 
 -- ---- a message
 
 -- the cell with room
-abbrev readied : Seen → Seen
+abbrev readied : CellView → CellView
 readied cell = record cell { is_ready = true }
 
-pub record Handles (old : Seen) (body : Body) (new : Seen) : Type 0 where
+pub record Handles (old : CellView) (body : Body) (new : CellView) : Type 0 where
   pub same_who : new.who ≡ old.who
   pub idle : IsIdle (taken new)
   pub one_more : length new.journal ≡ length old.journal + 1
@@ -139,7 +139,7 @@ pub record Handles (old : Seen) (body : Body) (new : Seen) : Type 0 where
 not_dropped : (who : Identity) (before : List Entry) (b : Body) (kind : ℕ) (value : ℤ) → b ≡ User kind value → IsUnexpected who before b → ⊥
 not_dropped who before b kind value is unexpected = subst (λ (x : Body). IsUnexpected who before x) is unexpected
 
-handled_by : (gives : Moment → Reply → Type 0) (cell : Seen) (envelope : Envelope) (reading : ℕ) (entry : Entry) (kind : ℕ) (value : ℤ) →
+handled_by : (gives : Moment → Reply → Type 0) (cell : CellView) (envelope : Envelope) (reading : ℕ) (entry : Entry) (kind : ℕ) (value : ℤ) →
     IsSteady gives → IsIdle cell → envelope.body ≡ User kind value → IsOf envelope reading entry → IsLawfulEntry cell.who gives cell.journal entry →
     Handles cell envelope.body (with_entry (readied cell) entry)
 handled_by gives cell envelope reading (Handled e r (Applied a effects)) kind value steady idle is of_it may_come =
@@ -167,14 +167,14 @@ handled_by gives cell envelope reading (System number m outcome) kind value stea
 handled_by gives cell envelope reading (Dropped e) kind value steady idle is of_it may_come =
     absurd (not_dropped cell.who cell.journal e.body kind value (ap (λ (x : Envelope). x.body) of_it ∙ is) may_come.unexpected)
 
-pub handles : (gives : ℕ → Moment → Reply → Type 0) (cell ready new : Seen) (envelope : Envelope) (reading : ℕ) (kind : ℕ) (value : ℤ) →
+pub handles : (gives : ℕ → Moment → Reply → Type 0) (cell ready new : CellView) (envelope : Envelope) (reading : ℕ) (kind : ℕ) (value : ℤ) →
     IsSteady (gives cell.who.this.0) → IsIdle cell → ready ≡ record cell { is_ready = true } → envelope.body ≡ User kind value →
     TakesEnvelope ready new envelope reading → IsLawful new.who (gives new.who.this.0) new.journal → Handles cell envelope.body new
 handles gives cell ready new envelope reading kind value steady idle is_ready user took lawful =
     let who = cell.who in
-    let is : new ≡ with_entry (readied cell) took.entry = took.adds ∙ ap (λ (s : Seen). with_entry s took.entry) is_ready in
+    let is : new ≡ with_entry (readied cell) took.entry = took.adds ∙ ap (λ (s : CellView). with_entry s took.entry) is_ready in
     let there : IsLawful who (gives who.this.0) (took.entry ∷ cell.journal) =
-    subst (λ (s : Seen). IsLawful s.who (gives s.who.this.0) s.journal) is lawful in
-    subst (λ (s : Seen). Handles cell envelope.body s) (sym is)
+    subst (λ (s : CellView). IsLawful s.who (gives s.who.this.0) s.journal) is lawful in
+    subst (λ (s : CellView). Handles cell envelope.body s) (sym is)
     (handled_by (gives who.this.0) cell envelope reading took.entry kind value steady idle user took.of_it
     (last_entry who (gives who.this.0) cell.journal took.entry there))

@@ -1,17 +1,18 @@
 -- When a worker can begin.
 use Rattle.std.specs.Prelude.{◌≡◌, ◌<◌, Some}
-use Rattle.mb_gate.specs.Names.{actors_of, gates_id, pass_id}
+use Rattle.mb_gate.specs.Accessors.{actors_of, gates_id, pass_id}
 use Rattle.mb_gate.specs.Untouched.{origin_of}
 use Rattle.mb_gate.specs.declared.gates.Gates.{Gates}
-use Rattle.mb_desk.specs.declared.desk.Desk.{Desk}
+use Rattle.mb_testkit.specs.declared.stub_home.StubHome.{StubHome}
 use Rattle.mb_pool.specs.Places.{gates_of}
 use Rattle.bench.specs.declared.pools.worker.Worker.{Worker}
 
 -- its pass, its actor and the claims of its end are of these gates
-pub record IsReady (gates : Gates Desk) (worker : Worker) : Type 0 where
+pub record IsReady (gates : Gates StubHome) (worker : Worker) : Type 0 where
   pub pass : pass_id worker.pass ≡ gates_id gates
   pub actor : worker.actor.0 < actors_of gates
   pub end : gates_of worker.end ≡ Some (origin_of gates)
 
-abbrev pub AreReady : Gates Desk → Worker × Worker → Type 0
+-- both workers of the benchmark are ready: each has a pass, an actor and an end of the pool of these gates
+abbrev pub AreReady : Gates StubHome → Worker × Worker → Type 0
 AreReady gates pair = IsReady gates pair.0 × IsReady gates pair.1

@@ -1,3 +1,4 @@
+//! Reading the clock.
 use std::time::{Clock, Duration, Instant};
 
 /// The time now; `None` where the system does not give it.

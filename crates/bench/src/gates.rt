@@ -1,7 +1,8 @@
-//! What the calls of the gates cost on one thread, and how two threads do on two actors: the medians of some rounds.
+//! Benchmarks of the gates: what their calls cost on one thread, and how two threads with an actor each compare. The
+//! figures are medians of some rounds.
 
 ghost use Rattle.std.specs.Prelude.{◌≡◌, ◌<◌};
-ghost use Rattle.mb_gate.specs.Names.{gates_id, pass_id, actors_of};
+ghost use Rattle.mb_gate.specs.Accessors.{gates_id, pass_id, actors_of};
 
 mod alone;
 mod desk;
@@ -10,7 +11,7 @@ mod paired;
 mod shown;
 
 use alone::{Work, measure};
-use desk::{Desk, two};
+use desk::{BenchHome, two};
 use held::fill;
 use mb_gate::{Gates, Pass};
 use paired::{Paired, turns};
@@ -22,7 +23,7 @@ use std::sync::Wait;
 use std::thread::Threads;
 use std::time::Clock;
 
-/// Measures all of these in turn.
+/// Runs all benchmarks of this kind, one after another.
 pub fn run<R: Clock + Threads + Wait + Sync + Print + Eprint>(
     rt: &R,
     alloc: Global,
@@ -39,8 +40,8 @@ fn one_thread<R: Clock + Wait + Print + Eprint>(rt: &R, alloc: Global) -> io::Re
 fn measure_each<R: Clock + Wait + Print + Eprint>(
     rt: &R,
     alloc: Global,
-    gates: &Gates<Desk>,
-    pass: &mut Pass<Desk>,
+    gates: &Gates<BenchHome>,
+    pass: &mut Pass<BenchHome>,
 ) -> io::Result<()>
     requires ours { pass_id pass.old ≡ gates_id gates.now }
     requires there { 1 < actors_of gates.now }

@@ -1,4 +1,4 @@
-//! `bench`: what the parts cost. What was done goes to standard output, the figures to standard error.
+//! `bench`: benchmarks of the parts. What was done goes to standard output, the figures to standard error.
 #![tactic(auto)]
 
 mod clock;

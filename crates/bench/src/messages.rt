@@ -1,4 +1,5 @@
-//! What one handled message, without effects and with a tell, one push on a system list and one tell cost.
+//! Benchmarks of the cell: handling a message, without effects and with a tell; a push on a system list and its drain;
+//! and a tell in an outbox.
 
 ghost use Rattle.std.specs.Prelude.{◌≡◌, pos};
 
@@ -21,13 +22,12 @@ use std::marker::Brand;
 use std::rt::Files;
 use std::time::{Clock, Duration};
 
-/// How many messages are handled.
 const MESSAGES: u32 = 1_000_000;
 
 /// How often sixteen nodes are pushed and drained.
 const ROUNDS: u32 = 62_500;
 
-/// Measures all of these in turn.
+/// Runs all benchmarks of this kind, one after another.
 pub fn run<R: Print + Eprint + Clock + Files + AllocGlobal>(rt: &R) -> io::Result<()> {
     print_messages(rt, Adder::new(), "message")?;
     print_messages(rt, Adder::telling(), "message with a tell")?;
@@ -35,7 +35,8 @@ pub fn run<R: Print + Eprint + Clock + Files + AllocGlobal>(rt: &R) -> io::Resul
     print_outbox(rt)
 }
 
-/// Says what this actor's messages cost. The journal has room for so many, so that memory was refused where there is an error.
+/// Prints what this actor's messages cost. The journal has room for all of them, so that the only error is that memory
+/// was refused.
 fn print_messages<R: Print + Eprint + Clock + Files + AllocGlobal>(
     rt: &R,
     actor: Adder,
@@ -49,7 +50,7 @@ fn print_messages<R: Print + Eprint + Clock + Files + AllocGlobal>(
     }
 }
 
-/// Says what a run came to, and what each of its messages took.
+/// Prints what a run came to, and the time of each of its messages.
 fn print_measured<R: Print + Eprint>(rt: &R, measured: &Measured, what: &str) -> io::Result<()> {
     let Measured {
         handled,
@@ -63,7 +64,7 @@ fn print_measured<R: Print + Eprint>(rt: &R, measured: &Measured, what: &str) ->
     println!(rt; "handled {handled} state {state} acts {acts}")
 }
 
-/// Says what each of a million kept, and how much was needed for each at the peak.
+/// Prints the memory that each of a million messages kept, and that each needed at the peak.
 fn print_memory<R: Eprint>(rt: &R, memory: Option<Memory>, what: &str) {
     if let Some(Memory { now, most }) = memory {
         let kept = now / u64::from(MESSAGES);
@@ -75,21 +76,21 @@ fn print_memory<R: Eprint>(rt: &R, memory: Option<Memory>, what: &str) {
     }
 }
 
-/// Says what a push and a drain cost.
+/// Prints what a push and its drain cost.
 fn print_lists<R: Print + Eprint + Clock + AllocGlobal>(rt: &R) -> io::Result<()> {
     let listed = measure_lists(rt, ROUNDS)?;
     print_each(rt, listed.time, "push with its part of a drain");
     println!(rt; "pushed {}", listed.given)
 }
 
-/// Says what a tell costs.
+/// Prints what a tell costs.
 fn print_outbox<R: Print + Eprint + Clock + AllocGlobal>(rt: &R) -> io::Result<()> {
     let told = measure_outbox(rt, MESSAGES);
     print_each(rt, told.time, "tell with its outbox");
     println!(rt; "told {}", told.told)
 }
 
-/// Says what each of a million took.
+/// Prints the time of each of a million.
 fn print_each<R: Eprint>(rt: &R, time: Option<Duration>, what: &str) {
     if let Some(time) = time {
         let each = time.as_nanos() / u128::from(MESSAGES);

@@ -1,17 +1,18 @@
-//! What a push and a take of a claim cost in a shared and in a stealing pool, on one thread, and by four ends on four threads,
-//! each with claims of its own: the medians of some rounds, each end's by its own clock.
+//! Benchmarks of the pools: a push and a take of a claim in a shared and in a stealing pool, on one thread, and by four
+//! ends on four threads, each with claims of its own. The figures are medians of some rounds, each end's by its own
+//! clock.
 
 ghost use Rattle.std.specs.Prelude.{◌≡◌, ◌<◌, ◌≤◌};
-ghost use Rattle.mb_gate.specs.Names.{gates_id, pass_id, actors_of};
+ghost use Rattle.mb_gate.specs.Accessors.{gates_id, pass_id, actors_of};
 
 mod alone;
 mod four;
 mod shown;
 mod worker;
 
-use mb_desk::{Desk, gates_of};
 use mb_gate::{Gates, Pass};
-use mb_pool::Kind;
+use mb_msg::PoolKind;
+use mb_testkit::{StubHome, gates_of};
 use shown::{Made, show};
 use std::alloc::Global;
 use std::io;
@@ -20,23 +21,31 @@ use std::thread::Threads;
 use std::time::Clock;
 use worker::workers;
 
-/// Measures all of these in turn.
+/// Runs all benchmarks of this kind, one after another.
 pub fn run<R: Clock + Threads + Wait + Sync + Print + Eprint>(
     rt: &R,
     alloc: Global,
 ) -> io::Result<()> {
-    show(rt, "shared, one end", turns(rt, alloc, Kind::Shared, 1))?;
-    show(rt, "stealing, one end", turns(rt, alloc, Kind::Stealing, 1))?;
-    show(rt, "shared, four ends", turns(rt, alloc, Kind::Shared, 4))?;
+    show(rt, "shared, one end", turns(rt, alloc, PoolKind::Shared, 1))?;
+    show(
+        rt,
+        "stealing, one end",
+        turns(rt, alloc, PoolKind::Stealing, 1),
+    )?;
+    show(
+        rt,
+        "shared, four ends",
+        turns(rt, alloc, PoolKind::Shared, 4),
+    )?;
     show(
         rt,
         "stealing, four ends",
-        turns(rt, alloc, Kind::Stealing, 4),
+        turns(rt, alloc, PoolKind::Stealing, 4),
     )
 }
 
-/// By one end, or by four where there are so many.
-fn turns<R: Clock + Threads + Wait + Sync>(rt: &R, alloc: Global, kind: Kind, ends: u32) -> Made
+/// With one end, or with four ends where there are four.
+fn turns<R: Clock + Threads + Wait + Sync>(rt: &R, alloc: Global, kind: PoolKind, ends: u32) -> Made
     requires { 0 < ends }
 {
     let (gates, mut pass) = gates_of(alloc, ends as usize).ok()?;
@@ -46,9 +55,9 @@ fn turns<R: Clock + Threads + Wait + Sync>(rt: &R, alloc: Global, kind: Kind, en
 fn turns_at<R: Clock + Threads + Wait + Sync>(
     rt: &R,
     alloc: Global,
-    gates: &Gates<Desk>,
-    pass: &mut Pass<Desk>,
-    kind: Kind,
+    gates: &Gates<StubHome>,
+    pass: &mut Pass<StubHome>,
+    kind: PoolKind,
     ends: u32,
 ) -> Made
     requires ours { pass_id pass.old ≡ gates_id gates.now }

@@ -1,7 +1,8 @@
-//! What a push with its take costs in the queues of mailboxes, beside the kit's plain ones, on one thread and on two.
+//! Benchmarks of the mailbox queues: a push and its take, beside the plain queues of `crossbeam_queue`, on one thread
+//! and on two.
 //!
-//! The two of a comparison are timed in turn, lap by lap, so that what else the machine does falls on both alike. By rank the
-//! takes of a lap are timed apart from its pushes. The figures are medians.
+//! The two queues of a comparison are timed alternately, lap by lap, so that other load of the machine falls on both
+//! alike. Of a priority queue the takes of a lap are timed apart from its pushes. The figures are medians.
 
 ghost use Rattle.mb_queue.specs.Made.{IsMakeable};
 
@@ -13,16 +14,16 @@ mod sender;
 
 use crossbeam_queue::{ArrayQueue, SegQueue};
 use ends::{Ends, Puts, Takes};
-use lap::{ALONE, Course, PAIRED, compare, measure, measure_apart, put_some};
+use lap::{ALONE, BenchCase, PAIRED, compare, measure, measure_apart, put_some};
 use mail::mail;
-use mb_queue::{Kind, RankRow, Ranks};
+use mb_msg::{MailboxType, RankRow};
 use std::alloc::{AllocError, Global};
 use std::io;
 use std::sync::Wait;
 use std::thread::Threads;
 use std::time::Clock;
 
-/// Measures all of these in turn.
+/// Runs all benchmarks of this kind, one after another.
 pub fn run<R: Clock + Threads + Wait + Sync + Print + Eprint>(
     rt: &R,
     alloc: Global,
@@ -38,7 +39,7 @@ pub fn run<R: Clock + Threads + Wait + Sync + Print + Eprint>(
 fn unbounded<R: Clock + Threads + Wait + Sync + Print + Eprint>(
     rt: &R,
     alloc: Global,
-    course: Course,
+    course: BenchCase,
     what: &str,
 ) -> io::Result<()> {
     let queue = SegQueue::new(alloc)?;
@@ -46,13 +47,13 @@ fn unbounded<R: Clock + Threads + Wait + Sync + Print + Eprint>(
         put: &queue,
         take: &queue,
     };
-    beside(rt, alloc, course, what, Kind::Unbounded, &mut plain)
+    beside(rt, alloc, course, what, MailboxType::Unbounded, &mut plain)
 }
 
 fn bounded<R: Clock + Threads + Wait + Sync + Print + Eprint>(
     rt: &R,
     alloc: Global,
-    course: Course,
+    course: BenchCase,
     what: &str,
 ) -> io::Result<()> {
     let queue = ArrayQueue::new(alloc, 1_024)?;
@@ -60,16 +61,23 @@ fn bounded<R: Clock + Threads + Wait + Sync + Print + Eprint>(
         put: &queue,
         take: &queue,
     };
-    beside(rt, alloc, course, what, Kind::Bounded(1_024), &mut plain)
+    beside(
+        rt,
+        alloc,
+        course,
+        what,
+        MailboxType::Bounded(1_024),
+        &mut plain,
+    )
 }
 
-/// A queue of a mailbox of this kind beside a plain one.
+/// Compares a mailbox queue of this kind with a plain one.
 fn beside<R, P: Puts + Send, T: Takes + Send>(
     rt: &R,
     alloc: Global,
-    course: Course,
+    course: BenchCase,
     what: &str,
-    kind: Kind,
+    kind: MailboxType,
     plain: &mut Ends<P, T>,
 ) -> io::Result<()>
 where
@@ -84,23 +92,28 @@ fn control<R: Clock + Threads + Wait + Sync + Print + Eprint>(
     rt: &R,
     alloc: Global,
 ) -> io::Result<()> {
-    measure(rt, ALONE, "control-aware", &mut mail(alloc, Kind::Control)?)
+    measure(
+        rt,
+        ALONE,
+        "control-aware",
+        &mut mail(alloc, MailboxType::Control)?,
+    )
 }
 
-/// The takes are timed apart, as it is a take that chooses. Before each lap and after it 1,000 are held, so at each of its
-/// takes from 1,000 to 1,024 are.
+/// The takes are timed apart, since a take chooses. Before and after each lap 1,000 envelopes are held, so from 1,000
+/// to 1,024 at each take.
 fn priority<R: Clock + Wait + Print + Eprint>(rt: &R, alloc: Global) -> io::Result<()> {
     let rows = ranks(alloc)?;
-    let mut ends = mail(alloc, Kind::Priority { rows, other: 9 })?;
+    let mut ends = mail(alloc, MailboxType::Priority { rows, other: 9 })?;
     put_some(rt, &mut ends.put, 1_000);
     measure_apart(rt, ALONE, "priority, 1000 held", &mut ends)
 }
 
-/// Of the four kinds of message that are pushed three have rows, in no order.
-fn ranks(alloc: Global) -> Result<Ranks, AllocError> {
+/// A table of ranks: of the four kinds of message that are pushed three have rows, in no order.
+fn ranks(alloc: Global) -> Result<Vec<RankRow>, AllocError> {
     let mut rows = Vec::new(alloc);
     for (kind, rank) in [(1, 7), (2, 3), (3, 5)] {
         rows.push(RankRow { kind, rank })?;
     }
-    Ok(Ranks::new(rows))
+    Ok(rows)
 }

@@ -1,14 +1,14 @@
-//! How long some rounds took.
+//! The times of some rounds.
 use crate::clock::elapsed;
 use std::time::{Clock, Instant};
 
-/// How many rounds are timed, where nothing else is said.
+/// How many rounds are timed by default.
 pub const ROUNDS: usize = 9;
 
 /// The most rounds that are timed.
 const MOST: usize = 400;
 
-/// What was measured of each round, as the nanoseconds that it took: behind these the greatest numbers that there are.
+/// What was measured of each round, as its nanoseconds. The rest of the array is the greatest number.
 #[derive(Drop)]
 pub struct Times {
     rounds: [u64; MOST],
@@ -23,12 +23,12 @@ impl Times {
         }
     }
 
-    /// One more round, which began then.
+    /// Adds a round that began at this time.
     pub fn add<R: Clock>(&mut self, rt: &R, begin: Option<Instant>) {
         self.put(elapsed(rt, begin));
     }
 
-    /// The number of one more round.
+    /// Adds the number of a round.
     pub fn put(&mut self, number: u64) {
         if self.count < MOST {
             self.rounds[self.count] = number;
@@ -36,7 +36,7 @@ impl Times {
         }
     }
 
-    /// The number in the middle.
+    /// The median.
     pub fn median(&self) -> u64 {
         let mut rounds = self.rounds;
         rounds.sort_unstable();

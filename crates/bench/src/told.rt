@@ -1,8 +1,8 @@
-//! How a benchmark tells what it did and what that cost.
+//! Printing what a benchmark did and what that cost.
 use std::fmt::Display;
 use std::io;
 
-/// Tells what was done to standard output, and the figure of it to standard error.
+/// Prints what was done to standard output, and its figure to standard error.
 pub fn tell<R: Print + Eprint, D: Display + Drop, F: Display + Drop>(
     rt: &R,
     done: D,
@@ -12,7 +12,7 @@ pub fn tell<R: Print + Eprint, D: Display + Drop, F: Display + Drop>(
     rt.println(done)
 }
 
-/// Tells a figure to standard error; it's lost where that can't be written to.
+/// Prints a figure to standard error; it is lost where that cannot be written to.
 pub fn note<R: Eprint, F: Display + Drop>(rt: &R, figure: F) {
     let _ = rt.eprintln(figure);
 }

@@ -1,7 +1,7 @@
 //! `mailrun`: reads a scenario, runs its actors, and prints the report.
 #![tactic(auto)]
 
-use mb_program::{Watched, run_program};
+use mb_program::{TrackedStream, run_program};
 use mb_streams::argument_count;
 use std::process::ExitCode;
 
@@ -10,8 +10,8 @@ fn main(rt: HostRuntime) -> ExitCode {
         &rt,
         rt.alloc(),
         argument_count(&rt),
-        &mut Watched::new(rt.stdin()),
-        &mut Watched::new(rt.stdout()),
-        &mut Watched::new(rt.stderr()),
+        &mut TrackedStream::new(rt.stdin()),
+        &mut TrackedStream::new(rt.stdout()),
+        &mut TrackedStream::new(rt.stderr()),
     ))
 }

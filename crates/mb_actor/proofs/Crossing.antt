@@ -7,8 +7,8 @@ use Rattle.arrayvec.proofs.array_vec.ArrayVec.TheSendSync as array_vec
 use Rattle.mb_actor.proofs.effect.Effect.TheSendSync as effect
 use Rattle.mb_actor.proofs.actor_set.ActorSet.TheSendSync as actor_set
 use Rattle.mb_actor.specs.declared.actor.Actor as actor
-use Rattle.mb_actor.specs.contracts.called.Called as called
-use Rattle.mb_actor.specs.contracts.called.Called.TheInside as called_inside
+use Rattle.mb_actor.specs.contracts.recorded_actor.RecordedActor as called
+use Rattle.mb_actor.specs.contracts.recorded_actor.RecordedActor.TheInside as called_inside
 use Rattle.mb_actor.specs.contracts.history.History as history
 use Rattle.mb_actor.specs.contracts.history.History.TheInside as history_inside
 use Rattle.mb_actor.specs.contracts.outbox.Outbox as outbox

@@ -6,7 +6,7 @@ use Rattle.std.proofs.lemmas.List.Folds.{list_all-append, list_any-append}
 use Rattle.mb_msg.specs.declared.id.ActorId.{ActorId}
 use Rattle.mb_actor.specs.ActorList.{has, is_same}
 use Rattle.mb_actor.specs.Held.{CanHold, is_distinct}
-use Rattle.mb_actor.specs.Tray.{Tray, actor_of, is_actor, may_spawn, spawn_of, spawns_of}
+use Rattle.mb_actor.specs.OutboxView.{OutboxView, actor_of, is_actor, may_spawn, spawn_of, spawns_of}
 use Rattle.mb_actor.specs.declared.effect.Effect.{Effect}
 use Rattle.mb_actor.specs.declared.effect.Effect.TheVariants as effect
 use Rattle.mb_actor.proofs.OutboxLemmas.{Passes, same_sym}
@@ -46,7 +46,7 @@ no_spawn : (list : List ActorId) → list ++ [] ≡ list
 no_spawn [] = refl
 no_spawn (x ∷ list) = ap (λ l. x ∷ l) (no_spawn list)
 
-prepared-more : (tray : Tray) (e : Effect) → CanHold tray → may_spawn tray e ≡ true →
+prepared-more : (tray : OutboxView) (e : Effect) → CanHold tray → may_spawn tray e ≡ true →
     list_all (has tray.unspawned) (spawns_of tray.effects ++ spawns_of (e ∷ [])) ≡ true
 prepared-more tray (effect.Tell to kind value) held may = ap (list_all (has tray.unspawned)) (no_spawn (spawns_of tray.effects)) ∙ held.prepared
 prepared-more tray (effect.Control to kind value) held may = ap (list_all (has tray.unspawned)) (no_spawn (spawns_of tray.effects)) ∙ held.prepared
@@ -58,7 +58,7 @@ prepared-more tray (effect.Spawn x) held may = all_more (has tray.unspawned) (sp
     first : (a b : Bool) → (a && b) ≡ true → a ≡ true
     first a b h = grind rules
 
-once-more : (tray : Tray) (e : Effect) → CanHold tray → may_spawn tray e ≡ true →
+once-more : (tray : OutboxView) (e : Effect) → CanHold tray → may_spawn tray e ≡ true →
     is_distinct (spawns_of tray.effects ++ spawns_of (e ∷ [])) ≡ true
 once-more tray (effect.Tell to kind value) held may = ap is_distinct (no_spawn (spawns_of tray.effects)) ∙ held.once
 once-more tray (effect.Control to kind value) held may = ap is_distinct (no_spawn (spawns_of tray.effects)) ∙ held.once
@@ -70,7 +70,7 @@ once-more tray (effect.Spawn x) held may = distinct-push (spawns_of tray.effects
     second : (a b : Bool) → (a && not b) ≡ true → b ≡ false
     second a b h = grind rules
 
-pub can_hold-more : (tray : Tray) (e : Effect) → CanHold tray → Passes tray e → CanHold (record tray { effects = tray.effects ++ e ∷ [] })
+pub can_hold-more : (tray : OutboxView) (e : Effect) → CanHold tray → Passes tray e → CanHold (record tray { effects = tray.effects ++ e ∷ [] })
 can_hold-more tray e held passes = record {
   few = omega (arith, passes.room, length-append tray.effects (e ∷ []));
   there =
@@ -80,7 +80,7 @@ can_hold-more tray e held passes = record {
   once = ap is_distinct (spawns-more tray.effects e) ∙ once-more tray e held passes.may;
 }
 
-pub can_hold-none : (tray : Tray) → tray.effects ≡ [] → CanHold tray
+pub can_hold-none : (tray : OutboxView) → tray.effects ≡ [] → CanHold tray
 can_hold-none tray none =
     subst (λ (effects : List Effect). CanHold (record tray { effects = effects })) (sym none)
     (record { few = omega arith; there = refl; prepared = refl; once = refl })

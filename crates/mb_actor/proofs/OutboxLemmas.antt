@@ -10,16 +10,16 @@ use Rattle.mb_actor.specs.ActorList.{has, is_same}
 use Rattle.mb_actor.specs.ActorSet.{contains}
 use Rattle.mb_actor.proofs.ActorSetLemmas.{no_bit_above}
 use Rattle.mb_actor.specs.Held.{CanHold}
-use Rattle.mb_actor.specs.Outbox.{IsOutbox, tray_of}
-use Rattle.mb_actor.specs.Tray.{Tray, refusal, is_actor, actor_of, may_spawn, spawn_of, spawns_of}
+use Rattle.mb_actor.specs.Outbox.{IsOutbox, outbox_view_of}
+use Rattle.mb_actor.specs.OutboxView.{OutboxView, refusal, is_actor, actor_of, may_spawn, spawn_of, spawns_of}
 use Rattle.mb_actor.specs.declared.actor_set.ActorSet.{ActorSet}
 use Rattle.mb_actor.specs.declared.effect.Effect.{Effect}
 use Rattle.mb_actor.specs.declared.effect.Effect.TheVariants as effect
 use Rattle.mb_actor.specs.declared.outbox.Outbox.TheInside.{Inside}
-use Rattle.mb_actor.specs.declared.fault.OutboxError.{OutboxError}
+use Rattle.mb_actor.specs.declared.outbox_error.OutboxError.{OutboxError}
 
 -- an effect that is not refused
-pub record Passes (tray : Tray) (e : Effect) : Type 0 where
+pub record Passes (tray : OutboxView) (e : Effect) : Type 0 where
   pub room : length tray.effects < 16
   pub actor : is_actor tray (actor_of e) ≡ true
   pub may : may_spawn tray e ≡ true
@@ -28,7 +28,7 @@ not_full : (a b c : Bool) (full other : OutboxError) → None ≡ (if a then Som
     (a ≡ false) × (b ≡ true) × (c ≡ true)
 not_full a b c full other h = grind rules
 
-pub passes : (tray : Tray) (e : Effect) → None ≡ refusal tray e → Passes tray e
+pub passes : (tray : OutboxView) (e : Effect) → None ≡ refusal tray e → Passes tray e
 passes tray e h =
     let all = not_full _ _ _ _ _ h in
     record { room = grind (arith, nat_tests, all.0); actor = all.1; may = all.2 }
@@ -42,12 +42,12 @@ pub has-kept : (set : ActorSet) (prepared : List ActorId) → ((x : ActorId) →
 has-kept set prepared within x =
     any-filter_same (is_same x) (contains set) (contains set x) (same_bit set x) prepared ∙ grind (rules, within x)
 
-pub may-spawn : (o : Inside) → IsOutbox o → (tray : Tray) → tray_of o ≡ tray → (x : ActorId) →
+pub may-spawn : (o : Inside) → IsOutbox o → (tray : OutboxView) → outbox_view_of o ≡ tray → (x : ActorId) →
     (contains o.unspawned x && not (contains o.asked x)) ≡ may_spawn tray (effect.Spawn x)
 may-spawn o kept tray view x =
     ap (λ b. b && not (contains o.asked x)) (sym (has-kept o.unspawned o.prepared.value.items kept.prepared x))
     ∙ ap (λ b. has (filter (contains o.unspawned) o.prepared.value.items) x && not b) (kept.asked x)
-    ∙ ap (λ (t : Tray). may_spawn t (effect.Spawn x)) view
+    ∙ ap (λ (t : OutboxView). may_spawn t (effect.Spawn x)) view
 
 -- a test after a test
 kept_by_both : (b : Bool) (p : ActorId → Bool) (x : ActorId) (ys zs : List ActorId) → filter p ys ≡ zs →
@@ -76,7 +76,7 @@ filter_own p (x ∷ list) h =
     ap (λ b. cond b (x ∷ filter p list) (filter p list)) (h x (grind arith))
     ∙ ap (λ l. x ∷ l) (filter_own p list (λ y there. h y (grind (rules, there))))
 
-pub same_tray : (a b : Tray) → a.effects ≡ b.effects → a.actors ≡ b.actors → a.unspawned ≡ b.unspawned → a ≡ b
+pub same_tray : (a b : OutboxView) → a.effects ≡ b.effects → a.actors ≡ b.actors → a.unspawned ≡ b.unspawned → a ≡ b
 same_tray a b e n u = λ i. record { effects = e i; actors = n i; unspawned = u i }
 
 pub both_true : (a b : Bool) → (a && b) ≡ true → a ≡ true
@@ -86,7 +86,7 @@ pub small : (set : ActorSet) → set.bits < 2 ^ 64 → (x : ActorId) → contain
 small set fits x here = grind (arith, no_bit_above set.bits x.0)
 
 -- a child whose spawn is not refused
-pub spawnable : (o : Inside) → IsOutbox o → (tray : Tray) → tray_of o ≡ tray → (e : Effect) → None ≡ refusal tray e →
+pub spawnable : (o : Inside) → IsOutbox o → (tray : OutboxView) → outbox_view_of o ≡ tray → (e : Effect) → None ≡ refusal tray e →
     (x : ActorId) → e ≡ effect.Spawn x → contains o.unspawned x ≡ true
 spawnable o kept tray view e goes x is =
     both_true _ _ (may-spawn o kept tray view x ∙ ap (may_spawn tray) (sym is) ∙ (passes tray e goes).may)
@@ -104,7 +104,7 @@ has-push effects e x =
     ∙ or_comm (has (spawns_of effects) x) (has (spawns_of (e ∷ [])) x)
 
 -- one effect more, and the set of those that are to be spawned with it
-pub with_effect : (o : Inside) → IsOutbox o → (tray : Tray) → tray_of o ≡ tray → (e : Effect) → None ≡ refusal tray e →
+pub with_effect : (o : Inside) → IsOutbox o → (tray : OutboxView) → outbox_view_of o ≡ tray → (e : Effect) → None ≡ refusal tray e →
     CanHold (record tray { effects = tray.effects ++ e ∷ [] }) → (new : Inside) → new.effects.items ≡ o.effects.items ++ e ∷ [] →
     new.actors ≡ o.actors → new.unspawned ≡ o.unspawned → new.prepared ≡ o.prepared →
     ((x : ActorId) → contains new.asked x ≡ (has (spawns_of (e ∷ [])) x || contains o.asked x)) → IsOutbox new
@@ -113,11 +113,11 @@ with_effect o kept tray view e goes more new items same_actors same_set same_lis
   asked = λ x. says x ∙ ap (λ b. has (spawns_of (e ∷ [])) x || b) (kept.asked x) ∙ sym (has-push o.effects.items e x)
       ∙ ap (λ l. has (spawns_of l) x) (sym items);
   held =
-      subst (λ (t : Tray). CanHold t)
-      (sym (same_tray (tray_of new) (record tray { effects = tray.effects ++ e ∷ [] })
-      (items ∙ ap (λ (t : Tray). t.effects ++ e ∷ []) view)
-      (same_actors ∙ ap (λ (t : Tray). t.actors) view)
-      ((λ i. filter (contains (same_set i)) (same_list i).value.items) ∙ ap (λ (t : Tray). t.unspawned) view)))
+      subst (λ (t : OutboxView). CanHold t)
+      (sym (same_tray (outbox_view_of new) (record tray { effects = tray.effects ++ e ∷ [] })
+      (items ∙ ap (λ (t : OutboxView). t.effects ++ e ∷ []) view)
+      (same_actors ∙ ap (λ (t : OutboxView). t.actors) view)
+      ((λ i. filter (contains (same_set i)) (same_list i).value.items) ∙ ap (λ (t : OutboxView). t.unspawned) view)))
       more;
 }
 

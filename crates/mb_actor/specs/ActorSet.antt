@@ -1,4 +1,4 @@
--- Sets of actors, as the word that keeps them (this project's own profile).
+-- Sets of actors, kept as one word (this project's own profile).
 use Rattle.std.specs.Prelude.{◌==◌, Bool}
 use Rattle.std.specs.Int.{bit_at}
 use Rattle.mb_msg.specs.declared.id.ActorId.{ActorId}

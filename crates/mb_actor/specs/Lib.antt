@@ -1,8 +1,8 @@
 pub mod ActorList
 pub mod ActorSet
 pub mod Behaviour
-pub mod Called
+pub mod RecordedActor
 pub mod Held
 pub mod Outbox
-pub mod Past
-pub mod Tray
+pub mod CallList
+pub mod OutboxView

@@ -4,12 +4,12 @@ use Rattle.mb_msg.specs.declared.id.ActorId.{ActorId}
 use Rattle.mb_actor.specs.ActorList.{has}
 use Rattle.mb_actor.specs.ActorSet.{contains}
 use Rattle.mb_actor.specs.Held.{CanHold}
-use Rattle.mb_actor.specs.Tray.{Tray, spawns_of}
+use Rattle.mb_actor.specs.OutboxView.{OutboxView, spawns_of}
 use Rattle.mb_actor.specs.declared.outbox.Outbox.TheInside.{Inside}
 
--- what an outbox shows
-abbrev pub tray_of : Inside → Tray
-tray_of o =
+-- an outbox as contracts see it
+abbrev pub outbox_view_of : Inside → OutboxView
+outbox_view_of o =
     record { effects = o.effects.items; actors = o.actors; unspawned = filter (contains o.unspawned) o.prepared.value.items }
 
 -- the children that may be spawned are prepared ones, the set of those that were asked for is that of the spawns among the
@@ -17,4 +17,4 @@ tray_of o =
 pub record IsOutbox (o : Inside) : Type 0 where
   pub prepared : (x : ActorId) → contains o.unspawned x ≡ true → has o.prepared.value.items x ≡ true
   pub asked : (x : ActorId) → contains o.asked x ≡ has (spawns_of o.effects.items) x
-  pub held : CanHold (tray_of o)
+  pub held : CanHold (outbox_view_of o)

@@ -1,3 +1,4 @@
+//! The trait of actors (`akka.actor.Actor`).
 ghost use Rattle.std.specs.Prelude.{◌≡◌, ℤ, List, [], ◌∷◌, ◌++◌, Some, None};
 ghost use Rattle.mb_actor.specs.Behaviour.{Moment, Reply, IsAllowed, Keeps};
 ghost use Rattle.mb_actor.specs.declared.call.Call.{Call};
@@ -8,7 +9,7 @@ use crate::message::Message;
 use crate::outbox::Outbox;
 use mb_msg::Cause;
 
-/// An actor (`akka.actor.Actor`): what is called, one call at a time, for each message that comes to it.
+/// An actor (`akka.actor.Actor`). It is called once for each message that comes to it, one call at a time.
 pub trait Actor: Drop {
     /// The content after a list of messages, counted from the last start. No call changes it.
     ghost after: { Self → List Message → ℤ };

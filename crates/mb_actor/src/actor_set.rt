@@ -1,3 +1,4 @@
+//! Sets of actors in one word.
 ghost use Rattle.std.specs.Prelude.{◌≡◌, ◌<◌, ◌&&◌, ◌||◌, not, false};
 ghost use Rattle.mb_actor.specs.ActorList.{is_same};
 ghost use Rattle.mb_actor.specs.ActorSet.{contains};
@@ -21,14 +22,12 @@ impl ActorSet {
         ActorSet { bits: 0 }
     }
 
-    /// Whether the actor is in it.
     pub(crate) fn contains(self, id: ActorId) -> bool
         ensures { result ≡ contains self id }
     {
         id.0 < ACTORS && (self.bits >> id.0) & 1 == 1
     }
 
-    /// Puts the actor in.
     pub(crate) fn insert(&mut self, id: ActorId)
         requires { id.0 < most_actors }
         ensures { (x : ActorId) → contains self.new x ≡ (is_same id x || contains self.old x) }

@@ -1,7 +1,9 @@
-/// What an actor answers to a call. In Akka an exception stands for `Failed`, and `unhandled` for `Unhandled`.
+//! The answer of an actor to a call.
+
+/// What an actor answers to a call (in Akka an exception for `Failed`, a call of `unhandled` for `Unhandled`).
 #[derive(Clone, Copy, Debug, PartialEq, Eq)]
 pub enum Answer {
-    /// The call did what it is for.
+    /// The actor handled the call.
     Handled,
     /// The actor does not know this message.
     Unhandled,

@@ -1,3 +1,4 @@
+//! Boxed actors.
 ghost use Rattle.std.specs.Prelude.{◌≡◌};
 
 use crate::actor::Actor;
@@ -6,7 +7,7 @@ use crate::message::Message;
 use crate::outbox::Outbox;
 use mb_msg::Cause;
 
-/// A box of any kind of actor is an actor: that of the object in it.
+/// A box of any actor is an actor: each call is one of the actor in it.
 impl Actor for Box<dyn Actor + Send> {
     ghost after = { λ b. (Actor-box b).after b.value };
 

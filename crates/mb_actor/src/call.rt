@@ -1,3 +1,4 @@
+//! The calls of an actor.
 use crate::message::Message;
 use mb_msg::Cause;
 

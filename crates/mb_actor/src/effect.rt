@@ -1,5 +1,6 @@
+//! Effects: what an actor asks for during a call.
 ghost use Rattle.std.specs.Prelude.{◌≡◌};
-ghost use Rattle.mb_actor.specs.Tray.{actor_of};
+ghost use Rattle.mb_actor.specs.OutboxView.{actor_of};
 
 use mb_msg::ActorId;
 
@@ -33,9 +34,10 @@ impl Effect {
     }
 }
 
-/// What fills the places of an outbox that hold no effect: to stop the guardian, which none can ask for.
+/// What fills the places of an outbox that hold no effect: the effect of stopping the guardian, which no actor can ask
+/// for.
 impl Default for Effect {
-    ghost use Rattle.mb_actor.specs.Tray.{blank};
+    ghost use Rattle.mb_actor.specs.OutboxView.{blank};
 
     ghost is_default = { λ e. e ≡ blank };
 

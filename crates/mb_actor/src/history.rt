@@ -1,3 +1,4 @@
+//! The ghost history of an actor's calls.
 ghost use Rattle.std.specs.Prelude.{◌≡◌, [], ◌∷◌};
 
 use crate::call::Call;
@@ -5,17 +6,17 @@ use std::marker::Model;
 use std::mem;
 use std::snapshot::Snapshot;
 
-/// Calls, the newest first. No value of it is kept: it is what a snapshot remembers.
+/// Calls, the newest first. No value of this type is kept: it exists in snapshots alone.
 #[derive(Drop)]
-pub(crate) enum Past {
+pub(crate) enum CallList {
     Nothing,
-    Then(Snapshot<Past>, Call),
+    Then(Snapshot<CallList>, Call),
 }
 
-/// The calls that were made of an actor, for proofs alone: it takes no bytes.
+/// The calls that were made of an actor, for proofs alone. It takes no bytes.
 #[derive(Drop)]
 pub(crate) struct History {
-    past: Snapshot<Past>,
+    past: Snapshot<CallList>,
 }
 
 const _: () = prove!(size_of::<History>() == 0);
@@ -26,7 +27,7 @@ impl Model for History {
 
     ghost Value = { List Call };
 
-    ghost use Rattle.mb_actor.specs.Past.{calls_of};
+    ghost use Rattle.mb_actor.specs.CallList.{calls_of};
 
     ghost view = { λ h. calls_of h.past.value };
 }
@@ -37,15 +38,14 @@ impl History {
         ensures { result ≡ [] }
     {
         History {
-            past: Snapshot::of(&Past::Nothing),
+            past: Snapshot::of(&CallList::Nothing),
         }
     }
 
-    /// This call was made.
     pub(crate) fn add(&mut self, call: Call)
         ensures { self.new ≡ call ∷ self.old }
     {
-        let past = mem::replace(&mut self.past, Snapshot::of(&Past::Nothing));
-        self.past = Snapshot::of(&Past::Then(past, call));
+        let past = mem::replace(&mut self.past, Snapshot::of(&CallList::Nothing));
+        self.past = Snapshot::of(&CallList::Then(past, call));
     }
 }

@@ -1,7 +1,8 @@
-//! What an actor is: an object that handles messages one at a time, with a stated content and stated effects.
+//! What an actor is (`akka.actor.Actor`): an object that handles messages one at a time, with a stated content and
+//! stated effects.
 //!
-//! An actor's content is a function of the messages since its last start, and each of its calls gives an answer and
-//! effects that the actor's own relation allows. What is above rests on this contract alone.
+//! An actor's content is a function of the messages since its last start. Each of its calls gives an answer and effects
+//! that the actor's own relation allows. The layers above use nothing else of an actor.
 #![tactic(auto)]
 
 mod actor;
@@ -10,21 +11,21 @@ mod answer;
 mod behaviours;
 mod boxed;
 mod call;
-mod called;
 mod effect;
-mod fault;
 mod history;
 mod message;
 mod outbox;
+mod outbox_error;
 mod phase;
+mod recorded_actor;
 
 pub use actor::Actor;
 pub use answer::Answer;
 pub use behaviours::Behaviours;
 pub use call::Call;
-pub use called::Called;
 pub use effect::Effect;
-pub use fault::OutboxError;
 pub use message::Message;
 pub use outbox::Outbox;
+pub use outbox_error::OutboxError;
 pub use phase::Phase;
+pub use recorded_actor::RecordedActor;

@@ -1,3 +1,4 @@
+//! Messages, as an actor receives them.
 use mb_msg::ActorId;
 
 /// What an actor is asked to handle.

@@ -1,20 +1,21 @@
+//! The outbox, by which an actor asks for effects.
 ghost use Rattle.std.specs.Prelude.{◌≡◌, ◌<◌, ◌≤◌, [], length};
 ghost use Rattle.std.specs.List.{All};
 ghost use Rattle.mb_msg.specs.Limits.{most_actors, most_effects};
 ghost use Rattle.mb_actor.specs.Held.{CanHold};
-ghost use Rattle.mb_actor.specs.Tray.{added, answer_of, may_spawn, refusal, settled};
+ghost use Rattle.mb_actor.specs.OutboxView.{added, answer_of, may_spawn, refusal, settled};
 
 use crate::actor_set::ActorSet;
 use crate::effect::Effect;
-use crate::fault::OutboxError;
+use crate::outbox_error::OutboxError;
 use arrayvec::ArrayVec;
 use mb_msg::ActorId;
 use mb_msg::limits::EFFECTS;
 use std::marker::Model;
 use std::snapshot::Snapshot;
 
-/// What an actor is handed for its effects in a call: it asks for them here, and they are carried out after the call
-/// (this project's own profile: in Akka an actor's context carries them out at once).
+/// Where an actor asks for effects during a call. They are carried out after the call (this project's own profile: in
+/// Akka an actor's context carries them out at once).
 ///
 /// It never takes memory, and is made ready for the next call in a few steps.
 #[derive(Drop)]
@@ -31,9 +32,9 @@ pub struct Outbox {
 impl Model for Outbox {
     ghost use Rattle.std.specs.Prelude.{filter};
     ghost use Rattle.mb_actor.specs.ActorSet.{contains};
-    ghost use Rattle.mb_actor.specs.Tray.{Tray};
+    ghost use Rattle.mb_actor.specs.OutboxView.{OutboxView};
 
-    ghost Value = { Tray };
+    ghost Value = { OutboxView };
 
     ghost use Rattle.mb_actor.specs.Outbox.{IsOutbox};
 
@@ -47,7 +48,8 @@ impl Model for Outbox {
 }
 
 impl Outbox {
-    /// An empty outbox for an actor among so many actors, which may spawn these children, whose numbers are below 64.
+    /// An empty outbox for an actor among `actors` actors, which may spawn the children `prepared`; their numbers have
+    /// to be below 64.
     pub fn new(actors: u32, prepared: &Vec<ActorId>) -> Self
         requires { All (λ x. x.0 < most_actors) prepared.now.items }
         ensures { result ≡ record { effects = []; actors = actors; unspawned = prepared.now.items } }
@@ -128,7 +130,7 @@ impl Outbox {
         self.effects.as_slice()
     }
 
-    /// Makes it ready for the next call, where the effects are carried out: it is empty, and the children that they
+    /// Makes it ready for the next call where the effects are carried out: it is empty, and the children that they
     /// start may not be spawned again.
     pub fn settle(&mut self)
         ensures { self.new ≡ settled self.old }
@@ -138,7 +140,7 @@ impl Outbox {
         self.unspawned.remove_all(spawned);
     }
 
-    /// Makes it ready for the next call, where the effects are let go: it is empty, and nothing else has changed.
+    /// Makes it ready for the next call where the effects are discarded: it is empty, and nothing else has changed.
     pub fn clear(&mut self)
         ensures { self.new ≡ record self.old { effects = [] } }
     {

@@ -1,4 +1,6 @@
-/// Where an actor stands in its life (Akka's actor life cycle).
+//! The phases of an actor's life.
+
+/// The phase of an actor's life (Akka's actor life cycle).
 #[derive(Clone, Copy, PartialEq, Eq)]
 pub enum Phase {
     /// Not started yet.

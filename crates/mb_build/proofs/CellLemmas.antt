@@ -6,9 +6,9 @@ use Rattle.std.proofs.lemmas.Bool.{eq-eqb, ne_eqb}
 use Rattle.std.proofs.lemmas.List.{drop_more, length-map}
 use Rattle.std.proofs.lemmas.List.Elements.{All-cons, All-nil}
 use Rattle.mb_msg.specs.declared.id.ActorId.{ActorId}
-use Rattle.mb_journal.specs.declared.strategy.Strategy.{Strategy}
-use Rattle.mb_cell.specs.Seen.{Seen}
-use Rattle.mb_plan.specs.declared.actor_plan.ActorPlan.{ActorPlan}
+use Rattle.mb_msg.specs.declared.strategy.Strategy.{Strategy}
+use Rattle.mb_cell.specs.CellView.{CellView}
+use Rattle.mb_msg.specs.declared.actor_plan.ActorPlan.{ActorPlan}
 use Rattle.mb_build.specs.Identities.{children_from, guardian, id, identities, planned, planned_from}
 use Rattle.mb_build.specs.Unstarted.{unstarted}
 
@@ -58,7 +58,7 @@ module _ (number parent index : ℕ) (old new parents whole : List ActorId) (lt 
       ∙ ap (λ l. old ++ children_from number parent l) (sym (drop_more parents index (record { 0 = 0 }) lt)) ∙ so_far
 
 -- a cell with its children
-pub cell-is : (actors limit : ℕ) (all : List ActorId) (number place : ℕ) (p : ActorId) (s : Strategy) (prepared : List ActorId) (c : Seen)
+pub cell-is : (actors limit : ℕ) (all : List ActorId) (number place : ℕ) (p : ActorId) (s : Strategy) (prepared : List ActorId) (c : CellView)
     → c ≡ unstarted (record (planned actors limit all number p s) { prepared = prepared }) → prepared ≡ children_from 1 number all → number ≡ place
     → c ≡ unstarted (planned actors limit all place p s)
 cell-is actors limit all number place p s prepared c fresh are at =
@@ -66,13 +66,13 @@ cell-is actors limit all number place p s prepared c fresh are at =
     ∙ ap (λ n. unstarted (planned actors limit all n p s)) at
 
 -- the cells of these plans, which are numbered on from this one
-abbrev pub cells_from : ℕ → ℕ → List ActorId → ℕ → List ActorPlan → List Seen
+abbrev pub cells_from : ℕ → ℕ → List ActorId → ℕ → List ActorPlan → List CellView
 cells_from actors limit all number plans =
     map unstarted (planned_from actors limit all number (map (λ (a : ActorPlan). a.parent) plans) (map (λ (a : ActorPlan). a.strategy) plans))
 
 -- one cell more
 pub cell-more : (actors limit : ℕ) (all : List ActorId) (number next : ℕ) (a : ActorPlan) (before after : List ActorPlan)
-    (old new whole : List Seen) → before ≡ a ∷ after → next ≡ number + 1
+    (old new whole : List CellView) → before ≡ a ∷ after → next ≡ number + 1
     → new ≡ old ++ unstarted (planned actors limit all number a.parent a.strategy) ∷ [] → old ++ cells_from actors limit all number before ≡ whole
     → new ++ cells_from actors limit all next after ≡ whole
 cell-more actors limit all number next a before after old new whole steps further pushed so_far =
@@ -90,7 +90,7 @@ length-planned actors limit all number (p ∷ parents) (s ∷ strategies) many =
     ap suc (length-planned actors limit all (number + 1) parents strategies (omega (arith, many)))
 
 -- the guardian's cell, and then the others'
-pub all-cells : (limit : ℕ) (plans : List ActorPlan) (here there : List ActorId) (first cells : List Seen)
+pub all-cells : (limit : ℕ) (plans : List ActorPlan) (here there : List ActorId) (first cells : List CellView)
     → here ≡ map (λ a. a.parent) plans → there ≡ map (λ a. a.parent) plans → first ≡ unstarted (guardian (length here + 1) limit here) ∷ []
     → cells ≡ first ++ cells_from (length there + 1) limit there 1 plans
     → cells ≡ map unstarted (identities (length plans + 1) limit (map (λ a. a.parent) plans) (map (λ a. a.strategy) plans))

@@ -1,4 +1,4 @@
--- What a fault says of a good result.
+-- What holds of a result that is no error.
 use Rattle.std.specs.Prelude.{◌≡◌, Result, Ok, Err, IfOk, IsErrAnd}
 
 -- nothing

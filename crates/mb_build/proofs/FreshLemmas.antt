@@ -1,4 +1,4 @@
--- The gates may begin with homes to which nothing came.
+-- Gates may be made of homes to which nothing came.
 use Rattle.std.proofs.Common.{◌≡◌, ℕ, zero, suc, ◌+◌, ◌%◌, ◌^◌, List, [], ◌∷◌, ◌++◌, length, refl, sym, ap, ◌∙◌, subst, arith}
 use Rattle.std.specs.Prelude.{IsTrue, slice_get, Some}
 use Rattle.std.specs.Global.{Box}
@@ -12,19 +12,19 @@ use Rattle.mb_journal.specs.Aside.{next_number}
 use Rattle.mb_journal.specs.Identity.{Identity}
 use Rattle.mb_journal.specs.Life.{phase}
 use Rattle.mb_journal.specs.Suspension.{count, greatest_net, marks, minuses, pluses}
-use Rattle.mb_cell.specs.Seen.{Seen}
-use Rattle.mb_queue.specs.Passes.{Sending, Taking}
-use Rattle.mb_gate.specs.Named.{NamesBelow}
+use Rattle.mb_cell.specs.CellView.{CellView}
+use Rattle.mb_queue.specs.Passes.{SendPassView, TakePassView}
+use Rattle.mb_gate.specs.NamedActors.{NamesBelow}
 use Rattle.mb_gate.specs.Starts.{IsFresh}
 use Rattle.mb_gate.specs.Tries.{IsFree}
-use Rattle.mb_home.specs.AtHome.{IsHomeOf, mailbox_at, given_of, closed_receivers}
+use Rattle.mb_home.specs.AtHome.{IsHomeOf, mailbox_at, given_of, closed_receivers, facts_of}
 use Rattle.mb_home.specs.Contents.{Contents}
-use Rattle.mb_home.specs.Named.{NamesActors}
-use Rattle.mb_home.specs.Roll.{Enrolled}
-use Rattle.mb_home.specs.Settled.{IsSettled}
-use Rattle.mb_home.specs.Steps.{IsRested, at_first}
+use Rattle.mb_home.specs.NamedActors.{NamesActors}
+use Rattle.mb_home.specs.Directory.{DirectoryEntry}
+use Rattle.mb_home.specs.AgreesWithJournal.{AgreesWithJournal}
+use Rattle.mb_home.specs.Steps.{HasNoBacklog, at_first}
 use Rattle.mb_build.specs.Handed.{passes_of}
-use Rattle.mb_build.specs.Housed.{AreAtFirst, AreFresh}
+use Rattle.mb_build.specs.NewHomes.{AreAtFirst, AreFresh}
 use Rattle.mb_build.specs.Identities.{ArePlanned, IsPlanned}
 use Rattle.mb_build.specs.Unstarted.{unstarted}
 
@@ -40,11 +40,11 @@ open-first : (who : Identity) → IsFree (mailbox_at who [])
 unfolding phase
 open-first who = record { open_yet = refl; free = refl }
 
--- a home as it begins names actors that there are
-names-first : (actors number : ℕ) (who : Identity) (t : Taking) (sends : List Sending) (room : ℕ) (roll : List Enrolled)
-    → IsPlanned actors number who → NamesActors (at_first (unstarted who) t sends room roll)
-names-first actors number who t sends room roll planned =
-    subst (λ n. NamesActors (at_first (unstarted (record who { actors = n })) t sends room roll)) (sym planned.actors_are) (record {
+-- a new home names only actors that exist
+names-first : (actors number : ℕ) (who : Identity) (t : TakePassView) (sends : List SendPassView) (room : ℕ) (directory : List DirectoryEntry)
+    → IsPlanned actors number who → NamesActors (at_first (unstarted who) t sends room directory)
+names-first actors number who t sends room directory planned =
+    subst (λ n. NamesActors (at_first (unstarted (record who { actors = n })) t sends room directory)) (sym planned.actors_are) (record {
       parent = planned.parent;
       prepared = planned.prepared;
       journal = tt;
@@ -55,38 +55,35 @@ module _ (gives : ℕ → Moment → Reply → Type 0) where
   -- each of these homes, which are numbered on from this one, is settled and rested
   abbrev pub AreSettled : ℕ → List (Box Contents) → Type 0
   AreSettled number [] = Unit {0}
-  AreSettled number (h ∷ homes) = (IsSettled (gives number) [] h.value × IsRested h.value) × AreSettled (number + 1) homes
+  AreSettled number (h ∷ homes) = (AgreesWithJournal (gives number) [] h.value × HasNoBacklog h.value) × AreSettled (number + 1) homes
 
   -- one home more
   pub settled-more : (number : ℕ) (homes : List (Box Contents)) (h : Box Contents) → AreSettled number homes
-      → IsSettled (gives (number + length homes)) [] h.value → IsRested h.value → AreSettled number (homes ++ h ∷ [])
+      → AgreesWithJournal (gives (number + length homes)) [] h.value → HasNoBacklog h.value → AreSettled number (homes ++ h ∷ [])
   settled-more number [] h are settled rested =
       let sum : number + 0 ≡ number = omega arith in
-      ((subst (λ n. IsSettled (gives n) [] h.value) sum settled, rested), tt)
+      ((subst (λ n. AgreesWithJournal (gives n) [] h.value) sum settled, rested), tt)
   settled-more number (x ∷ homes) h are settled rested =
       let sum : number + suc (length homes) ≡ (number + 1) + length homes = omega arith in
-      (are.0, settled-more (number + 1) homes h are.1 (subst (λ n. IsSettled (gives n) [] h.value) sum settled) rested)
+      (are.0, settled-more (number + 1) homes h are.1 (subst (λ n. AgreesWithJournal (gives n) [] h.value) sum settled) rested)
 
   -- the gates may begin with it, where this is the first
   abbrev pub IsFreshHome : Contents → ℕ → Box Contents → Type 0
   IsFreshHome first = IsFresh (λ (id : ℕ) (x : Box Contents). IsHomeOf (gives id) first id x.value)
-      (λ (x : Box Contents). mailbox_at x.value.cell.who x.value.cell.journal)
-      (λ (x : Box Contents). IsRested x.value)
-      (λ (x : Box Contents). given_of x.value)
-      (λ (x : Box Contents). closed_receivers x.value.dead)
+      (λ (x : Box Contents). facts_of x.value)
 
-  fresh-first : (first : Contents) (actors number : ℕ) (who : Identity) (t : Taking) (sends : List Sending) (roll : List Enrolled) (h : Box Contents)
-      → h.value ≡ at_first (unstarted who) t sends h.value.room roll → roll ≡ first.roll → IsPlanned actors number who
-      → IsSettled (gives number) [] h.value → IsRested h.value
+  fresh-first : (first : Contents) (actors number : ℕ) (who : Identity) (t : TakePassView) (sends : List SendPassView) (directory : List DirectoryEntry) (h : Box Contents)
+      → h.value ≡ at_first (unstarted who) t sends h.value.room directory → directory ≡ first.directory → IsPlanned actors number who
+      → AgreesWithJournal (gives number) [] h.value → HasNoBacklog h.value
       → IsFreshHome first number h
-  fresh-first first actors number who t sends roll h is same planned settled rested =
+  fresh-first first actors number who t sends directory h is same planned settled rested =
       let cell : h.value.cell ≡ unstarted who = ap (λ (c : Contents). c.cell) is in record {
         own = record {
-          roll = ap (λ (c : Contents). c.roll) is ∙ same;
+          directory = ap (λ (c : Contents). c.directory) is ∙ same;
           number = ap (λ (c : Contents). c.cell.who.this.0) is ∙ ap (λ (x : ActorId). x.0) planned.this;
           carried_out = ap (λ (c : Contents). c.cell.acts) is;
           settled = settled;
-          named = subst NamesActors (sym is) (names-first actors number who t sends h.value.room roll planned);
+          named = subst NamesActors (sym is) (names-first actors number who t sends h.value.room directory planned);
         };
         none_given = ap given_of is ∙ ap (λ n. (n + 0 + 0) % 2 ^ 64) none-yet;
         none_closed = ap (λ (c : Contents). closed_receivers c.dead) is;
@@ -95,65 +92,65 @@ module _ (gives : ℕ → Moment → Reply → Type 0) where
         rest = rested;
       }
 
-  found : (roll : List Enrolled) (others : List Taking) (first : Contents) (actors number : ℕ) (whos : List Identity) (takes : List Taking)
-      (homes : List (Box Contents)) (place actor : ℕ) (home : Box Contents) → roll ≡ first.roll → actor ≡ number + place
-      → AreAtFirst roll others number whos takes homes → ArePlanned actors number whos → AreSettled number homes
+  found : (directory : List DirectoryEntry) (others : List TakePassView) (first : Contents) (actors number : ℕ) (whos : List Identity) (takes : List TakePassView)
+      (homes : List (Box Contents)) (place actor : ℕ) (home : Box Contents) → directory ≡ first.directory → actor ≡ number + place
+      → AreAtFirst directory others number whos takes homes → ArePlanned actors number whos → AreSettled number homes
       → slice_get homes place ≡ Some home → IsFreshHome first actor home
-  found roll others first actors number whos takes [] place actor home same at are planned settled there = absurd (none-some home there)
-  found roll others first actors number [] [] (h ∷ homes) place actor home same at are planned settled there = absurd are
-  found roll others first actors number [] (t ∷ takes) (h ∷ homes) place actor home same at are planned settled there = absurd are
-  found roll others first actors number (who ∷ whos) [] (h ∷ homes) place actor home same at are planned settled there = absurd are
-  found roll others first actors number (who ∷ whos) (t ∷ takes) (h ∷ homes) zero actor home same at are planned settled there =
+  found directory others first actors number whos takes [] place actor home same at are planned settled there = absurd (none-some home there)
+  found directory others first actors number [] [] (h ∷ homes) place actor home same at are planned settled there = absurd are
+  found directory others first actors number [] (t ∷ takes) (h ∷ homes) place actor home same at are planned settled there = absurd are
+  found directory others first actors number (who ∷ whos) [] (h ∷ homes) place actor home same at are planned settled there = absurd are
+  found directory others first actors number (who ∷ whos) (t ∷ takes) (h ∷ homes) zero actor home same at are planned settled there =
       let is : h ≡ home = cc in let here : number ≡ actor = omega (arith, at) in
       subst (λ n. IsFreshHome first n home) here (subst (IsFreshHome first number) is
-      (fresh-first first actors number who t (passes_of others number) roll h are.0 same planned.0 settled.0.0 settled.0.1))
-  found roll others first actors number (who ∷ whos) (t ∷ takes) (h ∷ homes) (suc place) actor home same at are planned settled there =
+      (fresh-first first actors number who t (passes_of others number) directory h are.0 same planned.0 settled.0.0 settled.0.1))
+  found directory others first actors number (who ∷ whos) (t ∷ takes) (h ∷ homes) (suc place) actor home same at are planned settled there =
       let further : actor ≡ (number + 1) + place = omega (arith, at) in
-      found roll others first actors (number + 1) whos takes homes place actor home same further are.1 planned.1 settled.1 there
+      found directory others first actors (number + 1) whos takes homes place actor home same further are.1 planned.1 settled.1 there
 
-  roll-of-first : (roll : List Enrolled) (others : List Taking) (number : ℕ) (whos : List Identity) (takes : List Taking)
-      (homes : List (Box Contents)) (first : Box Contents) → AreAtFirst roll others number whos takes homes → slice_get homes 0 ≡ Some first
-      → roll ≡ first.value.roll
-  roll-of-first roll others number whos takes [] first are there = absurd (none-some first there)
-  roll-of-first roll others number [] [] (h ∷ homes) first are there = absurd are
-  roll-of-first roll others number [] (t ∷ takes) (h ∷ homes) first are there = absurd are
-  roll-of-first roll others number (who ∷ whos) [] (h ∷ homes) first are there = absurd are
-  roll-of-first roll others number (who ∷ whos) (t ∷ takes) (h ∷ homes) first are there =
+  directory-of-first : (directory : List DirectoryEntry) (others : List TakePassView) (number : ℕ) (whos : List Identity) (takes : List TakePassView)
+      (homes : List (Box Contents)) (first : Box Contents) → AreAtFirst directory others number whos takes homes → slice_get homes 0 ≡ Some first
+      → directory ≡ first.value.directory
+  directory-of-first directory others number whos takes [] first are there = absurd (none-some first there)
+  directory-of-first directory others number [] [] (h ∷ homes) first are there = absurd are
+  directory-of-first directory others number [] (t ∷ takes) (h ∷ homes) first are there = absurd are
+  directory-of-first directory others number (who ∷ whos) [] (h ∷ homes) first are there = absurd are
+  directory-of-first directory others number (who ∷ whos) (t ∷ takes) (h ∷ homes) first are there =
       let is : h ≡ first = cc in
-      sym (ap (λ (c : Contents). c.roll) are.0) ∙ ap (λ (x : Box Contents). x.value.roll) is
+      sym (ap (λ (c : Contents). c.directory) are.0) ∙ ap (λ (x : Box Contents). x.value.directory) is
 
   -- the gates may begin with all of them
-  pub all-fresh : (roll : List Enrolled) (others : List Taking) (actors : ℕ) (whos : List Identity) (takes : List Taking)
-      (homes : List (Box Contents)) → AreAtFirst roll others 0 whos takes homes → ArePlanned actors 0 whos → AreSettled 0 homes
+  pub all-fresh : (directory : List DirectoryEntry) (others : List TakePassView) (actors : ℕ) (whos : List Identity) (takes : List TakePassView)
+      (homes : List (Box Contents)) → AreAtFirst directory others 0 whos takes homes → ArePlanned actors 0 whos → AreSettled 0 homes
       → AreFresh gives homes
-  all-fresh roll others actors whos takes homes are planned settled = λ first zeroth actor home there.
-      let same = roll-of-first roll others 0 whos takes homes first are zeroth in let at : actor ≡ 0 + actor = omega arith in
-      found roll others first.value actors 0 whos takes homes actor actor home same at are planned settled there
+  all-fresh directory others actors whos takes homes are planned settled = λ first zeroth actor home there.
+      let same = directory-of-first directory others 0 whos takes homes first are zeroth in let at : actor ≡ 0 + actor = omega arith in
+      found directory others first.value actors 0 whos takes homes actor actor home same at are planned settled there
 
 -- a home as it was made
-pub as-made : (value home : Contents) (cell : Seen) (t : Taking) (row passes : List Sending) (roll all : List Enrolled) (who : Identity)
-    → value ≡ home → home ≡ at_first cell t row home.room roll → cell ≡ unstarted who → row ≡ passes → roll ≡ all
+pub as-made : (value home : Contents) (cell : CellView) (t : TakePassView) (row passes : List SendPassView) (directory all : List DirectoryEntry) (who : Identity)
+    → value ≡ home → home ≡ at_first cell t row home.room directory → cell ≡ unstarted who → row ≡ passes → directory ≡ all
     → value ≡ at_first (unstarted who) t passes value.room all
-as-made value home cell t row passes roll all who same made is these whole =
-    same ∙ made ∙ ap (λ x. at_first x t row home.room roll) is ∙ ap (λ l. at_first (unstarted who) t l home.room roll) these
+as-made value home cell t row passes directory all who same made is these whole =
+    same ∙ made ∙ ap (λ x. at_first x t row home.room directory) is ∙ ap (λ l. at_first (unstarted who) t l home.room directory) these
     ∙ ap (λ l. at_first (unstarted who) t passes home.room l) whole
     ∙ ap (λ (c : Contents). at_first (unstarted who) t passes c.room all) (sym same)
 
 -- one home more, as it begins
-pub first-more : (roll : List Enrolled) (others : List Taking) (number : ℕ) (whos : List Identity) (who : Identity) (takes : List Taking)
-    (t : Taking) (homes : List (Box Contents)) (h : Box Contents) → AreAtFirst roll others number whos takes homes
-    → h.value ≡ at_first (unstarted who) t (passes_of others (number + length homes)) h.value.room roll
-    → AreAtFirst roll others number (whos ++ who ∷ []) (takes ++ t ∷ []) (homes ++ h ∷ [])
-first-more roll others number [] who [] t [] h are is =
+pub first-more : (directory : List DirectoryEntry) (others : List TakePassView) (number : ℕ) (whos : List Identity) (who : Identity) (takes : List TakePassView)
+    (t : TakePassView) (homes : List (Box Contents)) (h : Box Contents) → AreAtFirst directory others number whos takes homes
+    → h.value ≡ at_first (unstarted who) t (passes_of others (number + length homes)) h.value.room directory
+    → AreAtFirst directory others number (whos ++ who ∷ []) (takes ++ t ∷ []) (homes ++ h ∷ [])
+first-more directory others number [] who [] t [] h are is =
     let sum : number + 0 ≡ number = omega arith in
-    (subst (λ n. h.value ≡ at_first (unstarted who) t (passes_of others n) h.value.room roll) sum is, tt)
-first-more roll others number [] who [] t (x ∷ homes) h are is = absurd are
-first-more roll others number [] who (y ∷ takes) t homes h are is = absurd are
-first-more roll others number (w ∷ whos) who [] t homes h are is = absurd are
-first-more roll others number (w ∷ whos) who (y ∷ takes) t [] h are is = absurd are
-first-more roll others number (w ∷ whos) who (y ∷ takes) t (x ∷ homes) h are is =
+    (subst (λ n. h.value ≡ at_first (unstarted who) t (passes_of others n) h.value.room directory) sum is, tt)
+first-more directory others number [] who [] t (x ∷ homes) h are is = absurd are
+first-more directory others number [] who (y ∷ takes) t homes h are is = absurd are
+first-more directory others number (w ∷ whos) who [] t homes h are is = absurd are
+first-more directory others number (w ∷ whos) who (y ∷ takes) t [] h are is = absurd are
+first-more directory others number (w ∷ whos) who (y ∷ takes) t (x ∷ homes) h are is =
     let sum : number + suc (length homes) ≡ (number + 1) + length homes = omega arith in (
       are.0,
-      first-more roll others (number + 1) whos who takes t homes h are.1
-          (subst (λ n. h.value ≡ at_first (unstarted who) t (passes_of others n) h.value.room roll) sum is),
+      first-more directory others (number + 1) whos who takes t homes h are.1
+          (subst (λ n. h.value ≡ at_first (unstarted who) t (passes_of others n) h.value.room directory) sum is),
     )

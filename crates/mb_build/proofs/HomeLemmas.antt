@@ -2,13 +2,13 @@
 use Rattle.std.proofs.Common.{◌≡◌, ◌<◌, ℕ, suc, ◌+◌, List, [], ◌∷◌, ◌++◌, length, map, drop, refl, sym, ap, ◌∙◌, subst, arith}
 use Rattle.std.proofs.lemmas.List.{drop-map, drop_at, length-append, length-map, map-append}
 use Rattle.mb_journal.specs.Identity.{Identity}
-use Rattle.mb_cell.specs.Seen.{Seen}
-use Rattle.mb_queue.specs.declared.kind.Kind.{Kind}
-use Rattle.mb_queue.specs.Passes.{Sending, Taking}
-use Rattle.mb_home.specs.Settled.{IsOwn}
+use Rattle.mb_cell.specs.CellView.{CellView}
+use Rattle.mb_msg.specs.declared.mailbox_type.MailboxType.{MailboxType}
+use Rattle.mb_queue.specs.Passes.{SendPassView, TakePassView}
+use Rattle.mb_home.specs.AgreesWithJournal.{IsOwn}
 use Rattle.mb_home.specs.Steps.{at_first}
 use Rattle.mb_build.specs.Handed.{passes_of}
-use Rattle.mb_build.specs.Housed.{enrolled}
+use Rattle.mb_build.specs.NewHomes.{directory_of}
 use Rattle.mb_build.specs.Identities.{ArePlanned, IsPlanned}
 use Rattle.mb_build.specs.Made.{AreAllMade, AreMade}
 use Rattle.mb_build.specs.Numbers.{numbers, sender_numbers}
@@ -16,12 +16,12 @@ use Rattle.mb_build.specs.Unstarted.{unstarted}
 use Rattle.mb_build.proofs.NumberLemmas.{number-there}
 use Rattle.mb_build.proofs.OwnLemmas.{IsPassOf, own-first, pass-of}
 use Rattle.mb_build.proofs.QueueLemmas.{as-many}
-use Rattle.mb_build.proofs.RollLemmas.{planned-there}
+use Rattle.mb_build.proofs.DirectoryLemmas.{planned-there}
 
-abbrev pub whose : List Seen → List Identity
-whose = map (λ (c : Seen). c.who)
+abbrev pub whose : List CellView → List Identity
+whose = map (λ (c : CellView). c.who)
 
-unstarted-here : (done : List Seen) (cell : Seen) (rest : List Seen) → done ++ cell ∷ rest ≡ map unstarted (whose (done ++ cell ∷ rest))
+unstarted-here : (done : List CellView) (cell : CellView) (rest : List CellView) → done ++ cell ∷ rest ≡ map unstarted (whose (done ++ cell ∷ rest))
     → cell ≡ unstarted cell.who
 unstarted-here [] cell rest are = cc
 unstarted-here (x ∷ done) cell rest are =
@@ -29,16 +29,16 @@ unstarted-here (x ∷ done) cell rest are =
     unstarted-here done cell rest others
 
 -- the guardian's pass is the first
-pub all-made : (kinds : List Kind) (senders : List ℕ) (ways : List Taking) (rows : List (List Sending)) → AreAllMade kinds senders ways rows
-    → (guardian : Taking) × (takes : List Taking) × (ways ≡ guardian ∷ takes) × AreMade kinds senders guardian takes rows
+pub all-made : (kinds : List MailboxType) (senders : List ℕ) (ways : List TakePassView) (rows : List (List SendPassView)) → AreAllMade kinds senders ways rows
+    → (guardian : TakePassView) × (takes : List TakePassView) × (ways ≡ guardian ∷ takes) × AreMade kinds senders guardian takes rows
 all-made kinds senders [] rows made = absurd made
 all-made kinds senders (guardian ∷ takes) rows made = (guardian, takes, refl, made)
 
 -- the actors of a system, with empty queues and unused passes
-module _ (cells : List Seen) (kinds : List Kind) (outside : ℕ) (ways : List Taking) (rows : List (List Sending))
+module _ (cells : List CellView) (kinds : List MailboxType) (outside : ℕ) (ways : List TakePassView) (rows : List (List SendPassView))
     (unused : cells ≡ map unstarted (whose cells)) (planned : ArePlanned (length cells) 0 (whose cells)) (count : length cells ≡ length kinds + 1)
     (made : AreAllMade kinds (sender_numbers (length cells) outside) ways rows) where
-  parts : (guardian : Taking) × (takes : List Taking) × (ways ≡ guardian ∷ takes)
+  parts : (guardian : TakePassView) × (takes : List TakePassView) × (ways ≡ guardian ∷ takes)
       × AreMade kinds (sender_numbers (length cells) outside) guardian takes rows
   parts = all-made kinds (sender_numbers (length cells) outside) ways rows made
 
@@ -48,14 +48,14 @@ module _ (cells : List Seen) (kinds : List Kind) (outside : ℕ) (ways : List Ta
       omega (arith, many, count, whole)
 
   -- one of them, in its place
-  module _ (done : List Seen) (cell : Seen) (rest : List Seen) (place : ℕ) (all : done ++ cell ∷ rest ≡ cells) (at : place ≡ length done) where
+  module _ (done : List CellView) (cell : CellView) (rest : List CellView) (place : ℕ) (all : done ++ cell ∷ rest ≡ cells) (at : place ≡ length done) where
     pub unstarted-there : cell ≡ unstarted cell.who
     unstarted-there = unstarted-here done cell rest (subst (λ l. l ≡ map unstarted (whose l)) (sym all) unused)
 
     who-there : drop place (whose cells) ≡ cell.who ∷ whose rest
     who-there =
-        ap (λ l. drop place (whose l)) (sym all) ∙ ap (drop place) (map-append (λ (c : Seen). c.who) done (cell ∷ rest))
-        ∙ drop_at (whose done) (whose (cell ∷ rest)) place (length-map done (λ (c : Seen). c.who) ∙ sym at)
+        ap (λ l. drop place (whose l)) (sym all) ∙ ap (drop place) (map-append (λ (c : CellView). c.who) done (cell ∷ rest))
+        ∙ drop_at (whose done) (whose (cell ∷ rest)) place (length-map done (λ (c : CellView). c.who) ∙ sym at)
 
     pub planned-here : IsPlanned (length cells) place cell.who
     planned-here =
@@ -78,13 +78,13 @@ module _ (cells : List Seen) (kinds : List Kind) (outside : ℕ) (ways : List Ta
     pub rows-left : drop place rows ≡ [] → ⊥
     rows-left none = let both = sym none ∙ rows-from in absurd (cc)
 
-    own-row : (row : List Sending) (more : List (List Sending)) → drop place rows ≡ row ∷ more → row ≡ passes_of parts.1 place
+    own-row : (row : List SendPassView) (more : List (List SendPassView)) → drop place rows ≡ row ∷ more → row ≡ passes_of parts.1 place
     own-row row more here = let both = sym here ∙ rows-from in cc
 
-    pub row-there : (row : List Sending) (more : List (List Sending)) → drop place rows ≡ row ∷ more → row ≡ passes_of (drop 1 ways) place
+    pub row-there : (row : List SendPassView) (more : List (List SendPassView)) → drop place rows ≡ row ∷ more → row ≡ passes_of (drop 1 ways) place
     row-there row more here = own-row row more here ∙ sym (ap (λ l. passes_of (drop 1 l) place) parts.2)
 
-    module _ (t : Taking) (takes' : List Taking) (this : drop place ways ≡ t ∷ takes') where
+    module _ (t : TakePassView) (takes' : List TakePassView) (this : drop place ways ≡ t ∷ takes') where
       here : drop place (parts.0 ∷ parts.1) ≡ t ∷ takes'
       here = subst (λ l. drop place l ≡ t ∷ takes') parts.2 this
 
@@ -92,12 +92,12 @@ module _ (cells : List Seen) (kinds : List Kind) (outside : ℕ) (ways : List Ta
       pass-there = pass-of kinds (sender_numbers (length cells) outside) parts.0 parts.1 rows place t takes' parts.3 here
 
       -- and its home is its own
-      pub own-there : (sends : List Sending) (more : List (List Sending)) → drop place rows ≡ sends ∷ more
-          → IsOwn (at_first cell t sends 0 (enrolled (whose cells) ways))
+      pub own-there : (sends : List SendPassView) (more : List (List SendPassView)) → drop place rows ≡ sends ∷ more
+          → IsOwn (at_first cell t sends 0 (directory_of (whose cells) ways))
       own-there sends more there =
-          subst (λ w. IsOwn (at_first cell t sends 0 (enrolled (whose cells) w))) (sym parts.2)
-          (subst (λ l. IsOwn (at_first cell t l 0 (enrolled (whose cells) (parts.0 ∷ parts.1)))) (sym (own-row sends more there))
-          (subst (λ x. IsOwn (at_first x t (passes_of parts.1 place) 0 (enrolled (whose cells) (parts.0 ∷ parts.1)))) (sym unstarted-there)
+          subst (λ w. IsOwn (at_first cell t sends 0 (directory_of (whose cells) w))) (sym parts.2)
+          (subst (λ l. IsOwn (at_first cell t l 0 (directory_of (whose cells) (parts.0 ∷ parts.1)))) (sym (own-row sends more there))
+          (subst (λ x. IsOwn (at_first x t (passes_of parts.1 place) 0 (directory_of (whose cells) (parts.0 ∷ parts.1)))) (sym unstarted-there)
           (own-first kinds (sender_numbers (length cells) outside) parts.0 parts.1 rows (whose cells) place cell.who t (whose rest) takes' parts.3
-          (sym (ap length parts.2) ∙ passes-count ∙ sym (length-map cells (λ (c : Seen). c.who)))
-          (subst (λ n. IsPlanned n place cell.who) (sym (length-map cells (λ (c : Seen). c.who))) planned-here) who-there here)))
+          (sym (ap length parts.2) ∙ passes-count ∙ sym (length-map cells (λ (c : CellView). c.who)))
+          (subst (λ n. IsPlanned n place cell.who) (sym (length-map cells (λ (c : CellView). c.who))) planned-here) who-there here)))

@@ -3,11 +3,11 @@ pub mod FaultLemmas
 pub mod FreshLemmas
 pub mod HandedLemmas
 pub mod HomeLemmas
-pub mod HouseLemmas
+pub mod NewHomesLemmas
 pub mod KindLemmas
 pub mod NumberLemmas
 pub mod OwnLemmas
 pub mod PlannedLemmas
 pub mod QueueLemmas
 pub mod ReasonLemmas
-pub mod RollLemmas
+pub mod DirectoryLemmas

@@ -5,10 +5,10 @@ use Rattle.std.proofs.lemmas.Bool.Decides.{nat_tests}
 use Rattle.std.proofs.lemmas.List.{length-map}
 use Rattle.std.proofs.lemmas.List.Elements.{All-cons, All-nil}
 use Rattle.mb_msg.specs.declared.id.ActorId.{ActorId}
-use Rattle.mb_plan.specs.declared.actor_plan.ActorPlan.{ActorPlan}
-use Rattle.mb_queue.specs.declared.kind.Kind.{Kind}
+use Rattle.mb_msg.specs.declared.actor_plan.ActorPlan.{ActorPlan}
+use Rattle.mb_msg.specs.declared.mailbox_type.MailboxType.{MailboxType}
 use Rattle.mb_queue.specs.Made.{IsMakeable}
-use Rattle.mb_rule.specs.Seen.{Each}
+use Rattle.mb_ghost.specs.Seen.{Each}
 use Rattle.mb_build.specs.Identities.{ArePlanned, children_from, id, identities, planned_from}
 use Rattle.mb_build.specs.Kinds.{AreQueues}
 use Rattle.mb_build.specs.Reasons.{bad_bounds, bad_parents, may_be_bound, unless}
@@ -21,14 +21,14 @@ no-reason true reason rest none = (refl, none)
 no-reason false reason rest none = absurd (cc)
 
 -- as many queues as plans
-pub length-queues : (plans : List ActorPlan) (kinds : List Kind) → AreQueues plans kinds → length kinds ≡ length plans
+pub length-queues : (plans : List ActorPlan) (kinds : List MailboxType) → AreQueues plans kinds → length kinds ≡ length plans
 length-queues [] [] are = refl
 length-queues [] (k ∷ kinds) are = absurd are
 length-queues (a ∷ plans) [] are = absurd are
 length-queues (a ∷ plans) (k ∷ kinds) are = let rest = length-queues plans kinds are.1 in omega (arith, rest)
 
 -- each of which can be made
-pub all-makeable : (number : ℕ) (plans : List ActorPlan) (kinds : List Kind) → bad_bounds number plans ≡ [] → AreQueues plans kinds
+pub all-makeable : (number : ℕ) (plans : List ActorPlan) (kinds : List MailboxType) → bad_bounds number plans ≡ [] → AreQueues plans kinds
     → All IsMakeable kinds
 all-makeable number [] [] none are = All-nil IsMakeable
 all-makeable number [] (k ∷ kinds) none are = absurd are

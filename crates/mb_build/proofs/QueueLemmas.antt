@@ -1,16 +1,16 @@
 -- Queues that are made one by one.
 use Rattle.std.proofs.Common.{◌≡◌, ℕ, suc, ◌+◌, List, [], ◌∷◌, ◌++◌, length, map, take, drop, replicate, refl, sym, ap, ◌∙◌, subst, arith}
-use Rattle.mb_lane.specs.Ledger.{lent}
-use Rattle.mb_queue.specs.declared.kind.Kind.{Kind}
-use Rattle.mb_queue.specs.declared.kind.Kind.TheVariants.{Unbounded}
+use Rattle.mb_queue.specs.Ledger.{lent}
+use Rattle.mb_msg.specs.declared.mailbox_type.MailboxType.{MailboxType}
+use Rattle.mb_msg.specs.declared.mailbox_type.MailboxType.TheVariants.{Unbounded}
 use Rattle.mb_queue.specs.Made.{IsEmpty, unused}
-use Rattle.mb_queue.specs.Passes.{Sending, Taking}
+use Rattle.mb_queue.specs.Passes.{SendPassView, TakePassView}
 use Rattle.mb_build.specs.Handed.{handed, passes_of}
 use Rattle.mb_build.specs.Made.{AreAllMade, AreEmpty}
 use Rattle.mb_build.proofs.HandedLemmas.{handed-queue}
 
 -- nothing is handed out yet
-pub unhanded : (senders : List ℕ) (rows : List (List Sending)) (count : ℕ) → rows ≡ replicate count [] → count ≡ length senders
+pub unhanded : (senders : List ℕ) (rows : List (List SendPassView)) (count : ℕ) → rows ≡ replicate count [] → count ≡ length senders
     → rows ≡ map (passes_of []) senders
 unhanded senders rows count are many = are ∙ ap (λ n. replicate n []) many ∙ none senders
   where
@@ -19,7 +19,7 @@ unhanded senders rows count are many = are ∙ ap (λ n. replicate n []) many �
     none (s ∷ all) = ap (λ l. [] ∷ l) (none all)
 
 -- one queue more
-pub empty-more : (kinds : List Kind) (k : Kind) (to : ℕ) (senders : List ℕ) (takes : List Taking) (t : Taking) → AreEmpty kinds to senders takes
+pub empty-more : (kinds : List MailboxType) (k : MailboxType) (to : ℕ) (senders : List ℕ) (takes : List TakePassView) (t : TakePassView) → AreEmpty kinds to senders takes
     → IsEmpty k (to + length kinds) senders t → t.accounts ≡ map lent senders → AreEmpty (kinds ++ k ∷ []) to senders (takes ++ t ∷ [])
 empty-more [] k to senders [] t are is accounts =
     let here : to + 0 ≡ to = omega arith in
@@ -31,7 +31,7 @@ empty-more (y ∷ kinds) k to senders (x ∷ takes) t are is accounts =
     (are.0, empty-more kinds k (to + 1) senders takes t are.1 (subst (λ n. IsEmpty k n senders t) there is) accounts)
 
 -- there are as many as kinds
-pub as-many : (kinds : List Kind) (to : ℕ) (senders : List ℕ) (takes : List Taking) → AreEmpty kinds to senders takes
+pub as-many : (kinds : List MailboxType) (to : ℕ) (senders : List ℕ) (takes : List TakePassView) → AreEmpty kinds to senders takes
     → length takes ≡ length kinds
 as-many [] to senders [] are = refl
 as-many [] to senders (x ∷ takes) are = absurd are
@@ -39,7 +39,7 @@ as-many (y ∷ kinds) to senders [] are = absurd are
 as-many (y ∷ kinds) to senders (x ∷ takes) are = ap suc (as-many kinds (to + 1) senders takes are.1)
 
 -- and its passes are handed out
-pub handed-more : (old new : List (List Sending)) (sends : List Sending) (takes takes' : List Taking) (t : Taking) (senders : List ℕ)
+pub handed-more : (old new : List (List SendPassView)) (sends : List SendPassView) (takes takes' : List TakePassView) (t : TakePassView) (senders : List ℕ)
     → new ≡ handed old sends → old ≡ map (passes_of takes) senders → sends ≡ map (unused t.queue) senders → takes' ≡ takes ++ t ∷ []
     → new ≡ map (passes_of takes') senders
 handed-more old new sends takes takes' t senders is before are pushed =
@@ -55,7 +55,7 @@ pub refilled : {X : Type 0} (count : ℕ) (old new : List X) → length new ≡ 
 refilled count old new e = ap (λ (n : ℕ). take n (new ++ drop (length new) old)) (sym e) ∙ take-front new (drop (length new) old)
 
 -- the guardian's queue, and then the others'
-pub all-made-of : (kinds : List Kind) (senders numbers : List ℕ) (guardian : Taking) (ways takes : List Taking) (rows : List (List Sending))
+pub all-made-of : (kinds : List MailboxType) (senders numbers : List ℕ) (guardian : TakePassView) (ways takes : List TakePassView) (rows : List (List SendPassView))
     → ways ≡ guardian ∷ takes → IsEmpty Unbounded 0 [] guardian → AreEmpty kinds 1 senders takes → rows ≡ map (passes_of takes) senders
     → senders ≡ numbers → AreAllMade kinds numbers ways rows
 all-made-of kinds senders numbers guardian ways takes rows are nobody empty passes same =

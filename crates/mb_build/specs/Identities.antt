@@ -1,20 +1,21 @@
 -- Who the actors of a plan are (`akka.actor.ActorContext`: parent and children; that children are planned is this project's own profile).
 use Rattle.std.specs.Prelude.{◌≡◌, ℕ, ◌+◌, ◌<◌, ◌^◌, ◌==◌, if◌then◌else◌, List, [], ◌∷◌, IfSome, Some, None, negsuc, false}
 use Rattle.mb_msg.specs.declared.id.ActorId.{ActorId}
-use Rattle.mb_journal.specs.declared.strategy.Strategy.{Strategy}
+use Rattle.mb_msg.specs.declared.strategy.Strategy.{Strategy}
 use Rattle.mb_journal.specs.Identity.{Identity, is_guardian}
-use Rattle.mb_rule.specs.Seen.{Each}
+use Rattle.mb_ghost.specs.Seen.{Each}
 
+-- The identity of this number.
 abbrev pub id : ℕ → ActorId
 id number = record { 0 = number }
 
--- of the actors with these parents, which are numbered on from this one, those whose parent has this number
+-- Of the actors with these parents, numbered on from this one, those whose parent has this number.
 abbrev pub children_from : ℕ → ℕ → List ActorId → List ActorId
 children_from number parent [] = []
 children_from number parent (p ∷ parents) =
     if p.0 == parent then id number ∷ children_from (number + 1) parent parents else children_from (number + 1) parent parents
 
--- the guardian over so many actors, which decides by the default decider alone
+-- The guardian of so many actors. It has no rows of a strategy, so the default decider decides.
 abbrev pub guardian : ℕ → ℕ → List ActorId → Identity
 guardian actors limit parents = record {
   this = id 0;
@@ -27,7 +28,7 @@ guardian actors limit parents = record {
   limit = limit;
 }
 
--- an actor by its number, its parent and its strategy
+-- The actor of this number, parent and strategy.
 abbrev pub planned : ℕ → ℕ → List ActorId → ℕ → ActorId → Strategy → Identity
 planned actors limit parents number parent strategy = record {
   this = id number;
@@ -40,18 +41,18 @@ planned actors limit parents number parent strategy = record {
   limit = limit;
 }
 
--- the actors of these parents and strategies, numbered on from this one
+-- The actors of these parents and strategies, numbered on from this one.
 abbrev pub planned_from : ℕ → ℕ → List ActorId → ℕ → List ActorId → List Strategy → List Identity
 planned_from actors limit all number (p ∷ parents) (s ∷ strategies) =
     planned actors limit all number p s ∷ planned_from actors limit all (number + 1) parents strategies
 planned_from actors limit all number _ _ = []
 
--- the guardian and all actors
+-- The guardian and all actors.
 abbrev pub identities : ℕ → ℕ → List ActorId → List Strategy → List Identity
 identities actors limit parents strategies = guardian actors limit parents ∷ planned_from actors limit parents 1 parents strategies
 
--- the actor of this number among so many: the one with the number 0 is the guardian, its parent and its children are among them, and a
--- journal's limit is a number of 32 bits
+-- The actor of this number among so many: number 0 is the guardian, the parent and the children are among them, and the limit of the journal is a
+-- number of 32 bits.
 pub record IsPlanned (actors number : ℕ) (who : Identity) : Type 0 where
   pub this : who.this ≡ id number
   pub actors_are : who.actors ≡ actors
@@ -60,7 +61,7 @@ pub record IsPlanned (actors number : ℕ) (who : Identity) : Type 0 where
   pub prepared : Each (λ (x : ActorId). x.0 < actors) who.prepared
   pub few : who.limit < 2 ^ 32
 
--- so is each of these, which are numbered on from this one
+-- Each of these is an actor of its number; they are numbered on from this one.
 abbrev pub ArePlanned : ℕ → ℕ → List Identity → Type 0
 ArePlanned actors number [] = Unit {0}
 ArePlanned actors number (who ∷ all) = IsPlanned actors number who × ArePlanned actors (number + 1) all

@@ -4,7 +4,7 @@ pub mod Numbers
 pub mod Identities
 pub mod Handed
 pub mod Made
-pub mod Behaved
+pub mod BehavesAsPlanned
 pub mod Unstarted
-pub mod Housed
+pub mod NewHomes
 pub mod Planned

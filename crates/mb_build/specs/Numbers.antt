@@ -2,11 +2,11 @@
 use Rattle.std.specs.Prelude.{ℕ, zero, suc, ◌+◌, List, [], ◌∷◌, ◌++◌}
 use Rattle.mb_msg.specs.Limits.{most_actors}
 
--- so many numbers in order, from the first on
+-- So many numbers in order, from the first on.
 abbrev pub numbers : ℕ → ℕ → List ℕ
 numbers first zero = []
 numbers first (suc count) = first ∷ numbers (first + 1) count
 
--- the actors, and then the senders outside: these are numbered on from as many as there can be actors
+-- The numbers of the actors, and then those of the senders outside, which are numbered from the greatest number of actors on.
 abbrev pub sender_numbers : ℕ → ℕ → List ℕ
 sender_numbers actors outside = numbers 0 actors ++ numbers most_actors outside

@@ -1,22 +1,20 @@
-//! The actors' cells.
+//! Making the actors' cells.
 ghost use Rattle.std.specs.Prelude.{◌≡◌, ◌+◌, ◌++◌, ◌<◌, [], ◌∷◌, IfOk, length, map, vec_capacity};
-ghost use Rattle.mb_build.specs.Behaved.{AreBehaved, IsBehaved};
+ghost use Rattle.mb_build.specs.BehavesAsPlanned.{BehaveAsPlanned, BehavesAsPlanned};
 ghost use Rattle.mb_build.specs.Identities.{children_from, guardian as guardian_of, identities, planned, planned_from};
 ghost use Rattle.mb_build.specs.Unstarted.{unstarted};
 
 use crate::planned::parents_of;
 use mb_actor::{Actor, Behaviours};
 use mb_cell::Cell;
-use mb_journal::Strategy;
-use mb_msg::ActorId;
-use mb_plan::ActorPlan;
+use mb_msg::{ActorId, ActorPlan, Strategy};
 use std::alloc::{AllocError, Global};
 
 /// The guardian's number.
 const GUARDIAN: ActorId = ActorId(0);
 
-/// The cells of the guardian and of these actors, in order, none of which is started yet: each with its parent, with the
-/// children that it may start, and with its strategy, as they are planned.
+/// The cells of the guardian and of these actors, in order, none of which is started yet: each with its parent, the children
+/// that it may start, and its strategy, as planned.
 pub(crate) fn cells<A: Actor, K: Behaviours>(
     alloc: Global,
     plans: Vec<ActorPlan>,
@@ -25,7 +23,7 @@ pub(crate) fn cells<A: Actor, K: Behaviours>(
 ) -> Result<Vec<Cell<A, K>>, AllocError>
     requires few { length plans.items < 64 }
     requires many { length actors.items ≡ length plans.items }
-    requires behaved { AreBehaved A.content A.after A.gives K.after K.gives 1 actors.items }
+    requires behaved { BehaveAsPlanned A.content A.after A.gives K.after K.gives 1 actors.items }
     ensures { IfOk result (λ cells. cells.items ≡ map unstarted
         (identities (length plans.items + 1) journal_limit (map (λ a. a.parent) plans.items) (map (λ a. a.strategy) plans.items))) }
 {
@@ -35,7 +33,7 @@ pub(crate) fn cells<A: Actor, K: Behaviours>(
     Ok(cells)
 }
 
-/// The guardian's cell alone, with room for those of all who have these parents.
+/// The guardian's cell alone, with room for those of all actors with these parents.
 fn first_cell<A: Actor, K: Behaviours>(
     alloc: Global,
     parents: &[ActorId],
@@ -50,7 +48,7 @@ fn first_cell<A: Actor, K: Behaviours>(
     Ok(cells)
 }
 
-/// The cells of these actors, who have these parents, come after the guardian's.
+/// Adds the cells of these actors, which have these parents, behind the guardian's.
 fn add_cells<A: Actor, K: Behaviours>(
     alloc: Global,
     cells: &mut Vec<Cell<A, K>>,
@@ -62,7 +60,7 @@ fn add_cells<A: Actor, K: Behaviours>(
     requires few { (length cells.old.items ≡ 1) × (length parents.now < 64) }
     requires room { vec_capacity cells.old ≡ length parents.now + 1 }
     requires many { (length plans.items ≡ length parents.now) × (length actors.items ≡ length parents.now) }
-    requires behaved { AreBehaved A.content A.after A.gives K.after K.gives 1 actors.items }
+    requires behaved { BehaveAsPlanned A.content A.after A.gives K.after K.gives 1 actors.items }
     ensures { IfOk result (λ _. cells.new.items ≡ cells.old.items ++ map unstarted (planned_from (length parents.now + 1) journal_limit parents.now 1
         (map (λ a. a.parent) plans.items) (map (λ a. a.strategy) plans.items))) }
 {
@@ -76,7 +74,7 @@ fn add_cells<A: Actor, K: Behaviours>(
     Ok(())
 }
 
-/// The cell of one actor more.
+/// Adds the cell of one more actor.
 fn add_cell<A: Actor, K: Behaviours>(
     alloc: Global,
     cells: &mut Vec<Cell<A, K>>,
@@ -87,7 +85,7 @@ fn add_cell<A: Actor, K: Behaviours>(
 ) -> Result<(), AllocError>
     requires few { (length cells.old.items < 64) × (length parents.now < 64) }
     requires room { length cells.old.items < vec_capacity cells.old }
-    requires behaved { IsBehaved A.content A.after A.gives (K.after (length cells.old.items)) (K.gives (length cells.old.items)) actor }
+    requires behaved { BehavesAsPlanned A.content A.after A.gives (K.after (length cells.old.items)) (K.gives (length cells.old.items)) actor }
     ensures room { IfOk result (λ _. vec_capacity cells.new ≡ vec_capacity cells.old) }
     ensures cell { IfOk result (λ _. cells.new.items ≡ cells.old.items
         ++ unstarted (planned (length parents.now + 1) journal_limit parents.now (length cells.old.items) plan.parent plan.strategy) ∷ []) }
@@ -107,7 +105,7 @@ fn add_cell<A: Actor, K: Behaviours>(
     Ok(())
 }
 
-/// The guardian's cell: its strategy has no rows, so that the default decider decides.
+/// The guardian's cell. Its strategy has no rows, so that the default decider decides.
 fn guardian<A: Actor, K: Behaviours>(
     alloc: Global,
     parents: &[ActorId],
@@ -134,7 +132,7 @@ fn guardian<A: Actor, K: Behaviours>(
     ))
 }
 
-/// The actors whose parent this is, in order.
+/// The children of this actor, in order.
 fn children(alloc: Global, this: ActorId, parents: &[ActorId]) -> Result<Vec<ActorId>, AllocError>
     requires { length parents.now < 64 }
     ensures { IfOk result (λ children. children.items ≡ children_from 1 this.0 parents.now) }

@@ -3,9 +3,8 @@ ghost use Rattle.std.specs.Prelude.{◌≡◌, ◌<◌, [], ◌∷◌, List, len
 ghost use Rattle.mb_build.specs.Reasons.{bad_bounds, bad_numbers, bad_parents, may_be_bound, reasons};
 ghost use Rattle.mb_build.specs.declared.check.PlanError.{PlanError};
 
-use mb_msg::ActorId;
 use mb_msg::limits::{ACTORS, OUTSIDE_SENDERS};
-use mb_plan::{ActorPlan, Kind, Plan};
+use mb_msg::{ActorId, ActorPlan, MailboxType, Plan};
 
 /// How many workers a plan has at most.
 const WORKERS: u32 = 16;
@@ -52,7 +51,7 @@ pub fn check_plan(plan: &Plan, actors: usize) -> Result<(), PlanError>
     check_numbers(plan)
 }
 
-/// Whether each actor's parent is the guardian or an earlier actor; if not, the first of which it is not.
+/// Whether each actor's parent is the guardian or an earlier actor; if not, the first actor with another parent.
 fn check_parents(actors: &[ActorPlan]) -> Result<(), PlanError>
     requires { length actors.now < 64 }
     ensures { MatchResult result (λ _. bad_parents 1 actors.now ≡ [])
@@ -68,7 +67,7 @@ fn check_parents(actors: &[ActorPlan]) -> Result<(), PlanError>
     Ok(())
 }
 
-/// Whether each bound is one that a mailbox can have; if not, the first that is none.
+/// Whether each mailbox has no bound or a possible one; if not, the first that has another.
 fn check_bounds(actors: &[ActorPlan]) -> Result<(), PlanError>
     requires { length actors.now < 64 }
     ensures { MatchResult result (λ _. bad_bounds 1 actors.now ≡ [])
@@ -84,13 +83,13 @@ fn check_bounds(actors: &[ActorPlan]) -> Result<(), PlanError>
     Ok(())
 }
 
-/// Whether the mailbox has no bound, or one that it can have.
-fn has_bound(mailbox: &Kind) -> bool
+/// Whether the mailbox has no bound, or a possible one.
+fn has_bound(mailbox: &MailboxType) -> bool
     ensures { result ≡ may_be_bound mailbox.now }
 {
     match mailbox {
-        Kind::Bounded(capacity) => *capacity >= 1 && *capacity <= CAPACITY,
-        Kind::Unbounded | Kind::Priority { .. } | Kind::Control => true,
+        MailboxType::Bounded(capacity) => *capacity >= 1 && *capacity <= CAPACITY,
+        MailboxType::Unbounded | MailboxType::Priority { .. } | MailboxType::Control => true,
     }
 }
 

@@ -1,11 +1,11 @@
-//! The actors' homes.
+//! Making the actors' homes.
 ghost use Rattle.std.specs.Prelude.{◌≡◌, ℕ, ◌+◌, ◌++◌, ◌<◌, ◌≤◌, [], ◌∷◌, List, IfOk, drop, length, map, vec_capacity};
 ghost use Rattle.std.specs.Global.{Box as Owned};
 ghost use Rattle.std.specs.Vec.Iter.{into_iter_items};
 ghost use Rattle.mb_home.specs.Contents.{Contents};
-ghost use Rattle.mb_queue.specs.declared.kind.Kind.{Kind};
-ghost use Rattle.mb_build.specs.Behaved.{AreBehaved};
-ghost use Rattle.mb_build.specs.Housed.{enrolled, AreAtFirst, AreFresh, IsHoused};
+ghost use Rattle.mb_msg.specs.declared.mailbox_type.MailboxType.{MailboxType};
+ghost use Rattle.mb_build.specs.BehavesAsPlanned.{BehaveAsPlanned};
+ghost use Rattle.mb_build.specs.NewHomes.{directory_of, AreAtFirst, AreFresh, AreNewHomes};
 ghost use Rattle.mb_build.specs.Identities.{ArePlanned, identities};
 ghost use Rattle.mb_build.specs.Kinds.{AreQueues};
 ghost use Rattle.mb_build.specs.Made.{AreAllMade};
@@ -18,82 +18,82 @@ use crate::planned::kinds_of;
 use crate::queues::{Queues, make_queues};
 use mb_actor::{Actor, Behaviours};
 use mb_cell::Cell;
-use mb_home::{Home, Named};
-use mb_msg::ActorId;
-use mb_plan::ActorPlan;
+use mb_home::{EntrySnapshot, Home};
+use mb_msg::{ActorId, ActorPlan};
 use mb_queue::{SendPass, TakePass};
 use std::alloc::{AllocError, Global};
 use std::snapshot::Snapshot;
 use std::vec;
 
-/// What a system begins with (this project's own profile).
-pub struct Housed<A: Actor, K: Behaviours> {
+/// The homes of a new system, and the passes of its senders (this project's own profile).
+pub struct NewHomes<A: Actor, K: Behaviours> {
     /// The homes of all actors by number, the guardian's first.
     pub homes: Vec<Box<Home<A, K>>>,
     /// For each sender outside, in order, its passes into the queues from actor 1 on.
     pub outside: Vec<Vec<SendPass>>,
 }
 
-/// The homes of the guardian and of these actors, to none of which anything came yet, as they are planned (Akka has a cell with
-/// a mailbox for each actor; that all are made at once is this project's own profile). `AllocError` where memory was refused.
-pub fn house<A: Actor, K: Behaviours>(
+/// Makes the homes of the guardian and of these actors, as planned; nothing came to any of them yet. (Akka has a cell with a
+/// mailbox for each actor; that all are made at once is this project's own profile.) It answers `AllocError` if memory was
+/// refused.
+pub fn make_homes<A: Actor, K: Behaviours>(
     alloc: Global,
     plans: Vec<ActorPlan>,
     actors: Vec<A>,
     senders: u32,
     journal_limit: u32,
-) -> Result<Housed<A, K>, AllocError>
+) -> Result<NewHomes<A, K>, AllocError>
     requires few { (length plans.items < 64) × (senders ≤ 16) }
     requires right { (bad_parents 1 plans.items ≡ []) × (bad_bounds 1 plans.items ≡ []) }
     requires many { length actors.items ≡ length plans.items }
-    requires behaved { AreBehaved A.content A.after A.gives K.after K.gives 1 actors.items }
-    ensures { IfOk result (λ housed. (kinds : List Kind) × AreQueues plans.items kinds
-        × IsHoused K.gives (identities (length plans.items + 1) journal_limit (map (λ a. a.parent) plans.items) (map (λ a. a.strategy) plans.items))
+    requires behaved { BehaveAsPlanned A.content A.after A.gives K.after K.gives 1 actors.items }
+    ensures { IfOk result (λ housed. (kinds : List MailboxType) × AreQueues plans.items kinds
+        × AreNewHomes K.gives (identities (length plans.items + 1) journal_limit (map (λ a. a.parent) plans.items) (map (λ a. a.strategy) plans.items))
         kinds senders housed.homes.items (map (λ row. row.items) housed.outside.items)) }
 {
     let kinds = kinds_of(alloc, &plans)?;
     let queues = make_queues(alloc, kinds, senders)?;
     let cells = cells(alloc, plans, actors, journal_limit)?;
-    let roll = enroll(alloc, &cells, &queues.takes)?;
-    let housed = homes(alloc, cells, queues, &roll)?;
+    let directory = make_directory(alloc, &cells, &queues.takes)?;
+    let housed = homes(alloc, cells, queues, &directory)?;
     Ok(housed)
 }
 
-/// Who the actors are.
-fn enroll<A: Actor, K: Behaviours>(
+/// The directory of the actors.
+fn make_directory<A: Actor, K: Behaviours>(
     alloc: Global,
     cells: &[Cell<A, K>],
     takes: &[TakePass],
-) -> Result<Vec<Named<A, K>>, AllocError>
+) -> Result<Vec<EntrySnapshot<A, K>>, AllocError>
     requires { length cells.now ≡ length takes.now }
-    ensures { IfOk result (λ roll. map (λ n. record { who = n.cell.value.who; queue = n.take.value.queue; turns = n.take.value.turns }) roll.items
-        ≡ enrolled (map (λ c. c.who) cells.now) takes.now) }
+    ensures { IfOk result (λ directory. map (λ n. record { who = n.cell.value.who; queue = n.take.value.queue; turns = n.take.value.turns }) directory.items
+        ≡ directory_of (map (λ c. c.who) cells.now) takes.now) }
 {
-    let mut roll = Vec::with_capacity(alloc, cells.len())?;
+    let mut directory = Vec::with_capacity(alloc, cells.len())?;
     for number in 0..cells.len() {
-        roll.push_reserved(Named {
+        directory.push_reserved(EntrySnapshot {
             cell: Snapshot::of(&cells[number]),
             take: Snapshot::of(&takes[number]),
         });
     }
-    Ok(roll)
+    Ok(directory)
 }
 
-/// Each cell gets its passes.
+/// The homes of these cells, each with its passes.
 fn homes<A: Actor, K: Behaviours>(
     alloc: Global,
     cells: Vec<Cell<A, K>>,
     queues: Queues,
-    roll: &Vec<Named<A, K>>,
-) -> Result<Housed<A, K>, AllocError>
+    directory: &Vec<EntrySnapshot<A, K>>,
+) -> Result<NewHomes<A, K>, AllocError>
     requires few { length cells.items ≤ 64 }
     requires cells { (cells.items ≡ map unstarted (map (λ c. c.who) cells.items))
         × ArePlanned (length cells.items) 0 (map (λ c. c.who) cells.items) }
-    requires made { (kinds : List Kind) × (outside : ℕ) × (length cells.items ≡ length kinds + 1) × AreAllMade kinds
+    requires made { (kinds : List MailboxType) × (outside : ℕ) × (length cells.items ≡ length kinds + 1) × AreAllMade kinds
         (sender_numbers (length cells.items) outside) queues.takes.items (map (λ row. row.items) queues.senders.items) }
-    requires roll { map (λ n. record { who = n.cell.value.who; queue = n.take.value.queue; turns = n.take.value.turns }) roll.now.items
-        ≡ enrolled (map (λ c. c.who) cells.items) queues.takes.items }
-    ensures first { IfOk result (λ housed. AreAtFirst (enrolled (map (λ c. c.who) cells.items) queues.takes.items) (drop 1 queues.takes.items) 0
+    requires directory { map (λ n. record { who = n.cell.value.who; queue = n.take.value.queue; turns = n.take.value.turns }) directory.now.items
+        ≡ directory_of (map (λ c. c.who) cells.items) queues.takes.items }
+    ensures first { IfOk result (λ housed. AreAtFirst (directory_of (map (λ c. c.who) cells.items) queues.takes.items) (drop 1 queues.takes.items) 0
         (map (λ c. c.who) cells.items) queues.takes.items housed.homes.items) }
     ensures fresh { IfOk result (λ housed. AreFresh K.gives housed.homes.items) }
     ensures outside { IfOk result (λ housed. map (λ row. row.items) housed.outside.items
@@ -102,29 +102,29 @@ fn homes<A: Actor, K: Behaviours>(
     let mut homes = Vec::with_capacity(alloc, cells.len())?;
     let Queues { takes, senders } = queues;
     let mut senders = senders.into_iter();
-    add_homes(alloc, &mut homes, cells, takes, &mut senders, roll)?;
+    add_homes(alloc, &mut homes, cells, takes, &mut senders, directory)?;
     let outside = left(alloc, senders)?;
-    Ok(Housed { homes, outside })
+    Ok(NewHomes { homes, outside })
 }
 
-// The homes of these cells, which take their passes from the first rows.
+// Adds the homes of these cells, which take their passes from the first rows.
 fn add_homes<A: Actor, K: Behaviours>(
     alloc: Global,
     homes: &mut Vec<Box<Home<A, K>>>,
     cells: Vec<Cell<A, K>>,
     takes: Vec<TakePass>,
     rows: &mut vec::IntoIter<Vec<SendPass>>,
-    roll: &Vec<Named<A, K>>,
+    directory: &Vec<EntrySnapshot<A, K>>,
 ) -> Result<(), AllocError>
     requires none { (homes.old.items ≡ []) × (length cells.items ≤ vec_capacity homes.old) }
     requires few { length cells.items ≤ 64 }
     requires cells { (cells.items ≡ map unstarted (map (λ c. c.who) cells.items))
         × ArePlanned (length cells.items) 0 (map (λ c. c.who) cells.items) }
-    requires made { (kinds : List Kind) × (outside : ℕ) × (length cells.items ≡ length kinds + 1) × AreAllMade kinds
+    requires made { (kinds : List MailboxType) × (outside : ℕ) × (length cells.items ≡ length kinds + 1) × AreAllMade kinds
         (sender_numbers (length cells.items) outside) takes.items (map (λ row. row.items) (into_iter_items rows.old)) }
-    requires roll { map (λ n. record { who = n.cell.value.who; queue = n.take.value.queue; turns = n.take.value.turns }) roll.now.items
-        ≡ enrolled (map (λ c. c.who) cells.items) takes.items }
-    ensures first { IfOk result (λ _. AreAtFirst (enrolled (map (λ c. c.who) cells.items) takes.items) (drop 1 takes.items) 0
+    requires directory { map (λ n. record { who = n.cell.value.who; queue = n.take.value.queue; turns = n.take.value.turns }) directory.now.items
+        ≡ directory_of (map (λ c. c.who) cells.items) takes.items }
+    ensures first { IfOk result (λ _. AreAtFirst (directory_of (map (λ c. c.who) cells.items) takes.items) (drop 1 takes.items) 0
         (map (λ c. c.who) cells.items) takes.items homes.new.items) }
     ensures fresh { IfOk result (λ _. AreFresh K.gives homes.new.items) }
     ensures rest { IfOk result (λ _. into_iter_items rows.new ≡ drop (length cells.items) (into_iter_items rows.old)) }
@@ -137,13 +137,20 @@ fn add_homes<A: Actor, K: Behaviours>(
         let Some(sends) = rows.next() else {
             unreachable!();
         };
-        let home = Home::new(alloc, ActorId(homes.len() as u32), cell, take, sends, roll);
+        let home = Home::new(
+            alloc,
+            ActorId(homes.len() as u32),
+            cell,
+            take,
+            sends,
+            directory,
+        );
         add(alloc, homes, home)?;
     }
     Ok(())
 }
 
-// One home more.
+// Adds one home.
 fn add<A: Actor, K: Behaviours>(
     alloc: Global,
     homes: &mut Vec<Box<Home<A, K>>>,
@@ -158,7 +165,7 @@ fn add<A: Actor, K: Behaviours>(
     Ok(())
 }
 
-// The rows that are left.
+// The rows that are left, those of the senders outside.
 fn left(alloc: Global, rows: vec::IntoIter<Vec<SendPass>>) -> Result<Vec<Vec<SendPass>>, AllocError>
     ensures { IfOk result (λ left. left.items ≡ into_iter_items rows) }
 {

@@ -1,39 +1,35 @@
-//! The kinds of the actors' queues.
-ghost use Rattle.std.specs.Prelude.{◌≡◌, IfOk, map};
-ghost use Rattle.mb_build.specs.Kinds.{row_of, Queues};
+//! From the mailboxes of a plan to the kinds of queues.
+ghost use Rattle.std.specs.Prelude.{◌≡◌, IfOk};
+ghost use Rattle.mb_build.specs.Kinds.{Queues};
 
-use mb_plan::{Kind as Mailbox, Rank};
-use mb_queue::{Kind, RankRow, Ranks};
+use mb_msg::{MailboxType, RankRow};
 use std::alloc::{AllocError, Global};
 
-/// The kind of queue that a mailbox of the plan has.
-pub(crate) fn kind_of(alloc: Global, mailbox: &Mailbox) -> Result<Kind, AllocError>
+/// The kind of queue for a mailbox of the plan.
+pub(crate) fn kind_of(alloc: Global, mailbox: &MailboxType) -> Result<MailboxType, AllocError>
     ensures { IfOk result (Queues mailbox.now) }
 {
     match mailbox {
-        Mailbox::Unbounded => Ok(Kind::Unbounded),
-        Mailbox::Bounded(capacity) => Ok(Kind::Bounded(*capacity)),
-        Mailbox::Priority { rows, other } => {
+        MailboxType::Unbounded => Ok(MailboxType::Unbounded),
+        MailboxType::Bounded(capacity) => Ok(MailboxType::Bounded(*capacity)),
+        MailboxType::Priority { rows, other } => {
             let rows = rows_of(alloc, rows)?;
-            Ok(Kind::Priority {
-                rows: Ranks::new(rows),
+            Ok(MailboxType::Priority {
+                rows,
                 other: *other,
             })
         }
-        Mailbox::Control => Ok(Kind::Control),
+        MailboxType::Control => Ok(MailboxType::Control),
     }
 }
 
-/// The rows of a priority mailbox.
-fn rows_of(alloc: Global, ranks: &[Rank]) -> Result<Vec<RankRow>, AllocError>
-    ensures { IfOk result (λ rows. rows.items ≡ map row_of ranks.now) }
+/// The ranks of a priority mailbox.
+fn rows_of(alloc: Global, ranks: &[RankRow]) -> Result<Vec<RankRow>, AllocError>
+    ensures { IfOk result (λ rows. rows.items ≡ ranks.now) }
 {
     let mut rows = Vec::with_capacity(alloc, ranks.len())?;
     for rank in ranks {
-        rows.push_reserved(RankRow {
-            kind: rank.kind,
-            rank: rank.rank,
-        });
+        rows.push_reserved(*rank);
     }
     Ok(rows)
 }

@@ -1,11 +1,9 @@
-//! What is planned of the actors.
+//! The parents and the queues that a plan gives its actors.
 ghost use Rattle.std.specs.Prelude.{◌≡◌, IfOk, map};
 ghost use Rattle.mb_build.specs.Kinds.{AreQueues};
 
 use crate::kinds::kind_of;
-use mb_msg::ActorId;
-use mb_plan::ActorPlan;
-use mb_queue::Kind;
+use mb_msg::{ActorId, ActorPlan, MailboxType};
 use std::alloc::{AllocError, Global};
 
 /// The parents of the actors from number 1 on.
@@ -20,7 +18,7 @@ pub(crate) fn parents_of(alloc: Global, plans: &[ActorPlan]) -> Result<Vec<Actor
 }
 
 /// The kinds of their queues.
-pub(crate) fn kinds_of(alloc: Global, plans: &[ActorPlan]) -> Result<Vec<Kind>, AllocError>
+pub(crate) fn kinds_of(alloc: Global, plans: &[ActorPlan]) -> Result<Vec<MailboxType>, AllocError>
     ensures { IfOk result (λ kinds. AreQueues plans.now kinds.items) }
 {
     let mut kinds = Vec::with_capacity(alloc, plans.len())?;

@@ -1,20 +1,20 @@
-//! The queues of all actors, and for each sender its passes into them.
+//! Making the queues of all actors, with the passes of all senders.
 ghost use Rattle.std.specs.Prelude.{◌≡◌, ◌≢◌, ℕ, ◌+◌, ◌≤◌, ◌<◌, [], ◌∷◌, ◌++◌, All, AllPairs, IfOk, List, length, map, replicate};
-ghost use Rattle.mb_lane.specs.Ledger.{lent};
-ghost use Rattle.mb_queue.specs.declared.kind.Kind.TheVariants.{Unbounded};
+ghost use Rattle.mb_queue.specs.Ledger.{lent};
+ghost use Rattle.mb_msg.specs.declared.mailbox_type.MailboxType.TheVariants.{Unbounded};
 ghost use Rattle.mb_queue.specs.Made.{IsEmpty, IsMakeable, numbers_of, unused};
-ghost use Rattle.mb_queue.specs.Passes.{Taking};
+ghost use Rattle.mb_queue.specs.Passes.{TakePassView};
 ghost use Rattle.mb_build.specs.Handed.{handed, passes_of};
 ghost use Rattle.mb_build.specs.Made.{AreAllMade, AreEmpty};
 ghost use Rattle.mb_build.specs.Numbers.{numbers, sender_numbers};
 
 use mb_msg::limits::ACTORS;
-use mb_msg::{ActorId, SenderId};
-use mb_queue::{Kind, MailQueue, SendPass, TakePass};
+use mb_msg::{ActorId, MailboxType, SenderId};
+use mb_queue::{MailQueue, SendPass, TakePass};
 use std::alloc::{AllocError, Global};
 
-/// The take pass of each actor's queue, the guardian's first; and for each sender, the actors first and then those outside,
-/// its passes into the queues from actor 1 on.
+/// The take pass of each actor's queue, the guardian's first; and for each sender, actors first and then those outside, its
+/// passes into the queues from actor 1 on.
 #[derive(Drop)]
 pub(crate) struct Queues {
     /// One for each actor, by number.
@@ -26,7 +26,7 @@ pub(crate) struct Queues {
 /// Empty queues of these kinds, and one for the guardian, into which nobody has a pass.
 pub(crate) fn make_queues(
     alloc: Global,
-    kinds: Vec<Kind>,
+    kinds: Vec<MailboxType>,
     outside: u32,
 ) -> Result<Queues, AllocError>
     requires few { (length kinds.items < 64) × (outside ≤ 16) }
@@ -48,7 +48,7 @@ pub(crate) fn make_queues(
 
 /// The guardian's queue alone, and so many senders, which have no passes yet.
 fn first_queue(alloc: Global, senders: usize) -> Result<Queues, AllocError>
-    ensures { IfOk result (λ queues. ((guardian : Taking) × (queues.takes.items ≡ guardian ∷ []) × IsEmpty Unbounded 0 [] guardian)
+    ensures { IfOk result (λ queues. ((guardian : TakePassView) × (queues.takes.items ≡ guardian ∷ []) × IsEmpty Unbounded 0 [] guardian)
         × (map (λ row. row.items) queues.senders.items ≡ replicate senders [])) }
 {
     let senders = rows(alloc, senders)?;
@@ -58,18 +58,18 @@ fn first_queue(alloc: Global, senders: usize) -> Result<Queues, AllocError>
 
 /// The take pass of the guardian's queue alone.
 fn guardians(alloc: Global) -> Result<Vec<TakePass>, AllocError>
-    ensures { IfOk result (λ takes. (guardian : Taking) × (takes.items ≡ guardian ∷ []) × IsEmpty Unbounded 0 [] guardian) }
+    ensures { IfOk result (λ takes. (guardian : TakePassView) × (takes.items ≡ guardian ∷ []) × IsEmpty Unbounded 0 [] guardian) }
 {
-    let (guardian, _) = MailQueue::new(alloc, Kind::Unbounded, ActorId(0), &[])?;
+    let (guardian, _) = MailQueue::new(alloc, MailboxType::Unbounded, ActorId(0), &[])?;
     let mut takes = Vec::new(alloc);
     takes.push(guardian)?;
     Ok(takes)
 }
 
-/// Empty queues of these kinds come after the guardian's; and each sender gets its passes into them.
+/// Adds empty queues of these kinds behind the guardian's, and gives each sender its passes into them.
 fn add_queues(
     alloc: Global,
-    kinds: Vec<Kind>,
+    kinds: Vec<MailboxType>,
     senders: &[SenderId],
     takes: &mut Vec<TakePass>,
     rows: &mut [Vec<SendPass>],
@@ -79,7 +79,7 @@ fn add_queues(
     requires distinct { AllPairs (λ (a b : ℕ). a ≢ b) (numbers_of senders.now) }
     requires none { map (λ row. row.items) rows.old ≡ map (passes_of []) (numbers_of senders.now) }
     ensures many { length rows.new ≡ length rows.old }
-    ensures made { IfOk result (λ _. (more : List Taking) × (takes.new.items ≡ takes.old.items ++ more)
+    ensures made { IfOk result (λ _. (more : List TakePassView) × (takes.new.items ≡ takes.old.items ++ more)
         × AreEmpty kinds.items 1 (numbers_of senders.now) more
         × (map (λ row. row.items) rows.new ≡ map (passes_of more) (numbers_of senders.now))) }
 {
@@ -89,10 +89,10 @@ fn add_queues(
     Ok(())
 }
 
-/// The queue of one actor more.
+/// Adds the queue of one more actor.
 fn add_queue(
     alloc: Global,
-    kind: Kind,
+    kind: MailboxType,
     senders: &[SenderId],
     takes: &mut Vec<TakePass>,
     rows: &mut [Vec<SendPass>],
@@ -102,7 +102,7 @@ fn add_queue(
     requires distinct { AllPairs (λ (a b : ℕ). a ≢ b) (numbers_of senders.now) }
     requires many { length rows.old ≡ length senders.now }
     ensures many { length rows.new ≡ length rows.old }
-    ensures made { IfOk result (λ _. (take : Taking) × (takes.new.items ≡ takes.old.items ++ take ∷ [])
+    ensures made { IfOk result (λ _. (take : TakePassView) × (takes.new.items ≡ takes.old.items ++ take ∷ [])
         × (IsEmpty kind (length takes.old.items) (numbers_of senders.now) take × (take.accounts ≡ map lent (numbers_of senders.now)))
         × (map (λ row. row.items) rows.new ≡ handed (map (λ row. row.items) rows.old) (map (unused take.queue) (numbers_of senders.now)))) }
 {
@@ -112,7 +112,7 @@ fn add_queue(
     hand_out(rows, sends)
 }
 
-/// Who sends: as many actors, and as many senders outside.
+/// The numbers of the senders: as many actors, and as many senders outside.
 fn senders(alloc: Global, actors: u32, outside: u32) -> Result<Vec<SenderId>, AllocError>
     requires { (actors ≤ 64) × (outside ≤ 16) }
     ensures { IfOk result (λ all. numbers_of all.items ≡ sender_numbers actors outside) }
@@ -123,7 +123,7 @@ fn senders(alloc: Global, actors: u32, outside: u32) -> Result<Vec<SenderId>, Al
     Ok(senders)
 }
 
-/// So many numbers more, from the first on.
+/// Adds so many numbers, from the first on.
 fn push_numbers(senders: &mut Vec<SenderId>, first: u32, count: u32) -> Result<(), AllocError>
     requires { first + count < 4294967296 }
     ensures { IfOk result (λ _. numbers_of senders.new.items ≡ numbers_of senders.old.items ++ numbers first count) }

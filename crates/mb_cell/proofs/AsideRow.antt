@@ -1,9 +1,9 @@
--- A system message that is set aside: from what it makes of the books to what the cell promises.
+-- A system message that is set aside: from what it does to the cell's state to what the cell guarantees.
 use Rattle.std.proofs.Common.{◌≡◌, ℕ, ◌≤◌, ℤ, List, [], ◌∷◌, length, true, false, refl, ap, sym, ◌∙◌, subst}
 use Rattle.std.specs.Prelude.{not, Option, None}
 use Rattle.mb_msg.specs.declared.system.SysMsg.{SysMsg}
 use Rattle.mb_actor.specs.Behaviour.{Moment, Reply}
-use Rattle.mb_actor.specs.Tray.{Tray}
+use Rattle.mb_actor.specs.OutboxView.{OutboxView}
 use Rattle.mb_actor.specs.declared.call.Call.{Call}
 use Rattle.mb_actor.specs.declared.message.Message.{Message}
 use Rattle.mb_journal.specs.Acts.{acts}
@@ -15,18 +15,18 @@ use Rattle.mb_journal.specs.Identity.{Identity}
 use Rattle.mb_journal.specs.Incarnation.{messages}
 use Rattle.mb_journal.specs.Lawful.{IsLawfulEntry, IsNumbered, call_of, was_live}
 use Rattle.mb_journal.specs.Life.{closed}
-use Rattle.mb_journal.specs.Log.{Log}
+use Rattle.mb_journal.specs.JournalView.{JournalView}
 use Rattle.mb_journal.proofs.Fold.{Queries, queries, queries-fold}
 use Rattle.mb_journal.proofs.SetAsideSteps.{set_aside-tests, set_aside-step}
 use Rattle.mb_journal.proofs.Steps.{none_passed, passed}
 use Rattle.mb_cell.specs.Agrees.{Agrees}
-use Rattle.mb_books.specs.BooksRecord.{Books}
-use Rattle.mb_books.specs.Place.{identity_of}
-use Rattle.mb_books.specs.Rows.{put_aside}
-use Rattle.mb_cell.specs.Seen.{Seen, MayTake, TakesSystem}
-use Rattle.mb_books.specs.declared.place.Place.{Place}
+use Rattle.mb_supervision.specs.CellStateRecord.{CellState}
+use Rattle.mb_supervision.specs.ActorIdentity.{identity_of}
+use Rattle.mb_supervision.specs.Rows.{put_aside}
+use Rattle.mb_cell.specs.CellView.{CellView, MayTake, TakesSystem}
+use Rattle.mb_supervision.specs.declared.identity.ActorIdentity.{ActorIdentity}
 use Rattle.mb_cell.proofs.CellLaws.{Kept, longer, kept-silent, taken-system, length-added}
-use Rattle.mb_cell.proofs.RowLaws.{agrees-more, blank-before, booked-open, books_of, books-after, call-by, no_call}
+use Rattle.mb_cell.proofs.RowLaws.{agrees-more, blank-before, booked-open, cell_state_of, cell_state-after, call-by, no_call}
 
 -- the entry of a message that is set aside
 abbrev pub waiting : ℕ → SysMsg → Entry
@@ -48,36 +48,36 @@ lawful-waiting : (who : Identity) (gives : Moment → Reply → Type 0) (before 
 lawful-waiting who gives before number m not_ended numbered waits =
     record { not_ended = not_ended; numbered = numbered; by_rule = sym (ap not waits) }
 
-module _ {A : Type 0} (place : Place) (old new : Log) (number : ℕ) (m : SysMsg) (after : List Message → ℤ)
-    (gives : Moment → Reply → Type 0) (books new_books : Books) (tray : Tray) (actor : Option A) (own_after : A → List Message → ℤ)
-    (own_gives : A → Moment → Reply → Type 0) (content : A → ℤ) (made : A → List Call) (now : Seen)
+module _ {A : Type 0} (place : ActorIdentity) (old new : JournalView) (number : ℕ) (m : SysMsg) (after : List Message → ℤ)
+    (gives : Moment → Reply → Type 0) (cell_state new_cell_state : CellState) (tray : OutboxView) (actor : Option A) (own_after : A → List Message → ℤ)
+    (own_gives : A → Moment → Reply → Type 0) (content : A → ℤ) (made : A → List Call) (now : CellView)
     (added : new ≡ longer old (waiting number m)) (within : length new.entries ≤ new.limit)
-    (kept : Kept place old after gives books tray actor own_after own_gives content made)
-    (view_is : (let seen : Seen = record { who = identity_of place old.limit; journal = old.entries; acts = books.acts; is_ready = old.is_ready } in
+    (kept : Kept place old after gives cell_state tray actor own_after own_gives content made)
+    (view_is : (let seen : CellView = record { who = identity_of place old.limit; journal = old.entries; acts = cell_state.acts; is_ready = old.is_ready } in
     seen ≡ now))
     (asked : MayTake now number m) (waits : sets_aside now.who now.journal m ≡ true)
-    (put : new_books ≡ put_aside number m books) where
+    (put : new_cell_state ≡ put_aside number m cell_state) where
   abbrev who : Identity
   who = identity_of place old.limit
 
   abbrev q : Queries
   q = queries who old.entries
 
-  may_take : MayTake (record { who = identity_of place old.limit; journal = old.entries; acts = books.acts; is_ready = old.is_ready }) number m
-  may_take = subst (λ (s : Seen). MayTake s number m) (sym view_is) asked
+  may_take : MayTake (record { who = identity_of place old.limit; journal = old.entries; acts = cell_state.acts; is_ready = old.is_ready }) number m
+  may_take = subst (λ (s : CellView). MayTake s number m) (sym view_is) asked
 
-  booked : new_books ≡ books_of (passed q (waiting number m)) books.retries [] books.fanout false
+  booked : new_cell_state ≡ cell_state_of (passed q (waiting number m)) cell_state.retries [] cell_state.fanout false
   booked =
-      books-after (passed q (waiting number m)) books.retries [] books.fanout false new_books may_take.not_ended
-      (put ∙ ap (put_aside number m) (booked-open who old.entries gives books tray kept.0 may_take.not_ended))
+      cell_state-after (passed q (waiting number m)) cell_state.retries [] cell_state.fanout false new_cell_state may_take.not_ended
+      (put ∙ ap (put_aside number m) (booked-open who old.entries gives cell_state tray kept.0 may_take.not_ended))
 
-  agrees : Agrees who (waiting number m ∷ old.entries) gives new_books tray
+  agrees : Agrees who (waiting number m ∷ old.entries) gives new_cell_state tray
   agrees =
-      agrees-more who old.entries gives books tray kept.0 (waiting number m) (passed q (waiting number m)) books.retries [] false new_books tray
+      agrees-more who old.entries gives cell_state tray kept.0 (waiting number m) (passed q (waiting number m)) cell_state.retries [] false new_cell_state tray
       (lawful-waiting who gives old.entries number m may_take.not_ended may_take.numbered
-      (subst (λ (s : Seen). sets_aside s.who s.journal m ≡ true) (sym view_is) waits))
+      (subst (λ (s : CellView). sets_aside s.who s.journal m ≡ true) (sym view_is) waits))
       (length-added old new (waiting number m) added within) (set_aside-step who q number m) booked kept.0.outbox
-      (λ fresh. let here = blank-before who old.entries gives books tray kept.0 fresh in record {
+      (λ fresh. let here = blank-before who old.entries gives cell_state tray kept.0 fresh in record {
         no_children = here.no_children;
         none_watched = here.none_watched;
         none_due = here.none_due;
@@ -89,13 +89,13 @@ module _ {A : Type 0} (place : Place) (old new : Log) (number : ℕ) (m : SysMsg
   same_messages =
       ap (λ (r : Queries). r.messages) (queries-fold who old.entries (waiting number m) ∙ set_aside-step who q number m)
 
-  pub keeps : Kept place new after gives new_books tray actor own_after own_gives content made
+  pub keeps : Kept place new after gives new_cell_state tray actor own_after own_gives content made
   keeps =
-      kept-silent place old new (waiting number m) after gives books new_books tray tray actor own_after own_gives content made added
+      kept-silent place old new (waiting number m) after gives cell_state new_cell_state tray tray actor own_after own_gives content made added
       agrees (calls-nothing who old.entries number m) (λ an_actor. same_messages) kept
 
   pub takes : TakesSystem now
-      (record { who = identity_of place new.limit; journal = new.entries; acts = new_books.acts; is_ready = new.is_ready }) number m
+      (record { who = identity_of place new.limit; journal = new.entries; acts = new_cell_state.acts; is_ready = new.is_ready }) number m
   takes =
-      taken-system place old new number m SetAside books.acts new_books.acts now added view_is
-      (ap (λ (b : Books). b.acts) booked ∙ sym (no-acts who old.entries number m))
+      taken-system place old new number m SetAside cell_state.acts new_cell_state.acts now added view_is
+      (ap (λ (b : CellState). b.acts) booked ∙ sym (no-acts who old.entries number m))

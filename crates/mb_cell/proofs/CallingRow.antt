@@ -1,11 +1,11 @@
--- An entry of a call of the actor: from what its rule makes of the books to what the cell keeps.
+-- An entry of a call of the actor: from what its rule does to the cell's state to the cell's invariant.
 use Rattle.std.proofs.Common.{◌≡◌, ◌≤◌, ℤ, List, [], ◌∷◌, length, true, false, ap, sym, ◌∙◌, subst}
 use Rattle.std.specs.Prelude.{Option, Some, filter, not}
 use Rattle.mb_msg.specs.declared.id.ActorId.{ActorId}
 use Rattle.mb_actor.specs.ActorList.{has}
 use Rattle.mb_actor.specs.Behaviour.{Moment, Reply, IsAllowed, Keeps}
 use Rattle.mb_actor.specs.Held.{CanHold}
-use Rattle.mb_actor.specs.Tray.{Tray, settled, spawns_of}
+use Rattle.mb_actor.specs.OutboxView.{OutboxView, settled, spawns_of}
 use Rattle.mb_actor.specs.declared.answer.Answer.{Answer}
 use Rattle.mb_actor.specs.declared.call.Call.{Call}
 use Rattle.mb_actor.specs.declared.effect.Effect.{Effect}
@@ -16,21 +16,21 @@ use Rattle.mb_journal.specs.Entry.{Entry}
 use Rattle.mb_journal.specs.Identity.{Identity}
 use Rattle.mb_journal.specs.Incarnation.{messages}
 use Rattle.mb_journal.specs.Lawful.{IsLawfulEntry, IsGivenBy, IsAnswered, call_of, unspawned, moment}
-use Rattle.mb_journal.specs.Log.{Log}
+use Rattle.mb_journal.specs.JournalView.{JournalView}
 use Rattle.mb_journal.proofs.Fold.{Queries, queries, next_queries, queries-fold}
 use Rattle.mb_journal.proofs.LawfulLemmas.{calls-called}
-use Rattle.mb_cell.specs.Agrees.{Agrees, Plays}
-use Rattle.mb_books.specs.BooksRecord.{Books}
-use Rattle.mb_books.specs.Requests.{requests_kept}
-use Rattle.mb_books.specs.Place.{identity_of}
-use Rattle.mb_books.specs.declared.place.Place.{Place}
+use Rattle.mb_cell.specs.Agrees.{Agrees, FollowsBehaviour}
+use Rattle.mb_supervision.specs.CellStateRecord.{CellState}
+use Rattle.mb_supervision.specs.Requests.{requests_kept}
+use Rattle.mb_supervision.specs.ActorIdentity.{identity_of}
+use Rattle.mb_supervision.specs.declared.identity.ActorIdentity.{ActorIdentity}
 use Rattle.mb_cell.proofs.CellLaws.{longer, length-added, kept-called}
-use Rattle.mb_cell.proofs.RowLaws.{IsBlank, books_of, agrees-more}
+use Rattle.mb_cell.proofs.RowLaws.{IsBlank, cell_state_of, agrees-more}
 
--- what the rule of such an entry has to show: which call it is; that the entry may come if what was given may be; what it makes of
--- the queries (these), that the new books are those, and that their acts are the entry's
+-- what the rule of such an entry has to show: which call it is; that the entry may come if what was given may be; what it
+-- makes of the queries, that the new state is theirs, and that its acts are the entry's
 pub record IsCallingRow (who : Identity) (gives : Moment → Reply → Type 0) (before : List Entry) (e : Entry) (call : Call) (a : Option Answer)
-    (effects : List Effect) (books new : Books) (after : Queries) : Type 0 where
+    (effects : List Effect) (cell_state new : CellState) (after : Queries) : Type 0 where
   pub calls_it : call_of who before e ≡ Some call
   pub answered : IsAnswered call a
   pub lawful : IsGivenBy who gives before call a effects → IsLawfulEntry who gives before e
@@ -38,12 +38,12 @@ pub record IsCallingRow (who : Identity) (gives : Moment → Reply → Type 0) (
   pub retries : List ActorId
   pub counted : retries ≡ requests_kept who.retries after.requests
   pub acts_of_it : List Act
-  pub booked : new ≡ books_of after retries acts_of_it books.fanout false
+  pub booked : new ≡ cell_state_of after retries acts_of_it cell_state.fanout false
   pub acted : acts who before e ≡ acts_of_it
   pub blank : after.phase ≡ Fresh → IsBlank after
 
 -- what came of a call, of the actor with these behaviours before and after it: the outbox that it found and left
-pub record IsCalled (call : Call) (a : Option Answer) (effects : List Effect) (tray called : Tray)
+pub record IsCalled (call : Call) (a : Option Answer) (effects : List Effect) (tray called : OutboxView)
     (own_after : List Message → ℤ) (own_gives : Moment → Reply → Type 0) (content : ℤ) (made : List Call)
     (new_after : List Message → ℤ) (new_gives : Moment → Reply → Type 0) (new_made : List Call) : Type 0 where
   pub called_once : new_made ≡ call ∷ made
@@ -52,19 +52,19 @@ pub record IsCalled (call : Call) (a : Option Answer) (effects : List Effect) (t
   pub held : CanHold called
   pub same_effects : effects ≡ called.effects
 
-module _ (who : Identity) (before : List Entry) (e : Entry) (after : List Message → ℤ) (gives : Moment → Reply → Type 0) (books new : Books)
-    (tray called : Tray) (own_after : List Message → ℤ) (own_gives : Moment → Reply → Type 0) (content : ℤ) (made : List Call)
+module _ (who : Identity) (before : List Entry) (e : Entry) (after : List Message → ℤ) (gives : Moment → Reply → Type 0) (cell_state new : CellState)
+    (tray called : OutboxView) (own_after : List Message → ℤ) (own_gives : Moment → Reply → Type 0) (content : ℤ) (made : List Call)
     (new_after : List Message → ℤ) (new_gives : Moment → Reply → Type 0) (new_made : List Call)
     (call : Call) (a : Option Answer) (effects : List Effect) (within : length (e ∷ before) ≤ who.limit)
-    (kept : Agrees who before gives books tray) (plays : Plays who before after gives own_after own_gives content made)
+    (kept : Agrees who before gives cell_state tray) (plays : FollowsBehaviour who before after gives own_after own_gives content made)
     (came : IsCalled call a effects tray called own_after own_gives content made new_after new_gives new_made)
-    (then : Queries) (row : IsCallingRow who gives before e call a effects books new then) where
+    (then : Queries) (row : IsCallingRow who gives before e call a effects cell_state new then) where
   -- the outbox that was left is one of this moment
   left : called ≡ record { effects = effects; actors = who.actors; unspawned = unspawned who before }
   left = λ i. record {
     effects = sym came.same_effects i;
-    actors = (came.keeps.actors_kept ∙ ap (λ (t : Tray). t.actors) kept.outbox) i;
-    unspawned = (came.keeps.unspawned_kept ∙ ap (λ (t : Tray). t.unspawned) kept.outbox) i;
+    actors = (came.keeps.actors_kept ∙ ap (λ (t : OutboxView). t.actors) kept.outbox) i;
+    unspawned = (came.keeps.unspawned_kept ∙ ap (λ (t : OutboxView). t.unspawned) kept.outbox) i;
   }
 
   -- the content before the call, as the actor's own function has it
@@ -78,23 +78,23 @@ module _ (who : Identity) (before : List Entry) (e : Entry) (after : List Messag
         (plays.same_gives (moment who before call) (record { answer = a; effects = effects })).0
         ((came.keeps.gives_kept (moment who before call) (record { answer = a; effects = effects })).1
         (subst (λ (es : List Effect). new_gives (moment who before call) (record { answer = a; effects = es })) (sym came.same_effects)
-        (subst (λ (t : Tray). new_gives (record {
+        (subst (λ (t : OutboxView). new_gives (record {
           messages = messages who before;
           call = call;
           actors = t.actors;
           unspawned = t.unspawned;
         }) (record { answer = a; effects = called.effects })) kept.outbox (came.given (messages who before) content_before))));
-    held = subst (λ (t : Tray). CanHold t) left came.held;
+    held = subst (λ (t : OutboxView). CanHold t) left came.held;
   }
 
-  pub calling-agrees : (new_tray : Tray) → new_tray ≡ record { effects = []; actors = who.actors; unspawned = then.unspawned } →
+  pub calling-agrees : (new_tray : OutboxView) → new_tray ≡ record { effects = []; actors = who.actors; unspawned = then.unspawned } →
       Agrees who (e ∷ before) gives new new_tray
   calling-agrees new_tray tray_is =
-      agrees-more who before gives books tray kept e then row.retries row.acts_of_it false new new_tray
+      agrees-more who before gives cell_state tray kept e then row.retries row.acts_of_it false new new_tray
       (row.lawful given_by) within row.step row.booked tray_is row.blank row.counted
 
   -- the outbox whose effects last, made ready for the next call
-  pub settled-left : (settled_tray : Tray) → settled_tray ≡ settled called →
+  pub settled-left : (settled_tray : OutboxView) → settled_tray ≡ settled called →
       settled_tray ≡ record {
         effects = [];
         actors = who.actors;
@@ -102,13 +102,13 @@ module _ (who : Identity) (before : List Entry) (e : Entry) (after : List Messag
       }
   settled-left settled_tray is = is ∙ ap settled left
 
-  -- one whose effects do not last
-  pub cleared-left : (cleared : Tray) → cleared ≡ record called { effects = [] } →
+  -- an outbox whose effects do not last
+  pub cleared-left : (cleared : OutboxView) → cleared ≡ record called { effects = [] } →
       cleared ≡ record { effects = []; actors = who.actors; unspawned = unspawned who before }
-  cleared-left cleared is = is ∙ ap (λ (t : Tray). record t { effects = [] }) left
+  cleared-left cleared is = is ∙ ap (λ (t : OutboxView). record t { effects = [] }) left
 
   pub calling-plays : (new_content : ℤ) → new_content ≡ new_after then.messages →
-      Plays who (e ∷ before) after gives new_after new_gives new_content new_made
+      FollowsBehaviour who (e ∷ before) after gives new_after new_gives new_content new_made
   calling-plays new_content content_is =
       let same_after : new_after ≡ after = came.keeps.after_kept ∙ plays.same_after in
       record {
@@ -126,38 +126,38 @@ module _ (who : Identity) (before : List Entry) (e : Entry) (after : List Messag
       }
 
 -- what the cell keeps after it
-module _ (place : Place) (old new : Log) (e : Entry) (after : List Message → ℤ) (gives : Moment → Reply → Type 0) (books new_books : Books)
-    (tray called : Tray) (own_after : List Message → ℤ) (own_gives : Moment → Reply → Type 0) (content : ℤ) (made : List Call)
+module _ (place : ActorIdentity) (old new : JournalView) (e : Entry) (after : List Message → ℤ) (gives : Moment → Reply → Type 0) (cell_state new_cell_state : CellState)
+    (tray called : OutboxView) (own_after : List Message → ℤ) (own_gives : Moment → Reply → Type 0) (content : ℤ) (made : List Call)
     (new_after : List Message → ℤ) (new_gives : Moment → Reply → Type 0) (new_made : List Call) (call : Call) (a : Option Answer)
     (effects : List Effect) (added : new ≡ longer old e) (within : length new.entries ≤ new.limit)
-    (kept : Agrees (identity_of place old.limit) old.entries gives books tray)
-    (plays : Plays (identity_of place old.limit) old.entries after gives own_after own_gives content made)
+    (kept : Agrees (identity_of place old.limit) old.entries gives cell_state tray)
+    (plays : FollowsBehaviour (identity_of place old.limit) old.entries after gives own_after own_gives content made)
     (came : IsCalled call a effects tray called own_after own_gives content made new_after new_gives new_made) (then : Queries)
-    (row : IsCallingRow (identity_of place old.limit) gives old.entries e call a effects books new_books then) where
+    (row : IsCallingRow (identity_of place old.limit) gives old.entries e call a effects cell_state new_cell_state then) where
   -- where the effects last
-  pub calling-settled : (new_tray : Tray) (new_content : ℤ) → new_tray ≡ settled called →
+  pub calling-settled : (new_tray : OutboxView) (new_content : ℤ) → new_tray ≡ settled called →
       then.unspawned ≡ filter (λ x. not (has (spawns_of effects) x)) (unspawned (identity_of place old.limit) old.entries) →
       new_content ≡ new_after then.messages →
-      Agrees (identity_of place new.limit) new.entries gives new_books new_tray
-      × (new.is_ready ≡ true → new_books.is_ready ≡ true)
-      × Plays (identity_of place new.limit) new.entries after gives new_after new_gives new_content new_made
+      Agrees (identity_of place new.limit) new.entries gives new_cell_state new_tray
+      × (new.is_ready ≡ true → new_cell_state.is_ready ≡ true)
+      × FollowsBehaviour (identity_of place new.limit) new.entries after gives new_after new_gives new_content new_made
   calling-settled new_tray new_content tray_is same_unspawned content_is =
       let within_before = length-added old new e added within in
-      kept-called place old new e after gives new_books new_tray new_after new_gives new_content new_made added
+      kept-called place old new e after gives new_cell_state new_tray new_after new_gives new_content new_made added
       (calling-agrees _ _ e _ _ _ _ _ _ _ _ _ _ _ _ _ _ _ _ within_before kept plays came then row new_tray
       (settled-left _ _ e _ _ _ _ _ _ _ _ _ _ _ _ _ _ _ _ within_before kept plays came then row new_tray tray_is
       ∙ ap (λ u. record { effects = []; actors = place.actors; unspawned = u }) (sym same_unspawned)))
       (calling-plays _ _ e _ _ _ _ _ _ _ _ _ _ _ _ _ _ _ _ within_before kept plays came then row new_content content_is)
 
   -- where they do not: those of a stop
-  pub calling-cleared : (new_tray : Tray) (new_content : ℤ) → new_tray ≡ record called { effects = [] } →
+  pub calling-cleared : (new_tray : OutboxView) (new_content : ℤ) → new_tray ≡ record called { effects = [] } →
       then.unspawned ≡ unspawned (identity_of place old.limit) old.entries → new_content ≡ new_after then.messages →
-      Agrees (identity_of place new.limit) new.entries gives new_books new_tray
-      × (new.is_ready ≡ true → new_books.is_ready ≡ true)
-      × Plays (identity_of place new.limit) new.entries after gives new_after new_gives new_content new_made
+      Agrees (identity_of place new.limit) new.entries gives new_cell_state new_tray
+      × (new.is_ready ≡ true → new_cell_state.is_ready ≡ true)
+      × FollowsBehaviour (identity_of place new.limit) new.entries after gives new_after new_gives new_content new_made
   calling-cleared new_tray new_content tray_is same_unspawned content_is =
       let within_before = length-added old new e added within in
-      kept-called place old new e after gives new_books new_tray new_after new_gives new_content new_made added
+      kept-called place old new e after gives new_cell_state new_tray new_after new_gives new_content new_made added
       (calling-agrees _ _ e _ _ _ _ _ _ _ _ _ _ _ _ _ _ _ _ within_before kept plays came then row new_tray
       (cleared-left _ _ e _ _ _ _ _ _ _ _ _ _ _ _ _ _ _ _ within_before kept plays came then row new_tray tray_is
       ∙ ap (λ u. record { effects = []; actors = place.actors; unspawned = u }) (sym same_unspawned)))

@@ -1,10 +1,10 @@
--- From the journal's value, as it was added to, to the cell's.
+-- From the journal with an entry more to the cell with it.
 use Rattle.std.proofs.Common.{◌≡◌, ℕ, ◌+◌, ◌*◌, ◌^◌, ◌<◌, ◌≤◌, ℤ, List, ◌∷◌, length, Bool, true, false, refl, ap, sym, ◌∙◌, subst, arith}
 use Rattle.std.specs.Prelude.{MatchOption, Option, Some, None, if◌then◌else◌}
 use Rattle.mb_msg.specs.declared.envelope.Envelope.{Envelope}
 use Rattle.mb_msg.specs.declared.system.SysMsg.{SysMsg}
 use Rattle.mb_actor.specs.Behaviour.{Moment, Reply}
-use Rattle.mb_actor.specs.Tray.{Tray}
+use Rattle.mb_actor.specs.OutboxView.{OutboxView}
 use Rattle.mb_actor.specs.declared.call.Call.{Call}
 use Rattle.mb_actor.specs.declared.message.Message.{Message}
 use Rattle.mb_actor.specs.declared.phase.Phase.TheVariants.{Ended}
@@ -15,30 +15,30 @@ use Rattle.mb_journal.specs.Identity.{Identity, is_guardian}
 use Rattle.mb_journal.specs.Incarnation.{messages}
 use Rattle.mb_journal.specs.Lawful.{call_of}
 use Rattle.mb_journal.specs.Life.{phase}
-use Rattle.mb_journal.specs.Log.{Log}
+use Rattle.mb_journal.specs.JournalView.{JournalView}
 use Rattle.mb_journal.specs.Phase.{phase_is}
 use Rattle.mb_journal.specs.Suspension.{count, count_after, marks}
 use Rattle.mb_journal.proofs.LawfulLemmas.{calls-silent}
 use Rattle.mb_journal.proofs.SizeLemmas.{sizes}
-use Rattle.mb_cell.specs.Agrees.{Agrees, Plays}
-use Rattle.mb_books.specs.BooksRecord.{Books}
-use Rattle.mb_books.specs.Place.{identity_of}
-use Rattle.mb_cell.specs.Seen.{Seen, with_entry, IsOf, TakesEnvelope, TakesSystem}
-use Rattle.mb_books.specs.declared.place.Place.{Place}
+use Rattle.mb_cell.specs.Agrees.{Agrees, FollowsBehaviour}
+use Rattle.mb_supervision.specs.CellStateRecord.{CellState}
+use Rattle.mb_supervision.specs.ActorIdentity.{identity_of}
+use Rattle.mb_cell.specs.CellView.{CellView, with_entry, IsOf, TakesEnvelope, TakesSystem}
+use Rattle.mb_supervision.specs.declared.identity.ActorIdentity.{ActorIdentity}
 
 -- the journal with an entry more
-abbrev pub longer : Log → Entry → Log
+abbrev pub longer : JournalView → Entry → JournalView
 longer old e = record old { entries = e ∷ old.entries; is_ready = false }
 
 -- what holds of an entry more holds of the journal that was added to
-pub at-log : (P : ℕ → List Entry → Type 0) (old new : Log) (e : Entry) → new ≡ longer old e → P old.limit (e ∷ old.entries) → P new.limit new.entries
-at-log P old new e added here = subst (λ (j : Log). P j.limit j.entries) (sym added) here
+pub at-log : (P : ℕ → List Entry → Type 0) (old new : JournalView) (e : Entry) → new ≡ longer old e → P old.limit (e ∷ old.entries) → P new.limit new.entries
+at-log P old new e added here = subst (λ (j : JournalView). P j.limit j.entries) (sym added) here
 
--- what is seen of a cell whose journal was added to, and whose acts are those of the entry
-pub seen-added : (place : Place) (old new : Log) (e : Entry) (old_acts new_acts : List Act) (now : Seen) → new ≡ longer old e →
-    (let seen : Seen = record { who = identity_of place old.limit; journal = old.entries; acts = old_acts; is_ready = old.is_ready } in seen ≡ now) →
+-- the cell, as contracts see it, with an entry more and its acts
+pub seen-added : (place : ActorIdentity) (old new : JournalView) (e : Entry) (old_acts new_acts : List Act) (now : CellView) → new ≡ longer old e →
+    (let seen : CellView = record { who = identity_of place old.limit; journal = old.entries; acts = old_acts; is_ready = old.is_ready } in seen ≡ now) →
     new_acts ≡ acts (identity_of place old.limit) old.entries e →
-    (let seen : Seen = record { who = identity_of place new.limit; journal = new.entries; acts = new_acts; is_ready = new.is_ready } in
+    (let seen : CellView = record { who = identity_of place new.limit; journal = new.entries; acts = new_acts; is_ready = new.is_ready } in
     seen ≡ with_entry now e)
 seen-added place old new e old_acts new_acts now added view_is acts_are =
     (λ i. record {
@@ -47,7 +47,7 @@ seen-added place old new e old_acts new_acts now added view_is acts_are =
       acts = acts_are i;
       is_ready = (added i).is_ready;
     })
-    ∙ ap (λ (s : Seen). with_entry s e) view_is
+    ∙ ap (λ (s : CellView). with_entry s e) view_is
 
 -- a guardian stays one, and what holds of an actor goes on
 pub match-on : {A : Type 0} (o : Option A) (P P' : Type 0) (Q Q' : A → Type 0) → (P → P') → ((a : A) → Q a → Q' a) →
@@ -55,11 +55,11 @@ pub match-on : {A : Type 0} (o : Option A) (P P' : Type 0) (Q Q' : A → Type 0)
 match-on None P P' Q Q' none some m = none m
 match-on (Some a) P P' Q Q' none some m = some a m
 
--- an actor that was not called plays on
+-- an actor that was not called behaves as before
 pub plays-on : (who : Identity) (before : List Entry) (e : Entry) (after : List Message → ℤ) (gives : Moment → Reply → Type 0)
     (own_after : List Message → ℤ) (own_gives : Moment → Reply → Type 0) (content : ℤ) (made : List Call) →
     call_of who before e ≡ None → messages who (e ∷ before) ≡ messages who before →
-    Plays who before after gives own_after own_gives content made → Plays who (e ∷ before) after gives own_after own_gives content made
+    FollowsBehaviour who before after gives own_after own_gives content made → FollowsBehaviour who (e ∷ before) after gives own_after own_gives content made
 plays-on who before e after gives own_after own_gives content made no_call same_messages plays = record {
   no_guardian = plays.no_guardian;
   same_after = plays.same_after;
@@ -73,13 +73,13 @@ count-at : (b : Bool) (n m : ℕ) → n ≤ m → (if b then 0 else n) ≤ m
 count-at true n m few = omega arith
 count-at false n m few = few
 
-pub count-small : (who : Identity) (journal : List Entry) (gives : Moment → Reply → Type 0) (books : Books) (tray : Tray) →
-    Agrees who journal gives books tray → books.count < 2 ^ 60
+pub count-small : (who : Identity) (journal : List Entry) (gives : Moment → Reply → Type 0) (cell_state : CellState) (tray : OutboxView) →
+    Agrees who journal gives cell_state tray → cell_state.count < 2 ^ 60
 unfolding count
-count-small who journal gives books tray kept =
+count-small who journal gives cell_state tray kept =
     let few = count-at (phase_is (phase who journal) Ended) (count_after (marks who journal)) (1 + 3 * length journal)
     (sizes who gives journal kept.lawful.entries).marked in
-    let same = ap (λ (b : Books). b.count) kept.booked in
+    let same = ap (λ (b : CellState). b.count) kept.booked in
     let within = kept.lawful.within_limit in
     let small = kept.small_limit in
     omega arith
@@ -87,43 +87,43 @@ count-small who journal gives books tray kept =
 -- ---- a rule that calls nothing
 
 -- what a cell is to keep, of its parts
-abbrev pub Kept : {A : Type 0} (place : Place) (log : Log) (after : List Message → ℤ) (gives : Moment → Reply → Type 0) (books : Books)
-    (tray : Tray) (actor : Option A) (own_after : A → List Message → ℤ) (own_gives : A → Moment → Reply → Type 0) (content : A → ℤ)
+abbrev pub Kept : {A : Type 0} (place : ActorIdentity) (log : JournalView) (after : List Message → ℤ) (gives : Moment → Reply → Type 0) (cell_state : CellState)
+    (tray : OutboxView) (actor : Option A) (own_after : A → List Message → ℤ) (own_gives : A → Moment → Reply → Type 0) (content : A → ℤ)
     (made : A → List Call) → Type 0
-Kept place log after gives books tray actor own_after own_gives content made =
-    Agrees (identity_of place log.limit) log.entries gives books tray
-    × (log.is_ready ≡ true → books.is_ready ≡ true)
+Kept place log after gives cell_state tray actor own_after own_gives content made =
+    Agrees (identity_of place log.limit) log.entries gives cell_state tray
+    × (log.is_ready ≡ true → cell_state.is_ready ≡ true)
     × MatchOption actor (is_guardian (identity_of place log.limit) ≡ true)
-    (λ a. Plays (identity_of place log.limit) log.entries after gives (own_after a) (own_gives a) (content a) (made a))
+    (λ a. FollowsBehaviour (identity_of place log.limit) log.entries after gives (own_after a) (own_gives a) (content a) (made a))
 
-not_ready : (old new : Log) (e : Entry) (P : Type 0) → new ≡ longer old e → new.is_ready ≡ true → P
-not_ready old new e P added ready = let no : new.is_ready ≡ false = ap (λ (j : Log). j.is_ready) added in cc
+not_ready : (old new : JournalView) (e : Entry) (P : Type 0) → new ≡ longer old e → new.is_ready ≡ true → P
+not_ready old new e P added ready = let no : new.is_ready ≡ false = ap (λ (j : JournalView). j.is_ready) added in cc
 
-pub kept-silent : {A : Type 0} (place : Place) (old new : Log) (e : Entry) (after : List Message → ℤ) (gives : Moment → Reply → Type 0)
-    (books new_books : Books) (tray new_tray : Tray) (actor : Option A) (own_after : A → List Message → ℤ)
+pub kept-silent : {A : Type 0} (place : ActorIdentity) (old new : JournalView) (e : Entry) (after : List Message → ℤ) (gives : Moment → Reply → Type 0)
+    (cell_state new_cell_state : CellState) (tray new_tray : OutboxView) (actor : Option A) (own_after : A → List Message → ℤ)
     (own_gives : A → Moment → Reply → Type 0) (content : A → ℤ) (made : A → List Call) → new ≡ longer old e →
-    Agrees (identity_of place old.limit) (e ∷ old.entries) gives new_books new_tray →
+    Agrees (identity_of place old.limit) (e ∷ old.entries) gives new_cell_state new_tray →
     call_of (identity_of place old.limit) old.entries e ≡ None →
     (is_guardian (identity_of place old.limit) ≡ false →
     messages (identity_of place old.limit) (e ∷ old.entries) ≡ messages (identity_of place old.limit) old.entries) →
-    Kept place old after gives books tray actor own_after own_gives content made →
-    Kept place new after gives new_books new_tray actor own_after own_gives content made
-kept-silent place old new e after gives books new_books tray new_tray actor own_after own_gives content made added agrees silent same kept = (
-  at-log (λ limit journal. Agrees (identity_of place limit) journal gives new_books new_tray) old new e added agrees,
-  not_ready old new e (new_books.is_ready ≡ true) added,
+    Kept place old after gives cell_state tray actor own_after own_gives content made →
+    Kept place new after gives new_cell_state new_tray actor own_after own_gives content made
+kept-silent place old new e after gives cell_state new_cell_state tray new_tray actor own_after own_gives content made added agrees silent same kept = (
+  at-log (λ limit journal. Agrees (identity_of place limit) journal gives new_cell_state new_tray) old new e added agrees,
+  not_ready old new e (new_cell_state.is_ready ≡ true) added,
   match-on actor _ _ _ _ (λ guardian. guardian)
       (λ a plays.
       at-log
-      (λ limit journal. Plays (identity_of place limit) journal after gives (own_after a) (own_gives a) (content a) (made a)) old new e added
+      (λ limit journal. FollowsBehaviour (identity_of place limit) journal after gives (own_after a) (own_gives a) (content a) (made a)) old new e added
       (plays-on (identity_of place old.limit) old.entries e after gives (own_after a) (own_gives a) (content a) (made a) silent
       (same plays.no_guardian) plays))
       kept.2,
 )
 
 -- a system message was taken
-pub taken-system : (place : Place) (old new : Log) (number : ℕ) (m : SysMsg) (outcome : Outcome) (old_acts new_acts : List Act) (now : Seen) →
+pub taken-system : (place : ActorIdentity) (old new : JournalView) (number : ℕ) (m : SysMsg) (outcome : Outcome) (old_acts new_acts : List Act) (now : CellView) →
     new ≡ longer old (System number m outcome) →
-    (let seen : Seen = record { who = identity_of place old.limit; journal = old.entries; acts = old_acts; is_ready = old.is_ready } in seen ≡ now) →
+    (let seen : CellView = record { who = identity_of place old.limit; journal = old.entries; acts = old_acts; is_ready = old.is_ready } in seen ≡ now) →
     new_acts ≡ acts (identity_of place old.limit) old.entries (System number m outcome) →
     TakesSystem now
     (record { who = identity_of place new.limit; journal = new.entries; acts = new_acts; is_ready = new.is_ready }) number m
@@ -132,22 +132,22 @@ taken-system place old new number m outcome old_acts new_acts now added view_is 
   adds = seen-added place old new (System number m outcome) old_acts new_acts now added view_is acts_are;
 }
 
-pub length-added : (old new : Log) (e : Entry) → new ≡ longer old e → length new.entries ≤ new.limit → length (e ∷ old.entries) ≤ old.limit
-length-added old new e added within = subst (λ (j : Log). length j.entries ≤ j.limit) added within
+pub length-added : (old new : JournalView) (e : Entry) → new ≡ longer old e → length new.entries ≤ new.limit → length (e ∷ old.entries) ≤ old.limit
+length-added old new e added within = subst (λ (j : JournalView). length j.entries ≤ j.limit) added within
 
 -- ---- a rule that calls the actor
 
-pub kept-called : (place : Place) (old new : Log) (e : Entry) (after : List Message → ℤ) (gives : Moment → Reply → Type 0) (new_books : Books)
-    (new_tray : Tray) (own_after : List Message → ℤ) (own_gives : Moment → Reply → Type 0) (content : ℤ) (made : List Call) →
-    new ≡ longer old e → Agrees (identity_of place old.limit) (e ∷ old.entries) gives new_books new_tray →
-    Plays (identity_of place old.limit) (e ∷ old.entries) after gives own_after own_gives content made →
-    Agrees (identity_of place new.limit) new.entries gives new_books new_tray
-    × (new.is_ready ≡ true → new_books.is_ready ≡ true)
-    × Plays (identity_of place new.limit) new.entries after gives own_after own_gives content made
-kept-called place old new e after gives new_books new_tray own_after own_gives content made added agrees plays = (
-  at-log (λ limit journal. Agrees (identity_of place limit) journal gives new_books new_tray) old new e added agrees,
-  not_ready old new e (new_books.is_ready ≡ true) added,
-  at-log (λ limit journal. Plays (identity_of place limit) journal after gives own_after own_gives content made) old new e added plays,
+pub kept-called : (place : ActorIdentity) (old new : JournalView) (e : Entry) (after : List Message → ℤ) (gives : Moment → Reply → Type 0) (new_cell_state : CellState)
+    (new_tray : OutboxView) (own_after : List Message → ℤ) (own_gives : Moment → Reply → Type 0) (content : ℤ) (made : List Call) →
+    new ≡ longer old e → Agrees (identity_of place old.limit) (e ∷ old.entries) gives new_cell_state new_tray →
+    FollowsBehaviour (identity_of place old.limit) (e ∷ old.entries) after gives own_after own_gives content made →
+    Agrees (identity_of place new.limit) new.entries gives new_cell_state new_tray
+    × (new.is_ready ≡ true → new_cell_state.is_ready ≡ true)
+    × FollowsBehaviour (identity_of place new.limit) new.entries after gives own_after own_gives content made
+kept-called place old new e after gives new_cell_state new_tray own_after own_gives content made added agrees plays = (
+  at-log (λ limit journal. Agrees (identity_of place limit) journal gives new_cell_state new_tray) old new e added agrees,
+  not_ready old new e (new_cell_state.is_ready ≡ true) added,
+  at-log (λ limit journal. FollowsBehaviour (identity_of place limit) journal after gives own_after own_gives content made) old new e added plays,
 )
 
 -- what holds of the cell's fields where the actor is there
@@ -160,9 +160,9 @@ guardian-now None P Q other m = m
 guardian-now (Some a) P Q other m = absurd (other a refl)
 
 -- an envelope was taken
-pub taken-envelope : (place : Place) (old new : Log) (e : Entry) (envelope : Envelope) (reading : ℕ) (old_acts new_acts : List Act) (now : Seen) →
+pub taken-envelope : (place : ActorIdentity) (old new : JournalView) (e : Entry) (envelope : Envelope) (reading : ℕ) (old_acts new_acts : List Act) (now : CellView) →
     IsOf envelope reading e → new ≡ longer old e →
-    (let seen : Seen = record { who = identity_of place old.limit; journal = old.entries; acts = old_acts; is_ready = old.is_ready } in seen ≡ now) →
+    (let seen : CellView = record { who = identity_of place old.limit; journal = old.entries; acts = old_acts; is_ready = old.is_ready } in seen ≡ now) →
     new_acts ≡ acts (identity_of place old.limit) old.entries e →
     TakesEnvelope now
     (record { who = identity_of place new.limit; journal = new.entries; acts = new_acts; is_ready = new.is_ready }) envelope reading
@@ -176,15 +176,15 @@ taken-envelope place old new e envelope reading old_acts new_acts now of_it adde
 times-le : (p n : ℕ) → p ≤ 64 → (16 + p) * n ≤ 80 * n
 times-le p n few = grind arith
 
-pub record AreShort (books : Books) : Type 0 where
-  pub children : length books.children < 2 ^ 44
-  pub watchers : length books.watchers < 2 ^ 44
-  pub watching : length books.watching < 2 ^ 44
-  pub fanout : books.fanout < 2 ^ 44
+pub record AreShort (cell_state : CellState) : Type 0 where
+  pub children : length cell_state.children < 2 ^ 44
+  pub watchers : length cell_state.watchers < 2 ^ 44
+  pub watching : length cell_state.watching < 2 ^ 44
+  pub fanout : cell_state.fanout < 2 ^ 44
 
-pub lists-short : (who : Identity) (journal : List Entry) (gives : Moment → Reply → Type 0) (books : Books) (tray : Tray) →
-    Agrees who journal gives books tray → AreShort books
-lists-short who journal gives books tray kept =
+pub lists-short : (who : Identity) (journal : List Entry) (gives : Moment → Reply → Type 0) (cell_state : CellState) (tray : OutboxView) →
+    Agrees who journal gives cell_state tray → AreShort cell_state
+lists-short who journal gives cell_state tray kept =
     let few = sizes who gives journal kept.lawful.entries in
     let within = kept.lawful.within_limit in
     let small = kept.small_limit in
@@ -195,8 +195,8 @@ lists-short who journal gives books tray kept =
     let by_watching = few.watching in
     let same_fanout = kept.fanout in
     record {
-      children = omega (arith, ap (λ (b : Books). length b.children) kept.booked);
-      watchers = omega (arith, ap (λ (b : Books). length b.watchers) kept.booked);
-      watching = omega (arith, ap (λ (b : Books). length b.watching) kept.booked);
+      children = omega (arith, ap (λ (b : CellState). length b.children) kept.booked);
+      watchers = omega (arith, ap (λ (b : CellState). length b.watchers) kept.booked);
+      watching = omega (arith, ap (λ (b : CellState). length b.watching) kept.booked);
       fanout = omega arith;
     }

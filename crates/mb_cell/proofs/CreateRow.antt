@@ -7,7 +7,7 @@ use Rattle.mb_msg.specs.declared.supervision.Cause.TheVariants as cause
 use Rattle.mb_msg.specs.declared.system.SysMsg.TheVariants as system
 use Rattle.mb_actor.specs.ActorList.{has}
 use Rattle.mb_actor.specs.Behaviour.{Moment, Reply}
-use Rattle.mb_actor.specs.Tray.{Tray, spawns_of}
+use Rattle.mb_actor.specs.OutboxView.{OutboxView, spawns_of}
 use Rattle.mb_actor.specs.declared.answer.Answer.{Answer}
 use Rattle.mb_actor.specs.declared.call.Call.{Call}
 use Rattle.mb_actor.specs.declared.call.Call.TheVariants.{Start}
@@ -30,10 +30,10 @@ use Rattle.mb_journal.proofs.PhaseLemmas.{not_started}
 use Rattle.mb_journal.proofs.Steps.{passed}
 use Rattle.mb_journal.proofs.TestLemmas.{if_true, if_false}
 use Rattle.mb_cell.specs.Agrees.{Agrees}
-use Rattle.mb_books.specs.BooksRecord.{Books}
-use Rattle.mb_books.specs.Rows.{created, created_guardian, with_effects, taken, failing}
+use Rattle.mb_supervision.specs.CellStateRecord.{CellState}
+use Rattle.mb_supervision.specs.Rows.{created, created_guardian, with_effects, taken, failing}
 use Rattle.mb_cell.proofs.CallingRow.{IsCallingRow}
-use Rattle.mb_cell.proofs.RowLaws.{books_of, open_books, books-after, booked-open}
+use Rattle.mb_cell.proofs.RowLaws.{cell_state_of, open_cell_state, cell_state-after, booked-open}
 use Rattle.mb_cell.proofs.SilentRow.{IsSilentRow, silent}
 
 -- ---- an actor
@@ -56,8 +56,8 @@ module _ (who : Identity) (q : Queries) (number : ℕ) (a : Answer) (effects : L
       ResumeSelf ∷ effect_acts who.this q.watching effects
       ++ (if is_failed (Some a) then fail_acts who q.failed (q.children ++ spawns_of effects) cause.Init [] else [])
 
-  abbrev begun : List ActorId → ℕ → Books
-  begun r f = with_effects who effects (record (taken number (open_books q r [] f true)) {
+  abbrev begun : List ActorId → ℕ → CellState
+  begun r f = with_effects who effects (record (taken number (open_cell_state q r [] f true)) {
     phase = Live;
     count = q.marked - 1;
     acts = ResumeSelf ∷ [];
@@ -103,21 +103,21 @@ module _ (who : Identity) (q : Queries) (number : ℕ) (a : Answer) (effects : L
       by true e = cc
       by false e = cc
 
-  pub create-booked : (r : List ActorId) (f : ℕ) (rd : Bool) (new : Books) → q.failed ≡ Nobody →
-      new ≡ created who (Some a) effects number (open_books q r [] f rd) → new ≡ books_of create_after r create_acts_of f false
+  pub create-booked : (r : List ActorId) (f : ℕ) (rd : Bool) (new : CellState) → q.failed ≡ Nobody →
+      new ≡ created who (Some a) effects number (open_cell_state q r [] f rd) → new ≡ cell_state_of create_after r create_acts_of f false
   create-booked r f rd new nobody is =
-      books-after create_after r create_acts_of f false new still_open (is ∙ by_answer (is_failed (Some a)) r f nobody)
+      cell_state-after create_after r create_acts_of f false new still_open (is ∙ by_answer (is_failed (Some a)) r f nobody)
 
 -- the rule, of a cell
-module _ (who : Identity) (before : List Entry) (gives : Moment → Reply → Type 0) (books : Books) (tray : Tray)
-    (kept : Agrees who before gives books tray) (number : ℕ) (fresh : phase who before ≡ Fresh) (done : books.acts ≡ []) where
+module _ (who : Identity) (before : List Entry) (gives : Moment → Reply → Type 0) (cell_state : CellState) (tray : OutboxView)
+    (kept : Agrees who before gives cell_state tray) (number : ℕ) (fresh : phase who before ≡ Fresh) (done : cell_state.acts ≡ []) where
   not_ended : closed who before ≡ false
   not_ended = ap (λ p. phase_is p Ended) fresh
 
-  as_before : books ≡ open_books (queries who before) books.retries [] books.fanout books.is_ready
+  as_before : cell_state ≡ open_cell_state (queries who before) cell_state.retries [] cell_state.fanout cell_state.is_ready
   as_before =
-      booked-open who before gives books tray kept not_ended
-      ∙ ap (λ (a : List Act). open_books (queries who before) books.retries a books.fanout books.is_ready) done
+      booked-open who before gives cell_state tray kept not_ended
+      ∙ ap (λ (a : List Act). open_cell_state (queries who before) cell_state.retries a cell_state.fanout cell_state.is_ready) done
 
   module _ (an_actor : is_guardian who ≡ false) (a : Answer) (effects : List Effect) (numbered : IsNumbered who before number system.Create) where
     acted : acts who before (create_entry who (queries who before) number a effects) ≡ create_acts_of who (queries who before) number a effects
@@ -125,8 +125,8 @@ module _ (who : Identity) (before : List Entry) (gives : Moment → Reply → Ty
     acted =
         if_true _ _ _ (ap (λ p. phase_is p Fresh) fresh) ∙ if_false _ _ _ an_actor
 
-    pub create-row : (new : Books) → new ≡ created who (Some a) effects number books →
-        IsCallingRow who gives before (create_entry who (queries who before) number a effects) Start (Some a) effects books new
+    pub create-row : (new : CellState) → new ≡ created who (Some a) effects number cell_state →
+        IsCallingRow who gives before (create_entry who (queries who before) number a effects) Start (Some a) effects cell_state new
         (create_after who (queries who before) number a effects)
     create-row new is = record {
       calls_it = call_of-create who before number a effects fresh an_actor;
@@ -140,11 +140,11 @@ module _ (who : Identity) (before : List Entry) (gives : Moment → Reply → Ty
       step =
           create-step who (queries who before) number a effects (not_started who before fresh) fresh an_actor
           (kept.fresh fresh).not_failed;
-      retries = books.retries;
+      retries = cell_state.retries;
       counted = kept.counted;
       acts_of_it = create_acts_of who (queries who before) number a effects;
       booked =
-          create-booked who (queries who before) number a effects books.retries books.fanout books.is_ready new (kept.fresh fresh).not_failed
+          create-booked who (queries who before) number a effects cell_state.retries cell_state.fanout cell_state.is_ready new (kept.fresh fresh).not_failed
           (is ∙ ap (created who (Some a) effects number) as_before);
       acted = acted;
       blank = λ e. absurd (not_fresh_after who (queries who before) number a effects e);
@@ -165,14 +165,14 @@ module _ (who : Identity) (before : List Entry) (gives : Moment → Reply → Ty
     unfolding acts
     acted_guardian = if_true _ _ _ (ap (λ p. phase_is p Fresh) fresh) ∙ if_true _ _ _ guardian
 
-    pub create_guardian-row : (new : Books) → new ≡ created_guardian who number books → IsSilentRow who before number system.Create books new
+    pub create_guardian-row : (new : CellState) → new ≡ created_guardian who number cell_state → IsSilentRow who before number system.Create cell_state new
     create_guardian-row new is = record {
       calls_nothing = if_true _ _ _ guardian;
       after = guardian_after;
       step = create_guardian-step who (queries who before) number (not_started who before fresh) fresh guardian;
       same_unspawned = refl;
       same_messages = λ an_actor. let both : false ≡ true = sym an_actor ∙ guardian in cc;
-      retries = books.retries;
+      retries = cell_state.retries;
       counted = kept.counted;
       acts_of_it = ResumeSelf ∷ to_each system.Create who.prepared;
       booked = is ∙ ap (created_guardian who number) as_before;

@@ -7,7 +7,7 @@ use Rattle.mb_msg.specs.declared.id.ActorId.{ActorId}
 use Rattle.mb_msg.specs.declared.system.SysMsg.TheVariants as system
 use Rattle.mb_actor.specs.ActorList.{has}
 use Rattle.mb_actor.specs.Behaviour.{Moment, Reply}
-use Rattle.mb_actor.specs.Tray.{Tray}
+use Rattle.mb_actor.specs.OutboxView.{OutboxView}
 use Rattle.mb_actor.specs.declared.phase.Phase.TheVariants.{Fresh, Ending}
 use Rattle.mb_journal.specs.ActorList.{without, joined}
 use Rattle.mb_journal.specs.Acts.{Act, acts, end_acts}
@@ -23,17 +23,17 @@ use Rattle.mb_journal.proofs.Fold.{Queries, queries}
 use Rattle.mb_journal.proofs.Steps.{none_passed, passed}
 use Rattle.mb_journal.proofs.TestLemmas.{and-false, if_false}
 use Rattle.mb_cell.specs.Agrees.{Agrees}
-use Rattle.mb_books.specs.BooksRecord.{Books}
-use Rattle.mb_books.specs.Rows.{told_of_death}
-use Rattle.mb_cell.proofs.RowLaws.{books-after, booked-open, not-fresh}
+use Rattle.mb_supervision.specs.CellStateRecord.{CellState}
+use Rattle.mb_supervision.specs.Rows.{told_of_death}
+use Rattle.mb_cell.proofs.RowLaws.{cell_state-after, booked-open, not-fresh}
 use Rattle.mb_cell.proofs.SilentRow.{IsSilentRow, silent, silent-call}
 
 -- it is not set aside, even while the actor ends
 pub died-applied : (who : Identity) (before : List Entry) (x : ActorId) → sets_aside who before (system.Died x) ≡ false
 died-applied who before x = ap (λ b. b || false) (and-false (phase_is (phase who before) Ending))
 
-module _ (who : Identity) (before : List Entry) (gives : Moment → Reply → Type 0) (books : Books) (tray : Tray)
-    (kept : Agrees who before gives books tray) (number : ℕ) (not_ended : closed who before ≡ false)
+module _ (who : Identity) (before : List Entry) (gives : Moment → Reply → Type 0) (cell_state : CellState) (tray : OutboxView)
+    (kept : Agrees who before gives cell_state tray) (number : ℕ) (not_ended : closed who before ≡ false)
     (off_fresh : phase_is (phase who before) Fresh ≡ false) (x : ActorId)
     (not_last : (phase_is (phase who before) Ending && is_alone (children who before) x) ≡ false) where
   abbrev now : Queries
@@ -56,7 +56,7 @@ module _ (who : Identity) (before : List Entry) (gives : Moment → Reply → Ty
       if_false _ _ _ off_fresh
       ∙ ((λ i. notice ++ (if not_last i then end_acts who (watchers before) [] else [])) ∙ append-nil notice)
 
-  pub died-row : (new : Books) → new ≡ told_of_death who x number books → IsSilentRow who before number (system.Died x) books new
+  pub died-row : (new : CellState) → new ≡ told_of_death who x number cell_state → IsSilentRow who before number (system.Died x) cell_state new
   died-row new is = record {
     calls_nothing =
         silent-call who before number (system.Died x) none_passed (died-tests who now number x None [] false not_last) refl refl refl;
@@ -64,12 +64,12 @@ module _ (who : Identity) (before : List Entry) (gives : Moment → Reply → Ty
     step = died-step who now number x None [] not_last;
     same_unspawned = refl;
     same_messages = λ an_actor. refl;
-    retries = books.retries;
+    retries = cell_state.retries;
     counted = kept.counted;
     acts_of_it = notice;
     booked =
-        books-after after books.retries notice books.fanout false new not_ended
-        (is ∙ ap (told_of_death who x number) (booked-open who before gives books tray kept not_ended));
+        cell_state-after after cell_state.retries notice cell_state.fanout false new not_ended
+        (is ∙ ap (told_of_death who x number) (booked-open who before gives cell_state tray kept not_ended));
     acted = died-acts;
     blank = λ fresh. absurd (not-fresh (phase who before) off_fresh fresh);
   }

@@ -1,4 +1,4 @@
--- What the tests of the phase say, of which rule a message follows.
+-- What the tests of the phase say about which rule a message follows.
 use Rattle.std.proofs.Common.{◌≡◌, Bool, true, false, refl}
 use Rattle.std.specs.Prelude.{not}
 use Rattle.mb_actor.specs.declared.phase.Phase.{Phase}

@@ -7,7 +7,7 @@ use Rattle.mb_msg.specs.declared.id.ActorId.{ActorId}
 use Rattle.mb_msg.specs.declared.system.SysMsg.TheVariants as system
 use Rattle.mb_actor.specs.ActorList.{has}
 use Rattle.mb_actor.specs.Behaviour.{Moment, Reply}
-use Rattle.mb_actor.specs.Tray.{Tray}
+use Rattle.mb_actor.specs.OutboxView.{OutboxView}
 use Rattle.mb_actor.specs.declared.call.Call.{Call}
 use Rattle.mb_actor.specs.declared.call.Call.TheVariants.{Stop}
 use Rattle.mb_actor.specs.declared.effect.Effect.{Effect}
@@ -31,10 +31,10 @@ use Rattle.mb_journal.proofs.Steps.{none_passed, passed}
 use Rattle.mb_journal.proofs.TerminateSteps.{terminate_entry, ended-tests, ended-step}
 use Rattle.mb_journal.proofs.TestLemmas.{if_true, if_false, if_same}
 use Rattle.mb_cell.specs.Agrees.{Agrees}
-use Rattle.mb_books.specs.BooksRecord.{Books}
-use Rattle.mb_books.specs.Rows.{ended, ended_at_once, told_of_death}
+use Rattle.mb_supervision.specs.CellStateRecord.{CellState}
+use Rattle.mb_supervision.specs.Rows.{ended, ended_at_once, told_of_death}
 use Rattle.mb_cell.proofs.CallingRow.{IsCallingRow}
-use Rattle.mb_cell.proofs.RowLaws.{books_of, open_books, booked-open, call-by}
+use Rattle.mb_cell.proofs.RowLaws.{cell_state_of, open_cell_state, booked-open, call-by}
 use Rattle.mb_cell.proofs.SilentRow.{IsSilentRow}
 
 -- an actor that neither ends nor ended was not told to end
@@ -49,12 +49,12 @@ pub no_members : (list : List ActorId) → is_empty list ≡ true → list ≡ [
 no_members [] e = refl
 no_members (x ∷ list) e = cc
 
-module _ (who : Identity) (before : List Entry) (gives : Moment → Reply → Type 0) (books : Books) (tray : Tray)
-    (kept : Agrees who before gives books tray) (number : ℕ) (not_ended : closed who before ≡ false) (done : books.acts ≡ []) where
-  as_before : books ≡ open_books (queries who before) books.retries [] books.fanout books.is_ready
+module _ (who : Identity) (before : List Entry) (gives : Moment → Reply → Type 0) (cell_state : CellState) (tray : OutboxView)
+    (kept : Agrees who before gives cell_state tray) (number : ℕ) (not_ended : closed who before ≡ false) (done : cell_state.acts ≡ []) where
+  as_before : cell_state ≡ open_cell_state (queries who before) cell_state.retries [] cell_state.fanout cell_state.is_ready
   as_before =
-      booked-open who before gives books tray kept not_ended
-      ∙ ap (λ (a : List Act). open_books (queries who before) books.retries a books.fanout books.is_ready) done
+      booked-open who before gives cell_state tray kept not_ended
+      ∙ ap (λ (a : List Act). open_cell_state (queries who before) cell_state.retries a cell_state.fanout cell_state.is_ready) done
 
   -- ---- Terminate without children
 
@@ -94,13 +94,13 @@ module _ (who : Identity) (before : List Entry) (gives : Moment → Reply → Ty
         ++ (if alone i then end_acts who (watchers before) effects else SuspendSelf ∷ []))
         ∙ ap (λ list. list ++ end_acts who (watchers before) effects) (append-nil (to_each (system.Unwatch who.this) (watching who before)))))
 
-    booked : (new : Books) → new ≡ ended_at_once who effects number books → new ≡ books_of ended_after books.retries ended_acts books.fanout false
+    booked : (new : CellState) → new ≡ ended_at_once who effects number cell_state → new ≡ cell_state_of ended_after cell_state.retries ended_acts cell_state.fanout false
     booked new is = is ∙ ap (ended_at_once who effects number) as_before
 
     -- the actor's stop is called if it was Live
     pub stop-row : is_guardian who ≡ false → phase who before ≡ Live → IsNumbered who before number system.Terminate →
-        sets_aside who before system.Terminate ≡ false → (new : Books) → new ≡ ended_at_once who effects number books →
-        IsCallingRow who gives before entry Stop None effects books new ended_after
+        sets_aside who before system.Terminate ≡ false → (new : CellState) → new ≡ ended_at_once who effects number cell_state →
+        IsCallingRow who gives before entry Stop None effects cell_state new ended_after
     stop-row an_actor live numbered applied new is =
         let calls : call_of who before entry ≡ Some Stop =
         call-by who before number system.Terminate (Applied None effects) (record none_passed { ending = true; last = true })
@@ -114,7 +114,7 @@ module _ (who : Identity) (before : List Entry) (gives : Moment → Reply → Ty
             subst (λ (c : Option Call). IsGiven who gives before c None effects) (sym calls) given,
           );
           step = ended-step who (queries who before) number None effects unended_now alone;
-          retries = books.retries;
+          retries = cell_state.retries;
           counted = kept.counted;
           acts_of_it = ended_acts;
           booked = booked new is;
@@ -124,8 +124,8 @@ module _ (who : Identity) (before : List Entry) (gives : Moment → Reply → Ty
 
   -- and else nothing is called
   pub ended-row : (off_ending : phase_is (phase who before) Ending ≡ false) → is_empty (children who before) ≡ true →
-      (not (is_guardian who) && phase_is (phase who before) Live) ≡ false → (new : Books) → new ≡ ended_at_once who [] number books →
-      IsSilentRow who before number system.Terminate books new
+      (not (is_guardian who) && phase_is (phase who before) Live) ≡ false → (new : CellState) → new ≡ ended_at_once who [] number cell_state →
+      IsSilentRow who before number system.Terminate cell_state new
   ended-row off_ending alone nothing new is = record {
     calls_nothing =
         call-by who before number system.Terminate (Applied None []) (record none_passed { ending = true; last = true })
@@ -136,7 +136,7 @@ module _ (who : Identity) (before : List Entry) (gives : Moment → Reply → Ty
     step = ended-step who (queries who before) number None [] (unended_now [] off_ending alone) alone;
     same_unspawned = refl;
     same_messages = λ an_actor. refl;
-    retries = books.retries;
+    retries = cell_state.retries;
     counted = kept.counted;
     acts_of_it = ended_acts [] off_ending alone;
     booked = booked [] off_ending alone new is;
@@ -188,8 +188,8 @@ module _ (who : Identity) (before : List Entry) (gives : Moment → Reply → Ty
         off_fresh_by Ending e = refl
         off_fresh_by Ended e = refl
 
-    booked_died : (new : Books) → new ≡ ended who effects (told_of_death who x number books) →
-        new ≡ books_of died_after books.retries died_acts_of books.fanout false
+    booked_died : (new : CellState) → new ≡ ended who effects (told_of_death who x number cell_state) →
+        new ≡ cell_state_of died_after cell_state.retries died_acts_of cell_state.fanout false
     booked_died new is = is ∙ ap (λ b. ended who effects (told_of_death who x number b)) as_before
 
     live_then : was_live who (died ∷ before) ≡ was_live who before
@@ -197,8 +197,8 @@ module _ (who : Identity) (before : List Entry) (gives : Moment → Reply → Ty
     live_then = refl
 
     pub stop_last-row : is_guardian who ≡ false → was_live who before ≡ true → IsNumbered who before number (system.Died x) →
-        sets_aside who before (system.Died x) ≡ false → (new : Books) → new ≡ ended who effects (told_of_death who x number books) →
-        IsCallingRow who gives before died Stop None effects books new died_after
+        sets_aside who before (system.Died x) ≡ false → (new : CellState) → new ≡ ended who effects (told_of_death who x number cell_state) →
+        IsCallingRow who gives before died Stop None effects cell_state new died_after
     stop_last-row an_actor live numbered applied new is =
         let calls : call_of who before died ≡ Some Stop =
         call-by who before number (system.Died x) (Applied None effects) (record none_passed { last = true })
@@ -212,7 +212,7 @@ module _ (who : Identity) (before : List Entry) (gives : Moment → Reply → Ty
             subst (λ (c : Option Call). IsGiven who gives before c None effects) (sym calls) given,
           );
           step = died_last-step who (queries who before) number x None effects last;
-          retries = books.retries;
+          retries = cell_state.retries;
           counted = kept.counted;
           acts_of_it = died_acts_of;
           booked = booked_died new is;
@@ -221,8 +221,8 @@ module _ (who : Identity) (before : List Entry) (gives : Moment → Reply → Ty
         }
 
   pub ended_last-row : (x : ActorId) (last : (phase_is (phase who before) Ending && is_alone (children who before) x) ≡ true) →
-      (not (is_guardian who) && was_live who before) ≡ false → (new : Books) → new ≡ ended who [] (told_of_death who x number books) →
-      IsSilentRow who before number (system.Died x) books new
+      (not (is_guardian who) && was_live who before) ≡ false → (new : CellState) → new ≡ ended who [] (told_of_death who x number cell_state) →
+      IsSilentRow who before number (system.Died x) cell_state new
   ended_last-row x last nothing new is = record {
     calls_nothing =
         call-by who before number (system.Died x) (Applied None []) (record none_passed { last = true })
@@ -233,7 +233,7 @@ module _ (who : Identity) (before : List Entry) (gives : Moment → Reply → Ty
     step = died_last-step who (queries who before) number x None [] last;
     same_unspawned = refl;
     same_messages = λ an_actor. refl;
-    retries = books.retries;
+    retries = cell_state.retries;
     counted = kept.counted;
     acts_of_it = died_acts_of x [] last;
     booked = booked_died x [] last new is;

@@ -3,7 +3,7 @@ use Rattle.std.proofs.Common.{◌≡◌, ℕ, ◌+◌, List, [], ◌∷◌, ◌+
 use Rattle.std.specs.Prelude.{◌||◌, if◌then◌else◌, None}
 use Rattle.mb_msg.specs.declared.system.SysMsg.TheVariants as system
 use Rattle.mb_actor.specs.Behaviour.{Moment, Reply}
-use Rattle.mb_actor.specs.Tray.{Tray}
+use Rattle.mb_actor.specs.OutboxView.{OutboxView}
 use Rattle.mb_actor.specs.declared.phase.Phase.TheVariants.{Fresh, Live, Ending}
 use Rattle.mb_journal.specs.Acts.{Act, acts, terminate_acts, to_each, end_acts}
 use Rattle.mb_journal.specs.Acts.Act.{SuspendSelf}
@@ -20,10 +20,10 @@ use Rattle.mb_journal.proofs.Steps.{none_passed, passed}
 use Rattle.mb_journal.proofs.TerminateSteps.{terminate_entry, ending-tests, ending-step}
 use Rattle.mb_journal.proofs.TestLemmas.{and-false, if_same}
 use Rattle.mb_cell.specs.Agrees.{Agrees}
-use Rattle.mb_books.specs.BooksRecord.{Books}
-use Rattle.mb_books.specs.Rows.{ending}
+use Rattle.mb_supervision.specs.CellStateRecord.{CellState}
+use Rattle.mb_supervision.specs.Rows.{ending}
 use Rattle.mb_cell.proofs.EndRow.{unended}
-use Rattle.mb_cell.proofs.RowLaws.{books-after, booked-open}
+use Rattle.mb_cell.proofs.RowLaws.{cell_state-after, booked-open}
 use Rattle.mb_cell.proofs.SilentRow.{IsSilentRow, silent, silent-call}
 
 -- it is not set aside
@@ -45,8 +45,8 @@ terminate-acts who before number off_ending =
     else (if off_ending i then [] else terminate_acts who before []))
     ∙ if_same (phase_is (phase who before) Fresh) (terminate_acts who before [])
 
-module _ (who : Identity) (before : List Entry) (gives : Moment → Reply → Type 0) (books : Books) (tray : Tray)
-    (kept : Agrees who before gives books tray) (number : ℕ) (not_ended : closed who before ≡ false)
+module _ (who : Identity) (before : List Entry) (gives : Moment → Reply → Type 0) (cell_state : CellState) (tray : OutboxView)
+    (kept : Agrees who before gives cell_state tray) (number : ℕ) (not_ended : closed who before ≡ false)
     (off_ending : phase_is (phase who before) Ending ≡ false) (has_children : is_empty (children who before) ≡ false) where
   abbrev now : Queries
   now = queries who before
@@ -75,7 +75,7 @@ module _ (who : Identity) (before : List Entry) (gives : Moment → Reply → Ty
   not_told : has_ending before ≡ false
   not_told = not-told-to-end who before off_ending not_ended
 
-  pub ending-row : (new : Books) → new ≡ ending who number books → IsSilentRow who before number system.Terminate books new
+  pub ending-row : (new : CellState) → new ≡ ending who number cell_state → IsSilentRow who before number system.Terminate cell_state new
   ending-row new is = record {
     calls_nothing =
         silent-call who before number system.Terminate (record none_passed { ending = true })
@@ -84,12 +84,12 @@ module _ (who : Identity) (before : List Entry) (gives : Moment → Reply → Ty
     step = ending-step who now number None [] not_told has_children not_ended;
     same_unspawned = refl;
     same_messages = λ an_actor. refl;
-    retries = books.retries;
+    retries = cell_state.retries;
     counted = kept.counted;
     acts_of_it = waiting;
     booked =
-        books-after after books.retries waiting books.fanout false new refl
-        (is ∙ ap (ending who number) (booked-open who before gives books tray kept not_ended));
+        cell_state-after after cell_state.retries waiting cell_state.fanout false new refl
+        (is ∙ ap (ending who number) (booked-open who before gives cell_state tray kept not_ended));
     acted = ending-acts;
     blank = λ fresh. cc;
   }

@@ -9,7 +9,7 @@ use Rattle.mb_msg.specs.declared.supervision.Directive.TheVariants as directive
 use Rattle.mb_msg.specs.declared.system.SysMsg.TheVariants as system
 use Rattle.mb_actor.specs.ActorList.{has}
 use Rattle.mb_actor.specs.Behaviour.{Moment, Reply}
-use Rattle.mb_actor.specs.Tray.{Tray}
+use Rattle.mb_actor.specs.OutboxView.{OutboxView}
 use Rattle.mb_actor.specs.declared.phase.Phase.TheVariants.{Fresh}
 use Rattle.mb_journal.specs.Acts.{Act, acts, supervision_acts}
 use Rattle.mb_journal.specs.Entry.{Entry}
@@ -25,14 +25,14 @@ use Rattle.mb_journal.proofs.Fold.{Queries, queries, next_queries, asked_on}
 use Rattle.mb_journal.proofs.Steps.{none_passed, passed}
 use Rattle.mb_journal.proofs.TestLemmas.{and-false, if_true, if_false}
 use Rattle.mb_cell.specs.Agrees.{Agrees}
-use Rattle.mb_books.specs.BooksRecord.{Books}
-use Rattle.mb_books.specs.Requests.{requests_kept}
-use Rattle.mb_books.specs.Rows.{supervised, supervised_by, given_now, asked_now, carried_out_now, taken}
+use Rattle.mb_supervision.specs.CellStateRecord.{CellState}
+use Rattle.mb_supervision.specs.Requests.{requests_kept}
+use Rattle.mb_supervision.specs.Rows.{supervised, supervised_by, given_now, asked_now, carried_out_now, taken}
 use Rattle.mb_cell.proofs.HandledRow.{and-true, both_true, nobody-is}
-use Rattle.mb_cell.proofs.RowLaws.{open_books, books-after, booked-open, not-fresh}
+use Rattle.mb_cell.proofs.RowLaws.{open_cell_state, cell_state-after, booked-open, not-fresh}
 use Rattle.mb_cell.proofs.SilentRow.{IsSilentRow, silent, silent-call}
 
--- ---- what is kept says who is given permission
+-- ---- the state says whose restart is permitted
 
 given-kept : (limit : ℤ) (asked : List ActorId) (y : ActorId) →
     permits limit (times_in (requests_kept limit asked) y + 1) ≡ permits limit (times_in asked y + 1)
@@ -51,7 +51,7 @@ kept-append (pos n) some more = by (nat_lt 0 n)
     by true = refl
     by false = refl
 
--- ---- a failure is passed up if that is decided, whether permission is given or not
+-- ---- a failure is escalated if that is decided, whether a restart is permitted or not
 
 same-escalate : (d : Directive) (all : Bool) → is_escalate (if is_restart_directive d && not all then directive.Stop else d) ≡ is_escalate d
 same-escalate directive.Resume all = refl
@@ -66,8 +66,8 @@ escalate-is directive.Restart e = cc
 escalate-is directive.Stop e = cc
 escalate-is directive.Escalate e = refl
 
-module _ (who : Identity) (before : List Entry) (gives : Moment → Reply → Type 0) (books : Books) (tray : Tray)
-    (kept : Agrees who before gives books tray) (number : ℕ) (not_ended : closed who before ≡ false) (done : books.acts ≡ [])
+module _ (who : Identity) (before : List Entry) (gives : Moment → Reply → Type 0) (cell_state : CellState) (tray : OutboxView)
+    (kept : Agrees who before gives cell_state tray) (number : ℕ) (not_ended : closed who before ≡ false) (done : cell_state.acts ≡ [])
     (off_fresh : phase_is (phase who before) Fresh ≡ false) (x : ActorId) (c : Cause) (child : has (children who before) x ≡ true) where
   abbrev q : Queries
   q = queries who before
@@ -81,7 +81,7 @@ module _ (who : Identity) (before : List Entry) (gives : Moment → Reply → Ty
   abbrev up : Bool
   up = is_nobody q.failed && is_escalate done_about
 
-  -- the queries after it, by whether it is passed up
+  -- the queries after it, by whether it is escalated
   abbrev after_by : Bool → Queries
   after_by fails = record (passed q e) {
     marked = if fails then q.marked + 1 else q.marked;
@@ -105,25 +105,25 @@ module _ (who : Identity) (before : List Entry) (gives : Moment → Reply → Ty
       ∙ ap (λ b. is_nobody q.failed && b)
       (sym (same-escalate (directive_of who c) (list_all (is_given who q.requests) (meant_by who before x))))
 
-  -- ---- the books
+  -- ---- the cell's state
 
-  abbrev given : Books → ActorId → Bool
+  abbrev given : CellState → ActorId → Bool
   given b = given_now who b
 
-  same_given : given books ≡ is_given who q.requests
+  same_given : given cell_state ≡ is_given who q.requests
   same_given =
       λ i y. (ap (λ (r : List ActorId). permits who.retries (times_in r y + 1)) kept.counted ∙ given-kept who.retries q.requests y) i
 
   abbrev asked_of : List ActorId
   asked_of = asked_on who q x c
 
-  abbrev here : Books
-  here = open_books q books.retries [] books.fanout books.is_ready
+  abbrev here : CellState
+  here = open_cell_state q cell_state.retries [] cell_state.fanout cell_state.is_ready
 
-  as_before : books ≡ here
+  as_before : cell_state ≡ here
   as_before =
-      booked-open who before gives books tray kept not_ended
-      ∙ ap (λ (a : List Act). open_books q books.retries a books.fanout books.is_ready) done
+      booked-open who before gives cell_state tray kept not_ended
+      ∙ ap (λ (a : List Act). open_cell_state q cell_state.retries a cell_state.fanout cell_state.is_ready) done
 
   same_asked : asked_now who here x c ≡ asked_of
   same_asked =
@@ -135,9 +135,9 @@ module _ (who : Identity) (before : List Entry) (gives : Moment → Reply → Ty
       else directive_of who c
 
   abbrev retries_after : List ActorId
-  retries_after = books.retries ++ requests_kept who.retries asked_of
+  retries_after = cell_state.retries ++ requests_kept who.retries asked_of
 
-  abbrev begun : Books
+  abbrev begun : CellState
   begun = record (taken number here) { retries = retries_after }
 
   by_directive : (d : Directive) →
@@ -172,17 +172,17 @@ module _ (who : Identity) (before : List Entry) (gives : Moment → Reply → Ty
       }
 
   booked-here : supervised who x c number here
-      ≡ open_books (after_by up) retries_after (supervision_acts who before x c done_about) books.fanout false
+      ≡ open_cell_state (after_by up) retries_after (supervision_acts who before x c done_about) cell_state.fanout false
   booked-here =
       (λ i. supervised_by who x c (same_carried i)
-      (record (taken number here) { retries = books.retries ++ requests_kept who.retries (same_asked i) }))
+      (record (taken number here) { retries = cell_state.retries ++ requests_kept who.retries (same_asked i) }))
       ∙ by_directive done_about
 
   failed-acts : acts who before e ≡ supervision_acts who before x c done_about
   unfolding acts
   failed-acts = if_false _ _ _ off_fresh ∙ if_true _ _ _ child
 
-  pub failed-row : (new : Books) → new ≡ supervised who x c number books → IsSilentRow who before number (system.Failed x c) books new
+  pub failed-row : (new : CellState) → new ≡ supervised who x c number cell_state → IsSilentRow who before number (system.Failed x c) cell_state new
   failed-row new is = record {
     calls_nothing =
         silent-call who before number (system.Failed x c) (record none_passed { failure = up }) (failed-tests who q number x c up same_up)
@@ -196,7 +196,7 @@ module _ (who : Identity) (before : List Entry) (gives : Moment → Reply → Ty
         ap (λ r. r ++ requests_kept who.retries asked_of) kept.counted ∙ kept-append who.retries q.requests asked_of;
     acts_of_it = supervision_acts who before x c done_about;
     booked =
-        books-after (after_by up) retries_after (supervision_acts who before x c done_about) books.fanout false new not_ended
+        cell_state-after (after_by up) retries_after (supervision_acts who before x c done_about) cell_state.fanout false new not_ended
         (is ∙ (ap (supervised who x c number) as_before ∙ booked-here));
     acted = failed-acts;
     blank = λ fresh. absurd (not-fresh (phase who before) off_fresh fresh);

@@ -9,7 +9,7 @@ use Rattle.mb_msg.specs.declared.id.ActorId.{ActorId}
 use Rattle.mb_msg.specs.declared.supervision.Cause.{Cause}
 use Rattle.mb_actor.specs.ActorList.{has}
 use Rattle.mb_actor.specs.Behaviour.{Moment, Reply}
-use Rattle.mb_actor.specs.Tray.{Tray, spawns_of}
+use Rattle.mb_actor.specs.OutboxView.{OutboxView, spawns_of}
 use Rattle.mb_actor.specs.declared.answer.Answer.{Answer}
 use Rattle.mb_actor.specs.declared.call.Call.{Call}
 use Rattle.mb_actor.specs.declared.call.Call.TheVariants.{Receive}
@@ -34,10 +34,10 @@ use Rattle.mb_journal.proofs.EnvelopeSteps.{handled_entry, handled-step, handled
 use Rattle.mb_journal.proofs.Fold.{Queries, queries, next_queries}
 use Rattle.mb_journal.proofs.TestLemmas.{and-false}
 use Rattle.mb_cell.specs.Agrees.{Agrees}
-use Rattle.mb_books.specs.BooksRecord.{Books}
-use Rattle.mb_books.specs.Rows.{handled, failing_if, with_effects, due_told}
+use Rattle.mb_supervision.specs.CellStateRecord.{CellState}
+use Rattle.mb_supervision.specs.Rows.{handled, failing_if, with_effects, due_told}
 use Rattle.mb_cell.proofs.CallingRow.{IsCallingRow}
-use Rattle.mb_cell.proofs.RowLaws.{books_of, open_books, books-after, booked-open}
+use Rattle.mb_cell.proofs.RowLaws.{cell_state_of, open_cell_state, cell_state-after, booked-open}
 
 pub and-true : (b : Bool) → (b && true) ≡ b
 and-true true = refl
@@ -98,8 +98,8 @@ module _ (who : Identity) (q : Queries) (envelope : Envelope) (reading : ℕ) (a
   abbrev pub handled_acts_of : List Act
   handled_acts_of = effect_acts who.this q.watching effects ++ failure_acts_of (failure_of envelope.body a)
 
-  abbrev begun : List ActorId → ℕ → Books
-  begun r f = with_effects who effects (record (open_books q r [] f true) { due = due_told envelope.body q.due; is_ready = false })
+  abbrev begun : List ActorId → ℕ → CellState
+  begun r f = with_effects who effects (record (open_cell_state q r [] f true) { due = due_told envelope.body q.due; is_ready = false })
 
   by_cause : (c : Option Cause) (r : List ActorId) (f : ℕ) →
       failing_if who c (begun r f) ≡ record (begun r f) {
@@ -120,12 +120,12 @@ module _ (who : Identity) (q : Queries) (envelope : Envelope) (reading : ℕ) (a
         acts = effect_acts who.this q.watching effects ++ failure_acts_of (Some c);
       }
 
-  pub handled-booked : (r : List ActorId) (f : ℕ) (rd : Bool) (new : Books) → phase_is q.phase Ended ≡ false →
-      new ≡ handled who envelope.body a effects (open_books q r [] f rd) → new ≡ books_of handled_after r handled_acts_of f false
+  pub handled-booked : (r : List ActorId) (f : ℕ) (rd : Bool) (new : CellState) → phase_is q.phase Ended ≡ false →
+      new ≡ handled who envelope.body a effects (open_cell_state q r [] f rd) → new ≡ cell_state_of handled_after r handled_acts_of f false
   handled-booked r f rd new not_ended is =
-      books-after handled_after r handled_acts_of f false new not_ended
+      cell_state-after handled_after r handled_acts_of f false new not_ended
       (is ∙ by_cause (failure_of envelope.body a) r f
-      ∙ ap (λ (list : List ActorId). record (open_books handled_after r handled_acts_of f false) { due = due_after list effects })
+      ∙ ap (λ (list : List ActorId). record (open_cell_state handled_after r handled_acts_of f false) { due = due_after list effects })
       (sym (told-due envelope reading a effects q.due envelope.body refl)))
 
 -- an envelope but a poison pill has the acts of its effects and of its failure
@@ -151,16 +151,16 @@ not_poison b m calls is =
     cc
 
 -- the rule, of a cell
-module _ (who : Identity) (before : List Entry) (gives : Moment → Reply → Type 0) (books : Books) (tray : Tray)
-    (kept : Agrees who before gives books tray) (done : books.acts ≡ []) (envelope : Envelope) (reading : ℕ) (an_actor : is_guardian who ≡ false)
+module _ (who : Identity) (before : List Entry) (gives : Moment → Reply → Type 0) (cell_state : CellState) (tray : OutboxView)
+    (kept : Agrees who before gives cell_state tray) (done : cell_state.acts ≡ []) (envelope : Envelope) (reading : ℕ) (an_actor : is_guardian who ≡ false)
     (addressed : envelope.to ≡ who.this) (live : phase who before ≡ Live) (open_reading : IsOpen who before reading) where
   pub not_ended : closed who before ≡ false
   not_ended = ap (λ p. phase_is p Ended) live
 
-  pub as_before : books ≡ open_books (queries who before) books.retries [] books.fanout books.is_ready
+  pub as_before : cell_state ≡ open_cell_state (queries who before) cell_state.retries [] cell_state.fanout cell_state.is_ready
   as_before =
-      booked-open who before gives books tray kept not_ended
-      ∙ ap (λ (a : List Act). open_books (queries who before) books.retries a books.fanout books.is_ready) done
+      booked-open who before gives cell_state tray kept not_ended
+      ∙ ap (λ (a : List Act). open_cell_state (queries who before) cell_state.retries a cell_state.fanout cell_state.is_ready) done
 
   pub acted : (a : Option Answer) (effects : List Effect) → (envelope.body ≡ body.PoisonPill → ⊥) →
       acts who before (handled_entry who (queries who before) envelope reading a effects)
@@ -172,9 +172,9 @@ module _ (who : Identity) (before : List Entry) (gives : Moment → Reply → Ty
       (same_failure who before envelope reading a effects (failure_of envelope.body a))
 
   pub receive-row : (message : Message) (a : Answer) (effects : List Effect) → envelope_call envelope.body ≡ Some (Receive message) →
-      IsExpected who before envelope.body → (new : Books) → new ≡ handled who envelope.body (Some a) effects books →
+      IsExpected who before envelope.body → (new : CellState) → new ≡ handled who envelope.body (Some a) effects cell_state →
       IsCallingRow who gives before (handled_entry who (queries who before) envelope reading (Some a) effects) (Receive message) (Some a) effects
-      books new (handled_after who (queries who before) envelope reading (Some a) effects)
+      cell_state new (handled_after who (queries who before) envelope reading (Some a) effects)
   receive-row message a effects calls expected new is = record {
     calls_it = calls;
     answered = refl;
@@ -187,11 +187,11 @@ module _ (who : Identity) (before : List Entry) (gives : Moment → Reply → Ty
       given = subst (λ (c : Option Call). IsGiven who gives before c (Some a) effects) (sym calls) given;
     };
     step = handled-by who (queries who before) envelope reading (Some a) effects an_actor _ refl;
-    retries = books.retries;
+    retries = cell_state.retries;
     counted = kept.counted;
     acts_of_it = handled_acts_of who (queries who before) envelope reading (Some a) effects;
     booked =
-        handled-booked who (queries who before) envelope reading (Some a) effects books.retries books.fanout books.is_ready new not_ended
+        handled-booked who (queries who before) envelope reading (Some a) effects cell_state.retries cell_state.fanout cell_state.is_ready new not_ended
         (is ∙ ap (handled who envelope.body (Some a) effects) as_before);
     acted = acted (Some a) effects (not_poison envelope.body message calls);
     blank = λ e. let both : Live ≡ Fresh = sym live ∙ e in cc;

@@ -2,7 +2,7 @@
 use Rattle.std.proofs.Common.{◌≡◌, ℕ, ◌^◌, ◌<◌, ◌≤◌, ℤ, List, [], length, false, refl, ap, sym, ◌∙◌, subst}
 use Rattle.std.specs.Prelude.{pos, negsuc, nat_lt}
 use Rattle.mb_actor.specs.Behaviour.{Moment, Reply, AllowsSame}
-use Rattle.mb_actor.specs.Tray.{Tray}
+use Rattle.mb_actor.specs.OutboxView.{OutboxView}
 use Rattle.mb_actor.specs.declared.call.Call.{Call}
 use Rattle.mb_actor.specs.declared.message.Message.{Message}
 use Rattle.mb_actor.specs.declared.phase.Phase.TheVariants.{Fresh}
@@ -13,21 +13,21 @@ use Rattle.mb_journal.specs.Identity.{Identity, is_guardian}
 use Rattle.mb_journal.specs.Incarnation.{messages}
 use Rattle.mb_journal.specs.Lawful.{unspawned, was_live}
 use Rattle.mb_journal.specs.Life.{phase, children}
-use Rattle.mb_journal.specs.Log.{Log}
+use Rattle.mb_journal.specs.JournalView.{JournalView}
 use Rattle.mb_journal.specs.Retries.{requests}
 use Rattle.mb_journal.specs.Suspension.{count, marks, pluses, minuses, greatest_net}
 use Rattle.mb_journal.specs.Watching.{watchers, watching, due}
 use Rattle.mb_journal.proofs.LawfulLemmas.{lawful-none, calls-none}
 use Rattle.mb_journal.proofs.TestLemmas.{if_same}
-use Rattle.mb_cell.specs.Agrees.{Agrees, Plays, books_at}
-use Rattle.mb_books.specs.BooksRecord.{Books}
-use Rattle.mb_books.specs.Place.{identity_of}
-use Rattle.mb_books.specs.Requests.{requests_kept}
-use Rattle.mb_books.specs.declared.place.Place.{Place}
+use Rattle.mb_cell.specs.Agrees.{Agrees, FollowsBehaviour, cell_state_at}
+use Rattle.mb_supervision.specs.CellStateRecord.{CellState}
+use Rattle.mb_supervision.specs.ActorIdentity.{identity_of}
+use Rattle.mb_supervision.specs.Requests.{requests_kept}
+use Rattle.mb_supervision.specs.declared.identity.ActorIdentity.{ActorIdentity}
 
--- the books of a cell that nothing came to
-abbrev pub first_books : ℕ → Books
-first_books fanout = record {
+-- the state of a cell to which nothing came
+abbrev pub first_cell_state : ℕ → CellState
+first_cell_state fanout = record {
   phase = Fresh;
   count = 1;
   failed = Nobody;
@@ -43,7 +43,7 @@ first_books fanout = record {
   is_ready = false;
 }
 
-first-at : (who : Identity) (fanout : ℕ) → first_books fanout ≡ books_at who [] [] [] fanout false
+first-at : (who : Identity) (fanout : ℕ) → first_cell_state fanout ≡ cell_state_at who [] [] [] fanout false
 unfolding phase count marks pluses minuses greatest_net failed children watchers watching due aside ever_aside was_live
 first-at who fanout = refl
 
@@ -67,19 +67,19 @@ none-kept : (limit : ℤ) → requests_kept limit [] ≡ []
 none-kept (negsuc n) = refl
 none-kept (pos n) = if_same (nat_lt 0 n) []
 
-pub agrees-new : (place : Place) (log : Log) (limit : ℕ) (gives : Moment → Reply → Type 0) (books : Books) (tray : Tray) →
-    log ≡ record { entries = []; limit = limit; is_ready = false } → books ≡ first_books books.fanout →
-    books.fanout ≡ length place.prepared.items →
+pub agrees-new : (place : ActorIdentity) (log : JournalView) (limit : ℕ) (gives : Moment → Reply → Type 0) (cell_state : CellState) (tray : OutboxView) →
+    log ≡ record { entries = []; limit = limit; is_ready = false } → cell_state ≡ first_cell_state cell_state.fanout →
+    cell_state.fanout ≡ length place.prepared.items →
     tray ≡ record { effects = []; actors = place.actors; unspawned = place.prepared.items } → limit < 2 ^ 32 →
-    length place.prepared.items ≤ 64 → Agrees (identity_of place log.limit) log.entries gives books tray
-agrees-new place log limit gives books tray log_is is fanout_is tray_is small few =
-    subst (λ (l : Log). Agrees (identity_of place l.limit) l.entries gives books tray) (sym log_is) (record {
+    length place.prepared.items ≤ 64 → Agrees (identity_of place log.limit) log.entries gives cell_state tray
+agrees-new place log limit gives cell_state tray log_is is fanout_is tray_is small few =
+    subst (λ (l : JournalView). Agrees (identity_of place l.limit) l.entries gives cell_state tray) (sym log_is) (record {
       lawful = lawful-none (identity_of place limit) gives;
       booked =
           is
-          ∙ (first-at (identity_of place limit) books.fanout
-          ∙ (λ i. books_at (identity_of place limit) [] (ap (λ (b : Books). b.retries) (sym is) i) (ap (λ (b : Books). b.acts) (sym is) i)
-          books.fanout (ap (λ (b : Books). b.is_ready) (sym is) i)));
+          ∙ (first-at (identity_of place limit) cell_state.fanout
+          ∙ (λ i. cell_state_at (identity_of place limit) [] (ap (λ (b : CellState). b.retries) (sym is) i) (ap (λ (b : CellState). b.acts) (sym is) i)
+          cell_state.fanout (ap (λ (b : CellState). b.is_ready) (sym is) i)));
       outbox =
           tray_is
           ∙ ap (λ u. record { effects = []; actors = place.actors; unspawned = u }) (sym (unspawned-none (identity_of place limit)));
@@ -93,18 +93,18 @@ agrees-new place log limit gives books tray log_is is fanout_is tray_is small fe
       few_prepared = few;
       fanout = fanout_is;
       counted =
-          ap (λ (b : Books). b.retries) is
+          ap (λ (b : CellState). b.retries) is
           ∙ (sym (none-kept (identity_of place limit).retries)
           ∙ ap (requests_kept (identity_of place limit).retries) (sym (requests-none (identity_of place limit))));
     })
 
-pub plays-new : (place : Place) (log : Log) (limit : ℕ) (after : List Message → ℤ) (gives : Moment → Reply → Type 0) (own_after : List Message → ℤ)
+pub plays-new : (place : ActorIdentity) (log : JournalView) (limit : ℕ) (after : List Message → ℤ) (gives : Moment → Reply → Type 0) (own_after : List Message → ℤ)
     (own_gives : Moment → Reply → Type 0) (content : ℤ) (made : List Call) →
     log ≡ record { entries = []; limit = limit; is_ready = false } → is_guardian (identity_of place limit) ≡ false → own_after ≡ after →
     AllowsSame own_gives gives → content ≡ own_after [] → made ≡ [] →
-    Plays (identity_of place log.limit) log.entries after gives own_after own_gives content made
+    FollowsBehaviour (identity_of place log.limit) log.entries after gives own_after own_gives content made
 plays-new place log limit after gives own_after own_gives content made log_is an_actor same_after same_gives content_is made_is =
-    subst (λ (l : Log). Plays (identity_of place l.limit) l.entries after gives own_after own_gives content made) (sym log_is) (record {
+    subst (λ (l : JournalView). FollowsBehaviour (identity_of place l.limit) l.entries after gives own_after own_gives content made) (sym log_is) (record {
       no_guardian = an_actor;
       same_after = same_after;
       same_gives = same_gives;

@@ -1,9 +1,9 @@
--- A message that does nothing but that its number is used up.
+-- A system message that changes nothing, but its number is used up.
 use Rattle.std.proofs.Common.{◌≡◌, ℕ, List, [], true, false, refl, ap, ◌∙◌}
 use Rattle.std.specs.Prelude.{if◌then◌else◌, None}
 use Rattle.mb_msg.specs.declared.system.SysMsg.{SysMsg}
 use Rattle.mb_actor.specs.Behaviour.{Moment, Reply}
-use Rattle.mb_actor.specs.Tray.{Tray}
+use Rattle.mb_actor.specs.OutboxView.{OutboxView}
 use Rattle.mb_actor.specs.declared.phase.Phase.TheVariants.{Fresh, Ending}
 use Rattle.mb_journal.specs.Acts.{Act, acts, restart_acts, supervision_acts}
 use Rattle.mb_journal.specs.Entry.{Entry}
@@ -22,41 +22,41 @@ use Rattle.mb_journal.proofs.Steps.{tests_of, none_passed, passed}
 use Rattle.mb_journal.proofs.TerminateSteps.{ending_again-tests, ending_again-step}
 use Rattle.mb_journal.proofs.TestLemmas.{if_true, if_false, if_same}
 use Rattle.mb_cell.specs.Agrees.{Agrees}
-use Rattle.mb_books.specs.BooksRecord.{Books}
+use Rattle.mb_supervision.specs.CellStateRecord.{CellState}
 use Rattle.mb_cell.specs.Nothing.{DoesNothing}
 use Rattle.mb_cell.specs.Nothing.DoesNothing.{started_already, fresh_recreate, fresh_suspend, fresh_resume, fresh_failed, fresh_died}
 use Rattle.mb_cell.specs.Nothing.DoesNothing.{of_guardian, of_no_child, ends_already}
-use Rattle.mb_books.specs.Rows.{passed_by}
-use Rattle.mb_cell.proofs.RowLaws.{open_books, books-after, booked-open, blank-before}
+use Rattle.mb_supervision.specs.Rows.{ignored}
+use Rattle.mb_cell.proofs.RowLaws.{open_cell_state, cell_state-after, booked-open, blank-before}
 use Rattle.mb_cell.proofs.SilentRow.{IsSilentRow, silent, silent-call}
 use Rattle.mb_cell.proofs.StartLemmas.{started-once}
 
-module _ (who : Identity) (before : List Entry) (gives : Moment → Reply → Type 0) (books : Books) (tray : Tray)
-    (kept : Agrees who before gives books tray) (number : ℕ) (not_ended : closed who before ≡ false) (done : books.acts ≡ []) where
+module _ (who : Identity) (before : List Entry) (gives : Moment → Reply → Type 0) (cell_state : CellState) (tray : OutboxView)
+    (kept : Agrees who before gives cell_state tray) (number : ℕ) (not_ended : closed who before ≡ false) (done : cell_state.acts ≡ []) where
   abbrev now : Queries
   now = queries who before
 
-  as_before : books ≡ open_books now books.retries [] books.fanout books.is_ready
+  as_before : cell_state ≡ open_cell_state now cell_state.retries [] cell_state.fanout cell_state.is_ready
   as_before =
-      booked-open who before gives books tray kept not_ended
-      ∙ ap (λ (a : List Act). open_books now books.retries a books.fanout books.is_ready) done
+      booked-open who before gives cell_state tray kept not_ended
+      ∙ ap (λ (a : List Act). open_cell_state now cell_state.retries a cell_state.fanout cell_state.is_ready) done
 
   pub passed-row : (m : SysMsg) → tests_of who now (silent number m) ≡ none_passed →
       next_queries who now (silent number m) ≡ passed now (silent number m) → acts who before (silent number m) ≡ [] →
-      (new : Books) → new ≡ passed_by number books → IsSilentRow who before number m books new
+      (new : CellState) → new ≡ ignored number cell_state → IsSilentRow who before number m cell_state new
   passed-row m tests step no_acts new is = record {
     calls_nothing = silent-call who before number m none_passed tests refl refl refl;
     after = passed now (silent number m);
     step = step;
     same_unspawned = refl;
     same_messages = λ an_actor. refl;
-    retries = books.retries;
+    retries = cell_state.retries;
     counted = kept.counted;
     acts_of_it = [];
     booked =
-        books-after (passed now (silent number m)) books.retries [] books.fanout false new not_ended (is ∙ ap (passed_by number) as_before);
+        cell_state-after (passed now (silent number m)) cell_state.retries [] cell_state.fanout false new not_ended (is ∙ ap (ignored number) as_before);
     acted = no_acts;
-    blank = λ fresh. let here = blank-before who before gives books tray kept fresh in record {
+    blank = λ fresh. let here = blank-before who before gives cell_state tray kept fresh in record {
       no_children = here.no_children;
       none_watched = here.none_watched;
       none_due = here.none_due;
@@ -85,8 +85,8 @@ module _ (who : Identity) (before : List Entry) (gives : Moment → Reply → Ty
   told_to_end : phase who before ≡ Ending → has_ending before ≡ true
   told_to_end is = rw is at (agrees who before).1
 
-  pub nothing-row : (m : SysMsg) → DoesNothing who before m → (new : Books) → new ≡ passed_by number books →
-      IsSilentRow who before number m books new
+  pub nothing-row : (m : SysMsg) → DoesNothing who before m → (new : CellState) → new ≡ ignored number cell_state →
+      IsSilentRow who before number m cell_state new
   nothing-row m (started_already off_fresh) =
       let started = started-once who gives before kept.lawful.entries off_fresh not_ended in
       passed-row m (create_again-tests who now number started) (create_again-step who now number started) (no_acts m (started_already off_fresh))

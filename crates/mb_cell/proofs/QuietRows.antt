@@ -8,7 +8,7 @@ use Rattle.mb_msg.specs.declared.envelope.Envelope.{Envelope}
 use Rattle.mb_msg.specs.declared.system.SysMsg.TheVariants as system
 use Rattle.mb_status.specs.Mailbox.{mailbox_of, is_valid, should_process}
 use Rattle.mb_actor.specs.Behaviour.{Moment, Reply}
-use Rattle.mb_actor.specs.Tray.{Tray}
+use Rattle.mb_actor.specs.OutboxView.{OutboxView}
 use Rattle.mb_actor.specs.declared.phase.Phase.TheVariants.{Fresh, Live}
 use Rattle.mb_journal.specs.Acts.{acts, envelope_acts}
 use Rattle.mb_journal.specs.Acts.Act.{Sys}
@@ -24,17 +24,17 @@ use Rattle.mb_journal.proofs.EnvelopeSteps.{handled_entry, handled-step, dropped
 use Rattle.mb_journal.proofs.Fold.{Queries, queries, next_queries}
 use Rattle.mb_journal.proofs.TestLemmas.{and-false, none_excepted}
 use Rattle.mb_cell.specs.Agrees.{Agrees}
-use Rattle.mb_books.specs.BooksRecord.{Books}
-use Rattle.mb_books.specs.Rows.{handled, poisoned, let_go, due_told}
+use Rattle.mb_supervision.specs.CellStateRecord.{CellState}
+use Rattle.mb_supervision.specs.Rows.{handled, poisoned, discard, due_told}
 use Rattle.mb_cell.proofs.HandledRow.{handled_after, handled_acts_of, handled-by, handled-booked, told-due, acted, as_before, not_ended}
 use Rattle.mb_cell.proofs.QuietEnvelope.{IsQuietEnvelope}
-use Rattle.mb_cell.proofs.RowLaws.{books-after}
+use Rattle.mb_cell.proofs.RowLaws.{cell_state-after}
 
 unsuspended : (word : ℕ) → IsTrue (is_valid word && should_process (mailbox_of word)) → (mailbox_of word).count ≡ 0
 unsuspended word open_word = grind (arith, nat_tests)
 
-module _ (who : Identity) (before : List Entry) (gives : Moment → Reply → Type 0) (books : Books) (tray : Tray)
-    (kept : Agrees who before gives books tray) (done : books.acts ≡ []) (envelope : Envelope) (reading : ℕ) (an_actor : is_guardian who ≡ false)
+module _ (who : Identity) (before : List Entry) (gives : Moment → Reply → Type 0) (cell_state : CellState) (tray : OutboxView)
+    (kept : Agrees who before gives cell_state tray) (done : cell_state.acts ≡ []) (envelope : Envelope) (reading : ℕ) (an_actor : is_guardian who ≡ false)
     (addressed : envelope.to ≡ who.this) (live : phase who before ≡ Live) (open_reading : IsOpen who before reading) where
   abbrev q : Queries
   q = queries who before
@@ -44,8 +44,8 @@ module _ (who : Identity) (before : List Entry) (gives : Moment → Reply → Ty
 
   -- ---- Kill
 
-  pub kill-row : envelope.body ≡ body.Kill → (new : Books) → new ≡ handled who envelope.body None [] books →
-      IsQuietEnvelope who gives before (handled_entry who q envelope reading None []) books new
+  pub kill-row : envelope.body ≡ body.Kill → (new : CellState) → new ≡ handled who envelope.body None [] cell_state →
+      IsQuietEnvelope who gives before (handled_entry who q envelope reading None []) cell_state new
   kill-row is_kill new is = record {
     calls_nothing = ap envelope_call is_kill;
     lawful = record {
@@ -60,16 +60,16 @@ module _ (who : Identity) (before : List Entry) (gives : Moment → Reply → Ty
     step = handled-by who q envelope reading None [] an_actor _ refl;
     same_unspawned = none_excepted q.unspawned;
     same_messages = ap (λ b. q.messages ++ body_messages b) is_kill ∙ append-nil q.messages;
-    retries = books.retries;
+    retries = cell_state.retries;
     counted = kept.counted;
     acts_of_it = handled_acts_of who q envelope reading None [];
     booked =
-        handled-booked who q envelope reading None [] books.retries books.fanout books.is_ready new
-        (not_ended who before gives books tray kept done envelope reading an_actor addressed live open_reading)
+        handled-booked who q envelope reading None [] cell_state.retries cell_state.fanout cell_state.is_ready new
+        (not_ended who before gives cell_state tray kept done envelope reading an_actor addressed live open_reading)
         (is ∙ ap (handled who envelope.body None [])
-        (as_before who before gives books tray kept done envelope reading an_actor addressed live open_reading));
+        (as_before who before gives cell_state tray kept done envelope reading an_actor addressed live open_reading));
     acted =
-        acted who before gives books tray kept done envelope reading an_actor addressed live open_reading None []
+        acted who before gives cell_state tray kept done envelope reading an_actor addressed live open_reading None []
         (λ poison. let both : body.Kill ≡ body.PoisonPill = sym is_kill ∙ poison in cc);
     blank = λ e. absurd (not_blank e);
   }
@@ -92,8 +92,8 @@ module _ (who : Identity) (before : List Entry) (gives : Moment → Reply → Ty
   unfolding acts
   poison-acts is_poison = ap (λ b. envelope_acts who before b None []) is_poison
 
-  pub poison-row : envelope.body ≡ body.PoisonPill → (new : Books) → new ≡ poisoned who books →
-      IsQuietEnvelope who gives before (handled_entry who q envelope reading None []) books new
+  pub poison-row : envelope.body ≡ body.PoisonPill → (new : CellState) → new ≡ poisoned who cell_state →
+      IsQuietEnvelope who gives before (handled_entry who q envelope reading None []) cell_state new
   poison-row is_poison new is = record {
     calls_nothing = ap envelope_call is_poison;
     lawful = record {
@@ -108,13 +108,13 @@ module _ (who : Identity) (before : List Entry) (gives : Moment → Reply → Ty
     step = poison-step is_poison;
     same_unspawned = refl;
     same_messages = refl;
-    retries = books.retries;
+    retries = cell_state.retries;
     counted = kept.counted;
     acts_of_it = Sys who.this system.Terminate ∷ [];
     booked =
-        books-after q books.retries (Sys who.this system.Terminate ∷ []) books.fanout false new
-        (not_ended who before gives books tray kept done envelope reading an_actor addressed live open_reading)
-        (is ∙ ap (poisoned who) (as_before who before gives books tray kept done envelope reading an_actor addressed live open_reading));
+        cell_state-after q cell_state.retries (Sys who.this system.Terminate ∷ []) cell_state.fanout false new
+        (not_ended who before gives cell_state tray kept done envelope reading an_actor addressed live open_reading)
+        (is ∙ ap (poisoned who) (as_before who before gives cell_state tray kept done envelope reading an_actor addressed live open_reading));
     acted = poison-acts is_poison;
     blank = λ e. absurd (not_blank e);
   }
@@ -125,8 +125,8 @@ module _ (who : Identity) (before : List Entry) (gives : Moment → Reply → Ty
   unfolding acts
   drop-acts = refl
 
-  pub drop-row : IsUnexpected who before envelope.body → (new : Books) → new ≡ let_go books →
-      IsQuietEnvelope who gives before (Dropped envelope) books new
+  pub drop-row : IsUnexpected who before envelope.body → (new : CellState) → new ≡ discard cell_state →
+      IsQuietEnvelope who gives before (Dropped envelope) cell_state new
   drop-row unexpected new is = record {
     calls_nothing = refl;
     lawful = record {
@@ -140,13 +140,13 @@ module _ (who : Identity) (before : List Entry) (gives : Moment → Reply → Ty
     step = dropped-step who q envelope;
     same_unspawned = refl;
     same_messages = refl;
-    retries = books.retries;
+    retries = cell_state.retries;
     counted = kept.counted;
     acts_of_it = [];
     booked =
-        books-after q books.retries [] books.fanout false new
-        (not_ended who before gives books tray kept done envelope reading an_actor addressed live open_reading)
-        (is ∙ ap let_go (as_before who before gives books tray kept done envelope reading an_actor addressed live open_reading));
+        cell_state-after q cell_state.retries [] cell_state.fanout false new
+        (not_ended who before gives cell_state tray kept done envelope reading an_actor addressed live open_reading)
+        (is ∙ ap discard (as_before who before gives cell_state tray kept done envelope reading an_actor addressed live open_reading));
     acted = drop-acts;
     blank = λ e. absurd (not_blank e);
   }

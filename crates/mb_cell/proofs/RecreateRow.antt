@@ -1,4 +1,4 @@
--- `Recreate` of an actor that is Live or Broken, and `Resume` of a Broken one: both start it afresh.
+-- `Recreate` of an actor that is Live or Broken, and `Resume` of a Broken one: both restart it.
 use Rattle.std.proofs.Common.{◌≡◌, ℕ, ◌+◌, ◌-◌, List, [], ◌∷◌, ◌++◌, Bool, true, false, refl, ap, sym, ◌∙◌, subst}
 use Rattle.std.specs.Prelude.{not, ◌&&◌, if◌then◌else◌, Option, Some, filter}
 use Rattle.mb_msg.specs.declared.id.ActorId.{ActorId}
@@ -8,7 +8,7 @@ use Rattle.mb_msg.specs.declared.system.SysMsg.{SysMsg}
 use Rattle.mb_msg.specs.declared.system.SysMsg.TheVariants as system
 use Rattle.mb_actor.specs.ActorList.{has}
 use Rattle.mb_actor.specs.Behaviour.{Moment, Reply}
-use Rattle.mb_actor.specs.Tray.{Tray, spawns_of}
+use Rattle.mb_actor.specs.OutboxView.{OutboxView, spawns_of}
 use Rattle.mb_actor.specs.declared.answer.Answer.{Answer}
 use Rattle.mb_actor.specs.declared.call.Call.{Call}
 use Rattle.mb_actor.specs.declared.call.Call.TheVariants.{Restart}
@@ -32,10 +32,10 @@ use Rattle.mb_journal.proofs.Fold.{Queries, queries}
 use Rattle.mb_journal.proofs.Steps.{passed}
 use Rattle.mb_journal.proofs.TestLemmas.{if_true, if_false}
 use Rattle.mb_cell.specs.Agrees.{Agrees}
-use Rattle.mb_books.specs.BooksRecord.{Books}
-use Rattle.mb_books.specs.Rows.{recreated, with_effects, taken, failing}
+use Rattle.mb_supervision.specs.CellStateRecord.{CellState}
+use Rattle.mb_supervision.specs.Rows.{recreated, with_effects, taken, failing}
 use Rattle.mb_cell.proofs.CallingRow.{IsCallingRow}
-use Rattle.mb_cell.proofs.RowLaws.{books_of, open_books, books-after, booked-open, call-by}
+use Rattle.mb_cell.proofs.RowLaws.{cell_state_of, open_cell_state, cell_state-after, booked-open, call-by}
 
 -- what a restart makes of the queries, and its acts
 module _ (who : Identity) (q : Queries) (e : Entry) (c : Cause) (a : Answer) (effects : List Effect) where
@@ -61,8 +61,8 @@ module _ (who : Identity) (q : Queries) (number : ℕ) (m : SysMsg) (c : Cause) 
   abbrev entry : Entry
   entry = System number m (Applied (Some a) effects)
 
-  abbrev begun : List ActorId → ℕ → Books
-  begun r f = with_effects who effects (record (taken number (open_books q r [] f true)) {
+  abbrev begun : List ActorId → ℕ → CellState
+  begun r f = with_effects who effects (record (taken number (open_cell_state q r [] f true)) {
     count = q.marked - 1;
     failed = Nobody;
     acts = ResumeSelf ∷ [];
@@ -97,21 +97,21 @@ module _ (who : Identity) (q : Queries) (number : ℕ) (m : SysMsg) (c : Cause) 
       by true e = cc
       by false e = cc
 
-  pub recreate-booked : (r : List ActorId) (f : ℕ) (rd : Bool) (new : Books) →
-      new ≡ recreated who c (Some a) effects number (open_books q r [] f rd) →
-      new ≡ books_of (recreate_after who q entry c a effects) r (recreate_acts_of who q entry c a effects) f false
+  pub recreate-booked : (r : List ActorId) (f : ℕ) (rd : Bool) (new : CellState) →
+      new ≡ recreated who c (Some a) effects number (open_cell_state q r [] f rd) →
+      new ≡ cell_state_of (recreate_after who q entry c a effects) r (recreate_acts_of who q entry c a effects) f false
   recreate-booked r f rd new is =
-      books-after (recreate_after who q entry c a effects) r (recreate_acts_of who q entry c a effects) f false new still_open
+      cell_state-after (recreate_after who q entry c a effects) r (recreate_acts_of who q entry c a effects) f false new still_open
       (is ∙ by_answer (is_failed (Some a)) r f)
 
 -- the rule, of a cell
-module _ (who : Identity) (before : List Entry) (gives : Moment → Reply → Type 0) (books : Books) (tray : Tray)
-    (kept : Agrees who before gives books tray) (number : ℕ) (not_ended : closed who before ≡ false) (done : books.acts ≡ [])
+module _ (who : Identity) (before : List Entry) (gives : Moment → Reply → Type 0) (cell_state : CellState) (tray : OutboxView)
+    (kept : Agrees who before gives cell_state tray) (number : ℕ) (not_ended : closed who before ≡ false) (done : cell_state.acts ≡ [])
     (an_actor : is_guardian who ≡ false) (a : Answer) (effects : List Effect) where
-  as_before : books ≡ open_books (queries who before) books.retries [] books.fanout books.is_ready
+  as_before : cell_state ≡ open_cell_state (queries who before) cell_state.retries [] cell_state.fanout cell_state.is_ready
   as_before =
-      booked-open who before gives books tray kept not_ended
-      ∙ ap (λ (a : List Act). open_books (queries who before) books.retries a books.fanout books.is_ready) done
+      booked-open who before gives cell_state tray kept not_ended
+      ∙ ap (λ (a : List Act). open_cell_state (queries who before) cell_state.retries a cell_state.fanout cell_state.is_ready) done
 
   lawful : (m : SysMsg) (call : Call) → IsNumbered who before number m → sets_aside who before m ≡ false →
       call_of who before (System number m (Applied (Some a) effects)) ≡ Some call →
@@ -136,19 +136,19 @@ module _ (who : Identity) (before : List Entry) (gives : Moment → Reply → Ty
     unfolding acts
     acted_recreate = if_false _ _ _ off_fresh ∙ if_false _ _ _ an_actor
 
-    pub recreate-row : (new : Books) → new ≡ recreated who c (Some a) effects number books →
-        IsCallingRow who gives before (recreate_entry who (queries who before) number c a effects) (Restart c) (Some a) effects books new
+    pub recreate-row : (new : CellState) → new ≡ recreated who c (Some a) effects number cell_state →
+        IsCallingRow who gives before (recreate_entry who (queries who before) number c a effects) (Restart c) (Some a) effects cell_state new
         (recreate_after who (queries who before) (recreate_entry who (queries who before) number c a effects) c a effects)
     recreate-row new is = record {
       calls_it = calls_recreate;
       answered = refl;
       lawful = lawful (system.Recreate c) (Restart c) numbered applied calls_recreate;
       step = recreate-step who (queries who before) number c a effects off_fresh off_ending not_ended an_actor;
-      retries = books.retries;
+      retries = cell_state.retries;
       counted = kept.counted;
       acts_of_it = recreate_acts_of who (queries who before) (recreate_entry who (queries who before) number c a effects) c a effects;
       booked =
-          recreate-booked who (queries who before) number (system.Recreate c) c a effects books.retries books.fanout books.is_ready new
+          recreate-booked who (queries who before) number (system.Recreate c) c a effects cell_state.retries cell_state.fanout cell_state.is_ready new
           (is ∙ ap (recreated who c (Some a) effects number) as_before);
       acted = acted_recreate;
       blank = λ e. absurd (not_fresh_after who (queries who before) number (system.Recreate c) c a effects e);
@@ -172,21 +172,21 @@ module _ (who : Identity) (before : List Entry) (gives : Moment → Reply → Ty
         ∙ (if_false _ _ _ (ap (λ p. phase_is p Live) broken)
         ∙ if_true _ _ _ (λ i. phase_is (broken i) Broken && not (an_actor i)))
 
-    pub resume_broken-row : (new : Books) → new ≡ recreated who cause.Init (Some a) effects number books →
+    pub resume_broken-row : (new : CellState) → new ≡ recreated who cause.Init (Some a) effects number cell_state →
         IsCallingRow who gives before (resume_broken_entry who (queries who before) number f a effects) (Restart cause.Init) (Some a) effects
-        books new
+        cell_state new
         (recreate_after who (queries who before) (resume_broken_entry who (queries who before) number f a effects) cause.Init a effects)
     resume_broken-row new is = record {
       calls_it = calls_resume;
       answered = refl;
       lawful = lawful (system.Resume f) (Restart cause.Init) numbered applied calls_resume;
       step = resume_broken-step who (queries who before) number f a effects broken an_actor;
-      retries = books.retries;
+      retries = cell_state.retries;
       counted = kept.counted;
       acts_of_it =
           recreate_acts_of who (queries who before) (resume_broken_entry who (queries who before) number f a effects) cause.Init a effects;
       booked =
-          recreate-booked who (queries who before) number (system.Resume f) cause.Init a effects books.retries books.fanout books.is_ready new
+          recreate-booked who (queries who before) number (system.Resume f) cause.Init a effects cell_state.retries cell_state.fanout cell_state.is_ready new
           (is ∙ ap (recreated who cause.Init (Some a) effects number) as_before);
       acted = acted_resume;
       blank = λ e. absurd (not_fresh_after who (queries who before) number (system.Resume f) cause.Init a effects e);

@@ -3,7 +3,7 @@ use Rattle.std.proofs.Common.{◌≡◌, ℕ, ◌-◌, List, ◌∷◌, Bool, tr
 use Rattle.std.specs.Prelude.{◌&&◌, ◌||◌, if◌then◌else◌, map}
 use Rattle.mb_msg.specs.declared.system.SysMsg.TheVariants as system
 use Rattle.mb_actor.specs.Behaviour.{Moment, Reply}
-use Rattle.mb_actor.specs.Tray.{Tray}
+use Rattle.mb_actor.specs.OutboxView.{OutboxView}
 use Rattle.mb_actor.specs.declared.phase.Phase.TheVariants.{Fresh, Live, Ending, Ended}
 use Rattle.mb_journal.specs.Acts.{Act, acts}
 use Rattle.mb_journal.specs.Acts.Act.{Sys, ResumeSelf}
@@ -19,9 +19,9 @@ use Rattle.mb_journal.proofs.ResumeSteps.{resume_entry, resume_tests, resume-tes
 use Rattle.mb_journal.proofs.Steps.{passed}
 use Rattle.mb_journal.proofs.TestLemmas.{if_true, if_false}
 use Rattle.mb_cell.specs.Agrees.{Agrees}
-use Rattle.mb_books.specs.BooksRecord.{Books}
-use Rattle.mb_books.specs.Rows.{resumed}
-use Rattle.mb_cell.proofs.RowLaws.{books-after, booked-open, not-fresh}
+use Rattle.mb_supervision.specs.CellStateRecord.{CellState}
+use Rattle.mb_supervision.specs.Rows.{resumed}
+use Rattle.mb_cell.proofs.RowLaws.{cell_state-after, booked-open, not-fresh}
 use Rattle.mb_cell.proofs.SilentRow.{IsSilentRow, silent, silent-call}
 
 -- it is not set aside
@@ -29,15 +29,15 @@ pub resume-applied : (who : Identity) (before : List Entry) (f : Bool) → phase
     sets_aside who before (system.Resume f) ≡ false
 resume-applied who before f live = ap (λ p. (phase_is p Ending && true) || false) live
 
-module _ (who : Identity) (before : List Entry) (gives : Moment → Reply → Type 0) (books : Books) (tray : Tray)
-    (kept : Agrees who before gives books tray) (number : ℕ) (live : phase who before ≡ Live) (f : Bool) where
+module _ (who : Identity) (before : List Entry) (gives : Moment → Reply → Type 0) (cell_state : CellState) (tray : OutboxView)
+    (kept : Agrees who before gives cell_state tray) (number : ℕ) (live : phase who before ≡ Live) (f : Bool) where
   abbrev now : Queries
   now = queries who before
 
   abbrev after : Queries
   after = record (passed now (resume_entry who now number f)) { marked = now.marked - 1; failed = if f then Nobody else now.failed }
 
-  -- the child whose failure was passed up is told that it is meant
+  -- the child whose failure was escalated is told that the resume is for it
   abbrev resumptions : List Act
   resumptions = ResumeSelf ∷ map (λ x. Sys x (system.Resume (f && is_child now.failed x))) now.children
 
@@ -48,7 +48,7 @@ module _ (who : Identity) (before : List Entry) (gives : Moment → Reply → Ty
   not_ended : closed who before ≡ false
   not_ended = ap (λ p. phase_is p Ended) live
 
-  pub resume-row : (new : Books) → new ≡ resumed f number books → IsSilentRow who before number (system.Resume f) books new
+  pub resume-row : (new : CellState) → new ≡ resumed f number cell_state → IsSilentRow who before number (system.Resume f) cell_state new
   resume-row new is = record {
     calls_nothing =
         silent-call who before number (system.Resume f) (resume_tests who now number f) (resume-tests who now number f live) refl refl refl;
@@ -56,12 +56,12 @@ module _ (who : Identity) (before : List Entry) (gives : Moment → Reply → Ty
     step = resume-step who now number f live;
     same_unspawned = refl;
     same_messages = λ an_actor. refl;
-    retries = books.retries;
+    retries = cell_state.retries;
     counted = kept.counted;
     acts_of_it = resumptions;
     booked =
-        books-after after books.retries resumptions books.fanout false new not_ended
-        (is ∙ ap (resumed f number) (booked-open who before gives books tray kept not_ended));
+        cell_state-after after cell_state.retries resumptions cell_state.fanout false new not_ended
+        (is ∙ ap (resumed f number) (booked-open who before gives cell_state tray kept not_ended));
     acted = resume-acts;
     blank = λ fresh. absurd (not-fresh (phase who before) (ap (λ p. phase_is p Fresh) live) fresh);
   }

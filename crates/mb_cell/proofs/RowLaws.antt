@@ -1,11 +1,11 @@
--- What every rule of the cell rests on: an entry more keeps the books and the journal together, if the rule makes of the books
--- what the entry makes of the queries.
+-- What every rule of the cell uses: the state agrees with the journal after an entry more, if the rule changes the state as
+-- the entry changes the queries.
 use Rattle.std.proofs.Common.{◌≡◌, ℕ, ◌≤◌, List, [], ◌∷◌, length, Bool, true, false, refl, ap, sym, ◌∙◌, subst}
 use Rattle.std.specs.Prelude.{not, ◌&&◌, if◌then◌else◌, Option, Some, None}
 use Rattle.mb_msg.specs.declared.id.ActorId.{ActorId}
 use Rattle.mb_msg.specs.declared.system.SysMsg.{SysMsg}
 use Rattle.mb_actor.specs.Behaviour.{Moment, Reply}
-use Rattle.mb_actor.specs.Tray.{Tray}
+use Rattle.mb_actor.specs.OutboxView.{OutboxView}
 use Rattle.mb_actor.specs.declared.call.Call.{Call}
 use Rattle.mb_actor.specs.declared.call.Call.TheVariants.{Start, Restart, Stop}
 use Rattle.mb_actor.specs.declared.phase.Phase.{Phase}
@@ -25,13 +25,13 @@ use Rattle.mb_journal.proofs.Fold.{Queries, queries, next_queries, queries-fold}
 use Rattle.mb_journal.proofs.LawfulLemmas.{lawful-more}
 use Rattle.mb_journal.proofs.Steps.{Tests, tests_of}
 use Rattle.mb_journal.proofs.TestLemmas.{if_same}
-use Rattle.mb_cell.specs.Agrees.{Agrees, books_at}
-use Rattle.mb_books.specs.BooksRecord.{Books}
-use Rattle.mb_books.specs.Requests.{requests_kept}
+use Rattle.mb_cell.specs.Agrees.{Agrees, cell_state_at}
+use Rattle.mb_supervision.specs.CellStateRecord.{CellState}
+use Rattle.mb_supervision.specs.Requests.{requests_kept}
 
--- the books that these queries say
-abbrev pub books_of : Queries → List ActorId → List Act → ℕ → Bool → Books
-books_of q retries acts fanout is_ready = record {
+-- the state that these queries say
+abbrev pub cell_state_of : Queries → List ActorId → List Act → ℕ → Bool → CellState
+cell_state_of q retries acts fanout is_ready = record {
   phase = q.phase;
   count = if phase_is q.phase Ended then 0 else q.marked;
   failed = q.failed;
@@ -48,39 +48,39 @@ books_of q retries acts fanout is_ready = record {
 }
 
 -- the same of an actor that has not ended
-abbrev pub open_books : Queries → List ActorId → List Act → ℕ → Bool → Books
-open_books q retries acts fanout is_ready = record (books_of q retries acts fanout is_ready) { count = q.marked; aside = q.aside }
+abbrev pub open_cell_state : Queries → List ActorId → List Act → ℕ → Bool → CellState
+open_cell_state q retries acts fanout is_ready = record (cell_state_of q retries acts fanout is_ready) { count = q.marked; aside = q.aside }
 
-pub books-at : (who : Identity) (journal : List Entry) (r : List ActorId) (a : List Act) (f : ℕ) (rd : Bool) →
-    books_at who journal r a f rd ≡ books_of (queries who journal) r a f rd
+pub cell_state-at : (who : Identity) (journal : List Entry) (r : List ActorId) (a : List Act) (f : ℕ) (rd : Bool) →
+    cell_state_at who journal r a f rd ≡ cell_state_of (queries who journal) r a f rd
 unfolding count aside
-books-at who journal r a f rd = refl
+cell_state-at who journal r a f rd = refl
 
-pub books-open : (q : Queries) (r : List ActorId) (a : List Act) (f : ℕ) (rd : Bool) → phase_is q.phase Ended ≡ false →
-    books_of q r a f rd ≡ open_books q r a f rd
-books-open q r a f rd not_ended =
-    λ i. record (books_of q r a f rd) { count = if not_ended i then 0 else q.marked; aside = if not_ended i then [] else q.aside }
+pub cell_state-open : (q : Queries) (r : List ActorId) (a : List Act) (f : ℕ) (rd : Bool) → phase_is q.phase Ended ≡ false →
+    cell_state_of q r a f rd ≡ open_cell_state q r a f rd
+cell_state-open q r a f rd not_ended =
+    λ i. record (cell_state_of q r a f rd) { count = if not_ended i then 0 else q.marked; aside = if not_ended i then [] else q.aside }
 
--- an actor that nothing is known to
+-- an actor that was not started knows nobody
 pub record IsBlank (q : Queries) : Type 0 where
   pub no_children : q.children ≡ []
   pub none_watched : q.watching ≡ []
   pub none_due : q.due ≡ []
   pub not_failed : q.failed ≡ Nobody
 
-module _ (who : Identity) (before : List Entry) (gives : Moment → Reply → Type 0) (books : Books) (tray : Tray)
-    (kept : Agrees who before gives books tray) where
-  -- the books before the entry
-  pub booked : books ≡ books_of (queries who before) books.retries books.acts books.fanout books.is_ready
-  booked = kept.booked ∙ books-at who before books.retries books.acts books.fanout books.is_ready
+module _ (who : Identity) (before : List Entry) (gives : Moment → Reply → Type 0) (cell_state : CellState) (tray : OutboxView)
+    (kept : Agrees who before gives cell_state tray) where
+  -- the state before the entry
+  pub booked : cell_state ≡ cell_state_of (queries who before) cell_state.retries cell_state.acts cell_state.fanout cell_state.is_ready
+  booked = kept.booked ∙ cell_state-at who before cell_state.retries cell_state.acts cell_state.fanout cell_state.is_ready
 
   pub booked-open : closed who before ≡ false →
-      books ≡ open_books (queries who before) books.retries books.acts books.fanout books.is_ready
-  booked-open not_ended = booked ∙ books-open (queries who before) _ _ _ _ not_ended
+      cell_state ≡ open_cell_state (queries who before) cell_state.retries cell_state.acts cell_state.fanout cell_state.is_ready
+  booked-open not_ended = booked ∙ cell_state-open (queries who before) _ _ _ _ not_ended
 
-  pub agrees-more : (e : Entry) (q : Queries) (r : List ActorId) (a : List Act) (rd : Bool) (new : Books) (new_tray : Tray) →
+  pub agrees-more : (e : Entry) (q : Queries) (r : List ActorId) (a : List Act) (rd : Bool) (new : CellState) (new_tray : OutboxView) →
       IsLawfulEntry who gives before e → length (e ∷ before) ≤ who.limit → next_queries who (queries who before) e ≡ q →
-      new ≡ books_of q r a books.fanout rd →
+      new ≡ cell_state_of q r a cell_state.fanout rd →
       new_tray ≡ record { effects = []; actors = who.actors; unspawned = q.unspawned } → (q.phase ≡ Fresh → IsBlank q) →
       r ≡ requests_kept who.retries q.requests → Agrees who (e ∷ before) gives new new_tray
   agrees-more e q r a rd new new_tray lawful within step is tray_is blank counted =
@@ -89,9 +89,9 @@ module _ (who : Identity) (before : List Entry) (gives : Moment → Reply → Ty
         lawful = lawful-more who gives before e kept.lawful lawful within;
         booked =
             is
-            ∙ ((λ i. books_of (sym all i) (ap (λ (b : Books). b.retries) (sym is) i) (ap (λ (b : Books). b.acts) (sym is) i)
-            (ap (λ (b : Books). b.fanout) (sym is) i) (ap (λ (b : Books). b.is_ready) (sym is) i))
-            ∙ sym (books-at who (e ∷ before) new.retries new.acts new.fanout new.is_ready));
+            ∙ ((λ i. cell_state_of (sym all i) (ap (λ (b : CellState). b.retries) (sym is) i) (ap (λ (b : CellState). b.acts) (sym is) i)
+            (ap (λ (b : CellState). b.fanout) (sym is) i) (ap (λ (b : CellState). b.is_ready) (sym is) i))
+            ∙ sym (cell_state-at who (e ∷ before) new.retries new.acts new.fanout new.is_ready));
         outbox = tray_is ∙ ap (λ (r : Queries). record { effects = []; actors = who.actors; unspawned = r.unspawned }) (sym all);
         fresh = λ is_fresh.
             let here = blank (ap (λ (r : Queries). r.phase) (sym all) ∙ is_fresh) in
@@ -103,9 +103,9 @@ module _ (who : Identity) (before : List Entry) (gives : Moment → Reply → Ty
             };
         small_limit = kept.small_limit;
         few_prepared = kept.few_prepared;
-        fanout = ap (λ (b : Books). b.fanout) is ∙ kept.fanout;
+        fanout = ap (λ (b : CellState). b.fanout) is ∙ kept.fanout;
         counted =
-            ap (λ (b : Books). b.retries) is ∙ counted ∙ ap (λ (s : Queries). requests_kept who.retries s.requests) (sym all);
+            ap (λ (b : CellState). b.retries) is ∙ counted ∙ ap (λ (s : Queries). requests_kept who.retries s.requests) (sym all);
       }
 
   pub blank-before : (queries who before).phase ≡ Fresh → IsBlank (queries who before)
@@ -158,7 +158,7 @@ no_call who t m live a b c =
 pub not-fresh : (p : Phase) → phase_is p Fresh ≡ false → p ≡ Fresh → ⊥
 not-fresh p other is_fresh = let here : phase_is p Fresh ≡ true = ap (λ r. phase_is r Fresh) is_fresh in cc
 
--- a rule that leaves an actor open, whose books it changes so
-pub books-after : (q : Queries) (r : List ActorId) (a : List Act) (f : ℕ) (rd : Bool) (new : Books) → phase_is q.phase Ended ≡ false →
-    new ≡ open_books q r a f rd → new ≡ books_of q r a f rd
-books-after q r a f rd new not_ended is = is ∙ sym (books-open q r a f rd not_ended)
+-- a rule that leaves an actor open, and changes its state so
+pub cell_state-after : (q : Queries) (r : List ActorId) (a : List Act) (f : ℕ) (rd : Bool) (new : CellState) → phase_is q.phase Ended ≡ false →
+    new ≡ open_cell_state q r a f rd → new ≡ cell_state_of q r a f rd
+cell_state-after q r a f rd new not_ended is = is ∙ sym (cell_state-open q r a f rd not_ended)

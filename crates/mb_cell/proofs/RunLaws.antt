@@ -9,23 +9,23 @@ use Rattle.mb_journal.specs.Entry.Entry.{Handled, System, Dropped}
 use Rattle.mb_journal.specs.Run.{IsBlock, IsTurns, IsOfEnvelope}
 use Rattle.mb_journal.specs.Run.IsBlock.{no_more, one_more}
 use Rattle.mb_journal.specs.Run.IsTurns.{a_turn}
-use Rattle.mb_cell.specs.Seen.{Seen, TakesSystem, TakesEnvelope, IsOf}
+use Rattle.mb_cell.specs.CellView.{CellView, TakesSystem, TakesEnvelope, IsOf}
 
--- a system message more: the one that is put in front, where one is
-pub block-more : (from : List Entry) (old new : Seen) (number : ℕ) (m : SysMsg) → TakesSystem old new number m →
+-- a system message more: the one that was set aside and is due, where one is
+pub block-more : (from : List Entry) (old new : CellView) (number : ℕ) (m : SysMsg) → TakesSystem old new number m →
     IfSome (next_front old.who old.journal) (λ front. front ≡ (number, m)) → IsBlock old.who from old.journal →
     IsBlock old.who from new.journal
 block-more from old new number m took due block =
-    subst (λ (s : Seen). IsBlock old.who from s.journal) (sym took.adds) (one_more old.journal number m took.outcome block due)
+    subst (λ (s : CellView). IsBlock old.who from s.journal) (sym took.adds) (one_more old.journal number m took.outcome block due)
 
 of_envelope : (e : Entry) (envelope : Envelope) (reading : ℕ) → IsOf envelope reading e → IsOfEnvelope e
 of_envelope (Handled other r outcome) envelope reading of_it = tt
 of_envelope (System number m outcome) envelope reading of_it = absurd of_it
 of_envelope (Dropped other) envelope reading of_it = tt
 
--- an envelope more, where nothing is put in front
-pub turn-more : (from : List Entry) (n : ℕ) (old new : Seen) (envelope : Envelope) (reading : ℕ) → TakesEnvelope old new envelope reading →
+-- an envelope more, where no message that was set aside is due
+pub turn-more : (from : List Entry) (n : ℕ) (old new : CellView) (envelope : Envelope) (reading : ℕ) → TakesEnvelope old new envelope reading →
     next_front old.who old.journal ≡ None → IsTurns old.who from n old.journal → IsTurns old.who from (suc n) new.journal
 turn-more from n old new envelope reading took none turns =
-    subst (λ (s : Seen). IsTurns old.who from (suc n) s.journal) (sym took.adds)
+    subst (λ (s : CellView). IsTurns old.who from (suc n) s.journal) (sym took.adds)
     (a_turn n old.journal (took.entry ∷ old.journal) took.entry turns none (of_envelope took.entry envelope reading took.of_it) no_more)

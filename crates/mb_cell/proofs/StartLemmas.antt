@@ -4,7 +4,7 @@ use Rattle.std.specs.Prelude.{not, ◌&&◌, ◌||◌, if◌then◌else◌, Opti
 use Rattle.mb_msg.specs.declared.system.SysMsg.{SysMsg}
 use Rattle.mb_msg.specs.declared.system.SysMsg.TheVariants as system
 use Rattle.mb_actor.specs.Behaviour.{Moment, Reply}
-use Rattle.mb_actor.specs.Tray.{spawns_of}
+use Rattle.mb_actor.specs.OutboxView.{spawns_of}
 use Rattle.mb_actor.specs.declared.answer.Answer.{Answer}
 use Rattle.mb_actor.specs.declared.call.Call.TheVariants.{Start, Restart, Stop}
 use Rattle.mb_actor.specs.declared.effect.Effect.{Effect}

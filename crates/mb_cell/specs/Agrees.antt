@@ -3,7 +3,7 @@ use Rattle.std.specs.Prelude.{◌≡◌, ℕ, ◌^◌, ◌<◌, ◌≤◌, ℤ, 
 use Rattle.mb_msg.specs.Limits.{most_actors}
 use Rattle.mb_msg.specs.declared.id.ActorId.{ActorId}
 use Rattle.mb_actor.specs.Behaviour.{Moment, Reply, AllowsSame}
-use Rattle.mb_actor.specs.Tray.{Tray}
+use Rattle.mb_actor.specs.OutboxView.{OutboxView}
 use Rattle.mb_actor.specs.declared.call.Call.{Call}
 use Rattle.mb_actor.specs.declared.message.Message.{Message}
 use Rattle.mb_actor.specs.declared.phase.Phase.TheVariants.{Fresh}
@@ -19,12 +19,12 @@ use Rattle.mb_journal.specs.Life.{phase, children}
 use Rattle.mb_journal.specs.Retries.{requests}
 use Rattle.mb_journal.specs.Suspension.{count}
 use Rattle.mb_journal.specs.Watching.{watchers, watching, due}
-use Rattle.mb_books.specs.BooksRecord.{Books}
-use Rattle.mb_books.specs.Requests.{requests_kept}
+use Rattle.mb_supervision.specs.CellStateRecord.{CellState}
+use Rattle.mb_supervision.specs.Requests.{requests_kept}
 
--- the books that a journal says, with these acts
-abbrev pub books_at : Identity → List Entry → List ActorId → List Act → ℕ → Bool → Books
-books_at who journal retries acts fanout is_ready = record {
+-- the cell's state that a journal says, with these acts
+abbrev pub cell_state_at : Identity → List Entry → List ActorId → List Act → ℕ → Bool → CellState
+cell_state_at who journal retries acts fanout is_ready = record {
   phase = phase who journal;
   count = count who journal;
   failed = failed who journal;
@@ -40,29 +40,29 @@ books_at who journal retries acts fanout is_ready = record {
   is_ready = is_ready;
 }
 
--- nothing is known to an actor that was not started: it has no children and watches nobody, and it has not failed
+-- an actor that was not started has no children, watches nobody and has not failed
 pub record IsUntouched (who : Identity) (journal : List Entry) : Type 0 where
   pub no_children : children who journal ≡ []
   pub none_watched : watching who journal ≡ []
   pub none_due : due who journal ≡ []
   pub not_failed : failed who journal ≡ Nobody
 
--- the journal is one that the actor can have, the books are what the journal says, and the outbox is as the next call is to
--- find it: empty, with the children that are left to spawn (`akka.actor.ActorCell` keeps such fields; that they are queries of
+-- the journal is one that the actor can have, the state is what the journal says, and the outbox is ready for the next
+-- call: empty, with the children that are left to spawn (`akka.actor.ActorCell` keeps such fields; that they are queries of
 -- a journal is this project's own profile)
-pub record Agrees (who : Identity) (journal : List Entry) (gives : Moment → Reply → Type 0) (books : Books) (tray : Tray) : Type 0 where
+pub record Agrees (who : Identity) (journal : List Entry) (gives : Moment → Reply → Type 0) (cell_state : CellState) (tray : OutboxView) : Type 0 where
   pub lawful : IsLawful who gives journal
-  pub booked : books ≡ books_at who journal books.retries books.acts books.fanout books.is_ready
+  pub booked : cell_state ≡ cell_state_at who journal cell_state.retries cell_state.acts cell_state.fanout cell_state.is_ready
   pub outbox : tray ≡ record { effects = []; actors = who.actors; unspawned = unspawned who journal }
   pub fresh : phase who journal ≡ Fresh → IsUntouched who journal
   pub small_limit : who.limit < 2 ^ 32
   pub few_prepared : length who.prepared ≤ most_actors
-  pub fanout : books.fanout ≡ length who.prepared
-  pub counted : books.retries ≡ requests_kept who.retries (requests who journal)
+  pub fanout : cell_state.fanout ≡ length who.prepared
+  pub counted : cell_state.retries ≡ requests_kept who.retries (requests who journal)
 
 -- the actor behaves as that of its number, its content is that of the messages since it last began, and the calls that were
 -- made of it are those that the journal records
-pub record Plays (who : Identity) (journal : List Entry) (after : List Message → ℤ) (gives : Moment → Reply → Type 0)
+pub record FollowsBehaviour (who : Identity) (journal : List Entry) (after : List Message → ℤ) (gives : Moment → Reply → Type 0)
     (own_after : List Message → ℤ) (own_gives : Moment → Reply → Type 0) (content : ℤ) (made : List Call) : Type 0 where
   pub no_guardian : is_guardian who ≡ false
   pub same_after : own_after ≡ after

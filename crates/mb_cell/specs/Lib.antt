@@ -1,4 +1,4 @@
 pub mod Agrees
 pub mod MayHandle
 pub mod Nothing
-pub mod Seen
+pub mod CellView

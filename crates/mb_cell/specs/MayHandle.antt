@@ -5,11 +5,11 @@ use Rattle.mb_actor.specs.declared.phase.Phase.TheVariants.{Live}
 use Rattle.mb_journal.specs.Identity.{is_guardian}
 use Rattle.mb_journal.specs.Life.{phase}
 use Rattle.mb_journal.specs.Reading.{IsOpen}
-use Rattle.mb_cell.specs.Seen.{Seen}
+use Rattle.mb_cell.specs.CellView.{CellView}
 
--- there is room, nothing is left to be carried out, and the envelope is addressed to the cell's actor, which is Live, and no
--- guardian, at an open reading of its status word (`akka.dispatch.Mailbox.processMailbox`)
-pub record MayHandle (cell : Seen) (envelope : Envelope) (reading : ℕ) : Type 0 where
+-- there is room, no act is left, the envelope is to the cell's actor, the actor is Live and not the guardian, and the
+-- status word that was read was open (`akka.dispatch.Mailbox.processMailbox`)
+pub record MayHandle (cell : CellView) (envelope : Envelope) (reading : ℕ) : Type 0 where
   pub ready : IsTrue cell.is_ready
   pub carried_out : cell.acts ≡ []
   pub an_actor : is_guardian cell.who ≡ false

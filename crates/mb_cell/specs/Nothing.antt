@@ -11,9 +11,9 @@ use Rattle.mb_journal.specs.Identity.{Identity, is_guardian}
 use Rattle.mb_journal.specs.Life.{phase, children}
 use Rattle.mb_journal.specs.Phase.{phase_is}
 
--- a Create of an actor that was started; all but a Create, a Terminate and who watches it to an actor that was never started; a
--- Recreate of the guardian; a Failed of one that is no child; and a Terminate of an actor that ends already
--- (`FaultHandling.terminate`, `handleFailure`; the others are this project's own profile)
+-- a Create of an actor that was started; to an actor that was never started all but a Create, a Terminate, a Watch and an
+-- Unwatch; a Recreate of the guardian; a Failed of an actor that is no child; and a Terminate of an actor that is ending
+-- already (`FaultHandling.terminate`, `handleFailure`; the others are this project's own profile)
 pub data DoesNothing (who : Identity) (before : List Entry) : SysMsg → Type 0 where
   started_already : phase_is (phase who before) Fresh ≡ false → DoesNothing who before system.Create
   fresh_recreate : (c : Cause) → phase who before ≡ Fresh → DoesNothing who before (system.Recreate c)

@@ -1,3 +1,4 @@
+//! The cell: what it holds and what it shows.
 ghost use Rattle.std.specs.Prelude.{◌≡◌, ◌≢◌, ◌↔◌, ◌<◌, ◌≤◌, [], ◌++◌, length, map, option_to_list, true, false};
 ghost use Rattle.std.specs.Prelude.{IsTrue, IsSome, IsOk, IsErrOf, OnOk, OnErr, IfNone, IfSome, MatchOption, not, is_some};
 ghost use Rattle.std.specs.List.{All};
@@ -9,9 +10,11 @@ ghost use Rattle.mb_journal.specs.Incarnation.{messages};
 ghost use Rattle.mb_journal.specs.Lawful.{IsLawful};
 ghost use Rattle.mb_journal.specs.Life.{phase as phase_of};
 ghost use Rattle.mb_journal.specs.Suspension.{count as count_of};
-ghost use Rattle.mb_books.specs.ActQueue.{act_of};
+ghost use Rattle.mb_supervision.specs.ActQueue.{act_of};
 
 mod apply;
+mod auto_receive;
+pub(crate) mod cell_parts;
 mod create;
 mod died;
 mod dispatch;
@@ -21,8 +24,6 @@ mod failed;
 mod front;
 mod handle;
 mod nothing;
-pub(crate) mod parts;
-mod quiet;
 mod recreate;
 mod resume;
 mod set_aside;
@@ -31,26 +32,26 @@ mod suspend;
 mod unwatch;
 mod watch;
 
-use mb_actor::{Actor, Behaviours, Called, Outbox, Phase};
-use mb_books::{Act, Books, Place};
-use mb_journal::{Journal, ReadyError, Strategy};
-use mb_msg::{ActorId, SysMsg};
+use mb_actor::{Actor, Behaviours, Outbox, Phase, RecordedActor};
+use mb_journal::{Journal, ReadyError};
+use mb_msg::{ActorId, Strategy, SysMsg};
+use mb_supervision::{Act, ActorIdentity, CellState};
 use std::alloc::Global;
 use std::marker::{Model, PhantomData};
 
 /// An actor with its journal, or the guardian, which has no actor.
 ///
-/// The fields beside the journal are what it says, changed in place.
+/// The other fields are what the journal says, changed in place.
 pub struct Cell<A: Actor, K: Behaviours> {
-    place: Place,
-    actor: Option<Called<A>>,
+    place: ActorIdentity,
+    actor: Option<RecordedActor<A>>,
     outbox: Outbox,
     journal: Journal,
-    books: Books,
+    cell_state: CellState,
     behaviours: PhantomData<K>,
 }
 
-// Written out: of a derived `Drop` each crate above would prove again how all that is inside is let go.
+// `Drop` is written by hand: with a derived one, each crate above would prove again how the fields are dropped.
 impl<A: Actor, K: Behaviours> Drop for Cell<A, K> {
     fn drop(self) {
         let Cell {
@@ -58,7 +59,7 @@ impl<A: Actor, K: Behaviours> Drop for Cell<A, K> {
             actor: _,
             outbox: _,
             journal: _,
-            books: _,
+            cell_state: _,
             behaviours: _,
         } = self;
     }
@@ -66,33 +67,33 @@ impl<A: Actor, K: Behaviours> Drop for Cell<A, K> {
 
 impl<A: Actor, K: Behaviours> Model for Cell<A, K> {
     ghost use Rattle.std.specs.Prelude.{◌≡◌, true, MatchOption};
-    ghost use Rattle.mb_cell.specs.Seen.{Seen};
+    ghost use Rattle.mb_cell.specs.CellView.{CellView};
 
-    ghost Value = { Seen };
+    ghost Value = { CellView };
 
     ghost use Rattle.mb_journal.specs.Identity.{is_guardian};
-    ghost use Rattle.mb_cell.specs.Agrees.{Agrees, Plays};
-    ghost use Rattle.mb_books.specs.Place.{identity_of};
+    ghost use Rattle.mb_cell.specs.Agrees.{Agrees, FollowsBehaviour};
+    ghost use Rattle.mb_supervision.specs.ActorIdentity.{identity_of};
 
     ghost view = { λ c. record {
       who = identity_of c.place c.journal.limit;
       journal = c.journal.entries;
-      acts = c.books.acts;
+      acts = c.cell_state.acts;
       is_ready = c.journal.is_ready;
     } };
 
     ghost invariant = { λ c.
-        Agrees (identity_of c.place c.journal.limit) c.journal.entries (K.gives c.place.this.0) c.books c.outbox
-        × (c.journal.is_ready ≡ true → c.books.is_ready ≡ true)
+        Agrees (identity_of c.place c.journal.limit) c.journal.entries (K.gives c.place.this.0) c.cell_state c.outbox
+        × (c.journal.is_ready ≡ true → c.cell_state.is_ready ≡ true)
         × MatchOption c.actor (is_guardian (identity_of c.place c.journal.limit) ≡ true)
-        (λ a. Plays (identity_of c.place c.journal.limit) c.journal.entries (K.after c.place.this.0) (K.gives c.place.this.0)
+        (λ a. FollowsBehaviour (identity_of c.place c.journal.limit) c.journal.entries (K.after c.place.this.0) (K.gives c.place.this.0)
         (A.after a.actor) (A.gives a.actor) (A.content a.actor) a.calls) };
 }
 
 impl<A: Actor, K: Behaviours> Cell<A, K> {
-    /// The cell of an actor that is not started yet, or of the guardian, which alone has no parent and no actor. `actors`
-    /// is how many actors there are, `prepared` are the children that it may start, in order, and its journal may have
-    /// `journal_limit` entries. It takes no memory yet.
+    /// The cell of an actor that is not started yet, or of the guardian, which alone has no parent and no actor.
+    /// `actors` is how many actors there are, `prepared` are the children that it may start, in order, and its journal
+    /// may have `journal_limit` entries. This takes no memory.
     pub fn new(
         alloc: Global,
         this: ActorId,
@@ -127,8 +128,8 @@ impl<A: Actor, K: Behaviours> Cell<A, K> {
         ensures lawful { IsLawful result.who (K.gives this.0) result.journal }
     {
         let outbox = Outbox::new(actors, &prepared);
-        let books = Books::new(alloc, prepared.len());
-        let place = Place {
+        let cell_state = CellState::new(alloc, prepared.len());
+        let place = ActorIdentity {
             this,
             parent,
             actors,
@@ -142,21 +143,21 @@ impl<A: Actor, K: Behaviours> Cell<A, K> {
                 actor: None,
                 outbox,
                 journal,
-                books,
+                cell_state,
                 behaviours: PhantomData,
             };
         };
         Cell {
             place,
-            actor: Some(Called::new(actor)),
+            actor: Some(RecordedActor::new(actor)),
             outbox,
             journal,
-            books,
+            cell_state,
             behaviours: PhantomData,
         }
     }
 
-    /// Makes room for one message: for its entry, its effects, its acts and what it adds to the actor's lists.
+    /// Makes room for one message: for its entry, its effects, its acts and what it adds to the cell's lists.
     ///
     /// It answers `JournalFull` if the journal has as many entries as it may have, and else `NoMemory` if memory was
     /// refused. Nothing has changed then.
@@ -169,19 +170,19 @@ impl<A: Actor, K: Behaviours> Cell<A, K> {
         if self.journal.is_full() {
             return Err(ReadyError::JournalFull);
         }
-        if self.books.make_room().is_err() {
+        if self.cell_state.make_room().is_err() {
             return Err(ReadyError::NoMemory);
         }
         self.journal.ready()
     }
 
-    /// Takes out the next act that is to be carried out, the earliest first; `None` if none is left. It takes no memory.
+    /// Takes out the earliest act that is still to be carried out; `None` if there is none. This takes no memory.
     pub fn next_act(&mut self) -> Option<Act>
         ensures taken { self.old.acts ≡ map act_of (option_to_list result) ++ self.new.acts }
         ensures none { IfNone result (self.old.acts ≡ []) }
         ensures rest { self.new ≡ record self.old { acts = self.new.acts } }
     {
-        self.books.next_act()
+        self.cell_state.next_act()
     }
 
     /// What came to the actor, and what became of it.
@@ -200,7 +201,7 @@ impl<A: Actor, K: Behaviours> Cell<A, K> {
     pub fn aside(&self) -> &[(u64, SysMsg)]
         ensures { result.now ≡ aside_of self.now.who self.now.journal }
     {
-        self.books.aside()
+        self.cell_state.aside()
     }
 
     /// The actor's parent; the guardian has none (`akka.actor.ActorContext.parent`).
@@ -210,18 +211,18 @@ impl<A: Actor, K: Behaviours> Cell<A, K> {
         self.place.parent
     }
 
-    /// Where the actor stands in its life.
+    /// The phase of the actor's life.
     pub fn phase(&self) -> Phase
         ensures { result ≡ phase_of self.now.who self.now.journal }
     {
-        self.books.phase()
+        self.cell_state.phase()
     }
 
     /// How often the actor's mailbox is suspended: once until it is started.
     pub fn count(&self) -> u64
         ensures { result ≡ count_of self.now.who self.now.journal }
     {
-        self.books.count()
+        self.cell_state.count()
     }
 
     /// The actor's content as one number; `None` for the guardian, which has no actor.

@@ -1,11 +1,11 @@
 //! A cell with 62 children and 63 watchers: whatever comes to it, the room that `ready` made is enough.
 
-use crate::story::each_case;
+use crate::tables::each_case;
 use crate::words::{first_word, number};
 use std::alloc::{AllocError, Global};
 use std::test::Fail;
 
-/// What stands in brackets is said of each child from the number on that begins it, which stands for `#`.
+/// A text in brackets is repeated for each child from the number on with which it begins; `#` is the child's number.
 const CROWDS: &str = "
 It starts each child, and is watched by it and by its parent. All are suspended and resumed, and fail with their parent, which is
 restarted. Then it watches them all, and ends after the last of them: it tells its parent and all who watch it.
@@ -39,7 +39,7 @@ failed 2 error 1 | none | 2: recreate error 1[3 , #: suspend, #: recreate error 
 /// The first number past those of the children, 2 to 63.
 const PAST: u32 = 64;
 
-/// The text, with what stands in brackets said of each child.
+/// The text, with what is in brackets repeated for each child.
 fn spread(alloc: Global, text: &str) -> Result<String, AllocError> {
     let mut spread = String::new(alloc);
     for piece in text.split('[') {
@@ -50,7 +50,7 @@ fn spread(alloc: Global, text: &str) -> Result<String, AllocError> {
     Ok(spread)
 }
 
-/// Adds what is said of each child from the number on that begins it.
+/// Adds the item for each child from the number on with which it begins.
 fn add_each(alloc: Global, spread: &mut String, item: &str) -> Result<(), AllocError> {
     let (from, item) = first_word(item);
     for child in number(from).unwrap_or(PAST)..PAST {

@@ -1,6 +1,6 @@
 //! How an actor ends.
 
-use crate::story::each_case;
+use crate::tables::each_case;
 use std::test::Fail;
 
 const ENDS: &str = "

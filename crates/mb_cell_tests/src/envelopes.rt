@@ -1,6 +1,6 @@
 //! What an envelope makes an actor do.
 
-use crate::story::each_case;
+use crate::tables::each_case;
 use std::test::Fail;
 
 const ENVELOPES: &str = "

@@ -2,7 +2,7 @@
 #![tactic(auto)]
 
 #[cfg(test)]
-mod cast;
+mod cell_driver;
 #[cfg(test)]
 mod crowd;
 #[cfg(test)]
@@ -10,25 +10,25 @@ mod ending;
 #[cfg(test)]
 mod envelopes;
 #[cfg(test)]
-mod memory;
+mod headers;
 #[cfg(test)]
-mod player;
+mod memory;
 #[cfg(test)]
 mod restart;
 #[cfg(test)]
 mod rows;
 #[cfg(test)]
+mod scripted_actor;
+#[cfg(test)]
 mod seen;
 #[cfg(test)]
-mod stage;
-#[cfg(test)]
 mod start;
-#[cfg(test)]
-mod story;
 #[cfg(test)]
 mod supervision;
 #[cfg(test)]
 mod suspension;
+#[cfg(test)]
+mod tables;
 #[cfg(test)]
 mod watching;
 #[cfg(test)]

@@ -1,6 +1,6 @@
-//! Memory that is refused: run this with each allocation refused in turn (`tools/refuse_each_allocation_of_a_cell`).
+//! Memory that is refused: `tools/refuse_each_allocation cell` runs this with each allocation refused in turn.
 
-use crate::story::play;
+use crate::tables::play;
 use std::alloc::{AllocError, Global};
 use std::process::Abort;
 use std::test::Fail;
@@ -64,8 +64,8 @@ died 2 | none | - | ending 1 42
 died 3 | none | close, 0: died 1, 4: died 1 | ended 0 42
 ";
 
-/// Plays the story, again where memory was refused but to a `ready`, which is made again at once: how many cases it has, and
-/// whether a `ready` was refused.
+/// Runs the table, again where memory was refused other than to a `ready`, which is retried at once: how many cases it
+/// has, and whether a `ready` was refused.
 fn play_at_last<R: Abort>(rt: &R, alloc: Global) -> Result<(u32, bool), AllocError> {
     match play(rt, alloc, STORY) {
         Err(_) => play(rt, alloc, STORY),
@@ -80,7 +80,7 @@ fn a_refused_ready_can_be_made_again(rt: HostRuntime) -> Result<(), Fail> {
     Ok(())
 }
 
-/// Fails where the test above meets a `ready` that is refused, since it does the same.
+/// Fails where a `ready` is refused, and so shows that the test above meets that.
 #[test]
 fn no_ready_is_refused(rt: HostRuntime) -> Result<(), Fail> {
     let (_, was_refused) = play_at_last(&rt, rt.alloc())?;

@@ -1,6 +1,6 @@
-//! How an actor is started afresh.
+//! Restarts.
 
-use crate::story::each_case;
+use crate::tables::each_case;
 use std::test::Fail;
 
 const RESTARTS: &str = "

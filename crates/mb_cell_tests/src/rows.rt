@@ -1,6 +1,7 @@
-//! Whole stories of several actors, cell by cell: each gets its messages in the story's order, and asks for what the others get.
+//! Whole runs of several actors, cell by cell: each gets its messages in the run's order, and its acts are what the
+//! others get.
 
-use crate::story::each_case;
+use crate::tables::each_case;
 use std::test::Fail;
 
 /// A parent that starts a child, which is sent an add, a failure and an add.
@@ -178,7 +179,7 @@ died 2 | none | - | live 0 0
 failed 2 error 1 | none | - | live 0 0
 ";
 
-/// A parent that starts its child afresh as often as it may.
+/// A parent that restarts its child as often as it may.
 const RETRIES: &str = "
 A child that fails three times, of a parent with 2 retries.
 actor 1 of 0; children 2; start spawn 2; rules restart error; retries 2
@@ -220,7 +221,7 @@ user fail 1 | failed 1 | suspend, 1: failed 2 error 1 | live 1 1
 recreate error 1 | handled | resume | live 0 0
 ";
 
-/// A child whose restarts fail, of a parent that starts it afresh each time.
+/// A child whose restarts fail, of a parent that restarts it each time.
 const TO_A_FULL_JOURNAL: &str = "
 guardian; children 1; limit 10
 create | none | resume, 1: create | live 0 -

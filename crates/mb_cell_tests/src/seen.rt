@@ -1,12 +1,12 @@
-//! What is seen of a cell, held against the words of a table.
+//! Comparing what a cell shows with the words of a table.
 
 use crate::words::{actor, asked_of, body_of, first_word, number, system_of};
 use mb_actor::{Answer, Effect, Phase};
 use mb_cell::Act;
-use mb_journal::{Arrival, Journal};
+use mb_journal::{Journal, Received};
 use mb_msg::{ActorId, Envelope, SysMsg};
 
-/// What was given to a cell, or that its journal has no room for it.
+/// What a cell was given, or that its journal has no room.
 #[derive(Clone, Copy)]
 pub(crate) enum Given {
     System(u64, SysMsg),
@@ -14,7 +14,7 @@ pub(crate) enum Given {
     Refused,
 }
 
-/// Whether the newest entry is of what was given, and says what became of it, with the effects of that behind a `: `.
+/// Whether the newest entry is of what was given, with this outcome, and its effects behind a `: `.
 pub(crate) fn is_entry(journal: &Journal, given: Given, text: &str) -> bool {
     let entries = journal.len();
     let (outcome, effects) = text.split_once(": ").unwrap_or((text, ""));
@@ -27,20 +27,20 @@ pub(crate) fn is_entry(journal: &Journal, given: Given, text: &str) -> bool {
     }
 }
 
-/// The entry of what was given: the answer where the actor was called, `none` where it was called for no answer or not at
-/// all, or that it was set aside or dropped.
-fn arrival_of(given: Given, outcome: &str) -> Option<Arrival> {
+/// The entry of what was given, by its outcome: an answer, `none` where the actor was not called or the call has no
+/// answer, or that it was set aside or dropped.
+fn arrival_of(given: Given, outcome: &str) -> Option<Received> {
     match given {
         Given::System(number, message) if outcome == "set aside" => {
-            Some(Arrival::SetAside { number, message })
+            Some(Received::SetAside { number, message })
         }
-        Given::System(number, message) => Some(Arrival::System {
+        Given::System(number, message) => Some(Received::System {
             number,
             message,
             answer: answer_of(outcome)?,
         }),
-        Given::Envelope(envelope) if outcome == "dropped" => Some(Arrival::Dropped { envelope }),
-        Given::Envelope(envelope) => Some(Arrival::Handled {
+        Given::Envelope(envelope) if outcome == "dropped" => Some(Received::Dropped { envelope }),
+        Given::Envelope(envelope) => Some(Received::Handled {
             envelope,
             reading: 0,
             answer: answer_of(outcome)?,
@@ -58,7 +58,7 @@ fn answer_of(outcome: &str) -> Option<Option<Answer>> {
     }
 }
 
-/// Whether these are the effects, in order; of none nothing is said.
+/// Whether these are the effects, in order; an empty text is none.
 fn are_effects(effects: &[Effect], text: &str) -> bool {
     if effects.is_empty() {
         return text.is_empty();
@@ -90,7 +90,7 @@ fn effect_of(text: &str) -> Option<Effect> {
     }
 }
 
-/// Whether this is what a cell asks for: of itself, as `suspend`; of another, as `2: create` or `4: user add 9`.
+/// Whether this is the act: on the actor itself, as `suspend`; on another, as `2: create` or `4: user add 9`.
 pub(crate) fn is_act(act: Act, text: &str) -> bool {
     match act {
         Act::Tell(to, body) => body_of(message_to(to, text)) == Some(body),
@@ -101,7 +101,7 @@ pub(crate) fn is_act(act: Act, text: &str) -> bool {
     }
 }
 
-/// The message in a text that is for this actor; nothing where it is for none, or another.
+/// The message in a text that is for this actor; empty where it is for none or another.
 fn message_to(to: ActorId, text: &str) -> &str {
     match text.split_once(": ") {
         Some((id, message)) if number(id) == Some(to.0) => message,
@@ -109,7 +109,8 @@ fn message_to(to: ActorId, text: &str) -> &str {
     }
 }
 
-/// Whether an actor stands so: its phase, how often it is suspended, and its content, which the guardian has none of.
+/// Whether this is the actor's standing: its phase, how often it is suspended, and its content, which the guardian does
+/// not have.
 pub(crate) fn is_standing(phase: Phase, count: u64, state: Option<i64>, text: &str) -> bool {
     let (its_phase, rest) = first_word(text);
     let (its_count, content) = first_word(rest);
@@ -130,7 +131,7 @@ fn name_of(phase: Phase) -> &'static str {
     }
 }
 
-/// Whether these are set aside, in order, each with its number; of none nothing is said.
+/// Whether these are set aside, in order, each with its number; an empty text is none.
 pub(crate) fn are_aside(aside: &[(u64, SysMsg)], text: &str) -> bool {
     if aside.is_empty() {
         return text.is_empty();

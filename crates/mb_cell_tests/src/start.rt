@@ -1,6 +1,6 @@
 //! How an actor is started, and what comes to one that was not.
 
-use crate::story::each_case;
+use crate::tables::each_case;
 use std::test::Fail;
 
 const STARTS: &str = "

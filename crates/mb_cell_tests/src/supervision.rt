@@ -1,6 +1,6 @@
 //! What an actor does about a child that failed.
 
-use crate::story::each_case;
+use crate::tables::each_case;
 use std::test::Fail;
 
 const DIRECTIVES: &str = "

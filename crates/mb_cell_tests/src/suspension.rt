@@ -1,6 +1,6 @@
 //! How an actor is suspended and resumed, and what waits until then.
 
-use crate::story::each_case;
+use crate::tables::each_case;
 use std::test::Fail;
 
 const SUSPENSIONS: &str = "

@@ -1,6 +1,6 @@
 //! How an actor watches others, and is watched.
 
-use crate::story::each_case;
+use crate::tables::each_case;
 use std::test::Fail;
 
 const WATCHED: &str = "

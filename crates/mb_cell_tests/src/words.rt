@@ -1,6 +1,6 @@
-//! What the tables say, as it is read: messages and their causes. `None` is what no table says.
+//! Parsing the words of tables: messages and causes. `None` for a word that no table has.
 
-use crate::player::{ADD, Asked, FAIL, LEAVE, SPAWN, STOP, TELL, UNWATCH, WATCH};
+use crate::scripted_actor::{ADD, Asked, FAIL, LEAVE, SPAWN, STOP, TELL, UNWATCH, WATCH};
 use mb_msg::{ActorId, Body, Cause, SysMsg};
 
 /// A number of an actor or of an error.
@@ -8,7 +8,6 @@ pub(crate) fn number(text: &str) -> Option<u32> {
     text.parse::<u32>().ok()
 }
 
-/// An actor, by its number.
 pub(crate) fn actor(text: &str) -> Option<ActorId> {
     Some(ActorId(number(text)?))
 }
@@ -75,7 +74,7 @@ pub(crate) fn body_of(text: &str) -> Option<Body> {
     }
 }
 
-/// What a player is asked for, as `add` or `tell 4`.
+/// What the actor is asked to do, as `add` or `tell 4`.
 pub(crate) fn asked_of(text: &str) -> Option<Asked> {
     let (name, rest) = first_word(text);
     let value = if rest.is_empty() { 0 } else { number(rest)? };

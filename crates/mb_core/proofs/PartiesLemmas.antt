@@ -8,7 +8,7 @@ use Rattle.std.proofs.lemmas.Option.{slice_get-get_or, get_or_from_slice_get}
 use Rattle.std.proofs.lemmas.List.{length-set, length-append, get_or-set_other, get_or-set_same}
 use Rattle.std.proofs.lemmas.List.Elements.{All-map}
 use Rattle.std.proofs.lemmas.List.Folds.{list_any-append, Any-from_list_any, list_any-from_Any}
-use Rattle.mb_core.specs.declared.debt.Debt.{Debt}
+use Rattle.mb_core.specs.declared.debt.WakeObligation.{WakeObligation}
 use Rattle.mb_core.specs.Actor.{Actor, nothing, debt_of}
 use Rattle.mb_core.specs.Held.{IsHeldRightly}
 use Rattle.mb_core.specs.Settled.{IsOwedSystem, IsOwedMessage}
@@ -28,7 +28,7 @@ or_again rest one whole is = grind arith
 
 -- Whether somebody owes for a cause is what one party owes for it, or whether somebody does once that party owes nothing.
 apart :
-    (cause : Debt → Bool) → cause nothing ≡ false → (owed : List Debt) (party : ℕ) →
+    (cause : WakeObligation → Bool) → cause nothing ≡ false → (owed : List WakeObligation) (party : ℕ) →
     (list_any cause (set owed party nothing) || cause (get_or owed party nothing)) ≡ list_any cause owed
 apart cause none [] party = none
 apart cause none (debt ∷ owed) zero = or_swap (list_any cause owed) (cause debt) (cause nothing) none
@@ -38,7 +38,7 @@ apart cause none (debt ∷ owed) (suc party) =
 
 -- and once it owes something else, for that too
 instead :
-    (cause : Debt → Bool) → cause nothing ≡ false → (owed : List Debt) (party : ℕ) (debt : Debt) → party < length owed →
+    (cause : WakeObligation → Bool) → cause nothing ≡ false → (owed : List WakeObligation) (party : ℕ) (debt : WakeObligation) → party < length owed →
     (list_any cause (set owed party nothing) || cause debt) ≡ list_any cause (set owed party debt)
 instead cause none [] party debt there = absurd (omega arith)
 instead cause none (first ∷ owed) zero debt there = or_swap (list_any cause owed) (cause debt) (cause nothing) none
@@ -47,7 +47,7 @@ instead cause none (first ∷ owed) (suc party) debt there =
     ap (λ b. cause first || b) (instead cause none owed party debt (omega arith))
 
 copied_any :
-    (cause : Debt → Bool) → cause nothing ≡ false → (owed : List Debt) (party : ℕ) →
+    (cause : WakeObligation → Bool) → cause nothing ≡ false → (owed : List WakeObligation) (party : ℕ) →
     list_any cause (owed ++ get_or owed party nothing ∷ []) ≡ list_any cause owed
 copied_any cause none owed party =
     list_any-append cause owed (get_or owed party nothing ∷ []) ∙
@@ -55,7 +55,7 @@ copied_any cause none owed party =
     (apart cause none owed party)
 
 moved_any :
-    (cause : Debt → Bool) → cause nothing ≡ false → (owed : List Debt) (party : ℕ) →
+    (cause : WakeObligation → Bool) → cause nothing ≡ false → (owed : List WakeObligation) (party : ℕ) →
     list_any cause (set owed party nothing ++ get_or owed party nothing ∷ []) ≡ list_any cause owed
 moved_any cause none owed party =
     list_any-append cause (set owed party nothing) (get_or owed party nothing ∷ []) ∙
@@ -70,7 +70,7 @@ or_joined :
 or_joined whole both_ last new without_into without_from without_two a b = grind arith
 
 absorbed_any :
-    (cause : Debt → Bool) → cause nothing ≡ false → (owed : List Debt) (into from : ℕ) (debt : Debt) → into ≢ from →
+    (cause : WakeObligation → Bool) → cause nothing ≡ false → (owed : List WakeObligation) (into from : ℕ) (debt : WakeObligation) → into ≢ from →
     into < length owed → cause debt ≡ (cause (get_or owed into nothing) || cause (get_or owed from nothing)) →
     list_any cause (set (set owed into debt) from nothing) ≡ list_any cause owed
 absorbed_any cause none owed into from debt two there sum =
@@ -93,7 +93,7 @@ absorbed_any cause none owed into from debt two there sum =
 
 -- where the lists pass the same test, somebody owes for it in both or in none
 same_any :
-    (cause : Debt → Bool) (old new : List Debt) → list_any cause new ≡ list_any cause old →
+    (cause : WakeObligation → Bool) (old new : List WakeObligation) → list_any cause new ≡ list_any cause old →
     Any (λ debt. cause debt ≡ true) old ↔ Any (λ debt. cause debt ≡ true) new
 same_any cause old new same = (
   λ some. Any-from_list_any cause new (same ∙ list_any-from_Any cause old some),
@@ -132,7 +132,7 @@ copied_owed x party =
     (λ held. record {
       scheduled = held.scheduled;
       free = held.free;
-      there = λ holder is. let inside = held.there holder is in omega (arith, length-append {A = Debt});
+      there = λ holder is. let inside = held.there holder is in omega (arith, length-append {A = WakeObligation});
     })
 
 pub moved_owed : (x : Actor) (party : ℕ) → IsOwedTheSame x (moved x party)
@@ -144,14 +144,14 @@ moved_owed x party =
       scheduled = held.scheduled;
       free = held.free;
       there = λ holder is.
-          let inside = held.there holder is in omega (arith, length-append {A = Debt}, length-set {A = Debt});
+          let inside = held.there holder is in omega (arith, length-append {A = WakeObligation}, length-set {A = WakeObligation});
     })
 
 absorbed_held : (x : Actor) (into from : ℕ) → into < length x.owed → IsHeldRightly x → IsHeldRightly (absorbed x into from)
 absorbed_held x into from there held = grind (arith, common_steps)
 
 both_message :
-    (a b : Debt) → ((both a b).message || (both a b).sending) ≡ ((a.message || a.sending) || (b.message || b.sending))
+    (a b : WakeObligation) → ((both a b).message || (both a b).sending) ≡ ((a.message || a.sending) || (b.message || b.sending))
 both_message a b = grind arith
 
 pub absorbed_owed : (x : Actor) (into from : ℕ) → into ≢ from → into < length x.owed → IsOwedTheSame x (absorbed x into from)

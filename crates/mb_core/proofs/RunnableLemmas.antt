@@ -1,7 +1,7 @@
 -- Who is runnable is owed something.
 use Rattle.std.proofs.Common.{◌≡◌, ◌<◌, ◌⊎◌, inl, inr, Bool, true, false, ◌||◌, IsTrue, IsFalse, sym, ap, ◌∙◌, refl, arith}
 use Rattle.std.proofs.lemmas.Bool.Decides.{nat_tests}
-use Rattle.mb_core.specs.declared.debt.Debt.{Debt}
+use Rattle.mb_core.specs.declared.debt.WakeObligation.{WakeObligation}
 use Rattle.mb_core.specs.Actor.{Actor, nothing, has_work}
 use Rattle.mb_core.specs.Settled.{IsSettled, IsOwedSystem, IsOwedMessage, IsOwedNothing, is_runnable}
 
@@ -29,13 +29,13 @@ runnable_owed x settled runs = owed_by x (has_work x.system) refl settled runs
 nothing_system : (x : Actor) → IsOwedNothing x → IsOwedSystem x → ⊥
 nothing_system x paid owed =
     let none : owed.1 ≡ nothing = sym owed.3 ∙ paid owed.0 owed.1 owed.2 in
-    let absent : owed.1.system ≡ false = ap (λ (d : Debt). d.system) none in
+    let absent : owed.1.system ≡ false = ap (λ (d : WakeObligation). d.system) none in
     cc (absent, owed.4)
 
 nothing_message : (x : Actor) → IsOwedNothing x → IsOwedMessage x → ⊥
 nothing_message x paid owed =
     let none : owed.1 ≡ nothing = sym owed.3 ∙ paid owed.0 owed.1 owed.2 in
-    let absent : (owed.1.message || owed.1.sending) ≡ false = ap (λ (d : Debt). d.message || d.sending) none in
+    let absent : (owed.1.message || owed.1.sending) ≡ false = ap (λ (d : WakeObligation). d.message || d.sending) none in
     cc (absent, owed.4)
 
 paid_by : (x : Actor) (runs : Bool) → is_runnable x ≡ runs → IsSettled x → IsOwedNothing x → runs ≡ false

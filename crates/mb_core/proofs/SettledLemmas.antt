@@ -7,7 +7,7 @@ use Rattle.std.proofs.lemmas.List.Quantifiers.{any-set}
 use Rattle.std.proofs.lemmas.Bool.{cases_lt}
 use Rattle.std.proofs.lemmas.Bool.Decides.{nat_tests}
 use Rattle.mb_status.specs.Mailbox.{Mailbox, suspend}
-use Rattle.mb_core.specs.declared.debt.Debt.{Debt}
+use Rattle.mb_core.specs.declared.debt.WakeObligation.{WakeObligation}
 use Rattle.mb_core.specs.declared.event.Event.{Event}
 use Rattle.mb_core.specs.declared.event.Step.{Step}
 use Rattle.mb_core.specs.declared.event.Step.TheVariants.{Read, Schedule, Idle, Suspend, Resume, Close, Sent, Unsent}
@@ -21,7 +21,7 @@ use Rattle.mb_core.proofs.KeptLemmas.{at_before, after_step, after_start}
 
 -- somebody still owes it, where the party that owes something else now owes it too if it did before
 pub any_set_kept :
-    (P : Debt → Type 0) (xs : List Debt) (i : ℕ) (y : Debt) → i < length xs → (P (get_or xs i nothing) → P y) →
+    (P : WakeObligation → Type 0) (xs : List WakeObligation) (i : ℕ) (y : WakeObligation) → i < length xs → (P (get_or xs i nothing) → P y) →
     Any P xs → Any P (set xs i y)
 any_set_kept P xs i y inside kept some =
     elim (cases_lt i some.0) as (λ _. Any P (set xs i y)) [
@@ -47,34 +47,34 @@ nobody x party held open_ free is = grind (arith, held.free open_ free)
 
 -- what a party owes after reading the status of an open mailbox that nobody holds
 pub read_system :
-    (m : Mailbox) (debt : Debt) → IsFalse m.closed → IsFalse m.scheduled → (after_reading m debt).system ≡ debt.system
+    (m : Mailbox) (debt : WakeObligation) → IsFalse m.closed → IsFalse m.scheduled → (after_reading m debt).system ≡ debt.system
 read_system m debt open_ free = grind arith
 
 pub read_message :
-    (m : Mailbox) (debt : Debt) → IsFalse m.closed → IsFalse m.scheduled → m.count ≡ 0 →
+    (m : Mailbox) (debt : WakeObligation) → IsFalse m.closed → IsFalse m.scheduled → m.count ≡ 0 →
     ((after_reading m debt).message || (after_reading m debt).sending) ≡ (debt.message || debt.sending)
 read_message m debt open_ free unsuspended = grind (arith, nat_tests)
 
 -- the party owes no less than it did for system work
 pub system_kept :
-    (x : Actor) (party : ℕ) (debt : Debt) → party < length x.owed → (IsTrue (debt_of x party).system → IsTrue debt.system) →
+    (x : Actor) (party : ℕ) (debt : WakeObligation) → party < length x.owed → (IsTrue (debt_of x party).system → IsTrue debt.system) →
     IsOwedSystem x → IsOwedSystem (owing x party debt)
 system_kept x party debt there kept some =
     any_set_kept (λ d. IsTrue d.system) x.owed party debt there kept some
 
 -- nor for envelopes
 pub message_kept :
-    (x : Actor) (party : ℕ) (debt : Debt) → party < length x.owed →
+    (x : Actor) (party : ℕ) (debt : WakeObligation) → party < length x.owed →
     (IsTrue ((debt_of x party).message || (debt_of x party).sending) → IsTrue (debt.message || debt.sending)) →
     IsOwedMessage x → IsOwedMessage (owing x party debt)
 message_kept x party debt there kept some =
     any_set_kept (λ d. IsTrue (d.message || d.sending)) x.owed party debt there kept some
 
-pub owes_system : (x : Actor) (party : ℕ) (debt : Debt) → party < length x.owed → IsTrue debt.system → IsOwedSystem (owing x party debt)
+pub owes_system : (x : Actor) (party : ℕ) (debt : WakeObligation) → party < length x.owed → IsTrue debt.system → IsOwedSystem (owing x party debt)
 owes_system x party debt there owes = any-set (λ d. IsTrue d.system) x.owed party debt there owes
 
 pub owes_message :
-    (x : Actor) (party : ℕ) (debt : Debt) → party < length x.owed → IsTrue (debt.message || debt.sending) →
+    (x : Actor) (party : ℕ) (debt : WakeObligation) → party < length x.owed → IsTrue (debt.message || debt.sending) →
     IsOwedMessage (owing x party debt)
 owes_message x party debt there owes = any-set (λ d. IsTrue (d.message || d.sending)) x.owed party debt there owes
 

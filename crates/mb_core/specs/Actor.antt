@@ -1,10 +1,10 @@
--- The state of the machine. It is what Akka's dispatcher and mailboxes share between threads, in this project's own form.
+-- The state of the machine: what Akka's dispatcher and mailboxes share between threads, in this project's own form.
 use Rattle.std.specs.Prelude.{ℕ, Bool, true, false, List, [], ◌∷◌, replicate, slice_get, slice_index_or, slice_set}
 use Rattle.std.specs.Prelude.{option_and_then, Option, Some, None}
 use Rattle.mb_status.specs.Mailbox.{Mailbox, mailbox_of}
 use Rattle.mb_msg.specs.declared.envelope.Envelope.{Envelope}
 use Rattle.mb_msg.specs.declared.system.SysMsg.{SysMsg}
-use Rattle.mb_core.specs.declared.debt.Debt.{Debt}
+use Rattle.mb_core.specs.declared.debt.WakeObligation.{WakeObligation}
 
 -- One actor: its mailbox's status, its envelopes in order, the number counted as waiting (modulo 2^64), its system
 -- work (earliest first, or gone for good), the party that holds it if any, and what each party owes it, by the
@@ -15,25 +15,25 @@ pub record Actor : Type 0 where
   pub waiting : ℕ
   pub system : Option (List SysMsg)
   pub holder : Option ℕ
-  pub owed : List Debt
+  pub owed : List WakeObligation
 
 -- nothing is owed
-abbrev pub nothing : Debt
+abbrev pub nothing : WakeObligation
 nothing = record { system = false; message = false; sending = false }
 
 -- what a party owes the actor
-abbrev pub debt_of : Actor → ℕ → Debt
+abbrev pub debt_of : Actor → ℕ → WakeObligation
 debt_of x party = slice_index_or x.owed party nothing
 
 -- what a party owes an actor of a state, by their numbers
-abbrev pub debt_between : List Actor → ℕ → ℕ → Option Debt
+abbrev pub debt_between : List Actor → ℕ → ℕ → Option WakeObligation
 debt_between state party actor = option_and_then (λ x. slice_get x.owed party) (slice_get state actor)
 
 -- the actor, to which a party now owes this
-abbrev pub owing : Actor → ℕ → Debt → Actor
+abbrev pub owing : Actor → ℕ → WakeObligation → Actor
 owing x party debt = record x { owed = slice_set x.owed party debt }
 
--- there is system work: something is listed
+-- there is system work: a message is listed
 abbrev pub has_work : Option (List SysMsg) → Bool
 has_work None = false
 has_work (Some []) = false

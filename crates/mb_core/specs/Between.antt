@@ -1,5 +1,5 @@
--- What the laws say of an actor between two moments: before and after one step, and before and after any stretch of a
--- run. In `akka.dispatch.Mailbox` too, only the thread that a mailbox is scheduled for changes the rest of its status.
+-- What the laws say of an actor at two moments: before and after one step, and before and after any stretch of a run. In
+-- `akka.dispatch.Mailbox` too, only the thread that a mailbox is scheduled for changes the rest of its status.
 use Rattle.std.specs.Prelude.{◌≡◌, ◌⊎◌, ℕ, Bool, true, false, ◌||◌, List, ◌∷◌, ◌++◌, Any, IsTrue, Some, None, slice_get}
 use Rattle.mb_core.specs.declared.event.Event.{Event}
 use Rattle.mb_core.specs.declared.event.Step.{Step}
@@ -89,10 +89,11 @@ IsHeldByScheduleOver old number events x y =
 abbrev pub IsSetByHolderAlone : ℕ → Step → Actor → Actor → Type 0
 IsSetByHolderAlone party step x y = HasSameCount x y ⊎ ((x.holder ≡ Some party) × IsTrue (sets_count step))
 
+-- A stretch: only the holder changed the suspend count or closed the mailbox.
 abbrev pub IsSetByHolderAloneOver : List Actor → ℕ → List Event → Actor → Actor → Type 0
 IsSetByHolderAloneOver old number events x y = HasSameCount x y ⊎ IsSetByHolder old number events
 
--- So what a holder knows of the count and the closing stays so, until it changes them itself or gives the actor back.
+-- So what a holder knows of the count and the closing stays true, until it changes them itself or gives the actor back.
 abbrev pub StaysKnownToHolderOver : List Actor → ℕ → List Event → Actor → Actor → Type 0
 StaysKnownToHolderOver old number events x y =
     (holder : ℕ) → x.holder ≡ Some holder → HasSameCount x y ⊎ Any (IsOwnChange holder number) events

@@ -1,10 +1,10 @@
--- Who holds an actor, and which mailbox it has. Neither fact speaks of debts.
+-- Who holds an actor, and which mailbox it has. Neither fact is about what is owed.
 use Rattle.std.specs.Prelude.{◌≡◌, ℕ, ◌<◌, IsTrue, IsFalse, IsSome, IsNone, Some, length}
 use Rattle.mb_status.specs.Mailbox.{is_possible, is_valid, word_of}
 use Rattle.mb_core.specs.Actor.{Actor}
 
--- A scheduled actor has exactly one holder, a closed one at most one, every other none; and who holds is a party that
--- is there. More than one holder there never is: the state has room for one.
+-- A scheduled actor has exactly one holder, a closed one at most one, every other none; and a holder is a party that
+-- exists. There is never more than one holder: the state has room for one.
 pub record IsHeldRightly (x : Actor) : Type 0 where
   pub scheduled : IsTrue x.mailbox.scheduled → IsSome x.holder
   pub free : IsFalse x.mailbox.closed → IsFalse x.mailbox.scheduled → IsNone x.holder

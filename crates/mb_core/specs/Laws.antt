@@ -1,4 +1,4 @@
--- What the laws say: a fact of an actor that is kept, and that so holds after every run.
+-- The forms of the laws: a fact of an actor that each step keeps, and that so holds after every run.
 use Rattle.std.specs.Prelude.{ℕ, ◌<◌, List, All, length}
 use Rattle.mb_core.specs.declared.event.Event.{Event}
 use Rattle.mb_core.specs.declared.event.Step.{Step}
@@ -25,6 +25,7 @@ abbrev pub ChangesKeepWith : (Actor → Type 0) → (Actor → Type 0) → Type 
 ChangesKeepWith H P =
     (x : Actor) (party : ℕ) (step : Step) (y : Actor) → Change x party step y → party < length x.owed → H x → P x → P y
 
+-- an event keeps the fact P of all actors, where the fact H holds of all of them too
 abbrev pub StepsKeepWith : (Actor → Type 0) → (Actor → Type 0) → Type 0
 StepsKeepWith H P =
     (old : List Actor) (event : Event) (new : List Actor) → Transition old event new → All H old → All P old → All P new

@@ -1,8 +1,8 @@
--- Parties that are split off one another, and that join one another. That is no event: no word and no list changes, only
+-- Parties that are split off one another, and that join one another. This is no event: no word and no list changes, only
 -- who owes and who holds (this project's own profile).
 use Rattle.std.specs.Prelude.{◌≡◌, ◌≢◌, ◌↔◌, ◌⊎◌, ℕ, ◌<◌, ◌==◌, ◌||◌, if◌then◌else◌, List, [], ◌∷◌, ◌++◌, All, map, length}
 use Rattle.std.specs.Prelude.{slice_get, slice_set, Some, option_map}
-use Rattle.mb_core.specs.declared.debt.Debt.{Debt}
+use Rattle.mb_core.specs.declared.debt.WakeObligation.{WakeObligation}
 use Rattle.mb_core.specs.Actor.{Actor, nothing, debt_of}
 use Rattle.mb_core.specs.Held.{IsHeldRightly, HasPossibleMailbox}
 use Rattle.mb_core.specs.Settled.{IsSettled, IsOwedSystem, IsOwedMessage}
@@ -15,8 +15,8 @@ copied x party = record x { owed = x.owed ++ debt_of x party ∷ [] }
 abbrev pub moved : Actor → ℕ → Actor
 moved x party = record x { owed = slice_set x.owed party nothing ++ debt_of x party ∷ [] }
 
--- what one owes for each cause for which one of two is owed
-abbrev pub both : Debt → Debt → Debt
+-- two debts as one: for each cause it is owed where one of the two is
+abbrev pub both : WakeObligation → WakeObligation → WakeObligation
 both a b =
     record {
       system = a.system || b.system;
@@ -32,21 +32,21 @@ absorbed x into from =
       owed = slice_set (slice_set x.owed into (both (debt_of x into) (debt_of x from))) from nothing;
     }
 
--- A party is split off this one: actor by actor its debts are copied, or moved. (Who schedules an actor by a claim of
--- its own moves what it owes that actor, and copies what it owes the others.)
+-- A party is split off this one: of each actor its debts are copied, or moved. (A party that schedules an actor moves to
+-- its claim what it owes that actor, and copies what it owes the others.)
 pub record IsSplit (party : ℕ) (old new : List Actor) : Type 0 where
   pub same_actors : length new ≡ length old
   pub each :
       (number : ℕ) (x : Actor) → slice_get old number ≡ Some x →
       (slice_get new number ≡ Some (copied x party)) ⊎ (slice_get new number ≡ Some (moved x party))
 
--- One party takes over another one, at each actor; both are there, and not the same.
+-- One party takes over another one, at each actor; both exist, and are not the same.
 pub record IsJoined (into from : ℕ) (old new : List Actor) : Type 0 where
   pub two : into ≢ from
   pub there : All (λ x. into < length x.owed) old
   pub each : new ≡ map (λ x. absorbed x into from) old
 
--- y is owed what x is owed, no less and no more, and what the laws say of x they say of y
+-- y is owed what x is owed, no less and no more, and what the laws say of x holds of y
 pub record IsOwedTheSame (x y : Actor) : Type 0 where
   pub system : IsOwedSystem x ↔ IsOwedSystem y
   pub message : IsOwedMessage x ↔ IsOwedMessage y
@@ -58,5 +58,6 @@ pub record IsOwedTheSame (x y : Actor) : Type 0 where
 abbrev pub SplitsKeep : (Actor → Type 0) → Type 0
 SplitsKeep P = (party : ℕ) (old new : List Actor) → IsSplit party old new → All P old → All P new
 
+-- where one party takes over another, a fact that held of all actors still does
 abbrev pub JoinsKeep : (Actor → Type 0) → Type 0
 JoinsKeep P = (into from : ℕ) (old new : List Actor) → IsJoined into from old new → All P old → All P new

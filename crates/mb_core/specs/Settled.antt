@@ -1,4 +1,4 @@
--- Nothing is stranded: where an actor has to be scheduled, somebody owes it that.
+-- Nothing is stranded: where an actor has to be scheduled, some party owes it that.
 use Rattle.std.specs.Prelude.{◌≡◌, ◌<◌, Bool, not, ◌&&◌, ◌||◌, nat_lt, IsTrue, IsFalse, All, Any}
 use Rattle.mb_status.specs.Mailbox.{can_schedule}
 use Rattle.mb_core.specs.Actor.{Actor, nothing, has_work}
@@ -8,7 +8,7 @@ use Rattle.mb_core.specs.Actor.{Actor, nothing, has_work}
 abbrev pub is_runnable : Actor → Bool
 is_runnable x = not x.mailbox.scheduled && can_schedule x.mailbox (nat_lt 0 x.waiting) (has_work x.system)
 
--- some party owes the actor a look at its system work (this project's own profile, as all that is owed)
+-- some party owes the actor a check of its system work (this project's own profile, as all that is owed)
 abbrev pub IsOwedSystem : Actor → Type 0
 IsOwedSystem x = Any (λ debt. IsTrue debt.system) x.owed
 
@@ -20,8 +20,8 @@ IsOwedMessage x = Any (λ debt. IsTrue (debt.message || debt.sending)) x.owed
 abbrev pub IsOwedNothing : Actor → Type 0
 IsOwedNothing x = All (λ debt. debt ≡ nothing) x.owed
 
--- Nothing is stranded at an actor that is neither closed nor scheduled: with system work it is owed a look at that,
--- and with no suspension and a number waiting it is owed a wake-up.
+-- Nothing is stranded at an actor that is neither closed nor scheduled: with system work it is owed a check of that, and
+-- where it is not suspended and envelopes are counted as waiting it is owed a wake-up.
 pub record IsSettled (x : Actor) : Type 0 where
   pub system :
       IsFalse x.mailbox.closed → IsFalse x.mailbox.scheduled → IsTrue (has_work x.system) → IsOwedSystem x

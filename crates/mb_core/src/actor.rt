@@ -1,3 +1,4 @@
+//! The state of one actor in the machine, and how a step changes it.
 ghost use Rattle.std.specs.Prelude.{◌≡◌, ◌↔◌, ◌<◌, length, IsTrue, IfOk, option_map};
 ghost use Rattle.mb_core.specs.Actor.{at_start, debt_of, has_work, owing};
 ghost use Rattle.mb_core.specs.Run.{IsCarriedOut};
@@ -7,7 +8,7 @@ mod envelope_events;
 mod status_events;
 mod system_events;
 
-use crate::debt::Debt;
+use crate::debt::WakeObligation;
 use crate::event::Step;
 use mb_msg::{Envelope, SysMsg};
 use mb_status::Status;
@@ -22,7 +23,7 @@ pub struct ActorState {
     waiting: u64,
     system: Option<Vec<SysMsg>>,
     holder: Option<usize>,
-    owed: Vec<Debt>,
+    owed: Vec<WakeObligation>,
 }
 
 impl Model for ActorState {
@@ -41,7 +42,7 @@ impl Model for ActorState {
     } };
 }
 
-/// What others see of an actor.
+/// Reading an actor's state.
 impl ActorState {
     /// Its mailbox's status.
     pub fn status(&self) -> Status
@@ -50,7 +51,7 @@ impl ActorState {
         self.status
     }
 
-    /// Its envelopes, in the order of their pushes.
+    /// Its envelopes, in the order in which they were pushed.
     pub fn envelopes(&self) -> &[Envelope]
         ensures { result.now ≡ self.now.envelopes }
     {
@@ -64,7 +65,7 @@ impl ActorState {
         self.waiting
     }
 
-    /// Its system work, the earliest first; `None` once that is gone for good.
+    /// Its system messages, the earliest first; `None` once the list is closed for good.
     pub fn system(&self) -> Option<&[SysMsg]>
         ensures { option_map (λ listed. listed.now) result ≡ self.now.system }
     {
@@ -82,14 +83,14 @@ impl ActorState {
     }
 
     /// What each party owes it, by the party's number.
-    pub fn owed(&self) -> &[Debt]
+    pub fn owed(&self) -> &[WakeObligation]
         ensures { result.now ≡ self.now.owed }
     {
         self.owed.as_slice()
     }
 
-    /// Whether a worker should take it: nobody holds it, it is not closed, and there is system work, or an envelope is
-    /// counted as waiting and no suspension stands.
+    /// Whether a worker should take it: nobody holds it, it is not closed, and it has system messages, or an envelope
+    /// is counted as waiting and it is not suspended.
     pub fn is_runnable(&self) -> bool
         ensures { result ≡ is_runnable self.now }
     {
@@ -97,9 +98,10 @@ impl ActorState {
     }
 }
 
-/// What the machine does to an actor.
+/// How the machine changes an actor.
 impl ActorState {
-    /// The actor of this status as a run begins, among so many parties: its lists empty, held by nobody, owed nothing.
+    /// The actor of this status as a run begins, with this many parties: its lists are empty, nobody holds it, and
+    /// nothing is owed.
     pub(crate) fn start(
         alloc: Global,
         parties: usize,
@@ -113,12 +115,12 @@ impl ActorState {
             waiting: 0,
             system: Some(Vec::new(alloc)),
             holder: None,
-            owed: vec![in alloc; Debt::NOTHING; parties]?,
+            owed: vec![in alloc; WakeObligation::NOTHING; parties]?,
         })
     }
 
-    /// Carries out a step of a party that is there, or answers `false` where it is not allowed; the actor is then in any
-    /// state.
+    /// Carries out a step of a party that exists, or answers `false` where it is not allowed; nothing is said of the
+    /// actor then.
     pub(crate) fn carry_out(
         &mut self,
         alloc: Global,
@@ -159,15 +161,13 @@ impl ActorState {
         }
     }
 
-    /// Whether this party holds the actor.
     fn is_held_by(&self, party: usize) -> bool
         ensures { IsTrue result ↔ (self.now.holder ≡ Some party) }
     {
         self.holder == Some(party)
     }
 
-    /// What the party owes the actor.
-    fn debt(&self, party: usize) -> Debt
+    fn debt(&self, party: usize) -> WakeObligation
         requires { party < length self.now.owed }
         ensures { result ≡ debt_of self.now party }
     {
@@ -175,7 +175,7 @@ impl ActorState {
     }
 
     /// From now on the party owes the actor this.
-    fn owe(&mut self, party: usize, debt: Debt)
+    fn owe(&mut self, party: usize, debt: WakeObligation)
         requires { party < length self.old.owed }
         ensures { self.new ≡ owing self.old party debt }
     {

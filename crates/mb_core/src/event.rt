@@ -1,8 +1,9 @@
+//! The events of the machine.
 use crate::messages::Messages;
 use mb_msg::{ActorId, Envelope, SysMsg};
 
-/// One atomic step of a party on an actor. A party is whoever makes such steps: a sender, a worker between two runs,
-/// or the worker that holds the actor.
+/// One atomic step of a party on an actor. A party is whatever makes steps: a sender, or a worker, which may hold the
+/// actor.
 #[derive(Debug, Drop)]
 pub struct Event {
     /// The number of the party that makes the step, from 0.
@@ -19,7 +20,7 @@ pub struct Event {
 pub enum Step {
     /// One load of the status word.
     Read,
-    /// The exchange that schedules the actor: the party holds it from now on.
+    /// The exchange of the status word that schedules the actor: the party holds it from now on.
     Schedule,
     /// The holder gives the actor back, with the system messages that it drained and did not apply.
     Idle(Messages),
@@ -31,23 +32,23 @@ pub enum Step {
     Close,
     /// A sender counts an envelope as waiting, before it pushes it.
     Sent,
-    /// A sender takes that count back, its push being refused.
+    /// A sender takes that count back, as its push was refused.
     Unsent,
-    /// The holder takes one from the waiting number, for an envelope that it took.
+    /// The holder counts one less as waiting, for an envelope that it took.
     Taken,
     /// One load of the waiting number.
     Count,
     /// One push on the envelope queue.
     Push(Envelope),
-    /// The holder takes the envelope at this place of the queue, counted from 0. Which place a kind of queue chooses,
-    /// the machine leaves open.
+    /// The holder takes the envelope at this index of the queue, from 0. Which one a kind of queue chooses is left
+    /// open.
     Take(usize),
-    /// One message goes on the system list.
+    /// One push on the system list.
     SysAdd(SysMsg),
-    /// One look whether something is on the system list.
+    /// One check whether the system list is empty.
     SysRead,
-    /// The holder takes all that is on the system list.
+    /// The holder drains the system list.
     SysDrain,
-    /// The holder of a closed actor ends its system list for good.
+    /// The holder of a closed actor closes its system list for good.
     SysEnd,
 }

@@ -1,3 +1,4 @@
+//! The laws of the machine, each a theorem about all its runs.
 ghost use Rattle.std.specs.Prelude.{◌≢◌, ◌⊎◌, ℕ, ◌<◌, length, IsTrue, IsFalse};
 ghost use Rattle.mb_core.specs.Actor.{Actor};
 ghost use Rattle.mb_core.specs.Between.{ChangesLink, ChangesLinkWhereHeld, StretchesLink};
@@ -36,14 +37,14 @@ pub fn step_keeps_debts()
     ensures of_all { StepsKeepWith IsHeldRightly IsSettled }
 {}
 
-/// A law: after every run nothing is stranded. An actor that is not closed and that nobody holds is owed a look at its
-/// system work where it has some, and a wake-up for its envelopes where some are counted and it may handle them.
+/// A law: after every run nothing is stranded. An actor that is not closed and that nobody holds is owed a check of its
+/// system messages where it has some, and a wake-up for its envelopes where some are counted and it may handle them.
 pub fn every_run_keeps_debts()
     ensures { EveryRunHas IsSettled }
 {}
 
-/// A law: where nothing is stranded, an actor that a worker should take is owed something. So once every debt is paid,
-/// there is none that a worker should take.
+/// A law: where nothing is stranded, an actor that a worker should take is owed something. So where nothing is owed,
+/// there is no actor that a worker should take.
 pub fn runnable_is_owed()
     ensures owed { (x : Actor) → IsSettled x → IsTrue (is_runnable x) → IsOwedSystem x ⊎ IsOwedMessage x }
     ensures paid { (x : Actor) → IsSettled x → IsOwedNothing x → IsFalse (is_runnable x) }
@@ -76,18 +77,18 @@ pub fn every_run_counts_by_the_holder()
     ensures known { StretchesLink StaysKnownToHolderOver }
 {}
 
-/// A law: a step leaves closed what is closed, and system work gone that is gone.
+/// A law: in each step, a closed mailbox and a closed system list stay closed.
 pub fn step_keeps_ended()
     ensures { ChangesLink (λ party step x y. StaysEnded x y) }
 {}
 
-/// A law: what is closed at one moment of a run is closed at each later one, and system work that is gone stays gone.
+/// A law: a mailbox or a system list that is closed at one moment of a run is closed at each later one.
 pub fn every_run_keeps_ended()
     ensures { StretchesLink (λ old number events x y. StaysEnded x y) }
 {}
 
-/// A law, of no event but of the state: a party that is split off another one, whose debts it copies or takes over,
-/// leaves each actor owed what it was owed and held by whom it was held, so that all other laws go on.
+/// A law, of the state and no event: where a party is split off another one and copies its debts or takes them over,
+/// each actor is owed what it was owed and held by whom it was held. So all other laws still hold.
 pub fn split_keeps_debts()
     ensures copied { (x : Actor) (party : ℕ) → IsOwedTheSame x (copied x party) }
     ensures moved { (x : Actor) (party : ℕ) → IsOwedTheSame x (moved x party) }
@@ -96,8 +97,8 @@ pub fn split_keeps_debts()
     ensures settled { SplitsKeep IsSettled }
 {}
 
-/// A law, of no event but of the state: a party that takes over what another one owes and holds leaves each actor owed
-/// what it was owed, so that all other laws go on.
+/// A law, of the state and no event: where a party takes over what another one owes and holds, each actor is owed what
+/// it was owed. So all other laws still hold.
 pub fn join_keeps_debts()
     ensures absorbed { (x : Actor) (into from : ℕ) → into ≢ from → into < length x.owed → IsOwedTheSame x (absorbed x into from) }
     ensures held { JoinsKeep IsHeldRightly }

@@ -1,10 +1,9 @@
-//! The abstract machine below every mailbox: what one atomic step may do to an actor, and what every run of such
-//! steps keeps.
+//! The abstract machine of scheduling: what one atomic step may do to an actor, and what every run of such steps keeps.
 //!
 //! A state is a list of actors, and an event is one step of one party on one of them. `replay` carries events out and
-//! refuses what is no run. The laws say, for every run, who holds an actor, that only the holder gives it back, counts
-//! its suspensions and closes it, that what is closed stays closed, and that no wake-up is lost, also where parties are
-//! split off and joined.
+//! refuses what is no run. The laws hold for every run: a scheduled actor has exactly one holder; only the holder gives
+//! it back, counts its suspensions and closes it; what is closed stays closed; and no wake-up is lost, also where
+//! parties are split off and joined.
 #![tactic(auto)]
 
 mod actor;
@@ -16,7 +15,7 @@ mod model;
 mod run;
 
 pub use actor::ActorState;
-pub use debt::Debt;
+pub use debt::WakeObligation;
 pub use event::{Event, Step};
 pub use laws::{
     every_run_counts_by_the_holder, every_run_keeps_debts, every_run_keeps_ended,

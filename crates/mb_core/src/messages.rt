@@ -1,3 +1,4 @@
+//! Lists of system messages in events.
 ghost use Rattle.std.specs.Prelude.{◌≡◌};
 
 use mb_msg::SysMsg;

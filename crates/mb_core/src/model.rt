@@ -1,9 +1,10 @@
+//! The state of the machine.
 ghost use Rattle.std.specs.Prelude.{◌≡◌, ◌↔◌, IsTrue, All, IsSome, IfOk, IfSome};
 ghost use Rattle.mb_core.specs.Actor.{debt_between};
 ghost use Rattle.mb_core.specs.Run.{IsMade, can_start, start};
 
 use crate::actor::ActorState;
-use crate::debt::Debt;
+use crate::debt::WakeObligation;
 use crate::event::Event;
 use mb_msg::ActorId;
 use mb_status::Status;
@@ -32,16 +33,16 @@ impl Model {
         self.actors.as_slice()
     }
 
-    /// What this party owes that actor, or `None` where either is not there.
-    pub fn debt(&self, party: usize, actor: ActorId) -> Option<Debt>
+    /// What this party owes that actor; `None` where either does not exist.
+    pub fn debt(&self, party: usize, actor: ActorId) -> Option<WakeObligation>
         ensures { result ≡ debt_between self.now party actor.0 }
     {
         let state = self.actors.get(actor.0 as usize)?;
         state.owed().get(party).copied()
     }
 
-    /// The state as a run begins from these words among so many parties, or `None` where one is no word that a
-    /// mailbox has, or is scheduled.
+    /// The state in which a run begins, from these status words and with this many parties; `None` where a word is not
+    /// valid, or is scheduled.
     pub(crate) fn start(
         alloc: Global,
         words: &[u64],
@@ -63,8 +64,8 @@ impl Model {
         Ok(Some(Model { actors }))
     }
 
-    /// Makes the step of an event, or answers `false` where its actor or party is not there or the step is not
-    /// allowed; the model is then in any state.
+    /// Carries out an event, or answers `false` where its actor or party does not exist or the step is not allowed;
+    /// nothing is said of the model then.
     pub(crate) fn make(&mut self, alloc: Global, event: &Event) -> Result<bool, AllocError>
         ensures { IfOk result (IsMade self.old event.now self.new) }
     {

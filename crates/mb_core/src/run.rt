@@ -1,3 +1,4 @@
+//! Replaying a list of events.
 ghost use Rattle.std.specs.Prelude.{◌≡◌, ◌↔◌, List, All, Some, IfOk, IfSome};
 ghost use Rattle.mb_core.specs.Actor.{Actor};
 ghost use Rattle.mb_core.specs.Held.{HasPossibleMailbox, IsHeldRightly};
@@ -8,10 +9,10 @@ use crate::event::Event;
 use crate::model::Model;
 use std::alloc::{AllocError, Global};
 
-/// The machine's state after these events, from actors of these status words with empty lists, held by nobody and
-/// owed nothing, among so many parties. `None` where a word is not one that a mailbox has or is scheduled, where an
-/// event names an actor or a party that is not there, or where an event is not allowed where it stands. Want of memory
-/// is an error of its own.
+/// The machine's state after these events. It begins with actors of these status words, with empty lists, held by
+/// nobody and owed nothing, and with this many parties. `None` where a word is not valid or is scheduled, where an
+/// event names an actor or a party that does not exist, or where an event is not allowed at its point. The only error:
+/// memory was refused.
 pub fn replay(
     alloc: Global,
     words: &[u64],
@@ -21,7 +22,7 @@ pub fn replay(
     ensures exact { IfOk result (λ found. (state : List Actor) →
         (found ≡ Some state) ↔ LeadsTo words.now parties events.now state) }
 
-    // What the laws say of every run holds of the answer.
+    // The laws of every run hold of the answer.
     ensures held { IfOk result (λ found. IfSome found (All IsHeldRightly)) }
     ensures possible { IfOk result (λ found. IfSome found (All HasPossibleMailbox)) }
     ensures settled { IfOk result (λ found. IfSome found (All IsSettled)) }

@@ -1,44 +1,57 @@
--- For which faults sending, work and a whole run are broken off.
-use Rattle.std.proofs.Common.{◌≡◌, ◌≤◌, ℕ, List, [], ◌∷◌, ◌<◌, zero, suc, length, refl, subst, sym, ◌∙◌, arith, inl, inr, get_or}
-use Rattle.std.specs.Prelude.{◌≢◌, ◌⊎◌, ⊤, Contains, replicate, Err, IsErrOf, MatchResult, Ok, OnErr, Result, Some}
+-- For which reasons sending, work and a whole run are broken off.
+use Rattle.std.proofs.Common.{◌≡◌, ◌≤◌, ℕ, List, [], ◌∷◌, ◌<◌, length, refl, subst, sym, ◌∙◌, arith, inl, inr}
+use Rattle.std.specs.Prelude.{◌≢◌, ◌⊎◌, ⊤, Contains, Err, IsErrOf, MatchResult, Ok, OnErr, Result, Some}
 use Rattle.std.specs.Global.{Box}
-use Rattle.std.proofs.lemmas.List.Elements.{All-cons, All-contains, All-nil, Contains-append_left, Contains-append_right}
+use Rattle.std.proofs.lemmas.List.Elements.{All-cons, All-contains, All-nil}
 use Rattle.mb_actor.specs.Behaviour.{Moment, Reply}
+use Rattle.mb_msg.specs.declared.id.ActorId.{ActorId}
+use Rattle.mb_msg.specs.declared.order.Order.{Order}
+use Rattle.mb_msg.specs.declared.order.OrderKind.{OrderKind}
 use Rattle.mb_journal.specs.Entry.{Entry}
 use Rattle.mb_journal.specs.Run.{Stopped}
 use Rattle.mb_journal.specs.Run.Stopped.{NoRoom}
 use Rattle.mb_journal.specs.declared.error.ReadyError.{ReadyError}
 use Rattle.mb_journal.specs.declared.error.ReadyError.TheVariants as Ready
-use Rattle.mb_gate.specs.Names.{known_by}
+use Rattle.mb_gate.specs.Accessors.{pass_view}
 use Rattle.mb_gate.specs.Untouched.{origin_of}
 use Rattle.mb_gate.specs.View.{View}
 use Rattle.mb_gate.specs.declared.claim.Claim.{Claim}
 use Rattle.mb_gate.specs.declared.gates.Gates.{Gates}
 use Rattle.mb_home.specs.Contents.{Contents}
-use Rattle.mb_send.specs.declared.unsent.Unsent.{Unsent}
-use Rattle.mb_send.specs.declared.unsent.Unsent.TheVariants as Refusal
+use Rattle.mb_send.specs.declared.send_error.SendError.{SendError}
+use Rattle.mb_send.specs.declared.send_error.SendError.TheVariants as Refusal
 use Rattle.mb_home.specs.Fresh.{IsFreshClaim}
-use Rattle.mb_turn.specs.Ran.{HadRoom, LeavesRun}
-use Rattle.mb_turn.specs.declared.turn.Turn.{Turn}
-use Rattle.mb_dispatch.specs.Beside.{AnyZip}
+use Rattle.mb_mailbox.specs.Ran.{HadRoom, LeavesRun}
+use Rattle.mb_mailbox.specs.declared.turn.Turn.{Turn}
+use Rattle.mb_dispatch.specs.Parallel.{AnyZip}
 use Rattle.mb_dispatch.specs.Faults.{BreaksRun, BreaksWork, CameToLimit, BreaksSending, IsToNobody}
-use Rattle.mb_dispatch.specs.Orders.{repeated}
+use Rattle.mb_dispatch.specs.Orders.{order_for}
 use Rattle.mb_system.specs.declared.end.WorkerEnd.{WorkerEnd}
 use Rattle.mb_system.specs.declared.failure.RunError.{RunError}
 use Rattle.mb_system.specs.declared.failure.RunError.TheVariants.{JournalFull, NoMemory, NoSuchActor}
 use Rattle.mb_dispatch.specs.declared.job.Job.{Job}
-use Rattle.mb_dispatch.specs.declared.order.Order.{Order}
-use Rattle.mb_dispatch.specs.declared.order.Repeat.{Repeat}
 use Rattle.mb_system.specs.declared.system.System.{System}
 use Rattle.mb_dispatch.proofs.Sides.{one_after, one_before}
 
 module _ (gates : Gates (Box Contents)) where
-  -- one order was refused for its receiver
-  pub breaks-one : (order : Order) (fault : RunError) → (fault ≡ NoSuchActor → IsToNobody gates order.to order.what) → fault ≢ JournalFull
+  -- it was refused for its receiver
+  pub breaks-one : (to : ActorId) (what : OrderKind) (fault : RunError) → (fault ≡ NoSuchActor → IsToNobody gates to what) → fault ≢ JournalFull
+      → BreaksSending gates (order_for to what 1 ∷ []) fault
+  breaks-one to what NoMemory unknown sending = tt
+  breaks-one to what JournalFull unknown sending = sending refl
+  breaks-one to what NoSuchActor unknown sending =
+      let some : 0 < 1 = omega arith in (order_for to what 1, (0, omega arith, refl), some, unknown refl)
+
+  -- it is to be sent more than once
+  pub breaks-often : (order : Order) (fault : RunError) → 0 < order.times → BreaksSending gates (order_for order.to order.what 1 ∷ []) fault
       → BreaksSending gates (order ∷ []) fault
-  breaks-one order NoMemory unknown sending = tt
-  breaks-one order JournalFull unknown sending = sending refl
-  breaks-one order NoSuchActor unknown sending = (order, (0, omega arith, refl), unknown refl)
+  breaks-often order NoMemory some breaks = tt
+  breaks-often order JournalFull some breaks = breaks
+  breaks-often order NoSuchActor some breaks =
+      let P : Order → Type 0 = λ o. IsToNobody gates o.to o.what → IsToNobody gates order.to order.what in
+      let one = order_for order.to order.what 1 in
+      let same = All-contains P (one ∷ []) breaks.0 (All-cons P one [] (λ nobody. nobody) (All-nil P)) breaks.1 in
+      (order, (0, omega arith, refl), some, same breaks.3)
 
   -- and it is one of these
   pub breaks-many : (orders : List Order) (order : Order) (fault : RunError) → Contains orders order → BreaksSending gates (order ∷ []) fault
@@ -47,38 +60,17 @@ module _ (gates : Gates (Box Contents)) where
   breaks-many orders order JournalFull there breaks = breaks
   breaks-many orders order NoSuchActor there breaks =
       let P : Order → Type 0 = λ o. Contains orders o in
-      (breaks.0, All-contains P (order ∷ []) breaks.0 (All-cons P order [] there (All-nil P)) breaks.1, breaks.2)
-
-  -- it is sent more than once
-  pub breaks-often : (order : Order) (times : ℕ) (fault : RunError) → 0 < times → BreaksSending gates (order ∷ []) fault
-      → BreaksSending gates (replicate times order) fault
-  breaks-often order zero fault some breaks = absurd (omega (arith, some))
-  breaks-often order (suc n) fault some breaks =
-      breaks-many (replicate (suc n) order) order fault (0, omega arith, refl) breaks
-
-  among-repeated : (repeats : List Repeat) (i : ℕ) (d : Repeat) (order : Order) → i < length repeats
-      → Contains (replicate (get_or repeats i d).times (get_or repeats i d).order) order → Contains (repeated repeats) order
-  among-repeated [] i d order lt there = absurd (omega (arith, lt))
-  among-repeated (r ∷ repeats) zero d order lt there = Contains-append_left (replicate r.times r.order) (repeated repeats) order there
-  among-repeated (r ∷ repeats) (suc i) d order lt there =
-      Contains-append_right (replicate r.times r.order) (repeated repeats) order (among-repeated repeats i d order (omega (arith, lt)) there)
-
-  -- and it is one of those that are sent more than once
-  pub breaks-repeated : (repeats : List Repeat) (i : ℕ) (d : Repeat) (fault : RunError) → i < length repeats
-      → BreaksSending gates (replicate (get_or repeats i d).times (get_or repeats i d).order) fault → BreaksSending gates (repeated repeats) fault
-  breaks-repeated repeats i d NoMemory lt breaks = tt
-  breaks-repeated repeats i d JournalFull lt breaks = breaks
-  breaks-repeated repeats i d NoSuchActor lt breaks = (breaks.0, among-repeated repeats i d breaks.0 lt breaks.1, breaks.2)
+      (breaks.0, All-contains P (order ∷ []) breaks.0 (All-cons P order [] there (All-nil P)) breaks.1, breaks.2, breaks.3)
 
 -- a tell, or a stop, was refused
-IsOfMemory : {T : Type 0} → Result T Unsent → Type 0
+IsOfMemory : {T : Type 0} → Result T SendError → Type 0
 IsOfMemory (Err Refusal.NoMemory) = ⊤
 IsOfMemory _ = ⊥
 
-pub to-nobody : {T : Type 0} (P Q M : Type 0) (result : Result T Unsent) → OnErr result (P × ((IsErrOf result Refusal.NoSuchActor × Q) ⊎ M))
+pub to-nobody : {T : Type 0} (P Q M : Type 0) (result : Result T SendError) → OnErr result (P × ((IsErrOf result Refusal.NoSuchActor × Q) ⊎ M))
     → (M → IsErrOf result Refusal.NoMemory) → result ≡ Err Refusal.NoSuchActor → Q
 unfolding IsOfMemory
-to-nobody {T} P Q M (Ok x) refused memory e = absurd (subst (λ (r : Result T Unsent). OnErr r ⊥) e tt)
+to-nobody {T} P Q M (Ok x) refused memory e = absurd (subst (λ (r : Result T SendError). OnErr r ⊥) e tt)
 to-nobody P Q M (Err error) (p, inl q) memory e = q.1
 to-nobody P Q M (Err error) (p, inr m) memory e = absurd (subst IsOfMemory (sym (memory m) ∙ e) tt)
 
@@ -87,8 +79,8 @@ module _ {A K : Type 0} (gives : ℕ → Moment → Reply → Type 0) (system : 
       → (result : Result Turn ReadyError)
       → (journal : List Entry) × MatchResult result
       (λ turn. (stopped : Stopped) × HadRoom stopped
-      × LeavesRun system.throughput claim before (known_by end.waker.pass) journal turn stopped)
-      (λ _. (turn : Turn) × LeavesRun system.throughput claim before (known_by end.waker.pass) journal turn NoRoom
+      × LeavesRun system.throughput claim before (pass_view end.registrar.pass) journal turn stopped)
+      (λ _. (turn : Turn) × LeavesRun system.throughput claim before (pass_view end.registrar.pass) journal turn NoRoom
       × (IsErrOf result Ready.JournalFull → claim.home.value.cell.who.limit ≤ length journal))
       → result ≡ Err Ready.JournalFull → CameToLimit gives system end
   came-to-limit before end claim fresh (Ok turn) ran e = absurd (subst (λ (r : Result Turn ReadyError). OnErr r ⊥) e tt)
@@ -118,9 +110,9 @@ module _ {A K : Type 0} (gives : ℕ → Moment → Reply → Type 0) (system : 
   breaks-by-end before ends jobs NoSuchActor any = absurd (one_after (λ old new. ⊥) (λ new. ⊥) (λ old new is. is) before ends any).2
 
   pub breaks-by-job : (ends : List (WorkerEnd A K)) (jobs after : List (Job A K)) (fault : RunError)
-      → AnyZip (λ old new. BreaksSending system.gates (repeated old.sends.items) fault) jobs after → BreaksRun gives system ends jobs fault
+      → AnyZip (λ old new. BreaksSending system.gates old.sends.items fault) jobs after → BreaksRun gives system ends jobs fault
   breaks-by-job ends jobs after NoMemory any = tt
   breaks-by-job ends jobs after JournalFull any = absurd (one_before (λ old new. ⊥) (λ old. ⊥) (λ old new is. is) jobs after any).2
   breaks-by-job ends jobs after NoSuchActor any =
-      let P : Job A K → Type 0 = λ job. BreaksSending system.gates (repeated job.sends.items) NoSuchActor in
+      let P : Job A K → Type 0 = λ job. BreaksSending system.gates job.sends.items NoSuchActor in
       one_before (λ old new. P old) P (λ old new is. is) jobs after any

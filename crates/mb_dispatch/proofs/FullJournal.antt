@@ -8,12 +8,12 @@ use Rattle.mb_journal.specs.Identity.{Identity}
 use Rattle.mb_journal.specs.Lawful.{IsLawful}
 use Rattle.mb_journal.specs.Run.{IsRun}
 use Rattle.mb_journal.specs.Run.Stopped.{NoRoom}
-use Rattle.mb_journal.specs.declared.strategy.Strategy.{Strategy}
-use Rattle.mb_plan.specs.declared.plan.Plan.{Plan}
-use Rattle.mb_gate.specs.Names.{first_of}
-use Rattle.mb_home.specs.Roll.{Enrolled}
+use Rattle.mb_msg.specs.declared.strategy.Strategy.{Strategy}
+use Rattle.mb_msg.specs.declared.plan.Plan.{Plan}
+use Rattle.mb_gate.specs.Accessors.{first_home}
+use Rattle.mb_home.specs.Directory.{DirectoryEntry}
 use Rattle.mb_build.specs.Identities.{planned_from}
-use Rattle.mb_build.specs.Planned.{IsRollOf, actors_in}
+use Rattle.mb_build.specs.Planned.{IsDirectoryOf, actors_in}
 use Rattle.mb_system.specs.declared.end.WorkerEnd.{WorkerEnd}
 use Rattle.mb_system.specs.declared.system.System.{System}
 use Rattle.mb_dispatch.specs.Faults.{CameToLimit}
@@ -38,16 +38,16 @@ limit-planned plan zero who is = ap (λ (w : Identity). w.limit) (sym (same_Some
 limit-planned plan (suc place) who is = limit-of _ plan.journal_limit _ 1 _ _ place who is
 
 module _ {A K : Type 0} (gives : ℕ → Moment → Reply → Type 0) (plan : Plan) (system : System A K)
-    (planned : IsRollOf plan (first_of system.gates).value.roll) (throughput : system.throughput ≡ plan.throughput) where
+    (planned : IsDirectoryOf plan (first_home system.gates).value.directory) (throughput : system.throughput ≡ plan.throughput) where
   -- the actor whose journal came to its limit is one of the plan
   pub full-journal : (end : WorkerEnd A K) → CameToLimit gives system end → HasFullJournal gives plan
   full-journal end came =
       let home = came.claim.home.value in let who = home.cell.who in
       let own = came.fresh.ours.own in
-      let roll = (first_of system.gates).value.roll in
-      let at = ap (λ r. slice_get r who.this.0) (sym own.roll) ∙ own.settled.own.enrolled in
+      let directory = (first_home system.gates).value.directory in
+      let at = ap (λ r. slice_get r who.this.0) (sym own.directory) ∙ own.settled.own.enrolled in
       let here : slice_get (actors_in plan) who.this.0 ≡ Some who =
-      mapped-to (λ (e : Enrolled). e.who) roll (actors_in plan) who.this.0 _ planned.who at in record {
+      mapped-to (λ (e : DirectoryEntry). e.who) directory (actors_in plan) who.this.0 _ planned.who at in record {
         who = who;
         planned = (
           who.this.0,

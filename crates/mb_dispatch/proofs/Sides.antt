@@ -1,4 +1,4 @@
--- What holds of each thing that was done beside others, or of one of them, holds of all, or of one that there is; and of the first of two faults.
+-- What holds of each task, or of one of them, holds of all tasks that are done in parallel, or of one; and the first of two errors.
 use Rattle.std.proofs.Common.{◌≡◌, suc, List, [], ◌∷◌, length, get_or, map, set, refl, sym, ap, ◌∙◌, subst, arith, inl, inr}
 use Rattle.std.specs.Prelude.{All, Contains, Err, IfErr, MatchResult, Ok, OnOk, Result}
 use Rattle.std.specs.Global.{Box}
@@ -8,7 +8,7 @@ use Rattle.mb_gate.specs.declared.gates.Gates.{Gates}
 use Rattle.mb_home.specs.Contents.{Contents}
 use Rattle.mb_system.specs.Members.{AreEndsOf, IsEndOf, ends_numbers}
 use Rattle.mb_system.specs.declared.end.WorkerEnd.{WorkerEnd}
-use Rattle.mb_dispatch.specs.Beside.{AnyZip}
+use Rattle.mb_dispatch.specs.Parallel.{AnyZip}
 
 module _ {T : Type 0} where
   pub all_after : (R : T → T → Type 0) (Q : T → Type 0) → ((x y : T) → R x y → Q y) → (xs ys : List T) → AllZip R xs ys → All Q ys
@@ -80,9 +80,9 @@ module _ {T : Type 0} where
 -- another end stands first, with the same number
 module _ {A K : Type 0} (gates : Gates (Box Contents)) where
   pub first_changed : (ends : List (WorkerEnd A K)) (old new : WorkerEnd A K) → old ≡ get_or ends 0 old → AreEndsOf gates ends
-      → IsEndOf gates new.waker → new.number ≡ old.number → AreEndsOf gates (set ends 0 new) × (ends_numbers (set ends 0 new) ≡ ends_numbers ends)
+      → IsEndOf gates new.registrar → new.number ≡ old.number → AreEndsOf gates (set ends 0 new) × (ends_numbers (set ends 0 new) ≡ ends_numbers ends)
   first_changed ends old new there all ours same = (
-    All-set (λ (e : WorkerEnd A K). IsEndOf gates e.waker) ends 0 new ours all,
+    All-set (λ (e : WorkerEnd A K). IsEndOf gates e.registrar) ends 0 new ours all,
     same_first (λ (e : WorkerEnd A K). e.number) ends old new there same,
   )
 

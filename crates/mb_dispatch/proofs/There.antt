@@ -1,4 +1,4 @@
--- An end, or a sender, that is there is of the system.
+-- Each end and each sender of a system's parts is of the system.
 use Rattle.std.proofs.Common.{◌≡◌, ◌<◌, ℕ, length, get_or, sym, subst}
 use Rattle.mb_system.specs.Belonging.{BelongsTogether}
 use Rattle.mb_system.specs.Members.{IsEndOf, IsSenderOf}
@@ -9,9 +9,9 @@ use Rattle.mb_system.specs.declared.sender.Sender.{Sender}
 module _ {A K : Type 0} (built : Built A K) where
   -- the end, or the sender, of this place
   pub end-at : (place : ℕ) (e : WorkerEnd A K) → e ≡ get_or built.ends.items place e → place < length built.ends.items
-      → BelongsTogether built → IsEndOf built.system.gates e.waker
+      → BelongsTogether built → IsEndOf built.system.gates e.registrar
   end-at place e is within was =
-      subst (λ (x : WorkerEnd A K). IsEndOf built.system.gates x.waker) (sym is) (was.ends place e within)
+      subst (λ (x : WorkerEnd A K). IsEndOf built.system.gates x.registrar) (sym is) (was.ends place e within)
 
   pub sender-at : (place : ℕ) (s : Sender A K) → s ≡ get_or built.senders.items place s → place < length built.senders.items
       → BelongsTogether built → IsSenderOf built.system.gates s.inner

@@ -22,7 +22,7 @@ use Rattle.mb_dispatch.proofs.Alike.{all-alike, as-long, from-looks, look-alike,
 
 module _ {A K : Type 0} where
   abbrev pub by_of : Sender A K → SenderId
-  by_of s = s.inner.book.by
+  by_of s = s.inner.send_log.by
 
   abbrev pub sender_in : Job A K → Sender A K
   sender_in j = j.sender
@@ -41,24 +41,24 @@ module _ {A K : Type 0} where
         (sym (look-alike by_of (λ (b : SenderId). b.0 - most_actors) new.senders.items old.senders.items by)) was.once;
     numbered = all-alike by_of (λ (b : SenderId). (most_actors ≤ b.0) × (b.0 < most_actors + new.system.senders)) new.senders.items
         old.senders.items by (subst (λ (s : System A K). All
-        (λ (x : Sender A K). (most_actors ≤ x.inner.book.by.0) × (x.inner.book.by.0 < most_actors + s.senders)) old.senders.items) (sym same)
+        (λ (x : Sender A K). (most_actors ≤ x.inner.send_log.by.0) × (x.inner.send_log.by.0 < most_actors + s.senders)) old.senders.items) (sym same)
         was.numbered);
   }
 
   -- the end, or the sender, of this place did something
   pub end-again : (old new : Built A K) (place : ℕ) (e : WorkerEnd A K) → new.system ≡ old.system → new.senders.items ≡ old.senders.items
-      → new.ends.items ≡ set old.ends.items place e → IsEndOf old.system.gates e.waker → BelongsTogether old → BelongsTogether new
+      → new.ends.items ≡ set old.ends.items place e → IsEndOf old.system.gates e.registrar → BelongsTogether old → BelongsTogether new
   end-again old new place e same senders ends ours was =
-      let P = λ (x : WorkerEnd A K). IsEndOf old.system.gates x.waker in
+      let P = λ (x : WorkerEnd A K). IsEndOf old.system.gates x.registrar in
       let Q = λ (x : Sender A K). IsSenderOf old.system.gates x.inner in
       again old new same (All-same P new.ends.items (set old.ends.items place e) ends (All-set P old.ends.items place e ours was.ends))
       (All-same Q new.senders.items old.senders.items senders was.senders) (ap (map by_of) senders) was
 
   pub sender-again : (old new : Built A K) (place : ℕ) (s s' : Sender A K) → new.system ≡ old.system → new.ends.items ≡ old.ends.items
       → new.senders.items ≡ set old.senders.items place s' → IsSenderOf old.system.gates s'.inner
-      → s'.inner.book.by ≡ (get_or old.senders.items place s).inner.book.by → BelongsTogether old → BelongsTogether new
+      → s'.inner.send_log.by ≡ (get_or old.senders.items place s).inner.send_log.by → BelongsTogether old → BelongsTogether new
   sender-again old new place s s' same ends senders ours by was =
-      let P = λ (x : WorkerEnd A K). IsEndOf old.system.gates x.waker in
+      let P = λ (x : WorkerEnd A K). IsEndOf old.system.gates x.registrar in
       let Q = λ (x : Sender A K). IsSenderOf old.system.gates x.inner in
       again old new same (All-same P new.ends.items old.ends.items ends was.ends)
       (All-same Q new.senders.items (set old.senders.items place s') senders (All-set Q old.senders.items place s' ours was.senders))
@@ -89,4 +89,4 @@ module _ {A K : Type 0} where
   pub jobs-back : (v : Vec (Job A K) Global) (lent new : List (Job A K)) → lent ≡ v.items → jobs_senders new ≡ jobs_senders lent
       → (with_items v new).items ≡ new
   jobs-back v lent new is same =
-      with_items_is v new (as-long (λ (j : Job A K). j.sender.inner.book.by) new lent same ∙ ap length is ∙ sym v.ok.0)
+      with_items_is v new (as-long (λ (j : Job A K). j.sender.inner.send_log.by) new lent same ∙ ap length is ∙ sym v.ok.0)

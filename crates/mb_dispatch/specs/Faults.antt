@@ -1,59 +1,58 @@
 -- Why a run is broken off.
-use Rattle.std.specs.Prelude.{◌≡◌, ◌⊎◌, ℕ, ◌≤◌, List, Contains, Some, length}
+use Rattle.std.specs.Prelude.{◌≡◌, ◌⊎◌, ℕ, ◌<◌, ◌≤◌, List, Contains, Some, length}
 use Rattle.std.specs.Global.{Box}
 use Rattle.mb_actor.specs.Behaviour.{Moment, Reply}
 use Rattle.mb_msg.specs.declared.id.ActorId.{ActorId}
 use Rattle.mb_journal.specs.Entry.{Entry}
 use Rattle.mb_journal.specs.Run.Stopped.{NoRoom}
-use Rattle.mb_gate.specs.Names.{actors_of, known_by}
+use Rattle.mb_gate.specs.Accessors.{actors_of, pass_view}
 use Rattle.mb_gate.specs.Untouched.{origin_of}
 use Rattle.mb_gate.specs.View.{View}
 use Rattle.mb_gate.specs.declared.claim.Claim.{Claim}
 use Rattle.mb_gate.specs.declared.gates.Gates.{Gates}
 use Rattle.mb_home.specs.Contents.{Contents}
 use Rattle.mb_home.specs.Fresh.{IsFreshClaim}
-use Rattle.mb_turn.specs.Ran.{LeavesRun}
-use Rattle.mb_turn.specs.declared.turn.Turn.{Turn}
-use Rattle.mb_dispatch.specs.Orders.{repeated}
+use Rattle.mb_msg.specs.declared.order.Order.{Order}
+use Rattle.mb_msg.specs.declared.order.OrderKind.{OrderKind}
+use Rattle.mb_msg.specs.declared.order.OrderKind.TheVariants.{Stop, Tell}
+use Rattle.mb_mailbox.specs.Ran.{LeavesRun}
+use Rattle.mb_mailbox.specs.declared.turn.Turn.{Turn}
 use Rattle.mb_system.specs.declared.end.WorkerEnd.{WorkerEnd}
 use Rattle.mb_system.specs.declared.failure.RunError.{RunError}
 use Rattle.mb_system.specs.declared.failure.RunError.TheVariants.{JournalFull, NoMemory, NoSuchActor}
 use Rattle.mb_dispatch.specs.declared.job.Job.{Job}
-use Rattle.mb_dispatch.specs.declared.order.Order.{Order}
-use Rattle.mb_dispatch.specs.declared.order.What.{What}
-use Rattle.mb_dispatch.specs.declared.order.What.TheVariants.{Stop, Tell}
 use Rattle.mb_system.specs.declared.system.System.{System}
 
--- there is nobody of this number to whom this could go: an envelope goes to an actor from number 1 on, a Terminate also to the guardian
-abbrev pub IsToNobody : Gates (Box Contents) → ActorId → What → Type 0
+-- This can go to no actor: an envelope goes to an actor from number 1 on, a Terminate also to the guardian.
+abbrev pub IsToNobody : Gates (Box Contents) → ActorId → OrderKind → Type 0
 IsToNobody gates to (Tell body) = (to.0 ≡ 0) ⊎ (actors_of gates ≤ to.0)
 IsToNobody gates to Stop = actors_of gates ≤ to.0
 
--- sending these orders is broken off for this fault: `NoSuchActor` only where one of them is to nobody
+-- Sending these orders is broken off for this reason: `NoSuchActor` only if one of them can go to no actor.
 abbrev pub BreaksSending : Gates (Box Contents) → List Order → RunError → Type 0
 BreaksSending gates orders NoMemory = Unit {0}
 BreaksSending gates orders JournalFull = ⊥
-BreaksSending gates orders NoSuchActor = (order : Order) × Contains orders order × IsToNobody gates order.to order.what
+BreaksSending gates orders NoSuchActor = (order : Order) × Contains orders order × (0 < order.times) × IsToNobody gates order.to order.what
 
 module _ {A K : Type 0} (gives : ℕ → Moment → Reply → Type 0) (system : System A K) where
-  -- a run of a mailbox by this end had no room, and the actor's journal had come to its limit
+  -- A run of a mailbox by this end had no room, since the actor's journal had come to its limit.
   pub record CameToLimit (end : WorkerEnd A K) : Type 0 where
     pub claim : Claim (Box Contents)
     pub fresh : IsFreshClaim gives (Some (origin_of system.gates)) claim
     pub before : View
     pub journal : List Entry
     pub turn : Turn
-    pub left : LeavesRun system.throughput claim before (known_by end.waker.pass) journal turn NoRoom
+    pub left : LeavesRun system.throughput claim before (pass_view end.registrar.pass) journal turn NoRoom
     pub full : claim.home.value.cell.who.limit ≤ length journal
 
-  -- the end is broken off for this fault: `JournalFull` only where a journal came to its limit
+  -- The end is broken off for this reason: `JournalFull` only if a journal came to its limit.
   abbrev pub BreaksWork : WorkerEnd A K → RunError → Type 0
   BreaksWork end NoMemory = Unit {0}
   BreaksWork end JournalFull = CameToLimit end
   BreaksWork end NoSuchActor = ⊥
 
-  -- a run by these ends, of these jobs, is
+  -- A run by these ends with these jobs is broken off for this reason.
   abbrev pub BreaksRun : List (WorkerEnd A K) → List (Job A K) → RunError → Type 0
   BreaksRun ends jobs NoMemory = Unit {0}
   BreaksRun ends jobs JournalFull = (end : WorkerEnd A K) × Contains ends end × CameToLimit end
-  BreaksRun ends jobs NoSuchActor = (job : Job A K) × Contains jobs job × BreaksSending system.gates (repeated job.sends.items) NoSuchActor
+  BreaksRun ends jobs NoSuchActor = (job : Job A K) × Contains jobs job × BreaksSending system.gates job.sends.items NoSuchActor

@@ -1,4 +1,4 @@
--- What a worker found as it looked for a claim the last time (this project's own profile).
+-- What a worker found when it last looked for a claim (this project's own profile).
 use Rattle.std.specs.Prelude.{ℕ, List, All}
 use Rattle.mb_actor.specs.Behaviour.{Moment, Reply}
 use Rattle.mb_pool.specs.Moves.{WasEmpty}
@@ -7,10 +7,10 @@ use Rattle.mb_home.specs.Fresh.{IsFreshClaim}
 use Rattle.mb_system.specs.declared.end.WorkerEnd.{WorkerEnd}
 
 module _ {A K : Type 0} (gives : ℕ → Moment → Reply → Type 0) where
-  -- the last look of the end gave it nothing: each place in which it looks was empty at a moment, as the end knows the place
-  abbrev pub FoundEmpty : WorkerEnd A K → Type 0
-  FoundEmpty end = All (WasEmpty (IsFreshClaim gives)) (looks end.waker.way.end)
+  -- The last look of the end gave it nothing: each place in which it looks was empty at some moment, as the end knows the place.
+  abbrev pub FoundPoolEmpty : WorkerEnd A K → Type 0
+  FoundPoolEmpty end = All (WasEmpty (IsFreshClaim gives)) (looks end.registrar.run_queue.end)
 
-  -- so did the last look of each of these
-  abbrev pub AllFoundEmpty : List (WorkerEnd A K) → Type 0
-  AllFoundEmpty = All FoundEmpty
+  -- The last look of each of these ends gave it nothing.
+  abbrev pub AllFoundPoolEmpty : List (WorkerEnd A K) → Type 0
+  AllFoundPoolEmpty = All FoundPoolEmpty

@@ -1,4 +1,4 @@
--- What stands behind a run that a full journal broke off: what is known of a system of the plan.
+-- What is known of the plan's system once a full journal broke off a run.
 use Rattle.std.specs.Prelude.{ℕ, ◌≤◌, Contains, List, length}
 use Rattle.mb_actor.specs.Behaviour.{Moment, Reply}
 use Rattle.mb_journal.specs.Entry.{Entry}
@@ -6,11 +6,11 @@ use Rattle.mb_journal.specs.Identity.{Identity}
 use Rattle.mb_journal.specs.Lawful.{IsLawful}
 use Rattle.mb_journal.specs.Run.{IsRun}
 use Rattle.mb_journal.specs.Run.Stopped.{NoRoom}
-use Rattle.mb_plan.specs.declared.plan.Plan.{Plan}
+use Rattle.mb_msg.specs.declared.plan.Plan.{Plan}
 use Rattle.mb_build.specs.Planned.{actors_in}
 
--- An actor of the plan, which does what is said of its number, went on from a journal that it can have; and its run had no room, since the journal
--- has as many entries as the plan allows.
+-- An actor of the plan, which does what is said of its number, went on from a journal that it can have. Its run had no room, since the journal has as
+-- many entries as the plan allows.
 pub record HasFullJournal (gives : ℕ → Moment → Reply → Type 0) (plan : Plan) : Type 0 where
   pub who : Identity
   pub planned : Contains (actors_in plan) who

@@ -1,5 +1,5 @@
 pub mod Orders
-pub mod Beside
+pub mod Parallel
 pub mod Found
 pub mod Jobs
 pub mod Faults

@@ -1,9 +1,9 @@
 //! Why a run was broken off.
 ghost use Rattle.std.specs.Prelude.{◌≡◌, ◌≢◌};
-ghost use Rattle.mb_send.specs.declared.unsent.Unsent.TheVariants as Refusal;
+ghost use Rattle.mb_send.specs.declared.send_error.SendError.TheVariants as Refusal;
 
 use mb_journal::ReadyError;
-use mb_send::Unsent;
+use mb_send::SendError;
 use mb_system::RunError;
 
 /// Why a turn was broken off.
@@ -19,13 +19,13 @@ pub fn of_turn(error: ReadyError) -> RunError
 }
 
 /// Why sending was.
-pub fn of_sending(error: Unsent) -> RunError
+pub fn of_sending(error: SendError) -> RunError
     ensures unknown { result ≡ RunError.NoSuchActor → error ≡ Refusal.NoSuchActor }
     ensures told { result ≡ RunError.NoMemory → error ≡ Refusal.NoMemory }
     ensures sending { result ≢ RunError.JournalFull }
 {
     match error {
-        Unsent::NoMemory => RunError::NoMemory,
-        Unsent::NoSuchActor => RunError::NoSuchActor,
+        SendError::NoMemory => RunError::NoMemory,
+        SendError::NoSuchActor => RunError::NoSuchActor,
     }
 }

@@ -1,93 +1,21 @@
-//! What a sender outside the actors is to send.
-ghost use Rattle.std.specs.Prelude.{◌≡◌, [], ◌∷◌, IfErr, OnOk, replicate};
+//! Carrying out what a sender outside the actors is to send.
+ghost use Rattle.std.specs.Prelude.{◌≡◌, [], ◌∷◌, IfErr, OnOk};
 ghost use Rattle.mb_dispatch.specs.Faults.{BreaksSending};
-ghost use Rattle.mb_gate.specs.Names.{actors_of};
-ghost use Rattle.mb_system.specs.Debts.{KeepsDebts};
+ghost use Rattle.mb_gate.specs.Accessors.{actors_of};
+ghost use Rattle.mb_system.specs.Obligations.{KeepsObligations};
 ghost use Rattle.mb_system.specs.Members.{IsSenderOf, sender_caller};
-ghost use Rattle.mb_dispatch.specs.Orders.{HasSent, repeated};
-ghost use Rattle.mb_wake.specs.Caller.{OwesForRefusals};
+ghost use Rattle.mb_dispatch.specs.Orders.{HasSent, order_for};
+ghost use Rattle.mb_register.specs.Caller.{OwesForRefusals};
 
 use crate::failure::of_sending;
 use mb_actor::{Actor, Behaviours};
-use mb_msg::{ActorId, Body};
+use mb_msg::{ActorId, Order, OrderKind};
 use mb_system::{RunError, Sender, System};
 use std::sync::Wait;
 
-/// What is to be sent.
-#[derive(Clone, Copy, Debug, PartialEq, Eq)]
-pub enum What {
-    /// An envelope with this body (`ActorRef.tell`).
-    Tell(Body),
-    /// A Terminate (`ActorSystem.stop`).
-    Stop,
-}
-
-/// One thing that is to be sent.
-#[derive(Clone, Copy, Debug, PartialEq, Eq)]
-pub struct Order {
-    /// To whom: an envelope to an actor from number 1 on, a Terminate also to the guardian.
-    pub to: ActorId,
-    /// What.
-    pub what: What,
-}
-
-/// One thing that is to be sent so many times, one after the other.
-#[derive(Clone, Copy, Debug, PartialEq, Eq)]
-pub struct Repeat {
-    /// What is to be sent each time.
-    pub order: Order,
-    /// How often.
-    pub times: u32,
-}
-
-/// Sends each of these as often as it says, in order. It stops at the first fault, as `send_all` does.
-pub(crate) fn send_repeats<A: Actor, K: Behaviours, R: Wait>(
-    rt: &R,
-    system: &System<A, K>,
-    sender: &mut Sender<A, K>,
-    repeats: &[Repeat],
-) -> Result<(), RunError>
-    requires ours { IsSenderOf system.now.gates sender.old.inner }
-    ensures ours { IsSenderOf system.now.gates sender.new.inner }
-    ensures by { sender.new.inner.book.by ≡ sender.old.inner.book.by }
-    ensures sent { OnOk result (HasSent (repeated repeats.now) sender.old sender.new) }
-    ensures debts { OnOk result (KeepsDebts (actors_of system.now.gates) (sender_caller sender.old.inner.waker)
-        (sender_caller sender.new.inner.waker)) }
-    ensures owed { OwesForRefusals (sender_caller sender.old.inner.waker).account (sender_caller sender.new.inner.waker).account }
-    ensures fault { IfErr result (BreaksSending system.now.gates (repeated repeats.now)) }
-{
-    for repeat in repeats {
-        send_often(rt, system, sender, repeat.order, repeat.times)?;
-    }
-    Ok(())
-}
-
-// Sends one thing so many times.
-fn send_often<A: Actor, K: Behaviours, R: Wait>(
-    rt: &R,
-    system: &System<A, K>,
-    sender: &mut Sender<A, K>,
-    order: Order,
-    times: u32,
-) -> Result<(), RunError>
-    requires ours { IsSenderOf system.now.gates sender.old.inner }
-    ensures ours { IsSenderOf system.now.gates sender.new.inner }
-    ensures by { sender.new.inner.book.by ≡ sender.old.inner.book.by }
-    ensures sent { OnOk result (HasSent (replicate times order) sender.old sender.new) }
-    ensures debts { OnOk result (KeepsDebts (actors_of system.now.gates) (sender_caller sender.old.inner.waker)
-        (sender_caller sender.new.inner.waker)) }
-    ensures owed { OwesForRefusals (sender_caller sender.old.inner.waker).account (sender_caller sender.new.inner.waker).account }
-    ensures fault { IfErr result (BreaksSending system.now.gates (replicate times order)) }
-{
-    for _ in 0..times {
-        send(rt, system, sender, order)?;
-    }
-    Ok(())
-}
-
-/// Sends all this, in order. It stops at the first fault: `NoSuchActor` or `NoMemory` as a tell or a stop answers it. What was
-/// sent before stays sent. Whom the sender owes a look then, a `pay` looks after: those whom it owed one, and besides only
-/// actors whose claims the pool refused.
+/// Carries out all these orders, each as often as it says, in their order. It stops at the first fault: `NoSuchActor` or
+/// `NoMemory` as a tell or a stop answers it. What was sent before stays sent. Whom the sender owes a look then, a `retry_refused` looks
+/// after: those whom it owed one, and besides only actors whose claims the pool refused.
 pub fn send_all<A: Actor, K: Behaviours, R: Wait>(
     rt: &R,
     system: &System<A, K>,
@@ -96,22 +24,21 @@ pub fn send_all<A: Actor, K: Behaviours, R: Wait>(
 ) -> Result<(), RunError>
     requires ours { IsSenderOf system.now.gates sender.old.inner }
     ensures ours { IsSenderOf system.now.gates sender.new.inner }
-    ensures by { sender.new.inner.book.by ≡ sender.old.inner.book.by }
+    ensures by { sender.new.inner.send_log.by ≡ sender.old.inner.send_log.by }
     ensures sent { OnOk result (HasSent orders.now sender.old sender.new) }
-    ensures debts { OnOk result (KeepsDebts (actors_of system.now.gates) (sender_caller sender.old.inner.waker)
-        (sender_caller sender.new.inner.waker)) }
-    ensures owed { OwesForRefusals (sender_caller sender.old.inner.waker).account (sender_caller sender.new.inner.waker).account }
+    ensures obligations { OnOk result (KeepsObligations (actors_of system.now.gates) (sender_caller sender.old.inner.registrar)
+        (sender_caller sender.new.inner.registrar)) }
+    ensures owed { OwesForRefusals (sender_caller sender.old.inner.registrar).account (sender_caller sender.new.inner.registrar).account }
     ensures fault { IfErr result (BreaksSending system.now.gates orders.now) }
 {
     for order in orders {
-        send(rt, system, sender, *order)?;
+        send_often(rt, system, sender, *order)?;
     }
     Ok(())
 }
 
-// Sends one thing.
-#[inline(always)]
-fn send<A: Actor, K: Behaviours, R: Wait>(
+// Carries out one order.
+fn send_often<A: Actor, K: Behaviours, R: Wait>(
     rt: &R,
     system: &System<A, K>,
     sender: &mut Sender<A, K>,
@@ -119,19 +46,43 @@ fn send<A: Actor, K: Behaviours, R: Wait>(
 ) -> Result<(), RunError>
     requires ours { IsSenderOf system.now.gates sender.old.inner }
     ensures ours { IsSenderOf system.now.gates sender.new.inner }
-    ensures by { sender.new.inner.book.by ≡ sender.old.inner.book.by }
+    ensures by { sender.new.inner.send_log.by ≡ sender.old.inner.send_log.by }
     ensures sent { OnOk result (HasSent (order ∷ []) sender.old sender.new) }
-    ensures debts { OnOk result (KeepsDebts (actors_of system.now.gates) (sender_caller sender.old.inner.waker)
-        (sender_caller sender.new.inner.waker)) }
-    ensures owed { OwesForRefusals (sender_caller sender.old.inner.waker).account (sender_caller sender.new.inner.waker).account }
+    ensures obligations { OnOk result (KeepsObligations (actors_of system.now.gates) (sender_caller sender.old.inner.registrar)
+        (sender_caller sender.new.inner.registrar)) }
+    ensures owed { OwesForRefusals (sender_caller sender.old.inner.registrar).account (sender_caller sender.new.inner.registrar).account }
     ensures fault { IfErr result (BreaksSending system.now.gates (order ∷ [])) }
 {
-    match order.what {
-        What::Tell(body) => match sender.tell(rt, system, order.to, body) {
+    for _ in 0..order.times {
+        send(rt, system, sender, order.to, order.what)?;
+    }
+    Ok(())
+}
+
+// Sends this once.
+#[inline(always)]
+fn send<A: Actor, K: Behaviours, R: Wait>(
+    rt: &R,
+    system: &System<A, K>,
+    sender: &mut Sender<A, K>,
+    to: ActorId,
+    what: OrderKind,
+) -> Result<(), RunError>
+    requires ours { IsSenderOf system.now.gates sender.old.inner }
+    ensures ours { IsSenderOf system.now.gates sender.new.inner }
+    ensures by { sender.new.inner.send_log.by ≡ sender.old.inner.send_log.by }
+    ensures sent { OnOk result (HasSent (order_for to what 1 ∷ []) sender.old sender.new) }
+    ensures obligations { OnOk result (KeepsObligations (actors_of system.now.gates) (sender_caller sender.old.inner.registrar)
+        (sender_caller sender.new.inner.registrar)) }
+    ensures owed { OwesForRefusals (sender_caller sender.old.inner.registrar).account (sender_caller sender.new.inner.registrar).account }
+    ensures fault { IfErr result (BreaksSending system.now.gates (order_for to what 1 ∷ [])) }
+{
+    match what {
+        OrderKind::Tell(body) => match sender.tell(rt, system, to, body) {
             Ok(_) => Ok(()),
             Err(error) => Err(of_sending(error)),
         },
-        What::Stop => match sender.stop(rt, system, order.to) {
+        OrderKind::Stop => match sender.stop(rt, system, to) {
             Ok(_) => Ok(()),
             Err(error) => Err(of_sending(error)),
         },

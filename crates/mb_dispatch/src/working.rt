@@ -1,44 +1,44 @@
-//! A worker among others.
+//! A worker beside others.
 ghost use Rattle.std.specs.Prelude.{◌≡◌, ◌<◌, ℕ, false, true, IfErr, Ok, OnOk, Some};
-ghost use Rattle.mb_gate.specs.Names.{actors_of, known_by};
+ghost use Rattle.mb_gate.specs.Accessors.{actors_of, pass_view};
 ghost use Rattle.mb_gate.specs.Rule.{IsPart};
 ghost use Rattle.mb_gate.specs.Untouched.{origin_of};
-ghost use Rattle.mb_wake.specs.Caller.{LeavesCaller};
+ghost use Rattle.mb_register.specs.Caller.{LeavesCaller};
 ghost use Rattle.mb_home.specs.Fresh.{IsFreshClaim};
-ghost use Rattle.mb_wake.specs.Owed.{is_owed};
-ghost use Rattle.mb_system.specs.Debts.{KeepsDebts};
+ghost use Rattle.mb_register.specs.Owed.{is_owed};
+ghost use Rattle.mb_system.specs.Obligations.{KeepsObligations};
 ghost use Rattle.mb_system.specs.Members.{IsEndOf, end_caller};
 ghost use Rattle.mb_dispatch.specs.Faults.{BreaksWork};
-ghost use Rattle.mb_dispatch.specs.Found.{FoundEmpty};
+ghost use Rattle.mb_dispatch.specs.Found.{FoundPoolEmpty};
 
-use crate::beside::Task;
 use crate::failure::of_turn;
 use crate::mailbox::run_mailbox;
+use crate::parallel::Task;
 use crossbeam_utils::Backoff;
 use mb_actor::{Actor, Behaviours};
 use mb_gate::Claim;
-use mb_home::Place;
+use mb_home::BoxedHome;
+use mb_mailbox::Turn;
 use mb_system::{RunError, System, WorkerEnd};
-use mb_turn::Turn;
 use std::sync::Wait;
 
-/// Runs claims until no claim exists and no job of a run is open. Whom it owed a look then, it looked after again; and its last
-/// look for a claim found the pool empty.
+/// Takes and runs claims until no claim exists and no job of a run is open. It owes no looks then, and its last look for a
+/// claim found the pool empty.
 ///
-/// It stops at the first fault: `JournalFull` or `NoMemory` as a turn answers it, and `NoMemory` if the pool refused a claim
-/// again. What was done stays done, and no debt is let go.
+/// It stops at the first error: `JournalFull` or `NoMemory` as a run of a mailbox answers it, and `NoMemory` if the run queue
+/// refused a claim again. What was done stays done, and nothing that was owed is forgotten.
 pub fn work<A: Actor, K: Behaviours, R: Wait>(
     rt: &R,
     system: &System<A, K>,
     end: &mut WorkerEnd<A, K>,
 ) -> Result<(), RunError>
-    requires ours { IsEndOf system.now.gates end.old.waker }
-    ensures ours { IsEndOf system.now.gates end.new.waker }
-    ensures paid { OnOk result ((id : ℕ) → id < actors_of system.now.gates → is_owed end.new.waker.owed id ≡ false) }
-    ensures empty { OnOk result (FoundEmpty K.gives end.new) }
-    ensures debts { KeepsDebts (actors_of system.now.gates) (end_caller end.old.waker) (end_caller end.new.waker) }
+    requires ours { IsEndOf system.now.gates end.old.registrar }
+    ensures ours { IsEndOf system.now.gates end.new.registrar }
+    ensures discharged { OnOk result ((id : ℕ) → id < actors_of system.now.gates → is_owed end.new.registrar.owed id ≡ false) }
+    ensures empty { OnOk result (FoundPoolEmpty K.gives end.new) }
+    ensures obligations { KeepsObligations (actors_of system.now.gates) (end_caller end.old.registrar) (end_caller end.new.registrar) }
     ensures number { end.new.number ≡ end.old.number }
-    ensures saw { IsPart (known_by end.old.waker.pass).log (known_by end.new.waker.pass).log }
+    ensures saw { IsPart (pass_view end.old.registrar.pass).log (pass_view end.new.registrar.pass).log }
     ensures fault { IfErr result (BreaksWork K.gives system.now end.new) }
 {
     system.going.enter();
@@ -53,13 +53,13 @@ fn work_on<A: Actor, K: Behaviours, R: Wait>(
     system: &System<A, K>,
     end: &mut WorkerEnd<A, K>,
 ) -> Result<(), RunError>
-    requires ours { IsEndOf system.now.gates end.old.waker }
-    ensures ours { IsEndOf system.now.gates end.new.waker }
-    ensures paid { OnOk result ((id : ℕ) → id < actors_of system.now.gates → is_owed end.new.waker.owed id ≡ false) }
-    ensures empty { OnOk result (FoundEmpty K.gives end.new) }
-    ensures debts { KeepsDebts (actors_of system.now.gates) (end_caller end.old.waker) (end_caller end.new.waker) }
+    requires ours { IsEndOf system.now.gates end.old.registrar }
+    ensures ours { IsEndOf system.now.gates end.new.registrar }
+    ensures discharged { OnOk result ((id : ℕ) → id < actors_of system.now.gates → is_owed end.new.registrar.owed id ≡ false) }
+    ensures empty { OnOk result (FoundPoolEmpty K.gives end.new) }
+    ensures obligations { KeepsObligations (actors_of system.now.gates) (end_caller end.old.registrar) (end_caller end.new.registrar) }
     ensures number { end.new.number ≡ end.old.number }
-    ensures saw { IsPart (known_by end.old.waker.pass).log (known_by end.new.waker.pass).log }
+    ensures saw { IsPart (pass_view end.old.registrar.pass).log (pass_view end.new.registrar.pass).log }
     ensures fault { IfErr result (BreaksWork K.gives system.now end.new) }
 {
     for _ in rt.forever() {
@@ -77,34 +77,33 @@ fn run_all<A: Actor, K: Behaviours, R: Wait>(
     system: &System<A, K>,
     end: &mut WorkerEnd<A, K>,
 ) -> Result<(), RunError>
-    requires ours { IsEndOf system.now.gates end.old.waker }
-    ensures ours { IsEndOf system.now.gates end.new.waker }
-    ensures paid { OnOk result ((id : ℕ) → id < actors_of system.now.gates → is_owed end.new.waker.owed id ≡ false) }
-    ensures debts { KeepsDebts (actors_of system.now.gates) (end_caller end.old.waker) (end_caller end.new.waker) }
+    requires ours { IsEndOf system.now.gates end.old.registrar }
+    ensures ours { IsEndOf system.now.gates end.new.registrar }
+    ensures discharged { OnOk result ((id : ℕ) → id < actors_of system.now.gates → is_owed end.new.registrar.owed id ≡ false) }
+    ensures obligations { KeepsObligations (actors_of system.now.gates) (end_caller end.old.registrar) (end_caller end.new.registrar) }
     ensures number { end.new.number ≡ end.old.number }
-    ensures saw { IsPart (known_by end.old.waker.pass).log (known_by end.new.waker.pass).log }
+    ensures saw { IsPart (pass_view end.old.registrar.pass).log (pass_view end.new.registrar.pass).log }
     ensures fault { IfErr result (BreaksWork K.gives system.now end.new) }
 {
     for _ in rt.forever() {
         let Some(claim) = end.take(rt) else {
-            return end.pay(rt, system);
+            return end.retry_refused(rt, system);
         };
         run_one(rt, system, end, claim)?;
     }
     unreachable!()
 }
 
-// Runs the mailbox of this claim.
 pub(crate) fn run_one<A: Actor, K: Behaviours, R: Wait>(
     rt: &R,
     system: &System<A, K>,
     end: &mut WorkerEnd<A, K>,
-    claim: Claim<Place<A, K>>,
+    claim: Claim<BoxedHome<A, K>>,
 ) -> Result<Turn, RunError>
-    requires ours { IsEndOf system.now.gates end.old.waker }
+    requires ours { IsEndOf system.now.gates end.old.registrar }
     requires untouched { IsFreshClaim K.gives (Some (origin_of system.now.gates)) claim }
-    ensures ours { IsEndOf system.now.gates end.new.waker }
-    ensures leaves { LeavesCaller (end_caller end.old.waker) (end_caller end.new.waker) }
+    ensures ours { IsEndOf system.now.gates end.new.registrar }
+    ensures leaves { LeavesCaller (end_caller end.old.registrar) (end_caller end.new.registrar) }
     ensures number { end.new.number ≡ end.old.number }
     ensures fault { IfErr result (BreaksWork K.gives system.now end.new) }
 {
@@ -120,14 +119,14 @@ fn is_over<A: Actor, K: Behaviours, R: Wait>(
     system: &System<A, K>,
     end: &mut WorkerEnd<A, K>,
 ) -> Result<bool, RunError>
-    requires ours { IsEndOf system.now.gates end.old.waker }
-    requires paid { (id : ℕ) → id < actors_of system.now.gates → is_owed end.old.waker.owed id ≡ false }
-    ensures ours { IsEndOf system.now.gates end.new.waker }
-    ensures paid { OnOk result (result ≡ Ok true → (id : ℕ) → id < actors_of system.now.gates → is_owed end.new.waker.owed id ≡ false) }
-    ensures empty { OnOk result (result ≡ Ok true → FoundEmpty K.gives end.new) }
-    ensures debts { KeepsDebts (actors_of system.now.gates) (end_caller end.old.waker) (end_caller end.new.waker) }
+    requires ours { IsEndOf system.now.gates end.old.registrar }
+    requires discharged { (id : ℕ) → id < actors_of system.now.gates → is_owed end.old.registrar.owed id ≡ false }
+    ensures ours { IsEndOf system.now.gates end.new.registrar }
+    ensures discharged { OnOk result (result ≡ Ok true → (id : ℕ) → id < actors_of system.now.gates → is_owed end.new.registrar.owed id ≡ false) }
+    ensures empty { OnOk result (result ≡ Ok true → FoundPoolEmpty K.gives end.new) }
+    ensures obligations { KeepsObligations (actors_of system.now.gates) (end_caller end.old.registrar) (end_caller end.new.registrar) }
     ensures number { end.new.number ≡ end.old.number }
-    ensures saw { IsPart (known_by end.old.waker.pass).log (known_by end.new.waker.pass).log }
+    ensures saw { IsPart (pass_view end.old.registrar.pass).log (pass_view end.new.registrar.pass).log }
     ensures fault { IfErr result (BreaksWork K.gives system.now end.new) }
 {
     system.going.leave();
@@ -153,32 +152,32 @@ fn is_over<A: Actor, K: Behaviours, R: Wait>(
 
 impl<A: Actor, K: Behaviours> Task<System<A, K>> for WorkerEnd<A, K> {
     ghost use Rattle.std.specs.Prelude.{◌≡◌, ◌<◌, ℕ, false, IfErr, OnOk};
-    ghost use Rattle.mb_gate.specs.Names.{actors_of, known_by};
+    ghost use Rattle.mb_gate.specs.Accessors.{actors_of, pass_view};
     ghost use Rattle.mb_gate.specs.Rule.{IsPart};
-    ghost use Rattle.mb_wake.specs.Owed.{is_owed};
-    ghost use Rattle.mb_system.specs.Debts.{KeepsDebts};
+    ghost use Rattle.mb_register.specs.Owed.{is_owed};
+    ghost use Rattle.mb_system.specs.Obligations.{KeepsObligations};
     ghost use Rattle.mb_system.specs.Members.{IsEndOf, end_caller};
     ghost use Rattle.mb_dispatch.specs.Faults.{BreaksWork};
-    ghost use Rattle.mb_dispatch.specs.Found.{FoundEmpty};
+    ghost use Rattle.mb_dispatch.specs.Found.{FoundPoolEmpty};
 
-    ghost ready = { λ system end. IsEndOf system.gates end.waker };
+    ghost ready = { λ system end. IsEndOf system.gates end.registrar };
 
-    ghost keeps = { λ system old new. IsEndOf system.gates new.waker × (new.number ≡ old.number)
-        × IsPart (known_by old.waker.pass).log (known_by new.waker.pass).log
-        × KeepsDebts (actors_of system.gates) (end_caller old.waker) (end_caller new.waker) };
+    ghost keeps = { λ system old new. IsEndOf system.gates new.registrar × (new.number ≡ old.number)
+        × IsPart (pass_view old.registrar.pass).log (pass_view new.registrar.pass).log
+        × KeepsObligations (actors_of system.gates) (end_caller old.registrar) (end_caller new.registrar) };
 
-    ghost done = { λ system old new. ((id : ℕ) → id < actors_of system.gates → is_owed new.waker.owed id ≡ false)
-        × FoundEmpty K.gives new };
+    ghost done = { λ system old new. ((id : ℕ) → id < actors_of system.gates → is_owed new.registrar.owed id ≡ false)
+        × FoundPoolEmpty K.gives new };
 
     ghost fails = { λ system old new fault. BreaksWork K.gives system new fault };
 
     fn perform<R: Wait>(&mut self, rt: &R, shared: &System<A, K>) -> Result<(), RunError>
-        requires ready { IsEndOf shared.now.gates self.old.waker }
-        ensures keeps { IsEndOf shared.now.gates self.new.waker × (self.new.number ≡ self.old.number)
-            × IsPart (known_by self.old.waker.pass).log (known_by self.new.waker.pass).log
-            × KeepsDebts (actors_of shared.now.gates) (end_caller self.old.waker) (end_caller self.new.waker) }
-        ensures done { OnOk result (((id : ℕ) → id < actors_of shared.now.gates → is_owed self.new.waker.owed id ≡ false)
-            × FoundEmpty K.gives self.new) }
+        requires ready { IsEndOf shared.now.gates self.old.registrar }
+        ensures keeps { IsEndOf shared.now.gates self.new.registrar × (self.new.number ≡ self.old.number)
+            × IsPart (pass_view self.old.registrar.pass).log (pass_view self.new.registrar.pass).log
+            × KeepsObligations (actors_of shared.now.gates) (end_caller self.old.registrar) (end_caller self.new.registrar) }
+        ensures done { OnOk result (((id : ℕ) → id < actors_of shared.now.gates → is_owed self.new.registrar.owed id ≡ false)
+            × FoundPoolEmpty K.gives self.new) }
         ensures fails { IfErr result (BreaksWork K.gives shared.now self.new) }
     {
         work(rt, shared, self)

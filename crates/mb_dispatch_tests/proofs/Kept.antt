@@ -4,12 +4,12 @@ use Rattle.std.specs.Prelude.{All, AllPairs, ◌≢◌}
 use Rattle.std.specs.Global.{Box, Global}
 use Rattle.std.proofs.lemmas.List.Elements.{All-cons, All-head, All-nil, All-same, All-tail}
 use Rattle.mb_msg.specs.Limits.{most_actors}
-use Rattle.mb_gate.specs.Names.{pass_id}
+use Rattle.mb_gate.specs.Accessors.{pass_id}
 use Rattle.mb_gate.specs.View.{View}
 use Rattle.mb_gate.specs.declared.gates.Gates.{Gates}
 use Rattle.mb_home.specs.Contents.{Contents}
 use Rattle.mb_pool.specs.Places.{gates_of}
-use Rattle.mb_ways.specs.declared.end_way.EndWay.{EndWay}
+use Rattle.mb_pool.specs.declared.worker_port.WorkerPort.{WorkerPort}
 use Rattle.mb_system.specs.Belonging.{BelongsTogether, senders_numbers}
 use Rattle.mb_system.specs.Members.{IsEndOf, IsSenderOf}
 use Rattle.mb_system.specs.declared.built.Built.{Built}
@@ -18,15 +18,15 @@ use Rattle.mb_system.specs.declared.sender.Sender.{Sender}
 use Rattle.mb_system.specs.declared.system.System.{System}
 use Rattle.mb_dispatch.proofs.There.{end-at, sender-at}
 use Rattle.mb_dispatch.proofs.Together.{AreSendersOf, again, by_of, end-again, sender-again}
-use Rattle.mb_shutdown.specs.Belonging.{IsBack}
+use Rattle.mb_shutdown.specs.Belonging.{OnlyFirstEndRead}
 use Rattle.mb_shutdown.specs.Refused.{IsRefusal}
 use Rattle.mb_shutdown.specs.declared.ending.FinishError.{FinishError}
 use Rattle.mb_shutdown.specs.declared.ending.FinishError.TheVariants.{MissingEnd, MissingSender, NotQuiet, NoMemory, Mismatch}
 
 -- an end took a claim
 pub took : {A K : Type 0} (gates : Gates (Box Contents)) (old new : WorkerEnd A K)
-    → (new.waker.pass ≡ old.waker.pass) × (new.waker.owed ≡ old.waker.owed) × (gates_of new.waker.way.end ≡ gates_of old.waker.way.end)
-    × (new.number ≡ old.number) → IsEndOf gates old.waker → IsEndOf gates new.waker
+    → (new.registrar.pass ≡ old.registrar.pass) × (new.registrar.owed ≡ old.registrar.owed) × (gates_of new.registrar.run_queue.end ≡ gates_of old.registrar.run_queue.end)
+    × (new.number ≡ old.number) → IsEndOf gates old.registrar → IsEndOf gates new.registrar
 took gates old new same was = (ap pass_id same.0 ∙ was.0, same.2 ∙ was.1, was.2)
 
 module _ {A K : Type 0} (system : System A K) (ends : Vec (WorkerEnd A K) Global) (senders : Vec (Sender A K) Global) where
@@ -35,21 +35,21 @@ module _ {A K : Type 0} (system : System A K) (ends : Vec (WorkerEnd A K) Global
   Are = BelongsTogether (record { system = system; ends = ends; senders = senders })
 
   -- the first end, and the first sender, is of the system
-  pub first-end : (e : WorkerEnd A K) → e ≡ get_or ends.items 0 e → 0 < length ends.items → Are → IsEndOf system.gates e.waker
+  pub first-end : (e : WorkerEnd A K) → e ≡ get_or ends.items 0 e → 0 < length ends.items → Are → IsEndOf system.gates e.registrar
   first-end e is some was = end-at (record { system = system; ends = ends; senders = senders }) 0 e is some was
 
   pub first-sender : (s : Sender A K) → s ≡ get_or senders.items 0 s → 0 < length senders.items → Are → IsSenderOf system.gates s.inner
   first-sender s is some was = sender-at (record { system = system; ends = ends; senders = senders }) 0 s is some was
 
   -- the first end, and the first sender, did something
-  pub with-end : (ends' : Vec (WorkerEnd A K) Global) (e : WorkerEnd A K) → ends'.items ≡ set ends.items 0 e → IsEndOf system.gates e.waker → Are
+  pub with-end : (ends' : Vec (WorkerEnd A K) Global) (e : WorkerEnd A K) → ends'.items ≡ set ends.items 0 e → IsEndOf system.gates e.registrar → Are
       → BelongsTogether (record { system = system; ends = ends'; senders = senders })
   with-end ends' e are ours was =
       end-again (record { system = system; ends = ends; senders = senders }) (record { system = system; ends = ends'; senders = senders }) 0 e refl
       refl are ours was
 
   pub with-sender : (senders' : Vec (Sender A K) Global) (s s' : Sender A K) → senders'.items ≡ set senders.items 0 s'
-      → IsSenderOf system.gates s'.inner → s'.inner.book.by ≡ s.inner.book.by → s ≡ get_or senders.items 0 s → Are
+      → IsSenderOf system.gates s'.inner → s'.inner.send_log.by ≡ s.inner.send_log.by → s ≡ get_or senders.items 0 s → Are
       → BelongsTogether (record { system = system; ends = ends; senders = senders' })
   with-sender senders' s s' are ours by is was =
       sender-again (record { system = system; ends = ends; senders = senders }) (record { system = system; ends = ends; senders = senders' }) 0 s s'
@@ -59,7 +59,7 @@ module _ {A K : Type 0} (system : System A K) (ends : Vec (WorkerEnd A K) Global
   pub without-senders : (senders' : Vec (Sender A K) Global) → senders'.items ≡ [] → Are
       → BelongsTogether (record { system = system; ends = ends; senders = senders' })
   without-senders senders' none was =
-      let N = λ (s : Sender A K). (most_actors ≤ s.inner.book.by.0) × (s.inner.book.by.0 < most_actors + system.senders) in
+      let N = λ (s : Sender A K). (most_actors ≤ s.inner.send_log.by.0) × (s.inner.send_log.by.0 < most_actors + system.senders) in
       record {
         ends = was.ends;
         senders = subst (AreSendersOf system.gates) (sym none) (All-nil (λ (s : Sender A K). IsSenderOf system.gates s.inner));
@@ -70,15 +70,15 @@ module _ {A K : Type 0} (system : System A K) (ends : Vec (WorkerEnd A K) Global
 
 module _ {A K : Type 0} where
   -- an end has read more
-  read-back : (old new : Built A K) (before after : View) → IsBack old new before after → BelongsTogether old → BelongsTogether new
+  read-back : (old new : Built A K) (before after : View) → OnlyFirstEndRead old new before after → BelongsTogether old → BelongsTogether new
   read-back old new before after back was =
       let gates = old.system.gates in
-      let P = λ (x : WorkerEnd A K). IsEndOf gates x.waker in
+      let P = λ (x : WorkerEnd A K). IsEndOf gates x.registrar in
       let Q = λ (x : Sender A K). IsSenderOf gates x.inner in
       let were : All P (back.first ∷ back.rest) = subst (All P) back.was was.ends in
       let one = All-head P back.first back.rest were in
       let first : P back.first' =
-      (back.ours ∙ one.0, ap (λ (way : EndWay (Box Contents)). gates_of way.end) back.others.1 ∙ one.1, one.2) in
+      (back.ours ∙ one.0, ap (λ (way : WorkerPort (Box Contents)). gates_of way.end) back.others.1 ∙ one.1, one.2) in
       again old new back.system
       (All-same P new.ends.items (back.first' ∷ back.rest) back.is (All-cons P back.first' back.rest first (All-tail P back.first back.rest were)))
       (All-same Q new.senders.items old.senders.items back.senders was.senders) (ap (map by_of) back.senders) was

@@ -1,12 +1,12 @@
 //! Boxed actors of two kinds in one system.
 ghost use Rattle.std.specs.Prelude.{◌≡◌, [], All, IfOk};
 
-use crate::alone::planned;
 use crate::seen::see;
 use mb_actor::{Actor, Outbox};
 use mb_msg::ActorId;
-use mb_trial::Sending::{Poison, Tell};
-use mb_trial::{ADD, COUNTER, PLAIN, Player, Sending, Story, Watcher, text_of};
+use mb_testkit::{
+    ADD, COUNTER, Order, PLAIN, TestActor, TestCase, Watcher, plan_and_sends, poison, tell, text_of,
+};
 use mb_whole::run_boxed;
 use std::alloc::{AllocError, Global};
 use std::sync::Wait;
@@ -20,7 +20,7 @@ a2 ended state 1 suspended 0 handled 2 left 0 dead 1 restarts 0
 sent 4 handled 3 left 0 dead 1
 ";
 
-const SENDS: &[Sending] = &[Tell(2, ADD, 1), Poison(2), Tell(2, ADD, 2)];
+const SENDS: &[Order] = &[tell!(2, ADD, 1), poison!(2), tell!(2, ADD, 2)];
 
 /// The report of these two.
 fn run_both<R: Wait>(
@@ -29,12 +29,12 @@ fn run_both<R: Wait>(
     first: Box<dyn Actor + Send>,
     second: Box<dyn Actor + Send>,
 ) -> Option<String> {
-    let story = Story {
+    let story = TestCase {
         parts: &[COUNTER, COUNTER],
         sends: SENDS,
         ..PLAIN
     };
-    let (plan, orders) = planned(alloc, &story).ok()?;
+    let (plan, orders) = plan_and_sends(alloc, &story).ok()?;
     let Ok(actors) = fresh(alloc, first, second) else {
         return None;
     };
@@ -71,7 +71,7 @@ fn begun(alloc: Global, actor: Box<dyn Actor + Send>) -> Box<dyn Actor + Send>
 #[test]
 fn a_boxed_actor_watches_one_of_another_kind(rt: HostRuntime) -> Result<(), Fail> {
     let first: Box<dyn Actor + Send> = Box::new(rt.alloc(), Watcher { of: ActorId(2) })?;
-    let second: Box<dyn Actor + Send> = Box::new(rt.alloc(), Player::new(COUNTER))?;
+    let second: Box<dyn Actor + Send> = Box::new(rt.alloc(), TestActor::new(COUNTER))?;
     let found = run_both(&rt, rt.alloc(), first, second);
     see(&rt, &found, REPORT);
     Ok(())

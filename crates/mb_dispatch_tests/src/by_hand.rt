@@ -1,17 +1,18 @@
-//! Systems whose ends and senders are led by hand, and whose end is refused.
-use crate::tale::Step::{Finish, Journal, Look, LoseSenders, Put, Register, Run, Send, Turn, Work};
-use crate::tale::{Tale, play};
-use mb_trial::Sending::{Stop, Tell};
-use mb_trial::{ADD, COUNTER, PLAIN, Story};
+//! Systems whose ends and senders are called one by one, and whose end is refused.
+use crate::system_script::SystemStep::{
+    Finish, Journal, Look, LoseSenders, Put, Register, Run, Send, Turn, Work,
+};
+use crate::system_script::{SystemScript, play};
+use mb_testkit::{ADD, COUNTER, PLAIN, TestCase, stop, tell};
 
-const ONE: Story<'static> = Story {
+const ONE: TestCase<'static> = TestCase {
     parts: &[COUNTER],
     ..PLAIN
 };
 
 /// The guardian's claim goes to the pool, is taken, and its mailbox is run; the others follow.
-const BY_HAND: Tale = Tale {
-    story: Story {
+const BY_HAND: SystemScript = SystemScript {
+    story: TestCase {
         parts: &[COUNTER, COUNTER],
         ..PLAIN
     },
@@ -35,12 +36,12 @@ sent 0 handled 0 left 0 dead 0
 };
 
 /// What is put after the end by who saw the actor open is left.
-const PUT_BY_AN_OLD_TICKET: Tale = Tale {
+const PUT_BY_AN_OLD_TICKET: SystemScript = SystemScript {
     story: ONE,
     steps: &[
         (Run, "(0;1,0) (1;1,0)"),
         (Look(1), "Open"),
-        (Send(&[Stop(1)]), "true"),
+        (Send(&[stop!(1)]), "true"),
         (Run, "(1;1,0) (0;1,0)"),
         (Put(5), "Queued(0)"),
         (
@@ -54,13 +55,13 @@ sent 1 handled 0 left 1 dead 0
     ],
 };
 
-const TOLD_AFTER_THE_END: Tale = Tale {
+const TOLD_AFTER_THE_END: SystemScript = SystemScript {
     story: ONE,
     steps: &[
         (Run, "(0;1,0) (1;1,0)"),
-        (Send(&[Stop(1)]), "true"),
+        (Send(&[stop!(1)]), "true"),
         (Run, "(1;1,0) (0;1,0)"),
-        (Send(&[Tell(1, ADD, 5)]), "Dead(0, Closed)"),
+        (Send(&[tell!(1, ADD, 5)]), "Dead(0, Closed)"),
         (
             Finish,
             "\
@@ -72,7 +73,7 @@ sent 1 handled 0 left 0 dead 1
     ],
 };
 
-const NOT_QUIET: Tale = Tale {
+const NOT_QUIET: SystemScript = SystemScript {
     story: ONE,
     steps: &[
         (Finish, "NotQuiet(0)"),
@@ -88,7 +89,7 @@ sent 0 handled 0 left 0 dead 0
     ],
 };
 
-const WITHOUT_A_SENDER: Tale = Tale {
+const WITHOUT_A_SENDER: SystemScript = SystemScript {
     story: ONE,
     steps: &[
         (Run, "(0;1,0) (1;1,0)"),
@@ -98,14 +99,14 @@ const WITHOUT_A_SENDER: Tale = Tale {
 };
 
 /// A run ends before the envelope for which the journal has no room, and so does each further one.
-const FULL_JOURNAL: Tale = Tale {
-    story: Story {
+const FULL_JOURNAL: SystemScript = SystemScript {
+    story: TestCase {
         journal_limit: 2,
         ..ONE
     },
     steps: &[
         (
-            Send(&[Tell(1, ADD, 1), Tell(1, ADD, 2)]),
+            Send(&[tell!(1, ADD, 1), tell!(1, ADD, 2)]),
             "Queued(0), Queued(1)",
         ),
         (Run, "JournalFull"),
@@ -115,9 +116,9 @@ const FULL_JOURNAL: Tale = Tale {
     ],
 };
 
-const LED: &[Tale] = &[BY_HAND, PUT_BY_AN_OLD_TICKET, TOLD_AFTER_THE_END];
+const LED: &[SystemScript] = &[BY_HAND, PUT_BY_AN_OLD_TICKET, TOLD_AFTER_THE_END];
 
-const COMES_BACK: &[Tale] = &[NOT_QUIET, WITHOUT_A_SENDER, FULL_JOURNAL];
+const COMES_BACK: &[SystemScript] = &[NOT_QUIET, WITHOUT_A_SENDER, FULL_JOURNAL];
 
 #[test]
 fn an_end_and_a_sender_are_led_by_hand(rt: HostRuntime) {

@@ -1,14 +1,14 @@
-//! Why a company has no report.
+//! Why a system has no report.
 ghost use Rattle.mb_system.specs.Belonging.{BelongsTogether};
 
-use crate::company::Company;
+use crate::test_system::TestSystem;
 use mb_dispatch::Built;
 use mb_shutdown::Mismatch;
-use mb_trial::{Adding, Player};
+use mb_testkit::{Adding, TestActor};
 
 /// Why there is no report.
 #[derive(Clone, Copy, Debug)]
-pub enum Refusal {
+pub enum FinishRefusal {
     MissingEnd(u32),
     MissingSender(u32),
     NotQuiet(u32),
@@ -19,16 +19,16 @@ pub enum Refusal {
 /// Why there is no report, and what came back.
 #[derive(Drop)]
 pub struct Unfinished {
-    pub why: Refusal,
-    pub back: Option<Company>,
+    pub why: FinishRefusal,
+    pub back: Option<TestSystem>,
 }
 
 // All came back.
-pub(crate) fn come_back(why: Refusal, built: Built<Player, Adding>) -> Unfinished
+pub(crate) fn come_back(why: FinishRefusal, built: Built<TestActor, Adding>) -> Unfinished
     requires together { BelongsTogether built }
 {
     Unfinished {
         why,
-        back: Some(Company::of(built)),
+        back: Some(TestSystem::of(built)),
     }
 }

@@ -1,8 +1,7 @@
 //! Actors that end, and who is told of it, on threads.
 use crate::farewell::ALL_ENDED;
 use crate::together::{Run, play_together};
-use mb_trial::Sending::{Kill, Stop};
-use mb_trial::{COUNTER, Deed, PLAIN, Part, Story};
+use mb_testkit::{Action, COUNTER, PLAIN, TestActorPlan, TestCase, kill, stop};
 
 pub const WATCHED: &str = "\
 guardian live state - suspended 0 handled 0 left 0 dead 0 restarts 0
@@ -12,25 +11,25 @@ sent 2 handled 2 left 0 dead 0
 ";
 
 const WATCH: &[Run] = &[(
-    Story {
+    TestCase {
         parts: &[
-            Part {
-                start: &[Deed::Watch(2)],
+            TestActorPlan {
+                start: &[Action::Watch(2)],
                 ..COUNTER
             },
             COUNTER,
         ],
-        sends: &[Kill(2)],
+        sends: &[kill!(2)],
         ..PLAIN
     },
     WATCHED,
 )];
 
 const STOP: &[Run] = &[(
-    Story {
+    TestCase {
         workers: 1,
         parts: &[COUNTER],
-        sends: &[Stop(0)],
+        sends: &[stop!(0)],
         ..PLAIN
     },
     ALL_ENDED,

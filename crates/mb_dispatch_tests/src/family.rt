@@ -1,19 +1,17 @@
-//! Parents and children that fail, turn by turn.
+//! Parents and children that fail, one run of a mailbox after another.
 use crate::supervised::{CHILD, ESCALATED, RESTARTED, RESUMED};
-use crate::tale::Step::{DeadSystem, Finish, Run, Send};
-use crate::tale::{Tale, play};
-use mb_journal::Pattern;
-use mb_msg::Directive;
-use mb_trial::Deed::{Fail, Spawn};
-use mb_trial::Sending::{Kill, Stop, Tell};
-use mb_trial::{ADD, COUNTER, FAIL, PLAIN, Part, Sending, Story};
+use crate::system_script::SystemStep::{DeadSystem, Finish, Run, Send};
+use crate::system_script::{SystemScript, play};
+use mb_msg::{Directive, Pattern};
+use mb_testkit::Action::{Fail, Spawn};
+use mb_testkit::{ADD, COUNTER, FAIL, Order, PLAIN, TestActorPlan, TestCase, kill, stop, tell};
 
-const PARENT: Part = Part {
+const PARENT: TestActorPlan = TestActorPlan {
     start: &[Spawn(2)],
     ..COUNTER
 };
 
-const PARENT_OF_TWO: Part = Part {
+const PARENT_OF_TWO: TestActorPlan = TestActorPlan {
     start: &[Spawn(2), Spawn(3)],
     ..COUNTER
 };
@@ -25,14 +23,14 @@ a2 ended state 5 suspended 0 handled 2 left 0 dead 1 restarts 0
 sent 3 handled 2 left 0 dead 1
 ";
 
-const THREE: &[Sending] = &[Tell(2, ADD, 5), Tell(2, FAIL, 0), Tell(2, ADD, 7)];
+const THREE: &[Order] = &[tell!(2, ADD, 5), tell!(2, FAIL, 0), tell!(2, ADD, 7)];
 
 const THREE_QUEUED: &str = "Queued(0), Queued(1), Queued(2)";
 
-const RESTART: Tale = Tale {
-    story: Story {
+const RESTART: SystemScript = SystemScript {
+    story: TestCase {
         parts: &[
-            Part {
+            TestActorPlan {
                 rule: Some((Pattern::AnyError, Directive::Restart)),
                 ..PARENT
             },
@@ -47,10 +45,10 @@ const RESTART: Tale = Tale {
     ],
 };
 
-const RESUME: Tale = Tale {
-    story: Story {
+const RESUME: SystemScript = SystemScript {
+    story: TestCase {
         parts: &[
-            Part {
+            TestActorPlan {
                 rule: Some((Pattern::AnyError, Directive::Resume)),
                 ..PARENT
             },
@@ -65,10 +63,10 @@ const RESUME: Tale = Tale {
     ],
 };
 
-const STOP: Tale = Tale {
-    story: Story {
+const STOP: SystemScript = SystemScript {
+    story: TestCase {
         parts: &[
-            Part {
+            TestActorPlan {
                 rule: Some((Pattern::AnyError, Directive::Stop)),
                 ..PARENT
             },
@@ -83,10 +81,10 @@ const STOP: Tale = Tale {
     ],
 };
 
-const ESCALATE: Tale = Tale {
-    story: Story {
+const ESCALATE: SystemScript = SystemScript {
+    story: TestCase {
         parts: &[
-            Part {
+            TestActorPlan {
                 rule: Some((Pattern::AnyError, Directive::Escalate)),
                 ..PARENT
             },
@@ -105,14 +103,14 @@ const ESCALATE: Tale = Tale {
 };
 
 /// The child's failure comes when its parent is ending.
-const STOPPED_PARENT: Tale = Tale {
-    story: Story {
+const STOPPED_PARENT: SystemScript = SystemScript {
+    story: TestCase {
         parts: &[PARENT_OF_TWO, CHILD, CHILD],
         ..PLAIN
     },
     steps: &[
         (Run, "(0;1,0) (1;1,0) (2;1,0) (3;1,0)"),
-        (Send(&[Tell(2, FAIL, 0), Stop(1)]), "Queued(0), true"),
+        (Send(&[tell!(2, FAIL, 0), stop!(1)]), "Queued(0), true"),
         (Run, "(2;0,1) (1;2,0) (2;1,0) (3;1,0) (1;2,0) (0;1,0)"),
         (
             Finish,
@@ -129,10 +127,10 @@ sent 1 handled 1 left 0 dead 0
 };
 
 /// The child that failed gets no Suspend, its sibling one.
-const ESCALATED_AMONG_THREE: Tale = Tale {
-    story: Story {
+const ESCALATED_AMONG_THREE: SystemScript = SystemScript {
+    story: TestCase {
         parts: &[
-            Part {
+            TestActorPlan {
                 rule: Some((Pattern::AnyError, Directive::Escalate)),
                 ..PARENT_OF_TWO
             },
@@ -142,7 +140,7 @@ const ESCALATED_AMONG_THREE: Tale = Tale {
         ..PLAIN
     },
     steps: &[
-        (Send(&[Tell(2, FAIL, 0)]), "Queued(0)"),
+        (Send(&[tell!(2, FAIL, 0)]), "Queued(0)"),
         (
             Run,
             "(0;1,0) (1;1,0) (2;1,1) (3;1,0) (1;1,0) (3;1,0) (0;1,0) (1;1,0) (2;1,0) (3;1,0)",
@@ -160,10 +158,10 @@ sent 1 handled 1 left 0 dead 0
     ],
 };
 
-const ALL_RESTARTED: Tale = Tale {
-    story: Story {
+const ALL_RESTARTED: SystemScript = SystemScript {
+    story: TestCase {
         parts: &[
-            Part {
+            TestActorPlan {
                 all_for_one: true,
                 ..PARENT_OF_TWO
             },
@@ -174,7 +172,7 @@ const ALL_RESTARTED: Tale = Tale {
     },
     steps: &[
         (
-            Send(&[Tell(2, FAIL, 0), Tell(3, ADD, 4)]),
+            Send(&[tell!(2, FAIL, 0), tell!(3, ADD, 4)]),
             "Queued(0), Queued(1)",
         ),
         (
@@ -194,10 +192,10 @@ sent 2 handled 2 left 0 dead 0
     ],
 };
 
-const ALL_STOPPED: Tale = Tale {
-    story: Story {
+const ALL_STOPPED: SystemScript = SystemScript {
+    story: TestCase {
         parts: &[
-            Part {
+            TestActorPlan {
                 all_for_one: true,
                 retries: 0,
                 ..PARENT_OF_TWO
@@ -209,7 +207,7 @@ const ALL_STOPPED: Tale = Tale {
     },
     steps: &[
         (
-            Send(&[Tell(2, FAIL, 0), Tell(3, ADD, 4)]),
+            Send(&[tell!(2, FAIL, 0), tell!(3, ADD, 4)]),
             "Queued(0), Queued(1)",
         ),
         (
@@ -229,16 +227,16 @@ sent 2 handled 2 left 0 dead 0
     ],
 };
 
-const FAILED_AT_ITS_START: Tale = Tale {
-    story: Story {
-        parts: &[Part {
+const FAILED_AT_ITS_START: SystemScript = SystemScript {
+    story: TestCase {
+        parts: &[TestActorPlan {
             start: &[Fail(1)],
             ..COUNTER
         }],
         ..PLAIN
     },
     steps: &[
-        (Send(&[Tell(1, ADD, 1)]), "Queued(0)"),
+        (Send(&[tell!(1, ADD, 1)]), "Queued(0)"),
         (Run, "(0;1,0) (1;1,0) (0;1,0) (1;1,0) (0;1,0)"),
         (
             Finish,
@@ -251,18 +249,18 @@ sent 1 handled 0 left 0 dead 1
     ],
 };
 
-const UNABLE_TO_RESTART: Part = Part {
+const UNABLE_TO_RESTART: TestActorPlan = TestActorPlan {
     restart: &[Fail(3)],
     ..CHILD
 };
 
-const FAILED_AT_ITS_RESTART: Tale = Tale {
-    story: Story {
+const FAILED_AT_ITS_RESTART: SystemScript = SystemScript {
+    story: TestCase {
         parts: &[PARENT, UNABLE_TO_RESTART],
         ..PLAIN
     },
     steps: &[
-        (Send(&[Tell(2, FAIL, 0)]), "Queued(0)"),
+        (Send(&[tell!(2, FAIL, 0)]), "Queued(0)"),
         (
             Run,
             "(0;1,0) (1;1,0) (2;1,1) (1;1,0) (2;1,0) (1;1,0) (2;1,0) (1;1,0)",
@@ -280,11 +278,11 @@ sent 1 handled 1 left 0 dead 0
 };
 
 /// It is restarted until a journal has no room for one more message.
-const RESTARTED_AGAIN_AND_AGAIN: Tale = Tale {
-    story: Story {
+const RESTARTED_AGAIN_AND_AGAIN: SystemScript = SystemScript {
+    story: TestCase {
         journal_limit: 10,
         parts: &[
-            Part {
+            TestActorPlan {
                 rule: Some((Pattern::Any, Directive::Restart)),
                 ..PARENT
             },
@@ -293,15 +291,15 @@ const RESTARTED_AGAIN_AND_AGAIN: Tale = Tale {
         ..PLAIN
     },
     steps: &[
-        (Send(&[Tell(2, FAIL, 0)]), "Queued(0)"),
+        (Send(&[tell!(2, FAIL, 0)]), "Queued(0)"),
         (Run, "JournalFull"),
     ],
 };
 
-const KILLED_AND_ESCALATED: Tale = Tale {
-    story: Story {
+const KILLED_AND_ESCALATED: SystemScript = SystemScript {
+    story: TestCase {
         parts: &[
-            Part {
+            TestActorPlan {
                 rule: Some((Pattern::Any, Directive::Escalate)),
                 ..PARENT
             },
@@ -310,7 +308,7 @@ const KILLED_AND_ESCALATED: Tale = Tale {
         ..PLAIN
     },
     steps: &[
-        (Send(&[Kill(2)]), "Queued(0)"),
+        (Send(&[kill!(2)]), "Queued(0)"),
         (
             Run,
             "(0;1,0) (1;1,0) (2;1,1) (1;1,0) (0;1,0) (1;1,0) (2;1,0) (1;1,0) (0;1,0)",
@@ -327,16 +325,16 @@ sent 1 handled 1 left 0 dead 0
     ],
 };
 
-const DECIDED: &[Tale] = &[RESTART, RESUME, STOP, ESCALATE, KILLED_AND_ESCALATED];
+const DECIDED: &[SystemScript] = &[RESTART, RESUME, STOP, ESCALATE, KILLED_AND_ESCALATED];
 
-const SHARED: &[Tale] = &[
+const SHARED: &[SystemScript] = &[
     STOPPED_PARENT,
     ESCALATED_AMONG_THREE,
     ALL_RESTARTED,
     ALL_STOPPED,
 ];
 
-const FAILED: &[Tale] = &[
+const FAILED: &[SystemScript] = &[
     FAILED_AT_ITS_START,
     FAILED_AT_ITS_RESTART,
     RESTARTED_AGAIN_AND_AGAIN,

@@ -1,15 +1,14 @@
-//! How actors end and who is told of it, turn by turn.
+//! How actors end and who is told of it, one run of a mailbox after another.
 use crate::ended::WATCHED;
-use crate::tale::Step::{DeadSystem, Finish, Journal, Run, Send};
-use crate::tale::{Tale, play};
-use mb_trial::Sending::{Kill, Poison, Stop, Tell};
-use mb_trial::{ADD, COUNTER, Deed, PLAIN, Part, Story};
+use crate::system_script::SystemStep::{DeadSystem, Finish, Journal, Run, Send};
+use crate::system_script::{SystemScript, play};
+use mb_testkit::{ADD, Action, COUNTER, PLAIN, TestActorPlan, TestCase, kill, poison, stop, tell};
 
-const KILLED: Tale = Tale {
-    story: Story {
+const KILLED: SystemScript = SystemScript {
+    story: TestCase {
         parts: &[
-            Part {
-                start: &[Deed::Watch(2)],
+            TestActorPlan {
+                start: &[Action::Watch(2)],
                 ..COUNTER
             },
             COUNTER,
@@ -17,7 +16,7 @@ const KILLED: Tale = Tale {
         ..PLAIN
     },
     steps: &[
-        (Send(&[Kill(2)]), "Queued(0)"),
+        (Send(&[kill!(2)]), "Queued(0)"),
         (
             Run,
             "(0;1,0) (1;1,0) (2;2,1) (0;1,0) (2;1,0) (0;1,0) (1;1,1)",
@@ -26,19 +25,19 @@ const KILLED: Tale = Tale {
     ],
 };
 
-const WATCHED_TOO_LATE: Tale = Tale {
-    story: Story {
+const WATCHED_TOO_LATE: SystemScript = SystemScript {
+    story: TestCase {
         parts: &[
             COUNTER,
-            Part {
-                habits: &[(3, &[Deed::Watch(1)])],
+            TestActorPlan {
+                habits: &[(3, &[Action::Watch(1)])],
                 ..COUNTER
             },
         ],
         ..PLAIN
     },
     steps: &[
-        (Send(&[Poison(1), Tell(2, 3, 0)]), "Queued(0), Queued(1)"),
+        (Send(&[poison!(1), tell!(2, 3, 0)]), "Queued(0), Queued(1)"),
         (Run, "(0;1,0) (1;2,1) (2;2,2) (0;1,0)"),
         (
             Finish,
@@ -53,12 +52,12 @@ sent 3 handled 3 left 0 dead 0
 };
 
 /// What was told of an actor that is watched no more is dropped.
-const WATCHED_NO_MORE: Tale = Tale {
-    story: Story {
+const WATCHED_NO_MORE: SystemScript = SystemScript {
+    story: TestCase {
         throughput: 1,
         parts: &[
-            Part {
-                habits: &[(3, &[Deed::Watch(2)]), (4, &[Deed::Unwatch(2)])],
+            TestActorPlan {
+                habits: &[(3, &[Action::Watch(2)]), (4, &[Action::Unwatch(2)])],
                 ..COUNTER
             },
             COUNTER,
@@ -67,7 +66,7 @@ const WATCHED_NO_MORE: Tale = Tale {
     },
     steps: &[
         (
-            Send(&[Tell(1, 3, 0), Tell(1, 4, 0), Poison(2)]),
+            Send(&[tell!(1, 3, 0), tell!(1, 4, 0), poison!(2)]),
             "Queued(0), Queued(1), Queued(2)",
         ),
         (Run, "(0;1,0) (1;1,1) (2;3,1) (1;1,1) (0;1,0) (1;0,1)"),
@@ -87,11 +86,11 @@ sent 4 handled 4 left 0 dead 0
     ],
 };
 
-const LAST_WORDS: Tale = Tale {
-    story: Story {
+const LAST_WORDS: SystemScript = SystemScript {
+    story: TestCase {
         parts: &[
-            Part {
-                stop: &[Deed::Tell(2, ADD), Deed::Stop(2), Deed::Fail(1)],
+            TestActorPlan {
+                stop: &[Action::Tell(2, ADD), Action::Stop(2), Action::Fail(1)],
                 ..COUNTER
             },
             COUNTER,
@@ -99,7 +98,10 @@ const LAST_WORDS: Tale = Tale {
         ..PLAIN
     },
     steps: &[
-        (Send(&[Tell(1, ADD, 1), Poison(1)]), "Queued(0), Queued(1)"),
+        (
+            Send(&[tell!(1, ADD, 1), poison!(1)]),
+            "Queued(0), Queued(1)",
+        ),
         (Run, "(0;1,0) (1;2,2) (2;1,1) (0;1,0)"),
         (
             Finish,
@@ -114,11 +116,11 @@ sent 3 handled 3 left 0 dead 0
 };
 
 /// The seventeenth message finds the outbox full.
-const TALKATIVE: Tale = Tale {
-    story: Story {
+const TALKATIVE: SystemScript = SystemScript {
+    story: TestCase {
         parts: &[
-            Part {
-                habits: &[(3, &[Deed::Tell(2, ADD); 17])],
+            TestActorPlan {
+                habits: &[(3, &[Action::Tell(2, ADD); 17])],
                 ..COUNTER
             },
             COUNTER,
@@ -126,7 +128,7 @@ const TALKATIVE: Tale = Tale {
         ..PLAIN
     },
     steps: &[
-        (Send(&[Tell(1, 3, 1)]), "Queued(0)"),
+        (Send(&[tell!(1, 3, 1)]), "Queued(0)"),
         (Run, "(0;1,0) (1;1,1) (2;1,5) (2;0,5) (2;0,5) (2;0,1)"),
         (
             Finish,
@@ -140,19 +142,19 @@ sent 17 handled 17 left 0 dead 0
     ],
 };
 
-const TOLD_TOO_LATE: Tale = Tale {
-    story: Story {
+const TOLD_TOO_LATE: SystemScript = SystemScript {
+    story: TestCase {
         parts: &[
             COUNTER,
-            Part {
-                habits: &[(3, &[Deed::Tell(1, ADD)])],
+            TestActorPlan {
+                habits: &[(3, &[Action::Tell(1, ADD)])],
                 ..COUNTER
             },
         ],
         ..PLAIN
     },
     steps: &[
-        (Send(&[Poison(1), Tell(2, 3, 0)]), "Queued(0), Queued(1)"),
+        (Send(&[poison!(1), tell!(2, 3, 0)]), "Queued(0), Queued(1)"),
         (Run, "(0;1,0) (1;2,1) (2;1,1) (0;1,0)"),
         (
             Finish,
@@ -167,14 +169,14 @@ sent 3 handled 2 left 0 dead 1
 };
 
 /// What comes after a poison pill is dead.
-const POISONED: Tale = Tale {
-    story: Story {
+const POISONED: SystemScript = SystemScript {
+    story: TestCase {
         parts: &[COUNTER],
         ..PLAIN
     },
     steps: &[
         (
-            Send(&[Tell(1, ADD, 1), Poison(1), Tell(1, ADD, 2)]),
+            Send(&[tell!(1, ADD, 1), poison!(1), tell!(1, ADD, 2)]),
             "Queued(0), Queued(1), Queued(2)",
         ),
         (Run, "(0;1,0) (1;2,2) (0;1,0)"),
@@ -190,11 +192,11 @@ sent 3 handled 2 left 0 dead 1
 };
 
 /// The watch was drained when the actor ended: its watcher is told.
-const STOPPED_AND_WATCHED: Tale = Tale {
-    story: Story {
+const STOPPED_AND_WATCHED: SystemScript = SystemScript {
+    story: TestCase {
         parts: &[
-            Part {
-                start: &[Deed::Stop(2), Deed::Watch(2)],
+            TestActorPlan {
+                start: &[Action::Stop(2), Action::Watch(2)],
                 ..COUNTER
             },
             COUNTER,
@@ -223,26 +225,26 @@ a1 ended state 0 suspended 0 handled 0 left 0 dead 0 restarts 0
 sent 0 handled 0 left 0 dead 0
 ";
 
-const GUARDIAN_STOPPED: Tale = Tale {
-    story: Story {
+const GUARDIAN_STOPPED: SystemScript = SystemScript {
+    story: TestCase {
         parts: &[COUNTER],
         ..PLAIN
     },
     steps: &[
-        (Send(&[Stop(0)]), "true"),
+        (Send(&[stop!(0)]), "true"),
         (Run, "(0;2,0) (1;2,0) (0;1,0)"),
         (Finish, ALL_ENDED),
     ],
 };
 
-const WATCHES: &[Tale] = &[
+const WATCHES: &[SystemScript] = &[
     KILLED,
     WATCHED_TOO_LATE,
     WATCHED_NO_MORE,
     STOPPED_AND_WATCHED,
 ];
 
-const ENDS: &[Tale] = &[
+const ENDS: &[SystemScript] = &[
     POISONED,
     LAST_WORDS,
     TALKATIVE,

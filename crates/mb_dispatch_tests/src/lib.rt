@@ -10,8 +10,6 @@ mod by_hand;
 #[cfg(test)]
 mod closing;
 #[cfg(test)]
-mod company;
-#[cfg(test)]
 mod crowd;
 #[cfg(test)]
 mod ended;
@@ -26,7 +24,6 @@ mod meeting;
 #[cfg(test)]
 mod ordered;
 #[cfg(test)]
-mod orders;
 #[cfg(test)]
 mod refused;
 #[cfg(test)]
@@ -36,11 +33,13 @@ mod seen;
 #[cfg(test)]
 mod shown;
 #[cfg(test)]
-mod stage;
-#[cfg(test)]
 mod supervised;
 #[cfg(test)]
-mod tale;
+mod system_script;
+#[cfg(test)]
+mod system_test;
+#[cfg(test)]
+mod test_system;
 #[cfg(test)]
 mod thousand;
 #[cfg(test)]

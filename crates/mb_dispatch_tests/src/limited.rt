@@ -1,9 +1,10 @@
-//! Mailboxes and journals that are full, on one thread.
+//! Full mailboxes and full journals, on one thread.
 use crate::alone::{play_alone, text_alone};
 use crate::seen::see;
 use crate::together::Run;
-use mb_trial::Sending::Tell;
-use mb_trial::{ADD, COUNTER, Mailbox, PLAIN, Part, Sending, Story, one_witness};
+use mb_testkit::{
+    ADD, COUNTER, Order, PLAIN, TestActorPlan, TestCase, TestMailbox, one_shared_counter, tell,
+};
 use std::sync::Arc;
 use std::sync::atomic::AtomicI64;
 use std::sync::atomic::Ordering::SeqCst;
@@ -21,13 +22,13 @@ a1 live state 1 suspended 0 handled 1 left 0 dead 2 restarts 0
 sent 3 handled 1 left 0 dead 2
 ";
 
-const THREE: &[Sending] = &[Tell(1, ADD, 1), Tell(1, ADD, 2), Tell(1, ADD, 3)];
+const THREE: &[Order] = &[tell!(1, ADD, 1), tell!(1, ADD, 2), tell!(1, ADD, 3)];
 
 const FULL_MAILBOX: &[Run] = &[
     (
-        Story {
-            parts: &[Part {
-                mailbox: Mailbox::Bounded(2),
+        TestCase {
+            parts: &[TestActorPlan {
+                mailbox: TestMailbox::Bounded(2),
                 ..COUNTER
             }],
             sends: THREE,
@@ -36,9 +37,9 @@ const FULL_MAILBOX: &[Run] = &[
         TWO_PLACES,
     ),
     (
-        Story {
-            parts: &[Part {
-                mailbox: Mailbox::Bounded(1),
+        TestCase {
+            parts: &[TestActorPlan {
+                mailbox: TestMailbox::Bounded(1),
                 ..COUNTER
             }],
             sends: THREE,
@@ -49,10 +50,10 @@ const FULL_MAILBOX: &[Run] = &[
 ];
 
 /// There is room for the start and one message.
-const SHORT: Story<'static> = Story {
+const SHORT: TestCase<'static> = TestCase {
     journal_limit: 2,
     parts: &[COUNTER],
-    sends: &[Tell(1, ADD, 1), Tell(1, ADD, 2)],
+    sends: &[tell!(1, ADD, 1), tell!(1, ADD, 2)],
     ..PLAIN
 };
 
@@ -73,7 +74,7 @@ fn what_finds_a_full_journal_is_not_handled(rt: HostRuntime) {
 #[test]
 fn what_was_handled_before_stands(rt: HostRuntime) -> Result<(), Fail> {
     let shown = Arc::new(rt.alloc(), AtomicI64::new(0))?;
-    let witnesses = one_witness(rt.alloc(), shown.clone()?)?;
+    let witnesses = one_shared_counter(rt.alloc(), shown.clone()?)?;
     see(
         &rt,
         &text_alone(&rt, rt.alloc(), &SHORT, witnesses),

@@ -1,9 +1,8 @@
 //! Two actors that wait for one another while they are called: two workers run at once.
 use crate::seen::see;
 use crate::together::text_together;
-use mb_plan::Pool;
-use mb_trial::Sending::Tell;
-use mb_trial::{ADD, COUNTER, Guest, PLAIN, Silent, Story, two_guests};
+use mb_msg::PoolKind;
+use mb_testkit::{ADD, COUNTER, MeetingActor, PLAIN, Silent, TestCase, tell, two_meeting_actors};
 use std::alloc::Global;
 use std::sync::Wait;
 use std::thread::Threads;
@@ -15,21 +14,21 @@ a2 live state 0 suspended 0 handled 1 left 0 dead 0 restarts 0
 sent 2 handled 2 left 0 dead 0
 ";
 
-const BY_SHARED: Story<'static> = Story {
+const BY_SHARED: TestCase<'static> = TestCase {
     parts: &[COUNTER, COUNTER],
-    sends: &[Tell(1, ADD, 1), Tell(2, ADD, 1)],
+    sends: &[tell!(1, ADD, 1), tell!(2, ADD, 1)],
     ..PLAIN
 };
 
-const BY_STEALING: Story<'static> = Story {
-    pool: Pool::Stealing,
+const BY_STEALING: TestCase<'static> = TestCase {
+    pool: PoolKind::Stealing,
     ..BY_SHARED
 };
 
 /// The report of two guests that are sent a message each.
-fn meet<R: Threads + Wait + Sync>(rt: &R, alloc: Global, story: &Story<'_>) -> Option<String> {
-    match two_guests(alloc) {
-        Ok(guests) => text_together::<Guest, Silent, R>(rt, alloc, story, guests),
+fn meet<R: Threads + Wait + Sync>(rt: &R, alloc: Global, story: &TestCase<'_>) -> Option<String> {
+    match two_meeting_actors(alloc) {
+        Ok(guests) => text_together::<MeetingActor, Silent, R>(rt, alloc, story, guests),
         Err(_) => None,
     }
 }

@@ -1,18 +1,19 @@
 //! In which order mailboxes give their envelopes.
 use crate::limited::{ONE_PLACE, TWO_PLACES};
-use crate::tale::Step::{Finish, Journal, Run, Send};
-use crate::tale::{Tale, play};
-use mb_plan::Rank;
-use mb_trial::Sending::{Control, Tell};
-use mb_trial::{ADD, COUNTER, Deed, Mailbox, PLAIN, Part, Story};
+use crate::system_script::SystemStep::{Finish, Journal, Run, Send};
+use crate::system_script::{SystemScript, play};
+use mb_msg::RankRow;
+use mb_testkit::{
+    ADD, Action, COUNTER, PLAIN, TestActorPlan, TestCase, TestMailbox, control, tell,
+};
 
 /// A kind that goes before all others.
 const URGENT: u32 = 9;
 
-const BY_RANK: Tale = Tale {
-    story: Story {
-        parts: &[Part {
-            mailbox: Mailbox::Ranked(&[Rank {
+const BY_RANK: SystemScript = SystemScript {
+    story: TestCase {
+        parts: &[TestActorPlan {
+            mailbox: TestMailbox::Ranked(&[RankRow {
                 kind: URGENT,
                 rank: 0,
             }]),
@@ -23,10 +24,10 @@ const BY_RANK: Tale = Tale {
     steps: &[
         (
             Send(&[
-                Tell(1, ADD, 10),
-                Tell(1, ADD, 20),
-                Tell(1, URGENT, 30),
-                Tell(1, ADD, 40),
+                tell!(1, ADD, 10),
+                tell!(1, ADD, 20),
+                tell!(1, URGENT, 30),
+                tell!(1, ADD, 40),
             ]),
             "Queued(0), Queued(1), Queued(2), Queued(3)",
         ),
@@ -43,24 +44,24 @@ sent 4 handled 4 left 0 dead 0
     ],
 };
 
-const CONTROL_FIRST: Part = Part {
-    mailbox: Mailbox::ControlFirst,
+const CONTROL_FIRST: TestActorPlan = TestActorPlan {
+    mailbox: TestMailbox::ControlFirst,
     ..COUNTER
 };
 
-const CONTROL_BEFORE_OTHERS: Tale = Tale {
-    story: Story {
+const CONTROL_BEFORE_OTHERS: SystemScript = SystemScript {
+    story: TestCase {
         parts: &[CONTROL_FIRST],
         ..PLAIN
     },
     steps: &[
         (
             Send(&[
-                Tell(1, ADD, 10),
-                Tell(1, ADD, 20),
-                Control(1, ADD, 30),
-                Tell(1, ADD, 40),
-                Control(1, ADD, 50),
+                tell!(1, ADD, 10),
+                tell!(1, ADD, 20),
+                control!(1, ADD, 30),
+                tell!(1, ADD, 40),
+                control!(1, ADD, 50),
             ]),
             "Queued(0), Queued(1), Queued(2), Queued(3), Queued(4)",
         ),
@@ -80,11 +81,11 @@ sent 5 handled 5 left 0 dead 0
     ],
 };
 
-const CONTROL_BY_AN_ACTOR: Tale = Tale {
-    story: Story {
+const CONTROL_BY_AN_ACTOR: SystemScript = SystemScript {
+    story: TestCase {
         parts: &[
-            Part {
-                habits: &[(3, &[Deed::Tell(2, ADD), Deed::Control(2, ADD)])],
+            TestActorPlan {
+                habits: &[(3, &[Action::Tell(2, ADD), Action::Control(2, ADD)])],
                 ..COUNTER
             },
             CONTROL_FIRST,
@@ -92,7 +93,7 @@ const CONTROL_BY_AN_ACTOR: Tale = Tale {
         ..PLAIN
     },
     steps: &[
-        (Send(&[Tell(1, 3, 0)]), "Queued(0)"),
+        (Send(&[tell!(1, 3, 0)]), "Queued(0)"),
         (Run, "(0;1,0) (1;1,1) (2;1,2)"),
         (
             Finish,
@@ -108,14 +109,14 @@ sent 3 handled 3 left 0 dead 0
 };
 
 /// In a mailbox that is first in, first out, a control message waits as any other.
-const CONTROL_IN_ORDER: Tale = Tale {
-    story: Story {
+const CONTROL_IN_ORDER: SystemScript = SystemScript {
+    story: TestCase {
         parts: &[COUNTER],
         ..PLAIN
     },
     steps: &[
         (
-            Send(&[Tell(1, ADD, 1), Control(1, ADD, 2), Tell(1, ADD, 3)]),
+            Send(&[tell!(1, ADD, 1), control!(1, ADD, 2), tell!(1, ADD, 3)]),
             "Queued(0), Queued(1), Queued(2)",
         ),
         (Run, "(0;1,0) (1;1,3)"),
@@ -131,17 +132,17 @@ sent 3 handled 3 left 0 dead 0
     ],
 };
 
-const THREE_FOR_TWO_PLACES: Tale = Tale {
-    story: Story {
-        parts: &[Part {
-            mailbox: Mailbox::Bounded(2),
+const THREE_FOR_TWO_PLACES: SystemScript = SystemScript {
+    story: TestCase {
+        parts: &[TestActorPlan {
+            mailbox: TestMailbox::Bounded(2),
             ..COUNTER
         }],
         ..PLAIN
     },
     steps: &[
         (
-            Send(&[Tell(1, ADD, 1), Tell(1, ADD, 2), Tell(1, ADD, 3)]),
+            Send(&[tell!(1, ADD, 1), tell!(1, ADD, 2), tell!(1, ADD, 3)]),
             "Queued(0), Queued(1), Dead(2, Full)",
         ),
         (Run, "(0;1,0) (1;1,2)"),
@@ -149,17 +150,17 @@ const THREE_FOR_TWO_PLACES: Tale = Tale {
     ],
 };
 
-const THREE_FOR_ONE_PLACE: Tale = Tale {
-    story: Story {
-        parts: &[Part {
-            mailbox: Mailbox::Bounded(1),
+const THREE_FOR_ONE_PLACE: SystemScript = SystemScript {
+    story: TestCase {
+        parts: &[TestActorPlan {
+            mailbox: TestMailbox::Bounded(1),
             ..COUNTER
         }],
         ..PLAIN
     },
     steps: &[
         (
-            Send(&[Tell(1, ADD, 1), Tell(1, ADD, 2), Tell(1, ADD, 3)]),
+            Send(&[tell!(1, ADD, 1), tell!(1, ADD, 2), tell!(1, ADD, 3)]),
             "Queued(0), Dead(1, Full), Dead(2, Full)",
         ),
         (Run, "(0;1,0) (1;1,1)"),
@@ -167,14 +168,14 @@ const THREE_FOR_ONE_PLACE: Tale = Tale {
     ],
 };
 
-const FIRST: &[Tale] = &[
+const FIRST: &[SystemScript] = &[
     BY_RANK,
     CONTROL_BEFORE_OTHERS,
     CONTROL_BY_AN_ACTOR,
     CONTROL_IN_ORDER,
 ];
 
-const FULL: &[Tale] = &[THREE_FOR_TWO_PLACES, THREE_FOR_ONE_PLACE];
+const FULL: &[SystemScript] = &[THREE_FOR_TWO_PLACES, THREE_FOR_ONE_PLACE];
 
 #[test]
 fn a_mailbox_gives_what_goes_first(rt: HostRuntime) {

@@ -1,21 +1,20 @@
-//! A whole run on one thread, whose calls are made again where memory was refused: run this with each allocation refused in turn
-//! (`tools/refuse_each_allocation_of_a_system`).
-use crate::closing::{Refusal, Unfinished};
-use crate::company::Company;
-use mb_dispatch::{Put, RunError, Unsent};
-use mb_msg::{ActorId, Body, Why};
-use mb_plan::Pool;
+//! A whole run on one thread, whose calls are made again where memory was refused: `tools/refuse_each_allocation system` runs
+//! this with each allocation refused in turn.
+use crate::closing::{FinishRefusal, Unfinished};
+use crate::test_system::TestSystem;
+use mb_dispatch::{Put, RunError, SendError};
+use mb_msg::{ActorId, Body, PoolKind, Why};
 use mb_report::Report;
-use mb_trial::{ADD, COUNTER, Deed, FAIL, PLAIN, Part, Story, text_of};
+use mb_testkit::{ADD, Action, COUNTER, FAIL, PLAIN, TestActorPlan, TestCase, text_of};
 use std::alloc::Global;
 use std::sync::Wait;
 
-const PARENT: Part = Part {
-    start: &[Deed::Spawn(2)],
+const PARENT: TestActorPlan = TestActorPlan {
+    start: &[Action::Spawn(2)],
     ..COUNTER
 };
 
-const CHILD: Part = Part {
+const CHILD: TestActorPlan = TestActorPlan {
     parent: 1,
     ..COUNTER
 };
@@ -97,16 +96,16 @@ const SENDS: &[(Body, &str)] = &[
     ),
 ];
 
-/// A system of the two, built once more where memory was refused.
-fn build_at_last<R: Wait>(rt: &R, alloc: Global, story: &Story<'_>) -> Option<Company> {
-    match Company::new(rt, alloc, story) {
+/// A system of the two, built again where memory was refused.
+fn build_at_last<R: Wait>(rt: &R, alloc: Global, story: &TestCase<'_>) -> Option<TestSystem> {
+    match TestSystem::new(rt, alloc, story) {
         Ok(company) => Some(company),
-        Err(_) => Company::new(rt, alloc, story).ok(),
+        Err(_) => TestSystem::new(rt, alloc, story).ok(),
     }
 }
 
 /// Sends all: the report that is due.
-fn tell_each<R: Wait>(rt: &R, company: &mut Company) -> Option<&'static str> {
+fn tell_each<R: Wait>(rt: &R, company: &mut TestSystem) -> Option<&'static str> {
     let mut due = WITH_ALL;
     for (body, without) in SENDS {
         match tell_at_last(rt, company, *body)? {
@@ -118,16 +117,20 @@ fn tell_each<R: Wait>(rt: &R, company: &mut Company) -> Option<&'static str> {
     Some(due)
 }
 
-/// Sends this, once more where nothing was sent.
-fn tell_at_last<R: Wait>(rt: &R, company: &mut Company, body: Body) -> Option<Result<Put, Unsent>> {
+/// Sends this, again where nothing was sent.
+fn tell_at_last<R: Wait>(
+    rt: &R,
+    company: &mut TestSystem,
+    body: Body,
+) -> Option<Result<Put, SendError>> {
     match company.tell(rt, ActorId(2), body)? {
-        Err(Unsent::NoMemory) => company.tell(rt, ActorId(2), body),
+        Err(SendError::NoMemory) => company.tell(rt, ActorId(2), body),
         put => Some(put),
     }
 }
 
-/// Runs all, once more where memory was refused: whether it ran.
-fn run_at_last<R: Wait>(rt: &R, company: &mut Company) -> bool {
+/// Runs all, again where memory was refused; answers whether it ran.
+fn run_at_last<R: Wait>(rt: &R, company: &mut TestSystem) -> bool {
     let turns = match company.run_quietly(rt) {
         Some(Err(RunError::NoMemory)) => company.run_quietly(rt),
         turns => turns,
@@ -135,13 +138,13 @@ fn run_at_last<R: Wait>(rt: &R, company: &mut Company) -> bool {
     matches!(turns, Some(Ok(_)))
 }
 
-/// Ends the system, once more where memory was refused.
-fn finish_at_last<R: Wait>(rt: &R, company: Company) -> Option<Report> {
+/// Ends the system, again where memory was refused.
+fn finish_at_last<R: Wait>(rt: &R, company: TestSystem) -> Option<Report> {
     match company.finish(rt) {
         Ok(report) => Some(report),
         Err(
             Unfinished {
-                why: Refusal::NoMemory,
+                why: FinishRefusal::NoMemory,
                 back: Some(back),
             },
         ) => back.finish(rt).ok(),
@@ -150,7 +153,7 @@ fn finish_at_last<R: Wait>(rt: &R, company: Company) -> Option<Report> {
 }
 
 /// Whether the report is the one that is due.
-fn is_as_due<R: Wait>(rt: &R, alloc: Global, company: Company) -> Option<bool> {
+fn is_as_due<R: Wait>(rt: &R, alloc: Global, company: TestSystem) -> Option<bool> {
     let mut company = company;
     let due = go_on(rt, &mut company);
     let report = finish_at_last(rt, company)?;
@@ -158,7 +161,7 @@ fn is_as_due<R: Wait>(rt: &R, alloc: Global, company: Company) -> Option<bool> {
 }
 
 /// Sends all, and runs it: the report that is due.
-fn go_on<R: Wait>(rt: &R, company: &mut Company) -> Option<&'static str> {
+fn go_on<R: Wait>(rt: &R, company: &mut TestSystem) -> Option<&'static str> {
     let due = tell_each(rt, company)?;
     if run_at_last(rt, company) {
         Some(due)
@@ -180,17 +183,17 @@ fn text_at_last(alloc: Global, report: &Report) -> Option<String> {
     }
 }
 
-const BY_SHARED: Story<'static> = Story {
+const BY_SHARED: TestCase<'static> = TestCase {
     parts: &[PARENT, CHILD],
     ..PLAIN
 };
 
-const BY_STEALING: Story<'static> = Story {
-    pool: Pool::Stealing,
+const BY_STEALING: TestCase<'static> = TestCase {
+    pool: PoolKind::Stealing,
     ..BY_SHARED
 };
 
-fn try_at_last<R: Wait>(rt: &R, alloc: Global, story: &Story<'_>) -> Option<bool> {
+fn try_at_last<R: Wait>(rt: &R, alloc: Global, story: &TestCase<'_>) -> Option<bool> {
     is_as_due(rt, alloc, build_at_last(rt, alloc, story)?)
 }
 

@@ -1,22 +1,21 @@
-//! A child that fails again and again, turn by turn.
+//! A child that fails again and again, one run of a mailbox after another.
 use crate::supervised::{ALWAYS_RETRIED, CHILD, FAILURES, RETRIED_TWICE};
-use crate::tale::Step::{Finish, Run, Send};
-use crate::tale::{Tale, play};
-use mb_trial::Deed::Spawn;
-use mb_trial::Sending::{Poison, Tell};
-use mb_trial::{ADD, COUNTER, FAIL, PLAIN, Part, Story};
+use crate::system_script::SystemStep::{Finish, Run, Send};
+use crate::system_script::{SystemScript, play};
+use mb_testkit::Action::Spawn;
+use mb_testkit::{ADD, COUNTER, FAIL, PLAIN, TestActorPlan, TestCase, poison, tell};
 
-const PARENT: Part = Part {
+const PARENT: TestActorPlan = TestActorPlan {
     start: &[Spawn(2)],
     ..COUNTER
 };
 
 const THREE_QUEUED: &str = "Queued(0), Queued(1), Queued(2)";
 
-const TWICE: Tale = Tale {
-    story: Story {
+const TWICE: SystemScript = SystemScript {
+    story: TestCase {
         parts: &[
-            Part {
+            TestActorPlan {
                 retries: 2,
                 ..PARENT
             },
@@ -34,10 +33,10 @@ const TWICE: Tale = Tale {
     ],
 };
 
-const NEVER: Tale = Tale {
-    story: Story {
+const NEVER: SystemScript = SystemScript {
+    story: TestCase {
         parts: &[
-            Part {
+            TestActorPlan {
                 retries: 0,
                 ..PARENT
             },
@@ -60,10 +59,10 @@ sent 3 handled 1 left 0 dead 2
     ],
 };
 
-const ALWAYS: Tale = Tale {
-    story: Story {
+const ALWAYS: SystemScript = SystemScript {
+    story: TestCase {
         parts: &[
-            Part {
+            TestActorPlan {
                 retries: -1,
                 ..PARENT
             },
@@ -82,19 +81,19 @@ const ALWAYS: Tale = Tale {
 };
 
 /// It goes on after its failure, until it is poisoned: what comes then is dead.
-const POISONED_LATER: Tale = Tale {
-    story: Story {
+const POISONED_LATER: SystemScript = SystemScript {
+    story: TestCase {
         parts: &[PARENT, CHILD],
         ..PLAIN
     },
     steps: &[
         (
             Send(&[
-                Tell(2, ADD, 5),
-                Tell(2, FAIL, 0),
-                Tell(2, ADD, 7),
-                Poison(2),
-                Tell(2, ADD, 9),
+                tell!(2, ADD, 5),
+                tell!(2, FAIL, 0),
+                tell!(2, ADD, 7),
+                poison!(2),
+                tell!(2, ADD, 9),
             ]),
             "Queued(0), Queued(1), Queued(2), Queued(3), Queued(4)",
         ),
@@ -111,7 +110,7 @@ sent 5 handled 4 left 0 dead 1
     ],
 };
 
-const RETRIED: &[Tale] = &[TWICE, NEVER, ALWAYS, POISONED_LATER];
+const RETRIED: &[SystemScript] = &[TWICE, NEVER, ALWAYS, POISONED_LATER];
 
 #[test]
 fn a_child_is_restarted_as_often_as_its_parent_says_turn_by_turn(rt: HostRuntime) {

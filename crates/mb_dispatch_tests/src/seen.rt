@@ -1,8 +1,8 @@
-//! What was found, beside what is due.
-use mb_trial::words;
+//! Comparing what was found with what is due.
+use mb_testkit::words;
 use std::process::Abort;
 
-/// Sees to it that this text was found.
+/// Checks that this text was found.
 pub fn see<R: Abort>(rt: &R, found: &Option<String>, wanted: &str) {
     assert_eq!(rt; words(found), wanted);
 }

@@ -1,9 +1,9 @@
 //! Answers of the dispatcher as texts.
-use mb_dispatch::{Look, Put, RunError, Turn, Unsent};
-use mb_trial::add;
+use mb_dispatch::{Look, Put, RunError, SendError, Turn};
+use mb_testkit::add;
 use std::alloc::{AllocError, Global};
 
-/// A turn: its actor; its system messages and its envelopes.
+/// One run: its actor, its system messages and its envelopes.
 pub fn turn_text(alloc: Global, turn: &Turn) -> Result<String, AllocError> {
     let Turn {
         actor,
@@ -14,7 +14,7 @@ pub fn turn_text(alloc: Global, turn: &Turn) -> Result<String, AllocError> {
     format!(in alloc; "({number};{system},{envelopes})")
 }
 
-/// The turns of a run, or why it was broken off.
+/// What each run did, or why the runs were broken off.
 pub fn turns_text(alloc: Global, run: Result<Vec<Turn>, RunError>) -> Result<String, AllocError> {
     match run {
         Ok(turns) => each_turn_text(alloc, &turns),
@@ -22,7 +22,7 @@ pub fn turns_text(alloc: Global, run: Result<Vec<Turn>, RunError>) -> Result<Str
     }
 }
 
-// The turns, one after another.
+// The runs, one after another.
 fn each_turn_text(alloc: Global, turns: &[Turn]) -> Result<String, AllocError> {
     let mut text = String::new(alloc);
     for turn in turns {
@@ -41,7 +41,7 @@ pub fn run_text(alloc: Global, run: Result<(), RunError>) -> Result<String, Allo
 }
 
 /// What became of an envelope.
-pub fn put_text(alloc: Global, put: Result<Put, Unsent>) -> Result<String, AllocError> {
+pub fn put_text(alloc: Global, put: Result<Put, SendError>) -> Result<String, AllocError> {
     match put {
         Ok(put) => format!(in alloc; "{put:?}"),
         Err(why) => format!(in alloc; "{why:?}"),
@@ -49,7 +49,7 @@ pub fn put_text(alloc: Global, put: Result<Put, Unsent>) -> Result<String, Alloc
 }
 
 /// Whether something was done.
-pub fn stop_text(alloc: Global, stopped: Result<bool, Unsent>) -> Result<String, AllocError> {
+pub fn stop_text(alloc: Global, stopped: Result<bool, SendError>) -> Result<String, AllocError> {
     match stopped {
         Ok(is_done) => format!(in alloc; "{is_done}"),
         Err(why) => format!(in alloc; "{why:?}"),
@@ -57,7 +57,7 @@ pub fn stop_text(alloc: Global, stopped: Result<bool, Unsent>) -> Result<String,
 }
 
 /// How a receiver was seen.
-pub fn look_text(alloc: Global, look: Result<Look, Unsent>) -> Result<String, AllocError> {
+pub fn look_text(alloc: Global, look: Result<Look, SendError>) -> Result<String, AllocError> {
     match look {
         Ok(Look::Open(_)) => String::from_str(alloc, "Open"),
         Ok(Look::Closed) => String::from_str(alloc, "Closed"),

@@ -1,12 +1,10 @@
-//! Children that fail, on threads. (What is told to one that may have ended is dead or left, as it comes: such stories go turn by
-//! turn, in `family` and `retried`.)
+//! Children that fail, on threads. (What is told to a child that may have ended is dead or left, as it happens: such stories
+//! are run one mailbox after another, in `family` and `retried`.)
 use crate::together::{Run, play_together};
-use mb_journal::Pattern;
-use mb_msg::Directive;
-use mb_trial::Sending::Tell;
-use mb_trial::{ADD, COUNTER, Deed, FAIL, PLAIN, Part, Sending, Story};
+use mb_msg::{Directive, Pattern};
+use mb_testkit::{ADD, Action, COUNTER, FAIL, Order, PLAIN, TestActorPlan, TestCase, tell};
 
-pub const CHILD: Part = Part {
+pub const CHILD: TestActorPlan = TestActorPlan {
     parent: 1,
     ..COUNTER
 };
@@ -46,20 +44,20 @@ a2 live state 0 suspended 0 handled 3 left 0 dead 0 restarts 3
 sent 3 handled 3 left 0 dead 0
 ";
 
-const THREE: &[Sending] = &[Tell(2, ADD, 5), Tell(2, FAIL, 0), Tell(2, ADD, 7)];
+const THREE: &[Order] = &[tell!(2, ADD, 5), tell!(2, FAIL, 0), tell!(2, ADD, 7)];
 
-pub const FAILURES: &[Sending] = &[Tell(2, FAIL, 0), Tell(2, FAIL, 0), Tell(2, FAIL, 0)];
+pub const FAILURES: &[Order] = &[tell!(2, FAIL, 0), tell!(2, FAIL, 0), tell!(2, FAIL, 0)];
 
-const PARENT: Part = Part {
-    start: &[Deed::Spawn(2)],
+const PARENT: TestActorPlan = TestActorPlan {
+    start: &[Action::Spawn(2)],
     ..COUNTER
 };
 
 const DECIDED: &[Run] = &[
     (
-        Story {
+        TestCase {
             parts: &[
-                Part {
+                TestActorPlan {
                     rule: Some((Pattern::AnyError, Directive::Restart)),
                     ..PARENT
                 },
@@ -71,9 +69,9 @@ const DECIDED: &[Run] = &[
         RESTARTED,
     ),
     (
-        Story {
+        TestCase {
             parts: &[
-                Part {
+                TestActorPlan {
                     rule: Some((Pattern::AnyError, Directive::Resume)),
                     ..PARENT
                 },
@@ -85,9 +83,9 @@ const DECIDED: &[Run] = &[
         RESUMED,
     ),
     (
-        Story {
+        TestCase {
             parts: &[
-                Part {
+                TestActorPlan {
                     rule: Some((Pattern::AnyError, Directive::Escalate)),
                     ..PARENT
                 },
@@ -102,9 +100,9 @@ const DECIDED: &[Run] = &[
 
 const RETRIED: &[Run] = &[
     (
-        Story {
+        TestCase {
             parts: &[
-                Part {
+                TestActorPlan {
                     retries: 2,
                     ..PARENT
                 },
@@ -116,9 +114,9 @@ const RETRIED: &[Run] = &[
         RETRIED_TWICE,
     ),
     (
-        Story {
+        TestCase {
             parts: &[
-                Part {
+                TestActorPlan {
                     retries: -1,
                     ..PARENT
                 },

@@ -1,10 +1,10 @@
-//! A thousand plans by chance, run on threads: what must be true of a run is true of each report.
+//! A thousand random plans, run on threads: what must be true of a run is true of each report.
 use crate::together::report_of;
-use mb_plan::Pool;
+use mb_msg::PoolKind;
 use mb_report::Report;
-use mb_trial::{
-    Adding, Gambler, Sending, actors_by_chance, gamblers, is_right_of_these_alone, plan_by_chance,
-    sends_by_chance,
+use mb_testkit::{
+    Adding, Order, RandomActor, actors_by_chance, is_right_of_these_alone, plan_by_chance,
+    random_actors, sends_by_chance,
 };
 use std::alloc::{AllocError, Global};
 use std::process::Abort;
@@ -16,7 +16,7 @@ fn try_one<R: Threads + Wait + Sync>(
     rt: &R,
     alloc: Global,
     seed: u64,
-    pool: Pool,
+    pool: PoolKind,
 ) -> Result<bool, AllocError> {
     let plan = plan_by_chance(alloc, seed, pool)?;
     let sends = sends_by_chance(alloc, seed, plan.senders, actors_by_chance(seed))?;
@@ -31,15 +31,15 @@ fn run_one<R: Threads + Wait + Sync>(
     rt: &R,
     alloc: Global,
     seed: u64,
-    pool: Pool,
-    sends: &[Vec<Sending>],
+    pool: PoolKind,
+    sends: &[Vec<Order>],
 ) -> Result<Option<Report>, AllocError> {
     let plan = plan_by_chance(alloc, seed, pool)?;
-    let gamblers = gamblers(alloc, seed, actors_by_chance(seed))?;
-    report_of::<Gambler, Adding, R>(rt, alloc, plan, gamblers, sends)
+    let random_actors = random_actors(alloc, seed, actors_by_chance(seed))?;
+    report_of::<RandomActor, Adding, R>(rt, alloc, plan, random_actors, sends)
 }
 
-fn try_five_hundred<R: Abort + Threads + Wait + Sync>(rt: &R, alloc: Global, pool: Pool) {
+fn try_five_hundred<R: Abort + Threads + Wait + Sync>(rt: &R, alloc: Global, pool: PoolKind) {
     for seed in 0..500 {
         let is_right = try_one(rt, alloc, seed, pool);
         assert!(rt; matches!(is_right, Ok(true)), "the plan of seed {seed}");
@@ -48,10 +48,10 @@ fn try_five_hundred<R: Abort + Threads + Wait + Sync>(rt: &R, alloc: Global, poo
 
 #[test]
 fn five_hundred_plans_by_a_shared_pool_come_out_right(rt: HostRuntime) {
-    try_five_hundred(&rt, rt.alloc(), Pool::Shared)
+    try_five_hundred(&rt, rt.alloc(), PoolKind::Shared)
 }
 
 #[test]
 fn five_hundred_plans_by_a_stealing_pool_come_out_right(rt: HostRuntime) {
-    try_five_hundred(&rt, rt.alloc(), Pool::Stealing)
+    try_five_hundred(&rt, rt.alloc(), PoolKind::Stealing)
 }

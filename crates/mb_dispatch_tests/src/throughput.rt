@@ -1,11 +1,10 @@
-//! How much a run of a mailbox handles, turn by turn.
-use crate::tale::Step::{Finish, Run, Send};
-use crate::tale::{Tale, play};
-use mb_plan::Pool;
-use mb_trial::Sending::Tell;
-use mb_trial::{ADD, COUNTER, FAIL, PLAIN, Sending, Story};
+//! How much a run of a mailbox handles.
+use crate::system_script::SystemStep::{Finish, Run, Send};
+use crate::system_script::{SystemScript, play};
+use mb_msg::PoolKind;
+use mb_testkit::{ADD, COUNTER, FAIL, Order, PLAIN, TestCase, tell};
 
-const ONE: Sending = Tell(1, ADD, 1);
+const ONE: Order = tell!(1, ADD, 1);
 
 const ALL_QUEUED: &str = "Queued(0), Queued(1), Queued(2), Queued(3), Queued(4)";
 
@@ -15,13 +14,13 @@ a1 live state 5 suspended 0 handled 5 left 0 dead 0 restarts 0
 sent 5 handled 5 left 0 dead 0
 ";
 
-const BY_TWOS: Story<'static> = Story {
+const BY_TWOS: TestCase<'static> = TestCase {
     throughput: 2,
     parts: &[COUNTER],
     ..PLAIN
 };
 
-const TWO_AT_A_TIME: Tale = Tale {
+const TWO_AT_A_TIME: SystemScript = SystemScript {
     story: BY_TWOS,
     steps: &[
         (Send(&[ONE, ONE, ONE, ONE, ONE]), ALL_QUEUED),
@@ -30,17 +29,17 @@ const TWO_AT_A_TIME: Tale = Tale {
     ],
 };
 
-const TWO_AT_A_TIME_BY_STEALING: Tale = Tale {
-    story: Story {
+const TWO_AT_A_TIME_BY_STEALING: SystemScript = SystemScript {
+    story: TestCase {
         workers: 1,
-        pool: Pool::Stealing,
+        pool: PoolKind::Stealing,
         ..BY_TWOS
     },
     ..TWO_AT_A_TIME
 };
 
-const ONE_AT_A_TIME: Tale = Tale {
-    story: Story {
+const ONE_AT_A_TIME: SystemScript = SystemScript {
+    story: TestCase {
         throughput: 0,
         parts: &[COUNTER],
         ..PLAIN
@@ -59,14 +58,14 @@ sent 2 handled 2 left 0 dead 0
 ";
 
 /// What comes after a failure is not begun before the restart.
-const SUSPENDED: Tale = Tale {
-    story: Story {
+const SUSPENDED: SystemScript = SystemScript {
+    story: TestCase {
         parts: &[COUNTER],
         ..PLAIN
     },
     steps: &[
         (
-            Send(&[Tell(1, FAIL, 0), Tell(1, FAIL, 0)]),
+            Send(&[tell!(1, FAIL, 0), tell!(1, FAIL, 0)]),
             "Queued(0), Queued(1)",
         ),
         (Run, "(0;1,0) (1;1,1) (0;1,0) (1;1,1) (0;1,0) (1;1,0)"),
@@ -75,17 +74,17 @@ const SUSPENDED: Tale = Tale {
 };
 
 /// Once more by one end that steals.
-const ONE_AT_A_TIME_BY_STEALING: Tale = Tale {
-    story: Story {
+const ONE_AT_A_TIME_BY_STEALING: SystemScript = SystemScript {
+    story: TestCase {
         workers: 1,
-        pool: Pool::Stealing,
+        pool: PoolKind::Stealing,
         throughput: 0,
         ..BY_TWOS
     },
     ..ONE_AT_A_TIME
 };
 
-const AS_MANY: &[Tale] = &[
+const AS_MANY: &[SystemScript] = &[
     TWO_AT_A_TIME,
     TWO_AT_A_TIME_BY_STEALING,
     ONE_AT_A_TIME,

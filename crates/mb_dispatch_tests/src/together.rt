@@ -1,26 +1,27 @@
 //! Whole runs on threads: all workers run while each sender sends.
 ghost use Rattle.std.specs.Prelude.{◌≡◌, IfOk, map};
-ghost use Rattle.mb_build.specs.Behaved.{AreBehaved};
+ghost use Rattle.mb_build.specs.BehavesAsPlanned.{BehaveAsPlanned};
 ghost use Rattle.mb_system.specs.Belonging.{BelongsTogether};
 
-use crate::orders::each_once;
 use crate::seen::see;
 use mb_actor::{Actor, Behaviours};
 use mb_dispatch::{Built, Job, Sender, run};
-use mb_plan::Plan;
+use mb_msg::Plan;
 use mb_report::Report;
 use mb_shutdown::finish;
 use mb_startup::build;
-use mb_trial::{Adding, Player, Sending, Story, plan_and_sends, players_of, sends_at, text_of};
+use mb_testkit::{
+    Adding, Order, TestActor, TestCase, plan_and_sends, sends_at, sends_of, test_actors_of, text_of,
+};
 use std::alloc::{AllocError, Global};
 use std::process::Abort;
 use std::sync::Wait;
 use std::thread::Threads;
 
 /// A story, and the text of its report.
-pub type Run = (Story<'static>, &'static str);
+pub type Run = (TestCase<'static>, &'static str);
 
-/// Plays each of these stories, and sees to it that its report has this text.
+/// Plays each of these stories, and checks that its report has this text.
 pub fn play_together<R: Abort + Threads + Wait + Sync>(rt: &R, alloc: Global, runs: &[Run]) {
     for (story, report) in runs {
         see(rt, &run_together(rt, alloc, story), *report);
@@ -31,10 +32,10 @@ pub fn play_together<R: Abort + Threads + Wait + Sync>(rt: &R, alloc: Global, ru
 pub fn run_together<R: Threads + Wait + Sync>(
     rt: &R,
     alloc: Global,
-    story: &Story<'_>,
+    story: &TestCase<'_>,
 ) -> Option<String> {
-    match players_of(alloc, story.parts) {
-        Ok(players) => text_together::<Player, Adding, R>(rt, alloc, story, players),
+    match test_actors_of(alloc, story.parts) {
+        Ok(players) => text_together::<TestActor, Adding, R>(rt, alloc, story, players),
         Err(_) => None,
     }
 }
@@ -43,10 +44,10 @@ pub fn run_together<R: Threads + Wait + Sync>(
 pub fn text_together<A: Actor + Send, K: Behaviours + Send, R: Threads + Wait + Sync>(
     rt: &R,
     alloc: Global,
-    story: &Story<'_>,
+    story: &TestCase<'_>,
     actors: Vec<A>,
 ) -> Option<String>
-    requires behaved { AreBehaved A.content A.after A.gives K.after K.gives 1 actors.items }
+    requires behaved { BehaveAsPlanned A.content A.after A.gives K.after K.gives 1 actors.items }
 {
     let (plan, sends) = plan_and_sends(alloc, story).ok()?;
     match report_of::<A, K, R>(rt, alloc, plan, actors, &sends) {
@@ -61,9 +62,9 @@ pub fn report_of<A: Actor + Send, K: Behaviours + Send, R: Threads + Wait + Sync
     alloc: Global,
     plan: Plan,
     actors: Vec<A>,
-    sends: &[Vec<Sending>],
+    sends: &[Vec<Order>],
 ) -> Result<Option<Report>, AllocError>
-    requires behaved { AreBehaved A.content A.after A.gives K.after K.gives 1 actors.items }
+    requires behaved { BehaveAsPlanned A.content A.after A.gives K.after K.gives 1 actors.items }
 {
     let built = begin::<A, K, R>(rt, alloc, plan, actors)?;
     let Built {
@@ -92,7 +93,7 @@ pub fn begin<A: Actor, K: Behaviours, R: Wait>(
     plan: Plan,
     actors: Vec<A>,
 ) -> Result<Built<A, K>, AllocError>
-    requires behaved { AreBehaved A.content A.after A.gives K.after K.gives 1 actors.items }
+    requires behaved { BehaveAsPlanned A.content A.after A.gives K.after K.gives 1 actors.items }
     ensures { IfOk result BelongsTogether }
 {
     match build::<A, K, R>(rt, alloc, plan, actors) {
@@ -105,13 +106,13 @@ pub fn begin<A: Actor, K: Behaviours, R: Wait>(
 fn jobs_of<A: Actor, K: Behaviours>(
     alloc: Global,
     senders: Vec<Sender<A, K>>,
-    sends: &[Vec<Sending>],
+    sends: &[Vec<Order>],
 ) -> Result<Vec<Job<A, K>>, AllocError>
     ensures { IfOk result (λ jobs. map (λ job. job.sender) jobs.items ≡ senders.items) }
 {
     let mut jobs = Vec::new(alloc);
     for sender in senders {
-        let own = each_once(alloc, sends_at(sends, jobs.len()))?;
+        let own = sends_of(alloc, sends_at(sends, jobs.len()))?;
         jobs.push(Job { sender, sends: own })?;
     }
     Ok(jobs)

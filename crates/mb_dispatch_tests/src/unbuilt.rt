@@ -1,32 +1,34 @@
-//! Plans of which no system is built.
-use mb_msg::ActorId;
-use mb_plan::Plan;
+//! Plans from which no system is built.
+use mb_msg::{ActorId, Plan};
 use mb_startup::{BuildError, PlanError, build};
-use mb_trial::{Adding, COUNTER, Mailbox, PLAIN, Part, Player, Story, plan_of, players_of};
+use mb_testkit::{
+    Adding, COUNTER, PLAIN, TestActor, TestActorPlan, TestCase, TestMailbox, plan_of,
+    test_actors_of,
+};
 use std::alloc::{AllocError, Global};
 use std::sync::Wait;
 use std::test::Fail;
 
-const ONE: Story<'static> = Story {
+const ONE: TestCase<'static> = TestCase {
     parts: &[COUNTER],
     ..PLAIN
 };
 
 /// Its own child.
-const OWN_CHILD: Part = Part {
+const OWN_CHILD: TestActorPlan = TestActorPlan {
     parent: 1,
     ..COUNTER
 };
 
-const TOO_LARGE: Part = Part {
-    mailbox: Mailbox::Bounded(65_537),
+const TOO_LARGE: TestActorPlan = TestActorPlan {
+    mailbox: TestMailbox::Bounded(65_537),
     ..COUNTER
 };
 
 /// A plan, the actors that are handed in for it, and the first reason for which it is refused.
-const BAD: &[(Story<'static>, &'static [Part], PlanError)] = &[
+const BAD: &[(TestCase<'static>, &'static [TestActorPlan], PlanError)] = &[
     (
-        Story {
+        TestCase {
             parts: &[OWN_CHILD; 64],
             ..PLAIN
         },
@@ -34,7 +36,7 @@ const BAD: &[(Story<'static>, &'static [Part], PlanError)] = &[
         PlanError::Actors,
     ),
     (
-        Story {
+        TestCase {
             parts: &[OWN_CHILD],
             ..PLAIN
         },
@@ -42,9 +44,9 @@ const BAD: &[(Story<'static>, &'static [Part], PlanError)] = &[
         PlanError::Boxes,
     ),
     (
-        Story {
-            parts: &[Part {
-                mailbox: Mailbox::Bounded(0),
+        TestCase {
+            parts: &[TestActorPlan {
+                mailbox: TestMailbox::Bounded(0),
                 ..OWN_CHILD
             }],
             ..PLAIN
@@ -53,7 +55,7 @@ const BAD: &[(Story<'static>, &'static [Part], PlanError)] = &[
         PlanError::Parent(ActorId(1)),
     ),
     (
-        Story {
+        TestCase {
             senders: 17,
             parts: &[TOO_LARGE],
             ..PLAIN
@@ -62,7 +64,7 @@ const BAD: &[(Story<'static>, &'static [Part], PlanError)] = &[
         PlanError::Capacity(ActorId(1)),
     ),
     (
-        Story {
+        TestCase {
             senders: 17,
             workers: 0,
             ..ONE
@@ -71,7 +73,7 @@ const BAD: &[(Story<'static>, &'static [Part], PlanError)] = &[
         PlanError::Senders,
     ),
     (
-        Story {
+        TestCase {
             workers: 0,
             journal_limit: 0,
             ..ONE
@@ -79,9 +81,13 @@ const BAD: &[(Story<'static>, &'static [Part], PlanError)] = &[
         &[COUNTER],
         PlanError::Workers,
     ),
-    (Story { workers: 17, ..ONE }, &[COUNTER], PlanError::Workers),
     (
-        Story {
+        TestCase { workers: 17, ..ONE },
+        &[COUNTER],
+        PlanError::Workers,
+    ),
+    (
+        TestCase {
             journal_limit: 0,
             ..ONE
         },
@@ -94,12 +100,12 @@ const BAD: &[(Story<'static>, &'static [Part], PlanError)] = &[
 fn refusal<R: Wait>(
     rt: &R,
     alloc: Global,
-    story: &Story<'_>,
-    actors: &[Part],
+    story: &TestCase<'_>,
+    actors: &[TestActorPlan],
 ) -> Result<Option<PlanError>, AllocError> {
     let plan = plan_of(alloc, story)?;
-    let players = players_of(alloc, actors)?;
-    match build::<Player, Adding, R>(rt, alloc, plan, players) {
+    let players = test_actors_of(alloc, actors)?;
+    match build::<TestActor, Adding, R>(rt, alloc, plan, players) {
         Ok(_) => Ok(None),
         Err(BuildError::BadPlan(reason, plan, players)) => {
             if is_plan_of(&plan, story) && players.len() == actors.len() {
@@ -112,7 +118,7 @@ fn refusal<R: Wait>(
     }
 }
 
-fn is_plan_of(plan: &Plan, story: &Story<'_>) -> bool {
+fn is_plan_of(plan: &Plan, story: &TestCase<'_>) -> bool {
     plan.actors.len() == story.parts.len() && plan.workers == story.workers
 }
 

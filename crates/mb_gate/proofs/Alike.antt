@@ -3,10 +3,10 @@ use Rattle.std.proofs.Common.{◌≡◌, ◌≢◌, ⊎_elim, ℕ, Bool, true, f
 use mathlib.Core.Logic.{dite}
 use native.Mathlib.Decide.{ℕ_discrete}
 use Rattle.mb_journal.specs.Entry.{Entry}
-use Rattle.mb_core.specs.declared.debt.Debt.{Debt}
-use Rattle.mb_rule.specs.Summed.{total}
-use Rattle.mb_rule.proofs.SummedLemmas.{total_append}
-use Rattle.mb_gate.specs.View.{View, Sight, Saw, owes, either_owes, idling, taking_in, taking_over}
+use Rattle.mb_core.specs.declared.debt.WakeObligation.{WakeObligation}
+use Rattle.mb_ghost.specs.Summed.{total}
+use Rattle.mb_ghost.proofs.SummedLemmas.{total_append}
+use Rattle.mb_gate.specs.View.{View, Observation, Saw, obligation_to, either_obligation, idling, taking_in, taking_over}
 use Rattle.mb_gate.specs.Rule.{IsAmong}
 use Rattle.mb_gate.specs.Waiting.{counted_on, counted_off}
 use Rattle.mb_gate.specs.Shown.{ReleasesAlike}
@@ -16,12 +16,12 @@ use Rattle.mb_gate.proofs.Views.{owes_here, owes_else}
 use Rattle.mb_gate.proofs.Parting.{debt_of-added}
 
 -- two lists in either order have the same in them
-swapped : (s x : Sight) (a b : List Sight) → IsAmong s (x ∷ (a ++ b)) → IsAmong s (x ∷ (b ++ a))
+swapped : (s x : Observation) (a b : List Observation) → IsAmong s (x ∷ (a ++ b)) → IsAmong s (x ∷ (b ++ a))
 swapped s x a b is = ⊎_elim (λ e. subst (λ z. IsAmong z (x ∷ (b ++ a))) e (among_first x (b ++ a)))
     (λ rest. among_more s x (b ++ a) (⊎_elim (λ l. among_right s b a l) (λ r. among_left s b a r) (among_either s a b rest)))
     (first_or_rest s x (a ++ b) is)
 
-swapped_total : (f : Sight → ℕ) (x : Sight) (a b : List Sight) → total f (x ∷ (a ++ b)) ≡ total f (x ∷ (b ++ a))
+swapped_total : (f : Observation → ℕ) (x : Observation) (a b : List Observation) → total f (x ∷ (a ++ b)) ≡ total f (x ∷ (b ++ a))
 swapped_total f x a b = let one = total_append f a b in let other = total_append f b a in omega arith
 
 or_swapped : (a b : Bool) → (a || b) ≡ (b || a)
@@ -30,7 +30,7 @@ or_swapped true false = refl
 or_swapped false true = refl
 or_swapped false false = refl
 
-either_swapped : (a b : Debt) → either_owes a b ≡ either_owes b a
+either_swapped : (a b : WakeObligation) → either_obligation a b ≡ either_obligation b a
 either_swapped a b i = record {
   system = or_swapped a.system b.system i;
   message = or_swapped a.message b.message i;
@@ -38,15 +38,15 @@ either_swapped a b i = record {
 }
 
 -- what is owed to the actor whose cell was given home, and to the others
-idled_here : (actor : ℕ) (journal : List Entry) (v : View) → owes actor (idling actor journal v) ≡ record (owes actor v) {
+idled_here : (actor : ℕ) (journal : List Entry) (v : View) → obligation_to actor (idling actor journal v) ≡ record (obligation_to actor v) {
   system = true;
   message = true;
 }
-idled_here actor journal v = owes_here actor (record (owes actor v) { system = true; message = true })
+idled_here actor journal v = owes_here actor (record (obligation_to actor v) { system = true; message = true })
     (record v { log = Saw actor journal ∷ v.log; claim = None; returned = actor ∷ v.returned })
 
-idled_else : (actor other : ℕ) (journal : List Entry) (v : View) → other ≢ actor → owes other (idling actor journal v) ≡ owes other v
-idled_else actor other journal v n = owes_else actor other (record (owes actor v) { system = true; message = true })
+idled_else : (actor other : ℕ) (journal : List Entry) (v : View) → other ≢ actor → obligation_to other (idling actor journal v) ≡ obligation_to other v
+idled_else actor other journal v n = owes_else actor other (record (obligation_to actor v) { system = true; message = true })
     (record v { log = Saw actor journal ∷ v.log; claim = None; returned = actor ∷ v.returned }) n
 
 module _ (claim pass : View) (actor : ℕ) (journal : List Entry) where
@@ -56,22 +56,22 @@ module _ (claim pass : View) (actor : ℕ) (journal : List Entry) where
   abbrev after : View
   after = taking_over pass (idling actor journal claim)
 
-  sent : (p c : Debt) → record (either_owes p c) { system = true; message = true } ≡ either_owes (record c { system = true; message = true }) p
+  sent : (p c : WakeObligation) → record (either_obligation p c) { system = true; message = true } ≡ either_obligation (record c { system = true; message = true }) p
   sent p c i = record { system = true; message = true; sending = or_swapped p.sending c.sending i }
 
-  owed_here : owes actor before ≡ owes actor after
+  owed_here : obligation_to actor before ≡ obligation_to actor after
   owed_here = idled_here actor journal (taking_in claim pass)
-      ∙ (ap (λ (d : Debt). record d { system = true; message = true }) (debt_of-added actor pass.debts claim.debts)
-      ∙ (sent (owes actor pass) (owes actor claim) ∙ sym (debt_of-added actor (idling actor journal claim).debts pass.debts
-      ∙ ap (λ (d : Debt). either_owes d (owes actor pass)) (idled_here actor journal claim))))
+      ∙ (ap (λ (d : WakeObligation). record d { system = true; message = true }) (debt_of-added actor pass.obligations claim.obligations)
+      ∙ (sent (obligation_to actor pass) (obligation_to actor claim) ∙ sym (debt_of-added actor (idling actor journal claim).obligations pass.obligations
+      ∙ ap (λ (d : WakeObligation). either_obligation d (obligation_to actor pass)) (idled_here actor journal claim))))
 
-  owed_else : (a : ℕ) → a ≢ actor → owes a before ≡ owes a after
-  owed_else a other = idled_else actor a journal (taking_in claim pass) other ∙ (debt_of-added a pass.debts claim.debts
-      ∙ (either_swapped (owes a pass) (owes a claim) ∙ sym (debt_of-added a (idling actor journal claim).debts pass.debts
-      ∙ ap (λ (d : Debt). either_owes d (owes a pass)) (idled_else actor a journal claim other))))
+  owed_else : (a : ℕ) → a ≢ actor → obligation_to a before ≡ obligation_to a after
+  owed_else a other = idled_else actor a journal (taking_in claim pass) other ∙ (debt_of-added a pass.obligations claim.obligations
+      ∙ (either_swapped (obligation_to a pass) (obligation_to a claim) ∙ sym (debt_of-added a (idling actor journal claim).obligations pass.obligations
+      ∙ ap (λ (d : WakeObligation). either_obligation d (obligation_to a pass)) (idled_else actor a journal claim other))))
 
-  owed_by : (a : ℕ) → owes a before ≡ owes a after
-  owed_by a = dite (ℕ_discrete a actor) (λ same. subst (λ b. owes b before ≡ owes b after) (sym same) owed_here) (λ other. owed_else a other)
+  owed_by : (a : ℕ) → obligation_to a before ≡ obligation_to a after
+  owed_by a = dite (ℕ_discrete a actor) (λ same. subst (λ b. obligation_to b before ≡ obligation_to b after) (sym same) owed_here) (λ other. owed_else a other)
 
 pub alike : ReleasesAlike
 alike claim pass actor journal = record {

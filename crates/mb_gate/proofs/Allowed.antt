@@ -42,17 +42,17 @@ use mathlib.Core.Option.{none, some}
 use lib.ListN.{get_elem?}
 use prog.Atomic.{either}
 use Rattle.std.specs.declared.snapshot.Snapshot.{Snapshot}
-use Rattle.mb_status.specs.Mailbox.{Mailbox, word_of, is_valid}
+use Rattle.mb_status.specs.Mailbox.{word_of, is_valid}
 use Rattle.mb_msg.specs.declared.system.SysMsg.{SysMsg}
 use Rattle.mb_syslist.specs.MessageList.{MessageList, with_last, listed, pushed, drained, ended}
-use Rattle.mb_journal.specs.Entry.{Entry}
 use Rattle.atomic_table.specs.Table.{State, Me, Step, step, Allows, Splits, Joins}
 use Rattle.atomic_table.specs.Table.{rest as tail_of}
 use Rattle.atomic_table.proofs.Lists.{exchanged}
-use Rattle.mb_rule.specs.Layout.{Spot, word_at, slot_at}
-use Rattle.mb_rule.specs.Ruled.{Ruled, Goes}
-use Rattle.mb_rule.proofs.RuledLemmas.{allows, splits, joins}
-use Rattle.mb_rule.proofs.SeenLemmas.{each_weaker}
+use Rattle.mb_ghost.specs.Layout.{Spot, word_at, slot_at}
+use Rattle.mb_ghost.specs.Ruled.{Ruled, RuledStep}
+use Rattle.mb_ghost.proofs.RuledLemmas.{allows, splits, joins}
+use Rattle.mb_ghost.proofs.SeenLemmas.{each_weaker}
+use Rattle.mb_gate.specs.HomeFacts.{HomeFacts}
 use Rattle.mb_gate.specs.declared.slot.Slot.{Slot}
 use Rattle.mb_gate.specs.declared.slot.Slot.TheVariants.{Home, List as Listing, Note, First}
 use Rattle.mb_gate.specs.View.{
@@ -99,46 +99,46 @@ use Rattle.mb_gate.specs.Rule.{
   Gate,
   Waiting,
   word_offset,
-  Shelf,
-  CellShelf,
-  ListShelf,
+  SlotName,
+  CellSlot,
+  ListSlot,
   slot_offset,
   Ghost,
   Extends,
-  IsSo,
+  ObservationHolds,
   Knows,
   has_work,
   is_some_item,
   gate_word,
   all_numbered,
-  Shelving,
+  ListPlace,
   Fact,
 }
-use Rattle.mb_gate.specs.Plays.{
+use Rattle.mb_gate.specs.TableSteps.{
   IsBefore,
-  GoesOn,
+  ExtendsSeen,
   IsWord,
   StaysClosed,
   shows_work,
   Reads,
   Writes,
-  Sends,
-  Unsends,
-  CountsOff,
-  Counts,
-  Looks,
-  Gripped,
-  Grips,
+  CountsSent,
+  UncountsSent,
+  CountsTaken,
+  ReadsWaiting,
+  ReadsGate,
+  ListLocked,
+  LocksList,
   Enlists,
   Refuses,
   Drains,
   Ends,
-  Glances,
+  ChecksDrained,
   Won,
   Schedules,
   Idles,
 }
-use Rattle.mb_rule.specs.Seen.{Each}
+use Rattle.mb_ghost.specs.Seen.{Each}
 use Rattle.mb_gate.specs.Claims.{IsKnownClosed}
 use Rattle.mb_gate.proofs.Numbers.{length_numbered}
 use Rattle.mb_gate.proofs.Views.{drained_nothing}
@@ -147,12 +147,12 @@ use Rattle.mb_gate.proofs.WaitingSteps.{sends, unsends, takes_some, counts, look
 use Rattle.mb_gate.proofs.ListSteps.{is_shelved, is_lent, grips, enlists, unloads, refuses}
 use Rattle.mb_gate.proofs.Parting.{parts, takes_over, each_without, no_counts_on, no_counts_off, vouches_without}
 use Rattle.mb_gate.specs.Waiting.{on_by, off_by}
-use Rattle.mb_gate.specs.Turns.{got_by, back_by, IsOwnBalance, WasHeldBy}
+use Rattle.mb_gate.specs.ClaimCounts.{claims_got, claims_returned, IsOwnBalance, WasHeldBy}
 use Rattle.mb_gate.proofs.Whole.{own_balance, was_held}
-use Rattle.mb_gate.specs.Lists.{may_grip}
-use Rattle.mb_gate.specs.Named.{NamesBelow}
-use Rattle.mb_rule.specs.Shares.{halved, half_of, amount}
-use Rattle.mb_rule.proofs.SharesLemmas.{halves_fit, halves_amount}
+use Rattle.mb_gate.specs.Lists.{may_lock_list}
+use Rattle.mb_gate.specs.NamedActors.{NamesBelow}
+use Rattle.mb_ghost.specs.Shares.{halved, half_of, amount}
+use Rattle.mb_ghost.proofs.SharesLemmas.{halves_fit, halves_amount}
 use Rattle.mb_gate.proofs.Facts.{no_share}
 
 pub some_halved : (share : List ℕ) → is_some_item share ≡ true → is_some_item (halved share) ≡ true
@@ -178,9 +178,9 @@ words_few Flag = omega arith
 words_few Gate = omega arith
 words_few Waiting = omega arith
 
-pub slots_few : (p : Shelf) → slot_offset p < 2
-slots_few CellShelf = omega arith
-slots_few ListShelf = omega arith
+pub slots_few : (p : SlotName) → slot_offset p < 2
+slots_few CellSlot = omega arith
+slots_few ListSlot = omega arith
 
 first_same : {A : Type 0} (a b : A) → a ∷ [] ≡ b ∷ [] → a ≡ b
 first_same a b e = cc
@@ -269,24 +269,23 @@ given_listed l = ap (λ k. (l.given + k) % 2 ^ 64) (sym (length_numbered l.given
 pub marked : (out : Bool) (l : MessageList) (gave : Bool) → shows_work (gate_word out l gave) ≡ (is_some_item l.messages || gave)
 marked out l gave = marks (is_some_item l.messages) gave l.closed out
 
-module _ {H : Type 0} (is_of : ℕ → H → Type 0) (journal : H → List Entry) (mailbox : H → Mailbox) (rested : H → Type 0) (given_by : H
-    → ℕ) (closed_to : H → List ℕ) where
-  abbrev F : ℕ → ℕ → Spot Word Shelf (Slot H) Ghost → List View → Type 0
-  F n = Fact is_of journal mailbox rested given_by closed_to n
+module _ {H : Type 0} (is_of : ℕ → H → Type 0) (facts : H → HomeFacts) where
+  abbrev F : ℕ → ℕ → Spot Word SlotName (Slot H) Ghost → List View → Type 0
+  F n = Fact is_of facts n
 
   abbrev M : Type 0
   M = Me (Slot H) View
 
   abbrev Place : Type 0
-  Place = Spot Word Shelf (Slot H) Ghost
+  Place = Spot Word SlotName (Slot H) Ghost
 
   abbrev Rule : ℕ → State (Slot H) View → Type 0
   Rule n = Ruled word_offset slot_offset n (F n)
 
   still_closed : (actor : ℕ) (x : Place) (v : View) → (IsTrue x.ghost.listed.closed → x.row Status ≡ 1) → Knows actor x v → StaysClosed actor
       (x.row Status) v
-  still_closed actor x v ended k = each_weaker (IsSo actor x) (IsWord actor (x.row Status)) v.log
-      (λ s. elim s as (λ z. IsSo actor x z → IsWord actor (x.row Status) z) [
+  still_closed actor x v ended k = each_weaker (ObservationHolds actor x) (IsWord actor (x.row Status)) v.log
+      (λ s. elim s as (λ z. ObservationHolds actor x z → IsWord actor (x.row Status) z) [
         | Read a word ↦ (λ h. h)
         | Saw a j ↦ (λ h. tt)
         | Counted a n ↦ (λ h. h)
@@ -300,9 +299,9 @@ module _ {H : Type 0} (is_of : ℕ → H → Type 0) (journal : H → List Entry
       ]) k.seen
 
   goes_further : (actor : ℕ) (x : Place) (v : View) → (IsTrue x.ghost.listed.closed → x.row Status ≡ 1) → x.row Status ≢ 1
-      → Knows actor x v → GoesOn actor x.ghost.journal v
-  goes_further actor x v ended unshut k = each_weaker (IsSo actor x) (IsBefore actor x.ghost.journal) v.log
-      (λ s. elim s as (λ z. IsSo actor x z → IsBefore actor x.ghost.journal z) [
+      → Knows actor x v → ExtendsSeen actor x.ghost.journal v
+  goes_further actor x v ended unshut k = each_weaker (ObservationHolds actor x) (IsBefore actor x.ghost.journal) v.log
+      (λ s. elim s as (λ z. ObservationHolds actor x z → IsBefore actor x.ghost.journal z) [
         | Read a word ↦ (λ h e one. unshut (h e one))
         | Saw a j ↦ (λ h. h)
         | Counted a n ↦ (λ h. h)
@@ -315,12 +314,12 @@ module _ {H : Type 0} (is_of : ℕ → H → Type 0) (journal : H → List Entry
         | Ended a given ↦ (λ h e. unshut (ended (h e).0))
       ]) k.seen
 
-  shown_by : (x : Place) (keeper : Option (ℕ × Lent)) → Shelving is_of journal mailbox rested given_by closed_to x keeper
+  shown_by : (x : Place) (keeper : Option (ℕ × Lent)) → ListPlace is_of facts x keeper
       → has_work x.ghost ≡ shows_work (x.row Gate)
   shown_by x None k = sym (ap shows_work k.word ∙ marked false x.ghost.listed x.ghost.gave)
   shown_by x (Some h) k = sym (ap shows_work k.word ∙ marked true x.ghost.listed x.ghost.gave)
 
-  ends_by : (x : Place) (keeper : Option (ℕ × Lent)) → Shelving is_of journal mailbox rested given_by closed_to x keeper → x.row Gate / 8 % 2 ≡ 1
+  ends_by : (x : Place) (keeper : Option (ℕ × Lent)) → ListPlace is_of facts x keeper → x.row Gate / 8 % 2 ≡ 1
       → IsTrue
       x.ghost.listed.closed
   ends_by x None k e = end_mark (is_some_item x.ghost.listed.messages) x.ghost.gave x.ghost.listed.closed false (ap (λ z. z / 8 % 2)
@@ -328,7 +327,7 @@ module _ {H : Type 0} (is_of : ℕ → H → Type 0) (journal : H → List Entry
   ends_by x (Some h) k e = end_mark (is_some_item x.ghost.listed.messages) x.ghost.gave x.ghost.listed.closed true (ap (λ z. z / 8 % 2) (sym
       k.word) ∙ e)
 
-  gave_by : (x : Place) (keeper : Option (ℕ × Lent)) → Shelving is_of journal mailbox rested given_by closed_to x keeper → x.row Gate % 8 ≡ 0
+  gave_by : (x : Place) (keeper : Option (ℕ × Lent)) → ListPlace is_of facts x keeper → x.row Gate % 8 ≡ 0
       → (is_some_item
       x.ghost.listed.messages ≡ false) × (x.ghost.gave ≡ false)
   gave_by x None k e = no_marks (is_some_item x.ghost.listed.messages) x.ghost.gave x.ghost.listed.closed false (ap (λ z. z % 8) (sym k.word) ∙ e)
@@ -341,8 +340,8 @@ module _ {H : Type 0} (is_of : ℕ → H → Type 0) (journal : H → List Entry
   same_given n actor id me x vs c l f at has of keeps of_list l' c' list' claim' =
       ap (λ (h : Lent). h.listed.given) (some_same l' l (sym list' ∙ keeps))
       ∙ (ap (λ (z : MessageList). z.given)
-      (is_lent is_of journal mailbox rested given_by closed_to n actor id x vs me.0 l f at keeps of_list).1.taken
-      ∙ (sym (is_held is_of journal mailbox rested given_by closed_to n actor id x vs me.0 c f at has of).1.count ∙ ap (λ (h : Held). h.given)
+      (is_lent is_of facts n actor id x vs me.0 l f at keeps of_list).1.taken
+      ∙ (sym (is_held is_of facts n actor id x vs me.0 c f at has of).1.count ∙ ap (λ (h : Held). h.given)
       (some_same c c' (sym has ∙ claim'))))
 
   -- what is listed in the list that is out names actors alone, of which the table has so many
@@ -350,7 +349,7 @@ module _ {H : Type 0} (is_of : ℕ → H → Type 0) (journal : H → List Entry
       → me.0.list ≡ Some l → l.actor ≡ actor → (l' : Lent) → me.0.list ≡ Some l' → (actors : ℕ) → slots ≡ 2 * actors
       → All (NamesBelow actors) l'.listed.messages
   same_named n slots actor id me x vs l deep f at keeps of_list l' list' actors deep' =
-      let taken : l.listed ≡ x.ghost.listed = (is_lent is_of journal mailbox rested given_by closed_to n actor id x vs me.0 l f at keeps
+      let taken : l.listed ≡ x.ghost.listed = (is_lent is_of facts n actor id x vs me.0 l f at keeps
       of_list).1.taken in
       let many : n ≡ actors = omega arith in
       subst (λ (k : ℕ). All (NamesBelow k) l'.listed.messages) many (subst (λ (z : Lent). All (NamesBelow n) z.listed.messages) (some_same l l'
@@ -371,7 +370,7 @@ module _ {H : Type 0} (is_of : ℕ → H → Type 0) (journal : H → List Entry
     reads_allowed e = subst (λ j. Allows (Rule n) slots id me j (λ k. k) (Reads (step slots j 0 0 none) me)) (sym e)
         (allows word_offset slot_offset words_few slots_few n (F n) slots id me actor Status (λ k. k) (Reads (step slots (word_at actor 8) 0 0 none)
         me) inside
-        (λ x vs f at fits. reads is_of journal mailbox rested given_by closed_to n actor id me (Reads (step slots (word_at actor 8) 0 0 none) me
+        (λ x vs f at fits. reads is_of facts n actor id me (Reads (step slots (word_at actor 8) 0 0 none) me
         (x.row Status)) x vs
         f at (told_read x vs f at)))
 
@@ -382,128 +381,128 @@ module _ {H : Type 0} (is_of : ℕ → H → Type 0) (journal : H → List Entry
         me new)) (sym e)
         (allows word_offset slot_offset words_few slots_few n (F n) slots id me actor Status (λ _. new) (λ _. Writes (step slots (word_at actor 8)
         new 0 none) me new) inside
-        (λ x vs f at fits. writes is_of journal mailbox rested given_by closed_to n actor id me c new (Writes (step slots
+        (λ x vs f at fits. writes is_of facts n actor id me c new (Writes (step slots
         (word_at actor 8) new 0 none) me new) x vs f
         at has of valid busy closed refl))
 
-    told_idle : (home : H) (st : Step (Slot H)) (k : ℕ) → me.1 ≡ (slot_at actor 0, Home home) ∷ [] → Idles journal st me k
-        (idling actor (journal home) me.0, [])
+    told_idle : (home : H) (st : Step (Slot H)) (k : ℕ) → me.1 ≡ (slot_at actor 0, Home home) ∷ [] → Idles facts st me k
+        (idling actor (facts home).journal me.0, [])
     told_idle home st k carried a other other_carried =
         let same : (slot_at actor 0, Home home) ≡ (slot_at a 0, Home other) = first_same _ _ (sym carried ∙ other_carried) in
         let where_is : slot_at actor 0 ≡ slot_at a 0 = ap (λ (z : ℕ × Slot H). z.0) same in
         let what : home ≡ other = home_same home other (ap (λ (z : ℕ × Slot H). z.1) same) in
-        let who : actor ≡ a = omega arith in (λ z. (idling (who z) (journal (what z)) me.0, []))
+        let who : actor ≡ a = omega arith in (λ z. (idling (who z) (facts (what z)).journal me.0, []))
 
     pub idles_allowed : (c : Held) (home : H) (new : ℕ) → i ≡ word_at actor 8 → me.0.claim ≡ Some c → c.actor ≡ actor → me.1 ≡ (
       slot_at actor 0,
       Home home,
-    ) ∷ [] → is_of actor home → Extends (journal home) c.journal → given_by home ≡ c.given
-        → Each (λ b. IsKnownClosed b c.closed_to me.0) (closed_to home)
-        → c.word ≢ 1 → IsTrue (is_valid new) → new % 4 ≡ 0 → new ≡ word_of (mailbox home) → (c.gave ≡ false → rested home)
+    ) ∷ [] → is_of actor home → Extends (facts home).journal c.journal → (facts home).given ≡ c.given
+        → Each (λ b. IsKnownClosed b c.closed_to me.0) (facts home).closed_to
+        → c.word ≢ 1 → IsTrue (is_valid new) → new % 4 ≡ 0 → new ≡ word_of (facts home).mailbox → (c.gave ≡ false → (facts home).rested)
         → is_some_item me.0.share ≡ true
-        → Allows (Rule n) slots id me i (λ _. new) (λ _. Idles journal (step slots i new 0 none) me new)
+        → Allows (Rule n) slots id me i (λ _. new) (λ _. Idles facts (step slots i new 0 none) me new)
     idles_allowed c home new e has of carried own longer count known unshut valid free word rest share = subst (λ j. Allows (Rule n) slots id me j
         (λ _. new) (λ _.
-        Idles journal (step slots j new 0 none) me new)) (sym e)
-        (allows word_offset slot_offset words_few slots_few n (F n) slots id me actor Status (λ _. new) (λ _. Idles journal
+        Idles facts (step slots j new 0 none) me new)) (sym e)
+        (allows word_offset slot_offset words_few slots_few n (F n) slots id me actor Status (λ _. new) (λ _. Idles facts
         (step slots (word_at actor 8) new 0 none) me new) inside
-        (λ x vs f at fits. idles is_of journal mailbox rested given_by closed_to n actor id me c home new (Idles journal (step slots (word_at
+        (λ x vs f at fits. idles is_of facts n actor id me c home new (Idles facts (step slots (word_at
         actor 8) new 0 none) me new) x vs f at has of carried own longer count known unshut valid free word rest share
         (told_idle home (step slots (word_at actor 8) new 0 none) new carried)))
 
     pub idles_closed_allowed : (c : Held) (home : H) → i ≡ word_at actor 7 → me.0.claim ≡ Some c → c.actor ≡ actor → me.1 ≡ (
       slot_at actor 0,
       Home home,
-    ) ∷ [] → is_of actor home → Extends (journal home) c.journal → given_by home ≡ c.given
-        → Each (λ b. IsKnownClosed b c.closed_to me.0) (closed_to home)
-        → c.word ≡ 1 → 1 ≡ word_of (mailbox home) → rested home → is_some_item me.0.share ≡ true
-        → Allows (Rule n) slots id me i (λ _. 1) (λ _. Idles journal (step slots i 1 0 none) me 1)
+    ) ∷ [] → is_of actor home → Extends (facts home).journal c.journal → (facts home).given ≡ c.given
+        → Each (λ b. IsKnownClosed b c.closed_to me.0) (facts home).closed_to
+        → c.word ≡ 1 → 1 ≡ word_of (facts home).mailbox → (facts home).rested → is_some_item me.0.share ≡ true
+        → Allows (Rule n) slots id me i (λ _. 1) (λ _. Idles facts (step slots i 1 0 none) me 1)
     idles_closed_allowed c home e has of carried own longer count known closed word rest share = subst (λ j. Allows (Rule n) slots id me j (λ _. 1)
-        (λ _. Idles journal (step slots j 1 0 none) me 1)) (sym e)
-        (allows word_offset slot_offset words_few slots_few n (F n) slots id me actor Flag (λ _. 1) (λ _. Idles journal (step
+        (λ _. Idles facts (step slots j 1 0 none) me 1)) (sym e)
+        (allows word_offset slot_offset words_few slots_few n (F n) slots id me actor Flag (λ _. 1) (λ _. Idles facts (step
         slots (word_at actor 7) 1 0 none) me 1) inside
-        (λ x vs f at fits. idles_closed is_of journal mailbox rested given_by closed_to n actor id me c home (Idles journal (step slots (word_at
+        (λ x vs f at fits. idles_closed is_of facts n actor id me c home (Idles facts (step slots (word_at
         actor 7) 1 0 none) me 1) x vs f at has of carried own longer count known closed word rest share
         (told_idle home (step slots (word_at actor 7) 1 0 none) 1 carried)))
 
     pub sends_allowed : (g : ℕ → ℕ) (k : ℕ) → ((w : ℕ) → g w % 2 ^ 64 ≡ (w + k) % 2 ^ 64) → is_some_item me.0.share ≡ true → i ≡ word_at actor 0
-        → Allows (Rule n) slots id me i g (Sends (step slots i k 0 none) me)
-    sends_allowed g k more share e = subst (λ j. Allows (Rule n) slots id me j g (Sends (step slots j k 0 none) me)) (sym e)
-        (allows word_offset slot_offset words_few slots_few n (F n) slots id me actor Waiting g (Sends (step slots (word_at actor 0) k 0 none) me)
+        → Allows (Rule n) slots id me i g (CountsSent (step slots i k 0 none) me)
+    sends_allowed g k more share e = subst (λ j. Allows (Rule n) slots id me j g (CountsSent (step slots j k 0 none) me)) (sym e)
+        (allows word_offset slot_offset words_few slots_few n (F n) slots id me actor Waiting g (CountsSent (step slots (word_at actor 0) k 0 none) me)
         inside
-        (λ x vs f at fits. sends is_of journal mailbox rested given_by closed_to n actor id (g (x.row Waiting)) k me (Sends (step slots
+        (λ x vs f at fits. sends is_of facts n actor id (g (x.row Waiting)) k me (CountsSent (step slots
         (word_at actor 0) k 0 none) me
         (x.row Waiting)) x vs f at share (more (x.row Waiting))
         (λ a w z. (sending (same_actor actor a 0 w z) k me.0, me.1))))
 
     pub unsends_allowed : (g : ℕ → ℕ) (k : ℕ) → ((w : ℕ) → (g w + k) % 2 ^ 64 ≡ w % 2 ^ 64) → is_some_item me.0.share ≡ true → i ≡ word_at actor 0
-        → Allows (Rule n) slots id me i g (Unsends (step slots i k 0 none) me)
-    unsends_allowed g k less share e = subst (λ j. Allows (Rule n) slots id me j g (Unsends (step slots j k 0 none) me)) (sym e)
-        (allows word_offset slot_offset words_few slots_few n (F n) slots id me actor Waiting g (Unsends (step slots (word_at actor 0) k 0 none) me)
+        → Allows (Rule n) slots id me i g (UncountsSent (step slots i k 0 none) me)
+    unsends_allowed g k less share e = subst (λ j. Allows (Rule n) slots id me j g (UncountsSent (step slots j k 0 none) me)) (sym e)
+        (allows word_offset slot_offset words_few slots_few n (F n) slots id me actor Waiting g (UncountsSent (step slots (word_at actor 0) k 0 none) me)
         inside
-        (λ x vs f at fits. unsends is_of journal mailbox rested given_by closed_to n actor id (g (x.row Waiting)) k me (Unsends (step slots
+        (λ x vs f at fits. unsends is_of facts n actor id (g (x.row Waiting)) k me (UncountsSent (step slots
         (word_at actor 0) k 0 none)
         me (x.row Waiting)) x vs f at share (less (x.row Waiting))
         (λ a w z. (unsending (same_actor actor a 0 w z) k me.0, me.1))))
 
     pub takes_allowed : (c : Held) (g : ℕ → ℕ) (k : ℕ) → ((w : ℕ) → (g w + k) % 2 ^ 64 ≡ w % 2 ^ 64) → i ≡ word_at actor 0 → me.0.claim ≡ Some c
         → c.actor ≡ actor → Allows (Rule n) slots id
-        me i g (CountsOff (step slots i k 0 none) me)
-    takes_allowed c g k less e has of = subst (λ j. Allows (Rule n) slots id me j g (CountsOff (step slots j k 0 none) me)) (sym e)
-        (allows word_offset slot_offset words_few slots_few n (F n) slots id me actor Waiting g (CountsOff (step slots
+        me i g (CountsTaken (step slots i k 0 none) me)
+    takes_allowed c g k less e has of = subst (λ j. Allows (Rule n) slots id me j g (CountsTaken (step slots j k 0 none) me)) (sym e)
+        (allows word_offset slot_offset words_few slots_few n (F n) slots id me actor Waiting g (CountsTaken (step slots
         (word_at actor 0) k 0 none) me) inside
-        (λ x vs f at fits. takes_some is_of journal mailbox rested given_by closed_to n actor id (g (x.row Waiting)) k me c (CountsOff
+        (λ x vs f at fits. takes_some is_of facts n actor id (g (x.row Waiting)) k me c (CountsTaken
         (step slots (word_at actor 0) k 0
         none) me (x.row Waiting)) x vs f at has of (less (x.row Waiting)) (λ a w z. (counting_off (same_actor actor a 0 w z) k me.0, me.1))))
 
-    pub counts_allowed : i ≡ word_at actor 0 → Allows (Rule n) slots id me i (λ k. k) (Counts (step slots i 0 0 none) me)
-    counts_allowed e = subst (λ j. Allows (Rule n) slots id me j (λ k. k) (Counts (step slots j 0 0 none) me)) (sym e)
-        (allows word_offset slot_offset words_few slots_few n (F n) slots id me actor Waiting (λ k. k) (Counts (step slots (word_at actor 0) 0 0
+    pub counts_allowed : i ≡ word_at actor 0 → Allows (Rule n) slots id me i (λ k. k) (ReadsWaiting (step slots i 0 0 none) me)
+    counts_allowed e = subst (λ j. Allows (Rule n) slots id me j (λ k. k) (ReadsWaiting (step slots j 0 0 none) me)) (sym e)
+        (allows word_offset slot_offset words_few slots_few n (F n) slots id me actor Waiting (λ k. k) (ReadsWaiting (step slots (word_at actor 0) 0 0
         none) me) inside
-        (λ x vs f at fits. counts is_of journal mailbox rested given_by closed_to n actor id me (Counts (step slots (word_at actor 0) 0 0 none) me
+        (λ x vs f at fits. counts is_of facts n actor id me (ReadsWaiting (step slots (word_at actor 0) 0 0 none) me
         (x.row Waiting)) x
         vs f at
         (λ a w. (
           (λ z. (counting (same_actor actor a 0 w z) (x.row Waiting) me.0, me.1)),
-          subst (λ b. IsOwnBalance b (x.row Waiting) me.0) (same_actor actor a 0 w) (λ whole. own_balance is_of journal mailbox rested given_by
-              closed_to n actor x vs id me.0 f at whole whole),
+          subst (λ b. IsOwnBalance b (x.row Waiting) me.0) (same_actor actor a 0 w)
+              (λ whole. own_balance is_of facts n actor x vs id me.0 f at whole whole),
         ))))
 
-    pub looks_allowed : i ≡ word_at actor 9 → Allows (Rule n) slots id me i (λ k. k) (Looks (step slots i 0 0 none) me)
-    looks_allowed e = subst (λ j. Allows (Rule n) slots id me j (λ k. k) (Looks (step slots j 0 0 none) me)) (sym e)
-        (allows word_offset slot_offset words_few slots_few n (F n) slots id me actor Gate (λ k. k) (Looks (step slots (word_at actor 9) 0 0 none)
+    pub looks_allowed : i ≡ word_at actor 9 → Allows (Rule n) slots id me i (λ k. k) (ReadsGate (step slots i 0 0 none) me)
+    looks_allowed e = subst (λ j. Allows (Rule n) slots id me j (λ k. k) (ReadsGate (step slots j 0 0 none) me)) (sym e)
+        (allows word_offset slot_offset words_few slots_few n (F n) slots id me actor Gate (λ k. k) (ReadsGate (step slots (word_at actor 9) 0 0 none)
         me) inside
-        (λ x vs f at fits. looks is_of journal mailbox rested given_by closed_to n actor id me (shows_work (x.row Gate)) (Looks (step slots
+        (λ x vs f at fits. looks is_of facts n actor id me (shows_work (x.row Gate)) (ReadsGate (step slots
         (word_at actor 9) 0 0
-        none) me (x.row Gate)) x vs (shown_by x x.ghost.keeper f.shelf) f at
+        none) me (x.row Gate)) x vs (shown_by x x.ghost.keeper f.list_place) f at
         (λ a w z. (looking (same_actor actor a 9 w z) (shows_work (x.row Gate)) me.0, me.1))))
 
-    pub grips_allowed : (old new : ℕ) → i ≡ word_at actor 9 → old % 2 ≡ 0 → new ≡ old + 1 → me.0.list ≡ None → may_grip actor me.0 ≡ true
+    pub grips_allowed : (old new : ℕ) → i ≡ word_at actor 9 → old % 2 ≡ 0 → new ≡ old + 1 → me.0.list ≡ None → may_lock_list actor me.0 ≡ true
         → Allows (Rule n) slots id me i (λ
-        k. either (k == old) new k) (Grips (step slots i old new none) me)
-    grips_allowed old new e even is_new bare may = subst (λ j. Allows (Rule n) slots id me j (λ k. either (k == old) new k) (Grips (step slots j old
+        k. either (k == old) new k) (LocksList (step slots i old new none) me)
+    grips_allowed old new e even is_new bare may = subst (λ j. Allows (Rule n) slots id me j (λ k. either (k == old) new k) (LocksList (step slots j old
         new none) me)) (sym e)
-        (allows word_offset slot_offset words_few slots_few n (F n) slots id me actor Gate (λ k. either (k == old) new k) (Grips (step slots (word_at
+        (allows word_offset slot_offset words_few slots_few n (F n) slots id me actor Gate (λ k. either (k == old) new k) (LocksList (step slots (word_at
         actor 9) old new none) me) inside
-        (λ x vs f at fits. let tell = Grips (step slots (word_at actor 9) old new none) me (x.row Gate) in
-        exchanged (x.row Gate) old new (λ k. Goes word_offset slot_offset (F n) actor id me Gate k tell x vs)
+        (λ x vs f at fits. let tell = LocksList (step slots (word_at actor 9) old new none) me (x.row Gate) in
+        exchanged (x.row Gate) old new (λ k. RuledStep word_offset slot_offset (F n) actor id me Gate k tell x vs)
         (λ hit. let here : x.row Gate % 2 ≡ 0 = ap (λ k. k % 2) hit ∙ even in
-        subst (λ k. Goes word_offset slot_offset (F n) actor id me Gate k tell x vs) (sym is_new)
-        (grips is_of journal mailbox rested given_by closed_to n actor id me old tell x vs f at here hit bare may
+        subst (λ k. RuledStep word_offset slot_offset (F n) actor id me Gate k tell x vs) (sym is_new)
+        (grips is_of facts n actor id me old tell x vs f at here hit bare may
         (λ a w. subst (λ (b : ℕ). (let now : M = (
           lending actor x.ghost.listed x.ghost.gave me.0,
           (slot_at actor 1, Listing x.ghost.listed) ∷ me.1,
         ) in
-        (x.row Gate ≡ old → Gripped b (x.row Gate) me now) × (x.row Gate ≢ old → now ≡ me))) (same_actor actor a 9 w) (
+        (x.row Gate ≡ old → ListLocked b (x.row Gate) me now) × (x.row Gate ≢ old → now ≡ me))) (same_actor actor a 9 w) (
           (λ _. record {
             listed = x.ghost.listed;
             gave = x.ghost.gave;
-            word = (is_shelved is_of journal mailbox rested given_by closed_to n actor x vs f here).1.word;
+            word = (is_shelved is_of facts n actor x vs f here).1.word;
             now = refl;
           }),
           (λ miss. absurd (miss hit)),
         ))))
-        (λ miss. glances is_of journal mailbox rested given_by closed_to n actor id Gate me tell x vs f at (λ a w. (
+        (λ miss. glances is_of facts n actor id Gate me tell x vs f at (λ a w. (
           (λ hit. absurd (miss hit)),
           (λ _. refl),
         )))))
@@ -539,7 +538,7 @@ module _ {H : Type 0} (is_of : ℕ → H → Type 0) (journal : H → List Entry
         subst (λ j. Allows (Rule n) slots id me j (λ _. new) (λ _. Enlists (step slots j new 0 none) me new)) (sym e)
         (allows word_offset slot_offset words_few slots_few n (F n) slots id me actor Gate (λ _. new) (λ _. Enlists (step slots (word_at actor 9) new
         0 none) me new) inside
-        (λ x vs f at fits. enlists is_of journal mailbox rested given_by closed_to n actor id new me l m (Enlists (step slots
+        (λ x vs f at fits. enlists is_of facts n actor id new me l m (Enlists (step slots
         (word_at actor 9) new 0 none) me new) x
         vs f at has of carried word names
         (told_enlist l m (step slots (word_at actor 9) new 0 none) new has of carried)))
@@ -553,7 +552,7 @@ module _ {H : Type 0} (is_of : ℕ → H → Type 0) (journal : H → List Entry
         new 0 none) me new)) (sym e)
         (allows word_offset slot_offset words_few slots_few n (F n) slots id me actor Gate (λ _. new) (λ _. Drains (step slots (word_at actor 9) new
         0 none) me new) inside
-        (λ x vs f at fits. unloads is_of journal mailbox rested given_by closed_to n actor id new (Drained actor (listed l.listed)) me c l
+        (λ x vs f at fits. unloads is_of facts n actor id new (Drained actor (listed l.listed)) me c l
         (drained l.listed) (is_some_item l.listed.messages) (Drains (step slots (word_at actor 9) new 0 none) me new) x vs f at
         has of keeps of_list carried word refl (λ e. e) (λ e. inl e) (given_listed l.listed) (λ a. (refl, refl)) (λ a z e w. (e (sym w)).1)
         (λ l' c' has' claim'. (
@@ -576,10 +575,10 @@ module _ {H : Type 0} (is_of : ℕ → H → Type 0) (journal : H → List Entry
         (allows word_offset slot_offset words_few slots_few n (F n) slots id me actor Gate (λ _. new) (λ _. Ends (step slots (word_at actor 9) new 0
         none) me new) inside
         (λ x vs f at fits.
-        let gave : l.gave ≡ c.gave = (is_lent is_of journal mailbox rested given_by closed_to n actor id x vs me.0 l f at keeps of_list).1.gave
+        let gave : l.gave ≡ c.gave = (is_lent is_of facts n actor id x vs me.0 l f at keeps of_list).1.gave
         ∙ sym (is_held is_of
-        journal mailbox rested given_by closed_to n actor id x vs me.0 c f at has of).1.gave in
-        unloads is_of journal mailbox rested given_by closed_to n actor id new (Ended actor (listed l.listed)) me c l (ended l.listed)
+        facts n actor id x vs me.0 c f at has of).1.gave in
+        unloads is_of facts n actor id new (Ended actor (listed l.listed)) me c l (ended l.listed)
         l.gave (Ends (step slots (word_at actor 9) new 0 none) me new) x vs f at
         has of keeps of_list carried word refl (λ e. refl) (λ e. inr closed) (given_listed l.listed) (λ a. (refl, refl))
         (λ a z e w. (ap (λ (m : MessageList). m.closed) (e (sym w)).0, (e (sym w)).1))
@@ -594,25 +593,25 @@ module _ {H : Type 0} (is_of : ℕ → H → Type 0) (journal : H → List Entry
           same_named n slots actor id me x vs l deep f at keeps of_list l' list',
         ))))
 
-    pub glances_allowed : i ≡ word_at actor 9 → Allows (Rule n) slots id me i (λ k. k) (Glances (step slots i 0 0 none) me)
-    glances_allowed e = subst (λ j. Allows (Rule n) slots id me j (λ k. k) (Glances (step slots j 0 0 none) me)) (sym e)
-        (allows word_offset slot_offset words_few slots_few n (F n) slots id me actor Gate (λ k. k) (Glances (step slots (word_at actor 9) 0 0 none)
+    pub glances_allowed : i ≡ word_at actor 9 → Allows (Rule n) slots id me i (λ k. k) (ChecksDrained (step slots i 0 0 none) me)
+    glances_allowed e = subst (λ j. Allows (Rule n) slots id me j (λ k. k) (ChecksDrained (step slots j 0 0 none) me)) (sym e)
+        (allows word_offset slot_offset words_few slots_few n (F n) slots id me actor Gate (λ k. k) (ChecksDrained (step slots (word_at actor 9) 0 0 none)
         me) inside
-        (λ x vs f at fits. let tell = Glances (step slots (word_at actor 9) 0 0 none) me (x.row Gate) in
+        (λ x vs f at fits. let tell = ChecksDrained (step slots (word_at actor 9) 0 0 none) me (x.row Gate) in
         dite (ℕ_discrete (x.row Gate % 8) 0)
-        (λ hit. sees is_of journal mailbox rested given_by closed_to n actor id Gate (Drained actor []) me tell x vs
+        (λ hit. sees is_of facts n actor id Gate (Drained actor []) me tell x vs
         (λ a y e. record { before = []; after = all_numbered y.ghost; joined = refl }) (λ a. (refl, refl)) f at
         (λ a c w has of bare. let who : actor ≡ a = same_actor actor a 9 w in
-        let gave : c.gave ≡ false = (is_held is_of journal mailbox rested given_by closed_to n actor id x vs me.0 c f at has (of ∙ sym who)).1.gave
+        let gave : c.gave ≡ false = (is_held is_of facts n actor id x vs me.0 c f at has (of ∙ sym who)).1.gave
         ∙ (gave_by x
-        x.ghost.keeper f.shelf hit).1 in
-        let small : c.given < 2 ^ 64 = (let one = (is_held is_of journal mailbox rested given_by closed_to n actor id x vs me.0 c f at has (of ∙ sym
+        x.ghost.keeper f.list_place hit).1 in
+        let small : c.given < 2 ^ 64 = (let one = (is_held is_of facts n actor id x vs me.0 c f at has (of ∙ sym
         who)).1.count in let two = f.listing.counted in omega arith) in (
           (λ _ z. ((drained_nothing actor c me.0 has bare gave small ∙ (λ j. draining (who j) [] false me.0)) z, me.1)),
           (λ miss. absurd
               (miss hit)),
         )))
-        (λ miss. glances is_of journal mailbox rested given_by closed_to n actor id Gate me tell x vs f at (λ a c w has of bare. (
+        (λ miss. glances is_of facts n actor id Gate me tell x vs f at (λ a c w has of bare. (
           (λ hit. absurd (miss hit)),
           (λ _.
               refl),
@@ -625,15 +624,15 @@ module _ {H : Type 0} (is_of : ℕ → H → Type 0) (journal : H → List Entry
         (allows word_offset slot_offset words_few slots_few n (F n) slots id me actor Gate (λ k. either (k == old) old k) (Refuses (step slots
         (word_at actor 9) old old (some (Note m))) me) inside
         (λ x vs f at fits. let tell = Refuses (step slots (word_at actor 9) old old (some (Note m))) me (x.row Gate) in
-        exchanged (x.row Gate) old old (λ k. Goes word_offset slot_offset (F n) actor id me Gate k tell x vs)
-        (λ hit. subst (λ k. Goes word_offset slot_offset (F n) actor id me Gate k tell x vs) hit
-        (let ended = ends_by x x.ghost.keeper f.shelf (ap (λ k. k / 8 % 2) hit ∙ shut) in
-        refuses is_of journal mailbox rested given_by closed_to n actor id me m tell x vs f at ended
+        exchanged (x.row Gate) old old (λ k. RuledStep word_offset slot_offset (F n) actor id me Gate k tell x vs)
+        (λ hit. subst (λ k. RuledStep word_offset slot_offset (F n) actor id me Gate k tell x vs) hit
+        (let ended = ends_by x x.ghost.keeper f.list_place (ap (λ k. k / 8 % 2) hit ∙ shut) in
+        refuses is_of facts n actor id me m tell x vs f at ended
         (λ a m' w said. let who : actor ≡ a = same_actor actor a 9 w in let what : m ≡ m' = note_same {H = H} m m' said in
-        let had : WasHeldBy actor me.0 = (λ whole. was_held is_of journal mailbox rested given_by closed_to n actor x vs id me.0 f at whole
+        let had : WasHeldBy actor me.0 = (λ whole. was_held is_of facts n actor x vs id me.0 f at whole
         (f.ended ended)) in
         ((λ _. ((λ z. (refusing (who z) (what z) me.0, me.1)), subst (λ b. WasHeldBy b me.0) who had)), (λ miss. absurd (miss hit))))))
-        (λ miss. glances is_of journal mailbox rested given_by closed_to n actor id Gate me tell x vs f at (λ a m' w said. (
+        (λ miss. glances is_of facts n actor id Gate me tell x vs f at (λ a m' w said. (
           (λ hit. absurd
               (miss hit)),
           (λ _. refl),
@@ -642,19 +641,19 @@ module _ {H : Type 0} (is_of : ℕ → H → Type 0) (journal : H → List Entry
   module _ (n id : ℕ) where
     -- a view is copied for a seat more, which has a half of its share
     pub copies_allowed : (v : View) → v.claim ≡ None → v.list ≡ None → is_some_item v.share ≡ true → Splits (Rule n) id v (halving v) (copied v)
-    copies_allowed v bare no_list share = splits word_offset slot_offset words_few slots_few n (F n) id v (halving v) (copied v) (parts is_of journal
-        mailbox rested given_by closed_to n id v (halving v) (copied v) refl bare no_list no_list no_list refl
+    copies_allowed v bare no_list share = splits word_offset slot_offset words_few slots_few n (F n) id v (halving v) (copied v)
+        (parts is_of facts n id v (halving v) (copied v) refl bare no_list no_list no_list refl
         (λ a. record {
           on = no_more (on_by a v) _ (no_counts_on a v.log);
           off = no_more (off_by a v) _ (no_counts_off a v.log);
-          got = no_more (got_by a v) 0 refl;
-          back = no_more (back_by a v) 0 refl;
+          got = no_more (claims_got a v) 0 refl;
+          back = no_more (claims_returned a v) 0 refl;
         })
         (λ e l r. record { fits = halves_fit e v.share l; amounts = halves_amount e v.share l })
         (λ a bare. absurd (no_share (halved v.share) (some_halved v.share share) bare)) (λ a bare. absurd (no_share (half_of v.share) (some_half
         v.share share) bare))
         (λ b. vouches_without b v.log) (λ a x k. record { seen = k.seen; said = k.said }) (λ a x k. record {
-          seen = each_without (IsSo a x) v.log
+          seen = each_without (ObservationHolds a x) v.log
               k.seen;
           said = k.said;
         }))
@@ -662,12 +661,12 @@ module _ {H : Type 0} (is_of : ℕ → H → Type 0) (journal : H → List Entry
     -- a pass that knows nothing is split off, with a half of the share
     pub parts_allowed : (v : View) → v.claim ≡ None → v.list ≡ None → is_some_item v.share ≡ true → Splits (Rule n) id v (split_off v) (halving v)
     parts_allowed v bare no_list share = splits word_offset slot_offset words_few slots_few n (F n) id v (split_off v) (halving v) (parts is_of
-        journal mailbox rested given_by closed_to n id v (split_off v) (halving v) (sym bare) bare no_list refl no_list refl
+        facts n id v (split_off v) (halving v) (sym bare) bare no_list refl no_list refl
         (λ a. record {
           on = none_more (on_by a v);
           off = none_more (off_by a v);
-          got = none_more (got_by a v);
-          back = none_more (back_by a v);
+          got = none_more (claims_got a v);
+          back = none_more (claims_returned a v);
         })
         (λ e l r. record {
           fits = halves_fit e v.share r;
@@ -680,12 +679,12 @@ module _ {H : Type 0} (is_of : ℕ → H → Type 0) (journal : H → List Entry
     -- the claim gets a view of its own
     pub claims_allowed : (v : View) → v.list ≡ None → is_some_item v.share ≡ true → Splits (Rule n) id v (claim_alone v) (without_claim v)
     claims_allowed v no_list share = splits word_offset slot_offset words_few slots_few n (F n) id v (claim_alone v) (without_claim v)
-        (parts is_of journal mailbox rested given_by closed_to n id v (claim_alone v) (without_claim v) refl refl no_list refl no_list refl
+        (parts is_of facts n id v (claim_alone v) (without_claim v) refl refl no_list refl no_list refl
         (λ a. record {
           on = none_more (on_by a v);
           off = none_more (off_by a v);
-          got = none_more (got_by a v);
-          back = none_more (back_by a v);
+          got = none_more (claims_got a v);
+          back = none_more (claims_returned a v);
         })
         (λ e l r. record { fits = r; amounts = none_more (amount e v.share) })
         (λ a bare. record { got = refl; back = refl; on = refl; rest = λ _. (refl, refl) }) (λ a bare. absurd (no_share v.share share bare))
@@ -694,19 +693,18 @@ module _ {H : Type 0} (is_of : ℕ → H → Type 0) (journal : H → List Entry
     pub joins_allowed : (v : View) (other : ℕ) (w : View) → w.claim ≡ None → w.list ≡ None → is_some_item w.share ≡ true → Joins (Rule n) id v other
         w (taking_over v w) blank
     joins_allowed v other w bare no_list share = joins word_offset slot_offset words_few slots_few n (F n) id v other w (taking_over v w) blank
-        (takes_over is_of journal mailbox rested given_by closed_to n id v other w v.said (inl refl) bare no_list share)
+        (takes_over is_of facts n id v other w v.said (inl refl) bare no_list share)
 
     -- and a claim's seat takes in a pass
     pub takes_in_allowed : (v : View) (other : ℕ) (w : View) → w.claim ≡ None → w.list ≡ None → is_some_item w.share ≡ true
         → Joins (Rule n) id v other w (taking_in v w) blank
     takes_in_allowed v other w bare no_list share = joins word_offset slot_offset words_few slots_few n (F n) id v other w (taking_in v w) blank
         (takes_over
-        is_of journal mailbox rested given_by closed_to n id v other w w.said (inr refl) bare no_list share)
+        is_of facts n id v other w w.said (inr refl) bare no_list share)
 
-module _ {H : Type 0} (all_of : H → ℕ → H → Type 0) (first : Snapshot (Snapshot H)) (journal : H → List Entry) (mailbox : H → Mailbox) (rested : H
-    → Type 0) (given_by : H → ℕ) (closed_to : H → List ℕ) where
-  abbrev G : ℕ → ℕ → Spot Word Shelf (Slot H) Ghost → List View → Type 0
-  G n = Fact (all_of first.value.value) journal mailbox rested given_by closed_to n
+module _ {H : Type 0} (all_of : H → ℕ → H → Type 0) (first : Snapshot (Snapshot H)) (facts : H → HomeFacts) where
+  abbrev G : ℕ → ℕ → Spot Word SlotName (Slot H) Ghost → List View → Type 0
+  G n = Fact (all_of first.value.value) facts n
 
   abbrev N : Type 0
   N = Me (Slot H) View
@@ -715,25 +713,25 @@ module _ {H : Type 0} (all_of : H → ℕ → H → Type 0) (first : Snapshot (S
     -- a seat that knows the first home tries to schedule the actor
     pub schedules_allowed : (old new : ℕ) (note : Slot H) → note ≡ First first → i ≡ word_at actor 8 → old % 4 ≡ 0 → new ≡ old + 2
         → me.0.claim ≡ None → is_some_item me.0.share ≡ true
-        → Allows (Ruled word_offset slot_offset n (G n)) slots id me i (λ k. either (k == old) new k) (Schedules all_of journal mailbox rested
-        given_by closed_to (step slots i old new (some note)) me)
+        → Allows (Ruled word_offset slot_offset n (G n)) slots id me i (λ k. either (k == old) new k) (Schedules all_of facts (step slots i old new
+        (some note)) me)
     schedules_allowed old new note is_note e free is_new bare share = subst (λ j. Allows (Ruled word_offset slot_offset n (G n)) slots id me j
-        (λ k. either (k == old) new k) (Schedules all_of journal mailbox rested given_by closed_to (step slots j old new (some note)) me)) (sym e)
+        (λ k. either (k == old) new k) (Schedules all_of facts (step slots j old new (some note)) me)) (sym e)
         (allows word_offset slot_offset words_few slots_few n (G n) slots id me actor Status (λ k. either (k == old) new k)
-        (Schedules all_of journal mailbox rested given_by closed_to (step slots (word_at actor 8) old new (some note)) me) inside
-        (λ x vs f at fits. let tell = Schedules all_of journal mailbox rested given_by closed_to (step slots (word_at actor 8) old new
+        (Schedules all_of facts (step slots (word_at actor 8) old new (some note)) me) inside
+        (λ x vs f at fits. let tell = Schedules all_of facts (step slots (word_at actor 8) old new
         (some note)) me (x.row Status) in
-        exchanged (x.row Status) old new (λ k. Goes word_offset slot_offset (G n) actor id me Status k tell x vs)
-        (λ hit. let here : x.row Status % 4 ≡ 0 = ap (λ k. k % 4) hit ∙ free in let h = is_home (all_of first.value.value) journal mailbox rested given_by
-        closed_to n actor x vs f here in
-        subst (λ k. Goes word_offset slot_offset (G n) actor id me Status k tell x vs) (sym is_new)
-        (schedules (all_of first.value.value) journal mailbox rested given_by closed_to n actor id me old tell x vs f at here hit bare share
+        exchanged (x.row Status) old new (λ k. RuledStep word_offset slot_offset (G n) actor id me Status k tell x vs)
+        (λ hit. let here : x.row Status % 4 ≡ 0 = ap (λ k. k % 4) hit ∙ free in let h = is_home
+        (all_of first.value.value) facts n actor x vs f here in
+        subst (λ k. RuledStep word_offset slot_offset (G n) actor id me Status k tell x vs) (sym is_new)
+        (schedules (all_of first.value.value) facts n actor id me old tell x vs f at here hit bare share
         (λ a other w said. subst (λ (b : ℕ × Snapshot (Snapshot H)). (let now : N = (
           taking actor x.ghost.journal x.ghost.closed_to old x.ghost.gave
               x.ghost.listed.given me.0,
           (slot_at actor 0, Home h.1.home) ∷ me.1,
         ) in
-        (x.row Status ≡ old → Won (all_of b.1.value.value) journal mailbox rested given_by closed_to b.0 (x.row Status) me now)
+        (x.row Status ≡ old → Won (all_of b.1.value.value) facts b.0 (x.row Status) me now)
         × (x.row Status ≢ old → (now ≡ (reading b.0 (x.row Status) me.0, me.1)) × IsTrue (is_valid (x.row Status)) × StaysClosed b.0 (x.row Status)
         me.0))) (λ z. (same_actor actor a 8 w z, first_same_home first other (sym (ap (λ (y : Slot H). some y) is_note) ∙ said) z)) (
           (λ _. record {
@@ -742,7 +740,7 @@ module _ {H : Type 0} (all_of : H → ℕ → H → Type 0) (first : Snapshot (S
             word = h.1.word;
             gave = x.ghost.gave;
             rest = λ no. h.1.rest (inr no);
-            seen = subst (λ j. GoesOn actor j me.0) (sym h.1.fold) (goes_further (all_of first.value.value) journal mailbox rested given_by closed_to
+            seen = subst (λ j. ExtendsSeen actor j me.0) (sym h.1.fold) (goes_further (all_of first.value.value) facts
                 actor x me.0 f.ended (λ one. omega arith) (f.seen id me.0 at));
             now = λ z. (
               taking actor (sym h.1.fold z) (sym h.1.shut z) (sym hit z) x.ghost.gave (sym h.1.count z) me.0,
@@ -751,8 +749,8 @@ module _ {H : Type 0} (all_of : H → ℕ → H → Type 0) (first : Snapshot (S
           }),
           (λ miss. absurd (miss hit)),
         ))))
-        (λ miss. reads (all_of first.value.value) journal mailbox rested given_by closed_to n actor id me tell x vs f at (λ a other w said. (
+        (λ miss. reads (all_of first.value.value) facts n actor id me tell x vs f at (λ a other w said. (
           (λ hit. absurd (miss hit)),
-          (λ _. told_read (all_of first.value.value) journal mailbox rested given_by closed_to n slots id me actor i inside x vs f at a
+          (λ _. told_read (all_of first.value.value) facts n slots id me actor i inside x vs f at a
               w),
         )))))

@@ -1,5 +1,5 @@
--- Gates, passes and claims may go to another thread where the home may, and threads may share the gates then. (Said once, since a
--- search would go through the boxes of a list at each slot.)
+-- Gates, passes and claims may go to another thread where the home may, and then threads may share the gates. (It is proved once here, since a search
+-- would go through the boxes of a list at each slot.)
 use denote.RattleType.{RattleType}
 use denote.Param.Send.{IsSend, IsSync, sendable}
 use denote.Param.SendFields.{declared_send, declared_sync, variants_send}
@@ -10,7 +10,7 @@ use Rattle.mb_msg.proofs.system.SysMsg.TheSendSync as message
 use Rattle.mb_msg.proofs.id.ActorId.TheSendSync as actor
 use Rattle.mb_status.proofs.status.Status.TheSendSync as status
 use Rattle.mb_syslist.proofs.Crossing.{list_send}
-use Rattle.mb_gate.specs.declared.resident.Resident as resident
+use Rattle.mb_gate.specs.declared.mailbox_state.MailboxState as resident
 use Rattle.mb_gate.specs.contracts.slot.Slot as slot
 use Rattle.mb_gate.specs.contracts.gates.Gates as gates
 use Rattle.mb_gate.specs.contracts.pass.Pass as pass

@@ -1,4 +1,4 @@
--- What holds of an actor stays so where only a view changes, or where the words that it speaks of do not.
+-- The facts about an actor stay true where only a view changes, or where the words that they are about do not.
 use Rattle.std.proofs.Common.{
   ◌≡◌,
   ℕ,
@@ -32,18 +32,17 @@ use Rattle.std.proofs.Common.{
 }
 use mathlib.Core.Option.{some}
 use lib.ListN.{get_elem?}
-use Rattle.mb_status.specs.Mailbox.{Mailbox}
 use Rattle.mb_syslist.specs.MessageList.{MessageList}
+use Rattle.mb_gate.specs.HomeFacts.{HomeFacts}
 use Rattle.mb_gate.specs.declared.slot.Slot.TheVariants.{List as Listing}
-use Rattle.mb_journal.specs.Entry.{Entry}
-use Rattle.mb_core.specs.declared.debt.Debt.{Debt}
-use Rattle.mb_rule.specs.Layout.{Spot, write}
-use Rattle.mb_rule.proofs.LockedLemmas.{stays_locked}
-use Rattle.mb_rule.proofs.OwedLemmas.{still_owed}
-use Rattle.mb_rule.proofs.SeenLemmas.{learns}
-use Rattle.mb_rule.specs.Summed.{total}
-use Rattle.mb_rule.proofs.SummedLemmas.{total_set, total_stays}
-use Rattle.mb_rule.proofs.SharesLemmas.{shares_stay}
+use Rattle.mb_core.specs.declared.debt.WakeObligation.{WakeObligation}
+use Rattle.mb_ghost.specs.Layout.{Spot, write}
+use Rattle.mb_ghost.proofs.LockedLemmas.{stays_locked}
+use Rattle.mb_ghost.proofs.OwedLemmas.{still_owed}
+use Rattle.mb_ghost.proofs.SeenLemmas.{learns}
+use Rattle.mb_ghost.specs.Summed.{total}
+use Rattle.mb_ghost.proofs.SummedLemmas.{total_set, total_stays}
+use Rattle.mb_ghost.proofs.SharesLemmas.{shares_stay}
 use Rattle.mb_gate.specs.declared.slot.Slot.{Slot}
 use Rattle.mb_gate.specs.View.{View, Held, Lent}
 use Rattle.mb_gate.specs.Rule.{
@@ -53,33 +52,33 @@ use Rattle.mb_gate.specs.Rule.{
   Gate,
   Waiting,
   word_offset,
-  Shelf,
-  CellShelf,
-  ListShelf,
+  SlotName,
+  CellSlot,
+  ListSlot,
   Ghost,
   claim_for,
   list_for,
   Knows,
   IsAmong,
-  Vouches,
+  HasSeenClosed,
   MessageDue,
   SystemDue,
-  PaysMessage,
-  PaysSystem,
+  HasMessageObligation,
+  HasSystemObligation,
   held_of,
   is_some_item,
   IsBare,
   EachBare,
-  AreTurns,
+  ClaimsBalance,
   WasHeld,
   gate_word,
-  Keeping,
-  Shelving,
+  CellPlace,
+  ListPlace,
   Fact,
 }
 use Rattle.mb_gate.specs.Waiting.{counted_on, on_by, off_by, IsBalance}
-use Rattle.mb_gate.specs.Lists.{may_grip}
-use Rattle.mb_gate.specs.Turns.{times, got_by, back_by, claims_out}
+use Rattle.mb_gate.specs.Lists.{may_lock_list}
+use Rattle.mb_gate.specs.ClaimCounts.{times, claims_got, claims_returned, claims_out}
 use Rattle.mb_gate.proofs.Views.{SameAccount, Elsewhere}
 
 -- a word that is written as it was leaves the row as it was
@@ -115,10 +114,10 @@ pub still_balanced : (actor n : ℕ) (vs : List View) (id : ℕ) (v w : View) �
 still_balanced actor n vs id v w at same b = same_balance actor n vs id v w at same.on same.off b
 
 -- and so do the claims that are out
-pub still_turns : (actor : ℕ) (old new : Option (ℕ × Held)) (vs : List View) (id : ℕ) (v w : View) → get_elem? vs id ≡ some v → got_by actor w ≡
-    got_by actor v → back_by actor w ≡ back_by actor v → claims_out new ≡ claims_out old → AreTurns actor old vs → AreTurns actor new (set vs id w)
-still_turns actor old new vs id v w at got back same t = total_stays (got_by actor) vs id v w at got ∙ (t ∙ sym (ap (λ n. n + claims_out new)
-    (total_stays (back_by actor) vs id v w at back) ∙ ap (λ n. total (back_by actor) vs + n) same))
+pub still_turns : (actor : ℕ) (old new : Option (ℕ × Held)) (vs : List View) (id : ℕ) (v w : View) → get_elem? vs id ≡ some v → claims_got actor w ≡
+    claims_got actor v → claims_returned actor w ≡ claims_returned actor v → claims_out new ≡ claims_out old → ClaimsBalance actor old vs → ClaimsBalance actor new (set vs id w)
+still_turns actor old new vs id v w at got back same t = total_stays (claims_got actor) vs id v w at got ∙ (t ∙ sym (ap (λ n. n + claims_out new)
+    (total_stays (claims_returned actor) vs id v w at back) ∙ ap (λ n. total (claims_returned actor) vs + n) same))
 
 one_more : (got got' back k m m' : ℕ) → got' + m ≡ got + m' → m' ≡ 1 + m → k ≡ 0 → got ≡ back + k → got' ≡ back + 1
 one_more got got' back k m m' e more none t = omega arith
@@ -126,33 +125,33 @@ one_more got got' back k m m' e more none t = omega arith
 one_less : (got back back' k m m' : ℕ) → back' + m ≡ back + m' → m' ≡ 1 + m → k ≡ 1 → got ≡ back + k → got ≡ back' + 0
 one_less got back back' k m m' e more one t = omega arith
 
--- a claim is got, where none was out
-pub turns_more : (actor : ℕ) (old : Option (ℕ × Held)) (h : ℕ × Held) (vs : List View) (id : ℕ) (v w : View) → get_elem? vs id ≡ some v → got_by
-    actor w ≡ 1 + got_by actor v → back_by actor w ≡ back_by actor v → claims_out old ≡ 0 → AreTurns actor old vs → AreTurns actor (Some h) (set vs
+-- a seat gets a claim, where none was out
+pub turns_more : (actor : ℕ) (old : Option (ℕ × Held)) (h : ℕ × Held) (vs : List View) (id : ℕ) (v w : View) → get_elem? vs id ≡ some v → claims_got
+    actor w ≡ 1 + claims_got actor v → claims_returned actor w ≡ claims_returned actor v → claims_out old ≡ 0 → ClaimsBalance actor old vs → ClaimsBalance actor (Some h) (set vs
     id w)
-turns_more actor old h vs id v w at more same none t = one_more (total (got_by actor) vs) (total (got_by actor) (set vs id w)) (total (back_by
-    actor) vs) (claims_out old) (got_by actor v) (got_by actor w) (total_set (got_by actor) vs id v w at) more none t ∙ ap (λ n. n + 1) (sym
-    (total_stays (back_by actor) vs id v w at same))
+turns_more actor old h vs id v w at more same none t = one_more (total (claims_got actor) vs) (total (claims_got actor) (set vs id w)) (total (claims_returned
+    actor) vs) (claims_out old) (claims_got actor v) (claims_got actor w) (total_set (claims_got actor) vs id v w at) more none t ∙ ap (λ n. n + 1) (sym
+    (total_stays (claims_returned actor) vs id v w at same))
 
 -- and given back
-pub turns_less : (actor : ℕ) (old : Option (ℕ × Held)) (vs : List View) (id : ℕ) (v w : View) → get_elem? vs id ≡ some v → got_by actor w ≡ got_by
-    actor v → back_by actor w ≡ 1 + back_by actor v → claims_out old ≡ 1 → AreTurns actor old vs → AreTurns actor None (set vs id w)
-turns_less actor old vs id v w at same more one t = total_stays (got_by actor) vs id v w at same ∙ one_less (total (got_by actor) vs) (total
-    (back_by actor) vs) (total (back_by actor) (set vs id w)) (claims_out old) (back_by actor v) (back_by actor w) (total_set (back_by actor) vs id v
+pub turns_less : (actor : ℕ) (old : Option (ℕ × Held)) (vs : List View) (id : ℕ) (v w : View) → get_elem? vs id ≡ some v → claims_got actor w ≡ claims_got
+    actor v → claims_returned actor w ≡ 1 + claims_returned actor v → claims_out old ≡ 1 → ClaimsBalance actor old vs → ClaimsBalance actor None (set vs id w)
+turns_less actor old vs id v w at same more one t = total_stays (claims_got actor) vs id v w at same ∙ one_less (total (claims_got actor) vs) (total
+    (claims_returned actor) vs) (total (claims_returned actor) (set vs id w)) (claims_out old) (claims_returned actor v) (claims_returned actor w) (total_set (claims_returned actor) vs id v
     w at) more one t
 
 -- a closed actor was held still, where the one that changes got no claim, and the actor was closed before
-pub still_held : (actor old new : ℕ) (vs : List View) (id : ℕ) (v w : View) → get_elem? vs id ≡ some v → got_by actor w ≡ got_by actor v
+pub still_held : (actor old new : ℕ) (vs : List View) (id : ℕ) (v w : View) → get_elem? vs id ≡ some v → claims_got actor w ≡ claims_got actor v
     → (new ≡ 1 → old ≡ 1) → WasHeld actor old vs → WasHeld actor new (set vs id w)
 still_held actor old new vs id v w at same before was one =
-    subst (λ k. 0 < k) (sym (total_stays (got_by actor) vs id v w at same)) (was (before one))
+    subst (λ k. 0 < k) (sym (total_stays (claims_got actor) vs id v w at same)) (was (before one))
 
 -- and who is held now was held
-pub now_held : (actor new : ℕ) (holder : Option (ℕ × Held)) (vs : List View) (id : ℕ) (v w : View) → get_elem? vs id ≡ some v → got_by actor w ≡
-    got_by actor v → claims_out holder ≡ 1 → AreTurns actor holder vs → WasHeld actor new (set vs id w)
+pub now_held : (actor new : ℕ) (holder : Option (ℕ × Held)) (vs : List View) (id : ℕ) (v w : View) → get_elem? vs id ≡ some v → claims_got actor w ≡
+    claims_got actor v → claims_out holder ≡ 1 → ClaimsBalance actor holder vs → WasHeld actor new (set vs id w)
 now_held actor new holder vs id v w at same out turns one =
-    some_got (total (got_by actor) vs) (total (got_by actor) (set vs id w)) (total (back_by actor) vs) (claims_out holder)
-    (total_stays (got_by actor) vs id v w at same) out turns
+    some_got (total (claims_got actor) vs) (total (claims_got actor) (set vs id w)) (total (claims_returned actor) vs) (claims_out holder)
+    (total_stays (claims_got actor) vs id v w at same) out turns
   where
     some_got : (got now back k : ℕ) → now ≡ got → k ≡ 1 → got ≡ back + k → 0 < now
     some_got got now back k is out t = omega arith
@@ -172,7 +171,7 @@ still_bare actor vs id v w at same claim list bare = learns (λ (u : View). u.sh
 
 -- a seat with a claim may have done more to its actor
 pub claimed_bare : (actor : ℕ) (vs : List View) (id : ℕ) (v w : View) (c : Held) → get_elem? vs id ≡ some v → claim_for actor w ≡ Some c → w.share ≡
-    v.share → got_by actor w ≡ got_by actor v → back_by actor w ≡ back_by actor v → on_by actor w ≡ on_by actor v → EachBare actor vs → EachBare
+    v.share → claims_got actor w ≡ claims_got actor v → claims_returned actor w ≡ claims_returned actor v → on_by actor w ≡ on_by actor v → EachBare actor vs → EachBare
     actor (set vs id w)
 claimed_bare actor vs id v w c at has share got back on bare = learns (λ (u : View). u.share ≡ [] → IsBare actor u) (λ (u : View). u.share ≡ [] →
     IsBare actor u) vs id w (λ u k. k) (λ none. let b = bare id v at (sym share ∙ none) in record {
@@ -193,7 +192,7 @@ no_share share has none = false_true (sym (ap is_some_item none) ∙ has)
 
 -- and one that has a share or the claim may have the list
 pub gripper_bare : (actor : ℕ) (vs : List View) (id : ℕ) (v w : View) → get_elem? vs id ≡ some v → w.claim ≡ v.claim → w.log ≡ v.log → w.share ≡
-    v.share → (w.got ≡ v.got) × (w.returned ≡ v.returned) → may_grip actor v ≡ true → EachBare actor vs → EachBare actor (set vs id w)
+    v.share → (w.got ≡ v.got) × (w.returned ≡ v.returned) → may_lock_list actor v ≡ true → EachBare actor vs → EachBare actor (set vs id w)
 gripper_bare actor vs id v w at claim log share turns may bare = learns (λ (u : View). u.share ≡ [] → IsBare actor u) (λ (u : View). u.share ≡ [] →
     IsBare actor u) vs id w (λ u k. k) (λ none. let b = bare id v at (sym share ∙ none) in record {
       got = ap (times actor) turns.0 ∙ b.got;
@@ -214,18 +213,17 @@ pub sharer_bare : (actor : ℕ) (vs : List View) (id : ℕ) (w : View) → is_so
 sharer_bare actor vs id w has bare = learns (λ (u : View). u.share ≡ [] → IsBare actor u) (λ (u : View). u.share ≡ [] → IsBare actor u) vs id w (λ u
     k. k) (λ none. absurd (no_share w.share has none)) bare
 
-module _ {H : Type 0} (is_of : ℕ → H → Type 0) (journal : H → List Entry) (mailbox : H → Mailbox) (rested : H → Type 0) (given_by : H
-    → ℕ) (closed_to : H → List ℕ) (actors actor : ℕ) where
+module _ {H : Type 0} (is_of : ℕ → H → Type 0) (facts : H → HomeFacts) (actors actor : ℕ) where
   abbrev Place : Type 0
-  Place = Spot Word Shelf (Slot H) Ghost
+  Place = Spot Word SlotName (Slot H) Ghost
 
   abbrev Facts : Place → List View → Type 0
-  Facts = Fact is_of journal mailbox rested given_by closed_to actors actor
+  Facts = Fact is_of facts actors actor
 
-  pub still_kept : (x y : Place) → y.row Status ≡ x.row Status → y.row Flag ≡ x.row Flag → y.slot CellShelf ≡ x.slot CellShelf → y.ghost.journal
+  pub still_kept : (x y : Place) → y.row Status ≡ x.row Status → y.row Flag ≡ x.row Flag → y.slot CellSlot ≡ x.slot CellSlot → y.ghost.journal
       ≡ x.ghost.journal → y.ghost.closed_to ≡ x.ghost.closed_to → y.ghost.listed.given ≡ x.ghost.listed.given → y.ghost.gave ≡ x.ghost.gave
-      → (holder : Option (ℕ × Held)) → Keeping is_of journal mailbox rested given_by closed_to actor x holder
-      → Keeping is_of journal mailbox rested given_by closed_to actor y holder
+      → (holder : Option (ℕ × Held)) → CellPlace is_of facts actor x holder
+      → CellPlace is_of facts actor y holder
   still_kept x y status flag slot tale shut count gave None k = record {
     home = k.home;
     there = slot ∙ k.there;
@@ -250,10 +248,10 @@ module _ {H : Type 0} (is_of : ℕ → H → Type 0) (journal : H → List Entry
     out = slot ∙ k.out;
   }
 
-  pub still_shelved : (x y : Place) → y.row Gate ≡ x.row Gate → y.slot ListShelf ≡ x.slot ListShelf → y.ghost.listed ≡ x.ghost.listed →
+  pub still_shelved : (x y : Place) → y.row Gate ≡ x.row Gate → y.slot ListSlot ≡ x.slot ListSlot → y.ghost.listed ≡ x.ghost.listed →
       y.ghost.gave ≡ x.ghost.gave
-      → (keeper : Option (ℕ × Lent)) → Shelving is_of journal mailbox rested given_by closed_to x keeper
-      → Shelving is_of journal mailbox rested given_by closed_to y keeper
+      → (keeper : Option (ℕ × Lent)) → ListPlace is_of facts x keeper
+      → ListPlace is_of facts y keeper
   still_shelved x y gate slot items gave None k = record {
     there = slot ∙ (k.there ∙ ap (λ (l : MessageList). some (some (Listing l))) (sym items));
     word = gate ∙ (k.word ∙ (λ i. gate_word false (sym items i) (sym gave i)));
@@ -267,14 +265,14 @@ module _ {H : Type 0} (is_of : ℕ → H → Type 0) (journal : H → List Entry
   -- only the view of one seat changes
   pub views_change : (x : Place) (vs : List View) (id : ℕ) (v w : View) → get_elem? vs id ≡ some v → claim_for actor w ≡ claim_for actor v →
       list_for actor w ≡ list_for actor v → SameAccount actor v w
-      → (MessageDue x → PaysMessage actor v → PaysMessage actor w) → (SystemDue x → PaysSystem actor v → PaysSystem actor w) → (Knows actor x v →
-      Knows actor x w) → ((other : ℕ) → Vouches other v → Vouches other w) → Facts x vs → Facts x (set vs id w)
+      → (MessageDue x → HasMessageObligation actor v → HasMessageObligation actor w) → (SystemDue x → HasSystemObligation actor v → HasSystemObligation actor w) → (Knows actor x v →
+      Knows actor x w) → ((other : ℕ) → HasSeenClosed other v → HasSeenClosed other w) → Facts x vs → Facts x (set vs id w)
   views_change x vs id v w at claim list account message system knows vouches f = record {
     valid = f.valid;
     claims = stays_locked (claim_for actor) x.ghost.holder vs id v w at claim f.claims;
     cell = f.cell;
     lists = stays_locked (list_for actor) x.ghost.keeper vs id v w at list f.lists;
-    shelf = f.shelf;
+    list_place = f.list_place;
     ended = f.ended;
     listing = f.listing;
     named = f.named;
@@ -283,10 +281,10 @@ module _ {H : Type 0} (is_of : ℕ → H → Type 0) (journal : H → List Entry
     held = still_held actor (x.row Status) (x.row Status) vs id v w at account.got (λ one. one) f.held;
     shares = shares_stay (λ (u : View). u.share) vs id v w at account.share f.shares;
     bare = still_bare actor vs id v w at account (λ c. sym claim ∙ c) (λ c. list ∙ c) f.bare;
-    vouched = λ other. still_owed (Vouches other) (IsAmong other x.ghost.closed_to) (IsAmong other x.ghost.closed_to) vs id v w at (λ d. d) (λ _.
+    vouched = λ other. still_owed (HasSeenClosed other) (IsAmong other x.ghost.closed_to) (IsAmong other x.ghost.closed_to) vs id v w at (λ d. d) (λ _.
         vouches other) (f.vouched other);
-    message = still_owed (PaysMessage actor) (MessageDue x) (MessageDue x) vs id v w at (λ d. d) message f.message;
-    system = still_owed (PaysSystem actor) (SystemDue x) (SystemDue x) vs id v w at (λ d. d) system f.system;
+    message = still_owed (HasMessageObligation actor) (MessageDue x) (MessageDue x) vs id v w at (λ d. d) message f.message;
+    system = still_owed (HasSystemObligation actor) (SystemDue x) (SystemDue x) vs id v w at (λ d. d) system f.system;
     seen = learns (Knows actor x) (Knows actor x) vs id w (λ u k. k) (knows (f.seen id v at)) f.seen;
   }
 
@@ -294,7 +292,7 @@ module _ {H : Type 0} (is_of : ℕ → H → Type 0) (journal : H → List Entry
   pub elsewhere : (x : Place) (vs : List View) (id : ℕ) (v w : View) → get_elem? vs id ≡ some v → Elsewhere H actor v w → Facts x vs → Facts x
       (set vs id w)
   elsewhere x vs id v w at same = views_change x vs id v w at same.claim same.list same.account
-      (λ _. subst (λ (d : Debt). IsTrue (d.message || d.sending)) (sym same.debt)) (λ _. subst (λ (d : Debt). IsTrue d.system) (sym same.debt))
+      (λ _. subst (λ (d : WakeObligation). IsTrue (d.message || d.sending)) (sym same.debt)) (λ _. subst (λ (d : WakeObligation). IsTrue d.system) (sym same.debt))
       (same.knows x) same.vouches
 
   -- a load changes nothing but the view

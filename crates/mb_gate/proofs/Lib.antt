@@ -17,8 +17,8 @@ pub mod ListCalls
 pub mod Shows
 pub mod Claimed
 pub mod Unclaimed
-pub mod Leaving
-pub mod RecordLemmas
+pub mod Returning
+pub mod SentSystemLemmas
 pub mod KnownLemmas
-pub mod NamedLemmas
+pub mod NamedActorsLemmas
 pub mod Crossing

@@ -1,4 +1,4 @@
--- A list that was taken out and given back, and its gate's words.
+-- A list that was taken out and put back, and the words of its gate.
 use Rattle.std.proofs.Common.{
   ◌≡◌,
   ◌≢◌,
@@ -36,14 +36,14 @@ use native.Mathlib.Decide.{ℕ_discrete}
 use Rattle.atomic_table.specs.Table.{Me, rest}
 use Rattle.mb_msg.specs.declared.system.SysMsg.{SysMsg}
 use Rattle.mb_syslist.specs.MessageList.{MessageList, with_last, drained, ended, listed, numbered}
-use Rattle.mb_rule.specs.Layout.{slot_at}
+use Rattle.mb_ghost.specs.Layout.{slot_at}
 use Rattle.mb_gate.specs.declared.slot.Slot.{Slot}
 use Rattle.mb_gate.specs.declared.slot.Slot.TheVariants.{Empty, List as Listing}
 use Rattle.mb_gate.specs.View.{View, Held, lending}
 use Rattle.mb_gate.specs.Rule.{is_some_item, held_of, claim_for, gate_word}
-use Rattle.mb_gate.specs.Plays.{Gripped}
+use Rattle.mb_gate.specs.TableSteps.{ListLocked}
 use Rattle.mb_gate.proofs.Views.{held_here}
-use Rattle.mb_gate.specs.Lists.{may_grip, IsLentBy, IsOut, with_listed, with_drained, with_ended}
+use Rattle.mb_gate.specs.Lists.{may_lock_list, IsLentBy, IsOut, with_listed, with_drained, with_ended}
 
 head_same : {A : Type 0} (a b : A) (xs ys : List A) → a ∷ xs ≡ b ∷ ys → a ≡ b
 head_same a b xs ys e = cc
@@ -60,13 +60,13 @@ choose found word now hit miss won lost = dite (ℕ_discrete found word)
     (λ e. won e ∙ sym (ap (λ b. if b then hit else miss) (eq-eqb found word e)))
     (λ n. lost n ∙ sym (ap (λ b. if b then hit else miss) (ne_eqb found word n)))
 
-module _ {H : Type 0} (actor found slot : ℕ) (m m1 : Me (Slot H) View) (grip : Gripped actor found m m1) (r : Slot H) (carried : m1.1 ≡ (slot, r)
+module _ {H : Type 0} (actor found slot : ℕ) (m m1 : Me (Slot H) View) (lock_list : ListLocked actor found m m1) (r : Slot H) (carried : m1.1 ≡ (slot, r)
     ∷ rest m1.1) where
-  carried_now : (slot, r) ∷ rest m1.1 ≡ (slot_at actor 1, Listing grip.listed) ∷ m.1
-  carried_now = sym carried ∙ ap (λ (z : Me (Slot H) View). z.1) grip.now
+  carried_now : (slot, r) ∷ rest m1.1 ≡ (slot_at actor 1, Listing lock_list.listed) ∷ m.1
+  carried_now = sym carried ∙ ap (λ (z : Me (Slot H) View). z.1) lock_list.now
 
   -- what was in the slot is the list
-  pub is_list : r ≡ Listing grip.listed
+  pub is_list : r ≡ Listing lock_list.listed
   is_list = ap (λ (z : ℕ × Slot H). z.1) (head_same _ _ _ _ carried_now)
 
   pub lent_by : (word : ℕ) (list : MessageList) (m2 : Me (Slot H) View) → found ≡ word → r ≡ Listing list → m2 ≡ (
@@ -75,13 +75,13 @@ module _ {H : Type 0} (actor found slot : ℕ) (m m1 : Me (Slot H) View) (grip :
         m1.1,
   ) → IsLentBy actor word list m m2
   lent_by word list m2 is_word is now =
-      let same : grip.listed ≡ list = list_same {H = H} grip.listed list (sym is_list ∙ is) in
+      let same : lock_list.listed ≡ list = list_same {H = H} lock_list.listed list (sym is_list ∙ is) in
       let where_is : slot ≡ slot_at actor 1 = ap (λ (z : ℕ × Slot H). z.0) (head_same _ _ _ _ carried_now) in
       let others : rest m1.1 ≡ m.1 = rest_same _ _ _ _ carried_now in record {
-        gave = grip.gave;
-        found = sym is_word ∙ (grip.word ∙ ap (λ l. gate_word false l grip.gave) same);
+        gave = lock_list.gave;
+        found = sym is_word ∙ (lock_list.word ∙ ap (λ l. gate_word false l lock_list.gave) same);
         now = now ∙ (λ i. (
-          (ap (λ (z : Me (Slot H) View). z.0) grip.now ∙ ap (λ l. lending actor l grip.gave m.0) same) i,
+          (ap (λ (z : Me (Slot H) View). z.0) lock_list.now ∙ ap (λ l. lending actor l lock_list.gave m.0) same) i,
           (where_is i, Empty) ∷
               others i,
         ));
@@ -214,10 +214,10 @@ empty_is false [] h = let no = h.1 refl in absurd (cc)
 empty_is false (x ∷ xs) h = refl
 
 -- a seat with a share may take a list out, and one with the claim may
-pub sharer_may : (actor : ℕ) (v : View) → is_some_item v.share ≡ true → may_grip actor v ≡ true
+pub sharer_may : (actor : ℕ) (v : View) → is_some_item v.share ≡ true → may_lock_list actor v ≡ true
 sharer_may actor v has = ap (λ b. b || is_some (claim_for actor v)) has
 
-pub holder_may : (actor : ℕ) (v : View) (c : Held) → v.claim ≡ Some c → c.actor ≡ actor → may_grip actor v ≡ true
+pub holder_may : (actor : ℕ) (v : View) (c : Held) → v.claim ≡ Some c → c.actor ≡ actor → may_lock_list actor v ≡ true
 holder_may actor v c has of = ap (λ (z : Option Held). is_some_item v.share || is_some z) (ap (held_of actor) has ∙ held_here actor c of) ∙ or_true
     (is_some_item v.share)
   where

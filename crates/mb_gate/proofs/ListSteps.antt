@@ -35,34 +35,33 @@ use Rattle.std.proofs.Common.{
 use Rattle.std.proofs.lemmas.List.Elements.{All-push, All-nil}
 use mathlib.Core.Option.{none, some}
 use lib.ListN.{get_elem?}
-use Rattle.mb_status.specs.Mailbox.{Mailbox}
 use Rattle.mb_msg.specs.declared.system.SysMsg.{SysMsg}
 use Rattle.mb_syslist.specs.MessageList.{MessageList, with_last, listed, pushed}
-use Rattle.mb_journal.specs.Entry.{Entry}
-use Rattle.mb_core.specs.declared.debt.Debt.{Debt}
+use Rattle.mb_core.specs.declared.debt.WakeObligation.{WakeObligation}
 use Rattle.atomic_table.specs.Table.{Me}
 use Rattle.atomic_table.specs.Table.{rest as tail_of}
-use Rattle.mb_rule.specs.Layout.{Spot, slot_at, write, fill}
-use Rattle.mb_rule.specs.Locked.{Locked}
-use Rattle.mb_rule.specs.Ruled.{Goes, stays, takes_from, gives_to}
-use Rattle.mb_rule.proofs.LockedLemmas.{stays_locked, takes_up, turns_over, puts_back, is_holder}
-use Rattle.mb_rule.proofs.OwedLemmas.{pays, still_owed}
-use Rattle.mb_rule.proofs.SeenLemmas.{learns}
-use Rattle.mb_rule.proofs.SharesLemmas.{shares_stay}
-use Rattle.mb_gate.specs.Turns.{claims_out}
-use Rattle.mb_gate.specs.Lists.{may_grip}
-use Rattle.mb_gate.specs.Named.{NamesBelow}
+use Rattle.mb_ghost.specs.Layout.{Spot, slot_at, write, fill}
+use Rattle.mb_ghost.specs.Locked.{Locked}
+use Rattle.mb_ghost.specs.Ruled.{RuledStep, stays, takes_from, gives_to}
+use Rattle.mb_ghost.proofs.LockedLemmas.{stays_locked, takes_up, turns_over, puts_back, is_holder}
+use Rattle.mb_ghost.proofs.OwedLemmas.{pays, still_owed}
+use Rattle.mb_ghost.proofs.SeenLemmas.{learns}
+use Rattle.mb_ghost.proofs.SharesLemmas.{shares_stay}
+use Rattle.mb_gate.specs.HomeFacts.{HomeFacts}
+use Rattle.mb_gate.specs.ClaimCounts.{claims_out}
+use Rattle.mb_gate.specs.Lists.{may_lock_list}
+use Rattle.mb_gate.specs.NamedActors.{NamesBelow}
 use Rattle.mb_gate.specs.declared.slot.Slot.{Slot}
 use Rattle.mb_gate.specs.declared.slot.Slot.TheVariants.{List as Listing}
-use Rattle.mb_gate.specs.View.{View, Sight, Read, Pushed, Held, Lent, owes, lending, enlisting, refusing, given_after, regiven, unloading}
+use Rattle.mb_gate.specs.View.{View, Observation, Read, Pushed, Held, Lent, obligation_to, lending, enlisting, refusing, given_after, regiven, unloading}
 use Rattle.mb_gate.specs.Rule.{
   Word,
   Status,
   Waiting,
   Gate,
   word_offset,
-  Shelf,
-  ListShelf,
+  SlotName,
+  ListSlot,
   slot_offset,
   Ghost,
   is_some_item,
@@ -71,19 +70,19 @@ use Rattle.mb_gate.specs.Rule.{
   lent_of,
   claim_for,
   list_for,
-  IsSo,
+  ObservationHolds,
   IsAmong,
   IsPart,
-  Vouches,
+  HasSeenClosed,
   all_numbered,
   Knows,
   MessageDue,
   SystemDue,
-  PaysMessage,
-  PaysSystem,
-  IsShelved,
-  IsLent,
-  Shelving,
+  HasMessageObligation,
+  HasSystemObligation,
+  IsListInSlot,
+  IsListOut,
+  ListPlace,
   Fact,
 }
 use Rattle.mb_gate.proofs.Views.{
@@ -121,64 +120,63 @@ gate_out l gave = omega arith
 pub gate_even : (l : MessageList) (gave : Bool) → gate_word false l gave % 2 ≡ 0
 gate_even l gave = let b = bits (is_some_item l.messages) gave l.closed in omega arith
 
-module _ {H : Type 0} (is_of : ℕ → H → Type 0) (journal : H → List Entry) (mailbox : H → Mailbox) (rested : H → Type 0) (given_by : H
-    → ℕ) (closed_to : H → List ℕ) (actors : ℕ) where
-  abbrev F : ℕ → Spot Word Shelf (Slot H) Ghost → List View → Type 0
-  F = Fact is_of journal mailbox rested given_by closed_to actors
+module _ {H : Type 0} (is_of : ℕ → H → Type 0) (facts : H → HomeFacts) (actors : ℕ) where
+  abbrev F : ℕ → Spot Word SlotName (Slot H) Ghost → List View → Type 0
+  F = Fact is_of facts actors
 
   abbrev M : Type 0
   M = Me (Slot H) View
 
   abbrev Place : Type 0
-  Place = Spot Word Shelf (Slot H) Ghost
+  Place = Spot Word SlotName (Slot H) Ghost
 
-  no_keeper : (x : Place) (keeper : Option (ℕ × Lent)) → x.row Gate % 2 ≡ 0 → Shelving is_of journal mailbox rested given_by closed_to x keeper
+  no_keeper : (x : Place) (keeper : Option (ℕ × Lent)) → x.row Gate % 2 ≡ 0 → ListPlace is_of facts x keeper
       → keeper ≡ None
   no_keeper x None even k = refl
   no_keeper x (Some h) even k = absurd (let w = k.word in let o = gate_out x.ghost.listed x.ghost.gave in let e = gate_even x.ghost.listed
       x.ghost.gave in omega arith)
 
   -- the list is in its slot where the gate's word is even
-  pub is_shelved : (actor : ℕ) (x : Place) (vs : List View) → F actor x vs → x.row Gate % 2 ≡ 0 → (x.ghost.keeper ≡ None) × IsShelved is_of
-      journal mailbox rested given_by closed_to x
-  is_shelved actor x vs f even = let nobody = no_keeper x x.ghost.keeper even f.shelf in (
+  pub is_shelved : (actor : ℕ) (x : Place) (vs : List View) → F actor x vs → x.row Gate % 2 ≡ 0 → (x.ghost.keeper ≡ None) × IsListInSlot is_of
+      facts x
+  is_shelved actor x vs f even = let nobody = no_keeper x x.ghost.keeper even f.list_place in (
     nobody,
-    subst (Shelving is_of journal mailbox rested given_by closed_to x)
-        nobody f.shelf,
+    subst (ListPlace is_of facts x)
+        nobody f.list_place,
   )
 
   -- who has the list is its keeper
   pub is_lent : (actor id : ℕ) (x : Place) (vs : List View) (v : View) (l : Lent) → F actor x vs → get_elem? vs id ≡ some v → v.list ≡ Some l →
       l.actor ≡ actor
-      → (x.ghost.keeper ≡ Some (id, l)) × IsLent is_of journal mailbox rested given_by closed_to x l
+      → (x.ghost.keeper ≡ Some (id, l)) × IsListOut is_of facts x l
   is_lent actor id x vs v l f at has of =
       let kept = is_holder (list_for actor) x.ghost.keeper vs id v l at (ap (lent_of actor) has ∙ lent_here actor l of) f.lists in
-      (kept, subst (Shelving is_of journal mailbox rested given_by closed_to x) kept f.shelf)
+      (kept, subst (ListPlace is_of facts x) kept f.list_place)
 
   -- a seat takes the list out
   pub grips : (actor id : ℕ) (me : M) (old : ℕ) (tell : M → Type 0) (x : Place) (vs : List View) → F actor x vs → get_elem? vs id ≡ some me.0 →
-      x.row Gate % 2 ≡ 0 → x.row Gate ≡ old → me.0.list ≡ None → may_grip actor me.0 ≡ true
+      x.row Gate % 2 ≡ 0 → x.row Gate ≡ old → me.0.list ≡ None → may_lock_list actor me.0 ≡ true
       → tell (lending actor x.ghost.listed x.ghost.gave me.0, (slot_at actor 1, Listing x.ghost.listed) ∷ me.1)
-      → Goes word_offset slot_offset F actor id me Gate (old + 1) tell x vs
+      → RuledStep word_offset slot_offset F actor id me Gate (old + 1) tell x vs
   grips actor id me old tell x vs f at even is bare may told =
       let v = me.0 in
       let h = is_shelved actor x vs f even in
       let l : Lent = record { actor = actor; listed = x.ghost.listed; gave = x.ghost.gave } in
       let w = lending actor x.ghost.listed x.ghost.gave v in
       let g : Ghost = record x.ghost { keeper = Some (id, l) } in
-      let y : Place = record { row = write word_offset x.row Gate (old + 1); slot = fill slot_offset x.slot ListShelf none; ghost = g } in
+      let y : Place = record { row = write word_offset x.row Gate (old + 1); slot = fill slot_offset x.slot ListSlot none; ghost = g } in
       let grows = grown x y (λ e. e) (λ one. one) (extends_self x.ghost.journal) refl in record {
         view = w;
-        deed = takes_from ListShelf (Listing x.ghost.listed);
+        deed = takes_from ListSlot (Listing x.ghost.listed);
         kept = g;
         able = h.1.there;
         here = record {
           valid = f.valid;
           claims = stays_locked (claim_for actor) x.ghost.holder vs id v w at refl f.claims;
           cell =
-              still_kept is_of journal mailbox rested given_by closed_to actors actor x y refl refl refl refl refl refl refl x.ghost.holder f.cell;
+              still_kept is_of facts actors actor x y refl refl refl refl refl refl refl x.ghost.holder f.cell;
           lists = takes_up (list_for actor) vs id v w l at (lent_here actor l refl) (subst (λ o. Locked (list_for actor) o vs) h.0 f.lists);
-          shelf = record { taken = refl; gave = refl; word = ap (λ n. n + 1) (sym is ∙ h.1.word) ∙ sym (gate_out x.ghost.listed x.ghost.gave) };
+          list_place = record { taken = refl; gave = refl; word = ap (λ n. n + 1) (sym is ∙ h.1.word) ∙ sym (gate_out x.ghost.listed x.ghost.gave) };
           ended = f.ended;
           listing = f.listing;
           named = f.named;
@@ -188,14 +186,14 @@ module _ {H : Type 0} (is_of : ℕ → H → Type 0) (journal : H → List Entry
           held = still_held actor (x.row Status) (x.row Status) vs id v w at refl (λ one. one) f.held;
           shares = shares_stay (λ (u : View). u.share) vs id v w at refl f.shares;
           bare = gripper_bare actor vs id v w at refl refl refl (refl, refl) may f.bare;
-          vouched = λ b. still_owed (Vouches b) (IsAmong b x.ghost.closed_to) (IsAmong b x.ghost.closed_to) vs id v w at (λ d. d) (λ _ p. p)
+          vouched = λ b. still_owed (HasSeenClosed b) (IsAmong b x.ghost.closed_to) (IsAmong b x.ghost.closed_to) vs id v w at (λ d. d) (λ _ p. p)
               (f.vouched b);
-          message = still_owed (PaysMessage actor) (MessageDue x) (MessageDue y) vs id v w at (λ d. d) (λ _ p. p) f.message;
-          system = still_owed (PaysSystem actor) (SystemDue x) (SystemDue y) vs id v w at (λ d. d) (λ _ p. p) f.system;
+          message = still_owed (HasMessageObligation actor) (MessageDue x) (MessageDue y) vs id v w at (λ d. d) (λ _ p. p) f.message;
+          system = still_owed (HasSystemObligation actor) (SystemDue x) (SystemDue y) vs id v w at (λ d. d) (λ _ p. p) f.system;
           seen = let k = goes_on actor x y v grows (f.seen id v at) in
               learns (Knows actor x) (Knows actor y) vs id w (λ u. goes_on actor x y u grows) (record { seen = k.seen; said = k.said }) f.seen;
         };
-        others = λ a n z k. elsewhere is_of journal mailbox rested given_by closed_to actors a z vs id v w at
+        others = λ a n z k. elsewhere is_of facts actors a z vs id v w at
             (record {
               claim = refl;
               list = lent_else a l (λ e. n (sym e)) ∙ sym (ap (lent_of a) bare);
@@ -216,12 +214,12 @@ module _ {H : Type 0} (is_of : ℕ → H → Type 0) (journal : H → List Entry
       id ≡ some me.0 → me.0.list ≡ Some l → l.actor ≡ actor
       → me.1 ≡ (slot_at actor 1, Listing (with_last l.listed m)) ∷ tail_of me.1 → n ≡ gate_word false (with_last l.listed m) l.gave
       → NamesBelow actors m
-      → tell (enlisting actor (pushed l.listed) m me.0, tail_of me.1) → Goes word_offset slot_offset F actor id me Gate n tell x vs
+      → tell (enlisting actor (pushed l.listed) m me.0, tail_of me.1) → RuledStep word_offset slot_offset F actor id me Gate n tell x vs
   enlists actor id n me l m tell x vs f at has of carried word names told =
       let v = me.0 in
       let h = is_lent actor id x vs v l f at has of in
       let w = enlisting actor (pushed l.listed) m v in
-      let d : Debt = record (owes actor v) { system = true } in
+      let d : WakeObligation = record (obligation_to actor v) { system = true } in
       let u : View = record v {
         log = Pushed actor (pushed l.listed) m ∷ v.log;
         list = None;
@@ -236,7 +234,7 @@ module _ {H : Type 0} (is_of : ℕ → H → Type 0) (journal : H → List Entry
       let same_end : IsTrue x.ghost.listed.closed → IsTrue l.listed.closed = (λ e. ap (λ (z : MessageList). z.closed) h.1.taken ∙ e) in
       let y : Place = record {
         row = write word_offset x.row Gate n;
-        slot = fill slot_offset x.slot ListShelf (some (Listing (with_last l.listed
+        slot = fill slot_offset x.slot ListSlot (some (Listing (with_last l.listed
             m)));
         ghost = g;
       } in
@@ -244,16 +242,16 @@ module _ {H : Type 0} (is_of : ℕ → H → Type 0) (journal : H → List Entry
       in
       record {
         view = w;
-        deed = gives_to ListShelf (Listing (with_last l.listed m));
+        deed = gives_to ListSlot (Listing (with_last l.listed m));
         kept = g;
         able = (tail_of me.1, carried);
         here = record {
           valid = f.valid;
           claims = stays_locked (claim_for actor) x.ghost.holder vs id v w at refl f.claims;
-          cell = still_kept is_of journal mailbox rested given_by closed_to actors actor x y refl refl refl refl refl
+          cell = still_kept is_of facts actors actor x y refl refl refl refl refl
               (ap (λ (z : MessageList). z.given) h.1.taken) refl x.ghost.holder f.cell;
           lists = puts_back (list_for actor) vs id v w l at refl (subst (λ o. Locked (list_for actor) o vs) h.0 f.lists);
-          shelf = record { there = refl; word = word ∙ ap (gate_word false (with_last l.listed m)) h.1.gave };
+          list_place = record { there = refl; word = word ∙ ap (gate_word false (with_last l.listed m)) h.1.gave };
           ended = λ e. f.ended (ap (λ (z : MessageList). z.closed) (sym h.1.taken) ∙ e);
           listing = record {
             given = f.listing.given;
@@ -271,11 +269,11 @@ module _ {H : Type 0} (is_of : ℕ → H → Type 0) (journal : H → List Entry
           shares = shares_stay (λ (u : View). u.share) vs id v w at refl f.shares;
           bare = still_bare actor vs id v w at (counts_no_more actor (Pushed actor (pushed l.listed) m) v w refl (refl, refl) refl refl refl)
               (λ c. c) (λ c. refl) f.bare;
-          vouched = λ b. still_owed (Vouches b) (IsAmong b x.ghost.closed_to) (IsAmong b x.ghost.closed_to) vs id v w at (λ d. d)
+          vouched = λ b. still_owed (HasSeenClosed b) (IsAmong b x.ghost.closed_to) (IsAmong b x.ghost.closed_to) vs id v w at (λ d. d)
               (λ _. among_more (Read b 1) (Pushed actor (pushed l.listed) m) v.log) (f.vouched b);
-          message = still_owed (PaysMessage actor) (MessageDue x) (MessageDue y) vs id v w at (λ z. z) (λ _. subst (λ (z : Debt). IsTrue
+          message = still_owed (HasMessageObligation actor) (MessageDue x) (MessageDue y) vs id v w at (λ z. z) (λ _. subst (λ (z : WakeObligation). IsTrue
               (z.message || z.sending)) (sym (owes_here actor d u))) f.message;
-          system = pays (PaysSystem actor) (SystemDue y) vs id v w at (subst (λ (z : Debt). IsTrue z.system) (sym (owes_here actor d u)) refl);
+          system = pays (HasSystemObligation actor) (SystemDue y) vs id v w at (subst (λ (z : WakeObligation). IsTrue z.system) (sym (owes_here actor d u)) refl);
           seen = let k = goes_on actor x y v grows (f.seen id v at) in
               learns (Knows actor x) (Knows actor y) vs id w (λ u. goes_on actor x y u grows) (record {
                 seen = ((λ _. pushed_so x.ghost l.listed m h.1.taken f.listing), k.seen);
@@ -292,7 +290,7 @@ module _ {H : Type 0} (is_of : ℕ → H → Type 0) (journal : H → List Entry
                 );
               }) f.seen;
         };
-        others = λ a k z s. elsewhere is_of journal mailbox rested given_by closed_to actors a z vs id v w at
+        others = λ a k z s. elsewhere is_of facts actors a z vs id v w at
             (record {
               claim = refl;
               list = sym (ap (lent_of a) has ∙ lent_else a l (λ e. k (sym e ∙ of)));
@@ -306,31 +304,31 @@ module _ {H : Type 0} (is_of : ℕ → H → Type 0) (journal : H → List Entry
       }
 
   -- the holder gives back the list, to which it did this
-  pub unloads : (actor id n : ℕ) (s : Sight) (me : M) (c : Held) (l : Lent) (new : MessageList) (gave : Bool) (tell : M → Type 0)
+  pub unloads : (actor id n : ℕ) (s : Observation) (me : M) (c : Held) (l : Lent) (new : MessageList) (gave : Bool) (tell : M → Type 0)
       (x : Place) (vs : List View) → F actor x vs → get_elem? vs id ≡ some me.0
       → me.0.claim ≡ Some c → c.actor ≡ actor → me.0.list ≡ Some l → l.actor ≡ actor → me.1 ≡ (slot_at actor 1, Listing new) ∷ tail_of me.1 → n ≡
       gate_word false new gave
       → new.messages ≡ [] → (IsTrue l.listed.closed → IsTrue new.closed) → (IsTrue new.closed → IsTrue l.listed.closed ⊎ (c.word ≡ 1))
       → new.given ≡ given_after l.listed.given (listed l.listed)
       → ((a : ℕ) → CountsNothing a s)
-      → ((a : ℕ) (z : Place) → (a ≡ actor → (z.ghost.listed ≡ new) × IsPart (listed l.listed) (all_numbered z.ghost)) → IsSo a z s)
+      → ((a : ℕ) (z : Place) → (a ≡ actor → (z.ghost.listed ≡ new) × IsPart (listed l.listed) (all_numbered z.ghost)) → ObservationHolds a z s)
       → tell (unloading s (listed l.listed) gave me.0, tail_of me.1)
-      → Goes word_offset slot_offset F actor id me Gate n tell x vs
+      → RuledStep word_offset slot_offset F actor id me Gate n tell x vs
   unloads actor id n s me c l new gave tell x vs f at has of keeps of_list carried word empty stays_closed closed counts uncounted so told =
       let given = listed l.listed in
       let v = me.0 in
-      let h = is_held is_of journal mailbox rested given_by closed_to actors actor id x vs v c f at has of in
+      let h = is_held is_of facts actors actor id x vs v c f at has of in
       let k = is_lent actor id x vs v l f at keeps of_list in
       let lent = k in
       let w = unloading s given gave v in
       let still : IsTrue x.ghost.listed.closed → IsTrue new.closed = (λ e. stays_closed (ap (λ (z : MessageList). z.closed) k.1.taken ∙ e)) in
       let c' : Held = record c { gave = gave; given = given_after c.given given; drained = c.drained ++ given } in
       let g : Ghost = record x.ghost { holder = Some (id, c'); keeper = None; listed = new; gave = gave } in
-      let y : Place = record { row = write word_offset x.row Gate n; slot = fill slot_offset x.slot ListShelf (some (Listing new)); ghost = g } in
+      let y : Place = record { row = write word_offset x.row Gate n; slot = fill slot_offset x.slot ListSlot (some (Listing new)); ghost = g } in
       let same_given : l.listed.given ≡ x.ghost.listed.given = ap (λ (z : MessageList). z.given) k.1.taken in
       let grows = grown x y still (λ one. one) (extends_self x.ghost.journal) refl in record {
         view = w;
-        deed = gives_to ListShelf (Listing new);
+        deed = gives_to ListSlot (Listing new);
         kept = g;
         able = (tail_of me.1, carried);
         here = record {
@@ -349,7 +347,7 @@ module _ {H : Type 0} (is_of : ℕ → H → Type 0) (journal : H → List Entry
             out = h.1.out;
           };
           lists = puts_back (list_for actor) vs id v w l at refl (subst (λ o. Locked (list_for actor) o vs) k.0 f.lists);
-          shelf = record { there = refl; word = word };
+          list_place = record { there = refl; word = word };
           ended = λ e. ⊎_elim (λ was. f.ended (ap (λ (z : MessageList). z.closed) (sym k.1.taken) ∙ was)) (λ one. h.1.word ∙ one) (closed e);
           listing = record {
             given = x.ghost.pushed;
@@ -367,9 +365,9 @@ module _ {H : Type 0} (is_of : ℕ → H → Type 0) (journal : H → List Entry
           shares = shares_stay (λ (u : View). u.share) vs id v w at refl f.shares;
           bare = claimed_bare actor vs id v w c' at (ap (λ z. held_of actor (regiven given gave z)) has ∙ held_here actor c' of) refl refl refl
               (counts_no_more actor s v w refl (uncounted actor) refl refl refl).on f.bare;
-          vouched = λ b. still_owed (Vouches b) (IsAmong b x.ghost.closed_to) (IsAmong b x.ghost.closed_to) vs id v w at (λ d. d)
+          vouched = λ b. still_owed (HasSeenClosed b) (IsAmong b x.ghost.closed_to) (IsAmong b x.ghost.closed_to) vs id v w at (λ d. d)
               (λ _. among_more (Read b 1) s v.log) (f.vouched b);
-          message = still_owed (PaysMessage actor) (MessageDue x) (MessageDue y) vs id v w at (λ z. z) (λ _ p. p) f.message;
+          message = still_owed (HasMessageObligation actor) (MessageDue x) (MessageDue y) vs id v w at (λ z. z) (λ _ p. p) f.message;
           system = λ due. absurd (let z = due.0 in ⊎_elim (λ b. omega arith) (λ b. omega arith) h.1.busy);
           seen = let k = goes_on actor x y v grows (f.seen id v at) in
               learns (Knows actor x) (Knows actor y) vs id w (λ u. goes_on actor x y u grows) (record {
@@ -377,7 +375,7 @@ module _ {H : Type 0} (is_of : ℕ → H → Type 0) (journal : H → List Entry
                 said = k.said;
               }) f.seen;
         };
-        others = λ a i z p. elsewhere is_of journal mailbox rested given_by closed_to actors a z vs id v w at (record {
+        others = λ a i z p. elsewhere is_of facts actors a z vs id v w at (record {
           claim = ap (λ z. held_of a (regiven given gave z)) has ∙ (held_else a c' (λ e. i (sym e ∙ of)) ∙ sym (ap (held_of a) has ∙ held_else a
               c (λ e. i (sym e ∙ of))));
           list = sym (ap (lent_of a) keeps ∙ lent_else a l (λ e. i (sym e ∙ of_list)));
@@ -392,20 +390,19 @@ module _ {H : Type 0} (is_of : ℕ → H → Type 0) (journal : H → List Entry
   -- a seat finds the list ended, and says what went nowhere
   pub refuses : (actor id : ℕ) (me : M) (m : SysMsg) (tell : M → Type 0) (x : Place) (vs : List View) → F actor x vs → get_elem? vs id ≡ some
       me.0 → IsTrue x.ghost.listed.closed → tell (refusing actor m me.0, me.1)
-      → Goes word_offset slot_offset F actor id me Gate (x.row Gate) tell x vs
+      → RuledStep word_offset slot_offset F actor id me Gate (x.row Gate) tell x vs
   refuses actor id me m tell x vs f at shut told = let v = me.0 in let w = refusing actor m v in record {
     view = w;
     deed = stays;
     kept = x.ghost;
     able = tt;
-    here = load_here is_of journal mailbox rested given_by closed_to actors actor x (set vs id w) Gate (views_change is_of journal mailbox rested
-        given_by closed_to actors actor x vs id v w at refl
+    here = load_here is_of facts actors actor x (set vs id w) Gate (views_change is_of facts actors actor x vs id v w at refl
         refl (record { on = refl; off = refl; share = refl; got = refl; back = refl }) (λ _ p. p) (λ _ p. p) (λ k. record {
           seen = k.seen;
           said =
               ((λ _. ((λ _. shut), (λ e. absurd (cc)))), k.said);
         }) (λ b p. p) f);
-    others = λ a n y g. elsewhere is_of journal mailbox rested given_by closed_to actors a y vs id v w at (record {
+    others = λ a n y g. elsewhere is_of facts actors a y vs id v w at (record {
       claim = refl;
       list = refl;
       debt = refl;

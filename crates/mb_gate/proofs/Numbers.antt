@@ -26,7 +26,7 @@ use Rattle.std.proofs.Common.{
 use Rattle.std.proofs.lemmas.List.Elements.{All-nil, All-cons, All-head, All-tail}
 use Rattle.mb_msg.specs.declared.system.SysMsg.{SysMsg}
 use Rattle.mb_syslist.specs.MessageList.{MessageList, numbered, listed, pushed}
-use Rattle.mb_rule.specs.Seen.{Each}
+use Rattle.mb_ghost.specs.Seen.{Each}
 use Rattle.mb_gate.specs.Rule.{Ghost, IsAmong, IsPart, IsListing}
 
 module _ {A : Type 0} where

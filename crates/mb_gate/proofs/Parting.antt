@@ -1,4 +1,4 @@
--- Views that are cut in two, and views that are put together, keep the rule.
+-- Views that are split, and views that are joined, keep the rule.
 use Rattle.std.proofs.Common.{
   ◌≡◌,
   ℕ,
@@ -32,20 +32,20 @@ use Rattle.std.proofs.Common.{
 }
 use mathlib.Core.Option.{some}
 use lib.ListN.{get_elem?}
-use Rattle.mb_status.specs.Mailbox.{Mailbox}
 use Rattle.mb_msg.specs.declared.system.SysMsg.{SysMsg}
 use Rattle.mb_journal.specs.Entry.{Entry}
-use Rattle.mb_core.specs.declared.debt.Debt.{Debt}
-use Rattle.mb_rule.specs.Layout.{Spot}
-use Rattle.mb_rule.specs.Seen.{Each}
-use Rattle.mb_rule.proofs.LockedLemmas.{splits_locked, joins_locked}
-use Rattle.mb_rule.proofs.OwedLemmas.{splits_owed, joins_owed}
-use Rattle.mb_rule.proofs.SeenLemmas.{splits_seen, joins_seen, each_append}
-use Rattle.mb_rule.specs.Summed.{total}
-use Rattle.mb_rule.proofs.SummedLemmas.{total_append, total_splits, total_joins}
-use Rattle.mb_rule.specs.Shares.{FitsIn, amount}
-use Rattle.mb_rule.proofs.SharesLemmas.{splits_shares, joins_shares}
-use Rattle.mb_gate.specs.Turns.{got_by, back_by, claims_out}
+use Rattle.mb_core.specs.declared.debt.WakeObligation.{WakeObligation}
+use Rattle.mb_ghost.specs.Layout.{Spot}
+use Rattle.mb_ghost.specs.Seen.{Each}
+use Rattle.mb_ghost.proofs.LockedLemmas.{splits_locked, joins_locked}
+use Rattle.mb_ghost.proofs.OwedLemmas.{splits_owed, joins_owed}
+use Rattle.mb_ghost.proofs.SeenLemmas.{splits_seen, joins_seen, each_append}
+use Rattle.mb_ghost.specs.Summed.{total}
+use Rattle.mb_ghost.proofs.SummedLemmas.{total_append, total_splits, total_joins}
+use Rattle.mb_ghost.specs.Shares.{FitsIn, amount}
+use Rattle.mb_ghost.proofs.SharesLemmas.{splits_shares, joins_shares}
+use Rattle.mb_gate.specs.HomeFacts.{HomeFacts}
+use Rattle.mb_gate.specs.ClaimCounts.{claims_got, claims_returned, claims_out}
 use Rattle.mb_gate.proofs.Facts.{no_share}
 use Rattle.atomic_table.proofs.Lists.{set_else}
 use Rattle.std.proofs.lemmas.Bool.{eqb-true}
@@ -53,7 +53,7 @@ use Rattle.mb_gate.specs.declared.slot.Slot.{Slot}
 use Rattle.mb_gate.proofs.Numbers.{among_left, among_right, among_first, among_more}
 use Rattle.mb_gate.specs.View.{
   View,
-  Sight,
+  Observation,
   Read,
   Saw,
   Counted,
@@ -64,12 +64,12 @@ use Rattle.mb_gate.specs.View.{
   Pushed,
   Drained,
   Ended,
-  Said,
-  debt_of,
-  owes,
+  SentSystem,
+  obligation_of,
+  obligation_to,
   blank,
-  either_owes,
-  added_debts,
+  either_obligation,
+  added_obligations,
   without_counts,
   taking_over,
 }
@@ -77,40 +77,40 @@ use Rattle.mb_gate.specs.Waiting.{counted_on, counted_off, on_by, off_by, IsBala
 use Rattle.mb_gate.specs.Rule.{
   Word,
   Waiting,
-  Shelf,
+  SlotName,
   Ghost,
   held_of,
   lent_of,
   claim_for,
   list_for,
-  IsSo,
-  IsTold,
+  ObservationHolds,
+  SentSystemHolds,
   Knows,
   IsAmong,
-  Vouches,
+  HasSeenClosed,
   MessageDue,
   SystemDue,
-  PaysMessage,
-  PaysSystem,
+  HasMessageObligation,
+  HasSystemObligation,
   is_some_item,
   IsBare,
   Fact,
 }
 
-added_at : (actor : ℕ) (d : ℕ × Debt) (ds old : List (ℕ × Debt)) (b : Bool) → (d.0 == actor) ≡ b → debt_of actor (added_debts ds old) ≡
-    either_owes (debt_of actor ds) (debt_of actor old)
-    → (if b then either_owes d.1 (debt_of d.0 old) else debt_of actor (added_debts ds old)) ≡ either_owes (if b then d.1 else debt_of actor ds)
-    (debt_of actor old)
-added_at actor d ds old true is rest = ap (λ n. either_owes d.1 (debt_of n old)) (eqb-true d.0 actor is)
+added_at : (actor : ℕ) (d : ℕ × WakeObligation) (ds old : List (ℕ × WakeObligation)) (b : Bool) → (d.0 == actor) ≡ b → obligation_of actor (added_obligations ds old) ≡
+    either_obligation (obligation_of actor ds) (obligation_of actor old)
+    → (if b then either_obligation d.1 (obligation_of d.0 old) else obligation_of actor (added_obligations ds old)) ≡ either_obligation (if b then d.1 else obligation_of actor ds)
+    (obligation_of actor old)
+added_at actor d ds old true is rest = ap (λ n. either_obligation d.1 (obligation_of n old)) (eqb-true d.0 actor is)
 added_at actor d ds old false is rest = rest
 
--- what is owed after two debts were added is what either owed
-pub debt_of-added : (actor : ℕ) (ds old : List (ℕ × Debt)) → debt_of actor (added_debts ds old) ≡ either_owes (debt_of actor ds) (debt_of actor old)
+-- what is owed after two were joined is what either owed
+pub debt_of-added : (actor : ℕ) (ds old : List (ℕ × WakeObligation)) → obligation_of actor (added_obligations ds old) ≡ either_obligation (obligation_of actor ds) (obligation_of actor old)
 debt_of-added actor [] old = refl
 debt_of-added actor (d ∷ ds) old = added_at actor d ds old (d.0 == actor) refl (debt_of-added actor ds old)
 
-either_message : (a b : Debt) → IsTrue (a.message || a.sending) ⊎ IsTrue (b.message || b.sending) → IsTrue ((either_owes a b).message ||
-    (either_owes a b).sending)
+either_message : (a b : WakeObligation) → IsTrue (a.message || a.sending) ⊎ IsTrue (b.message || b.sending) → IsTrue ((either_obligation a b).message ||
+    (either_obligation a b).sending)
 either_message a b h = cases a.message a.sending b.message b.sending h
   where
     cases : (p q r s : Bool) → IsTrue (p || q) ⊎ IsTrue (r || s) → IsTrue ((p || r) || (q || s))
@@ -122,7 +122,7 @@ either_message a b h = cases a.message a.sending b.message b.sending h
     cases false false false false (inl h) = h
     cases false false false false (inr h) = h
 
-either_system : (a b : Debt) → IsTrue a.system ⊎ IsTrue b.system → IsTrue (either_owes a b).system
+either_system : (a b : WakeObligation) → IsTrue a.system ⊎ IsTrue b.system → IsTrue (either_obligation a b).system
 either_system a b h = cases a.system b.system h
   where
     cases : (p q : Bool) → IsTrue p ⊎ IsTrue q → IsTrue (p || q)
@@ -146,16 +146,16 @@ some_left (x ∷ xs) b has = refl
 pub record SharesAccount (actor : ℕ) (v left right : View) : Type 0 where
   pub on : on_by actor left + on_by actor right ≡ on_by actor v
   pub off : off_by actor left + off_by actor right ≡ off_by actor v
-  pub got : got_by actor left + got_by actor right ≡ got_by actor v
-  pub back : back_by actor left + back_by actor right ≡ back_by actor v
+  pub got : claims_got actor left + claims_got actor right ≡ claims_got actor v
+  pub back : claims_returned actor left + claims_returned actor right ≡ claims_returned actor v
 
 -- and what share one had they have
 pub record SharesShare (v left right : View) (e : ℕ) : Type 0 where
   pub fits : FitsIn e v.share
   pub amounts : amount e left.share + amount e right.share ≡ amount e v.share
 
--- what holds of each sight holds of those that are not counts
-pub each_without : (P : Sight → Type 0) (log : List Sight) → Each P log → Each P (without_counts log)
+-- what holds of each observation holds of those that are not counts
+pub each_without : (P : Observation → Type 0) (log : List Observation) → Each P log → Each P (without_counts log)
 each_without P [] h = tt
 each_without P (Read a w ∷ log) h = (h.0, each_without P log h.1)
 each_without P (Saw a j ∷ log) h = (h.0, each_without P log h.1)
@@ -169,7 +169,7 @@ each_without P (Drained a given ∷ log) h = (h.0, each_without P log h.1)
 each_without P (Ended a given ∷ log) h = (h.0, each_without P log h.1)
 
 -- and nothing is counted by those
-nothing_left : (f : Sight → ℕ) (log : List Sight) → ((a w : ℕ) → f (Read a w) ≡ 0) → ((a : ℕ) (j : List Entry) → f (Saw a j) ≡ 0) → ((a n : ℕ) → f
+nothing_left : (f : Observation → ℕ) (log : List Observation) → ((a w : ℕ) → f (Read a w) ≡ 0) → ((a : ℕ) (j : List Entry) → f (Saw a j) ≡ 0) → ((a n : ℕ) → f
     (Counted a n) ≡ 0) → ((a : ℕ) (b : Bool) → f (Looked a b) ≡ 0) → ((a n : ℕ) (m : SysMsg) → f (Pushed a n m) ≡ 0) → ((a : ℕ) (l : List (ℕ ×
     SysMsg)) → f (Drained a l) ≡ 0) → ((a : ℕ) (l : List (ℕ × SysMsg)) → f (Ended a l) ≡ 0) → total f (without_counts log) ≡ 0
 nothing_left f [] r s c l p d e = refl
@@ -184,19 +184,19 @@ nothing_left f (Pushed a n m ∷ log) r s c l p d e = let z = p a n m in let res
 nothing_left f (Drained a g ∷ log) r s c l p d e = let z = d a g in let rest = nothing_left f log r s c l p d e in omega arith
 nothing_left f (Ended a g ∷ log) r s c l p d e = let z = e a g in let rest = nothing_left f log r s c l p d e in omega arith
 
-pub no_counts_on : (actor : ℕ) (log : List Sight) → total (counted_on actor) (without_counts log) ≡ 0
+pub no_counts_on : (actor : ℕ) (log : List Observation) → total (counted_on actor) (without_counts log) ≡ 0
 no_counts_on actor log = nothing_left (counted_on actor) log (λ a w. refl) (λ a j. refl) (λ a n. refl) (λ a b. refl) (λ a n m. refl) (λ a l. refl)
     (λ a l. refl)
 
-pub no_counts_off : (actor : ℕ) (log : List Sight) → total (counted_off actor) (without_counts log) ≡ 0
+pub no_counts_off : (actor : ℕ) (log : List Observation) → total (counted_off actor) (without_counts log) ≡ 0
 no_counts_off actor log = nothing_left (counted_off actor) log (λ a w. refl) (λ a j. refl) (λ a n. refl) (λ a b. refl) (λ a n m. refl) (λ a l.
     refl) (λ a l. refl)
 
 -- who was seen closed is so still
-pub vouches_without : (b : ℕ) (log : List Sight) → IsAmong (Read b 1) log → IsAmong (Read b 1) (without_counts log)
+pub vouches_without : (b : ℕ) (log : List Observation) → IsAmong (Read b 1) log → IsAmong (Read b 1) (without_counts log)
 vouches_without b log is = subst (λ l. IsAmong (Read b 1) (without_counts l)) (sym is.joined) (from is.before)
   where
-    from : (before : List Sight) → IsAmong (Read b 1) (without_counts (before ++ Read b 1 ∷ is.after))
+    from : (before : List Observation) → IsAmong (Read b 1) (without_counts (before ++ Read b 1 ∷ is.after))
     from [] = among_first (Read b 1) (without_counts is.after)
     from (Read a w ∷ log) = among_more (Read b 1) (Read a w) _ (from log)
     from (Saw a j ∷ log) = among_more (Read b 1) (Saw a j) _ (from log)
@@ -209,23 +209,22 @@ vouches_without b log is = subst (λ l. IsAmong (Read b 1) (without_counts l)) (
     from (Drained a given ∷ log) = among_more (Read b 1) (Drained a given) _ (from log)
     from (Ended a given ∷ log) = among_more (Read b 1) (Ended a given) _ (from log)
 
-module _ {H : Type 0} (is_of : ℕ → H → Type 0) (journal : H → List Entry) (mailbox : H → Mailbox) (rested : H → Type 0) (given_by : H
-    → ℕ) (closed_to : H → List ℕ) (actors : ℕ) where
-  abbrev F : ℕ → Spot Word Shelf (Slot H) Ghost → List View → Type 0
-  F = Fact is_of journal mailbox rested given_by closed_to actors
+module _ {H : Type 0} (is_of : ℕ → H → Type 0) (facts : H → HomeFacts) (actors : ℕ) where
+  abbrev F : ℕ → Spot Word SlotName (Slot H) Ghost → List View → Type 0
+  F = Fact is_of facts actors
 
   abbrev Place : Type 0
-  Place = Spot Word Shelf (Slot H) Ghost
+  Place = Spot Word SlotName (Slot H) Ghost
 
   -- a view is cut in two: the first keeps the claim, no list is out, and what was owed and seen is the second's
   pub parts : (id : ℕ) (v left right : View) → left.claim ≡ v.claim → right.claim ≡ None → v.list ≡ None → left.list ≡ None → right.list ≡ None →
-      right.debts ≡ v.debts → ((actor : ℕ) → SharesAccount actor v left right) → ((e : ℕ) → FitsIn e left.share → FitsIn e right.share
+      right.obligations ≡ v.obligations → ((actor : ℕ) → SharesAccount actor v left right) → ((e : ℕ) → FitsIn e left.share → FitsIn e right.share
       → SharesShare v
       left right e) → ((actor : ℕ) → left.share ≡ [] → IsBare actor left) → ((actor : ℕ) → right.share ≡ [] → IsBare actor right)
-      → ((b : ℕ) → Vouches b v → Vouches b right)
+      → ((b : ℕ) → HasSeenClosed b v → HasSeenClosed b right)
       → ((actor : ℕ) (x : Place) → Knows actor x v → Knows actor x left) → ((actor : ℕ) (x : Place) → Knows actor x v → Knows actor x right)
       → (actor : ℕ) (x : Place) (vs : List View) → get_elem? vs id ≡ some v → F actor x vs → F actor x (set vs id left ++ right ∷ [])
-  parts id v left right claim no_claim list no_list no_list_2 debts account share bare_left bare_right vouches knows knows_too actor x vs at f =
+  parts id v left right claim no_claim list no_list no_list_2 obligations account share bare_left bare_right vouches knows knows_too actor x vs at f =
       record {
         valid = f.valid;
         claims = splits_locked (claim_for actor) x.ghost.holder vs id v left right at (ap (held_of actor) claim) (ap (held_of actor) no_claim)
@@ -233,27 +232,27 @@ module _ {H : Type 0} (is_of : ℕ → H → Type 0) (journal : H → List Entry
         cell = f.cell;
         lists = splits_locked (list_for actor) x.ghost.keeper vs id v left right at (ap (lent_of actor) no_list ∙ sym (ap (lent_of actor) list)) (ap
             (lent_of actor) no_list_2) f.lists;
-        shelf = f.shelf;
+        list_place = f.list_place;
         ended = f.ended;
         listing = f.listing;
         named = f.named;
         balance = same_balance actor (x.row Waiting) vs (set vs id left ++ right ∷ []) (total_splits (on_by actor) vs id v left right at (account
             actor).on) (total_splits (off_by actor) vs id v left right at (account actor).off) f.balance;
-        turns = total_splits (got_by actor) vs id v left right at (account actor).got ∙ (f.turns ∙ sym (ap (λ n. n + claims_out x.ghost.holder)
-            (total_splits (back_by actor) vs id v left right at (account actor).back)));
-        held = λ one. subst (λ k. 0 < k) (sym (total_splits (got_by actor) vs id v left right at (account actor).got)) (f.held one);
+        turns = total_splits (claims_got actor) vs id v left right at (account actor).got ∙ (f.turns ∙ sym (ap (λ n. n + claims_out x.ghost.holder)
+            (total_splits (claims_returned actor) vs id v left right at (account actor).back)));
+        held = λ one. subst (λ k. 0 < k) (sym (total_splits (claims_got actor) vs id v left right at (account actor).got)) (f.held one);
         shares = splits_shares (λ (u : View). u.share) vs id v left right at (λ e l r. let s = share e l r in (s.fits, s.amounts)) f.shares;
         bare = splits_seen (λ (u : View). u.share ≡ [] → IsBare actor u) vs id left right (bare_left actor) (bare_right actor) f.bare;
-        vouched = λ b. splits_owed (Vouches b) (IsAmong b x.ghost.closed_to) vs id v left right at (λ p. inr (vouches b p)) (f.vouched b);
-        message = splits_owed (PaysMessage actor) (MessageDue x) vs id v left right at (λ p. inr (subst (λ ds. IsTrue ((debt_of actor ds).message ||
-            (debt_of actor ds).sending)) (sym debts) p)) f.message;
-        system = splits_owed (PaysSystem actor) (SystemDue x) vs id v left right at (λ p. inr (subst (λ ds. IsTrue (debt_of actor ds).system) (sym
-            debts) p)) f.system;
+        vouched = λ b. splits_owed (HasSeenClosed b) (IsAmong b x.ghost.closed_to) vs id v left right at (λ p. inr (vouches b p)) (f.vouched b);
+        message = splits_owed (HasMessageObligation actor) (MessageDue x) vs id v left right at (λ p. inr (subst (λ ds. IsTrue ((obligation_of actor ds).message ||
+            (obligation_of actor ds).sending)) (sym obligations) p)) f.message;
+        system = splits_owed (HasSystemObligation actor) (SystemDue x) vs id v left right at (λ p. inr (subst (λ ds. IsTrue (obligation_of actor ds).system) (sym
+            obligations) p)) f.system;
         seen = splits_seen (Knows actor x) vs id left right (knows actor x (f.seen id v at)) (knows_too actor x (f.seen id v at)) f.seen;
       }
 
-  -- a seat takes over the view of one that has no claim and no list, and what one of the two said
-  pub takes_over : (id : ℕ) (v : View) (other : ℕ) (w : View) (said : List Said) → (said ≡ v.said) ⊎ (said ≡ w.said) → w.claim ≡ None
+  -- a seat takes over the view of one that has no claim and no list, and what one of the two sent
+  pub takes_over : (id : ℕ) (v : View) (other : ℕ) (w : View) (said : List SentSystem) → (said ≡ v.said) ⊎ (said ≡ w.said) → w.claim ≡ None
       → w.list ≡ None →
       is_some_item w.share ≡ true
       → (actor : ℕ) (x : Place) (vs : List View) → get_elem? vs id ≡ some v → ¬ (other ≡ id)
@@ -266,37 +265,37 @@ module _ {H : Type 0} (is_of : ℕ → H → Type 0) (journal : H → List Entry
         claims = joins_locked (claim_for actor) x.ghost.holder vs id other v w both blank at there refl (ap (held_of actor) bare) refl f.claims;
         cell = f.cell;
         lists = joins_locked (list_for actor) x.ghost.keeper vs id other v w both blank at there refl (ap (lent_of actor) bare_list) refl f.lists;
-        shelf = f.shelf;
+        list_place = f.list_place;
         ended = f.ended;
         listing = f.listing;
         named = f.named;
         balance = same_balance actor (x.row Waiting) vs (set (set vs id both) other blank)
             (total_joins (on_by actor) vs id other v w both blank at there (both_logs (counted_on actor) w.log v.log))
             (total_joins (off_by actor) vs id other v w both blank at there (both_logs (counted_off actor) w.log v.log)) f.balance;
-        turns = total_joins (got_by actor) vs id other v w both blank at there (both_logs (λ a. if a == actor then 1 else 0) w.got v.got)
-            ∙ (f.turns ∙ sym (ap (λ n. n + claims_out x.ghost.holder) (total_joins (back_by actor) vs id other v w both blank at there
+        turns = total_joins (claims_got actor) vs id other v w both blank at there (both_logs (λ a. if a == actor then 1 else 0) w.got v.got)
+            ∙ (f.turns ∙ sym (ap (λ n. n + claims_out x.ghost.holder) (total_joins (claims_returned actor) vs id other v w both blank at there
             (both_logs (λ a. if a == actor then 1 else 0) w.returned v.returned))));
-        held = λ one. subst (λ k. 0 < k) (sym (total_joins (got_by actor) vs id other v w both blank at there
+        held = λ one. subst (λ k. 0 < k) (sym (total_joins (claims_got actor) vs id other v w both blank at there
             (both_logs (λ a. if a == actor then 1 else 0) w.got v.got))) (f.held one);
         shares = joins_shares (λ (u : View). u.share) vs id other v w both blank at apart there refl refl f.shares;
         bare = joins_seen (λ (u : View). u.share ≡ [] → IsBare actor u) vs id other both blank (λ none. absurd (no_share (w.share ++ v.share)
             (some_left w.share v.share sharer) none)) (λ _. record { got = refl; back = refl; on = refl; rest = λ _. (refl, refl) }) f.bare;
-        vouched = λ b. joins_owed (Vouches b) (IsAmong b x.ghost.closed_to) vs id other v w both blank at apart there
+        vouched = λ b. joins_owed (HasSeenClosed b) (IsAmong b x.ghost.closed_to) vs id other v w both blank at apart there
             (λ p. among_right (Read b 1) w.log v.log p) (λ p. among_left (Read b 1) w.log v.log p) (f.vouched b);
-        message = joins_owed (PaysMessage actor) (MessageDue x) vs id other v w both blank at apart there
-            (λ p. subst (λ (d : Debt). IsTrue (d.message || d.sending)) (sym (debt_of-added actor w.debts v.debts)) (either_message (owes actor
-            w) (owes actor v) (inr p)))
-            (λ p. subst (λ (d : Debt). IsTrue (d.message || d.sending)) (sym (debt_of-added actor w.debts v.debts)) (either_message (owes actor
-            w) (owes actor v) (inl p))) f.message;
-        system = joins_owed (PaysSystem actor) (SystemDue x) vs id other v w both blank at apart there
-            (λ p. subst (λ (d : Debt). IsTrue d.system) (sym (debt_of-added actor w.debts v.debts)) (either_system (owes actor w) (owes actor v)
+        message = joins_owed (HasMessageObligation actor) (MessageDue x) vs id other v w both blank at apart there
+            (λ p. subst (λ (d : WakeObligation). IsTrue (d.message || d.sending)) (sym (debt_of-added actor w.obligations v.obligations)) (either_message (obligation_to actor
+            w) (obligation_to actor v) (inr p)))
+            (λ p. subst (λ (d : WakeObligation). IsTrue (d.message || d.sending)) (sym (debt_of-added actor w.obligations v.obligations)) (either_message (obligation_to actor
+            w) (obligation_to actor v) (inl p))) f.message;
+        system = joins_owed (HasSystemObligation actor) (SystemDue x) vs id other v w both blank at apart there
+            (λ p. subst (λ (d : WakeObligation). IsTrue d.system) (sym (debt_of-added actor w.obligations v.obligations)) (either_system (obligation_to actor w) (obligation_to actor v)
             (inr p)))
-            (λ p. subst (λ (d : Debt). IsTrue d.system) (sym (debt_of-added actor w.debts v.debts)) (either_system (owes actor w) (owes actor v)
+            (λ p. subst (λ (d : WakeObligation). IsTrue d.system) (sym (debt_of-added actor w.obligations v.obligations)) (either_system (obligation_to actor w) (obligation_to actor v)
             (inl p))) f.system;
         seen = joins_seen (Knows actor x) vs id other both blank
             (record {
-              seen = each_append (IsSo actor x) w.log v.log (f.seen other w at_other).seen (f.seen id v at).seen;
-              said = ⊎_elim (λ e. subst (Each (IsTold actor x)) (sym e) (f.seen id v at).said) (λ e. subst (Each (IsTold actor x)) (sym e)
+              seen = each_append (ObservationHolds actor x) w.log v.log (f.seen other w at_other).seen (f.seen id v at).seen;
+              said = ⊎_elim (λ e. subst (Each (SentSystemHolds actor x)) (sym e) (f.seen id v at).said) (λ e. subst (Each (SentSystemHolds actor x)) (sym e)
                   (f.seen other w at_other).said) whose;
             }) (record { seen = tt; said = tt }) f.seen;
       }

@@ -1,4 +1,4 @@
--- The table shows a state of the machine of which the machine's facts hold.
+-- The table shows a state of the abstract machine, and the machine's facts hold of it.
 use Rattle.std.proofs.Common.{
   ◌≡◌,
   ◌≢◌,
@@ -44,18 +44,18 @@ use Rattle.std.proofs.Common.{
 use Rattle.std.proofs.lemmas.Bool.Decides.{nat_tests}
 use mathlib.Core.Option.{some, some-ne-none, some-injective}
 use lib.ListN.{get_elem?, length-map}
-use Rattle.mb_status.specs.Mailbox.{Mailbox, mailbox_of, is_valid, is_possible}
+use Rattle.mb_status.specs.Mailbox.{mailbox_of, is_valid, is_possible}
 use Rattle.mb_status.specs.WordLemmas.{word_of-mailbox_of}
 use Rattle.mb_msg.specs.declared.system.SysMsg.{SysMsg}
-use Rattle.mb_journal.specs.Entry.{Entry}
-use Rattle.mb_core.specs.declared.debt.Debt.{Debt}
+use Rattle.mb_core.specs.declared.debt.WakeObligation.{WakeObligation}
 use Rattle.mb_core.specs.Actor as machine
-use Rattle.mb_rule.specs.Layout.{Spot, spot_of}
-use Rattle.mb_rule.specs.Locked.{ticket_at, Locked}
-use Rattle.mb_rule.specs.Owed.{Payer}
+use Rattle.mb_ghost.specs.Layout.{Spot, spot_of}
+use Rattle.mb_ghost.specs.Locked.{ticket_at, Locked}
+use Rattle.mb_ghost.specs.Owed.{Debtor}
+use Rattle.mb_gate.specs.HomeFacts.{HomeFacts}
 use Rattle.mb_gate.specs.declared.slot.Slot.{Slot}
-use Rattle.mb_gate.specs.View.{View, Read, Pushed, Drained, Ended, Held, owes}
-use Rattle.mb_gate.specs.Rule.{Word, Status, word_offset, Shelf, slot_offset, Ghost, is_some_item, has_work, claim_for, IsSo, all_numbered, Keeping}
+use Rattle.mb_gate.specs.View.{View, Read, Pushed, Drained, Ended, Held, obligation_to}
+use Rattle.mb_gate.specs.Rule.{Word, Status, word_offset, SlotName, slot_offset, Ghost, is_some_item, has_work, claim_for, ObservationHolds, all_numbered, CellPlace}
 use Rattle.mb_gate.proofs.Numbers.{each_among}
 use Rattle.mb_gate.specs.Shown.{ShowsClosed, ShowsBalance, ShowsNumbers, holder_of, work_of, ShowsMachine}
 use Rattle.mb_gate.proofs.OneNumber.{one_message, among_part}
@@ -74,11 +74,11 @@ place_of f [] q x d e = absurd (some-ne-none x (sym e))
 place_of f (y ∷ ys) zero x d e = (omega arith, ap f (some-injective y x e))
 place_of f (y ∷ ys) (suc q) x d e = let p = place_of f ys q x d e in (omega arith, p.1)
 
--- who pays is among those that owe
-pays_among : (P : Debt → Type 0) (actor : ℕ) (vs : List View) → Payer (λ v. P (owes actor v)) vs → Any P (map (owes actor) vs)
-pays_among P actor vs p = let at = place_of (owes actor) vs p.seat p.view (owes actor p.view) p.there in (
+-- a seat with the obligation is among those that owe
+pays_among : (P : WakeObligation → Type 0) (actor : ℕ) (vs : List View) → Debtor (λ v. P (obligation_to actor v)) vs → Any P (map (obligation_to actor) vs)
+pays_among P actor vs p = let at = place_of (obligation_to actor) vs p.seat p.view (obligation_to actor p.view) p.there in (
   p.seat,
-  owes actor p.view,
+  obligation_to actor p.view,
   at.0,
   at.1,
   p.pays,
@@ -105,33 +105,32 @@ scheduled_not_free : (w : ℕ) → IsTrue (mailbox_of w).scheduled → (w % 4 �
 scheduled_not_free w s (inl z) = grind (arith, nat_tests)
 scheduled_not_free w s (inr z) = grind (arith, nat_tests)
 
-module _ {H : Type 0} (is_of : ℕ → H → Type 0) (journal : H → List Entry) (mailbox : H → Mailbox) (rested : H → Type 0) (given_by : H
-    → ℕ) (closed_to : H → List ℕ) where
-  held : (actor : ℕ) (x : Spot Word Shelf (Slot H) Ghost) (holder : Option (ℕ × Held)) → Keeping is_of journal mailbox rested given_by closed_to
+module _ {H : Type 0} (is_of : ℕ → H → Type 0) (facts : H → HomeFacts) where
+  held : (actor : ℕ) (x : Spot Word SlotName (Slot H) Ghost) (holder : Option (ℕ × Held)) → CellPlace is_of facts
       actor x holder →
       IsTrue (mailbox_of (x.row Status)).scheduled → IsSome (holder_of holder)
   held actor x None k s = absurd (scheduled_not_free (x.row Status) s k.idle)
   held actor x (Some h) k s = refl
 
-  free : (actor : ℕ) (x : Spot Word Shelf (Slot H) Ghost) (holder : Option (ℕ × Held)) → Keeping is_of journal mailbox rested given_by closed_to
+  free : (actor : ℕ) (x : Spot Word SlotName (Slot H) Ghost) (holder : Option (ℕ × Held)) → CellPlace is_of facts
       actor x holder →
       x.row Status % 4 ≡ 0 → IsNone (holder_of holder)
   free actor x None k z = refl
   free actor x (Some h) k z = absurd (⊎_elim (λ b. omega arith) (λ b. omega arith) k.busy)
 
   there : (actor : ℕ) (vs : List View) (holder : Option (ℕ × Held)) → Locked (claim_for actor) holder vs → (p : ℕ) → holder_of holder ≡ Some p →
-      p < length (map (owes actor) vs)
+      p < length (map (obligation_to actor) vs)
   there actor vs None l p e = absurd (cc)
   there actor vs (Some h) l p e =
       let same : h.0 ≡ p = some_same h.0 p e in
       let at : ticket_at (claim_for actor) vs h.0 ≡ Some h.1 = l h.0 ∙ ap (λ b. if b then Some h.1 else None) (eq-eqb h.0 h.0 refl) in
       let i = inside_of (claim_for actor) vs h.0 h.1 at in
-      let n : length (map (owes actor) vs) ≡ length vs = length-map vs (owes actor) in omega arith
+      let n : length (map (obligation_to actor) vs) ≡ length vs = length-map vs (obligation_to actor) in omega arith
     where
       some_same : {A : Type 0} (a b : A) → Some a ≡ Some b → a ≡ b
       some_same a b q = cc
 
-  pub shows : ShowsMachine is_of journal mailbox rested given_by closed_to
+  pub shows : ShowsMachine is_of facts
   shows n s r actor inside rest quiet =
       let x = spot_of word_offset slot_offset s r.ghosts actor in
       let f = r.each actor inside in (
@@ -160,20 +159,20 @@ module _ {H : Type 0} (is_of : ℕ → H → Type 0) (journal : H → List Entry
       )
 
   -- whom a home says to be closed some seat has seen closed, so it is
-  pub shows_closed : ShowsClosed is_of journal mailbox rested given_by closed_to
+  pub shows_closed : ShowsClosed is_of facts
   shows_closed n s r actor other inside there is =
       let p = (r.each actor inside).vouched other is in
       let k = (r.each other there).seen p.seat p.view p.there in
-      each_among (IsSo other (spot_of word_offset slot_offset s r.ghosts other)) (Read other 1) p.view.log k.seen p.pays refl refl
+      each_among (ObservationHolds other (spot_of word_offset slot_offset s r.ghosts other)) (Read other 1) p.view.log k.seen p.pays refl refl
 
-  pub shows_balance : ShowsBalance is_of journal mailbox rested given_by closed_to
+  pub shows_balance : ShowsBalance is_of facts
   shows_balance n s r actor inside = (r.each actor inside).balance
 
-  pub shows_numbers : ShowsNumbers is_of journal mailbox rested given_by closed_to
+  pub shows_numbers : ShowsNumbers is_of facts
   shows_numbers n s r actor inside few p q v w number put given all at there pushes gives in_all =
       let x = spot_of word_offset slot_offset s r.ghosts actor in
       let f = r.each actor inside in
-      let listed = each_among (IsSo actor x) (Pushed actor number put) v.log (f.seen p v at).seen pushes refl in
-      let part = ⊎_elim (λ d. each_among (IsSo actor x) (Drained actor all) w.log (f.seen q w there).seen d refl)
-      (λ e. (each_among (IsSo actor x) (Ended actor all) w.log (f.seen q w there).seen e refl).1) gives in
+      let listed = each_among (ObservationHolds actor x) (Pushed actor number put) v.log (f.seen p v at).seen pushes refl in
+      let part = ⊎_elim (λ d. each_among (ObservationHolds actor x) (Drained actor all) w.log (f.seen q w there).seen d refl)
+      (λ e. (each_among (ObservationHolds actor x) (Ended actor all) w.log (f.seen q w there).seen e refl).1) gives in
       one_message x.ghost.pushed number put given few listed (among_part (number, given) all (all_numbered x.ghost) part in_all)

@@ -1,4 +1,4 @@
--- The rule holds as the gates begin.
+-- The rule holds of new gates.
 use Rattle.std.proofs.Common.{
   ◌≡◌,
   ℕ,
@@ -37,40 +37,41 @@ use mathlib.Core.Option as maybe
 use mathlib.Core.Option.{none, some, some-ne-none, some-injective}
 use lib.ListN.{get_elem?, length-map}
 use Rattle.atomic_table.specs.Table.{opening}
-use Rattle.mb_status.specs.Mailbox.{Mailbox, word_of, is_valid}
+use Rattle.mb_status.specs.Mailbox.{word_of, is_valid}
 use Rattle.mb_journal.specs.Entry.{Entry}
-use Rattle.mb_rule.specs.Layout.{word_at, slot_at}
-use Rattle.mb_rule.specs.Ruled.{Ruled}
-use Rattle.mb_rule.specs.Locked.{ticket_at}
+use Rattle.mb_ghost.specs.Layout.{word_at, slot_at}
+use Rattle.mb_ghost.specs.Ruled.{Ruled}
+use Rattle.mb_ghost.specs.Locked.{ticket_at}
+use Rattle.mb_gate.specs.HomeFacts.{HomeFacts}
 use Rattle.mb_gate.specs.declared.slot.Slot.{Slot}
 use Rattle.mb_gate.specs.declared.slot.Slot.TheVariants.{Home, List as Listing}
-use Rattle.mb_rule.specs.Summed.{total}
-use Rattle.mb_rule.proofs.SharesLemmas.{first_shares}
+use Rattle.mb_ghost.specs.Summed.{total}
+use Rattle.mb_ghost.proofs.SharesLemmas.{first_shares}
 use Rattle.mb_gate.proofs.Facts.{no_share}
 use Rattle.mb_gate.specs.View.{View, alone}
 use Rattle.mb_gate.specs.Waiting.{off_by}
 use Rattle.mb_gate.specs.Rule.{word_offset, slot_offset, Ghost, IsAmong, Knows, IsBare, claim_for, list_for, Fact}
-use Rattle.mb_gate.specs.Named.{NamesBelow}
-use Rattle.mb_gate.specs.Starts.{no_messages, rows_of, row_of, shelves_of, IsFresh}
-use Rattle.mb_gate.proofs.Rows.{length-rows_of, length-shelves_of}
+use Rattle.mb_gate.specs.NamedActors.{NamesBelow}
+use Rattle.mb_gate.specs.Starts.{no_messages, rows_of, row_of, slots_of, IsFresh}
+use Rattle.mb_gate.proofs.Rows.{length-rows_of, length-slots_of}
 use Rattle.mb_gate.proofs.Wins.{free_word, free_mod, valid_word}
 
-module _ {H : Type 0} (journal : H → List Entry) (mailbox : H → Mailbox) where
+module _ {H : Type 0} (facts : H → HomeFacts) where
   abbrev journal_at : List H → ℕ → List Entry
   journal_at [] a = []
-  journal_at (h ∷ hs) zero = journal h
+  journal_at (h ∷ hs) zero = (facts h).journal
   journal_at (h ∷ hs) (suc a) = journal_at hs a
 
   -- the words and slots of the actor a, whose home is h
   record Begun (hs : List H) (a : ℕ) (h : H) : Type 0 where
     there : slice_get hs a ≡ Some h
-    tale : journal_at hs a ≡ journal h
-    status : get_or (rows_of mailbox hs) (word_at a 8) 0 ≡ word_of (mailbox h)
-    flag : get_or (rows_of mailbox hs) (word_at a 7) 0 ≡ 0
-    gate : get_or (rows_of mailbox hs) (word_at a 9) 0 ≡ 0
-    waiting : get_or (rows_of mailbox hs) (word_at a 0) 0 ≡ 0
-    cell : get_elem? (map some (shelves_of hs)) (slot_at a 0) ≡ some (some (Home h))
-    list : get_elem? (map some (shelves_of hs)) (slot_at a 1) ≡ some (some (Listing no_messages))
+    tale : journal_at hs a ≡ (facts h).journal
+    status : get_or (rows_of facts hs) (word_at a 8) 0 ≡ word_of (facts h).mailbox
+    flag : get_or (rows_of facts hs) (word_at a 7) 0 ≡ 0
+    gate : get_or (rows_of facts hs) (word_at a 9) 0 ≡ 0
+    waiting : get_or (rows_of facts hs) (word_at a 0) 0 ≡ 0
+    cell : get_elem? (map some (slots_of hs)) (slot_at a 0) ≡ some (some (Home h))
+    list : get_elem? (map some (slots_of hs)) (slot_at a 1) ≡ some (some (Listing no_messages))
 
   next_row : (w : ℕ) (rest : List ℕ) (i j : ℕ) → i ≡ j + 16 → get_or (row_of w ++ rest) i 0 ≡ get_or rest j 0
   next_row w rest i j e = ap (λ k. get_or (row_of w ++ rest) k 0) (let n : i ≡ suc (suc (suc (suc (suc (suc (suc (suc (suc (suc (suc (suc (suc
@@ -96,17 +97,17 @@ module _ {H : Type 0} (journal : H → List Entry) (mailbox : H → Mailbox) whe
       list = refl;
     },
   )
-  begun (h ∷ hs) (suc a) l = let b = begun hs a (omega arith) in let w = word_of (mailbox h) in (
+  begun (h ∷ hs) (suc a) l = let b = begun hs a (omega arith) in let w = word_of (facts h).mailbox in (
     b.0,
     record {
       there = b.1.there;
       tale = b.1.tale;
-      status = next_row w (rows_of mailbox hs) (word_at (suc a) 8) (word_at a 8) (omega arith) ∙ b.1.status;
-      flag = next_row w (rows_of mailbox hs) (word_at (suc a) 7) (word_at a 7) (omega arith) ∙ b.1.flag;
-      gate = next_row w (rows_of mailbox hs) (word_at (suc a) 9) (word_at a 9) (omega arith) ∙ b.1.gate;
-      waiting = next_row w (rows_of mailbox hs) (word_at (suc a) 0) (word_at a 0) (omega arith) ∙ b.1.waiting;
-      cell = next_shelves h (map some (shelves_of hs)) (slot_at (suc a) 0) (slot_at a 0) (omega arith) ∙ b.1.cell;
-      list = next_shelves h (map some (shelves_of hs)) (slot_at (suc a) 1) (slot_at a 1) (omega arith) ∙ b.1.list;
+      status = next_row w (rows_of facts hs) (word_at (suc a) 8) (word_at a 8) (omega arith) ∙ b.1.status;
+      flag = next_row w (rows_of facts hs) (word_at (suc a) 7) (word_at a 7) (omega arith) ∙ b.1.flag;
+      gate = next_row w (rows_of facts hs) (word_at (suc a) 9) (word_at a 9) (omega arith) ∙ b.1.gate;
+      waiting = next_row w (rows_of facts hs) (word_at (suc a) 0) (word_at a 0) (omega arith) ∙ b.1.waiting;
+      cell = next_shelves h (map some (slots_of hs)) (slot_at (suc a) 0) (slot_at a 0) (omega arith) ∙ b.1.cell;
+      list = next_shelves h (map some (slots_of hs)) (slot_at (suc a) 1) (slot_at a 1) (omega arith) ∙ b.1.list;
     },
   )
 
@@ -125,12 +126,11 @@ none_among a is = cases is.before is.joined
     cases [] e = cc
     cases (b ∷ bs) e = cc
 
-module _ {H : Type 0} (is_of : ℕ → H → Type 0) (journal : H → List Entry) (mailbox : H → Mailbox) (rested : H → Type 0) (given_by : H
-    → ℕ) (closed_to : H → List ℕ) where
+module _ {H : Type 0} (is_of : ℕ → H → Type 0) (facts : H → HomeFacts) where
   abbrev begins : (hs : List H) → ℕ → Ghost
   begins hs a = record {
     holder = None;
-    journal = journal_at journal mailbox hs a;
+    journal = journal_at facts hs a;
     closed_to = [];
     keeper = None;
     listed = no_messages;
@@ -139,17 +139,17 @@ module _ {H : Type 0} (is_of : ℕ → H → Type 0) (journal : H → List Entry
     pushed = [];
   }
 
-  pub starts : (n : ℕ) (hs : List H) (words : List ℕ) (slots : List (Slot H)) → n ≡ length hs → words ≡ rows_of mailbox hs → slots ≡ shelves_of hs
-      → ((a : ℕ) (h : H) → slice_get hs a ≡ Some h → IsFresh is_of mailbox rested given_by closed_to a h)
-      → Ruled word_offset slot_offset n (Fact is_of journal mailbox rested given_by closed_to n) (opening words slots alone)
+  pub starts : (n : ℕ) (hs : List H) (words : List ℕ) (slots : List (Slot H)) → n ≡ length hs → words ≡ rows_of facts hs → slots ≡ slots_of hs
+      → ((a : ℕ) (h : H) → slice_get hs a ≡ Some h → IsFresh is_of facts a h)
+      → Ruled word_offset slot_offset n (Fact is_of facts n) (opening words slots alone)
   starts n hs words slots many rows shelves fresh =
-      subst (λ (z : List ℕ × List (Slot H)). Ruled word_offset slot_offset n (Fact is_of journal mailbox rested given_by closed_to n)
+      subst (λ (z : List ℕ × List (Slot H)). Ruled word_offset slot_offset n (Fact is_of facts n)
       (opening z.0 z.1 alone)) (λ i.
       (sym rows i, sym shelves i)) record {
         ghosts = begins hs;
-        wide = length-rows_of mailbox hs ∙ ap (λ k. 16 * k) (sym many);
-        deep = length-map (shelves_of hs) (λ (x : Slot H). some x) ∙ (length-shelves_of hs ∙ ap (λ k. 2 * k) (sym many));
-        each = λ a l. let b = begun journal mailbox hs a (omega arith) in let f = fresh a b.0 b.1.there in let m = mailbox b.0 in record {
+        wide = length-rows_of facts hs ∙ ap (λ k. 16 * k) (sym many);
+        deep = length-map (slots_of hs) (λ (x : Slot H). some x) ∙ (length-slots_of hs ∙ ap (λ k. 2 * k) (sym many));
+        each = λ a l. let b = begun facts hs a (omega arith) in let f = fresh a b.0 b.1.there in let m = (facts b.0).mailbox in record {
           valid = subst (λ k. IsTrue (is_valid k)) (sym b.1.status) (valid_word m f.possible);
           claims = nobody_has (claim_for a) refl;
           cell = record {
@@ -165,7 +165,7 @@ module _ {H : Type 0} (is_of : ℕ → H → Type 0) (journal : H → List Entry
             rest = λ _. f.rest;
           };
           lists = nobody_has (list_for a) refl;
-          shelf = record { there = b.1.list; word = b.1.gate };
+          list_place = record { there = b.1.list; word = b.1.gate };
           ended = λ e. absurd (cc);
           listing = record { given = []; joined = refl; counted = refl };
           named = All-nil (NamesBelow n);

@@ -32,31 +32,32 @@ use Rattle.std.proofs.Common.{
 }
 use mathlib.Core.Option.{none, some}
 use lib.ListN.{get_elem?}
-use Rattle.mb_status.specs.Mailbox.{Mailbox, mailbox_of, word_of, is_valid}
+use Rattle.mb_status.specs.Mailbox.{mailbox_of, word_of, is_valid}
 use Rattle.mb_journal.specs.Entry.{Entry}
-use Rattle.mb_core.specs.declared.debt.Debt.{Debt}
+use Rattle.mb_core.specs.declared.debt.WakeObligation.{WakeObligation}
 use Rattle.mb_core.specs.Run.{after_reading}
 use Rattle.atomic_table.specs.Table.{Me}
 use Rattle.atomic_table.specs.Table.{rest as tail_of}
-use Rattle.mb_rule.specs.Locked.{Locked}
-use Rattle.mb_rule.specs.Layout.{Spot, slot_at, write, fill}
-use Rattle.mb_rule.specs.Ruled.{Goes, stays, takes_from, gives_to}
-use Rattle.mb_rule.proofs.LockedLemmas.{stays_locked, takes_up, turns_over, puts_back, is_holder}
-use Rattle.mb_rule.specs.Owed.{Owed}
-use Rattle.mb_rule.specs.Seen.{Each}
-use Rattle.mb_rule.proofs.OwedLemmas.{pays, still_owed}
-use Rattle.mb_rule.proofs.SeenLemmas.{learns}
+use Rattle.mb_ghost.specs.Locked.{Locked}
+use Rattle.mb_ghost.specs.Layout.{Spot, slot_at, write, fill}
+use Rattle.mb_ghost.specs.Ruled.{RuledStep, stays, takes_from, gives_to}
+use Rattle.mb_ghost.proofs.LockedLemmas.{stays_locked, takes_up, turns_over, puts_back, is_holder}
+use Rattle.mb_ghost.specs.Owed.{Owed}
+use Rattle.mb_ghost.specs.Seen.{Each}
+use Rattle.mb_ghost.proofs.OwedLemmas.{pays, still_owed}
+use Rattle.mb_ghost.proofs.SeenLemmas.{learns}
+use Rattle.mb_gate.specs.HomeFacts.{HomeFacts}
 use Rattle.mb_gate.specs.declared.slot.Slot.{Slot}
 use Rattle.mb_gate.specs.declared.slot.Slot.TheVariants.{Home}
-use Rattle.mb_gate.specs.View.{View, Read, Saw, rewritten, Held, owes, reading, taking, writing, idling}
+use Rattle.mb_gate.specs.View.{View, Read, Saw, rewritten, Held, obligation_to, reading, taking, writing, idling}
 use Rattle.mb_gate.specs.Rule.{
   Word,
   Waiting,
   Status,
   Flag,
   word_offset,
-  Shelf,
-  CellShelf,
+  SlotName,
+  CellSlot,
   slot_offset,
   Ghost,
   held_of,
@@ -65,20 +66,20 @@ use Rattle.mb_gate.specs.Rule.{
   Extends,
   Knows,
   IsAmong,
-  Vouches,
+  HasSeenClosed,
   MessageDue,
   SystemDue,
-  PaysMessage,
-  PaysSystem,
+  HasMessageObligation,
+  HasSystemObligation,
   is_some_item,
   IsHome,
   IsHeld,
-  Keeping,
+  CellPlace,
   Fact,
 }
-use Rattle.mb_rule.proofs.SharesLemmas.{shares_stay}
+use Rattle.mb_ghost.proofs.SharesLemmas.{shares_stay}
 use Rattle.mb_gate.specs.Waiting.{on_by, off_by}
-use Rattle.mb_gate.specs.Turns.{claims_out}
+use Rattle.mb_gate.specs.ClaimCounts.{claims_out}
 use Rattle.mb_gate.proofs.Views.{
   counts_no_more,
   times_here,
@@ -113,61 +114,59 @@ use Rattle.mb_gate.proofs.Words.{scheduled_valid, reading_pays_message, reading_
 none_more : (m : ℕ) → 0 + m ≡ m
 none_more m = omega arith
 
-module _ {H : Type 0} (is_of : ℕ → H → Type 0) (journal : H → List Entry) (mailbox : H → Mailbox) (rested : H → Type 0) (given_by : H
-    → ℕ) (closed_to : H → List ℕ) (actors : ℕ) where
-  abbrev F : ℕ → Spot Word Shelf (Slot H) Ghost → List View → Type 0
-  F = Fact is_of journal mailbox rested given_by closed_to actors
+module _ {H : Type 0} (is_of : ℕ → H → Type 0) (facts : H → HomeFacts) (actors : ℕ) where
+  abbrev F : ℕ → Spot Word SlotName (Slot H) Ghost → List View → Type 0
+  F = Fact is_of facts actors
 
   abbrev M : Type 0
   M = Me (Slot H) View
 
   abbrev Place : Type 0
-  Place = Spot Word Shelf (Slot H) Ghost
+  Place = Spot Word SlotName (Slot H) Ghost
 
   -- a seat reads the word
   pub reads : (actor id : ℕ) (me : M) (tell : M → Type 0) (x : Place) (vs : List View) → F actor x vs → get_elem? vs id ≡ some me.0 → tell
       (reading actor (x.row Status) me.0, me.1)
-      → Goes word_offset slot_offset F actor id me Status (x.row Status) tell x vs
+      → RuledStep word_offset slot_offset F actor id me Status (x.row Status) tell x vs
   reads actor id me tell x vs f at told = let v = me.0 in let r = x.row Status in record {
     view = reading actor r v;
     deed = stays;
     kept = x.ghost;
     able = tt;
-    here = load_here is_of journal mailbox rested given_by closed_to actors actor x (set vs id (reading actor r v)) Status
-        (views_change is_of journal mailbox rested given_by closed_to actors actor x vs id v (reading actor r v) at refl refl
+    here = load_here is_of facts actors actor x (set vs id (reading actor r v)) Status
+        (views_change is_of facts actors actor x vs id v (reading actor r v) at refl refl
         (counts_no_more actor (Read actor r) v (reading actor r v) refl (refl, refl) refl refl refl)
-        (λ due owed. subst (λ (d : Debt). IsTrue (d.message || d.sending)) (sym (owes_here actor (after_reading (mailbox_of r) (owes actor v))
-        v)) (reading_pays_message r (owes actor v) due.0 owed))
-        (λ due owed. subst (λ (d : Debt). IsTrue d.system) (sym (owes_here actor (after_reading (mailbox_of r) (owes actor v)) v))
-        (reading_pays_system r (owes actor v) due.0 owed))
+        (λ due owed. subst (λ (d : WakeObligation). IsTrue (d.message || d.sending)) (sym (owes_here actor (after_reading (mailbox_of r) (obligation_to actor v))
+        v)) (reading_pays_message r (obligation_to actor v) due.0 owed))
+        (λ due owed. subst (λ (d : WakeObligation). IsTrue d.system) (sym (owes_here actor (after_reading (mailbox_of r) (obligation_to actor v)) v))
+        (reading_pays_system r (obligation_to actor v) due.0 owed))
         (λ k. record { seen = ((λ _ one. one), k.seen); said = k.said }) (λ b. among_more (Read b 1) (Read actor r) v.log) f);
-    others = λ a n y g. elsewhere is_of journal mailbox rested given_by closed_to actors a y vs id v (reading actor r v) at
+    others = λ a n y g. elsewhere is_of facts actors a y vs id v (reading actor r v) at
         (reading_elsewhere actor a r v n) g;
     tells = told;
   }
 
-  nobody : (actor : ℕ) (x : Place) (holder : Option (ℕ × Held)) → x.row Status % 4 ≡ 0 → Keeping is_of journal mailbox rested given_by closed_to
+  nobody : (actor : ℕ) (x : Place) (holder : Option (ℕ × Held)) → x.row Status % 4 ≡ 0 → CellPlace is_of facts
       actor x holder →
       holder ≡ None
   nobody actor x None free k = refl
   nobody actor x (Some h) free k = absurd (⊎_elim (λ b. omega arith) (λ b. omega arith) k.busy)
 
   -- nobody holds an actor whose word is neither closed nor scheduled, and its cell is at home
-  pub is_home : (actor : ℕ) (x : Place) (vs : List View) → F actor x vs → x.row Status % 4 ≡ 0 → (x.ghost.holder ≡ None) × IsHome is_of journal
-      mailbox rested given_by closed_to actor x
+  pub is_home : (actor : ℕ) (x : Place) (vs : List View) → F actor x vs → x.row Status % 4 ≡ 0 → (x.ghost.holder ≡ None) × IsHome is_of facts actor x
   is_home actor x vs f free = let none = nobody actor x x.ghost.holder free f.cell in (
     none,
-    subst (Keeping is_of journal mailbox rested given_by closed_to actor x)
+    subst (CellPlace is_of facts actor x)
         none f.cell,
   )
 
   -- who has the claim holds the actor
   pub is_held : (actor id : ℕ) (x : Place) (vs : List View) (v : View) (c : Held) → F actor x vs → get_elem? vs id ≡ some v → v.claim ≡ Some c →
       c.actor ≡ actor
-      → (x.ghost.holder ≡ Some (id, c)) × IsHeld is_of journal mailbox rested given_by closed_to actor x c
+      → (x.ghost.holder ≡ Some (id, c)) × IsHeld is_of facts actor x c
   is_held actor id x vs v c f at has of =
       let held = is_holder (claim_for actor) x.ghost.holder vs id v c at (ap (held_of actor) has ∙ held_here actor c of) f.claims in
-      (held, subst (Keeping is_of journal mailbox rested given_by closed_to actor x) held f.cell)
+      (held, subst (CellPlace is_of facts actor x) held f.cell)
 
   -- a seat schedules the actor, and takes its cell
   pub schedules : (actor id : ℕ) (me : M) (old : ℕ) (tell : M → Type 0) (x : Place) (vs : List View) (f : F actor x vs) → get_elem? vs id ≡ some
@@ -176,7 +175,7 @@ module _ {H : Type 0} (is_of : ℕ → H → Type 0) (journal : H → List Entry
         taking actor x.ghost.journal x.ghost.closed_to old x.ghost.gave x.ghost.listed.given me.0,
         (slot_at actor 0, Home h.home) ∷ me.1,
       ))
-      → Goes word_offset slot_offset F actor id me Status (old + 2) tell x vs
+      → RuledStep word_offset slot_offset F actor id me Status (old + 2) tell x vs
   schedules actor id me old tell x vs f at free is bare share told =
       let v = me.0 in
       let h = is_home actor x vs f free in
@@ -193,13 +192,13 @@ module _ {H : Type 0} (is_of : ℕ → H → Type 0) (journal : H → List Entry
       let w = taking actor x.ghost.journal x.ghost.closed_to old x.ghost.gave x.ghost.listed.given v in
       let y : Place = record {
         row = write word_offset x.row Status (old + 2);
-        slot = fill slot_offset x.slot CellShelf none;
+        slot = fill slot_offset x.slot CellSlot none;
         ghost = record
             x.ghost { holder = Some (id, c) };
       } in
       let grows = grown x y (λ e. e) (λ one. absurd (omega arith)) (extends_self x.ghost.journal) refl in record {
         view = w;
-        deed = takes_from CellShelf (Home h.1.home);
+        deed = takes_from CellSlot (Home h.1.home);
         kept = record x.ghost { holder = Some (id, c) };
         able = h.1.there;
         here = record {
@@ -218,7 +217,7 @@ module _ {H : Type 0} (is_of : ℕ → H → Type 0) (journal : H → List Entry
             out = refl;
           };
           lists = stays_locked (list_for actor) x.ghost.keeper vs id v w at refl f.lists;
-          shelf = still_shelved is_of journal mailbox rested given_by closed_to actors actor x y refl refl refl refl x.ghost.keeper f.shelf;
+          list_place = still_shelved is_of facts actors actor x y refl refl refl refl x.ghost.keeper f.list_place;
           ended = λ e. absurd (let one = f.ended e in omega arith);
           listing = f.listing;
           named = f.named;
@@ -227,14 +226,14 @@ module _ {H : Type 0} (is_of : ℕ → H → Type 0) (journal : H → List Entry
           held = λ one. absurd (let z : old + 2 ≡ 1 = one in omega arith);
           shares = shares_stay (λ (u : View). u.share) vs id v w at refl f.shares;
           bare = sharer_bare actor vs id w share f.bare;
-          vouched = λ b. still_owed (Vouches b) (IsAmong b x.ghost.closed_to) (IsAmong b x.ghost.closed_to) vs id v w at (λ d. d) (λ _ p. p)
+          vouched = λ b. still_owed (HasSeenClosed b) (IsAmong b x.ghost.closed_to) (IsAmong b x.ghost.closed_to) vs id v w at (λ d. d) (λ _ p. p)
               (f.vouched b);
           message = λ due. absurd (let z = due.0 in omega arith);
           system = λ due. absurd (let z = due.0 in omega arith);
           seen = let k = goes_on actor x y v grows (f.seen id v at) in
               learns (Knows actor x) (Knows actor y) vs id w (λ u. goes_on actor x y u grows) (record { seen = k.seen; said = k.said }) f.seen;
         };
-        others = λ a n z g. elsewhere is_of journal mailbox rested given_by closed_to actors a z vs id v w at
+        others = λ a n z g. elsewhere is_of facts actors a z vs id v w at
             (taking_elsewhere actor a old x.ghost.listed.given x.ghost.journal
             x.ghost.closed_to x.ghost.gave v n bare) g;
         tells = told;
@@ -243,7 +242,7 @@ module _ {H : Type 0} (is_of : ℕ → H → Type 0) (journal : H → List Entry
   -- the holder writes a word that is scheduled or closed, and closed if it was
   pub writes : (actor id : ℕ) (me : M) (c : Held) (new : ℕ) (tell : M → Type 0) (x : Place) (vs : List View) → F actor x vs → get_elem? vs id ≡
       some me.0 → me.0.claim ≡ Some c → c.actor ≡ actor
-      → IsTrue (is_valid new) → (new % 4 ≡ 2) ⊎ (new ≡ 1) → (c.word ≡ 1 → new ≡ 1) → tell (writing new me.0, me.1) → Goes word_offset slot_offset
+      → IsTrue (is_valid new) → (new % 4 ≡ 2) ⊎ (new ≡ 1) → (c.word ≡ 1 → new ≡ 1) → tell (writing new me.0, me.1) → RuledStep word_offset slot_offset
       F actor id me Status new tell x vs
   writes actor id me c new tell x vs f at has of valid busy closed told =
       let v = me.0 in
@@ -274,7 +273,7 @@ module _ {H : Type 0} (is_of : ℕ → H → Type 0) (journal : H → List Entry
             out = h.1.out;
           };
           lists = stays_locked (list_for actor) x.ghost.keeper vs id v w at refl f.lists;
-          shelf = still_shelved is_of journal mailbox rested given_by closed_to actors actor x y refl refl refl refl x.ghost.keeper f.shelf;
+          list_place = still_shelved is_of facts actors actor x y refl refl refl refl x.ghost.keeper f.list_place;
           ended = λ e. shut (f.ended e);
           listing = f.listing;
           named = f.named;
@@ -283,7 +282,7 @@ module _ {H : Type 0} (is_of : ℕ → H → Type 0) (journal : H → List Entry
           held = now_held actor new x.ghost.holder vs id v w at refl (ap claims_out h.0) f.turns;
           shares = shares_stay (λ (u : View). u.share) vs id v w at refl f.shares;
           bare = claimed_bare actor vs id v w d at (ap (λ z. held_of actor (rewritten new z)) has ∙ held_here actor d of) refl refl refl refl f.bare;
-          vouched = λ b. still_owed (Vouches b) (IsAmong b x.ghost.closed_to) (IsAmong b x.ghost.closed_to) vs id v w at (λ d. d) (λ _ p. p)
+          vouched = λ b. still_owed (HasSeenClosed b) (IsAmong b x.ghost.closed_to) (IsAmong b x.ghost.closed_to) vs id v w at (λ d. d) (λ _ p. p)
               (f.vouched b);
           message = λ due. absurd (let z : new ≡ 0 = due.0 in ⊎_elim (λ b. omega arith) (λ b. omega arith) busy);
           system = λ due. absurd (let z : new % 4 ≡ 0 = due.0 in ⊎_elim (λ b. omega arith) (λ b. omega arith) busy);
@@ -293,41 +292,41 @@ module _ {H : Type 0} (is_of : ℕ → H → Type 0) (journal : H → List Entry
                 said = k.said;
               }) f.seen;
         };
-        others = λ a n z g. elsewhere is_of journal mailbox rested given_by closed_to actors a z vs id v w at
+        others = λ a n z g. elsewhere is_of facts actors a z vs id v w at
             (writing_elsewhere actor a new c v n has of) g;
         tells = told;
       }
 
-  -- whom the home says to be closed some seat has seen closed: the one that gives it home, or the one that had seen it before
+  -- some seat has seen closed each actor that the home says is closed: the one that gives the home back, or one that had seen it before
   vouches_home : (actor : ℕ) (j : List Entry) (v : View) (c : Held) (before after : List ℕ) (vs : List View) (id : ℕ) → get_elem? vs id ≡ some v
-      → c.closed_to ≡ before → Each (λ b. IsKnownClosed b c.closed_to v) after → ((b : ℕ) → Owed (IsAmong b before) (Vouches b) vs)
-      → (b : ℕ) → Owed (IsAmong b after) (Vouches b) (set vs id (idling actor j v))
+      → c.closed_to ≡ before → Each (λ b. IsKnownClosed b c.closed_to v) after → ((b : ℕ) → Owed (IsAmong b before) (HasSeenClosed b) vs)
+      → (b : ℕ) → Owed (IsAmong b after) (HasSeenClosed b) (set vs id (idling actor j v))
   vouches_home actor j v c before after vs id at same known vouched b is =
-      ⊎_elim (λ was. still_owed (Vouches b) (IsAmong b before) (IsAmong b before) vs id v (idling actor j v) at (λ d. d)
+      ⊎_elim (λ was. still_owed (HasSeenClosed b) (IsAmong b before) (IsAmong b before) vs id v (idling actor j v) at (λ d. d)
       (λ _. among_more (Read b 1) (Saw actor j) v.log) (vouched b) (subst (IsAmong b) same was))
-      (λ sees. pays (Vouches b) (IsAmong b after) vs id v (idling actor j v) at (among_more (Read b 1) (Saw actor j) v.log sees) is)
+      (λ sees. pays (HasSeenClosed b) (IsAmong b after) vs id v (idling actor j v) at (among_more (Read b 1) (Saw actor j) v.log sees) is)
       (each_among (λ a. IsKnownClosed a c.closed_to v) b after known is)
 
   -- the holder gives the cell of an open actor home
   pub idles : (actor id : ℕ) (me : M) (c : Held) (home : H) (new : ℕ) (tell : M → Type 0) (x : Place) (vs : List View) → F actor x vs → get_elem?
       vs id ≡ some me.0 → me.0.claim ≡ Some c → c.actor ≡ actor
-      → me.1 ≡ (slot_at actor 0, Home home) ∷ [] → is_of actor home → Extends (journal home) c.journal → given_by home ≡ c.given
-      → Each (λ b. IsKnownClosed b c.closed_to me.0) (closed_to home) → c.word ≢ 1 → IsTrue (is_valid new) → new
-      % 4 ≡ 0 → new ≡ word_of (mailbox home) → (c.gave ≡ false → rested home) → is_some_item me.0.share ≡ true
-      → tell (idling actor (journal home) me.0, []) → Goes word_offset slot_offset F actor id me Status new tell x vs
+      → me.1 ≡ (slot_at actor 0, Home home) ∷ [] → is_of actor home → Extends (facts home).journal c.journal → (facts home).given ≡ c.given
+      → Each (λ b. IsKnownClosed b c.closed_to me.0) (facts home).closed_to → c.word ≢ 1 → IsTrue (is_valid new) → new
+      % 4 ≡ 0 → new ≡ word_of (facts home).mailbox → (c.gave ≡ false → (facts home).rested) → is_some_item me.0.share ≡ true
+      → tell (idling actor (facts home).journal me.0, []) → RuledStep word_offset slot_offset F actor id me Status new tell x vs
   idles actor id me c home new tell x vs f at has of carried own longer count known unshut valid free word rest share told =
       let v = me.0 in
       let h = is_held actor id x vs v c f at has of in
-      let j = journal home in
+      let j = (facts home).journal in
       let w = idling actor j v in
-      let g : Ghost = record x.ghost { holder = None; journal = j; closed_to = closed_to home } in
-      let y : Place = record { row = write word_offset x.row Status new; slot = fill slot_offset x.slot CellShelf (some (Home home)); ghost = g } in
+      let g : Ghost = record x.ghost { holder = None; journal = j; closed_to = (facts home).closed_to } in
+      let y : Place = record { row = write word_offset x.row Status new; slot = fill slot_offset x.slot CellSlot (some (Home home)); ghost = g } in
       let farther : Extends j x.ghost.journal = subst (λ z. Extends j z) h.1.taken longer in
       let shut : x.row Status ≡ 1 → new ≡ 1 = (λ one. absurd (unshut (sym h.1.word ∙ one))) in
       let grows = grown x y (λ e. e) shut farther refl in
-      let debt : Debt = record (owes actor v) { system = true; message = true } in record {
+      let debt : WakeObligation = record (obligation_to actor v) { system = true; message = true } in record {
         view = w;
-        deed = gives_to CellShelf (Home home);
+        deed = gives_to CellSlot (Home home);
         kept = g;
         able = ([], carried);
         here = record {
@@ -346,7 +345,7 @@ module _ {H : Type 0} (is_of : ℕ → H → Type 0) (journal : H → List Entry
             rest = ⊎_elim (λ one. absurd (omega arith)) (λ gave. rest (h.1.gave ∙ gave));
           };
           lists = stays_locked (list_for actor) x.ghost.keeper vs id v w at refl f.lists;
-          shelf = still_shelved is_of journal mailbox rested given_by closed_to actors actor x y refl refl refl refl x.ghost.keeper f.shelf;
+          list_place = still_shelved is_of facts actors actor x y refl refl refl refl x.ghost.keeper f.list_place;
           ended = λ e. shut (f.ended e);
           listing = f.listing;
           named = f.named;
@@ -355,10 +354,10 @@ module _ {H : Type 0} (is_of : ℕ → H → Type 0) (journal : H → List Entry
           held = λ one. absurd (let z : new ≡ 1 = one in omega arith);
           shares = shares_stay (λ (u : View). u.share) vs id v w at refl f.shares;
           bare = sharer_bare actor vs id w share f.bare;
-          vouched = vouches_home actor j v c x.ghost.closed_to (closed_to home) vs id at h.1.shut known f.vouched;
-          message = pays (PaysMessage actor) (MessageDue y) vs id v w at (subst (λ (d : Debt). IsTrue (d.message || d.sending)) (sym (owes_here
+          vouched = vouches_home actor j v c x.ghost.closed_to (facts home).closed_to vs id at h.1.shut known f.vouched;
+          message = pays (HasMessageObligation actor) (MessageDue y) vs id v w at (subst (λ (d : WakeObligation). IsTrue (d.message || d.sending)) (sym (owes_here
               actor debt (record v { log = Saw actor j ∷ v.log; claim = None; returned = actor ∷ v.returned }))) refl);
-          system = pays (PaysSystem actor) (SystemDue y) vs id v w at (subst (λ (d : Debt). IsTrue d.system) (sym (owes_here actor debt (record v
+          system = pays (HasSystemObligation actor) (SystemDue y) vs id v w at (subst (λ (d : WakeObligation). IsTrue d.system) (sym (owes_here actor debt (record v
               { log = Saw actor j ∷ v.log; claim = None; returned = actor ∷ v.returned }))) refl);
           seen = let k = goes_on actor x y v grows (f.seen id v at) in
               learns (Knows actor x) (Knows actor y) vs id w (λ u. goes_on actor x y u grows) (record {
@@ -370,7 +369,7 @@ module _ {H : Type 0} (is_of : ℕ → H → Type 0) (journal : H → List Entry
                 said = k.said;
               }) f.seen;
         };
-        others = λ a n z k. elsewhere is_of journal mailbox rested given_by closed_to actors a z vs id v w at
+        others = λ a n z k. elsewhere is_of facts actors a z vs id v w at
             (idling_elsewhere actor a j c v n has of) k;
         tells = subst (λ l. tell (w, tail_of l)) (sym carried) told;
       }
@@ -378,23 +377,23 @@ module _ {H : Type 0} (is_of : ℕ → H → Type 0) (journal : H → List Entry
   -- the holder gives the cell of a closed actor home, by its flag
   pub idles_closed : (actor id : ℕ) (me : M) (c : Held) (home : H) (tell : M → Type 0) (x : Place) (vs : List View) → F actor x vs → get_elem? vs
       id ≡ some me.0 → me.0.claim ≡ Some c → c.actor ≡ actor
-      → me.1 ≡ (slot_at actor 0, Home home) ∷ [] → is_of actor home → Extends (journal home) c.journal → given_by home ≡ c.given
-      → Each (λ b. IsKnownClosed b c.closed_to me.0) (closed_to home) → c.word ≡ 1 → 1 ≡ word_of (mailbox home)
-      → rested home → is_some_item me.0.share ≡ true
-      → tell (idling actor (journal home) me.0, []) → Goes word_offset slot_offset F actor id me Flag 1 tell x vs
+      → me.1 ≡ (slot_at actor 0, Home home) ∷ [] → is_of actor home → Extends (facts home).journal c.journal → (facts home).given ≡ c.given
+      → Each (λ b. IsKnownClosed b c.closed_to me.0) (facts home).closed_to → c.word ≡ 1 → 1 ≡ word_of (facts home).mailbox
+      → (facts home).rested → is_some_item me.0.share ≡ true
+      → tell (idling actor (facts home).journal me.0, []) → RuledStep word_offset slot_offset F actor id me Flag 1 tell x vs
   idles_closed actor id me c home tell x vs f at has of carried own longer count known closed word rest share told =
       let v = me.0 in
       let h = is_held actor id x vs v c f at has of in
-      let j = journal home in
+      let j = (facts home).journal in
       let w = idling actor j v in
-      let g : Ghost = record x.ghost { holder = None; journal = j; closed_to = closed_to home } in
-      let y : Place = record { row = write word_offset x.row Flag 1; slot = fill slot_offset x.slot CellShelf (some (Home home)); ghost = g } in
+      let g : Ghost = record x.ghost { holder = None; journal = j; closed_to = (facts home).closed_to } in
+      let y : Place = record { row = write word_offset x.row Flag 1; slot = fill slot_offset x.slot CellSlot (some (Home home)); ghost = g } in
       let farther : Extends j x.ghost.journal = subst (λ z. Extends j z) h.1.taken longer in
       let shut : x.row Status ≡ 1 = h.1.word ∙ closed in
       let grows = grown x y (λ e. e) (λ one. one) farther refl in
-      let debt : Debt = record (owes actor v) { system = true; message = true } in record {
+      let debt : WakeObligation = record (obligation_to actor v) { system = true; message = true } in record {
         view = w;
-        deed = gives_to CellShelf (Home home);
+        deed = gives_to CellSlot (Home home);
         kept = g;
         able = ([], carried);
         here = record {
@@ -413,7 +412,7 @@ module _ {H : Type 0} (is_of : ℕ → H → Type 0) (journal : H → List Entry
             rest = λ _. rest;
           };
           lists = stays_locked (list_for actor) x.ghost.keeper vs id v w at refl f.lists;
-          shelf = still_shelved is_of journal mailbox rested given_by closed_to actors actor x y refl refl refl refl x.ghost.keeper f.shelf;
+          list_place = still_shelved is_of facts actors actor x y refl refl refl refl x.ghost.keeper f.list_place;
           ended = f.ended;
           listing = f.listing;
           named = f.named;
@@ -422,10 +421,10 @@ module _ {H : Type 0} (is_of : ℕ → H → Type 0) (journal : H → List Entry
           held = still_held actor (x.row Status) (x.row Status) vs id v w at refl (λ one. one) f.held;
           shares = shares_stay (λ (u : View). u.share) vs id v w at refl f.shares;
           bare = sharer_bare actor vs id w share f.bare;
-          vouched = vouches_home actor j v c x.ghost.closed_to (closed_to home) vs id at h.1.shut known f.vouched;
-          message = pays (PaysMessage actor) (MessageDue y) vs id v w at (subst (λ (d : Debt). IsTrue (d.message || d.sending)) (sym (owes_here
+          vouched = vouches_home actor j v c x.ghost.closed_to (facts home).closed_to vs id at h.1.shut known f.vouched;
+          message = pays (HasMessageObligation actor) (MessageDue y) vs id v w at (subst (λ (d : WakeObligation). IsTrue (d.message || d.sending)) (sym (owes_here
               actor debt (record v { log = Saw actor j ∷ v.log; claim = None; returned = actor ∷ v.returned }))) refl);
-          system = pays (PaysSystem actor) (SystemDue y) vs id v w at (subst (λ (d : Debt). IsTrue d.system) (sym (owes_here actor debt (record v
+          system = pays (HasSystemObligation actor) (SystemDue y) vs id v w at (subst (λ (d : WakeObligation). IsTrue d.system) (sym (owes_here actor debt (record v
               { log = Saw actor j ∷ v.log; claim = None; returned = actor ∷ v.returned }))) refl);
           seen = let k = goes_on actor x y v grows (f.seen id v at) in
               learns (Knows actor x) (Knows actor y) vs id w (λ u. goes_on actor x y u grows) (record {
@@ -437,7 +436,7 @@ module _ {H : Type 0} (is_of : ℕ → H → Type 0) (journal : H → List Entry
                 said = k.said;
               }) f.seen;
         };
-        others = λ a n z k. elsewhere is_of journal mailbox rested given_by closed_to actors a z vs id v w at
+        others = λ a n z k. elsewhere is_of facts actors a z vs id v w at
             (idling_elsewhere actor a j c v n has of) k;
         tells = subst (λ l. tell (w, tail_of l)) (sym carried) told;
       }

@@ -1,4 +1,4 @@
--- What a step at one actor leaves of a view towards the others.
+-- A step at one actor does not change what a view says of the others.
 use Rattle.std.proofs.Common.{
   ◌≡◌,
   ◌≢◌,
@@ -31,21 +31,21 @@ use Rattle.std.proofs.Common.{
   append_assoc,
   append-nil,
 }
-use Rattle.mb_rule.specs.Summed.{total}
+use Rattle.mb_ghost.specs.Summed.{total}
 use Rattle.mb_journal.specs.Entry.{Entry}
-use Rattle.mb_core.specs.declared.debt.Debt.{Debt}
+use Rattle.mb_core.specs.declared.debt.WakeObligation.{WakeObligation}
 use Rattle.mb_core.specs.Actor.{nothing}
 use Rattle.mb_core.specs.Run.{after_reading}
 use Rattle.mb_status.specs.Mailbox.{mailbox_of}
-use Rattle.mb_rule.specs.Layout.{Spot}
-use Rattle.mb_rule.proofs.SeenLemmas.{each_weaker}
+use Rattle.mb_ghost.specs.Layout.{Spot}
+use Rattle.mb_ghost.proofs.SeenLemmas.{each_weaker}
 use Rattle.mb_msg.specs.declared.system.SysMsg.{SysMsg}
 use Rattle.mb_syslist.specs.MessageList.{numbered}
 use Rattle.mb_gate.proofs.Numbers.{among_more, among_left, part_left, numbered_append}
 use Rattle.mb_gate.specs.declared.slot.Slot.{Slot}
 use Rattle.mb_gate.specs.View.{
   View,
-  Sight,
+  Observation,
   Read,
   Saw,
   Counted,
@@ -58,9 +58,9 @@ use Rattle.mb_gate.specs.View.{
   Ended,
   Held,
   Lent,
-  Said,
-  owes,
-  owing,
+  SentSystem,
+  obligation_to,
+  with_obligation,
   seeing,
   reading,
   taking,
@@ -73,10 +73,10 @@ use Rattle.mb_gate.specs.View.{
   draining,
 }
 use Rattle.mb_gate.specs.Waiting.{counted_on, counted_off, on_by, off_by}
-use Rattle.mb_gate.specs.Turns.{times, got_by, back_by}
+use Rattle.mb_gate.specs.ClaimCounts.{times, claims_got, claims_returned}
 use Rattle.mb_gate.specs.Rule.{
   Word,
-  Shelf,
+  SlotName,
   Ghost,
   Status,
   held_of,
@@ -85,10 +85,10 @@ use Rattle.mb_gate.specs.Rule.{
   list_for,
   Extends,
   IsPart,
-  Vouches,
-  IsSo,
+  HasSeenClosed,
+  ObservationHolds,
   IsAmong,
-  IsTold,
+  SentSystemHolds,
   all_numbered,
   Knows,
 }
@@ -105,11 +105,11 @@ lent_here actor l e = ap (λ b. if b then Some l else None) (eq-eqb l.actor acto
 pub lent_else : (actor : ℕ) (l : Lent) → l.actor ≢ actor → lent_of actor (Some l) ≡ None
 lent_else actor l n = ap (λ b. if b then Some l else None) (ne_eqb l.actor actor n)
 
-pub owes_here : (actor : ℕ) (d : Debt) (v : View) → owes actor (owing actor d v) ≡ d
-owes_here actor d v = ap (λ b. if b then d else owes actor v) (eq-eqb actor actor refl)
+pub owes_here : (actor : ℕ) (d : WakeObligation) (v : View) → obligation_to actor (with_obligation actor d v) ≡ d
+owes_here actor d v = ap (λ b. if b then d else obligation_to actor v) (eq-eqb actor actor refl)
 
-pub owes_else : (actor other : ℕ) (d : Debt) (v : View) → other ≢ actor → owes other (owing actor d v) ≡ owes other v
-owes_else actor other d v n = ap (λ b. if b then d else owes other v) (ne_eqb actor other (λ e. n (sym e)))
+pub owes_else : (actor other : ℕ) (d : WakeObligation) (v : View) → other ≢ actor → obligation_to other (with_obligation actor d v) ≡ obligation_to other v
+owes_else actor other d v n = ap (λ b. if b then d else obligation_to other v) (ne_eqb actor other (λ e. n (sym e)))
 
 -- the journal goes on from itself, and from what it goes on from
 pub extends_self : (j : List Entry) → Extends j j
@@ -139,18 +139,18 @@ pub record SameAccount (actor : ℕ) (v w : View) : Type 0 where
   pub on : on_by actor w ≡ on_by actor v
   pub off : off_by actor w ≡ off_by actor v
   pub share : w.share ≡ v.share
-  pub got : got_by actor w ≡ got_by actor v
-  pub back : back_by actor w ≡ back_by actor v
+  pub got : claims_got actor w ≡ claims_got actor v
+  pub back : claims_returned actor w ≡ claims_returned actor v
 
--- the sight counts nothing of this actor
-abbrev pub CountsNothing : ℕ → Sight → Type 0
+-- the observation counts nothing of this actor
+abbrev pub CountsNothing : ℕ → Observation → Type 0
 CountsNothing actor s = (counted_on actor s ≡ 0) × (counted_off actor s ≡ 0)
 
 none_more : (m n : ℕ) → m ≡ 0 → m + n ≡ n
 none_more m n none = omega arith
 
-pub counts_no_more : (actor : ℕ) (s : Sight) (v w : View) → w.log ≡ s ∷ v.log → CountsNothing actor s → w.share ≡ v.share → got_by actor w ≡ got_by
-    actor v → back_by actor w ≡ back_by actor v → SameAccount actor v w
+pub counts_no_more : (actor : ℕ) (s : Observation) (v w : View) → w.log ≡ s ∷ v.log → CountsNothing actor s → w.share ≡ v.share → claims_got actor w ≡ claims_got
+    actor v → claims_returned actor w ≡ claims_returned actor v → SameAccount actor v w
 counts_no_more actor s v w is none share got back = record {
   on = ap (total (counted_on actor)) is ∙ none_more (counted_on actor s) (on_by actor v) none.0;
   off = ap (total (counted_off actor)) is ∙ none_more (counted_off actor s) (off_by actor v) none.1;
@@ -172,17 +172,17 @@ times_here actor actors = ap (λ (b : Bool). (if b then 1 else 0) + times actor 
 pub record Elsewhere (H : Type 0) (actor : ℕ) (v w : View) : Type 0 where
   pub claim : claim_for actor w ≡ claim_for actor v
   pub list : list_for actor w ≡ list_for actor v
-  pub debt : owes actor w ≡ owes actor v
+  pub debt : obligation_to actor w ≡ obligation_to actor v
   pub account : SameAccount actor v w
-  pub vouches : (other : ℕ) → Vouches other v → Vouches other w
-  pub knows : (x : Spot Word Shelf (Slot H) Ghost) → Knows actor x v → Knows actor x w
+  pub vouches : (other : ℕ) → HasSeenClosed other v → HasSeenClosed other w
+  pub knows : (x : Spot Word SlotName (Slot H) Ghost) → Knows actor x v → Knows actor x w
 
--- a sight that is so of every actor, whatever its place is like
-abbrev pub IsQuiet : Type 0 → Sight → Type 0
-IsQuiet H s = (a : ℕ) (x : Spot Word Shelf (Slot H) Ghost) → IsSo a x s
+-- an observation that holds of every actor, whatever its place is like
+abbrev pub IsQuiet : Type 0 → Observation → Type 0
+IsQuiet H s = (a : ℕ) (x : Spot Word SlotName (Slot H) Ghost) → ObservationHolds a x s
 
 module _ {H : Type 0} where
-  pub seeing_elsewhere : (other : ℕ) (s : Sight) (v : View) → IsQuiet H s → CountsNothing other s → Elsewhere H other v (seeing s v)
+  pub seeing_elsewhere : (other : ℕ) (s : Observation) (v : View) → IsQuiet H s → CountsNothing other s → Elsewhere H other v (seeing s v)
   seeing_elsewhere other s v so none = record {
     claim = refl;
     list = refl;
@@ -196,13 +196,13 @@ module _ {H : Type 0} where
     };
   }
 
-  pub owing_elsewhere : (actor other : ℕ) (d : Debt) (s : Sight) (v : View) → other ≢ actor → IsQuiet H s → CountsNothing other s → Elsewhere H
-      other v (owing actor d (seeing s v))
+  pub owing_elsewhere : (actor other : ℕ) (d : WakeObligation) (s : Observation) (v : View) → other ≢ actor → IsQuiet H s → CountsNothing other s → Elsewhere H
+      other v (with_obligation actor d (seeing s v))
   owing_elsewhere actor other d s v n so none = record {
     claim = refl;
     list = refl;
     debt = owes_else actor other d v n;
-    account = counts_no_more other s v (owing actor d (seeing s v)) refl none refl refl refl;
+    account = counts_no_more other s v (with_obligation actor d (seeing s v)) refl none refl refl refl;
     vouches = λ a. among_more (Read a 1) s v.log;
     knows = λ x k. record {
       seen =
@@ -215,7 +215,7 @@ module _ {H : Type 0} where
   reading_elsewhere actor other word v n = record {
     claim = refl;
     list = refl;
-    debt = owes_else actor other (after_reading (mailbox_of word) (owes actor v)) v n;
+    debt = owes_else actor other (after_reading (mailbox_of word) (obligation_to actor v)) v n;
     account = counts_no_more other (Read actor word) v (reading actor word v) refl (refl, refl) refl refl refl;
     vouches = λ a. among_more (Read a 1) (Read actor word) v.log;
     knows = λ x k. record { seen = ((λ e _. absurd (n (sym e))), k.seen); said = k.said };
@@ -252,14 +252,14 @@ module _ {H : Type 0} where
   idling_elsewhere actor other j c v n has of = record {
     claim = sym (ap (held_of other) has ∙ held_else other c (λ e. n (sym e ∙ of)));
     list = refl;
-    debt = owes_else actor other (record (owes actor v) { system = true; message = true }) v n;
+    debt = owes_else actor other (record (obligation_to actor v) { system = true; message = true }) v n;
     account = counts_no_more other (Saw actor j) v (idling actor j v) refl (refl, refl) refl refl (times_else actor other v.returned n);
     vouches = λ a. among_more (Read a 1) (Saw actor j) v.log;
     knows = λ x k. record { seen = ((λ e. absurd (n (sym e))), k.seen); said = k.said };
   }
 
   -- The place goes on: what was closed is closed, its journal goes on, and so does what was ever listed.
-  pub record Grown (x y : Spot Word Shelf (Slot H) Ghost) : Type 0 where
+  pub record Grown (x y : Spot Word SlotName (Slot H) Ghost) : Type 0 where
     pub still : IsTrue x.ghost.listed.closed → IsTrue y.ghost.listed.closed
     pub closed : x.row Status ≡ 1 → y.row Status ≡ 1
     pub longer : Extends y.ghost.journal x.ghost.journal
@@ -267,7 +267,7 @@ module _ {H : Type 0} where
     pub pushed : y.ghost.pushed ≡ x.ghost.pushed ++ more
 
   -- with nothing more listed
-  pub grown : (x y : Spot Word Shelf (Slot H) Ghost) → (IsTrue x.ghost.listed.closed → IsTrue y.ghost.listed.closed) → (x.row Status ≡ 1 →
+  pub grown : (x y : Spot Word SlotName (Slot H) Ghost) → (IsTrue x.ghost.listed.closed → IsTrue y.ghost.listed.closed) → (x.row Status ≡ 1 →
       y.row Status ≡ 1) → Extends y.ghost.journal x.ghost.journal → y.ghost.pushed ≡ x.ghost.pushed → Grown x y
   grown x y still closed longer same = record {
     still = still;
@@ -278,17 +278,17 @@ module _ {H : Type 0} where
         x.ghost.pushed);
   }
 
-  numbers_go_on : (x y : Spot Word Shelf (Slot H) Ghost) (g : Grown x y) → all_numbered y.ghost ≡ all_numbered x.ghost ++ numbered ((0 + length
+  numbers_go_on : (x y : Spot Word SlotName (Slot H) Ghost) (g : Grown x y) → all_numbered y.ghost ≡ all_numbered x.ghost ++ numbered ((0 + length
       x.ghost.pushed) % 2 ^ 64) g.more
   numbers_go_on x y g = ap (numbered 0) g.pushed ∙ numbered_append 0 x.ghost.pushed g.more (omega arith)
 
-  told_on : (actor : ℕ) (x y : Spot Word Shelf (Slot H) Ghost) → Grown x y → (s : Said) → IsTold actor x s → IsTold actor y s
+  told_on : (actor : ℕ) (x y : Spot Word SlotName (Slot H) Ghost) → Grown x y → (s : SentSystem) → SentSystemHolds actor x s → SentSystemHolds actor y s
   told_on actor x y g s t e = (
     (λ ended. g.still ((t e).0 ended)),
     (λ listed. subst (IsAmong s.message) (sym g.pushed) (among_left s.message x.ghost.pushed g.more ((t e).1 listed))),
   )
 
-  seen_on : (actor : ℕ) (x y : Spot Word Shelf (Slot H) Ghost) → Grown x y → (s : Sight) → IsSo actor x s → IsSo actor y s
+  seen_on : (actor : ℕ) (x y : Spot Word SlotName (Slot H) Ghost) → Grown x y → (s : Observation) → ObservationHolds actor x s → ObservationHolds actor y s
   seen_on actor x y g (Read a word) h = λ e one. g.closed (h e one)
   seen_on actor x y g (Saw a j) h = λ e. extends_more y.ghost.journal x.ghost.journal j g.longer (h e)
   seen_on actor x y g (Counted a n) h = h
@@ -307,10 +307,10 @@ module _ {H : Type 0} where
   )
 
   -- what was known of a place is so where the place goes on
-  pub goes_on : (actor : ℕ) (x y : Spot Word Shelf (Slot H) Ghost) (v : View) → Grown x y → Knows actor x v → Knows actor y v
+  pub goes_on : (actor : ℕ) (x y : Spot Word SlotName (Slot H) Ghost) (v : View) → Grown x y → Knows actor x v → Knows actor y v
   goes_on actor x y v g k = record {
-    seen = each_weaker (IsSo actor x) (IsSo actor y) v.log (seen_on actor x y g) k.seen;
-    said = each_weaker (IsTold actor x) (IsTold actor y) v.said (told_on actor x y g) k.said;
+    seen = each_weaker (ObservationHolds actor x) (ObservationHolds actor y) v.log (seen_on actor x y g) k.seen;
+    said = each_weaker (SentSystemHolds actor x) (SentSystemHolds actor y) v.said (told_on actor x y g) k.said;
   }
 
 chosen_rest : (b : Bool) (v w u : View) → (w.claim ≡ v.claim) × (w.list ≡ v.list) → (u.claim ≡ v.claim) × (u.list ≡ v.list)
@@ -320,7 +320,7 @@ chosen_rest false v w u e f = f
 
 -- a look at the waiting number or the list's gate leaves the claim and the list
 pub counting_rest : (actor n : ℕ) (v : View) → ((counting actor n v).claim ≡ v.claim) × ((counting actor n v).list ≡ v.list)
-counting_rest actor n v = chosen_rest (n == 0) v (owing actor (record (owes actor v) { message = false }) (seeing (Counted actor n) v)) (seeing
+counting_rest actor n v = chosen_rest (n == 0) v (with_obligation actor (record (obligation_to actor v) { message = false }) (seeing (Counted actor n) v)) (seeing
     (Counted actor n) v) (refl, refl) (refl, refl)
 
 pub looking_rest : (actor : ℕ) (b : Bool) (v : View) → ((looking actor b v).claim ≡ v.claim) × ((looking actor b v).list ≡ v.list)

@@ -1,22 +1,21 @@
--- What a seat with the whole knows of an actor: no other seat has anything of it, but its claim.
+-- What a seat with the whole share knows of an actor: no other seat has anything of it, but its claim.
 use Rattle.std.proofs.Common.{◌≡◌, ◌≢◌, ◌⊎◌, ⊎_elim, ℕ, zero, suc, ◌+◌, ◌<◌, ◌%◌, ◌^◌, if◌then◌else◌, Bool, List, [], ◌∷◌, sym, refl}
 use Rattle.std.proofs.Common.{ap, ◌∙◌, subst, Option, Some, None, eq-eqb, arith}
 use mathlib.Core.Logic.{dite}
 use mathlib.Core.Option.{some, some-injective}
 use native.Mathlib.Decide.{ℕ_discrete}
 use lib.ListN.{get_elem?}
-use Rattle.mb_status.specs.Mailbox.{Mailbox}
-use Rattle.mb_journal.specs.Entry.{Entry}
-use Rattle.mb_rule.specs.Layout.{Spot}
-use Rattle.mb_rule.specs.Locked.{ticket_at, held_by, Locked}
-use Rattle.mb_rule.specs.Shares.{IsWhole}
-use Rattle.mb_rule.proofs.LockedLemmas.{ticket_here}
-use Rattle.mb_rule.proofs.SharesLemmas.{alone, total_alone}
+use Rattle.mb_ghost.specs.Layout.{Spot}
+use Rattle.mb_ghost.specs.Locked.{ticket_at, held_by, Locked}
+use Rattle.mb_ghost.specs.Shares.{IsWhole}
+use Rattle.mb_ghost.proofs.LockedLemmas.{ticket_here}
+use Rattle.mb_ghost.proofs.SharesLemmas.{alone, total_alone}
+use Rattle.mb_gate.specs.HomeFacts.{HomeFacts}
 use Rattle.mb_gate.specs.declared.slot.Slot.{Slot}
 use Rattle.mb_gate.specs.View.{View, Held, Lent}
 use Rattle.mb_gate.specs.Waiting.{on_by, off_by}
-use Rattle.mb_gate.specs.Turns.{got_by, back_by, claims_out, IsOwnBalance}
-use Rattle.mb_gate.specs.Rule.{Word, Status, Waiting, Shelf, Ghost, IsBare, lent_of, claim_for, list_for, Fact}
+use Rattle.mb_gate.specs.ClaimCounts.{claims_got, claims_returned, claims_out, IsOwnBalance}
+use Rattle.mb_gate.specs.Rule.{Word, Status, Waiting, SlotName, Ghost, IsBare, lent_of, claim_for, list_for, Fact}
 
 -- who has a ticket is a seat that is there
 ticket_has : {T : Type 0} (ticket : View → Option T) (vs : List View) (q : ℕ) (t : T) → ticket_at ticket vs q ≡ Some t → (u : View) × (get_elem? vs q
@@ -39,16 +38,16 @@ no_more m k e = omega arith
 plus_none : (m : ℕ) → m + 0 ≡ m
 plus_none m = omega arith
 
-module _ {H : Type 0} (is_of : ℕ → H → Type 0) (journal : H → List Entry) (mailbox : H → Mailbox) (rested : H → Type 0) (given_by : H
-    → ℕ) (closed_to : H → List ℕ) (actors actor : ℕ) (x : Spot Word Shelf (Slot H) Ghost) (vs : List View) (id : ℕ) (v : View)
-    (f : Fact is_of journal mailbox rested given_by closed_to actors actor x vs) (at : get_elem? vs id ≡ some v) (whole : IsWhole v.share) where
+module _ {H : Type 0} (is_of : ℕ → H → Type 0) (facts : H → HomeFacts) (actors actor : ℕ) (x : Spot Word SlotName (Slot H) Ghost) (vs : List View)
+    (id : ℕ) (v : View)
+    (f : Fact is_of facts actors actor x vs) (at : get_elem? vs id ≡ some v) (whole : IsWhole v.share) where
   others_bare : (q : ℕ) (u : View) → q ≢ id → get_elem? vs q ≡ some u → IsBare actor u
   others_bare q u other there = f.bare q u there (alone (λ (z : View). z.share) vs id v at whole f.shares q u other there)
 
   -- its own account is the account of all
-  own_turns : got_by actor v ≡ back_by actor v + claims_out x.ghost.holder
-  own_turns = sym (total_alone (got_by actor) vs id v at (λ q u other there. (others_bare q u other there).got))
-      ∙ (f.turns ∙ ap (λ k. k + claims_out x.ghost.holder) (total_alone (back_by actor) vs id v at (λ q u other there. (others_bare q u other
+  own_turns : claims_got actor v ≡ claims_returned actor v + claims_out x.ghost.holder
+  own_turns = sym (total_alone (claims_got actor) vs id v at (λ q u other there. (others_bare q u other there).got))
+      ∙ (f.turns ∙ ap (λ k. k + claims_out x.ghost.holder) (total_alone (claims_returned actor) vs id v at (λ q u other there. (others_bare q u other
       there).back)))
 
   unclaimed : x.ghost.holder ≡ None → (q : ℕ) (u : View) → get_elem? vs q ≡ some u → claim_for actor u ≡ None
@@ -67,29 +66,29 @@ module _ {H : Type 0} (is_of : ℕ → H → Type 0) (journal : H → List Entry
       none_some l e = cc
 
   -- an actor of which there is no home left has a claim out
-  pub is_out : v.list ≡ None → (x.ghost.holder ≢ None) ⊎ (x.ghost.keeper ≢ None) → got_by actor v ≡ back_by actor v + 1
-  is_out bare why = own_turns ∙ ap (λ k. back_by actor v + k) (one_out x.ghost.holder (λ free. ⊎_elim (λ h. h free) (λ k. k (no_list_out bare free
+  pub is_out : v.list ≡ None → (x.ghost.holder ≢ None) ⊎ (x.ghost.keeper ≢ None) → claims_got actor v ≡ claims_returned actor v + 1
+  is_out bare why = own_turns ∙ ap (λ k. claims_returned actor v + k) (one_out x.ghost.holder (λ free. ⊎_elim (λ h. h free) (λ k. k (no_list_out bare free
       x.ghost.keeper f.lists)) why))
 
   -- and one that nobody holds has none
-  pub is_back : x.ghost.holder ≡ None → got_by actor v ≡ back_by actor v
-  is_back free = own_turns ∙ (ap (λ h. back_by actor v + claims_out h) free ∙ plus_none (back_by actor v))
+  pub is_back : x.ghost.holder ≡ None → claims_got actor v ≡ claims_returned actor v
+  is_back free = own_turns ∙ (ap (λ h. claims_returned actor v + claims_out h) free ∙ plus_none (claims_returned actor v))
 
   -- with no claim out, how many are waiting is what the seat itself counted
   pub own_balance : IsOwnBalance actor (x.row Waiting) v
   own_balance all back =
-      let free = none_out x.ghost.holder (no_more (back_by actor v) (claims_out x.ghost.holder) (sym back ∙ own_turns)) in
+      let free = none_out x.ghost.holder (no_more (claims_returned actor v) (claims_out x.ghost.holder) (sym back ∙ own_turns)) in
       let on = total_alone (on_by actor) vs id v at (λ q u other there. (others_bare q u other there).on) in
       let off = total_alone (off_by actor) vs id v at (λ q u other there. ((others_bare q u other there).rest (unclaimed free q u there)).1) in
       ap (λ k. (x.row Waiting + k) % 2 ^ 64) (sym off) ∙ (f.balance ∙ ap (λ k. k % 2 ^ 64) on)
 
   -- a closed actor was held by a claim that the seat itself got
-  pub was_held : x.row Status ≡ 1 → 0 < got_by actor v
-  was_held one = subst (λ k. 0 < k) (total_alone (got_by actor) vs id v at (λ q u other there. (others_bare q u other there).got)) (f.held one)
+  pub was_held : x.row Status ≡ 1 → 0 < claims_got actor v
+  was_held one = subst (λ k. 0 < k) (total_alone (claims_got actor) vs id v at (λ q u other there. (others_bare q u other there).got)) (f.held one)
 
   -- nobody holds an actor of which it got no claim
-  pub unheld : got_by actor v ≡ 0 → x.ghost.holder ≡ None
-  unheld none = none_out x.ghost.holder (no_part (got_by actor v) (back_by actor v) (claims_out x.ghost.holder) none own_turns)
+  pub unheld : claims_got actor v ≡ 0 → x.ghost.holder ≡ None
+  unheld none = none_out x.ghost.holder (no_part (claims_got actor v) (claims_returned actor v) (claims_out x.ghost.holder) none own_turns)
     where
       no_part : (all back k : ℕ) → all ≡ 0 → all ≡ back + k → k ≡ 0
       no_part all back k is sum = omega arith

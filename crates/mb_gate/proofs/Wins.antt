@@ -34,16 +34,16 @@ use Rattle.std.proofs.lemmas.Bool.Decides.{nat_tests}
 use Rattle.std.proofs.lemmas.Bool.{eqb-true}
 use Rattle.atomic_table.specs.Table.{Me}
 use Rattle.mb_status.specs.Mailbox.{Mailbox, word_of, is_valid, is_possible, most_suspensions, suspend, resume, idle}
-use Rattle.mb_journal.specs.Entry.{Entry}
-use Rattle.mb_rule.specs.Layout.{slot_at}
+use Rattle.mb_ghost.specs.Layout.{slot_at}
+use Rattle.mb_gate.specs.HomeFacts.{HomeFacts}
 use Rattle.mb_gate.specs.declared.slot.Slot.{Slot}
 use Rattle.mb_gate.specs.declared.slot.Slot.TheVariants.{Home}
 use Rattle.mb_gate.specs.declared.claim.Claim.{Claim}
 use Rattle.mb_gate.specs.View.{View, winning, claim_alone, without_claim}
 use Rattle.mb_gate.specs.Rule.{is_some_item}
 use Rattle.mb_gate.specs.Claims.{held_in, claimed, is_busy}
-use Rattle.mb_gate.specs.Plays.{GoesOn, Won}
-use Rattle.mb_gate.specs.Names.{known_of, held_actor, status_of, gave_last, recorded_by}
+use Rattle.mb_gate.specs.TableSteps.{ExtendsSeen, Won}
+use Rattle.mb_gate.specs.Accessors.{claim_view, held_actor, status_of, gave_last, recorded_by}
 use Rattle.mb_gate.specs.Tries.{IsFree, Taken, IsGot}
 
 head_same : {A : Type 0} (a b : A) (xs ys : List A) → a ∷ xs ≡ b ∷ ys → a ≡ b
@@ -68,23 +68,22 @@ free_mod m f = let w = free_word m f in omega arith
 pub scheduled_word : (m s : Mailbox) → IsFree m → s ≡ record m { scheduled = true } → word_of s ≡ word_of m + 2
 scheduled_word m s f e = ap word_of e ∙ (open_word (record m { scheduled = true }) f.open_yet ∙ ap (λ n. n + 2) (sym (free_word m f)))
 
-module _ {H : Type 0} (is_of : ℕ → H → Type 0) (journal : H → List Entry) (mailbox : H → Mailbox) (rested : H → Type 0) (given_by : H
-    → ℕ) (closed_to : H → List ℕ) (actor found : ℕ) (m m' :
-    Me (Slot H) View) (w : Won is_of journal mailbox rested given_by closed_to actor found m m') where
+module _ {H : Type 0} (is_of : ℕ → H → Type 0) (facts : H → HomeFacts) (actor found : ℕ) (m m' :
+    Me (Slot H) View) (w : Won is_of facts actor found m m') where
   -- the seat has the claim and the cell
   pub taken : (status : Mailbox) → word_of status ≡ found + 2 → m.1 ≡ [] → m.0.list ≡ None → is_some_item m.0.share ≡ true
-      → Taken journal given_by closed_to actor status m'
+      → Taken facts actor status m'
   taken status word bare no_list share = record {
     home = w.home;
     carried = ap (λ (z : Me (Slot H) View). z.1) w.now ∙ ap (λ c. (slot_at actor 0, Home w.home) ∷ c) bare;
     gave = w.gave;
     claim = ap (λ (z : Me (Slot H) View). z.0.claim) w.now ∙ (λ i. Some (record {
       actor = actor;
-      journal = journal w.home;
-      closed_to = closed_to w.home;
+      journal = (facts w.home).journal;
+      closed_to = (facts w.home).closed_to;
       word = sym word i;
       gave = w.gave;
-      given = given_by w.home;
+      given = (facts w.home).given;
       drained = [];
     }));
     no_list = ap (λ (z : Me (Slot H) View). z.0.list) w.now ∙ no_list;
@@ -93,13 +92,12 @@ module _ {H : Type 0} (is_of : ℕ → H → Type 0) (journal : H → List Entry
 
   pub got : (seen : Mailbox) (claim : Claim H) (after : View) → IsFree seen → found ≡ word_of seen → m.0.claim ≡ None → status_of claim ≡ record
       seen { scheduled = true } → held_actor claim ≡ actor
-      → recorded_by claim ≡ [] → known_of claim ≡ claim_alone m'.0 → m'.1 ≡ (slot_at actor 0, Home claim.home) ∷ [] → after ≡ without_claim m'.0
-      → IsGot is_of journal
-      mailbox rested given_by closed_to actor m.0 after seen claim
+      → recorded_by claim ≡ [] → claim_view claim ≡ claim_alone m'.0 → m'.1 ≡ (slot_at actor 0, Home claim.home) ∷ [] → after ≡ without_claim m'.0
+      → IsGot is_of facts actor m.0 after seen claim
   got seen claim after free is_seen bare status of none known carried rest =
       let same : w.home ≡ claim.home = home_same w.home claim.home (ap (λ (z : ℕ × Slot H). z.1) (head_same _ _ _ _ (sym (ap (λ (z : Me (Slot H)
       View). z.1) w.now) ∙ carried))) in
-      let all : known_of claim ≡ claimed actor (journal w.home) (closed_to w.home) (found + 2) w.gave (given_by w.home) = known
+      let all : claim_view claim ≡ claimed actor (facts w.home).journal (facts w.home).closed_to (found + 2) w.gave (facts w.home).given = known
       ∙ ap (λ (z : Me (Slot H) View). claim_alone z.0) w.now in
       let gave : gave_last claim ≡ w.gave = ap (λ v. (held_in v).gave) all in
       let word : found + 2 ≡ word_of (status_of claim) = ap (λ n. n + 2) is_seen
@@ -108,10 +106,10 @@ module _ {H : Type 0} (is_of : ℕ → H → Type 0) (journal : H → List Entry
         of = of;
         status = status;
         own = subst (is_of actor) same w.own;
-        word = ap (λ h. word_of (mailbox h)) (sym same) ∙ (sym w.word ∙ is_seen);
-        goes_on = subst (λ h. GoesOn actor (journal h) m.0) same w.seen;
-        rest = λ no. subst rested same (w.rest (sym gave ∙ no));
-        known = all ∙ (λ i. claimed actor (journal (same i)) (closed_to (same i)) (word i) (sym gave i) (given_by (same i)));
+        word = ap (λ h. word_of (facts h).mailbox) (sym same) ∙ (sym w.word ∙ is_seen);
+        goes_on = subst (λ h. ExtendsSeen actor (facts h).journal m.0) same w.seen;
+        rest = λ no. subst (λ (h : H). (facts h).rested) same (w.rest (sym gave ∙ no));
+        known = all ∙ (λ i. claimed actor (facts (same i)).journal (facts (same i)).closed_to (word i) (sym gave i) (facts (same i)).given);
         recorded = none;
         pass = rest ∙ (ap (λ (z : Me (Slot H) View). without_claim z.0) w.now ∙ (λ i. record (winning actor m.0) { claim = sym bare i }));
       }

@@ -1,32 +1,35 @@
--- What a claim's seat knows and has (this project's own profile: a dispatcher of Akka is handed the mailbox itself).
+-- What the seat of a claim knows and holds (this project's own profile: a dispatcher of Akka is handed the mailbox itself).
 use Rattle.std.specs.Prelude.{◌≡◌, ℕ, ◌%◌, ◌==◌, ◌⊎◌, Bool, true, false, ◌||◌, List, [], ◌∷◌, Option, Some, None}
 use Rattle.mb_journal.specs.Entry.{Entry}
 use Rattle.mb_status.specs.Mailbox.{Mailbox, word_of, idle}
 use Rattle.atomic_table.specs.Table.{Me}
-use Rattle.mb_rule.specs.Layout.{slot_at}
-use Rattle.mb_rule.specs.Seen.{Each}
+use Rattle.mb_ghost.specs.Layout.{slot_at}
+use Rattle.mb_ghost.specs.Seen.{Each}
+use Rattle.mb_gate.specs.HomeFacts.{HomeFacts}
 use Rattle.mb_gate.specs.declared.slot.Slot.{Slot}
 use Rattle.mb_gate.specs.declared.slot.Slot.TheVariants.{Home}
 use Rattle.mb_gate.specs.View.{View, Held, blank, idling}
-use Rattle.mb_gate.specs.Rule.{Extends, IsAmong, Vouches, is_some_item}
+use Rattle.mb_gate.specs.Rule.{Extends, IsAmong, HasSeenClosed, is_some_item}
 
+-- No claim: the value that stands where a view has none.
 abbrev pub nobody : Held
 nobody = record { actor = 0; journal = []; closed_to = []; word = 0; gave = false; given = 0; drained = [] }
 
+-- The claim, or the empty one where there is none.
 abbrev pub held_or : Option Held → Held
 held_or None = nobody
 held_or (Some c) = c
 
--- the claim in the view
+-- The claim that a view has.
 abbrev pub held_in : View → Held
 held_in v = held_or v.claim
 
--- the word says that a worker holds the actor, or that it is closed
+-- The status word says that a worker holds the actor, or that its mailbox is closed.
 abbrev pub is_busy : ℕ → Bool
 is_busy word = word % 4 == 2 || word == 1
 
--- the view of a claim that was just taken: of this actor, with this journal, these actors that its home says are closed, this word, whether
--- the last drain gave something, and how many the list gave so far
+-- The view of a claim that was just taken: of this actor, with this journal, these actors that its home says are closed, this status word, whether
+-- the last drain gave something, and how many messages the list gave so far.
 abbrev pub claimed : ℕ → List Entry → List ℕ → ℕ → Bool → ℕ → View
 claimed actor journal shut word gave given =
     record blank {
@@ -41,29 +44,28 @@ claimed actor journal shut word gave given =
       });
     }
 
--- the actor is known to be closed: by what the home said as it was taken, or since its status was read
+-- The actor is known to be closed: the home said so when it was taken, or the status was read as closed since.
 abbrev pub IsKnownClosed : ℕ → List ℕ → View → Type 0
-IsKnownClosed actor shut v = IsAmong actor shut ⊎ Vouches actor v
+IsKnownClosed actor shut v = IsAmong actor shut ⊎ HasSeenClosed actor v
 
-module _ {H : Type 0} (is_of : ℕ → H → Type 0) (journal : H → List Entry) (mailbox : H → Mailbox) (rested : H → Type 0) (given_by : H
-    → ℕ) (closed_to : H → List ℕ) where
+module _ {H : Type 0} (is_of : ℕ → H → Type 0) (facts : H → HomeFacts) where
   -- A seat has the claim of the actor with this status and carries its cell, which may go home: it is the actor's own, its journal goes
   -- on from the one that was taken, its word is the one of the status; it knows how many its list gave; each actor that it says is closed
   -- is known to be; and unless the actor is open and its last drain gave something, nothing is left beside it.
-  pub record IsReady (actor : ℕ) (status : Mailbox) (me : Me (Slot H) View) : Type 0 where
+  pub record IsReadyToRelease (actor : ℕ) (status : Mailbox) (me : Me (Slot H) View) : Type 0 where
     pub home : H
     pub carried : me.1 ≡ (slot_at actor 0, Home home) ∷ []
     pub has : me.0.claim ≡ Some (held_in me.0)
     pub of : (held_in me.0).actor ≡ actor
     pub word : (held_in me.0).word ≡ word_of status
     pub own : is_of actor home
-    pub longer : Extends (journal home) (held_in me.0).journal
-    pub fold : word_of (mailbox home) ≡ word_of (idle status)
-    pub count : given_by home ≡ (held_in me.0).given
-    pub shut : Each (λ other. IsKnownClosed other (held_in me.0).closed_to me.0) (closed_to home)
-    pub rest : (status.closed ≡ true) ⊎ ((held_in me.0).gave ≡ false) → rested home
+    pub longer : Extends (facts home).journal (held_in me.0).journal
+    pub fold : word_of (facts home).mailbox ≡ word_of (idle status)
+    pub count : (facts home).given ≡ (held_in me.0).given
+    pub shut : Each (λ other. IsKnownClosed other (held_in me.0).closed_to me.0) (facts home).closed_to
+    pub rest : (status.closed ≡ true) ⊎ ((held_in me.0).gave ≡ false) → (facts home).rested
     pub share : is_some_item me.0.share ≡ true
 
 -- the cell that the seat carried went home
-abbrev pub Idled : {H : Type 0} → (H → List Entry) → ℕ → Me (Slot H) View → Me (Slot H) View → Type 0
-Idled {H} journal actor m m' = (home : H) → m.1 ≡ (slot_at actor 0, Home home) ∷ [] → m' ≡ (idling actor (journal home) m.0, [])
+abbrev pub Idled : {H : Type 0} → (H → HomeFacts) → ℕ → Me (Slot H) View → Me (Slot H) View → Type 0
+Idled {H} facts actor m m' = (home : H) → m.1 ≡ (slot_at actor 0, Home home) ∷ [] → m' ≡ (idling actor (facts home).journal m.0, [])

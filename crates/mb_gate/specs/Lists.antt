@@ -1,49 +1,51 @@
--- A list that a seat took out, and the words of its gate (`akka.dispatch.SystemMessageQueue.systemEnqueue`, `systemDrain`; that a list
--- has a gate is this project's own profile).
+-- A list of system messages that a seat took out, and the words of the gate that locks it (`akka.dispatch.SystemMessageQueue.systemEnqueue`,
+-- `systemDrain`; that a list has a gate is this project's own profile).
 use Rattle.std.specs.Prelude.{◌≡◌, ℕ, ◌+◌, ◌*◌, ◌/◌, ◌%◌, ◌==◌, Bool, false, ◌||◌, if◌then◌else◌, List, ◌∷◌, Some, is_some}
 use Rattle.atomic_table.specs.Table.{Me, rest}
 use Rattle.mb_syslist.specs.MessageList.{MessageList, numbered}
 use Rattle.mb_msg.specs.declared.system.SysMsg.{SysMsg}
-use Rattle.mb_rule.specs.Layout.{slot_at}
+use Rattle.mb_ghost.specs.Layout.{slot_at}
 use Rattle.mb_gate.specs.declared.slot.Slot.{Slot}
 use Rattle.mb_gate.specs.declared.slot.Slot.TheVariants.{Empty}
 use Rattle.mb_gate.specs.View.{View, lending}
 use Rattle.mb_gate.specs.Claims.{held_in}
 use Rattle.mb_gate.specs.Rule.{gate_word, is_some_item, claim_for}
 
--- the seat took out the list of the actor, by an exchange that found this word at its gate
+-- The seat took out the actor's list, by an exchange that found this word at its gate.
 pub record IsLentBy {H : Type 0} (actor : ℕ) (word : ℕ) (listed : MessageList) (m m' : Me (Slot H) View) : Type 0 where
   pub gave : Bool
   pub found : word ≡ gate_word false listed gave
   pub now : m' ≡ (lending actor listed gave m.0, (slot_at actor 1, Empty) ∷ m.1)
 
--- the seat has the list of the actor out, with nothing in its slot, and the gate showed this word before
+-- The seat has the actor's list, its slot is empty, and the gate showed this word before.
 pub record IsOut {H : Type 0} (actor : ℕ) (word : ℕ) (listed : MessageList) (m : Me (Slot H) View) : Type 0 where
   pub gave : Bool
   pub found : word ≡ gate_word false listed gave
   pub has : m.0.list ≡ Some (record { actor = actor; listed = listed; gave = gave })
   pub carried : m.1 ≡ (slot_at actor 1, Empty) ∷ rest m.1
 
--- the seat has the claim of the actor
+-- The seat has the claim of the actor.
 pub record HasClaim {H : Type 0} (actor : ℕ) (m : Me (Slot H) View) : Type 0 where
   pub has : m.0.claim ≡ Some (held_in m.0)
   pub of : (held_in m.0).actor ≡ actor
 
--- the seat may take out the list of the actor: it is a pass's, or has the actor's claim
-abbrev pub may_grip : ℕ → View → Bool
-may_grip actor v = is_some_item v.share || is_some (claim_for actor v)
+-- The seat may take out the actor's list: it is the seat of a pass, or it has the actor's claim.
+abbrev pub may_lock_list : ℕ → View → Bool
+may_lock_list actor v = is_some_item v.share || is_some (claim_for actor v)
 
--- these have the numbers that go on from this one, modulo 2^64
+-- These messages are numbered one after another from this number on, modulo 2^64.
 pub record IsNumberedFrom (number : ℕ) (given : List (ℕ × SysMsg)) : Type 0 where
   pub messages : List SysMsg
   pub each : given ≡ numbered number messages
 
--- the gate's word with a message listed; with nothing listed, after a drain that gave something or nothing; and with the list ended
+-- The gate's word once a message is listed.
 abbrev pub with_listed : ℕ → ℕ
 with_listed word = if word / 2 % 2 == 0 then word + 2 else word
 
+-- The gate's word after a drain: nothing is listed, and the word says whether the drain gave something.
 abbrev pub with_drained : ℕ → Bool → ℕ
 with_drained word is_empty = word / 8 * 8 + (if is_empty then 0 else 4)
 
+-- The gate's word once the list is ended: nothing is listed any more.
 abbrev pub with_ended : ℕ → ℕ
 with_ended word = word / 4 % 2 * 4 + 8

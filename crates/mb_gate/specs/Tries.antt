@@ -1,53 +1,50 @@
--- The answers of a try to schedule an actor (`Mailbox.setAsScheduled`, which answers whether it won; that a claim comes with it is this
--- project's own profile).
+-- What a try to schedule an actor answers (`Mailbox.setAsScheduled`, which answers whether it won; that a claim comes with it is this project's own
+-- profile).
 use Rattle.std.specs.Prelude.{◌≡◌, ◌≢◌, ℕ, Bool, true, false, List, [], ◌∷◌, Some, None}
 use Rattle.atomic_table.specs.Table.{Me}
 use Rattle.atomic_table.specs.Seated.{TableId}
-use Rattle.mb_rule.specs.Layout.{slot_at}
+use Rattle.mb_ghost.specs.Layout.{slot_at}
+use Rattle.mb_gate.specs.HomeFacts.{HomeFacts}
 use Rattle.mb_gate.specs.declared.slot.Slot.{Slot}
 use Rattle.mb_gate.specs.declared.slot.Slot.TheVariants.{Home}
 use Rattle.mb_status.specs.Mailbox.{Mailbox, word_of}
-use Rattle.mb_journal.specs.Entry.{Entry}
 use Rattle.mb_gate.specs.View.{View, winning, reading}
 use Rattle.mb_gate.specs.Rule.{is_some_item}
 use Rattle.mb_gate.specs.Claims.{claimed}
-use Rattle.mb_gate.specs.Plays.{GoesOn, StaysClosed}
-use Rattle.mb_gate.specs.Names.{claim_id, known_of, held_actor, status_of, gave_last, recorded_by}
+use Rattle.mb_gate.specs.TableSteps.{ExtendsSeen, StaysClosed}
+use Rattle.mb_gate.specs.Accessors.{claim_id, claim_view, held_actor, status_of, gave_last, recorded_by}
 use Rattle.mb_gate.specs.declared.claim.Claim.{Claim}
 use Rattle.mb_gate.specs.declared.schedule.Tried.{Tried}
 use Rattle.mb_gate.specs.declared.schedule.Tried.TheVariants.{Got, Already, Closed, Lost}
 
--- neither closed nor scheduled
+-- The status is neither closed nor scheduled.
 pub record IsFree (seen : Mailbox) : Type 0 where
   pub open_yet : seen.closed ≡ false
   pub free : seen.scheduled ≡ false
 
--- what the seat has, once its exchange was won: the claim of the actor with this status, the cell, and nothing else
-pub record Taken {H : Type 0} (journal : H → List Entry) (given_by : H → ℕ) (closed_to : H
-    → List ℕ) (actor : ℕ) (status : Mailbox) (me : Me (Slot H) View) : Type 0 where
+-- What the seat has once its exchange won: the claim of the actor with this status, the cell, and nothing else.
+pub record Taken {H : Type 0} (facts : H → HomeFacts) (actor : ℕ) (status : Mailbox) (me : Me (Slot H) View) : Type 0 where
   pub home : H
   pub carried : me.1 ≡ (slot_at actor 0, Home home) ∷ []
   pub gave : Bool
   pub claim : me.0.claim ≡ Some (record {
     actor = actor;
-    journal = journal home;
-    closed_to = closed_to home;
+    journal = (facts home).journal;
+    closed_to = (facts home).closed_to;
     word = word_of status;
     gave = gave;
-    given = given_by home;
+    given = (facts home).given;
     drained = [];
   })
   pub no_list : me.0.list ≡ None
   pub share : is_some_item me.0.share ≡ true
 
--- a claim that was got is of these gates
-abbrev pub IsOf : {H : Type 0} → TableId → Tried H → Type 0
-IsOf gates (Got claim) = claim_id claim ≡ gates
-IsOf gates _ = Unit {0}
+-- A claim that was got is of these gates.
+abbrev pub IsClaimOf : {H : Type 0} → TableId → Tried H → Type 0
+IsClaimOf gates (Got claim) = claim_id claim ≡ gates
+IsClaimOf gates _ = Unit {0}
 
-module _ {H : Type 0} (is_of : ℕ → H → Type 0) (journal : H → List Entry) (mailbox : H → Mailbox) (rested : H → Type 0) (given_by : H
-    → ℕ) (closed_to : H → List ℕ) (actor : ℕ) (before after
-    : View) (seen : Mailbox) where
+module _ {H : Type 0} (is_of : ℕ → H → Type 0) (facts : H → HomeFacts) (actor : ℕ) (before after : View) (seen : Mailbox) where
   -- The claim of the actor was got by the exchange of this status, which is now scheduled. Its cell is the actor's own, its word the
   -- one of its journal, and this goes on from all that the pass has seen; it knows how many its list gave; unless the last drain gave
   -- something, nothing is left beside the cell. Nothing was said for it yet, and the pass owes the actor nothing.
@@ -56,11 +53,11 @@ module _ {H : Type 0} (is_of : ℕ → H → Type 0) (journal : H → List Entry
     pub of : held_actor claim ≡ actor
     pub status : status_of claim ≡ record seen { scheduled = true }
     pub own : is_of actor claim.home
-    pub word : word_of (mailbox claim.home) ≡ word_of seen
-    pub goes_on : GoesOn actor (journal claim.home) before
-    pub rest : gave_last claim ≡ false → rested claim.home
-    pub known : known_of claim ≡ claimed actor (journal claim.home) (closed_to claim.home) (word_of (status_of claim)) (gave_last claim)
-        (given_by claim.home)
+    pub word : word_of (facts claim.home).mailbox ≡ word_of seen
+    pub goes_on : ExtendsSeen actor (facts claim.home).journal before
+    pub rest : gave_last claim ≡ false → (facts claim.home).rested
+    pub known : claim_view claim ≡ claimed actor (facts claim.home).journal (facts claim.home).closed_to (word_of (status_of claim)) (gave_last claim)
+        (facts claim.home).given
     pub recorded : recorded_by claim ≡ []
     pub pass : after ≡ winning actor before
 
@@ -72,13 +69,11 @@ module _ {H : Type 0} (is_of : ℕ → H → Type 0) (journal : H → List Entry
       × StaysClosed actor (word_of found) before
   IsExchanged _ = ⊥
 
-module _ {H : Type 0} (is_of : ℕ → H → Type 0) (journal : H → List Entry) (mailbox : H → Mailbox) (rested : H → Type 0) (given_by : H
-    → ℕ) (closed_to : H → List ℕ) (actor : ℕ) (before after
-    : View) (seen : Mailbox) where
+module _ {H : Type 0} (is_of : ℕ → H → Type 0) (facts : H → HomeFacts) (actor : ℕ) (before after : View) (seen : Mailbox) where
   -- What the call answers, having read this status: Got by its own exchange; Already and Closed as it read; Lost with another word that
   -- its exchange found. An actor that was seen closed is closed: it answers neither Already nor Lost with another word than that.
   abbrev pub IsTried : Tried H → Type 0
-  IsTried (Got claim) = IsGot is_of journal mailbox rested given_by closed_to actor (reading actor (word_of seen) before) after seen claim
+  IsTried (Got claim) = IsGot is_of facts actor (reading actor (word_of seen) before) after seen claim
   IsTried Already = (seen.closed ≡ false) × (seen.scheduled ≡ true) × (after ≡ reading actor (word_of seen) before)
       × StaysClosed actor (word_of seen) before
   IsTried Closed = (seen.closed ≡ true) × (after ≡ reading actor (word_of seen) before)

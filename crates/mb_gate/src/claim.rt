@@ -1,29 +1,30 @@
+//! The claim of an actor: the right to run its mailbox.
 ghost use Rattle.std.specs.Prelude.{◌≡◌, [], ◌∷◌, None, Some, true};
 ghost use Rattle.mb_status.specs.Mailbox.{word_of};
-ghost use Rattle.mb_rule.specs.Layout.{slot_at};
+ghost use Rattle.mb_ghost.specs.Layout.{slot_at};
 ghost use Rattle.mb_gate.specs.Claims.{held_in, is_busy};
 ghost use Rattle.mb_gate.specs.declared.slot.Slot.TheVariants.{Empty};
 
-use crate::sayings::Sayings;
+use crate::seat_view::SeatView;
+use crate::sent_system_log::SentSystemLog;
 use crate::slot::Slot;
-use crate::view::Knowledge;
 use atomic_table::Seat;
 use mb_msg::ActorId;
 use mb_status::Status;
 
-/// The one claim of an actor that a worker holds, with what lies at its home otherwise. It has to be spent. (This project's own
-/// profile: `akka.dispatch.Dispatcher.registerForExecution` hands the mailbox itself to an executor.)
+/// The one claim of an actor that a worker holds: its cell, and what is kept beside it. It has to be given back or abandoned.
+/// (This project's own profile: `akka.dispatch.Dispatcher.registerForExecution` hands the mailbox itself to an executor.)
 pub struct Claim<H> {
     /// The cell, and what is kept beside it.
     pub home: H,
-    /// The actor that it is of.
+    /// The actor that the claim is of.
     pub(crate) actor: ActorId,
     /// The actor's status, as its word says.
     pub(crate) status: Status,
     /// The seat at the gates' table that has the cell out.
-    pub(crate) seat: Seat<Slot<H>, Knowledge>,
-    /// What was said in its run, for proofs alone.
-    pub(crate) says: Sayings,
+    pub(crate) seat: Seat<Slot<H>, SeatView>,
+    /// The system messages that were sent in its run, for proofs alone.
+    pub(crate) sent_log: SentSystemLog,
     ghost has: { seat.me.0.claim ≡ Some (held_in seat.me.0) },
     ghost of: { (held_in seat.me.0).actor ≡ actor.0 },
     ghost word: { (held_in seat.me.0).word ≡ word_of status },
@@ -33,7 +34,7 @@ pub struct Claim<H> {
 }
 
 impl<H> Claim<H> {
-    /// The actor that it is of (`akka.dispatch.Mailbox.actor`).
+    /// The actor that the claim is of (`akka.dispatch.Mailbox.actor`).
     pub fn actor(&self) -> ActorId
         ensures { result.0 ≡ self.now.actor.0 }
     {
@@ -49,14 +50,15 @@ impl<H> Claim<H> {
 }
 
 impl<H: Drop> Claim<H> {
-    /// Gives the claim up. Its actor is held for good: nobody can schedule it any more (this project's own profile).
+    /// Gives the claim up without giving the cell back. The actor stays held for good: nobody can schedule it any more (this
+    /// project's own profile).
     pub fn abandon(self) {
         let Claim {
             home: _,
             actor: _,
             status: _,
             seat: _,
-            says: _,
+            sent_log: _,
         } = self;
     }
 }

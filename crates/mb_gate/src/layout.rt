@@ -1,12 +1,13 @@
+//! Where the words and slots of an actor lie in the gates' table.
 ghost use Rattle.std.specs.Prelude.{◌≡◌, ◌+◌, ◌*◌, ◌<◌};
-ghost use Rattle.mb_rule.specs.Layout.{word_at, slot_at};
+ghost use Rattle.mb_ghost.specs.Layout.{word_at, slot_at};
 
 use mb_msg::ActorId;
 
 /// A word: how many envelopes are counted as waiting, modulo 2^64.
 pub const WAITING: usize = 0;
 
-/// A word: 1 once the cell of a closed actor went home for good, else 0.
+/// A word: 1 once the cell of a closed actor was given back for good, else 0.
 pub const FLAG: usize = 7;
 
 /// A word: the mailbox's status, 1 where it is closed, else four times its suspensions and 2 more where it is scheduled.
@@ -16,15 +17,15 @@ pub const STATUS: usize = 8;
 /// and 8 once it is ended, added up.
 pub const GATE: usize = 9;
 
-/// A slot: the actor's home, nothing while a claim has it.
+/// A slot: the actor's home, and nothing while a claim has it.
 pub const CELL: usize = 0;
 
-/// A slot: the list of system messages, nothing while a seat has it out.
+/// A slot: the list of system messages, and nothing while a seat has it out.
 pub const LIST: usize = 1;
 
-/// Where a word of an actor lies: it has sixteen, two lines of a processor's memory. Wherever the first actor's begin (at an
-/// even word, as memory is given out), an actor's words share no line with another's, nor its status and its gate one with
-/// its waiting count, which each sender writes.
+/// Where a word of an actor lies. An actor has sixteen, two cache lines. Wherever the first actor's begin (at an even word, as
+/// memory is given out), an actor's words share no line with another's, and its status and its gate share none with its waiting
+/// count, which each sender writes.
 pub fn word_index(id: ActorId, offset: usize) -> usize
     requires { offset < 16 }
     ensures { result ≡ word_at id.0 offset }

@@ -1,35 +1,35 @@
-//! The lists of system messages, each behind a gate that is taken for one list step and given back.
+//! The lists of system messages. Each is behind a gate, which is locked for one step and then opened again.
 ghost use Rattle.std.specs.Prelude.{◌≡◌, ◌+◌, ◌*◌, ◌/◌, ◌%◌, ◌<◌, ◌==◌, [], ◌∷◌};
 ghost use Rattle.std.specs.Prelude.{◌++◌, false, true, None, IfErr, IfOk, IfSome, MatchOption, if◌then◌else◌, is_err};
 ghost use Rattle.atomic_table.specs.Table.{rest};
 ghost use Rattle.mb_syslist.specs.MessageList.{MessageList};
-ghost use Rattle.mb_rule.specs.Layout.{slot_at};
+ghost use Rattle.mb_ghost.specs.Layout.{slot_at};
 ghost use Rattle.mb_gate.specs.declared.slot.Slot.TheVariants.{Empty, List};
 ghost use Rattle.mb_gate.specs.View.{enlisting, refusing, draining, ending, given_after};
 ghost use Rattle.mb_gate.specs.Rule.{is_some_item};
 ghost use Rattle.mb_gate.specs.Claims.{held_in};
-ghost use Rattle.mb_gate.specs.Named.{NamesBelow, EachNamesBelow};
-ghost use Rattle.mb_gate.specs.Turns.{WasHeldBy};
-ghost use Rattle.mb_gate.specs.Lists.{IsLentBy, IsOut, HasClaim, IsNumberedFrom, may_grip, with_listed, with_drained, with_ended};
-ghost use Rattle.mb_gate.specs.Names.{gates_id, pass_id, claim_id, actors_of, known_by};
-ghost use Rattle.mb_gate.specs.Names.{known_of, held_actor, status_of, taken_with, closed_with, gave_last, given_to};
-ghost use Rattle.mb_gate.specs.Names.{drained_by, recorded_by, IsRecorded};
+ghost use Rattle.mb_gate.specs.NamedActors.{NamesBelow, EachNamesBelow};
+ghost use Rattle.mb_gate.specs.ClaimCounts.{WasHeldBy};
+ghost use Rattle.mb_gate.specs.Lists.{IsLentBy, IsOut, HasClaim, IsNumberedFrom, may_lock_list, with_listed, with_drained, with_ended};
+ghost use Rattle.mb_gate.specs.Accessors.{gates_id, pass_id, claim_id, actors_of, pass_view};
+ghost use Rattle.mb_gate.specs.Accessors.{claim_view, held_actor, status_of, taken_with, closed_with, gave_last, given_to};
+ghost use Rattle.mb_gate.specs.Accessors.{drained_by, recorded_by, IsRecorded};
 
 use crate::claim::Claim;
 use crate::gates::Gates;
-use crate::law::{Drain, End, Enlist, Glance, Grip, Refuse};
+use crate::gates_rule::{CheckDrained, Drain, End, Enlist, LockList, Refuse};
 use crate::layout::{GATE, LIST, slot_index, word_index};
+use crate::mailbox_state::MailboxState;
 use crate::pass::Pass;
-use crate::resident::Resident;
+use crate::seat_view::SeatView;
 use crate::slot::Slot;
-use crate::view::Knowledge;
 use atomic_table::Seat;
 use mb_msg::{ActorId, SysMsg};
 use mb_syslist::{Chain, ListClosed, Node, SysList};
 use std::sync::Wait;
 use std::{mem, thread};
 
-// Something is listed.
+// The gate's word once something is listed.
 fn with_listed_bit(word: u64) -> u64
     requires { word < 16 }
     ensures { result ≡ with_listed word }
@@ -37,7 +37,7 @@ fn with_listed_bit(word: u64) -> u64
     if word / 2 % 2 == 0 { word + 2 } else { word }
 }
 
-// Nothing is listed, and the last drain gave something or nothing.
+// The gate's word once nothing is listed, and the last drain gave something or nothing.
 fn with_drained_bits(word: u64, is_empty: bool) -> u64
     requires { word < 16 }
     ensures { result ≡ with_drained word is_empty }
@@ -45,7 +45,7 @@ fn with_drained_bits(word: u64, is_empty: bool) -> u64
     word / 8 * 8 + if is_empty { 0 } else { 4 }
 }
 
-// Nothing is listed any more.
+// The gate's word once nothing is listed any more, for good.
 fn with_ended_bits(word: u64) -> u64
     requires { word < 16 }
     ensures { result ≡ with_ended word }
@@ -53,11 +53,11 @@ fn with_ended_bits(word: u64) -> u64
     word / 4 % 2 * 4 + 8
 }
 
-impl<H: Resident> Gates<H> {
-    // One try to take the list out, where the gate shows this word.
-    fn try_grip(
+impl<H: MailboxState> Gates<H> {
+    // Tries once to take the list out, where the gate shows this word.
+    fn try_lock_list(
         &self,
-        seat: &mut Seat<Slot<H>, Knowledge>,
+        seat: &mut Seat<Slot<H>, SeatView>,
         id: ActorId,
         word: u64,
     ) -> Option<SysList>
@@ -65,7 +65,7 @@ impl<H: Resident> Gates<H> {
         requires there { id.0 < actors_of self.now }
         requires in_slot { word % 2 ≡ 0 }
         requires no_list { seat.old.me.0.list ≡ None }
-        requires may { may_grip id.0 seat.old.me.0 ≡ true }
+        requires may { may_lock_list id.0 seat.old.me.0 ≡ true }
         ensures ours { seat.new.table_id ≡ seat.old.table_id }
         ensures answer { MatchOption result (seat.new.me ≡ seat.old.me) (λ list. IsLentBy id.0 word list seat.old.me seat.new.me) }
     {
@@ -73,7 +73,7 @@ impl<H: Resident> Gates<H> {
         let found = self
             .table
             .shared
-            .compare_exchange::<Grip>(seat, gate, word, word + 1);
+            .compare_exchange::<LockList>(seat, gate, word, word + 1);
         if found != word {
             return None;
         }
@@ -84,10 +84,10 @@ impl<H: Resident> Gates<H> {
         }
     }
 
-    // One try to say that a message found the list ended, where the gate shows this word.
+    // Tries once to note that a message found the list ended, where the gate shows this word.
     fn try_refuse(
         &self,
-        seat: &mut Seat<Slot<H>, Knowledge>,
+        seat: &mut Seat<Slot<H>, SeatView>,
         id: ActorId,
         word: u64,
         message: SysMsg,
@@ -108,11 +108,11 @@ impl<H: Resident> Gates<H> {
         found == word
     }
 
-    // Takes the list out, or says that the message found it ended.
-    fn grip_open<R: Wait>(
+    // Takes the list out, or notes that the message found it ended.
+    fn lock_open_list<R: Wait>(
         &self,
         rt: &R,
-        seat: &mut Seat<Slot<H>, Knowledge>,
+        seat: &mut Seat<Slot<H>, SeatView>,
         id: ActorId,
         message: SysMsg,
     ) -> Option<(u64, SysList)>
@@ -133,7 +133,7 @@ impl<H: Resident> Gates<H> {
                 if self.try_refuse(seat, id, word, message) {
                     return None;
                 }
-            } else if let Some(list) = self.try_grip(seat, id, word) {
+            } else if let Some(list) = self.try_lock_list(seat, id, word) {
                 return Some((word, list));
             }
         }
@@ -141,10 +141,10 @@ impl<H: Resident> Gates<H> {
     }
 
     // Takes the list out.
-    fn grip<R: Wait>(
+    fn lock_list<R: Wait>(
         &self,
         rt: &R,
-        seat: &mut Seat<Slot<H>, Knowledge>,
+        seat: &mut Seat<Slot<H>, SeatView>,
         id: ActorId,
     ) -> (u64, SysList)
         requires ours { seat.old.table_id ≡ gates_id self.now }
@@ -158,16 +158,16 @@ impl<H: Resident> Gates<H> {
             let word = self.table.shared.peek(word_index(id, GATE));
             if word % 2 == 1 {
                 thread::yield_now();
-            } else if let Some(list) = self.try_grip(seat, id, word) {
+            } else if let Some(list) = self.try_lock_list(seat, id, word) {
                 return (word, list);
             }
         }
         unreachable!()
     }
 
-    // Puts the list that is out into its slot, which no other seat can see before the next step. The slot is empty, so that
-    // nothing is dropped; nor is it read, since a read would wait for the write that emptied it.
-    fn lay_list(&self, seat: &mut Seat<Slot<H>, Knowledge>, id: ActorId, list: SysList)
+    // Puts the list that is out into its slot, which no other seat can see before the next step. The slot is empty, so nothing
+    // is dropped. Nor is it read, since a read would wait for the write that emptied it.
+    fn put_back_list(&self, seat: &mut Seat<Slot<H>, SeatView>, id: ActorId, list: SysList)
         requires ours { seat.old.table_id ≡ gates_id self.now }
         requires there { id.0 < actors_of self.now }
         requires carries { seat.old.me.1 ≡ (slot_at id.0 1, Empty) ∷ rest seat.old.me.1 }
@@ -178,13 +178,13 @@ impl<H: Resident> Gates<H> {
         mem::forget(self.table.shared.exchange(seat, slot, Slot::List(list)));
     }
 
-    /// Puts a node last into the actor's list, and says so (`systemEnqueue`). It answers the message's number: how many were
-    /// put into the list before, modulo 2^64; a drain gives the message with this number. From now on the pass owes the
-    /// actor a look at it. It takes no memory, and may wait for the list's gate. The message names actors of these gates
-    /// alone, so that who drains it can send to each that it names.
+    /// Puts a node last into the actor's list (`systemEnqueue`), and records that. It answers the message's number: how many
+    /// were put into the list before, modulo 2^64. A drain gives the message with this number. From now on the pass owes the
+    /// actor a look at it. The call takes no memory, and may wait for the list's gate. The message has to name actors of these
+    /// gates alone, so that who drains it can send to each that it names.
     ///
-    /// It answers `ListClosed` with the same node if the list is ended, and says that too. A pass that has taken in all others,
-    /// or beside which there was never another, finds only a list ended of an actor of which it got a claim.
+    /// It answers `ListClosed` with the same node if the list is ended, and records that too. For a pass that has taken in all
+    /// others, or beside which there never was another, a list is ended only if this pass got a claim of its actor.
     pub fn sys_enqueue<R: Wait>(
         &self,
         rt: &R,
@@ -196,18 +196,18 @@ impl<H: Resident> Gates<H> {
         requires there { id.0 < actors_of self.now }
         requires named { NamesBelow (actors_of self.now) node }
         ensures ours { pass_id pass.new ≡ pass_id pass.old }
-        ensures listed { IfOk result (λ number. known_by pass.new ≡ enlisting id.0 number node (known_by pass.old)) }
-        ensures ended { IfErr result (λ refused. (refused.0 ≡ node) × (known_by pass.new ≡ refusing id.0 node (known_by pass.old))) }
-        ensures held { IfErr result (λ _. WasHeldBy id.0 (known_by pass.old)) }
+        ensures listed { IfOk result (λ number. pass_view pass.new ≡ enlisting id.0 number node (pass_view pass.old)) }
+        ensures ended { IfErr result (λ refused. (refused.0 ≡ node) × (pass_view pass.new ≡ refusing id.0 node (pass_view pass.old))) }
+        ensures held { IfErr result (λ _. WasHeldBy id.0 (pass_view pass.old)) }
     {
-        match self.grip_open(rt, &mut pass.seat, id, node.msg()) {
+        match self.lock_open_list(rt, &mut pass.seat, id, node.msg()) {
             Some((word, list)) => Ok(self.enlist(&mut pass.seat, id, word, list, node)),
             None => Err(ListClosed(node)),
         }
     }
 
-    /// The same in the run of a claim, which is lent beside the pass: what was said stands in its record then (this project's own
-    /// profile).
+    /// The same in the run of a claim, which is lent beside the pass: the message that was sent then stands in the claim's
+    /// record (this project's own profile).
     pub fn sys_enqueue_in_run<R: Wait>(
         &self,
         rt: &R,
@@ -220,20 +220,20 @@ impl<H: Resident> Gates<H> {
         requires there { id.0 < actors_of self.now }
         requires named { NamesBelow (actors_of self.now) node }
         ensures ours { pass_id pass.new ≡ pass_id pass.old }
-        ensures listed { IfOk result (λ number. known_by pass.new ≡ enlisting id.0 number node (known_by pass.old)) }
-        ensures ended { IfErr result (λ refused. (refused.0 ≡ node) × (known_by pass.new ≡ refusing id.0 node (known_by pass.old))) }
+        ensures listed { IfOk result (λ number. pass_view pass.new ≡ enlisting id.0 number node (pass_view pass.old)) }
+        ensures ended { IfErr result (λ refused. (refused.0 ≡ node) × (pass_view pass.new ≡ refusing id.0 node (pass_view pass.old))) }
         ensures recorded { IsRecorded claim.old claim.new (record { to = id.0; message = node; was_ended = is_err result }) }
     {
         let message = node.msg();
         let answer = self.sys_enqueue(rt, pass, id, node);
-        claim.says.add(id, message, answer.is_err());
+        claim.sent_log.add(id, message, answer.is_err());
         answer
     }
 
-    // Puts the node last into the list that is out, and gives it back.
+    // Puts the node last into the list that is out, and puts the list back.
     fn enlist(
         &self,
-        seat: &mut Seat<Slot<H>, Knowledge>,
+        seat: &mut Seat<Slot<H>, SeatView>,
         id: ActorId,
         word: u64,
         mut list: SysList,
@@ -253,14 +253,14 @@ impl<H: Resident> Gates<H> {
             Ok(number) => number,
             Err(_) => unreachable!(),
         };
-        self.lay_list(seat, id, list);
+        self.put_back_list(seat, id, list);
         self.table.shared.store::<Enlist>(seat, gate, new);
         number
     }
 
-    // Whether nothing is listed and the last drain gave nothing, by the gate's word: then this load is a drain that gives
-    // nothing.
-    fn is_drained(&self, seat: &mut Seat<Slot<H>, Knowledge>, id: ActorId) -> bool
+    // Whether nothing is listed and the last drain gave nothing, by the gate's word: then this load counts as a drain that
+    // gives nothing.
+    fn is_drained(&self, seat: &mut Seat<Slot<H>, SeatView>, id: ActorId) -> bool
         requires ours { seat.old.table_id ≡ gates_id self.now }
         requires there { id.0 < actors_of self.now }
         requires holder { HasClaim id.0 seat.old.me }
@@ -269,14 +269,14 @@ impl<H: Resident> Gates<H> {
         ensures answer { seat.new.me ≡ (if result then (draining id.0 [] false seat.old.me.0, seat.old.me.1) else seat.old.me) }
     {
         let gate = word_index(id, GATE);
-        let word = self.table.shared.load::<Glance>(seat, gate);
+        let word = self.table.shared.load::<CheckDrained>(seat, gate);
         word % 8 == 0
     }
 
-    // Takes all out of the list that is out, and gives it back.
+    // Takes all out of the list that is out, and puts the list back.
     fn drain_list(
         &self,
-        seat: &mut Seat<Slot<H>, Knowledge>,
+        seat: &mut Seat<Slot<H>, SeatView>,
         id: ActorId,
         word: u64,
         mut list: SysList,
@@ -293,15 +293,15 @@ impl<H: Resident> Gates<H> {
         let gate = word_index(id, GATE);
         let chain = list.drain();
         let new = with_drained_bits(word, chain.is_empty());
-        self.lay_list(seat, id, list);
+        self.put_back_list(seat, id, list);
         self.table.shared.store::<Drain>(seat, gate, new);
         chain
     }
 
-    // Takes all out of the list that is out, and gives it back ended.
+    // Takes all out of the list that is out, and puts the list back ended.
     fn end_list(
         &self,
-        seat: &mut Seat<Slot<H>, Knowledge>,
+        seat: &mut Seat<Slot<H>, SeatView>,
         id: ActorId,
         word: u64,
         mut list: SysList,
@@ -319,41 +319,40 @@ impl<H: Resident> Gates<H> {
         let gate = word_index(id, GATE);
         let chain = list.close();
         let new = with_ended_bits(word);
-        self.lay_list(seat, id, list);
+        self.put_back_list(seat, id, list);
         self.table.shared.store::<End>(seat, gate, new);
         chain
     }
 
-    /// Whether nothing is listed of the claim's actor and the last drain gave nothing: then this one load is a drain that gives
-    /// nothing, as `sys_drain` makes it, and else nothing is changed (`systemQueue` that is empty). It waits for nobody.
+    /// Whether nothing is listed of the claim's actor and the last drain gave nothing: then this one load counts as a drain
+    /// that gives nothing, as by `sys_drain`. Else nothing changes (`systemQueue` that is empty). It waits for nobody.
     #[inline]
     pub fn sys_is_drained(&self, claim: &mut Claim<H>) -> bool
         requires ours { claim_id claim.old ≡ gates_id self.now }
         requires there { held_actor claim.old < actors_of self.now }
         ensures ours { (claim_id claim.new ≡ claim_id claim.old) × (held_actor claim.new ≡ held_actor claim.old) }
-        ensures known { result ≡ true → known_of claim.new ≡ draining (held_actor claim.old) [] false (known_of claim.old) }
+        ensures known { result ≡ true → claim_view claim.new ≡ draining (held_actor claim.old) [] false (claim_view claim.old) }
         ensures same { (status_of claim.new ≡ status_of claim.old) × (claim.new.home ≡ claim.old.home) }
         ensures taken { (taken_with claim.new ≡ taken_with claim.old) × (closed_with claim.new ≡ closed_with claim.old) }
         ensures recorded { recorded_by claim.new ≡ recorded_by claim.old }
         ensures given { result ≡ true → given_to claim.new ≡ given_after (given_to claim.old) [] }
         ensures gave { result ≡ true → gave_last claim.new ≡ false }
         ensures drained { result ≡ true → drained_by claim.new ≡ drained_by claim.old ++ [] }
-        ensures unchanged { result ≡ false → (known_of claim.new ≡ known_of claim.old) × (gave_last claim.new ≡ gave_last claim.old)
+        ensures unchanged { result ≡ false → (claim_view claim.new ≡ claim_view claim.old) × (gave_last claim.new ≡ gave_last claim.old)
             × (given_to claim.new ≡ given_to claim.old) × (drained_by claim.new ≡ drained_by claim.old) }
     {
         self.is_drained(&mut claim.seat, claim.actor)
     }
 
-    /// Takes all system messages that are listed out of the list of the claim's actor, the earliest first, with their
-    /// numbers, which go on from how many were given before (`systemDrain`). Each names actors of these gates alone. It
-    /// takes no memory, and may wait for the list's gate; a drain of an empty list, where the last drain gave nothing, is
-    /// one load.
+    /// Takes all system messages that are listed out of the list of the claim's actor, the earliest first, with their numbers,
+    /// which go on from how many were given before (`systemDrain`). Each names actors of these gates alone. It takes no memory,
+    /// and may wait for the list's gate. Where nothing is listed and the last drain gave nothing, it is one load.
     #[inline]
     pub fn sys_drain<R: Wait>(&self, rt: &R, claim: &mut Claim<H>) -> Chain
         requires ours { claim_id claim.old ≡ gates_id self.now }
         requires there { held_actor claim.old < actors_of self.now }
         ensures ours { (claim_id claim.new ≡ claim_id claim.old) × (held_actor claim.new ≡ held_actor claim.old) }
-        ensures known { known_of claim.new ≡ draining (held_actor claim.old) result (is_some_item result) (known_of claim.old) }
+        ensures known { claim_view claim.new ≡ draining (held_actor claim.old) result (is_some_item result) (claim_view claim.old) }
         ensures same { (status_of claim.new ≡ status_of claim.old) × (claim.new.home ≡ claim.old.home) }
         ensures taken { (taken_with claim.new ≡ taken_with claim.old) × (closed_with claim.new ≡ closed_with claim.old) }
         ensures recorded { recorded_by claim.new ≡ recorded_by claim.old }
@@ -369,12 +368,13 @@ impl<H: Resident> Gates<H> {
         self.drain_listed(rt, &mut claim.seat, claim.actor)
     }
 
-    // Takes the list out, and all out of it. It stands apart, so that a drain of an empty list is short where it is called.
+    // Takes the list out, and all out of it. It is a function of its own, so that a drain of an empty list stays short where it
+    // is called.
     #[inline(never)]
     fn drain_listed<R: Wait>(
         &self,
         rt: &R,
-        seat: &mut Seat<Slot<H>, Knowledge>,
+        seat: &mut Seat<Slot<H>, SeatView>,
         id: ActorId,
     ) -> Chain
         requires ours { seat.old.table_id ≡ gates_id self.now }
@@ -386,18 +386,18 @@ impl<H: Resident> Gates<H> {
         ensures numbers { IsNumberedFrom (held_in seat.old.me.0).given result }
         ensures named { EachNamesBelow (actors_of self.now) result }
     {
-        let (word, list) = self.grip(rt, seat, id);
+        let (word, list) = self.lock_list(rt, seat, id);
         self.drain_list(seat, id, word, list)
     }
 
-    /// Takes out all that is listed, as `sys_drain`, and ends the list for good (`systemDrain` that leaves no list): the
-    /// claim's actor is closed.
+    /// Takes out all that is listed, as `sys_drain` does, and ends the list for good (`systemDrain` that leaves no list). The
+    /// claim's actor has to be closed.
     pub fn sys_close<R: Wait>(&self, rt: &R, claim: &mut Claim<H>) -> Chain
         requires ours { claim_id claim.old ≡ gates_id self.now }
         requires there { held_actor claim.old < actors_of self.now }
         requires closed { (status_of claim.old).closed ≡ true }
         ensures ours { (claim_id claim.new ≡ claim_id claim.old) × (held_actor claim.new ≡ held_actor claim.old) }
-        ensures known { known_of claim.new ≡ ending (held_actor claim.old) result (gave_last claim.old) (known_of claim.old) }
+        ensures known { claim_view claim.new ≡ ending (held_actor claim.old) result (gave_last claim.old) (claim_view claim.old) }
         ensures same { (status_of claim.new ≡ status_of claim.old) × (claim.new.home ≡ claim.old.home) }
         ensures taken { (taken_with claim.new ≡ taken_with claim.old) × (closed_with claim.new ≡ closed_with claim.old) }
         ensures recorded { recorded_by claim.new ≡ recorded_by claim.old }
@@ -407,7 +407,7 @@ impl<H: Resident> Gates<H> {
         ensures gave { gave_last claim.new ≡ gave_last claim.old }
         ensures drained { drained_by claim.new ≡ drained_by claim.old ++ result }
     {
-        let (shown, list) = self.grip(rt, &mut claim.seat, claim.actor);
+        let (shown, list) = self.lock_list(rt, &mut claim.seat, claim.actor);
         self.end_list(&mut claim.seat, claim.actor, shown, list)
     }
 }

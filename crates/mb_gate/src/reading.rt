@@ -1,24 +1,24 @@
-//! The loads: of a status, of the waiting number, of a list's gate.
+//! The loads: of a status, of a waiting count, and of a list's gate.
 ghost use Rattle.std.specs.Prelude.{◌≡◌, ◌<◌};
 ghost use Rattle.mb_status.specs.Mailbox.{word_of};
 ghost use Rattle.mb_gate.specs.View.{reading, counting, looking};
-ghost use Rattle.mb_gate.specs.Turns.{IsOwnBalance};
-ghost use Rattle.mb_gate.specs.Plays.{StaysClosed};
-ghost use Rattle.mb_gate.specs.Names.{gates_id, pass_id, claim_id, actors_of, known_by, known_of, held_actor, status_of};
+ghost use Rattle.mb_gate.specs.ClaimCounts.{IsOwnBalance};
+ghost use Rattle.mb_gate.specs.TableSteps.{StaysClosed};
+ghost use Rattle.mb_gate.specs.Accessors.{gates_id, pass_id, claim_id, actors_of, pass_view, claim_view, held_actor, status_of};
 
 use crate::claim::Claim;
 use crate::gates::Gates;
-use crate::law::{Count, Look, Read};
+use crate::gates_rule::{Read, ReadGate, ReadWaiting};
 use crate::layout::{GATE, STATUS, WAITING, word_index};
+use crate::mailbox_state::MailboxState;
 use crate::pass::Pass;
-use crate::resident::Resident;
+use crate::seat_view::SeatView;
 use crate::slot::Slot;
-use crate::view::Knowledge;
 use atomic_table::Seat;
 use mb_msg::ActorId;
 use mb_status::Status;
 
-impl<H: Resident> Gates<H> {
+impl<H: MailboxState> Gates<H> {
     /// How many actors there are (this project's own profile).
     pub fn actors(&self) -> usize
         ensures { result ≡ actors_of self.now }
@@ -28,18 +28,18 @@ impl<H: Resident> Gates<H> {
 
     /// Reads the actor's status (`Mailbox.currentStatus`).
     ///
-    /// What was seen closed is closed.
+    /// It answers closed where the pass has seen the actor closed.
     pub fn status(&self, pass: &mut Pass<H>, id: ActorId) -> Status
         requires ours { pass_id pass.old ≡ gates_id self.now }
         requires there { id.0 < actors_of self.now }
         ensures ours { pass_id pass.new ≡ pass_id pass.old }
-        ensures known { known_by pass.new ≡ reading id.0 (word_of result) (known_by pass.old) }
-        ensures closed { StaysClosed id.0 (word_of result) (known_by pass.old) }
+        ensures known { pass_view pass.new ≡ reading id.0 (word_of result) (pass_view pass.old) }
+        ensures closed { StaysClosed id.0 (word_of result) (pass_view pass.old) }
     {
         self.read(&mut pass.seat, id)
     }
 
-    fn read(&self, seat: &mut Seat<Slot<H>, Knowledge>, id: ActorId) -> Status
+    fn read(&self, seat: &mut Seat<Slot<H>, SeatView>, id: ActorId) -> Status
         requires ours { seat.old.table_id ≡ gates_id self.now }
         requires there { id.0 < actors_of self.now }
         ensures ours { seat.new.table_id ≡ seat.old.table_id }
@@ -54,19 +54,19 @@ impl<H: Resident> Gates<H> {
     }
 
     /// Reads how many envelopes are counted as waiting, modulo 2^64 (this project's own profile: Akka asks the queue). A pass
-    /// that has taken in all others, with no claim of the actor out, reads what it counted as sent less what it counted as
-    /// refused or taken.
+    /// that has taken in all others reads what it counted as sent less what it took back and counted as taken, where no claim
+    /// of the actor is out.
     pub fn waiting(&self, pass: &mut Pass<H>, id: ActorId) -> u64
         requires ours { pass_id pass.old ≡ gates_id self.now }
         requires there { id.0 < actors_of self.now }
         ensures ours { pass_id pass.new ≡ pass_id pass.old }
-        ensures known { known_by pass.new ≡ counting id.0 result (known_by pass.old) }
-        ensures own { IsOwnBalance id.0 result (known_by pass.old) }
+        ensures known { pass_view pass.new ≡ counting id.0 result (pass_view pass.old) }
+        ensures own { IsOwnBalance id.0 result (pass_view pass.old) }
     {
         self.count(&mut pass.seat, id)
     }
 
-    fn count(&self, seat: &mut Seat<Slot<H>, Knowledge>, id: ActorId) -> u64
+    fn count(&self, seat: &mut Seat<Slot<H>, SeatView>, id: ActorId) -> u64
         requires ours { seat.old.table_id ≡ gates_id self.now }
         requires there { id.0 < actors_of self.now }
         ensures ours { seat.new.table_id ≡ seat.old.table_id }
@@ -75,7 +75,7 @@ impl<H: Resident> Gates<H> {
     {
         self.table
             .shared
-            .load::<Count>(seat, word_index(id, WAITING))
+            .load::<ReadWaiting>(seat, word_index(id, WAITING))
     }
 
     /// Whether something is listed, or the last drain gave something, which may lie beside the cell still
@@ -84,18 +84,21 @@ impl<H: Resident> Gates<H> {
         requires ours { pass_id pass.old ≡ gates_id self.now }
         requires there { id.0 < actors_of self.now }
         ensures ours { pass_id pass.new ≡ pass_id pass.old }
-        ensures known { known_by pass.new ≡ looking id.0 result (known_by pass.old) }
+        ensures known { pass_view pass.new ≡ looking id.0 result (pass_view pass.old) }
     {
         self.look(&mut pass.seat, id)
     }
 
-    fn look(&self, seat: &mut Seat<Slot<H>, Knowledge>, id: ActorId) -> bool
+    fn look(&self, seat: &mut Seat<Slot<H>, SeatView>, id: ActorId) -> bool
         requires ours { seat.old.table_id ≡ gates_id self.now }
         requires there { id.0 < actors_of self.now }
         ensures ours { seat.new.table_id ≡ seat.old.table_id }
         ensures known { seat.new.me ≡ (looking id.0 result seat.old.me.0, seat.old.me.1) }
     {
-        let word = self.table.shared.load::<Look>(seat, word_index(id, GATE));
+        let word = self
+            .table
+            .shared
+            .load::<ReadGate>(seat, word_index(id, GATE));
         word / 2 % 4 != 0
     }
 }

@@ -1,31 +1,31 @@
 //! A try to schedule an actor, which gives its claim.
 ghost use Rattle.std.specs.Prelude.{◌≡◌, ◌<◌, [], ◌∷◌, true};
 ghost use Rattle.mb_status.specs.Mailbox.{Mailbox, word_of};
-ghost use Rattle.mb_rule.specs.Layout.{slot_at};
+ghost use Rattle.mb_ghost.specs.Layout.{slot_at};
 ghost use Rattle.mb_gate.specs.View.{claim_alone, without_claim};
 ghost use Rattle.mb_gate.specs.Claims.{is_busy};
-ghost use Rattle.mb_gate.specs.Tries.{IsFree, IsOf, IsExchanged, IsTried, Taken};
-ghost use Rattle.mb_gate.specs.Names.{gates_id, pass_id, claim_id, actors_of, first_of, known_by, known_of};
-ghost use Rattle.mb_gate.specs.Names.{held_actor, status_of, recorded_by};
+ghost use Rattle.mb_gate.specs.Tries.{IsFree, IsClaimOf, IsExchanged, IsTried, Taken};
+ghost use Rattle.mb_gate.specs.Accessors.{gates_id, pass_id, claim_id, actors_of, first_home, pass_view, claim_view};
+ghost use Rattle.mb_gate.specs.Accessors.{held_actor, status_of, recorded_by};
 ghost use Rattle.mb_gate.specs.declared.slot.Slot.TheVariants.{First, Home};
 ghost use Rattle.std.specs.declared.snapshot.Snapshot.{Snapshot};
 
 use crate::claim::Claim;
 use crate::gates::Gates;
-use crate::law::{Part, Schedule};
+use crate::gates_rule::{Schedule, SplitClaim};
 use crate::layout::{CELL, STATUS, slot_index, word_index};
+use crate::mailbox_state::MailboxState;
 use crate::pass::Pass;
-use crate::resident::Resident;
-use crate::sayings::Sayings;
+use crate::seat_view::SeatView;
+use crate::sent_system_log::SentSystemLog;
 use crate::slot::Slot;
-use crate::view::Knowledge;
 use atomic_table::Seat;
 use mb_msg::ActorId;
 use mb_status::Status;
 use std::mem;
 use std::snapshot::Snapshot;
 
-/// What became of a try to schedule an actor (`Mailbox.setAsScheduled`, which answers whether it won).
+/// What a try to schedule an actor came to (`Mailbox.setAsScheduled`, which answers whether it won).
 pub enum Tried<H> {
     /// The claim is the caller's.
     Got(Claim<H>),
@@ -37,17 +37,16 @@ pub enum Tried<H> {
     Lost(Status),
 }
 
-impl<H: Resident> Gates<H> {
+impl<H: MailboxState> Gates<H> {
     /// Tries to schedule the actor, and takes its cell where it wins (`Mailbox.setAsScheduled`).
     ///
-    /// It reads the status, and answers `Closed` or `Already` as that says; else it exchanges the word that it read, and
-    /// answers `Lost` with the status that it found where another step came between.
+    /// It reads the status, and answers `Closed` or `Already` where the status says that. Else it exchanges the word that it
+    /// read, and answers `Lost` with the status that it found where another step came between.
     pub fn try_schedule(&self, pass: &mut Pass<H>, id: ActorId) -> Tried<H>
         requires ours { pass_id pass.old ≡ gates_id self.now }
         requires there { id.0 < actors_of self.now }
-        ensures ours { (pass_id pass.new ≡ pass_id pass.old) × IsOf (gates_id self.now) result }
-        ensures answer { (seen : Mailbox) × IsTried (H.is_of (first_of self.now)) H.journal H.mailbox H.rested H.given H.closed_to
-            id.0 (known_by pass.old) (known_by pass.new) seen result }
+        ensures ours { (pass_id pass.new ≡ pass_id pass.old) × IsClaimOf (gates_id self.now) result }
+        ensures answer { (seen : Mailbox) × IsTried (H.is_of (first_home self.now)) H.facts id.0 (pass_view pass.old) (pass_view pass.new) seen result }
     {
         let seen = self.status(pass, id);
         if seen.closed() {
@@ -70,9 +69,8 @@ impl<H: Resident> Gates<H> {
         requires there { id.0 < actors_of self.now }
         requires free { IsFree seen }
         requires scheduled { status ≡ record seen { scheduled = true } }
-        ensures ours { (pass_id pass.new ≡ pass_id pass.old) × IsOf (gates_id self.now) result }
-        ensures answer { IsExchanged (H.is_of (first_of self.now)) H.journal H.mailbox H.rested H.given H.closed_to
-            id.0 (known_by pass.old) (known_by pass.new) seen result }
+        ensures ours { (pass_id pass.new ≡ pass_id pass.old) × IsClaimOf (gates_id self.now) result }
+        ensures answer { IsExchanged (H.is_of (first_home self.now)) H.facts id.0 (pass_view pass.old) (pass_view pass.new) seen result }
     {
         let old = seen.word();
         let new = status.word();
@@ -92,26 +90,26 @@ impl<H: Resident> Gates<H> {
         }
     }
 
-    /// What a step that schedules is told: a memory of the home with which the first actor began.
+    /// What the step that schedules is told: a snapshot of the home with which the first actor began.
     fn first_note(&self) -> Slot<H>
         ensures { (first : Snapshot (Snapshot H)) × (result ≡ First first) × (first.value ≡ self.now.table.shared.key.first) }
     {
         Slot::First(Snapshot::of(&self.first))
     }
 
-    /// The claim goes to a seat of its own, with the cell.
-    fn claim(&self, seat: &mut Seat<Slot<H>, Knowledge>, id: ActorId, status: Status) -> Claim<H>
+    /// Gives the claim a seat of its own, with the cell.
+    fn claim(&self, seat: &mut Seat<Slot<H>, SeatView>, id: ActorId, status: Status) -> Claim<H>
         requires ours { seat.old.table_id ≡ gates_id self.now }
         requires there { id.0 < actors_of self.now }
         requires busy { is_busy (word_of status) ≡ true }
-        requires won { Taken H.journal H.given H.closed_to id.0 status seat.old.me }
+        requires won { Taken H.facts id.0 status seat.old.me }
         ensures ours { (seat.new.table_id ≡ seat.old.table_id) × (claim_id result ≡ seat.old.table_id) }
         ensures rest { seat.new.me ≡ (without_claim seat.old.me.0, []) }
-        ensures claim { (known_of result ≡ claim_alone seat.old.me.0) × (held_actor result ≡ id.0) × (status_of result ≡ status) }
+        ensures claim { (claim_view result ≡ claim_alone seat.old.me.0) × (held_actor result ≡ id.0) × (status_of result ≡ status) }
         ensures home { seat.old.me.1 ≡ (slot_at id.0 0, Home result.home) ∷ [] }
         ensures recorded { recorded_by result ≡ [] }
     {
-        let rest = self.table.shared.split_seat::<Part>(seat);
+        let rest = self.table.shared.split_seat::<SplitClaim>(seat);
         let mut mine = mem::replace(seat, rest);
         let slot = slot_index(id, CELL);
         match self.table.shared.exchange(&mut mine, slot, Slot::Empty) {
@@ -120,7 +118,7 @@ impl<H: Resident> Gates<H> {
                 actor: id,
                 status,
                 seat: mine,
-                says: Sayings::new(),
+                sent_log: SentSystemLog::new(),
             },
             _ => unreachable!(),
         }

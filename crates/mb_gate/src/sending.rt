@@ -1,34 +1,34 @@
-//! The waiting count: how many envelopes were announced and not taken.
+//! The waiting count: how many envelopes were counted before they are queued, and not taken yet.
 ghost use Rattle.std.specs.Prelude.{◌≡◌, ◌<◌, IsTrue, true};
 ghost use Rattle.mb_gate.specs.Rule.{is_some_item};
-ghost use Rattle.mb_gate.specs.View.{owes, sending, unsending, counting_off};
+ghost use Rattle.mb_gate.specs.View.{obligation_to, sending, unsending, counting_off};
 ghost use Rattle.mb_gate.specs.Lists.{HasClaim};
-ghost use Rattle.mb_gate.specs.Names.{gates_id, pass_id, claim_id, actors_of, known_by, known_of, held_actor, status_of, SameTaken};
+ghost use Rattle.mb_gate.specs.Accessors.{gates_id, pass_id, claim_id, actors_of, pass_view, claim_view, held_actor, status_of, SameTaken};
 
 use crate::claim::Claim;
 use crate::gates::Gates;
-use crate::law::{CountOff, Send, Unsend};
+use crate::gates_rule::{CountSent, CountTaken, UncountSent};
 use crate::layout::{WAITING, word_index};
+use crate::mailbox_state::MailboxState;
 use crate::pass::Pass;
-use crate::resident::Resident;
+use crate::seat_view::SeatView;
 use crate::slot::Slot;
-use crate::view::Knowledge;
 use atomic_table::Seat;
 use mb_msg::ActorId;
 
-impl<H: Resident> Gates<H> {
+impl<H: MailboxState> Gates<H> {
     /// Counts an envelope that is about to be queued. From now on the pass owes the actor a look. (This project's own profile:
     /// Akka keeps no count, and `akka.dispatch.Mailbox.hasMessages` asks the queue.)
     pub fn note_sent(&self, pass: &mut Pass<H>, id: ActorId)
         requires ours { pass_id pass.old ≡ gates_id self.now }
         requires there { id.0 < actors_of self.now }
         ensures ours { pass_id pass.new ≡ pass_id pass.old }
-        ensures known { known_by pass.new ≡ sending id.0 1 (known_by pass.old) }
+        ensures known { pass_view pass.new ≡ sending id.0 1 (pass_view pass.old) }
     {
         self.count_on(&mut pass.seat, id);
     }
 
-    fn count_on(&self, seat: &mut Seat<Slot<H>, Knowledge>, id: ActorId)
+    fn count_on(&self, seat: &mut Seat<Slot<H>, SeatView>, id: ActorId)
         requires ours { seat.old.table_id ≡ gates_id self.now }
         requires there { id.0 < actors_of self.now }
         requires share { is_some_item seat.old.me.0.share ≡ true }
@@ -37,21 +37,21 @@ impl<H: Resident> Gates<H> {
     {
         self.table
             .shared
-            .fetch_add::<Send>(seat, word_index(id, WAITING), 1);
+            .fetch_add::<CountSent>(seat, word_index(id, WAITING), 1);
     }
 
-    /// Takes back what `note_sent` counted, since the envelope was refused (this project's own profile).
+    /// Takes back what `note_sent` counted, since the queue refused the envelope (this project's own profile).
     pub fn note_unsent(&self, pass: &mut Pass<H>, id: ActorId)
         requires ours { pass_id pass.old ≡ gates_id self.now }
         requires there { id.0 < actors_of self.now }
-        requires sending { IsTrue (owes id.0 (known_by pass.old)).sending }
+        requires sending { IsTrue (obligation_to id.0 (pass_view pass.old)).sending }
         ensures ours { pass_id pass.new ≡ pass_id pass.old }
-        ensures known { known_by pass.new ≡ unsending id.0 1 (known_by pass.old) }
+        ensures known { pass_view pass.new ≡ unsending id.0 1 (pass_view pass.old) }
     {
         self.count_back(&mut pass.seat, id);
     }
 
-    fn count_back(&self, seat: &mut Seat<Slot<H>, Knowledge>, id: ActorId)
+    fn count_back(&self, seat: &mut Seat<Slot<H>, SeatView>, id: ActorId)
         requires ours { seat.old.table_id ≡ gates_id self.now }
         requires there { id.0 < actors_of self.now }
         requires share { is_some_item seat.old.me.0.share ≡ true }
@@ -60,7 +60,7 @@ impl<H: Resident> Gates<H> {
     {
         self.table
             .shared
-            .fetch_sub::<Unsend>(seat, word_index(id, WAITING), 1);
+            .fetch_sub::<UncountSent>(seat, word_index(id, WAITING), 1);
     }
 
     /// Counts an envelope of the claim's actor as taken (this project's own profile).
@@ -68,7 +68,7 @@ impl<H: Resident> Gates<H> {
         requires ours { claim_id claim.old ≡ gates_id self.now }
         requires there { held_actor claim.old < actors_of self.now }
         ensures ours { claim_id claim.new ≡ claim_id claim.old }
-        ensures known { known_of claim.new ≡ counting_off (held_actor claim.old) 1 (known_of claim.old) }
+        ensures known { claim_view claim.new ≡ counting_off (held_actor claim.old) 1 (claim_view claim.old) }
         ensures actor { held_actor claim.new ≡ held_actor claim.old }
         ensures same { (status_of claim.new ≡ status_of claim.old) × (claim.new.home ≡ claim.old.home) }
         ensures taken { SameTaken claim.old claim.new }
@@ -76,7 +76,7 @@ impl<H: Resident> Gates<H> {
         self.count_off(&mut claim.seat, claim.actor);
     }
 
-    fn count_off(&self, seat: &mut Seat<Slot<H>, Knowledge>, id: ActorId)
+    fn count_off(&self, seat: &mut Seat<Slot<H>, SeatView>, id: ActorId)
         requires ours { seat.old.table_id ≡ gates_id self.now }
         requires there { id.0 < actors_of self.now }
         requires holder { HasClaim id.0 seat.old.me }
@@ -85,6 +85,6 @@ impl<H: Resident> Gates<H> {
     {
         self.table
             .shared
-            .fetch_sub::<CountOff>(seat, word_index(id, WAITING), 1);
+            .fetch_sub::<CountTaken>(seat, word_index(id, WAITING), 1);
     }
 }

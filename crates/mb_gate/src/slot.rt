@@ -1,8 +1,9 @@
+//! What the slots of the gates' table hold.
 use mb_msg::SysMsg;
 use mb_syslist::SysList;
 use std::snapshot::Snapshot;
 
-/// What lies in a slot of the table: an actor's home or its list, or nothing while a seat has that out.
+/// What lies in a slot of the table: an actor's home or its list, or nothing while a seat has it out.
 #[derive(Drop)]
 pub enum Slot<H> {
     /// Nothing: a seat has it out.
@@ -13,6 +14,6 @@ pub enum Slot<H> {
     List(SysList),
     /// A message that found its list ended. It lies in no slot: a step is told of it.
     Note(SysMsg),
-    /// What remembers the home with which the gates' first actor began. It lies in no slot either.
+    /// A snapshot of the home with which the first actor began. It lies in no slot either.
     First(Snapshot<Snapshot<H>>),
 }

@@ -1,26 +1,26 @@
-//! One thread.
+//! The calls of the gates on one thread.
+use crate::order_check::{NOTHING, OrderCheck};
 use crate::single::Single;
-use crate::steps::{HeldStep, Message, Step};
+use crate::steps::{HeldStep, PassStep, SystemMessage};
 use crate::story::story;
-use crate::tally::{NOTHING, Tally};
 use std::test::Fail;
 
 #[test]
 fn an_actor_is_scheduled_and_given_back(rt: HostRuntime) -> Result<(), Fail> {
     let held = [
         HeldStep::IsOfGuardian,
-        HeldStep::Look(Step::Word(6)),
-        HeldStep::Look(Step::IsHeld),
+        HeldStep::Look(PassStep::Word(6)),
+        HeldStep::Look(PassStep::IsHeld),
         HeldStep::Resume(true),
-        HeldStep::Look(Step::OtherWord(2)),
+        HeldStep::Look(PassStep::OtherWord(2)),
     ];
     assert!(rt;
         story(
             &rt,
             rt.alloc(),
-            &[Step::Word(4)],
+            &[PassStep::Word(4)],
             &held,
-            &[Step::Word(0)],
+            &[PassStep::Word(0)],
             (0, 0)
         )?
     );
@@ -29,8 +29,14 @@ fn an_actor_is_scheduled_and_given_back(rt: HostRuntime) -> Result<(), Fail> {
 
 #[test]
 fn a_closed_actor_stays_closed(rt: HostRuntime) -> Result<(), Fail> {
-    let held = [HeldStep::Close(NOTHING), HeldStep::Look(Step::OtherWord(1))];
-    let after = [Step::IsClosed, Step::Enqueue(Message::Terminate, None)];
+    let held = [
+        HeldStep::Close(NOTHING),
+        HeldStep::Look(PassStep::OtherWord(1)),
+    ];
+    let after = [
+        PassStep::IsClosed,
+        PassStep::Enqueue(SystemMessage::Terminate, None),
+    ];
     assert!(rt; story(&rt, rt.alloc(), &[], &held, &after, (1, 0))?);
     Ok(())
 }
@@ -45,8 +51,8 @@ fn a_held_cell_is_not_left(rt: HostRuntime) -> Result<(), Fail> {
 
 #[test]
 fn what_was_drained_is_counted(rt: HostRuntime) -> Result<(), Fail> {
-    let before = [Step::Enqueue(Message::Create, Some(0))];
-    let one = Tally {
+    let before = [PassStep::Enqueue(SystemMessage::Create, Some(0))];
+    let one = OrderCheck {
         number: 1,
         first: 0,
         second: 0,
@@ -68,12 +74,12 @@ fn what_was_drained_is_counted(rt: HostRuntime) -> Result<(), Fail> {
 #[test]
 fn messages_come_in_order(rt: HostRuntime) -> Result<(), Fail> {
     let before = [
-        Step::HasSystem(false),
-        Step::Enqueue(Message::Recreate, Some(0)),
-        Step::Enqueue(Message::Failed, Some(1)),
-        Step::HasSystem(true),
+        PassStep::HasSystem(false),
+        PassStep::Enqueue(SystemMessage::Recreate, Some(0)),
+        PassStep::Enqueue(SystemMessage::Failed, Some(1)),
+        PassStep::HasSystem(true),
     ];
-    let both = Tally {
+    let both = OrderCheck {
         number: 2,
         first: 1,
         second: 1,
@@ -82,9 +88,9 @@ fn messages_come_in_order(rt: HostRuntime) -> Result<(), Fail> {
     // The last drain gave something, until one gives nothing.
     let held = [
         HeldStep::Drain(both),
-        HeldStep::Look(Step::HasSystem(true)),
+        HeldStep::Look(PassStep::HasSystem(true)),
         HeldStep::Drain(both),
-        HeldStep::Look(Step::HasSystem(false)),
+        HeldStep::Look(PassStep::HasSystem(false)),
     ];
     assert!(rt; story(&rt, rt.alloc(), &before, &held, &[], (4, 2))?);
     Ok(())
@@ -92,12 +98,12 @@ fn messages_come_in_order(rt: HostRuntime) -> Result<(), Fail> {
 
 #[test]
 fn envelopes_are_counted(rt: HostRuntime) -> Result<(), Fail> {
-    let before = [Step::NoteSent, Step::NoteSent, Step::Waiting(2)];
+    let before = [PassStep::NoteSent, PassStep::NoteSent, PassStep::Waiting(2)];
     let held = [
         HeldStep::NoteTaken,
-        HeldStep::Look(Step::Waiting(1)),
-        HeldStep::Look(Step::NoteRefused),
-        HeldStep::Look(Step::Waiting(1)),
+        HeldStep::Look(PassStep::Waiting(1)),
+        HeldStep::Look(PassStep::NoteRefused),
+        HeldStep::Look(PassStep::Waiting(1)),
     ];
     assert!(rt; story(&rt, rt.alloc(), &before, &held, &[], (4, 0))?);
     Ok(())
@@ -107,8 +113,8 @@ fn envelopes_are_counted(rt: HostRuntime) -> Result<(), Fail> {
 fn suspensions_are_counted(rt: HostRuntime) -> Result<(), Fail> {
     let held = [
         HeldStep::Suspend(Some(false)),
-        HeldStep::Look(Step::Word(10)),
+        HeldStep::Look(PassStep::Word(10)),
     ];
-    assert!(rt; story(&rt, rt.alloc(), &[], &held, &[Step::Word(8)], (8, 0))?);
+    assert!(rt; story(&rt, rt.alloc(), &[], &held, &[PassStep::Word(8)], (8, 0))?);
     Ok(())
 }

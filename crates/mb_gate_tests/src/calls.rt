@@ -1,9 +1,9 @@
-//! The calls by which a pass looks and counts, with no more of their contracts than the tests need.
+//! The calls by which a pass reads and counts, with only as much of their contracts as the tests need.
 ghost use Rattle.std.specs.Prelude.{◌≡◌, ◌<◌};
-ghost use Rattle.mb_gate.specs.Named.{NamesBelow};
-ghost use Rattle.mb_gate.specs.Names.{gates_id, pass_id, claim_id, actors_of, held_actor, taken_with, given_to, recorded_by};
+ghost use Rattle.mb_gate.specs.NamedActors.{NamesBelow};
+ghost use Rattle.mb_gate.specs.Accessors.{gates_id, pass_id, claim_id, actors_of, held_actor, taken_with, given_to, recorded_by};
 
-use crate::desk::{Desk, GUARDIAN};
+use crate::test_home::{GUARDIAN, TestHome};
 use mb_gate::{Claim, Gates, Pass};
 use mb_msg::SysMsg;
 use mb_syslist::Node;
@@ -11,7 +11,7 @@ use std::alloc::Global;
 use std::sync::Wait;
 
 /// A second pass.
-pub fn second(gates: &Gates<Desk>, pass: &mut Pass<Desk>) -> Pass<Desk>
+pub fn second(gates: &Gates<TestHome>, pass: &mut Pass<TestHome>) -> Pass<TestHome>
     requires ours { pass_id pass.old ≡ gates_id gates.now }
     ensures ours { (pass_id pass.new ≡ pass_id pass.old) × (pass_id result ≡ gates_id gates.now) }
 {
@@ -19,7 +19,7 @@ pub fn second(gates: &Gates<Desk>, pass: &mut Pass<Desk>) -> Pass<Desk>
 }
 
 /// The actor's status word.
-pub fn word(gates: &Gates<Desk>, pass: &mut Pass<Desk>) -> u64
+pub fn word(gates: &Gates<TestHome>, pass: &mut Pass<TestHome>) -> u64
     requires ours { pass_id pass.old ≡ gates_id gates.now }
     requires there { 0 < actors_of gates.now }
     ensures ours { pass_id pass.new ≡ pass_id pass.old }
@@ -28,7 +28,7 @@ pub fn word(gates: &Gates<Desk>, pass: &mut Pass<Desk>) -> u64
 }
 
 /// How many envelopes are counted as waiting.
-pub fn waiting(gates: &Gates<Desk>, pass: &mut Pass<Desk>) -> u64
+pub fn waiting(gates: &Gates<TestHome>, pass: &mut Pass<TestHome>) -> u64
     requires ours { pass_id pass.old ≡ gates_id gates.now }
     requires there { 0 < actors_of gates.now }
     ensures ours { pass_id pass.new ≡ pass_id pass.old }
@@ -37,7 +37,7 @@ pub fn waiting(gates: &Gates<Desk>, pass: &mut Pass<Desk>) -> u64
 }
 
 /// Whether there is system work.
-pub fn has_system(gates: &Gates<Desk>, pass: &mut Pass<Desk>) -> bool
+pub fn has_system(gates: &Gates<TestHome>, pass: &mut Pass<TestHome>) -> bool
     requires ours { pass_id pass.old ≡ gates_id gates.now }
     requires there { 0 < actors_of gates.now }
     ensures ours { pass_id pass.new ≡ pass_id pass.old }
@@ -45,8 +45,8 @@ pub fn has_system(gates: &Gates<Desk>, pass: &mut Pass<Desk>) -> bool
     gates.has_system(pass, GUARDIAN)
 }
 
-/// One envelope is counted.
-pub fn note_sent(gates: &Gates<Desk>, pass: &mut Pass<Desk>)
+/// Counts one envelope.
+pub fn note_sent(gates: &Gates<TestHome>, pass: &mut Pass<TestHome>)
     requires ours { pass_id pass.old ≡ gates_id gates.now }
     requires there { 0 < actors_of gates.now }
     ensures ours { pass_id pass.new ≡ pass_id pass.old }
@@ -54,8 +54,8 @@ pub fn note_sent(gates: &Gates<Desk>, pass: &mut Pass<Desk>)
     gates.note_sent(pass, GUARDIAN);
 }
 
-/// One envelope is counted, refused and taken back.
-pub fn note_refused(gates: &Gates<Desk>, pass: &mut Pass<Desk>)
+/// Counts one envelope, which is then refused and taken back.
+pub fn note_refused(gates: &Gates<TestHome>, pass: &mut Pass<TestHome>)
     requires ours { pass_id pass.old ≡ gates_id gates.now }
     requires there { 0 < actors_of gates.now }
     ensures ours { pass_id pass.new ≡ pass_id pass.old }
@@ -64,13 +64,13 @@ pub fn note_refused(gates: &Gates<Desk>, pass: &mut Pass<Desk>)
     gates.note_unsent(pass, GUARDIAN);
 }
 
-/// A message is put into the one actor's list, which names no other: its number, or `None` where there was no memory for it
-/// or the list is ended.
+/// Puts a message into the one actor's list; it names no other actor. It answers the number, or `None` if there was no memory
+/// for it or the list is ended.
 pub fn enqueue<R: Wait>(
     rt: &R,
     alloc: Global,
-    gates: &Gates<Desk>,
-    pass: &mut Pass<Desk>,
+    gates: &Gates<TestHome>,
+    pass: &mut Pass<TestHome>,
     message: SysMsg,
 ) -> Option<u64>
     requires ours { pass_id pass.old ≡ gates_id gates.now }
@@ -85,7 +85,7 @@ pub fn enqueue<R: Wait>(
 }
 
 /// The holder counts one envelope as taken.
-pub fn note_taken(gates: &Gates<Desk>, claim: &mut Claim<Desk>)
+pub fn note_taken(gates: &Gates<TestHome>, claim: &mut Claim<TestHome>)
     requires ours { claim_id claim.old ≡ gates_id gates.now }
     requires there { held_actor claim.old < actors_of gates.now }
     ensures ours { (claim_id claim.new ≡ claim_id claim.old) × (held_actor claim.new ≡ held_actor claim.old) }
@@ -95,8 +95,8 @@ pub fn note_taken(gates: &Gates<Desk>, claim: &mut Claim<Desk>)
     gates.note_taken(claim);
 }
 
-/// The holder suspends the actor, if it is not suspended too often: whether that was the first time.
-pub fn suspend(gates: &Gates<Desk>, claim: &mut Claim<Desk>) -> Option<bool>
+/// The holder suspends the actor, unless it is suspended too often, and answers whether that was the first time.
+pub fn suspend(gates: &Gates<TestHome>, claim: &mut Claim<TestHome>) -> Option<bool>
     requires ours { claim_id claim.old ≡ gates_id gates.now }
     requires there { held_actor claim.old < actors_of gates.now }
     ensures ours { (claim_id claim.new ≡ claim_id claim.old) × (held_actor claim.new ≡ held_actor claim.old) }
@@ -110,8 +110,8 @@ pub fn suspend(gates: &Gates<Desk>, claim: &mut Claim<Desk>) -> Option<bool>
     }
 }
 
-/// The holder undoes one suspension: whether that was the last one.
-pub fn resume(gates: &Gates<Desk>, claim: &mut Claim<Desk>) -> bool
+/// The holder undoes one suspension, and answers whether that was the last one.
+pub fn resume(gates: &Gates<TestHome>, claim: &mut Claim<TestHome>) -> bool
     requires ours { claim_id claim.old ≡ gates_id gates.now }
     requires there { held_actor claim.old < actors_of gates.now }
     ensures ours { (claim_id claim.new ≡ claim_id claim.old) × (held_actor claim.new ≡ held_actor claim.old) }

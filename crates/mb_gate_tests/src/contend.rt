@@ -1,9 +1,9 @@
 //! Two threads try to schedule one actor.
 ghost use Rattle.std.specs.Prelude.{◌≡◌, ◌<◌};
-ghost use Rattle.mb_gate.specs.Names.{gates_id, pass_id, actors_of};
+ghost use Rattle.mb_gate.specs.Accessors.{gates_id, pass_id, actors_of};
 
 use crate::calls::second;
-use crate::desk::{Desk, gates_of_one};
+use crate::test_home::{TestHome, gates_of_one};
 use crate::tries::{attempt, give};
 use mb_gate::{Gates, Pass};
 use std::sync::atomic::AtomicBool;
@@ -13,8 +13,8 @@ use std::thread::join;
 
 const TRIES: u32 = 10_000;
 
-// Tries over and over, gives each claim home at once, and answers whether another held the actor meanwhile.
-fn contend(gates: &Gates<Desk>, mut pass: Pass<Desk>, is_held: &AtomicBool) -> bool
+// Tries over and over, gives each claim back at once, and answers whether another held the actor meanwhile.
+fn contend(gates: &Gates<TestHome>, mut pass: Pass<TestHome>, is_held: &AtomicBool) -> bool
     requires ours { pass_id pass ≡ gates_id gates.now }
     requires there { 0 < actors_of gates.now }
 {

@@ -1,12 +1,12 @@
-//! The gates of one actor while it is held, whose calls ask for nothing either.
+//! The gates of one actor while it is held. Their calls have no preconditions either.
 ghost use Rattle.std.specs.Prelude.{◌≡◌, ◌<◌};
-ghost use Rattle.mb_gate.specs.Names.{gates_id, claim_id, actors_of, held_actor};
+ghost use Rattle.mb_gate.specs.Accessors.{gates_id, claim_id, actors_of, held_actor};
 
-use crate::desk::GUARDIAN;
-use crate::shift::Shift;
+use crate::fresh_claim::FreshClaim;
+use crate::order_check::OrderCheck;
 use crate::single::Single;
 use crate::steps::HeldStep;
-use crate::tally::Tally;
+use crate::test_home::GUARDIAN;
 use std::alloc::Global;
 use std::sync::Wait;
 use std::test::Fail;
@@ -15,7 +15,7 @@ use std::test::Fail;
 #[derive(Drop)]
 pub struct Holding {
     pub(crate) single: Single,
-    pub(crate) shift: Shift,
+    pub(crate) shift: FreshClaim,
     ghost ours: { claim_id shift.claim ≡ gates_id single.gates },
     ghost there: { held_actor shift.claim < actors_of single.gates },
 }
@@ -26,7 +26,7 @@ impl Holding {
         &mut self,
         rt: &R,
         alloc: Global,
-        tally: &mut Tally,
+        tally: &mut OrderCheck,
         step: HeldStep,
     ) -> bool {
         match step {
@@ -49,7 +49,7 @@ impl Holding {
         }
     }
 
-    /// The cell goes home.
+    /// Gives the cell back.
     pub fn give(self) -> Single {
         let Holding { single, shift } = self;
         let Single {

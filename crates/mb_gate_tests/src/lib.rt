@@ -1,5 +1,5 @@
-//! The tests of the gates: one thread, two that contend for an actor, one that holds it while two send, and claims that go by a
-//! queue to other threads.
+//! The tests of the gates: on one thread, two threads that contend for an actor, one that holds it while two send, and claims
+//! that go to other threads by a queue.
 #![tactic(auto)]
 
 #[cfg(test)]
@@ -9,15 +9,15 @@ mod calls;
 #[cfg(test)]
 mod contend;
 #[cfg(test)]
-mod desk;
-#[cfg(test)]
-mod errand;
+mod fresh_claim;
 #[cfg(test)]
 mod holding;
 #[cfg(test)]
+mod order_check;
+#[cfg(test)]
 mod refused;
 #[cfg(test)]
-mod shift;
+mod sent_claim;
 #[cfg(test)]
 mod single;
 #[cfg(test)]
@@ -25,7 +25,7 @@ mod steps;
 #[cfg(test)]
 mod story;
 #[cfg(test)]
-mod tally;
+mod test_home;
 #[cfg(test)]
 mod three;
 #[cfg(test)]

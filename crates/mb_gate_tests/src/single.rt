@@ -1,25 +1,25 @@
-//! The gates of one actor with two passes, whose calls ask for nothing: that they are of one another stands in the type.
+//! The gates of one actor with two passes. Their calls have no preconditions: the type says that the passes are of the gates.
 ghost use Rattle.std.specs.Prelude.{◌≡◌};
-ghost use Rattle.mb_gate.specs.Names.{gates_id, pass_id, actors_of};
+ghost use Rattle.mb_gate.specs.Accessors.{gates_id, pass_id, actors_of};
 
-use crate::desk::{Desk, gates_of_one};
+use crate::fresh_claim::FreshClaim;
 use crate::holding::Holding;
-use crate::shift::Shift;
-use crate::steps::Step;
+use crate::steps::PassStep;
+use crate::test_home::{TestHome, gates_of_one};
 use crate::tries::Miss;
 use crate::{calls, tries};
-use mb_gate::{Gates, Left, Pass};
+use mb_gate::{Gates, Pass, ReturnedActor};
 use std::alloc::Global;
 use std::process::Abort;
 use std::sync::Wait;
 use std::test::Fail;
 
-/// The gates of one actor, and two passes of theirs.
+/// The gates of one actor, and two passes of them.
 #[derive(Drop)]
 pub struct Single {
-    pub(crate) gates: Gates<Desk>,
-    pub(crate) pass: Pass<Desk>,
-    pub(crate) other: Pass<Desk>,
+    pub(crate) gates: Gates<TestHome>,
+    pub(crate) pass: Pass<TestHome>,
+    pub(crate) other: Pass<TestHome>,
     ghost ours: { (pass_id pass ≡ gates_id gates) × (pass_id other ≡ gates_id gates) },
     ghost one: { actors_of gates ≡ 1 },
 }
@@ -33,40 +33,40 @@ impl Single {
     }
 
     /// Whether the call of the step has its answer.
-    pub fn answers<R: Wait>(&mut self, rt: &R, alloc: Global, step: Step) -> bool
+    pub fn answers<R: Wait>(&mut self, rt: &R, alloc: Global, step: PassStep) -> bool
         ensures same { (gates_id self.new.gates ≡ gates_id self.old.gates) × (actors_of self.new.gates ≡ actors_of self.old.gates) }
     {
         match step {
-            Step::Word(word) => calls::word(&self.gates, &mut self.pass) == word,
-            Step::OtherWord(word) => calls::word(&self.gates, &mut self.other) == word,
-            Step::Waiting(count) => calls::waiting(&self.gates, &mut self.pass) == count,
-            Step::HasSystem(is_there) => {
+            PassStep::Word(word) => calls::word(&self.gates, &mut self.pass) == word,
+            PassStep::OtherWord(word) => calls::word(&self.gates, &mut self.other) == word,
+            PassStep::Waiting(count) => calls::waiting(&self.gates, &mut self.pass) == count,
+            PassStep::HasSystem(is_there) => {
                 calls::has_system(&self.gates, &mut self.pass) == is_there
             }
-            Step::NoteSent => {
+            PassStep::NoteSent => {
                 calls::note_sent(&self.gates, &mut self.pass);
                 true
             }
-            Step::NoteRefused => {
+            PassStep::NoteRefused => {
                 calls::note_refused(&self.gates, &mut self.pass);
                 true
             }
-            Step::IsHeld => matches!(
+            PassStep::IsHeld => matches!(
                 tries::missed(&self.gates, &mut self.other),
                 Some(Miss::Already)
             ),
-            Step::IsClosed => matches!(
+            PassStep::IsClosed => matches!(
                 tries::missed(&self.gates, &mut self.other),
                 Some(Miss::Closed)
             ),
-            Step::Enqueue(message, number) => {
+            PassStep::Enqueue(message, number) => {
                 let message = message.of_system();
                 calls::enqueue(rt, alloc, &self.gates, &mut self.pass, message) == number
             }
         }
     }
 
-    /// The actor is got.
+    /// Gets a claim of the actor.
     pub fn got<R: Abort>(self, rt: &R) -> Holding {
         let Single {
             gates,
@@ -76,7 +76,7 @@ impl Single {
         let claim = tries::got(rt, &gates, &mut pass);
         Holding {
             single: Single { gates, pass, other },
-            shift: Shift { claim },
+            shift: FreshClaim { claim },
         }
     }
 
@@ -94,7 +94,7 @@ impl Single {
         match left.pop() {
             Some(
                 Some(
-                    Left {
+                    ReturnedActor {
                         home,
                         given,
                         listed: _,

@@ -1,13 +1,13 @@
 //! What is done to an actor, and what it has to answer, as data.
-ghost use Rattle.mb_gate.specs.Named.{NamesBelow};
+ghost use Rattle.mb_gate.specs.NamedActors.{NamesBelow};
 
-use crate::desk::GUARDIAN;
-use crate::tally::Tally;
+use crate::order_check::OrderCheck;
+use crate::test_home::GUARDIAN;
 use mb_msg::{Cause, SysMsg};
 
 /// A call by a pass, and its answer.
 #[derive(Clone, Copy)]
-pub enum Step {
+pub enum PassStep {
     /// The actor's status word.
     Word(u64),
     /// The same, read by the other pass.
@@ -25,14 +25,14 @@ pub enum Step {
     /// A try by the other pass finds that the actor is closed.
     IsClosed,
     /// A message is put into the list: its number, or `None` where the list is ended.
-    Enqueue(Message, Option<u64>),
+    Enqueue(SystemMessage, Option<u64>),
 }
 
 /// What the holder does, and the answer.
 #[derive(Clone, Copy)]
 pub enum HeldStep {
     /// A pass does this meanwhile.
-    Look(Step),
+    Look(PassStep),
     /// It is the one actor that is held.
     IsOfGuardian,
     /// Suspends the actor: whether that was the first time.
@@ -42,31 +42,31 @@ pub enum HeldStep {
     /// Counts one envelope as taken.
     NoteTaken,
     /// Drains the list: what was seen up to then.
-    Drain(Tally),
+    Drain(OrderCheck),
     /// Closes the actor and its list: what was seen up to then.
-    Close(Tally),
+    Close(OrderCheck),
 }
 
 /// A message of the system.
 #[derive(Clone, Copy)]
-pub enum Message {
+pub enum SystemMessage {
     Create,
     Terminate,
     Recreate,
     Failed,
 }
 
-impl Message {
+impl SystemMessage {
     /// The message, which names no actor but the one.
     pub fn of_system(self) -> SysMsg
         ensures named { NamesBelow 1 result }
     {
         let cause = Cause::Error(0);
         match self {
-            Message::Create => SysMsg::Create,
-            Message::Terminate => SysMsg::Terminate,
-            Message::Recreate => SysMsg::Recreate(cause),
-            Message::Failed => SysMsg::Failed(GUARDIAN, cause),
+            SystemMessage::Create => SysMsg::Create,
+            SystemMessage::Terminate => SysMsg::Terminate,
+            SystemMessage::Recreate => SysMsg::Recreate(cause),
+            SystemMessage::Failed => SysMsg::Failed(GUARDIAN, cause),
         }
     }
 }

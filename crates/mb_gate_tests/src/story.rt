@@ -1,21 +1,21 @@
-//! An actor is got, held and given home, and all answers are as they have to be.
+//! An actor is claimed, held and given back, and each call has its answer.
 use crate::holding::Holding;
+use crate::order_check::NOTHING;
 use crate::single::Single;
-use crate::steps::{HeldStep, Step};
-use crate::tally::NOTHING;
+use crate::steps::{HeldStep, PassStep};
 use std::alloc::Global;
 use std::process::Abort;
 use std::sync::Wait;
 use std::test::Fail;
 
-/// What is done before the actor is got, while it is held, and after its cell went home. At last its status word is this one,
-/// and so many messages were given: whether that is so.
+/// What is done before the actor is claimed, while it is held, and after its cell was given back. At last its status word has
+/// to be this one, and so many messages have to be given: answers whether that is so.
 pub fn story<R: Abort + Wait>(
     rt: &R,
     alloc: Global,
-    before: &[Step],
+    before: &[PassStep],
     held: &[HeldStep],
-    after: &[Step],
+    after: &[PassStep],
     left: (u64, u64),
 ) -> Result<bool, Fail> {
     let mut single = Single::new(alloc)?;
@@ -27,7 +27,7 @@ pub fn story<R: Abort + Wait>(
     Ok(single.left(alloc)? == Some(left))
 }
 
-fn play<R: Abort + Wait>(rt: &R, alloc: Global, single: &mut Single, steps: &[Step]) {
+fn play<R: Abort + Wait>(rt: &R, alloc: Global, single: &mut Single, steps: &[PassStep]) {
     for &step in steps {
         assert!(rt; single.answers(rt, alloc, step));
     }

@@ -1,12 +1,12 @@
 //! One thread holds an actor, suspends and resumes it and drains its list; two others send to it.
 ghost use Rattle.std.specs.Prelude.{◌≡◌, ◌<◌};
-ghost use Rattle.mb_gate.specs.Named.{NamesBelow};
-ghost use Rattle.mb_gate.specs.Names.{gates_id, pass_id, claim_id, actors_of, held_actor};
+ghost use Rattle.mb_gate.specs.NamedActors.{NamesBelow};
+ghost use Rattle.mb_gate.specs.Accessors.{gates_id, pass_id, claim_id, actors_of, held_actor};
 
 use crate::calls::{enqueue, note_sent, second, waiting, word};
-use crate::desk::{Desk, GUARDIAN, gates_of_one};
-use crate::shift::Shift;
-use crate::tally::{NOTHING, Tally};
+use crate::fresh_claim::FreshClaim;
+use crate::order_check::{NOTHING, OrderCheck};
+use crate::test_home::{GUARDIAN, TestHome, gates_of_one};
 use crate::tries::got;
 use mb_gate::{Gates, Pass};
 use mb_msg::{Cause, SysMsg};
@@ -19,7 +19,7 @@ use std::thread::{Threads, join};
 /// How many messages and envelopes each of two senders sends.
 const SENDS: u32 = 1_000;
 
-// The message of this number, of the first sender or the second.
+// The message of this number, of the first sender or of the second.
 fn message_of(number: u32, is_first: bool) -> SysMsg
     ensures named { NamesBelow 1 result }
 {
@@ -34,8 +34,8 @@ fn message_of(number: u32, is_first: bool) -> SysMsg
 fn send<R: Wait>(
     rt: &R,
     alloc: Global,
-    gates: &Gates<Desk>,
-    mut pass: Pass<Desk>,
+    gates: &Gates<TestHome>,
+    mut pass: Pass<TestHome>,
     is_first: bool,
 ) -> u32
     requires ours { pass_id pass ≡ gates_id gates.now }
@@ -52,8 +52,13 @@ fn send<R: Wait>(
     sent
 }
 
-// Holds the actor, suspends and resumes it, and drains its list, until all messages came; then its cell goes home.
-fn hold<R: Wait>(rt: &R, gates: &Gates<Desk>, mut shift: Shift, mut pass: Pass<Desk>) -> Tally
+// Holds the actor, suspends and resumes it, and drains its list, until all messages came; then gives its cell back.
+fn hold<R: Wait>(
+    rt: &R,
+    gates: &Gates<TestHome>,
+    mut shift: FreshClaim,
+    mut pass: Pass<TestHome>,
+) -> OrderCheck
     requires ours { (claim_id shift.claim ≡ gates_id gates.now) × (pass_id pass ≡ gates_id gates.now) }
     requires there { held_actor shift.claim < actors_of gates.now }
 {
@@ -75,7 +80,7 @@ fn hold<R: Wait>(rt: &R, gates: &Gates<Desk>, mut shift: Shift, mut pass: Pass<D
 fn one_holds_and_two_send(rt: HostRuntime) -> Result<(), Fail> {
     let alloc = rt.alloc();
     let (gates, mut pass) = gates_of_one(alloc)?;
-    let shift = Shift {
+    let shift = FreshClaim {
         claim: got(&rt, &gates, &mut pass),
     };
     let holder = second(&gates, &mut pass);
@@ -83,7 +88,7 @@ fn one_holds_and_two_send(rt: HostRuntime) -> Result<(), Fail> {
     let b = second(&gates, &mut pass);
     let (tally, sent) = join(
         &rt,
-        || -> Tally
+        || -> OrderCheck
             requires { (claim_id shift.claim ≡ gates_id gates) × (pass_id holder ≡ gates_id gates)
                 × (held_actor shift.claim < actors_of gates) }
         { hold(&rt, &gates, shift, holder) },
@@ -92,7 +97,7 @@ fn one_holds_and_two_send(rt: HostRuntime) -> Result<(), Fail> {
         { send_both(&rt, alloc, &gates, a, b) },
     );
     assert!(rt; sent.0 == SENDS && sent.1 == SENDS);
-    let all = Tally {
+    let all = OrderCheck {
         number: 2_000,
         first: SENDS,
         second: SENDS,
@@ -107,9 +112,9 @@ fn one_holds_and_two_send(rt: HostRuntime) -> Result<(), Fail> {
 fn send_both<R: Wait + Threads + Sync>(
     rt: &R,
     alloc: Global,
-    gates: &Gates<Desk>,
-    a: Pass<Desk>,
-    b: Pass<Desk>,
+    gates: &Gates<TestHome>,
+    a: Pass<TestHome>,
+    b: Pass<TestHome>,
 ) -> (u32, u32)
     requires ours { (pass_id a ≡ gates_id gates.now) × (pass_id b ≡ gates_id gates.now) }
     requires one { actors_of gates.now ≡ 1 }

@@ -1,15 +1,15 @@
 //! Tries to schedule, what a holder drains, and how it gives its claim back.
 ghost use Rattle.std.specs.Prelude.{◌≡◌, ◌<◌, [], IfSome};
-ghost use Rattle.mb_gate.specs.Names.{gates_id, pass_id, claim_id, actors_of, held_actor, taken_with, given_to, recorded_by};
+ghost use Rattle.mb_gate.specs.Accessors.{gates_id, pass_id, claim_id, actors_of, held_actor, taken_with, given_to, recorded_by};
 
-use crate::desk::{Desk, GUARDIAN};
-use crate::tally::{Tally, add_all};
+use crate::order_check::{OrderCheck, add_all};
+use crate::test_home::{GUARDIAN, TestHome};
 use mb_gate::{Claim, Gates, Pass, Tried};
 use std::process::Abort;
 use std::sync::Wait;
 
 /// A claim, if the try wins.
-pub fn attempt(gates: &Gates<Desk>, pass: &mut Pass<Desk>) -> Option<Claim<Desk>>
+pub fn attempt(gates: &Gates<TestHome>, pass: &mut Pass<TestHome>) -> Option<Claim<TestHome>>
     requires ours { pass_id pass.old ≡ gates_id gates.now }
     requires there { 0 < actors_of gates.now }
     ensures ours { pass_id pass.new ≡ pass_id pass.old }
@@ -23,8 +23,8 @@ pub fn attempt(gates: &Gates<Desk>, pass: &mut Pass<Desk>) -> Option<Claim<Desk>
     }
 }
 
-/// A claim that is got.
-pub fn got<R: Abort>(rt: &R, gates: &Gates<Desk>, pass: &mut Pass<Desk>) -> Claim<Desk>
+/// Gets a claim.
+pub fn got<R: Abort>(rt: &R, gates: &Gates<TestHome>, pass: &mut Pass<TestHome>) -> Claim<TestHome>
     requires ours { pass_id pass.old ≡ gates_id gates.now }
     requires there { 0 < actors_of gates.now }
     ensures ours { pass_id pass.new ≡ pass_id pass.old }
@@ -38,9 +38,9 @@ pub fn got<R: Abort>(rt: &R, gates: &Gates<Desk>, pass: &mut Pass<Desk>) -> Clai
     }
 }
 
-/// The claim goes home with the status that it has.
-#[tactic(auto, using(mb_gate::proofs::RecordLemmas::nothing_since))]
-pub fn give(gates: &Gates<Desk>, mut claim: Claim<Desk>, pass: &mut Pass<Desk>)
+/// Gives the claim back with the status that it has.
+#[tactic(auto, using(mb_gate::proofs::SentSystemLemmas::nothing_since))]
+pub fn give(gates: &Gates<TestHome>, mut claim: Claim<TestHome>, pass: &mut Pass<TestHome>)
     requires ours { (claim_id claim ≡ gates_id gates.now) × (pass_id pass.old ≡ gates_id gates.now) }
     requires there { held_actor claim < actors_of gates.now }
     requires own { (claim.home.actor ≡ held_actor claim) × (claim.home.given ≡ given_to claim) }
@@ -59,8 +59,8 @@ pub enum Miss {
     Lost,
 }
 
-/// What a try answers that does not win; a claim that is got is abandoned.
-pub fn missed(gates: &Gates<Desk>, pass: &mut Pass<Desk>) -> Option<Miss>
+/// What a try answers that does not win. A claim that it gets is abandoned.
+pub fn missed(gates: &Gates<TestHome>, pass: &mut Pass<TestHome>) -> Option<Miss>
     requires ours { pass_id pass.old ≡ gates_id gates.now }
     requires there { 0 < actors_of gates.now }
     ensures ours { pass_id pass.new ≡ pass_id pass.old }
@@ -77,7 +77,12 @@ pub fn missed(gates: &Gates<Desk>, pass: &mut Pass<Desk>) -> Option<Miss>
 }
 
 /// Drains the list, and adds what it gave to the tally. The home counts it.
-pub fn drain<R: Wait>(rt: &R, gates: &Gates<Desk>, claim: &mut Claim<Desk>, tally: &mut Tally)
+pub fn drain<R: Wait>(
+    rt: &R,
+    gates: &Gates<TestHome>,
+    claim: &mut Claim<TestHome>,
+    tally: &mut OrderCheck,
+)
     requires ours { claim_id claim.old ≡ gates_id gates.now }
     requires there { held_actor claim.old < actors_of gates.now }
     requires counts { claim.old.home.given ≡ given_to claim.old }
@@ -92,7 +97,12 @@ pub fn drain<R: Wait>(rt: &R, gates: &Gates<Desk>, claim: &mut Claim<Desk>, tall
 }
 
 /// Closes the actor and its list, and adds what that gave to the tally. The home counts it.
-pub fn close<R: Wait>(rt: &R, gates: &Gates<Desk>, claim: &mut Claim<Desk>, tally: &mut Tally)
+pub fn close<R: Wait>(
+    rt: &R,
+    gates: &Gates<TestHome>,
+    claim: &mut Claim<TestHome>,
+    tally: &mut OrderCheck,
+)
     requires ours { claim_id claim.old ≡ gates_id gates.now }
     requires there { held_actor claim.old < actors_of gates.now }
     requires counts { claim.old.home.given ≡ given_to claim.old }

@@ -1,7 +1,7 @@
--- Acts that are carried out one by one lead on, from the status with which a claim was taken.
+-- Acts that are carried out one by one lead to the journal's mailbox, from the status with which a claim was taken.
 use Rattle.std.proofs.Common.{◌≡◌, ◌+◌, ◌*◌, ◌<◌, Bool, true, false, List, [], ◌∷◌, refl, sym, ap, ◌∙◌, arith}
 use Rattle.std.specs.Prelude.{if◌then◌else◌}
-use Rattle.mb_status.specs.Mailbox.{Mailbox, most_suspensions, word_of, idle, suspend, resume, the_closed}
+use Rattle.mb_status.specs.Mailbox.{Mailbox, most_suspensions, word_of, idle, suspend, resume, closed_mailbox}
 use Rattle.mb_msg.specs.declared.envelope.Body.{Body}
 use Rattle.mb_msg.specs.declared.id.ActorId.{ActorId}
 use Rattle.mb_msg.specs.declared.system.SysMsg.{SysMsg}
@@ -24,7 +24,7 @@ module _ (m to : Mailbox) (rest : List Act) where
   pub leads-resume : Leads m (ResumeSelf ∷ rest) to → Leads (resume m) rest to
   leads-resume l = record { ends = l.ends; counts = l.counts }
 
-  pub leads-close : Leads m (CloseSelf ∷ rest) to → Leads the_closed rest to
+  pub leads-close : Leads m (CloseSelf ∷ rest) to → Leads closed_mailbox rest to
   leads-close l = record { ends = l.ends; counts = l.counts }
 
 -- once all are carried out the mailbox is the journal's

@@ -17,7 +17,7 @@ use Rattle.mb_journal.specs.Lawful.{AreLawful, IsNumbered}
 use Rattle.mb_journal.specs.Life.{phase, closed}
 use Rattle.mb_journal.specs.Phase.{phase_is}
 use Rattle.mb_journal.specs.Suspension.{count}
-use Rattle.mb_home.specs.Settled.{messages_of}
+use Rattle.mb_home.specs.AgreesWithJournal.{messages_of}
 
 abbrev IsBelow : ℕ → ℕ × SysMsg → Type 0
 IsBelow n x = x.0 < n

@@ -1,4 +1,4 @@
--- What the gates' drains give goes on from what a home knows.
+-- What a drain gives is numbered on from what a home knows.
 use Rattle.std.proofs.Common.{◌≡◌, ℕ, ◌+◌, ◌%◌, ◌^◌, List, [], ◌∷◌, length, refl, sym, ap, ◌∙◌, arith}
 use Rattle.mb_msg.specs.declared.system.SysMsg.{SysMsg}
 use Rattle.mb_syslist.specs.MessageList.{numbered}
@@ -6,7 +6,7 @@ use Rattle.mb_journal.specs.Aside.{next_number}
 use Rattle.mb_gate.specs.Lists.{IsNumberedFrom}
 use Rattle.mb_home.specs.AtHome.{given_of}
 use Rattle.mb_home.specs.Contents.{Contents}
-use Rattle.mb_home.specs.Settled.{messages_of}
+use Rattle.mb_home.specs.AgreesWithJournal.{messages_of}
 
 messages-numbered : (n : ℕ) (messages : List SysMsg) → messages_of (numbered n messages) ≡ messages
 messages-numbered n [] = refl

@@ -22,7 +22,7 @@ use Rattle.mb_journal.proofs.Fold.{Queries, queries, queries-fold, starts, resta
 use Rattle.mb_journal.proofs.TestLemmas.{and-false}
 use Rattle.mb_home.specs.Contents.{Contents}
 use Rattle.mb_home.specs.Numbers.{applied_numbers, numbers_in, times}
-use Rattle.mb_home.specs.Settled.{IsSettled, aside_at_end}
+use Rattle.mb_home.specs.AgreesWithJournal.{AgreesWithJournal, aside_at_end}
 use Rattle.mb_home.proofs.CountLemmas.{aside-below, front-of}
 use Rattle.mb_home.proofs.FoldLaw.{closed-by, entry-not_ended}
 use Rattle.mb_home.proofs.OnceLaw.{front-among, front-applied, once-each}
@@ -180,11 +180,11 @@ at-end who gives (e ∷ before) lawful ended =
     ∙ ap (λ b. length (if b then [] else ever_aside before)) (entry-not_ended who gives before e lawful.0)
     ∙ wait-same who gives before lawful.1 e lawful.0 (is-last who gives before lawful.1 e lawful.0 ended)
 
--- of a settled home: as many messages have an entry as were applied or wait; and once the actor ended, those that wait are dead
-pub counted-all : (gives : Moment → Reply → Type 0) (pending : List Act) (h : Contents) → IsSettled gives pending h →
+-- of a home that agrees with its journal: as many messages have an entry as were applied or wait; and once the actor ended, those that wait are dead
+pub counted-all : (gives : Moment → Reply → Type 0) (pending : List Act) (h : Contents) → AgreesWithJournal gives pending h →
     length (applied_numbers h.cell.journal) + length (ever_aside h.cell.journal) ≡ next_number h.cell.journal
 counted-all gives pending h s = all-counted h.cell.who gives h.cell.journal s.lawful.entries
 
-pub dead-at-end : (gives : Moment → Reply → Type 0) (pending : List Act) (h : Contents) → IsSettled gives pending h →
+pub dead-at-end : (gives : Moment → Reply → Type 0) (pending : List Act) (h : Contents) → AgreesWithJournal gives pending h →
     closed h.cell.who h.cell.journal ≡ true → h.aside_dead ≡ length (ever_aside h.cell.journal)
 dead-at-end gives pending h s ended = s.counted.aside ∙ at-end h.cell.who gives h.cell.journal s.lawful.entries ended

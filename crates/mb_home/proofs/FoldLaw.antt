@@ -1,4 +1,4 @@
--- Carrying out the acts of a lawful entry makes of the mailbox that the journal said what it says with that entry.
+-- Carrying out the acts of a lawful entry leads from the mailbox that the journal said before to the one that it says with that entry.
 use Rattle.std.proofs.Common.{◌≡◌, ℕ, ◌<◌, ◌≤◌, ◌^◌, Bool, true, false, List, [], ◌∷◌, ◌++◌, map, refl, sym, ap, ◌∙◌, subst, arith}
 use Rattle.std.specs.Prelude.{not, nat_lt, ◌&&◌, ◌||◌, if◌then◌else◌, is_some, Option, None}
 use Rattle.mb_status.specs.Mailbox.{Mailbox, most_suspensions, idle}

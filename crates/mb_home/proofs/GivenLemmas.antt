@@ -1,4 +1,4 @@
--- How many system messages a home knows of, through each step: what the gates compare when it goes back.
+-- How many system messages a home knows of, through each step: the gates compare that when the home goes back.
 use Rattle.std.proofs.Common.{◌≡◌, ℕ, ◌+◌, ◌%◌, ◌^◌, ◌<◌, false, List, [], ◌∷◌, length, refl, sym, ap, ◌∙◌}
 use Rattle.std.proofs.Common.{arith}
 use Rattle.std.specs.Prelude.{Option, Some, None}
@@ -10,11 +10,11 @@ use Rattle.mb_journal.specs.Aside.{next_front, next_number}
 use Rattle.mb_journal.specs.Entry.{Entry, Outcome}
 use Rattle.mb_journal.specs.Entry.Entry.{Handled, System, Dropped}
 use Rattle.mb_journal.specs.Life.{closed}
-use Rattle.mb_cell.specs.Seen.{Seen, IsOf}
+use Rattle.mb_cell.specs.CellView.{CellView, IsOf}
 use Rattle.mb_gate.specs.View.{given_after}
 use Rattle.mb_home.specs.AtHome.{given_of}
 use Rattle.mb_home.specs.Contents.{Contents}
-use Rattle.mb_home.specs.Settled.{IsSettled}
+use Rattle.mb_home.specs.AgreesWithJournal.{AgreesWithJournal}
 use Rattle.mb_home.specs.Steps.{AppliesNext, Begins, IsDue}
 use Rattle.mb_home.proofs.CountLemmas.{aside-below, few-numbers, front-of, next-new, next-again, rest-first}
 use Rattle.mb_home.proofs.DrainLemmas.{given-next}
@@ -28,7 +28,7 @@ given-kept h drained none =
     ∙ mod-add-mod (next_number h.cell.journal + h.dropped) (2 ^ 64) (length drained))
 
 -- a message that is applied was among those that were given
-module _ (h : Contents) (gives : Moment → Reply → Type 0) (s : IsSettled gives [] h) (not_ended : closed h.cell.who h.cell.journal ≡ false) where
+module _ (h : Contents) (gives : Moment → Reply → Type 0) (s : AgreesWithJournal gives [] h) (not_ended : closed h.cell.who h.cell.journal ≡ false) where
   none_dropped : h.dropped ≡ 0
   none_dropped = s.counted.none not_ended
 
@@ -54,7 +54,7 @@ module _ (h : Contents) (gives : Moment → Reply → Type 0) (s : IsSettled giv
   pub given-applied : (new : Contents) → AppliesNext h new → given_of new ≡ given_of h
   given-applied new a =
       ap given_of a.same
-      ∙ ap (λ (c : Seen). (next_number c.journal + h.dropped + length new.rest) % 2 ^ 64) a.taken.adds
+      ∙ ap (λ (c : CellView). (next_number c.journal + h.dropped + length new.rest) % 2 ^ 64) a.taken.adds
       ∙ ap (λ n. n % 2 ^ 64) (same-sum (next_front h.cell.who h.cell.journal) a.number a.message a.taken.outcome new.rest refl a.due)
 
 -- an envelope has no such number
@@ -68,5 +68,5 @@ next-same before (Dropped x) envelope reading of_it = refl
 pub given-begun : (h new : Contents) (reading : ℕ) → Begins h new reading → given_of new ≡ given_of h
 given-begun h new reading b =
     ap given_of b.same
-    ∙ ap (λ (c : Seen). (next_number c.journal + h.dropped + length h.rest) % 2 ^ 64) b.taken.adds
+    ∙ ap (λ (c : CellView). (next_number c.journal + h.dropped + length h.rest) % 2 ^ 64) b.taken.adds
     ∙ ap (λ n. (n + h.dropped + length h.rest) % 2 ^ 64) (next-same h.cell.journal b.taken.entry b.envelope reading b.taken.of_it)

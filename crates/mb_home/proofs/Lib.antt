@@ -15,7 +15,7 @@ pub mod NumberedLaw
 pub mod OnceLaw
 pub mod PostLemmas
 pub mod RunForms
-pub mod SettleLemmas
+pub mod AgreesLemmas
 pub mod StatusLemmas
 pub mod StepLemmas
 pub mod TakenLemmas

@@ -1,8 +1,8 @@
--- Which acts change the actor's own mailbox, and what they make of it.
+-- Which acts change the actor's own mailbox, and how.
 use Rattle.std.proofs.Common.{◌≡◌, ◌+◌, ◌-◌, ◌≤◌, Bool, true, false, List, [], ◌∷◌, ◌++◌, map, refl, sym, ap, ◌∙◌, subst, arith, append-nil}
 use Rattle.std.specs.Prelude.{filter, not, ◌||◌, if◌then◌else◌, Option, Some, None}
 use Rattle.std.specs.List.{flat_map}
-use Rattle.mb_status.specs.Mailbox.{Mailbox, most_suspensions, suspend, resume, the_closed}
+use Rattle.mb_status.specs.Mailbox.{Mailbox, most_suspensions, suspend, resume, closed_mailbox}
 use Rattle.mb_msg.specs.declared.id.ActorId.{ActorId}
 use Rattle.mb_msg.specs.declared.supervision.Cause.{Cause}
 use Rattle.mb_msg.specs.declared.system.SysMsg.{SysMsg}
@@ -139,7 +139,7 @@ after-moves m (Tell to told ∷ list) = after-moves m list
 after-moves m (Sys to message ∷ list) = after-moves m list
 after-moves m (SuspendSelf ∷ list) = after-moves (suspend m) list
 after-moves m (ResumeSelf ∷ list) = after-moves (resume m) list
-after-moves m (CloseSelf ∷ list) = after-moves the_closed list
+after-moves m (CloseSelf ∷ list) = after-moves closed_mailbox list
 
 pub counts-moves : (m : Mailbox) (list : List Act) → CountsEach m (moves list) → CountsEach m list
 counts-moves m [] c = c
@@ -147,7 +147,7 @@ counts-moves m (Tell to told ∷ list) c = counts-moves m list c
 counts-moves m (Sys to message ∷ list) c = counts-moves m list c
 counts-moves m (SuspendSelf ∷ list) c = (c.0, counts-moves (suspend m) list c.1)
 counts-moves m (ResumeSelf ∷ list) c = counts-moves (resume m) list c
-counts-moves m (CloseSelf ∷ list) c = counts-moves the_closed list c
+counts-moves m (CloseSelf ∷ list) c = counts-moves closed_mailbox list c
 
 -- the act of a mark
 abbrev pub act_for : Mark → Act

@@ -1,4 +1,4 @@
--- The acts of an actor whose home names actors that there are alone go to such, and name such alone.
+-- The acts of an actor whose home names only actors that exist go to such actors, and name only such.
 use Rattle.std.proofs.Common.{◌≡◌, ℕ, ◌<◌, Bool, true, false, List, [], ◌∷◌, ◌++◌, length}
 use Rattle.std.proofs.Common.{refl, sym, ap, ◌∙◌, subst, arith, map}
 use Rattle.std.specs.Prelude.{filter, not, ◌==◌, ◌&&◌, ◌||◌, IsTrue, if◌then◌else◌, IfSome, Option, Some, None}
@@ -22,7 +22,7 @@ use Rattle.mb_actor.specs.declared.call.Call.{Call}
 use Rattle.mb_actor.specs.declared.effect.Effect.{Effect}
 use Rattle.mb_actor.specs.declared.effect.Effect.TheVariants as effect
 use Rattle.mb_actor.specs.declared.phase.Phase.TheVariants.{Fresh, Live, Broken, Ending}
-use Rattle.mb_actor.specs.Tray.{actor_of, is_actor, spawns_of}
+use Rattle.mb_actor.specs.OutboxView.{actor_of, is_actor, spawns_of}
 use Rattle.mb_journal.specs.ActorList.{without, joined}
 use Rattle.mb_journal.specs.Acts.{Act, acts, to_each, effect_acts, stop_acts, report, fail_acts, create_acts, resume_acts}
 use Rattle.mb_journal.specs.Acts.{restart_acts, restart_for, supervision_acts, end_acts, terminate_acts, died_acts, system_acts, fresh_acts}
@@ -42,13 +42,13 @@ use Rattle.mb_journal.specs.Life.{after_death, children, spawned, is_ending, is_
 use Rattle.mb_journal.specs.Phase.{phase_is}
 use Rattle.mb_journal.specs.Retries.{meant_by, carried_out}
 use Rattle.mb_journal.specs.Watching.{watchers, watching, watching_after}
-use Rattle.mb_rule.specs.Seen.{Each}
-use Rattle.mb_rule.proofs.SeenLemmas.{each_append}
-use Rattle.mb_gate.specs.Named.{NamesBelow, EachNamesBelow}
-use Rattle.mb_cell.specs.Seen.{Seen, IsOf, with_entry}
+use Rattle.mb_ghost.specs.Seen.{Each}
+use Rattle.mb_ghost.proofs.SeenLemmas.{each_append}
+use Rattle.mb_gate.specs.NamedActors.{NamesBelow, EachNamesBelow}
+use Rattle.mb_cell.specs.CellView.{CellView, IsOf, with_entry}
 use Rattle.mb_home.specs.Contents.{Contents}
-use Rattle.mb_home.specs.Named.{JournalNamesBelow, NamesActors, SendsBelow}
-use Rattle.mb_home.specs.Settled.{IsSettled}
+use Rattle.mb_home.specs.NamedActors.{JournalNamesBelow, NamesActors, SendsBelow}
+use Rattle.mb_home.specs.AgreesWithJournal.{AgreesWithJournal}
 use Rattle.mb_home.specs.Steps.{AppliesNext, Begins, IsDue}
 use Rattle.mb_home.proofs.CountLemmas.{front-of}
 
@@ -176,7 +176,7 @@ module _ (actors : ℕ) where
   spawns-below (effect.Spawn x ∷ effects) t =
       (first-below (effect.Spawn x) effects t, spawns-below effects (others-there (effect.Spawn x) effects t))
 
-  -- whom an actor watches after effects
+  -- the actors that an actor watches after effects
   watched-below : (this : ActorId) (list : List ActorId) (effects : List Effect) → AreBelow actors list → IsTrue (are_there actors effects) →
       AreBelow actors (watching_after this list effects)
   watched-below this list [] all t = all
@@ -275,7 +275,7 @@ module _ (who : Identity) (gives : Moment → Reply → Type 0) where
   there-lasting before (System number m (Applied a effects)) lawful =
       there-applied number m a effects (there-given before (call_of who before (System number m (Applied a effects))) a effects lawful.1)
 
-  -- whom the actor watches, and its children
+  -- the actors that the actor watches, and its children
   watching-below : (journal : List Entry) → AreLawful who gives journal → AreBelow who.actors (watching who journal)
   unfolding AreLawful watching
   watching-below [] lawful = tt
@@ -507,26 +507,26 @@ split-lawful : (who : Identity) (gives : Moment → Reply → Type 0) (before : 
 unfolding AreLawful
 split-lawful who gives before e lawful = lawful
 
-module _ (gives : Moment → Reply → Type 0) (h new : Contents) (n : NamesActors h) (s : IsSettled gives new.cell.acts new) where
+module _ (gives : Moment → Reply → Type 0) (h new : Contents) (n : NamesActors h) (s : AgreesWithJournal gives new.cell.acts new) where
   named-entry : (e : Entry) → new.cell ≡ with_entry h.cell e → JournalNamesBelow h.cell.who.actors (e ∷ h.cell.journal) →
       EachNamesBelow h.cell.who.actors new.rest → NamesActors new × SendsBelow new.cell.who.actors new.cell.acts
   named-entry e adds names rest =
-      let who : new.cell.who ≡ h.cell.who = ap (λ (c : Seen). c.who) adds in
-      let within : new.cell.who.this.0 < length new.roll = slice_get_within new.roll new.cell.who.this.0 _ s.own.enrolled in
+      let who : new.cell.who ≡ h.cell.who = ap (λ (c : CellView). c.who) adds in
+      let within : new.cell.who.this.0 < length new.directory = slice_get_within new.directory new.cell.who.this.0 _ s.own.enrolled in
       let there : new.cell.who.this.0 < new.cell.who.actors = omega (arith, within, s.own.all_there) in
       let this_there : h.cell.who.this.0 < h.cell.who.actors = subst (λ (w : Identity). w.this.0 < w.actors) who there in
       let all : AreLawful h.cell.who gives (e ∷ h.cell.journal) =
-      subst (λ (c : Seen). AreLawful c.who gives c.journal) adds s.lawful.entries in
+      subst (λ (c : CellView). AreLawful c.who gives c.journal) adds s.lawful.entries in
       let both = split-lawful h.cell.who gives h.cell.journal e all in
       let sends : SendsBelow h.cell.who.actors (acts h.cell.who h.cell.journal e) =
       sends-acts h.cell.who this_there n.parent gives h.cell.journal both.1 n.journal n.prepared e both.0 names in (
         record {
           parent = subst (λ (w : Identity). IfSome w.parent (λ p. p.0 < w.actors)) (sym who) n.parent;
           prepared = subst (λ (w : Identity). AreBelow w.actors w.prepared) (sym who) n.prepared;
-          journal = subst (λ (c : Seen). JournalNamesBelow c.who.actors c.journal) (sym adds) names;
+          journal = subst (λ (c : CellView). JournalNamesBelow c.who.actors c.journal) (sym adds) names;
           rest = subst (λ (w : Identity). EachNamesBelow w.actors new.rest) (sym who) rest;
         },
-        subst (λ (c : Seen). SendsBelow c.who.actors c.acts) (sym adds) sends,
+        subst (λ (c : CellView). SendsBelow c.who.actors c.acts) (sym adds) sends,
       )
 
   -- after a system message, and after an envelope

@@ -11,7 +11,7 @@ use Rattle.mb_journal.specs.Effects.{applies}
 use Rattle.mb_journal.specs.Entry.{Entry, answered_failed}
 use Rattle.mb_journal.specs.Entry.Entry.{Handled, System, Dropped}
 use Rattle.mb_journal.specs.Entry.Outcome.{Applied, SetAside}
-use Rattle.mb_journal.specs.Failure.{failed, is_nobody, is_escalate, culprit_of, is_resume_of_failure, fails_by_envelope}
+use Rattle.mb_journal.specs.Failure.{failed, is_nobody, is_escalate, failure_source, is_resume_of_failure, fails_by_envelope}
 use Rattle.mb_journal.specs.declared.failed_by.FailedBy.{FailedBy}
 use Rattle.mb_journal.specs.declared.failed_by.FailedBy.TheVariants.{Nobody, Itself}
 use Rattle.mb_journal.specs.Identity.{Identity}
@@ -104,6 +104,6 @@ module _ (who : Identity) (gives : Moment → Reply → Type 0) where
       let fails_not : fails who now e ≡ false =
       (λ i. (was.2 i && answered_failed e) || (is_nobody (failed who before) && none i)) ∙ and-false (is_nobody (failed who before)) in
       ap (λ (q : Queries). q.failed) (queries-fold who before e)
-      ∙ still-nobody (culprit_of e) (failed who before) (fails who now e) (restarts who now e)
+      ∙ still-nobody (failure_source e) (failed who before) (fails who now e) (restarts who now e)
       (applies is_resume_of_failure e && phase_is now.phase Live)
       (ends now e) (not (lasts now e)) fails_not was.1 (nobody-fresh before lawful.1 was.0)

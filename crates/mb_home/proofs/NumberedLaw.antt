@@ -1,4 +1,4 @@
--- What an actor told is numbered from 0 on: a journal has too few entries for the numbers to begin again.
+-- What an actor told is numbered from 0 on. A journal has too few entries for the numbers to begin again.
 use Rattle.std.proofs.Common.{◌≡◌, ℕ, ◌+◌, ◌*◌, ◌^◌, ◌<◌, ◌≤◌, Bool, true, false, List, [], ◌∷◌, length, refl, subst}
 use Rattle.std.proofs.Common.{arith, length-append}
 use Rattle.std.proofs.Math.Nat.{mod-eq_of_lt}
@@ -11,10 +11,10 @@ use Rattle.mb_journal.specs.Entry.{Entry}
 use Rattle.mb_journal.specs.Identity.{Identity, is_guardian}
 use Rattle.mb_journal.specs.Lawful.{AreLawful}
 use Rattle.mb_journal.specs.Watching.{watching}
-use Rattle.mb_fates.specs.Accepted.{IsNumbered}
-use Rattle.mb_fates.specs.Told.{Telling, tells, tellings, told, envelopes_from}
+use Rattle.mb_journal.specs.Accepted.{NumbersCountUpFrom}
+use Rattle.mb_journal.specs.Tells.{AddressedBody, tells, tells_of_journal, told, envelopes_from}
 use Rattle.mb_home.specs.Contents.{Contents}
-use Rattle.mb_home.specs.Settled.{IsSettled}
+use Rattle.mb_home.specs.AgreesWithJournal.{AgreesWithJournal}
 use Rattle.mb_home.proofs.GuardianLemmas.{watches-none}
 use Rattle.mb_home.proofs.TellLaw.{few-acts}
 
@@ -32,21 +32,21 @@ module _ (who : Identity) (gives : Moment → Reply → Type 0) (not_zero : is_g
       by_test false an_actor = not_zero an_actor
 
   -- an entry tells at most 17 times
-  few-tellings : (journal : List Entry) → AreLawful who gives journal → length (tellings who journal) ≤ 17 * length journal
+  few-tells_of_journal : (journal : List Entry) → AreLawful who gives journal → length (tells_of_journal who journal) ≤ 17 * length journal
   unfolding AreLawful
-  few-tellings [] lawful = omega arith
-  few-tellings (e ∷ before) lawful =
+  few-tells_of_journal [] lawful = omega arith
+  few-tells_of_journal (e ∷ before) lawful =
       let few = few-acts who gives before e lawful.0 (above-zero before lawful.1) there in
-      omega (arith, few.few, few-tellings before lawful.1, length-append (tellings who before) (tells (acts who before e)))
+      omega (arith, few.few, few-tells_of_journal before lawful.1, length-append (tells_of_journal who before) (tells (acts who before e)))
 
-numbered-from : (by n : ℕ) (ts : List Telling) → n + length ts ≤ 2 ^ 64 → IsNumbered by n (envelopes_from by n ts)
+numbered-from : (by n : ℕ) (ts : List AddressedBody) → n + length ts ≤ 2 ^ 64 → NumbersCountUpFrom by n (envelopes_from by n ts)
 numbered-from by n [] few = tt
 numbered-from by n (t ∷ ts) few = (refl, mod-eq_of_lt (omega (arith, few)), numbered-from by (n + 1) ts (omega (arith, few)))
 
--- a settled home's actor numbered what it told from 0 on
-pub told-numbered : (gives : Moment → Reply → Type 0) (pending : List Act) (h : Contents) → IsSettled gives pending h →
-    IsNumbered h.cell.who.this.0 0 (told h.cell.who h.cell.journal)
+-- the actor of a home that agrees with its journal numbered what it told from 0 on
+pub told-numbered : (gives : Moment → Reply → Type 0) (pending : List Act) (h : Contents) → AgreesWithJournal gives pending h →
+    NumbersCountUpFrom h.cell.who.this.0 0 (told h.cell.who h.cell.journal)
 told-numbered gives pending h s =
-    let there : h.cell.who.this.0 < h.cell.who.actors = omega (arith, slice_get_within h.roll h.cell.who.this.0 _ s.own.enrolled, s.own.all_there) in
-    let few = few-tellings h.cell.who gives s.own.not_zero there h.cell.journal s.lawful.entries in
-    numbered-from h.cell.who.this.0 0 (tellings h.cell.who h.cell.journal) (omega (arith, few, s.lawful.within_limit, s.own.few))
+    let there : h.cell.who.this.0 < h.cell.who.actors = omega (arith, slice_get_within h.directory h.cell.who.this.0 _ s.own.enrolled, s.own.all_there) in
+    let few = few-tells_of_journal h.cell.who gives s.own.not_zero there h.cell.journal s.lawful.entries in
+    numbered-from h.cell.who.this.0 0 (tells_of_journal h.cell.who h.cell.journal) (omega (arith, few, s.lawful.within_limit, s.own.few))

@@ -19,7 +19,7 @@ use Rattle.mb_journal.specs.Phase.{phase_is}
 use Rattle.mb_journal.specs.Suspension.{count}
 use Rattle.mb_home.specs.Contents.{Contents}
 use Rattle.mb_home.specs.Numbers.{applied_numbers, numbers_in, times}
-use Rattle.mb_home.specs.Settled.{IsSettled}
+use Rattle.mb_home.specs.AgreesWithJournal.{AgreesWithJournal}
 use Rattle.mb_home.proofs.CountLemmas.{aside-below, front-of}
 
 times-append : (n : ℕ) (a b : List (ℕ × SysMsg)) → times n (numbers_in (a ++ b)) ≡ times n (numbers_in a) + times n (numbers_in b)
@@ -115,8 +115,8 @@ module _ (who : Identity) (gives : Moment → Reply → Type 0) where
       by_number (inr front) now =
           absurd (let never : false ≡ true = lawful.0.by_rule ∙ ap not (front-applied who before (number, m) m front) in cc never)
 
--- of a settled home each number below the next was applied, or was set aside, once
-pub stands-once : (gives : Moment → Reply → Type 0) (pending : List Act) (h : Contents) → IsSettled gives pending h → (n : ℕ) →
+-- of a home that agrees with its journal each number below the next was applied, or was set aside, once
+pub stands-once : (gives : Moment → Reply → Type 0) (pending : List Act) (h : Contents) → AgreesWithJournal gives pending h → (n : ℕ) →
     n < next_number h.cell.journal → times n (applied_numbers h.cell.journal) + times n (numbers_in (ever_aside h.cell.journal)) ≡ 1
 stands-once gives pending h s n less =
     let once = once-each h.cell.who gives h.cell.journal s.lawful.entries n in grind (arith, nat_tests, once, less)

@@ -9,7 +9,7 @@ use Rattle.mb_journal.specs.Identity.{Identity}
 use Rattle.mb_journal.specs.Run.{IsTurns}
 use Rattle.mb_journal.specs.Run.IsBlock.{one_more}
 use Rattle.mb_journal.specs.Run.IsTurns.{a_block, a_turn}
-use Rattle.mb_cell.specs.Seen.{Seen}
+use Rattle.mb_cell.specs.CellView.{CellView}
 use Rattle.mb_cell.proofs.RunLaws.{turn-more}
 use Rattle.mb_home.specs.Contents.{Contents}
 use Rattle.mb_home.specs.Steps.{AppliesNext, Begins, IsDue}
@@ -32,7 +32,7 @@ turns-more who from to n number m outcome (a_turn before middle there e turns no
 pub applied-turns : (from : List Entry) (n : ℕ) (old new : Contents) → AppliesNext old new → IsTurns old.cell.who from n old.cell.journal →
     IsTurns old.cell.who from n new.cell.journal
 applied-turns from n old new a turns =
-    subst (λ (s : Seen). IsTurns old.cell.who from n s.journal) (sym a.taken.adds)
+    subst (λ (s : CellView). IsTurns old.cell.who from n s.journal) (sym a.taken.adds)
     (turns-more old.cell.who from old.cell.journal n a.number a.message a.taken.outcome turns
     (due-front (next_front old.cell.who old.cell.journal) old.rest new.rest a.number a.message a.due))
 

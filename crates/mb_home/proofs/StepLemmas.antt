@@ -1,4 +1,4 @@
--- What each step makes of a settled home.
+-- A home that agrees with its journal still does after each step.
 use Rattle.std.proofs.Common.{◌≡◌, inl, inr, ℕ, ◌+◌, ◌%◌, ◌^◌, ◌<◌, ◌≤◌, Bool, true, false, List, [], ◌∷◌, ◌++◌, length, refl, sym, ap, ◌∙◌}
 use Rattle.std.proofs.Common.{subst, arith, append-nil}
 use Rattle.std.specs.Prelude.{All, Contains, if◌then◌else◌, ◌==◌, not, ◌&&◌, slice_get, Option, Some, None, IsTrue}
@@ -23,20 +23,20 @@ use Rattle.mb_journal.specs.Identity.{Identity, is_guardian}
 use Rattle.mb_journal.specs.Lawful.{IsLawful, IsNumbered}
 use Rattle.mb_journal.specs.Life.{closed, phase, phase_after}
 use Rattle.mb_journal.specs.Phase.{phase_is}
-use Rattle.mb_cell.specs.Seen.{Seen, IsOf, MayTake, TakesSystem, TakesEnvelope}
-use Rattle.mb_queue.specs.Passes.{Sending, Taking}
-use Rattle.mb_fates.specs.Fates.{begun}
-use Rattle.mb_fates.specs.Told.{Telling, told}
+use Rattle.mb_cell.specs.CellView.{CellView, IsOf, MayTake, TakesSystem, TakesEnvelope}
+use Rattle.mb_queue.specs.Passes.{SendPassView, TakePassView}
+use Rattle.mb_journal.specs.Fates.{begun}
+use Rattle.mb_journal.specs.Tells.{AddressedBody, told}
 use Rattle.mb_home.specs.Contents.{Contents}
-use Rattle.mb_home.specs.Roll.{Enrolled}
-use Rattle.mb_home.specs.Settled.{IsOwn, IsReason, IsSettled, messages_of, aside_at_end}
+use Rattle.mb_home.specs.Directory.{DirectoryEntry}
+use Rattle.mb_home.specs.AgreesWithJournal.{IsOwn, IsReason, AgreesWithJournal, messages_of, aside_at_end}
 use Rattle.mb_home.specs.Steps.{most_tells, at_first, AppliesNext, IsDue}
 use Rattle.mb_home.proofs.CountLemmas.{aside-below, few-numbers, front-of, next-new, next-again, rest-first}
-use Rattle.mb_home.proofs.SettleLemmas.{SameQueue, settled-more}
+use Rattle.mb_home.proofs.AgreesLemmas.{SameQueue, settled-more}
 
 -- ---- the next number
 
-module _ (h : Contents) (gives : Moment → Reply → Type 0) (s : IsSettled gives [] h) (not_ended : closed h.cell.who h.cell.journal ≡ false) where
+module _ (h : Contents) (gives : Moment → Reply → Type 0) (s : AgreesWithJournal gives [] h) (not_ended : closed h.cell.who h.cell.journal ≡ false) where
   none_dropped : h.dropped ≡ 0
   none_dropped = s.counted.none not_ended
 
@@ -84,19 +84,19 @@ module _ (h : Contents) (gives : Moment → Reply → Type 0) (s : IsSettled giv
           ∙ ap (λ l. numbered ((next_number (System number m outcome ∷ h.cell.journal) + h.dropped) % 2 ^ 64) (messages_of l)) (sym is.1)
 
   -- then the message that was due
-  pub settled-next : (new : Seen) (number : ℕ) (m : SysMsg) (left : List (ℕ × SysMsg)) (aside_dead : ℕ) → most_tells ≤ h.room →
+  pub settled-next : (new : CellView) (number : ℕ) (m : SysMsg) (left : List (ℕ × SysMsg)) (aside_dead : ℕ) → most_tells ≤ h.room →
       TakesSystem h.cell new number m → IsDue (next_front h.cell.who h.cell.journal) h.rest number m left → IsLawful new.who gives new.journal →
       aside_dead ≡ (if closed new.who new.journal then length (aside h.cell.who h.cell.journal) else 0) →
-      IsSettled gives new.acts (record h { cell = new; rest = left; aside_dead = aside_dead })
+      AgreesWithJournal gives new.acts (record h { cell = new; rest = left; aside_dead = aside_dead })
   settled-next new number m left aside_dead room took due lawful counted =
       let e : Entry = System number m took.outcome in
-      let lawful' : IsLawful h.cell.who gives (e ∷ h.cell.journal) = subst (λ (c : Seen). IsLawful c.who gives c.journal) took.adds lawful in
-      subst (λ (c : Seen). IsSettled gives c.acts (record h { cell = c; rest = left; aside_dead = aside_dead })) (sym took.adds)
+      let lawful' : IsLawful h.cell.who gives (e ∷ h.cell.journal) = subst (λ (c : CellView). IsLawful c.who gives c.journal) took.adds lawful in
+      subst (λ (c : CellView). AgreesWithJournal gives c.acts (record h { cell = c; rest = left; aside_dead = aside_dead })) (sym took.adds)
       (settled-more h gives e h.take left aside_dead s not_ended lawful' room (refl, refl)
       (s.taken ∙ ap (λ l. begun h.cell.journal ++ l) (s.open_keeps not_ended) ∙ append-nil (begun h.cell.journal))
       (record {
         rest = goes_on number m took.outcome left due;
-        aside = counted ∙ ap (λ (c : Seen). if closed c.who c.journal then length (aside h.cell.who h.cell.journal) else 0) took.adds;
+        aside = counted ∙ ap (λ (c : CellView). if closed c.who c.journal then length (aside h.cell.who h.cell.journal) else 0) took.adds;
         none = λ _. none_dropped;
       }))
 
@@ -139,15 +139,15 @@ open-aside who [] not_ended = refl
 open-aside who (e ∷ before) not_ended = ap (λ b. if b then length (aside who before) else 0) not_ended
 
 -- then an envelope that was begun
-pub settled-begun : (h : Contents) (gives : Moment → Reply → Type 0) (new : Seen) (take : Taking) (envelope : Envelope) (reading : ℕ) →
-    IsSettled gives [] h →
+pub settled-begun : (h : Contents) (gives : Moment → Reply → Type 0) (new : CellView) (take : TakePassView) (envelope : Envelope) (reading : ℕ) →
+    AgreesWithJournal gives [] h →
     closed h.cell.who h.cell.journal ≡ false → most_tells ≤ h.room → TakesEnvelope h.cell new envelope reading → IsLawful new.who gives new.journal →
-    SameQueue take h.take → take.taken ≡ h.take.taken ++ envelope ∷ [] → IsSettled gives new.acts (record h { cell = new; take = take })
+    SameQueue take h.take → take.taken ≡ h.take.taken ++ envelope ∷ [] → AgreesWithJournal gives new.acts (record h { cell = new; take = take })
 settled-begun h gives new take envelope reading s not_ended room took lawful same taken =
     let e : Entry = took.entry in
-    let lawful' : IsLawful h.cell.who gives (e ∷ h.cell.journal) = subst (λ (c : Seen). IsLawful c.who gives c.journal) took.adds lawful in
+    let lawful' : IsLawful h.cell.who gives (e ∷ h.cell.journal) = subst (λ (c : CellView). IsLawful c.who gives c.journal) took.adds lawful in
     let still : closed h.cell.who (e ∷ h.cell.journal) ≡ false = closed-same h.cell.who e h.cell.journal envelope reading took.of_it ∙ not_ended in
-    subst (λ (c : Seen). IsSettled gives c.acts (record h { cell = c; take = take })) (sym took.adds)
+    subst (λ (c : CellView). AgreesWithJournal gives c.acts (record h { cell = c; take = take })) (sym took.adds)
     (settled-more h gives e take h.rest h.aside_dead s not_ended lawful' room same
     (taken
     ∙ ap (λ l. l ++ envelope ∷ [])
@@ -162,18 +162,18 @@ settled-begun h gives new take envelope reading s not_ended room took lawful sam
 
 -- ---- the beginning
 
-all-unused : (sends : List Sending) (place : ℕ) (p : Sending) → All (λ (q : Sending). q.pushed ≡ []) sends → slice_get sends place ≡ Some p →
+all-unused : (sends : List SendPassView) (place : ℕ) (p : SendPassView) → All (λ (q : SendPassView). q.pushed ≡ []) sends → slice_get sends place ≡ Some p →
     p.pushed ≡ []
 all-unused sends place p all there =
     let it = all place p (slice_get_within sends place p there) in
-    ap (λ (q : Sending). q.pushed) (sym (get_or_from_slice_get sends place p p there)) ∙ it
+    ap (λ (q : SendPassView). q.pushed) (sym (get_or_from_slice_get sends place p p there)) ∙ it
 
 -- an unused home
-pub settled-first : (gives : Moment → Reply → Type 0) (cell : Seen) (take : Taking) (sends : List Sending) (room : ℕ) (roll : List Enrolled) →
-    cell.journal ≡ [] → take.taken ≡ [] → All (λ (p : Sending). p.pushed ≡ []) sends → IsOwn (at_first cell take sends 0 roll) →
+pub settled-first : (gives : Moment → Reply → Type 0) (cell : CellView) (take : TakePassView) (sends : List SendPassView) (room : ℕ) (directory : List DirectoryEntry) →
+    cell.journal ≡ [] → take.taken ≡ [] → All (λ (p : SendPassView). p.pushed ≡ []) sends → IsOwn (at_first cell take sends 0 directory) →
     IsLawful cell.who gives cell.journal →
-    IsSettled gives [] (at_first cell take sends room roll)
-settled-first gives cell take sends room roll untouched none_taken none_pushed own lawful = record {
+    AgreesWithJournal gives [] (at_first cell take sends room directory)
+settled-first gives cell take sends room directory untouched none_taken none_pushed own lawful = record {
   own = record {
     enrolled = own.enrolled;
     all_there = own.all_there;
@@ -188,7 +188,7 @@ settled-first gives cell take sends room roll untouched none_taken none_pushed o
   lawful = lawful;
   taken = none_taken ∙ ap (λ j. begun j ++ []) (sym untouched);
   open_keeps = λ _. refl;
-  fit = record { there = All-nil (λ (t : Telling). (0 < t.0.0) × (t.0.0 ≤ length sends)); room = omega arith };
+  fit = record { there = All-nil (λ (t : AddressedBody). (0 < t.0.0) × (t.0.0 ≤ length sends)); room = omega arith };
   posted = record {
     postings = [];
     told = ap (λ j. told cell.who j) (sym untouched);
@@ -197,11 +197,11 @@ settled-first gives cell take sends room roll untouched none_taken none_pushed o
     dead = refl;
   };
   counted = record { rest = refl; aside = ap (λ j. aside_at_end cell.who j) (sym untouched); none = λ _. refl };
-  reasons = All-nil (λ (d : DeadLetter). IsReason roll d.why d.envelope.to.0);
+  reasons = All-nil (λ (d : DeadLetter). IsReason directory d.why d.envelope.to.0);
 }
 
 -- nothing is to be applied to an actor to which nothing came
-pub rested-first : (cell : Seen) → cell.journal ≡ [] → next_front cell.who cell.journal ≡ None
+pub rested-first : (cell : CellView) → cell.journal ≡ [] → next_front cell.who cell.journal ≡ None
 unfolding next_front aside ever_aside
 rested-first cell untouched = ap (λ j. next_front cell.who j) untouched ∙ by_tests (count cell.who [] == 0 && not (phase_is
     (phase cell.who []) Ending)) (closed cell.who [])
@@ -212,7 +212,7 @@ rested-first cell untouched = ap (λ j. next_front cell.who j) untouched ∙ by_
     by_tests true false = refl
 
 -- an open reading is of a Live actor
-pub open-phase : (h : Contents) (gives : Moment → Reply → Type 0) (reading : ℕ) → IsSettled gives [] h → IsOpen h.cell.who h.cell.journal reading →
+pub open-phase : (h : Contents) (gives : Moment → Reply → Type 0) (reading : ℕ) → AgreesWithJournal gives [] h → IsOpen h.cell.who h.cell.journal reading →
     (closed h.cell.who h.cell.journal ≡ false) × (phase h.cell.who h.cell.journal ≡ Live)
 open-phase h gives reading s is_open =
     let tests : (closed h.cell.who h.cell.journal ≡ false) × (count h.cell.who h.cell.journal ≡ 0) = (
@@ -223,7 +223,7 @@ open-phase h gives reading s is_open =
     (tests.0, open-live h.cell.who gives h.cell.journal s.lawful.entries tests.1 tests.0)
 
 -- the guardian is given no envelope: nobody pushes for it
-pub an-actor : (h : Contents) (gives : Moment → Reply → Type 0) (by : ℕ) → IsSettled gives [] h → Contains h.take.queue.senders by →
+pub an-actor : (h : Contents) (gives : Moment → Reply → Type 0) (by : ℕ) → AgreesWithJournal gives [] h → Contains h.take.queue.senders by →
     is_guardian h.cell.who ≡ false
 an-actor h gives by s known = by_test (is_guardian h.cell.who) refl
   where
@@ -235,7 +235,7 @@ an-actor h gives by s known = by_test (is_guardian h.cell.who) refl
 -- ---- a system message that is due
 
 -- the cell may be given it
-pub may-take : (h : Contents) (gives : Moment → Reply → Type 0) → IsSettled gives [] h → closed h.cell.who h.cell.journal ≡ false →
+pub may-take : (h : Contents) (gives : Moment → Reply → Type 0) → AgreesWithJournal gives [] h → closed h.cell.who h.cell.journal ≡ false →
     (mid : Contents) (number : ℕ) (m : SysMsg) → IsTrue h.cell.is_ready → h.cell.acts ≡ [] →
     IsDue (next_front h.cell.who h.cell.journal) h.rest number m mid.rest → mid ≡ record h { rest = mid.rest } → MayTake mid.cell number m
 may-take h gives s not_ended mid number m ready none due same =
@@ -262,20 +262,20 @@ applies-next h mid new number m due same took later = record {
   number = number;
   message = m;
   due = subst (λ l. IsDue (next_front h.cell.who h.cell.journal) h.rest number m l) (rest-kept h mid new same later) due;
-  taken = subst (λ (x : Seen). TakesSystem x new.cell number m) (cell-kept h mid same) took;
+  taken = subst (λ (x : CellView). TakesSystem x new.cell number m) (cell-kept h mid same) took;
   same = whole h mid new same later ∙ ap (λ l. record h { cell = new.cell; rest = l; aside_dead = new.aside_dead }) (rest-kept h mid new same later);
 }
 
--- and the books are settled but for its acts
+-- and the home agrees with its journal but for its acts
 pub settled-applied : (h mid new : Contents) (gives : ℕ → Moment → Reply → Type 0) (number : ℕ) (m : SysMsg) →
-    IsSettled (gives h.cell.who.this.0) [] h → closed h.cell.who h.cell.journal ≡ false → most_tells ≤ h.room →
+    AgreesWithJournal (gives h.cell.who.this.0) [] h → closed h.cell.who h.cell.journal ≡ false → most_tells ≤ h.room →
     IsDue (next_front h.cell.who h.cell.journal) h.rest number m mid.rest → mid ≡ record h { rest = mid.rest } →
     TakesSystem mid.cell new.cell number m → IsLawful new.cell.who (gives new.cell.who.this.0) new.cell.journal →
     new.aside_dead ≡ (if closed new.cell.who new.cell.journal then length (aside mid.cell.who mid.cell.journal) else mid.aside_dead) →
-    new ≡ record mid { cell = new.cell; aside_dead = new.aside_dead } → IsSettled (gives new.cell.who.this.0) new.cell.acts new
+    new ≡ record mid { cell = new.cell; aside_dead = new.aside_dead } → AgreesWithJournal (gives new.cell.who.this.0) new.cell.acts new
 settled-applied h mid new gives number m s not_ended room due same took lawful counted later =
-    let took' : TakesSystem h.cell new.cell number m = subst (λ (x : Seen). TakesSystem x new.cell number m) (cell-kept h mid same) took in
-    let who : new.cell.who ≡ h.cell.who = ap (λ (x : Seen). x.who) took'.adds in
+    let took' : TakesSystem h.cell new.cell number m = subst (λ (x : CellView). TakesSystem x new.cell number m) (cell-kept h mid same) took in
+    let who : new.cell.who ≡ h.cell.who = ap (λ (x : CellView). x.who) took'.adds in
     let lawful' : IsLawful new.cell.who (gives h.cell.who.this.0) new.cell.journal =
     subst (λ (w : Identity). IsLawful new.cell.who (gives w.this.0) new.cell.journal) who lawful in
     let counted' : new.aside_dead ≡ (if closed new.cell.who new.cell.journal then length (aside h.cell.who h.cell.journal) else 0) =
@@ -285,5 +285,5 @@ settled-applied h mid new gives number m s not_ended room due same took lawful c
     (s.counted.aside ∙ open-aside h.cell.who h.cell.journal not_ended) in
     let done =
     settled-next h (gives h.cell.who.this.0) s not_ended new.cell number m mid.rest new.aside_dead room took' due lawful' counted' in
-    subst (λ (w : Identity). IsSettled (gives w.this.0) new.cell.acts new) (sym who)
-    (subst (λ (x : Contents). IsSettled (gives h.cell.who.this.0) new.cell.acts x) (sym (whole h mid new same later)) done)
+    subst (λ (w : Identity). AgreesWithJournal (gives w.this.0) new.cell.acts new) (sym who)
+    (subst (λ (x : Contents). AgreesWithJournal (gives h.cell.who.this.0) new.cell.acts x) (sym (whole h mid new same later)) done)

@@ -1,4 +1,4 @@
--- What the acts of a lawful entry tell is to actors, and at most 17: one for each effect, and one that a watched actor has ended.
+-- What the acts of a lawful entry tell goes to actors, at most 17 envelopes: one for each effect, and one notice that a watched actor has ended.
 use Rattle.std.proofs.Common.{◌≡◌, ◌+◌, ◌<◌, ◌≤◌, Bool, true, false, List, [], ◌∷◌, ◌++◌, length, refl, sym, subst, arith}
 use Rattle.std.specs.Prelude.{not, ◌&&◌, IsTrue, if◌then◌else◌, Option, Some, None}
 use Rattle.std.specs.List.{list_all}
@@ -17,7 +17,7 @@ use Rattle.mb_actor.specs.declared.answer.Answer.{Answer}
 use Rattle.mb_actor.specs.declared.call.Call.{Call}
 use Rattle.mb_actor.specs.declared.effect.Effect.{Effect}
 use Rattle.mb_actor.specs.declared.phase.Phase.TheVariants.{Fresh, Live, Broken, Ending}
-use Rattle.mb_actor.specs.Tray.{Tray, actor_of, is_actor, spawns_of}
+use Rattle.mb_actor.specs.OutboxView.{OutboxView, actor_of, is_actor, spawns_of}
 use Rattle.mb_journal.specs.Acts.{Act, acts, to_each, effect_acts, fail_acts, create_acts, resume_acts, restart_acts}
 use Rattle.mb_journal.specs.Acts.{supervision_acts, end_acts}
 use Rattle.mb_journal.specs.Acts.{terminate_acts, died_acts, system_acts, fresh_acts, failure_acts, envelope_acts}
@@ -33,11 +33,11 @@ use Rattle.mb_journal.specs.Life.{children, phase, is_empty, is_alone}
 use Rattle.mb_journal.specs.Phase.{phase_is}
 use Rattle.mb_journal.specs.Retries.{meant_by, carried_out}
 use Rattle.mb_journal.specs.Watching.{watchers, watching}
-use Rattle.mb_fates.specs.Told.{tells}
+use Rattle.mb_journal.specs.Tells.{tells}
 use Rattle.mb_home.proofs.TellLemmas.{AreFew, few-none, few-silent, few-append, few-more, few-tell, few-effects, few-end}
 use Rattle.mb_home.proofs.TellLemmas.{tells-to_each, tells-to_some, tells-fail, tells-restarts}
 
-abbrev tray_of : Identity → Tray
+abbrev tray_of : Identity → OutboxView
 tray_of who = record { effects = []; actors = who.actors; unspawned = [] }
 
 -- effects that are about actors, and at most 16

@@ -1,4 +1,4 @@
--- What acts tell: to whom, and how many.
+-- What acts tell: which receivers, and how many envelopes.
 use Rattle.std.proofs.Common.{◌≡◌, ℕ, ◌+◌, ◌<◌, ◌≤◌, Bool, true, false, List, [], ◌∷◌, ◌++◌, length, refl, ap, ◌∙◌, arith, length-append}
 use Rattle.std.specs.Prelude.{All, filter, map, not, ◌&&◌, ◌||◌, IsTrue, if◌then◌else◌, Option, Some, None}
 use Rattle.std.specs.List.{flat_map, list_all}
@@ -12,14 +12,14 @@ use Rattle.mb_msg.specs.declared.system.SysMsg.TheVariants as system
 use Rattle.mb_actor.specs.ActorList.{is_same, has}
 use Rattle.mb_actor.specs.declared.effect.Effect.{Effect}
 use Rattle.mb_actor.specs.declared.effect.Effect.TheVariants as effect
-use Rattle.mb_actor.specs.Tray.{Tray, actor_of, is_actor}
+use Rattle.mb_actor.specs.OutboxView.{OutboxView, actor_of, is_actor}
 use Rattle.mb_journal.specs.ActorList.{without}
 use Rattle.mb_journal.specs.Acts.{Act, to_each, effect_acts, stop_acts, report, fail_acts, restart_for, end_acts}
 use Rattle.mb_journal.specs.Acts.Act.{Tell, Sys, SuspendSelf, ResumeSelf, CloseSelf}
 use Rattle.mb_journal.specs.Failure.{is_nobody}
 use Rattle.mb_journal.specs.declared.failed_by.FailedBy.{FailedBy}
 use Rattle.mb_journal.specs.Identity.{Identity}
-use Rattle.mb_fates.specs.Told.{Telling, tells}
+use Rattle.mb_journal.specs.Tells.{AddressedBody, tells}
 
 pub tells-append : (a b : List Act) → tells (a ++ b) ≡ tells a ++ tells b
 tells-append [] b = refl
@@ -30,7 +30,7 @@ tells-append (ResumeSelf ∷ a) b = tells-append a b
 tells-append (CloseSelf ∷ a) b = tells-append a b
 
 -- to an actor other than the guardian
-abbrev pub IsThere : ℕ → Telling → Type 0
+abbrev pub IsThere : ℕ → AddressedBody → Type 0
 IsThere actors t = (0 < t.0.0) × (t.0.0 < actors)
 
 -- what these acts tell is to actors, and so many at most
@@ -79,13 +79,13 @@ both-true true true t = (refl, refl)
 both-true true false t = absurd (cc t)
 both-true false b t = absurd (cc t)
 
-actor-there : (tray : Tray) (x : ActorId) → IsTrue (is_actor tray x) → (0 < x.0) × (x.0 < tray.actors)
+actor-there : (tray : OutboxView) (x : ActorId) → IsTrue (is_actor tray x) → (0 < x.0) × (x.0 < tray.actors)
 actor-there tray x t = (grind (arith, t), grind (arith, t))
 
-abbrev are_there : Tray → List Effect → Bool
+abbrev are_there : OutboxView → List Effect → Bool
 are_there tray effects = list_all (λ e. is_actor tray (actor_of e)) effects
 
-module _ (tray : Tray) where
+module _ (tray : OutboxView) where
   by_effect : (this : ActorId) (watched : List ActorId) (effects : List Effect) → IsTrue (are_there tray effects) →
       AreFew tray.actors (length effects) (effect_acts this watched effects)
   unfolding effect_acts
@@ -156,11 +156,11 @@ module _ (tray : Tray) where
       (by_stop effects (both-true (is_actor tray x) (are_there tray effects) t).1)
 
 -- the acts of effects, and those of an actor's `stop`
-pub few-effects : (tray : Tray) (this : ActorId) (watched : List ActorId) (effects : List Effect) → IsTrue (are_there tray effects) →
+pub few-effects : (tray : OutboxView) (this : ActorId) (watched : List ActorId) (effects : List Effect) → IsTrue (are_there tray effects) →
     AreFew tray.actors (length effects) (effect_acts this watched effects)
 few-effects tray this watched effects t = by_effect tray this watched effects t
 
-pub few-stop : (tray : Tray) (effects : List Effect) → IsTrue (are_there tray effects) → AreFew tray.actors (length effects) (stop_acts effects)
+pub few-stop : (tray : OutboxView) (effects : List Effect) → IsTrue (are_there tray effects) → AreFew tray.actors (length effects) (stop_acts effects)
 few-stop tray effects t = by_stop tray effects t
 
 tells-report : (who : Identity) (c : Cause) → tells (report who c ∷ []) ≡ []
@@ -201,7 +201,7 @@ tells-restarts x c (y ∷ list) =
     ∙ tells-restarts x c list
 
 -- the end of an actor tells what its `stop` asked for
-pub few-end : (tray : Tray) (who : Identity) (watched_by : List ActorId) (effects : List Effect) → IsTrue (are_there tray effects) →
+pub few-end : (tray : OutboxView) (who : Identity) (watched_by : List ActorId) (effects : List Effect) → IsTrue (are_there tray effects) →
     AreFew tray.actors (length effects) (end_acts who watched_by effects)
 few-end tray who watched_by effects t = by_parent who.parent
   where

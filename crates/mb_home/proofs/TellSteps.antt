@@ -1,4 +1,4 @@
--- What a tell and an envelope make of a settled home, in the forms of the calls.
+-- A home that agrees with its journal still does after a tell and after an envelope, in the forms of the calls.
 use Rattle.std.proofs.Common.{◌≡◌, ℕ, zero, suc, ◌+◌, ◌-◌, ◌%◌, ◌^◌, ◌<◌, ◌≤◌, List, [], ◌∷◌, ◌++◌, length, refl, sym, ap, ◌∙◌, subst, arith}
 use Rattle.std.specs.Prelude.{Contains, IsTrue, slice_get, slice_set, Some, Result, Ok, Err, MatchResult, IfErr}
 use Rattle.std.proofs.lemmas.List.Elements.{All-head}
@@ -13,35 +13,35 @@ use Rattle.mb_journal.specs.Acts.Act.{Tell}
 use Rattle.mb_journal.specs.Identity.{Identity}
 use Rattle.mb_journal.specs.Lawful.{IsLawful}
 use Rattle.mb_journal.specs.Reading.{IsOpen}
-use Rattle.mb_lane.specs.declared.refused.PushError.{PushError}
-use Rattle.mb_lane.specs.declared.refused.PushError.TheVariants.{Full, NoMemory}
-use Rattle.mb_lane.specs.Rule.{given_back}
+use Rattle.mb_queue.specs.declared.refused.PushError.{PushError}
+use Rattle.mb_queue.specs.declared.refused.PushError.TheVariants.{Full, NoMemory}
+use Rattle.mb_queue.specs.Rule.{given_back}
 use Rattle.mb_cell.specs.MayHandle.{MayHandle}
-use Rattle.mb_cell.specs.Seen.{Seen, TakesEnvelope}
-use Rattle.mb_queue.specs.Passes.{Sending, Taking}
+use Rattle.mb_cell.specs.CellView.{CellView, TakesEnvelope}
+use Rattle.mb_queue.specs.Passes.{SendPassView, TakePassView}
 use Rattle.mb_queue.specs.Pushes.{IsRefusal}
-use Rattle.mb_fates.specs.Told.{Telling, tells}
+use Rattle.mb_journal.specs.Tells.{AddressedBody, tells}
 use Rattle.mb_home.specs.Contents.{Contents}
-use Rattle.mb_home.specs.Settled.{IsReason, IsSettled}
-use Rattle.mb_home.specs.Steps.{most_tells, next_envelope, reason_of, with_pushed, Fits, Delivers, IsRefusedBy, Pushes, PushesInto, Refuses}
-use Rattle.mb_home.proofs.SettleLemmas.{SameQueue, settled-dead, settled-pushed, bounded-to}
+use Rattle.mb_home.specs.AgreesWithJournal.{IsReason, AgreesWithJournal}
+use Rattle.mb_home.specs.Steps.{most_tells, next_envelope, reason_of, with_pushed, Fits, Delivers, IsRefusedBy, Pushes, PushesInto, RefusesPush}
+use Rattle.mb_home.proofs.AgreesLemmas.{SameQueue, settled-dead, settled-pushed, bounded-to}
 use Rattle.mb_home.proofs.StepLemmas.{an-actor, open-phase, settled-begun}
 
-module _ (h : Contents) (gives : Moment → Reply → Type 0) (to : ActorId) (told : Body) (left : List Act) (s : IsSettled gives
+module _ (h : Contents) (gives : Moment → Reply → Type 0) (to : ActorId) (told : Body) (left : List Act) (s : AgreesWithJournal gives
     (Tell to told ∷ left) h) where
   -- the receiver has a queue
   pub told-there : (0 < to.0) × (to.0 ≤ length h.sends)
-  told-there = All-head (λ (t : Telling). (0 < t.0.0) × (t.0.0 ≤ length h.sends)) (to, told) (tells left) s.fit.there
+  told-there = All-head (λ (t : AddressedBody). (0 < t.0.0) × (t.0.0 ≤ length h.sends)) (to, told) (tells left) s.fit.there
 
   pub has-room : 0 < h.room
   has-room = omega (arith, s.fit.room)
 
-  by-it : (place : ℕ) (p : Sending) → slice_get h.sends place ≡ Some p → p.by ≡ h.cell.who.this.0
+  by-it : (place : ℕ) (p : SendPassView) → slice_get h.sends place ≡ Some p → p.by ≡ h.cell.who.this.0
   by-it place p there =
-      ap (λ (q : Sending). q.by) (sym (get_or_from_slice_get h.sends place p p there)) ∙ s.own.by place p (slice_get_within h.sends place p there)
+      ap (λ (q : SendPassView). q.by) (sym (get_or_from_slice_get h.sends place p p there)) ∙ s.own.by place p (slice_get_within h.sends place p there)
 
   -- the pass of its place may push the next envelope
-  pub fits-next : (p : Sending) → slice_get h.sends (to.0 - 1) ≡ Some p → Fits (next_envelope h to told) p
+  pub fits-next : (p : SendPassView) → slice_get h.sends (to.0 - 1) ≡ Some p → Fits (next_envelope h to told) p
   fits-next p there = (
     sym (by-it (to.0 - 1) p there),
     let place : p.queue.to ≡ to.0 - 1 + 1 = s.own.receivers (to.0 - 1) p there in omega (arith, place, told-there.0),
@@ -54,23 +54,23 @@ module _ (h : Contents) (gives : Moment → Reply → Type 0) (to : ActorId) (to
   pub pushes-next : (new : Contents) → Delivers h new (to.0 - 1) (next_envelope h to told) → Pushes h new to told
   pushes-next new d = record { place = to.0 - 1; place_is = place-is; pass = d.pass; was = d.was; same = d.same }
 
-  pub settled-delivered : (new : Contents) → Delivers h new (to.0 - 1) (next_envelope h to told) → IsSettled gives left new
+  pub settled-delivered : (new : Contents) → Delivers h new (to.0 - 1) (next_envelope h to told) → AgreesWithJournal gives left new
   settled-delivered new d =
-      subst (λ (x : Contents). IsSettled gives left x) (sym d.same) (settled-pushed h gives to told left (to.0 - 1) d.pass s place-is d.was)
+      subst (λ (x : Contents). AgreesWithJournal gives left x) (sym d.same) (settled-pushed h gives to told left (to.0 - 1) d.pass s place-is d.was)
 
-  reason-by : (p : Sending) (refused : PushError) → slice_get h.sends (to.0 - 1) ≡ Some p → IsRefusal p refused →
-      IsReason h.roll (reason_of refused) to.0
+  reason-by : (p : SendPassView) (refused : PushError) → slice_get h.sends (to.0 - 1) ≡ Some p → IsRefusal p refused →
+      IsReason h.directory (reason_of refused) to.0
   reason-by p (Full e) was refusal = bounded-to h to.0 (to.0 - 1) refusal.0 p s.own place-is was refusal.1
   reason-by p (NoMemory e) was refusal = tt
 
   -- why it was refused is a reason that holds
-  pub reason-next : (refused : PushError) → Refuses h (to.0 - 1) refused → IsReason h.roll (reason_of refused) to.0
+  pub reason-next : (refused : PushError) → RefusesPush h (to.0 - 1) refused → IsReason h.directory (reason_of refused) to.0
   reason-next refused r = reason-by r.pass refused r.was r.refusal
 
 -- ---- an envelope at an open reading
 
 -- the cell may be given it
-pub may-handle : (h : Contents) (gives : Moment → Reply → Type 0) (e : Envelope) (reading : ℕ) → IsSettled gives [] h →
+pub may-handle : (h : Contents) (gives : Moment → Reply → Type 0) (e : Envelope) (reading : ℕ) → AgreesWithJournal gives [] h →
     IsOpen h.cell.who h.cell.journal reading → IsTrue h.cell.is_ready → h.cell.acts ≡ [] → Contains h.take.queue.senders e.by.0 →
     e.to.0 ≡ h.take.queue.to → MayHandle h.cell e reading
 may-handle h gives e reading s is_open ready none known addressed = record {
@@ -82,16 +82,16 @@ may-handle h gives e reading s is_open ready none known addressed = record {
   open_reading = is_open;
 }
 
--- and the books are settled but for its acts
-pub settled-taken : (h : Contents) (gives : ℕ → Moment → Reply → Type 0) (new : Seen) (take : Taking) (e : Envelope) (reading : ℕ) →
-    IsSettled (gives h.cell.who.this.0) [] h → IsOpen h.cell.who h.cell.journal reading → most_tells ≤ h.room → TakesEnvelope h.cell new e reading →
+-- and the home agrees with its journal but for its acts
+pub settled-taken : (h : Contents) (gives : ℕ → Moment → Reply → Type 0) (new : CellView) (take : TakePassView) (e : Envelope) (reading : ℕ) →
+    AgreesWithJournal (gives h.cell.who.this.0) [] h → IsOpen h.cell.who h.cell.journal reading → most_tells ≤ h.room → TakesEnvelope h.cell new e reading →
     IsLawful new.who (gives new.who.this.0) new.journal → SameQueue take h.take → take.taken ≡ h.take.taken ++ e ∷ [] →
-    IsSettled (gives new.who.this.0) new.acts (record h { cell = new; take = take })
+    AgreesWithJournal (gives new.who.this.0) new.acts (record h { cell = new; take = take })
 settled-taken h gives new take e reading s is_open room took lawful same taken =
-    let who : new.who ≡ h.cell.who = ap (λ (x : Seen). x.who) took.adds in
+    let who : new.who ≡ h.cell.who = ap (λ (x : CellView). x.who) took.adds in
     let lawful' : IsLawful new.who (gives h.cell.who.this.0) new.journal = subst (λ (w : Identity). IsLawful new.who
     (gives w.this.0) new.journal) who lawful in
-    subst (λ (w : Identity). IsSettled (gives w.this.0) new.acts (record h { cell = new; take = take })) (sym who)
+    subst (λ (w : Identity). AgreesWithJournal (gives w.this.0) new.acts (record h { cell = new; take = take })) (sym who)
     (settled-begun h (gives h.cell.who.this.0) new take e reading s (open-phase h
     (gives h.cell.who.this.0) reading s is_open).0 room took lawful' same taken)
 
@@ -102,7 +102,7 @@ set-same [] i x there = refl
 set-same (y ∷ xs) zero x there = let is : y ≡ x = cc there in ap (λ z. z ∷ xs) (sym is)
 set-same (y ∷ xs) (suc i) x there = ap (λ l. y ∷ l) (set-same xs i x there)
 
-pub pushed-into : (sends : List Sending) (place : ℕ) (e : Envelope) (old new : Sending) (r : Result (Unit {0}) PushError) → slice_get sends place
+pub pushed-into : (sends : List SendPassView) (place : ℕ) (e : Envelope) (old new : SendPassView) (r : Result (Unit {0}) PushError) → slice_get sends place
     ≡ Some old →
     MatchResult r (λ _. new ≡ with_pushed e old) (λ refused. (given_back refused ≡ e) × (new ≡ old)) → IfErr r (IsRefusal old) →
     MatchResult r (λ _. PushesInto sends (slice_set sends place new) place e)
@@ -115,27 +115,27 @@ pushed-into sends place e old new (Err refused) was pushed refusal = (
 )
 
 pub settled-pushes : (h new : Contents) (gives : ℕ → Moment → Reply → Type 0) (to : ActorId) (told : Body) →
-    IsSettled (gives h.cell.who.this.0) (Tell to told ∷ h.cell.acts) h → Delivers h new (to.0 - 1) (next_envelope h to told) →
-    IsSettled (gives new.cell.who.this.0) new.cell.acts new
+    AgreesWithJournal (gives h.cell.who.this.0) (Tell to told ∷ h.cell.acts) h → Delivers h new (to.0 - 1) (next_envelope h to told) →
+    AgreesWithJournal (gives new.cell.who.this.0) new.cell.acts new
 settled-pushes h new gives to told s d =
-    subst (λ (x : Contents). IsSettled (gives x.cell.who.this.0) x.cell.acts x) (sym d.same)
+    subst (λ (x : Contents). AgreesWithJournal (gives x.cell.who.this.0) x.cell.acts x) (sym d.same)
     (settled-pushed h (gives h.cell.who.this.0) to told h.cell.acts (to.0 - 1) d.pass s (place-is h
     (gives h.cell.who.this.0) to told h.cell.acts s) d.was)
 
 pub settled-buries : (h mid new : Contents) (gives : ℕ → Moment → Reply → Type 0) (to : ActorId) (told : Body) (refused : PushError) (e : Envelope)
     (why : Why) →
-    IsSettled (gives h.cell.who.this.0) (Tell to told ∷ h.cell.acts) h → mid ≡ h → Refuses h (to.0 - 1) refused → e ≡ next_envelope h to told →
+    AgreesWithJournal (gives h.cell.who.this.0) (Tell to told ∷ h.cell.acts) h → mid ≡ h → RefusesPush h (to.0 - 1) refused → e ≡ next_envelope h to told →
     why ≡ reason_of refused →
     new ≡ record mid { dead = mid.dead ++ record { envelope = e; why = why } ∷ []; sent = (mid.sent + 1) % 2 ^ 64; room = new.room } →
-    mid.room ≡ new.room + 1 → IsSettled (gives new.cell.who.this.0) new.cell.acts new
-settled-buries h mid new gives to told refused e why s same r e_is why_is buried room =
+    mid.room ≡ new.room + 1 → AgreesWithJournal (gives new.cell.who.this.0) new.cell.acts new
+settled-buries h mid new gives to told refused e why s same r e_is why_is is_dead_letter room =
     let at_h : new ≡ record h {
       dead = h.dead ++ record { envelope = next_envelope h to told; why = reason_of refused } ∷ [];
       sent =
           (h.sent + 1) % 2 ^ 64;
       room = new.room;
     } =
-    buried
+    is_dead_letter
     ∙ ap (λ (x : Contents). record x {
       dead = x.dead ++ record { envelope = e; why = why } ∷ [];
       sent =
@@ -155,6 +155,6 @@ settled-buries h mid new gives to told refused e why s same r e_is why_is buried
       room = new.room;
     }) why_is in
     let left : h.room ≡ new.room + 1 = sym (ap (λ (x : Contents). x.room) same) ∙ room in
-    subst (λ (x : Contents). IsSettled (gives x.cell.who.this.0) x.cell.acts x) (sym at_h)
+    subst (λ (x : Contents). AgreesWithJournal (gives x.cell.who.this.0) x.cell.acts x) (sym at_h)
     (settled-dead h (gives h.cell.who.this.0) to told h.cell.acts (reason_of refused) new.room s left
     (reason-next h (gives h.cell.who.this.0) to told h.cell.acts s refused r))

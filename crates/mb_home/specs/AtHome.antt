@@ -1,4 +1,4 @@
--- When a home may lie where its actor's belongs, and what it says of itself there.
+-- When a home may lie in its actor's slot, and what it says of the actor there.
 use Rattle.std.specs.Prelude.{◌≡◌, ℕ, ◌+◌, ◌%◌, ◌^◌, false, List, [], ◌∷◌, length}
 use Rattle.std.specs.List.{flat_map}
 use Rattle.mb_msg.specs.declared.dead_letter.DeadLetter.{DeadLetter}
@@ -11,34 +11,46 @@ use Rattle.mb_journal.specs.Entry.{Entry}
 use Rattle.mb_journal.specs.Identity.{Identity}
 use Rattle.mb_journal.specs.Life.{closed}
 use Rattle.mb_journal.specs.Suspension.{count}
+use Rattle.mb_gate.specs.HomeFacts.{HomeFacts}
 use Rattle.mb_home.specs.Contents.{Contents}
-use Rattle.mb_home.specs.Named.{NamesActors}
-use Rattle.mb_home.specs.Settled.{IsSettled}
+use Rattle.mb_home.specs.NamedActors.{NamesActors}
+use Rattle.mb_home.specs.AgreesWithJournal.{AgreesWithJournal}
+use Rattle.mb_home.specs.Steps.{HasNoBacklog}
 
--- it is the home of the actor of this number, on the same roll as the first one; nothing is to be carried out, its books agree with its
--- journal, and it names actors that there are alone
+-- It is the home of the actor of this number, with the same directory of actors as the first home. No act is left to be carried out, what is kept
+-- beside the cell agrees with its journal, and it names only actors that exist.
 pub record IsHomeOf (gives : Moment → Reply → Type 0) (first : Contents) (actor : ℕ) (h : Contents) : Type 0 where
-  pub roll : h.roll ≡ first.roll
+  pub directory : h.directory ≡ first.directory
   pub number : h.cell.who.this.0 ≡ actor
   pub carried_out : h.cell.acts ≡ []
-  pub settled : IsSettled gives [] h
+  pub settled : AgreesWithJournal gives [] h
   pub named : NamesActors h
 
--- the mailbox that a journal says: closed or not, how often suspended, and not scheduled
+-- The mailbox that a journal says: closed or not, how often suspended, and not scheduled.
 abbrev pub mailbox_at : Identity → List Entry → Mailbox
 mailbox_at who journal = record { closed = closed who journal; scheduled = false; count = count who journal }
 
--- how many system messages its list gave, modulo 2^64: those that have an entry, those that were dropped, and those left beside the cell
+-- How many system messages the actor's list gave, modulo 2^64: those that have an entry, those that were dropped, and those left beside the cell.
 abbrev pub given_of : Contents → ℕ
 given_of h = (next_number h.cell.journal + h.dropped + length h.rest) % 2 ^ 64
 
--- the receiver of a dead letter whose receiver was closed
+-- The receiver of a dead letter that says that its receiver is closed.
 abbrev pub receiver_if_closed : Why → ℕ → List ℕ
 receiver_if_closed why.Closed to = to ∷ []
 receiver_if_closed why.Full to = []
 receiver_if_closed why.NoMemory to = []
 receiver_if_closed why.Cleaned to = []
 
--- the receivers of the dead letters that say so, in order
+-- The receivers of the dead letters that say so, in order.
 abbrev pub closed_receivers : List DeadLetter → List ℕ
 closed_receivers = flat_map (λ (d : DeadLetter). receiver_if_closed d.why d.envelope.to.0)
+
+-- what the gates ask of a home
+abbrev pub facts_of : Contents → HomeFacts
+facts_of h = record {
+  journal = h.cell.journal;
+  mailbox = mailbox_at h.cell.who h.cell.journal;
+  rested = HasNoBacklog h;
+  given = given_of h;
+  closed_to = closed_receivers h.dead;
+}

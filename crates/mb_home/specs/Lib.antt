@@ -1,10 +1,10 @@
 pub mod AtHome
 pub mod Carried
 pub mod Contents
-pub mod Named
+pub mod NamedActors
 pub mod Numbers
-pub mod Roll
-pub mod Settled
+pub mod Directory
+pub mod AgreesWithJournal
 pub mod Steps
 pub mod Taken
 pub mod Fresh

@@ -1,4 +1,4 @@
--- What a step of a run does to an actor's home.
+-- What each step of a run does to the actor's home.
 use Rattle.std.specs.Prelude.{◌≡◌, ◌≢◌, ℕ, ◌+◌, ◌%◌, ◌^◌, ◌⊎◌, List, [], ◌∷◌, ◌++◌, slice_get, slice_set, Option, Some}
 use Rattle.std.specs.Prelude.{None, IsSome}
 use Rattle.mb_msg.specs.declared.dead_letter.Why.{Why}
@@ -7,23 +7,23 @@ use Rattle.mb_msg.specs.declared.envelope.Body.{Body}
 use Rattle.mb_msg.specs.declared.envelope.Envelope.{Envelope}
 use Rattle.mb_msg.specs.declared.id.ActorId.{ActorId}
 use Rattle.mb_msg.specs.declared.system.SysMsg.{SysMsg}
-use Rattle.mb_lane.specs.declared.refused.PushError.{PushError}
-use Rattle.mb_lane.specs.declared.refused.PushError.TheVariants.{Full, NoMemory}
+use Rattle.mb_queue.specs.declared.refused.PushError.{PushError}
+use Rattle.mb_queue.specs.declared.refused.PushError.TheVariants.{Full, NoMemory}
 use Rattle.mb_journal.specs.Aside.{next_front}
-use Rattle.mb_cell.specs.Seen.{Seen, TakesSystem, TakesEnvelope}
-use Rattle.mb_queue.specs.Passes.{Sending, Taking}
+use Rattle.mb_cell.specs.CellView.{CellView, TakesSystem, TakesEnvelope}
+use Rattle.mb_queue.specs.Passes.{SendPassView, TakePassView}
 use Rattle.mb_queue.specs.Pushes.{IsRefusal}
 use Rattle.mb_queue.specs.Takes.{IsTake}
 use Rattle.mb_home.specs.Contents.{Contents}
-use Rattle.mb_home.specs.Roll.{Enrolled}
+use Rattle.mb_home.specs.Directory.{DirectoryEntry}
 
--- how many dead letters one message can make: one for each of 16 effects, and one that tells of an end
+-- How many dead letters one message can make: one for each of 16 effects, and one for the notice of an end.
 abbrev pub most_tells : ℕ
 most_tells = 17
 
--- an unused home of this cell, these passes and this roll
-abbrev pub at_first : Seen → Taking → List Sending → ℕ → List Enrolled → Contents
-at_first cell take sends room roll = record {
+-- A new home of this cell, with these passes and this directory.
+abbrev pub at_first : CellView → TakePassView → List SendPassView → ℕ → List DirectoryEntry → Contents
+at_first cell take sends room directory = record {
   cell = cell;
   take = take;
   sends = sends;
@@ -34,24 +34,24 @@ at_first cell take sends room roll = record {
   aside_dead = 0;
   dropped = 0;
   room = room;
-  roll = roll;
+  directory = directory;
 }
 
--- nothing is left beside the cell that is to be applied, and nothing set aside waits to be applied in front
-pub record IsRested (h : Contents) : Type 0 where
+-- Nothing is left beside the cell that is to be applied, and no message that was set aside is to be applied before others.
+pub record HasNoBacklog (h : Contents) : Type 0 where
   pub no_rest : h.rest ≡ []
   pub no_front : next_front h.cell.who h.cell.journal ≡ None
 
--- a system message is to be applied: one that is put in front, or one that was drained
+-- A system message is to be applied: one that was set aside and goes before others, or one that was drained.
 abbrev pub HasNext : Contents → Type 0
 HasNext h = IsSome (next_front h.cell.who h.cell.journal) ⊎ (h.rest ≢ [])
 
--- the message that is due, and what is left of those that were drained: the one that is put in front goes before all others
+-- The message that is applied next, and what is left of those that were drained. One that was set aside and goes before others comes first.
 abbrev pub IsDue : Option (ℕ × SysMsg) → List (ℕ × SysMsg) → ℕ → SysMsg → List (ℕ × SysMsg) → Type 0
 IsDue None rest number m left = rest ≡ (number, m) ∷ left
 IsDue (Some front) rest number m left = (front ≡ (number, m)) × (left ≡ rest)
 
--- the message that was due was taken by the cell; and if the actor ended, what was set aside is counted as dead
+-- The cell took the message that was due. If the actor ended, what was set aside is counted as dead.
 pub record AppliesNext (old new : Contents) : Type 0 where
   pub number : ℕ
   pub message : SysMsg
@@ -59,26 +59,27 @@ pub record AppliesNext (old new : Contents) : Type 0 where
   pub taken : TakesSystem old.cell new.cell number message
   pub same : new ≡ record old { cell = new.cell; rest = new.rest; aside_dead = new.aside_dead }
 
--- the envelope of what the actor tells next: an actor's number as a sender is its own
+-- The envelope of what the actor tells next. As a sender the actor has its own number.
 abbrev pub next_envelope : Contents → ActorId → Body → Envelope
 next_envelope h to body = record { by = record { 0 = h.cell.who.this.0 }; to = to; number = h.sent; body = body }
 
-abbrev pub with_pushed : Envelope → Sending → Sending
+-- The send pass once it pushed this envelope too.
+abbrev pub with_pushed : Envelope → SendPassView → SendPassView
 with_pushed e p = record p { pushed = p.pushed ++ e ∷ [] }
 
--- it was pushed into its receiver's queue
+-- The envelope was pushed into its receiver's queue.
 pub record Pushes (old new : Contents) (to : ActorId) (body : Body) : Type 0 where
   pub place : ℕ
   pub place_is : to.0 ≡ place + 1
-  pub pass : Sending
+  pub pass : SendPassView
   pub was : slice_get old.sends place ≡ Some pass
   pub same : new ≡ record old {
     sends = slice_set old.sends place (with_pushed (next_envelope old to body) pass);
     sent = (old.sent + 1) % 2 ^ 64;
   }
 
--- it became a dead letter, for this reason
-pub record Buries (old new : Contents) (to : ActorId) (body : Body) (reason : Why) : Type 0 where
+-- The envelope became a dead letter for this reason.
+pub record RecordsDeadLetter (old new : Contents) (to : ActorId) (body : Body) (reason : Why) : Type 0 where
   pub same : new ≡ record old {
     dead = old.dead ++ record { envelope = next_envelope old to body; why = reason } ∷ [];
     sent = (old.sent + 1) % 2 ^ 64;
@@ -86,41 +87,42 @@ pub record Buries (old new : Contents) (to : ActorId) (body : Body) (reason : Wh
   }
   pub room : old.room ≡ new.room + 1
 
--- why a refused push is a dead letter
+-- The reason of a dead letter whose push was refused.
 abbrev pub reason_of : PushError → Why
 reason_of (Full e) = why.Full
 reason_of (NoMemory e) = why.NoMemory
 
--- the envelope may be pushed by this pass: it is of its sender, and to the receiver of its queue
-abbrev pub Fits : Envelope → Sending → Type 0
+-- The pass may push the envelope: it is the pass of the sender, into the queue of the receiver.
+abbrev pub Fits : Envelope → SendPassView → Type 0
 Fits e p = (e.by.0 ≡ p.by) × (e.to.0 ≡ p.queue.to)
 
--- it was pushed by the pass of this place, and no other changed
-pub record PushesInto (old new : List Sending) (place : ℕ) (e : Envelope) : Type 0 where
-  pub pass : Sending
+-- The pass of this place pushed it, and no other pass changed.
+pub record PushesInto (old new : List SendPassView) (place : ℕ) (e : Envelope) : Type 0 where
+  pub pass : SendPassView
   pub was : slice_get old place ≡ Some pass
   pub same : new ≡ slice_set old place (with_pushed e pass)
 
--- it was refused by the pass of this place: as full only by a queue that has a bound
-pub record IsRefusedBy (old : List Sending) (place : ℕ) (refused : PushError) : Type 0 where
-  pub pass : Sending
+-- The pass of this place refused it: as full only if its queue has a bound.
+pub record IsRefusedBy (old : List SendPassView) (place : ℕ) (refused : PushError) : Type 0 where
+  pub pass : SendPassView
   pub was : slice_get old place ≡ Some pass
   pub refusal : IsRefusal pass refused
 
-abbrev pub Refuses : Contents → ℕ → PushError → Type 0
-Refuses h place refused = IsRefusedBy h.sends place refused
+-- The pass of this place refused the push.
+abbrev pub RefusesPush : Contents → ℕ → PushError → Type 0
+RefusesPush h place refused = IsRefusedBy h.sends place refused
 
--- it was pushed, and is counted
+-- The envelope was pushed and counted.
 pub record Delivers (old new : Contents) (place : ℕ) (e : Envelope) : Type 0 where
-  pub pass : Sending
+  pub pass : SendPassView
   pub was : slice_get old.sends place ≡ Some pass
   pub same : new ≡ record old { sends = slice_set old.sends place (with_pushed e pass); sent = (old.sent + 1) % 2 ^ 64 }
 
--- the pass that takes is of the same queue, takes by the same order, and has the same accounts of senders
-abbrev pub IsSamePass : Taking → Taking → Type 0
+-- The pass that takes is of the same queue, takes in the same order, and has the same accounts of senders.
+abbrev pub IsSamePass : TakePassView → TakePassView → Type 0
 IsSamePass old new = (new.queue ≡ old.queue) × (new.turns ≡ old.turns) × (new.accounts ≡ old.accounts)
 
--- an envelope was taken, and begun at this reading
+-- An envelope was taken, and the cell handled it at this reading of the status.
 pub record Begins (old new : Contents) (reading : ℕ) : Type 0 where
   pub envelope : Envelope
   pub took : new.take.taken ≡ old.take.taken ++ envelope ∷ []
@@ -129,14 +131,14 @@ pub record Begins (old new : Contents) (reading : ℕ) : Type 0 where
   pub taken : TakesEnvelope old.cell new.cell envelope reading
   pub same : new ≡ record old { cell = new.cell; take = new.take }
 
--- no envelope was there at a moment: nothing changed but what the pass holds back
+-- No envelope was there at some moment. Nothing changed but what the pass holds back.
 pub record FindsNone (old new : Contents) : Type 0 where
   pub took : new.take.taken ≡ old.take.taken
   pub turn : IsTake old.take.turns old.take None new.take
   pub pass : IsSamePass old.take new.take
   pub same : new ≡ record old { take = new.take }
 
--- an envelope was taken, and is among those that are cleaned up
+-- An envelope was taken, and it is cleaned up.
 pub record Cleans (old new : Contents) : Type 0 where
   pub envelope : Envelope
   pub took : new.take.taken ≡ old.take.taken ++ envelope ∷ []

@@ -5,7 +5,7 @@ use Rattle.mb_queue.specs.Takes.{IsTake}
 use Rattle.mb_home.specs.Contents.{Contents}
 use Rattle.mb_home.specs.Steps.{IsSamePass}
 
--- it came out of the actor's queue, to which it was sent by one who may send
+-- The envelope came out of the actor's queue. One of the queue's senders had sent it, to this actor.
 pub record TakesOut (old new : Contents) (envelope : Envelope) : Type 0 where
   pub took : new.take.taken ≡ old.take.taken ++ envelope ∷ []
   pub turn : IsTake old.take.turns old.take (Some envelope) new.take

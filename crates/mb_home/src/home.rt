@@ -1,9 +1,10 @@
+//! The home of an actor, and how it begins and ends.
 ghost use Rattle.std.specs.Prelude.{◌≡◌, ◌+◌, ◌%◌, ◌^◌, ◌<◌, [], All, map};
-ghost use Rattle.mb_queue.specs.Passes.{Sending};
-ghost use Rattle.mb_home.specs.Settled.{IsOwn, IsSettled};
-ghost use Rattle.mb_home.specs.Steps.{IsRested, at_first};
+ghost use Rattle.mb_queue.specs.Passes.{SendPassView};
+ghost use Rattle.mb_home.specs.AgreesWithJournal.{IsOwn, AgreesWithJournal};
+ghost use Rattle.mb_home.specs.Steps.{HasNoBacklog, at_first};
 
-use crate::named::Named;
+use crate::entry_snapshot::EntrySnapshot;
 use mb_actor::{Actor, Behaviours};
 use mb_cell::Cell;
 use mb_msg::{ActorId, DeadLetter, Envelope};
@@ -15,12 +16,12 @@ use std::snapshot::Snapshot;
 
 mod clean_up;
 mod envelopes;
-mod resident;
+mod mailbox_state;
 mod status;
 mod systems;
 mod tells;
 
-/// What lies at an actor's home while nobody holds it: its cell, and the books beside that.
+/// What lies in an actor's slot while nobody holds it: its cell, and what is kept beside it.
 pub struct Home<A: Actor, K: Behaviours> {
     id: ActorId,
     cell: Cell<A, K>,
@@ -32,10 +33,10 @@ pub struct Home<A: Actor, K: Behaviours> {
     cleaned: Vec<Envelope>,
     aside_dead: u64,
     dropped: u64,
-    roll: Snapshot<Vec<Named<A, K>>>,
+    directory: Snapshot<Vec<EntrySnapshot<A, K>>>,
 }
 
-// Written out: of a derived `Drop` each crate above would prove again how all that is inside is let go.
+// Written by hand: with a derived `Drop`, each crate above would have to prove again how every part is dropped.
 impl<A: Actor, K: Behaviours> Drop for Home<A, K> {
     fn drop(self) {
         let Home {
@@ -49,7 +50,7 @@ impl<A: Actor, K: Behaviours> Drop for Home<A, K> {
             cleaned: _,
             aside_dead: _,
             dropped: _,
-            roll: _,
+            directory: _,
         } = self;
     }
 }
@@ -71,15 +72,15 @@ impl<A: Actor, K: Behaviours> Model for Home<A, K> {
       aside_dead = h.aside_dead;
       dropped = h.dropped;
       room = vec_capacity h.dead - vec_len h.dead;
-      roll = map (λ n. record { who = n.cell.value.who; queue = n.take.value.queue; turns = n.take.value.turns }) h.roll.value.items;
+      directory = map (λ n. record { who = n.cell.value.who; queue = n.take.value.queue; turns = n.take.value.turns }) h.directory.value.items;
     } };
 
     ghost invariant = { λ h. (h.id ≡ h.cell.who.this) × (h.cell.who.limit < 2 ^ 32) };
 }
 
-/// What a home leaves at the end.
+/// What a home leaves at the end of its system.
 #[derive(Drop)]
-pub struct Parts<A: Actor, K: Behaviours> {
+pub struct HomeParts<A: Actor, K: Behaviours> {
     /// The cell.
     pub cell: Cell<A, K>,
     /// The pass of its queue.
@@ -97,30 +98,30 @@ pub struct Parts<A: Actor, K: Behaviours> {
 }
 
 impl<A: Actor, K: Behaviours> Home<A, K> {
-    /// The home of an actor to which nothing came yet: of its cell, the pass of its queue and the passes that it sends by, one
-    /// for each receiver from the number 1 on, in order. The roll has the cells and passes of all actors, by number.
+    /// The home of an actor to which nothing came yet: of its cell, the pass of its queue, and the passes that it sends by, one
+    /// for each receiver from number 1 on, in order. The directory has the cells and passes of all actors, by number.
     pub fn new(
         alloc: Global,
         id: ActorId,
         cell: Cell<A, K>,
         take: TakePass,
         sends: Vec<SendPass>,
-        roll: &Vec<Named<A, K>>,
+        directory: &Vec<EntrySnapshot<A, K>>,
     ) -> Self
         requires number { id ≡ cell.who.this }
         requires untouched { (cell.journal ≡ []) × (cell.acts ≡ []) }
         requires none_taken { take.taken ≡ [] }
-        requires none_pushed { All (λ (p : Sending). p.pushed ≡ []) sends.items }
+        requires none_pushed { All (λ (p : SendPassView). p.pushed ≡ []) sends.items }
         requires own { IsOwn (at_first cell take sends.items 0
-            (map (λ n. record { who = n.cell.value.who; queue = n.take.value.queue; turns = n.take.value.turns }) roll.now.items)) }
+            (map (λ n. record { who = n.cell.value.who; queue = n.take.value.queue; turns = n.take.value.turns }) directory.now.items)) }
         ensures first { result ≡ at_first cell take sends.items result.room
-            (map (λ n. record { who = n.cell.value.who; queue = n.take.value.queue; turns = n.take.value.turns }) roll.now.items) }
-        ensures settled { IsSettled (K.gives cell.who.this.0) [] result }
-        ensures rested { IsRested result }
+            (map (λ n. record { who = n.cell.value.who; queue = n.take.value.queue; turns = n.take.value.turns }) directory.now.items) }
+        ensures settled { AgreesWithJournal (K.gives cell.who.this.0) [] result }
+        ensures rested { HasNoBacklog result }
     {
         // Its contract shows that the journal is lawful, and that its limit is a number of 32 bits.
         let _ = cell.journal();
-        Self::unused(alloc, id, cell, take, sends, roll)
+        Self::unused(alloc, id, cell, take, sends, directory)
     }
 
     /// The fields of an unused home.
@@ -130,12 +131,12 @@ impl<A: Actor, K: Behaviours> Home<A, K> {
         cell: Cell<A, K>,
         take: TakePass,
         sends: Vec<SendPass>,
-        roll: &Vec<Named<A, K>>,
+        directory: &Vec<EntrySnapshot<A, K>>,
     ) -> Self
         requires number { id ≡ cell.who.this }
         requires few { cell.who.limit < 2 ^ 32 }
         ensures { result ≡ at_first cell take sends.items result.room
-            (map (λ n. record { who = n.cell.value.who; queue = n.take.value.queue; turns = n.take.value.turns }) roll.now.items) }
+            (map (λ n. record { who = n.cell.value.who; queue = n.take.value.queue; turns = n.take.value.turns }) directory.now.items) }
     {
         Home {
             id,
@@ -148,7 +149,7 @@ impl<A: Actor, K: Behaviours> Home<A, K> {
             cleaned: Vec::new(alloc),
             aside_dead: 0,
             dropped: 0,
-            roll: Snapshot::of(roll),
+            directory: Snapshot::of(directory),
         }
     }
 
@@ -159,8 +160,8 @@ impl<A: Actor, K: Behaviours> Home<A, K> {
         self.cell.parent()
     }
 
-    /// What the home leaves at the end.
-    pub fn into_parts(self) -> Parts<A, K>
+    /// Takes the home apart, at the end of its system.
+    pub fn into_parts(self) -> HomeParts<A, K>
         ensures cell { result.cell ≡ self.cell }
         ensures passes { (result.take ≡ self.take) × (result.sends.items ≡ self.sends) }
         ensures sent { (result.sent ≡ self.sent) × (result.dead.items ≡ self.dead) }
@@ -178,9 +179,9 @@ impl<A: Actor, K: Behaviours> Home<A, K> {
             cleaned,
             aside_dead,
             dropped,
-            roll: _,
+            directory: _,
         } = self;
-        Parts {
+        HomeParts {
             cell,
             take,
             sends,

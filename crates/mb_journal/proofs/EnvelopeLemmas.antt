@@ -12,7 +12,7 @@ use Rattle.mb_actor.specs.declared.effect.Effect.{Effect}
 use Rattle.mb_journal.specs.Acts.{acts, effect_acts, failure_acts, envelope_acts, to_each, report}
 use Rattle.mb_journal.specs.Acts.Act.{SuspendSelf}
 use Rattle.mb_journal.specs.Aside.{ever_aside, next_number}
-use Rattle.mb_actor.specs.Tray.{spawns_of}
+use Rattle.mb_actor.specs.OutboxView.{spawns_of}
 use Rattle.mb_journal.specs.Entry.{Entry, is_failed}
 use Rattle.mb_journal.specs.Entry.Entry.{Handled}
 use Rattle.mb_journal.specs.Entry.Outcome.{Applied}
@@ -75,7 +75,7 @@ module _ (who : Identity) (before : List Entry) (envelope : Envelope) (reading :
   pub failed-handled_already : is_nobody (failed who before) ≡ false → failed who (the_entry ∷ before) ≡ failed who before
   failed-handled_already already = failed-same who the_entry before (fails_no_more already) refl refl refl
 
-  -- a failure is put down to the actor itself
+  -- the actor itself is who made it fail
   pub failed-handled_failed : failed who before ≡ Nobody → is_some (failure_of envelope.body a) ≡ true → failed who (the_entry ∷ before) ≡ Itself
   failed-handled_failed nobody badly = failed-failure who the_entry before (fails nobody badly)
 

@@ -32,8 +32,8 @@ use Rattle.mb_journal.specs.Suspension.{count, marks, pluses, minuses, greatest_
 use Rattle.mb_journal.specs.Watching.{watchers, watching, due}
 use Rattle.mb_actor.specs.declared.phase.Phase.{Phase}
 use Rattle.mb_actor.specs.declared.phase.Phase.TheVariants.{Broken, Fresh, Live, Ending, Ended}
-use Rattle.mb_journal.specs.declared.strategy.Pattern.{Pattern}
-use Rattle.mb_journal.specs.declared.strategy.Pattern.TheVariants as cases
+use Rattle.mb_msg.specs.declared.strategy.Pattern.{Pattern}
+use Rattle.mb_msg.specs.declared.strategy.Pattern.TheVariants as cases
 
 abbrev the : ℕ → ActorId
 the n = record { 0 = n }
@@ -241,7 +241,7 @@ stopping_a_child :
 unfolding acts effect_acts requests phase children has_start has_ending failed watching watchers
 stopping_a_child = refl
 
--- a parent that passes up the failure of child 2: child 3 alone is suspended
+-- a parent that escalates the failure of child 2: child 3 alone is suspended
 escalation :
     acts escalating (parent_of (the 2 ∷ the 3 ∷ []) ∷ []) child_failed
     ≡ SuspendSelf ∷ Sys (the 3) system.Suspend ∷ Sys (the 0) (system.Failed (the 1) (cause.Error 1)) ∷ []
@@ -400,7 +400,7 @@ resumed_broken :
 unfolding phase children has_start has_ending failed marks pluses minuses greatest_net count messages
 resumed_broken = refl
 
--- a failure while suspended is set aside, and goes in front once the count is 0
+-- a failure while suspended is set aside, and is due before all others once the count is 0
 in_front :
     next_front plain (silent 3 (system.Resume false) ∷ set_aside_failure ∷ silent 1 system.Suspend ∷ parent_of (the 2 ∷ []) ∷ [])
     ≡ Some (2, system.Failed (the 2) (cause.Error 1))
@@ -424,7 +424,7 @@ numbers = refl
 abbrev failed_child : ℕ → ℕ → Entry
 failed_child number child = silent number (system.Failed (the child) (cause.Error 1))
 
--- with 2 retries a child is started afresh twice, and then stopped
+-- with 2 retries a child is restarted twice, and then stopped
 abbrev with_2_retries : Identity
 with_2_retries = supervising [] (pos 2) false
 
@@ -463,7 +463,7 @@ not_counted : retry_count (supervising [] (pos 0) false) (failed_child 1 2 ∷ p
 unfolding requests children has_start
 not_counted = refl
 
--- without a limit it is always started afresh, and not counted
+-- without a limit it is always restarted, and not counted
 restarted_thrice :
     acts plain (failed_child 2 2 ∷ failed_child 1 2 ∷ parent_of (the 2 ∷ []) ∷ []) (failed_child 3 2)
     ≡ Sys (the 2) (system.Recreate (cause.Error 1)) ∷ []
@@ -474,14 +474,14 @@ unlimited : retry_count plain (failed_child 2 2 ∷ failed_child 1 2 ∷ parent_
 unfolding requests children has_start
 unlimited = refl
 
--- all for one: the sister of the child that failed is suspended, and both are started afresh
+-- all for one: the sister of the child that failed is suspended, and both are restarted
 all_restarted :
     acts (supervising [] no_limit true) (parent_of (the 2 ∷ the 3 ∷ []) ∷ []) (failed_child 1 2)
     ≡ Sys (the 2) (system.Recreate (cause.Error 1)) ∷ Sys (the 3) system.Suspend ∷ Sys (the 3) (system.Recreate (cause.Error 1)) ∷ []
 unfolding acts effect_acts requests phase children has_start has_ending failed watching watchers
 all_restarted = refl
 
--- or, without permission, both are stopped
+-- or, where it is not permitted, both are stopped
 all_stopped :
     acts (supervising [] (pos 0) true) (parent_of (the 2 ∷ the 3 ∷ []) ∷ []) (failed_child 1 2)
     ≡ Sys (the 2) system.Terminate ∷ Sys (the 3) system.Terminate ∷ []
@@ -501,7 +501,7 @@ one_resumed :
 unfolding acts effect_acts requests phase children has_start has_ending failed watching watchers
 one_resumed = refl
 
--- the first refusal ends the asking: child 2 had its one retry before child 3 was there, so that 3 is never asked for
+-- the first refusal ends the requests: child 2 had its one retry before child 3 existed, so that none is made for 3
 abbrev spawns_3 : Entry
 spawns_3 = asked (body.User 3 (pos 0)) (Some answer.Handled) (effect.Spawn (the 3) ∷ [])
 

@@ -1,4 +1,4 @@
--- What a child's failure makes of all queries: one that the actor decides about, and one that it passes up.
+-- What a child's failure makes of all queries: one that the actor decides about, and one that it escalates.
 use Rattle.std.proofs.Common.{◌≡◌, ℕ, ◌+◌, [], ◌++◌, Bool, true, false, refl, ◌∙◌}
 use Rattle.std.specs.Prelude.{◌&&◌, if◌then◌else◌}
 use Rattle.std.proofs.lemmas.List.{append-nil}
@@ -23,11 +23,11 @@ module _ (who : Identity) (q : Queries) (number : ℕ) (x : ActorId) (c : Cause)
   abbrev entry : Entry
   entry = failed_entry who q number x c
 
-  -- the failure is a child's, and is passed up
+  -- the failure is a child's, and is escalated
   abbrev pub passed_up : Bool
   passed_up = has q.children x && is_escalate (directive_of who c)
 
-  -- nobody's permission is asked for about an actor that is no child, or where it is not to be started afresh
+  -- no restart is requested about an actor that is no child, or where it is not to be restarted
   pub asked_on-none : (has q.children x && is_restart_directive (directive_of who c)) ≡ false → q.requests ++ asked_on who q x c ≡ q.requests
   asked_on-none not_afresh =
       (λ i. q.requests ++ (if not_afresh i then through_refusal (is_given who q.requests) (meant_on who q x) else []))
@@ -38,7 +38,7 @@ module _ (who : Identity) (q : Queries) (number : ℕ) (x : ActorId) (c : Cause)
   failed-tests fails is =
       tests-are who q entry (record none_passed { failure = fails }) refl refl refl (and-false (phase_is q.phase Ending)) is refl refl refl
 
-  -- the actor does not fail with it, or is failed already: the permissions that it asks for are counted
+  -- the actor does not fail with it, or is failed already: the requests are counted
   pub failed-step : (is_nobody q.failed && passed_up) ≡ false →
       next_queries who q entry ≡ record (passed q entry) { requests = q.requests ++ asked_on who q x c }
   failed-step fails_not =
@@ -51,7 +51,7 @@ module _ (who : Identity) (q : Queries) (number : ℕ) (x : ActorId) (c : Cause)
         unspawned = none_excepted q.unspawned i;
       })
 
-  -- a child's failure is passed up: one suspension more, and the actor is failed by that child
+  -- a child's failure is escalated: one suspension more, and the actor is failed by that child
   pub failed_up-step : has q.children x ≡ true → directive_of who c ≡ directive.Escalate → q.failed ≡ Nobody →
       next_queries who q entry ≡ record (passed q entry) { marked = q.marked + 1; failed = Child x }
   failed_up-step child escalate nobody =

@@ -11,12 +11,12 @@ use Rattle.mb_actor.specs.declared.phase.Phase.TheVariants.{Fresh, Live, Broken,
 use Rattle.mb_actor.specs.ActorList.{has}
 use Rattle.mb_journal.specs.ActorList.{without, joined}
 use Rattle.mb_journal.specs.Aside.{ever_aside, without_number, next_number}
-use Rattle.mb_actor.specs.Tray.{spawns_of}
+use Rattle.mb_actor.specs.OutboxView.{spawns_of}
 use Rattle.mb_journal.specs.Effects.{applies, lasting_effects}
 use Rattle.mb_journal.specs.Entry.{Entry, Outcome, answered_failed}
 use Rattle.mb_journal.specs.Entry.Entry.{Handled, System, Dropped}
 use Rattle.mb_journal.specs.Entry.Outcome.{Applied, SetAside}
-use Rattle.mb_journal.specs.Failure.{failed, fails_by_envelope, is_nobody, is_escalate, is_resume_of_failure, culprit_of}
+use Rattle.mb_journal.specs.Failure.{failed, fails_by_envelope, is_nobody, is_escalate, is_resume_of_failure, failure_source}
 use Rattle.mb_journal.specs.declared.failed_by.FailedBy.{FailedBy}
 use Rattle.mb_journal.specs.declared.failed_by.FailedBy.TheVariants.{Nobody, Itself}
 use Rattle.mb_journal.specs.Identity.{Identity, is_guardian}
@@ -115,7 +115,7 @@ phase_on who q e =
 
 abbrev pub failed_on : Identity → Queries → Entry → FailedBy
 failed_on who q e =
-    if fails who q e then culprit_of e
+    if fails who q e then failure_source e
     else (if restarts who q e then Nobody
     else (if applies is_resume_of_failure e && phase_is q.phase Live then Nobody
     else (if ends q e && not (lasts q e) then Itself

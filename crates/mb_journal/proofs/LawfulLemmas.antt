@@ -14,7 +14,7 @@ use Rattle.mb_actor.specs.declared.effect.Effect.{Effect}
 use Rattle.mb_actor.specs.declared.message.Message.TheVariants as message
 use Rattle.mb_journal.specs.Aside.{ever_aside, aside, next_front, next_number, first_of_list, without_number}
 use Rattle.mb_actor.specs.ActorList.{has}
-use Rattle.mb_actor.specs.Tray.{spawns_of}
+use Rattle.mb_actor.specs.OutboxView.{spawns_of}
 use Rattle.mb_journal.specs.Effects.{lasting_effects}
 use Rattle.mb_journal.specs.Entry.{Entry, Outcome}
 use Rattle.mb_journal.specs.Entry.Entry.{Handled, System}
@@ -92,7 +92,7 @@ pub ever_aside-applied : (before : List Entry) (number : ℕ) (m : SysMsg) (a : 
 unfolding ever_aside
 ever_aside-applied before number m a effects none = ap (λ list. without_number list number) none
 
--- and nothing goes in front
+-- and none is due
 pub aside-none : (who : Identity) (journal : List Entry) → ever_aside journal ≡ [] → aside who journal ≡ []
 unfolding aside
 aside-none who journal none = ap (λ list. if closed who journal then [] else list) none ∙ if_same (closed who journal) []

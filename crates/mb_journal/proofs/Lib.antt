@@ -1,4 +1,5 @@
 pub mod CountLemmas
+pub mod Counting
 pub mod CreateLemmas
 pub mod CreateSteps
 pub mod DiedSteps
@@ -9,6 +10,7 @@ pub mod FailedSteps
 pub mod Fold
 pub mod FreshSteps
 pub mod LawfulLemmas
+pub mod Naming
 mod PhaseLaw
 pub mod PhaseLemmas
 pub mod QueryLemmas

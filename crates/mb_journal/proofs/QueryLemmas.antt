@@ -2,10 +2,10 @@
 use Rattle.std.proofs.Common.{◌≡◌, ◌+◌, ◌-◌, List, [], ◌∷◌, ◌++◌, Bool, true, false, ap, sym, ◌∙◌, append_assoc}
 use Rattle.std.specs.Prelude.{not, ◌&&◌, ◌||◌, if◌then◌else◌}
 use Rattle.std.proofs.lemmas.List.{append-nil}
-use Rattle.mb_actor.specs.Tray.{spawns_of}
+use Rattle.mb_actor.specs.OutboxView.{spawns_of}
 use Rattle.mb_journal.specs.Effects.{applies, lasting_effects}
 use Rattle.mb_journal.specs.Entry.{Entry}
-use Rattle.mb_journal.specs.Failure.{failed, is_failure, culprit_of, is_resume_of_failure}
+use Rattle.mb_journal.specs.Failure.{failed, is_failure, failure_source, is_resume_of_failure}
 use Rattle.mb_journal.specs.declared.failed_by.FailedBy.TheVariants.{Nobody, Itself}
 use Rattle.mb_journal.specs.Identity.{Identity, is_guardian}
 use Rattle.mb_journal.specs.Incarnation.{messages, entry_messages}
@@ -72,11 +72,11 @@ marks-by who e before starts suspends resumes restarts fails waits a b c d f w =
 -- ---- who made the actor fail
 
 module _ (who : Identity) (e : Entry) (before : List Entry) where
-  -- after a failure it is its culprit
-  pub failed-failure : is_failure who e before ≡ true → failed who (e ∷ before) ≡ culprit_of e
+  -- after a failure it is who made it fail
+  pub failed-failure : is_failure who e before ≡ true → failed who (e ∷ before) ≡ failure_source e
   unfolding failed
   failed-failure fails =
-      λ i. if fails i then culprit_of e
+      λ i. if fails i then failure_source e
       else (if is_restart who e before then Nobody
       else (if applies is_resume_of_failure e && phase_is (phase who before) Live then Nobody
       else (if is_ending e before && not (is_last who e before) then Itself
@@ -86,7 +86,7 @@ module _ (who : Identity) (e : Entry) (before : List Entry) where
   pub failed-restart : is_failure who e before ≡ false → is_restart who e before ≡ true → failed who (e ∷ before) ≡ Nobody
   unfolding failed
   failed-restart fails restarts =
-      λ i. if fails i then culprit_of e
+      λ i. if fails i then failure_source e
       else (if restarts i then Nobody
       else (if applies is_resume_of_failure e && phase_is (phase who before) Live then Nobody
       else (if is_ending e before && not (is_last who e before) then Itself
@@ -98,7 +98,7 @@ module _ (who : Identity) (e : Entry) (before : List Entry) where
       failed who (e ∷ before) ≡ failed who before
   unfolding failed
   failed-same fails restarts resumes waits =
-      λ i. if fails i then culprit_of e
+      λ i. if fails i then failure_source e
       else (if restarts i then Nobody
       else (if resumes i then Nobody
       else (if waits i then Itself

@@ -5,7 +5,7 @@ use Rattle.std.proofs.lemmas.List.{append-nil}
 use Rattle.mb_msg.specs.declared.supervision.Cause.{Cause}
 use Rattle.mb_msg.specs.declared.system.SysMsg.TheVariants as system
 use Rattle.mb_actor.specs.ActorList.{has}
-use Rattle.mb_actor.specs.Tray.{spawns_of}
+use Rattle.mb_actor.specs.OutboxView.{spawns_of}
 use Rattle.mb_actor.specs.declared.answer.Answer.{Answer}
 use Rattle.mb_actor.specs.declared.effect.Effect.{Effect}
 use Rattle.mb_actor.specs.declared.phase.Phase.TheVariants.{Fresh, Live, Broken, Ending, Ended}
@@ -75,7 +75,7 @@ module _ (who : Identity) (q : Queries) (number : ℕ) (c : Cause) where
       no_restart : restarts who q recreate_guardian_entry ≡ false
       no_restart = (λ i. not (phase_is q.phase Fresh) && not (guardian i)) ∙ and-false (not (phase_is q.phase Fresh))
 
-  -- the guardian is not started afresh
+  -- the guardian is not restarted
   pub recreate_guardian-step : is_guardian who ≡ true →
       next_queries who q recreate_guardian_entry ≡ passed q recreate_guardian_entry
   recreate_guardian-step guardian =
@@ -151,7 +151,7 @@ module _ (who : Identity) (q : Queries) (number : ℕ) (f : Bool) (a : Answer) (
       a_restart : restarts who q resume_broken_entry ≡ true
       a_restart = λ i. phase_is (broken i) Broken && not (phase_is (broken i) Fresh) && not (an_actor i)
 
-  -- a Resume starts a Broken actor afresh
+  -- a Resume restarts a Broken actor
   pub resume_broken-step : q.phase ≡ Broken → is_guardian who ≡ false →
       next_queries who q resume_broken_entry ≡ record (passed q resume_broken_entry) {
         phase = if is_failed (Some a) then Broken else Live;

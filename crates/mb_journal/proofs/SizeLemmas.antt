@@ -8,7 +8,7 @@ use Rattle.mb_msg.specs.declared.system.SysMsg.{SysMsg}
 use Rattle.mb_msg.specs.declared.system.SysMsg.TheVariants as system
 use Rattle.mb_actor.specs.ActorList.{is_same, has}
 use Rattle.mb_actor.specs.Behaviour.{Moment, Reply}
-use Rattle.mb_actor.specs.Tray.{spawns_of}
+use Rattle.mb_actor.specs.OutboxView.{spawns_of}
 use Rattle.mb_actor.specs.declared.answer.Answer.{Answer}
 use Rattle.mb_actor.specs.declared.call.Call.{Call}
 use Rattle.mb_actor.specs.declared.effect.Effect.{Effect}
@@ -174,7 +174,7 @@ module _ (who : Identity) (gives : Moment → Reply → Type 0) (before : List E
 
 -- ---- the sizes
 
--- of a journal with so many entries
+-- of a journal with this many entries
 pub record Sizes (who : Identity) (journal : List Entry) : Type 0 where
   pub marked : count_after (marks who journal) ≤ 1 + 3 * length journal
   pub children : length (children who journal) ≤ (16 + length who.prepared) * length journal

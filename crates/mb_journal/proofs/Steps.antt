@@ -6,7 +6,7 @@ use Rattle.mb_msg.specs.declared.id.ActorId.{ActorId}
 use Rattle.mb_msg.specs.declared.system.SysMsg.{SysMsg}
 use Rattle.mb_msg.specs.declared.system.SysMsg.TheVariants as system
 use Rattle.mb_actor.specs.ActorList.{has}
-use Rattle.mb_actor.specs.Tray.{spawns_of}
+use Rattle.mb_actor.specs.OutboxView.{spawns_of}
 use Rattle.mb_actor.specs.declared.answer.Answer.{Answer}
 use Rattle.mb_actor.specs.declared.effect.Effect.{Effect}
 use Rattle.mb_actor.specs.declared.phase.Phase.{Phase}
@@ -15,7 +15,7 @@ use Rattle.mb_journal.specs.Effects.{applies, lasting_effects}
 use Rattle.mb_journal.specs.Entry.{Entry, answered_failed}
 use Rattle.mb_journal.specs.Entry.Entry.{Handled, System, Dropped}
 use Rattle.mb_journal.specs.Entry.Outcome.{Applied, SetAside}
-use Rattle.mb_journal.specs.Failure.{is_nobody, is_resume_of_failure, culprit_of, fails_by_envelope}
+use Rattle.mb_journal.specs.Failure.{is_nobody, is_resume_of_failure, failure_source, fails_by_envelope}
 use Rattle.mb_journal.specs.declared.failed_by.FailedBy.{FailedBy}
 use Rattle.mb_journal.specs.declared.failed_by.FailedBy.TheVariants.{Nobody, Itself}
 use Rattle.mb_journal.specs.Identity.{Identity, is_guardian}
@@ -70,7 +70,7 @@ step_by who q e t = record {
       (mark_if t.start Minus ++ mark_if t.suspend Plus ++ mark_if (t.resume || t.restart) Minus ++ mark_if t.failure Plus
       ++ mark_if (t.ending && not t.last) Plus);
   failed =
-      if t.failure then culprit_of e
+      if t.failure then failure_source e
       else (if t.restart then Nobody
       else (if t.resume_of_failure then Nobody
       else (if t.ending && not t.last then Itself

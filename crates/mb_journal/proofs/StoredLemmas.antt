@@ -6,8 +6,8 @@ use Rattle.std.proofs.lemmas.List.{length-reverse, reverse-append, take-append-l
 use Rattle.std.proofs.Math.Seq.{drop-append_seam, take-length}
 use Rattle.mb_actor.specs.declared.effect.Effect.{Effect}
 use Rattle.mb_journal.specs.Stored.{listed, StandInOrder, start_of}
-use Rattle.mb_journal.specs.Log.{entry_with}
-use Rattle.mb_journal.specs.declared.entry.Arrival.{Arrival}
+use Rattle.mb_journal.specs.JournalView.{entry_with}
+use Rattle.mb_journal.specs.declared.entry.Received.{Received}
 use Rattle.mb_journal.specs.declared.row.Row.{Row}
 
 pub length-listed : (from : ℕ) (rows : List Row) (effects : List Effect) → length (listed from rows effects) ≡ length rows
@@ -46,7 +46,7 @@ range-seam effects more to e =
     ∙ (ap (λ n. take n more) (omega (arith, e)) ∙ take-length more)
 
 -- a row more, with its effects at the end, adds its entry at the end
-pub listed-push : (from : ℕ) (rows : List Row) (effects more : List Effect) (arrival : Arrival) (end : ℕ) →
+pub listed-push : (from : ℕ) (rows : List Row) (effects more : List Effect) (arrival : Received) (end : ℕ) →
     StandInOrder from rows (length effects) → end ≡ length effects + length more →
     listed from (rows ++ record { arrival = arrival; end = end } ∷ []) (effects ++ more)
     ≡ listed from rows effects ++ entry_with arrival more ∷ []
@@ -59,7 +59,7 @@ listed-push from (row ∷ rows) effects more arrival end (a, b, rest) at =
     ∙ ap (λ es. entry_with row.arrival (slice_range effects from row.end) ∷ es) (listed-push row.end rows effects more arrival end rest at)
 
 -- a row more adds its entry, the newest first
-pub entries-push : (rows : List Row) (effects more : List Effect) (arrival : Arrival) (end : ℕ) →
+pub entries-push : (rows : List Row) (effects more : List Effect) (arrival : Received) (end : ℕ) →
     StandInOrder 0 rows (length effects) → end ≡ length effects + length more →
     reverse (listed 0 (rows ++ record { arrival = arrival; end = end } ∷ []) (effects ++ more))
     ≡ entry_with arrival more ∷ reverse (listed 0 rows effects)
@@ -76,7 +76,7 @@ listed-get from (row ∷ rows) effects zero d lt = refl
 listed-get from (row ∷ rows) effects (suc i) d lt = listed-get row.end rows effects i d (omega (arith, lt))
 
 -- the order after a push, by what the two lists become
-pub order-pushed : (rows new_rows : List Row) (effects new_effects more : List Effect) (arrival : Arrival) (end : ℕ) →
+pub order-pushed : (rows new_rows : List Row) (effects new_effects more : List Effect) (arrival : Received) (end : ℕ) →
     StandInOrder 0 rows (length effects) → new_rows ≡ rows ++ record { arrival = arrival; end = end } ∷ [] → new_effects ≡ effects ++ more →
     end ≡ length new_effects → StandInOrder 0 new_rows (length new_effects)
 order-pushed rows new_rows effects new_effects more arrival end order by_rows by_effects at =
@@ -84,7 +84,7 @@ order-pushed rows new_rows effects new_effects more arrival end order by_rows by
     rw (by_rows, ← at) (StandInOrder-push 0 rows (length effects) (record { arrival = arrival; end = end }) order (omega arith))
 
 -- the entries after a push, by what the two lists become
-pub entries-pushed : (rows new_rows : List Row) (effects new_effects more : List Effect) (arrival : Arrival) (end : ℕ) →
+pub entries-pushed : (rows new_rows : List Row) (effects new_effects more : List Effect) (arrival : Received) (end : ℕ) →
     StandInOrder 0 rows (length effects) → new_rows ≡ rows ++ record { arrival = arrival; end = end } ∷ [] → new_effects ≡ effects ++ more →
     end ≡ length new_effects →
     reverse (listed 0 new_rows new_effects) ≡ entry_with arrival more ∷ reverse (listed 0 rows effects)

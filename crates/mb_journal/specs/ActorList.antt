@@ -1,4 +1,4 @@
--- Lists of actors in which none stands twice.
+-- Lists of actors without repetition.
 use Rattle.std.specs.Prelude.{Bool, not, if◌then◌else◌, List, [], ◌∷◌, ◌++◌, filter}
 use Rattle.mb_msg.specs.declared.id.ActorId.{ActorId}
 use Rattle.mb_actor.specs.ActorList.{is_same, has}

@@ -1,4 +1,4 @@
--- What an actor's cell has to do about a message, beside its own lists: the acts of an entry, in order
+-- The acts of an entry: what an actor's cell has to do about a message beside changing its own lists, in order
 -- (`akka.actor.ActorCell`, `akka.actor.dungeon.FaultHandling`, `Children`, `DeathWatch`; the order of the acts of one
 -- message is this project's own profile). In each definition `before` is what came before the entry.
 use Rattle.std.specs.Prelude.{Bool, true, not, ◌&&◌, ◌||◌, if◌then◌else◌, List, [], ◌∷◌, ◌++◌, map, filter, Option, Some, None}
@@ -17,7 +17,7 @@ use Rattle.mb_actor.specs.declared.effect.Effect.{Effect}
 use Rattle.mb_actor.specs.declared.effect.Effect.TheVariants as effect
 use Rattle.mb_actor.specs.ActorList.{is_same, has}
 use Rattle.mb_journal.specs.ActorList.{without}
-use Rattle.mb_actor.specs.Tray.{spawns_of}
+use Rattle.mb_actor.specs.OutboxView.{spawns_of}
 use Rattle.mb_journal.specs.Entry.{Entry, outcome_answer, outcome_effects, is_failed}
 use Rattle.mb_journal.specs.Entry.Entry.{Handled, System, Dropped}
 use Rattle.mb_journal.specs.Entry.Outcome.{Applied, SetAside}
@@ -82,7 +82,7 @@ fail_acts who by own c except =
     then SuspendSelf ∷ to_each system.Suspend (filter (λ x. not (has except x)) own) ++ report who c ∷ []
     else []
 
--- the acts of a start (`ActorCell.create`), the guardian's being that of its children
+-- the acts of a start (`ActorCell.create`); the guardian's starts its children
 abbrev pub create_acts : Identity → List Entry → Option Answer → List Effect → List Act
 create_acts who before a effects =
     if is_guardian who then ResumeSelf ∷ to_each system.Create who.prepared
@@ -93,14 +93,14 @@ create_acts who before a effects =
 abbrev pub suspend_acts : Identity → List Entry → List Act
 suspend_acts who before = SuspendSelf ∷ to_each system.Suspend (children who before)
 
--- the acts of a resumption (`FaultHandling.faultResume`): the child whose failure the actor passed up is told that the
--- resumption is meant for it
+-- the acts of a resumption (`FaultHandling.faultResume`): the child whose failure the actor passed up is told that this is
+-- for its failure
 abbrev pub resume_acts : Identity → List Entry → Bool → List Act
 resume_acts who before of_failure =
     ResumeSelf ∷ map (λ x. Sys x (system.Resume (of_failure && is_child (failed who before) x))) (children who before)
 
--- the acts of a restart (`FaultHandling.faultRecreate` and `finishRecreate`): the children that it had are started
--- afresh, or, if it fails, suspended no more than they were
+-- the acts of a restart (`FaultHandling.faultRecreate` and `finishRecreate`): the children that it had are restarted, or,
+-- if it fails, suspended no more than they were
 abbrev pub restart_acts : Identity → List Entry → Cause → Option Answer → List Effect → List Act
 restart_acts who before c a effects =
     ResumeSelf ∷ effect_acts who.this (watching who before) effects
@@ -108,13 +108,13 @@ restart_acts who before c a effects =
     then fail_acts who Nobody (children who before ++ spawns_of effects) cause.Init (children who before)
     else to_each (system.Recreate c) (children who before))
 
--- a child is started afresh for the failure of one of them: another than that one is suspended first, as that one is
--- already (`SupervisorStrategy.restartChild`)
+-- a child is restarted for the failure of one of them: a child other than that one is suspended first, since that one is
+-- suspended already (`SupervisorStrategy.restartChild`)
 abbrev pub restart_for : ActorId → Cause → ActorId → List Act
 restart_for failing c y = if is_same y failing then Sys y (system.Recreate c) ∷ [] else Sys y system.Suspend ∷ Sys y (system.Recreate c) ∷ []
 
--- the acts of what is carried out about a child that failed, for all whom it is meant for: a Resume is for that child
--- alone (`SupervisorStrategy.handleFailure` and `processFailure`, `FaultHandling.handleFailure`)
+-- the acts of a directive about a child that failed, for all children that it is for; a Resume is for that child alone
+-- (`SupervisorStrategy.handleFailure` and `processFailure`, `FaultHandling.handleFailure`)
 abbrev pub supervision_acts : Identity → List Entry → ActorId → Cause → Directive → List Act
 supervision_acts who before x c directive.Resume = Sys x (system.Resume true) ∷ []
 supervision_acts who before x c directive.Restart = flat_map (restart_for x c) (meant_by who before x)

@@ -13,7 +13,7 @@ use Rattle.mb_journal.specs.Phase.{phase_is}
 use Rattle.mb_journal.specs.Suspension.{count}
 use Rattle.mb_actor.specs.declared.phase.Phase.TheVariants.{Fresh, Ending}
 
--- the messages that an actor which ends does not apply
+-- the messages that an ending actor does not apply
 abbrev pub waits_for_the_end : SysMsg → Bool
 waits_for_the_end (system.Failed x c) = true
 waits_for_the_end (system.Recreate c) = true
@@ -51,13 +51,13 @@ abbrev pub first_of_list : List (ℕ × SysMsg) → Option (ℕ × SysMsg)
 first_of_list [] = None
 first_of_list (m ∷ list) = Some m
 
--- the message that goes before all others: the earliest that is set aside, where the mailbox is not suspended and the
--- actor does not end
+-- the system message that is due before all others: the earliest that is set aside, where the mailbox is not suspended and
+-- the actor is not Ending
 unfoldable pub next_front : Identity → List Entry → Option (ℕ × SysMsg)
 next_front who journal =
     if count who journal == 0 && not (phase_is (phase who journal) Ending) then first_of_list (aside who journal) else None
 
--- the number of the next system message that comes: those that came so far have 0, 1, 2, .. in order
+-- the number of the next new system message: those that came so far have the numbers 0, 1, 2, .. in order
 unfoldable pub next_number : List Entry → ℕ
 next_number [] = 0
 next_number (System number message outcome ∷ before) = if number == next_number before then number + 1 else next_number before

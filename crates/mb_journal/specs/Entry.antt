@@ -1,5 +1,5 @@
--- What a journal lists. In the specification a journal is a list of entries with the NEWEST FIRST: what stands behind
--- an entry is what came before it. (Akka keeps no journal: this project's own profile.)
+-- The entries of a journal. In the specification a journal is a list of entries with the NEWEST FIRST: what is behind an
+-- entry in the list came before it. (Akka keeps no journal: this project's own profile.)
 use Rattle.std.specs.Prelude.{ℕ, Bool, true, false, List, [], Option, None}
 use Rattle.mb_msg.specs.declared.envelope.Envelope.{Envelope}
 use Rattle.mb_msg.specs.declared.system.SysMsg.{SysMsg}
@@ -35,6 +35,7 @@ abbrev pub outcome_effects : Outcome → List Effect
 outcome_effects (Applied answer effects) = effects
 outcome_effects SetAside = []
 
+-- the answer says that the actor failed
 abbrev pub is_failed : Option Answer → Bool
 is_failed (Option.Some (answer.Failed n)) = true
 is_failed _ = false

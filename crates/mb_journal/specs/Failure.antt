@@ -25,6 +25,7 @@ use Rattle.mb_journal.specs.Phase.{phase_is}
 use Rattle.mb_journal.specs.Supervision.{directive_of}
 use Rattle.mb_actor.specs.declared.phase.Phase.TheVariants.{Live}
 
+-- the actor is not failed
 abbrev pub is_nobody : FailedBy → Bool
 is_nobody Nobody = true
 is_nobody _ = false
@@ -34,8 +35,8 @@ abbrev pub is_child : FailedBy → ActorId → Bool
 is_child (Child y) x = is_same y x
 is_child _ x = false
 
--- why an actor fails that was sent this and answered so: it was killed, it said so, or it left the end of an actor that
--- it watches unhandled (`ActorCell.autoReceiveMessage`, `DeathWatch.receivedTerminated`)
+-- why an actor fails that was sent this body and gave this answer: it was killed, it answered that it failed, or it left a
+-- Terminated unhandled (`ActorCell.autoReceiveMessage`, `DeathWatch.receivedTerminated`)
 abbrev pub failure_of : Body → Option Answer → Option Cause
 failure_of body.Kill a = Some cause.Killed
 failure_of (body.Terminated x) (Some answer.Unhandled) = Some cause.DeathPact
@@ -51,32 +52,32 @@ abbrev pub is_escalate : Directive → Bool
 is_escalate directive.Escalate = true
 is_escalate _ = false
 
--- the actor passes the failure of a child of its up
+-- the actor escalates the failure of a child
 abbrev pub is_escalation : Identity → Entry → List Entry → Bool
 is_escalation who (System number (system.Failed x c) (Applied answer effects)) before =
     has (children who before) x && is_escalate (directive_of who c)
 is_escalation who _ before = false
 
--- a failure: a start or restart that answers so; or, where nobody made the actor fail before, a Kill, an envelope that
--- is answered so, the end of a watched actor unhandled, or an escalation. `by` is by whom it was failed before
+-- a failure: a start or restart that is answered with a failure; or, where the actor is not failed already, a Kill, an
+-- envelope that is answered with a failure, an unhandled Terminated, or an escalation. `by` is by whom it was failed before
 abbrev pub is_failure_by : FailedBy → Identity → Entry → List Entry → Bool
 is_failure_by by who e before =
     (is_beginning who e before && answered_failed e) || (is_nobody by && (fails_by_envelope e || is_escalation who e before))
 
--- whom a failure is put down to: the child whose failure is passed up, or else the actor itself
-abbrev pub culprit_of : Entry → FailedBy
-culprit_of (System number (system.Failed x c) outcome) = Child x
-culprit_of _ = Itself
+-- who made the actor fail: the child whose failure it escalates, or else the actor itself
+abbrev pub failure_source : Entry → FailedBy
+failure_source (System number (system.Failed x c) outcome) = Child x
+failure_source _ = Itself
 
 abbrev pub is_resume_of_failure : SysMsg → Bool
 is_resume_of_failure (system.Resume true) = true
 is_resume_of_failure _ = false
 
--- by whom the actor is failed after an entry, by what the entry is: the culprit of a failure; nobody after a restart, or
--- after a Resume that is meant for its failure, while Live; itself while its children end; else as before
+-- by whom the actor is failed after an entry: after a failure, who made it fail; nobody after a restart, or after a Resume
+-- for its failure, while Live; itself once it waits for the end of its children; else as before
 abbrev pub failed_after : FailedBy → Identity → Entry → List Entry → FailedBy
 failed_after by who e before =
-    if is_failure_by by who e before then culprit_of e
+    if is_failure_by by who e before then failure_source e
     else (if is_restart who e before then Nobody
     else (if applies is_resume_of_failure e && phase_is (phase who before) Live then Nobody
     else (if is_ending e before && not (is_last who e before) then Itself
@@ -88,5 +89,6 @@ unfoldable pub failed : Identity → List Entry → FailedBy
 failed who [] = Nobody
 failed who (e ∷ before) = failed_after (failed who before) who e before
 
+-- the actor fails by this entry, whoever made it fail before
 abbrev pub is_failure : Identity → Entry → List Entry → Bool
 is_failure who e before = is_failure_by (failed who before) who e before

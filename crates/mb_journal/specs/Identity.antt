@@ -2,11 +2,11 @@
 use Rattle.std.specs.Prelude.{ℕ, ℤ, Bool, is_none, List, Option}
 use Rattle.mb_msg.specs.declared.id.ActorId.{ActorId}
 use Rattle.mb_msg.specs.declared.supervision.Directive.{Directive}
-use Rattle.mb_journal.specs.declared.strategy.Pattern.{Pattern}
+use Rattle.mb_msg.specs.declared.strategy.Pattern.{Pattern}
 
--- its number; its parent, which the guardian alone has not (Akka's `ActorContext.parent`); how many actors there are;
--- the children that it may start, in order; what it does about those that fail, and how often it starts each afresh and
--- whether all of them for one (Akka's `OneForOneStrategy` and `AllForOneStrategy` with `maxNrOfRetries`); and how many
+-- its number; its parent, which the guardian alone does not have (Akka's `ActorContext.parent`); how many actors there are;
+-- the children that it may start, in order; its supervision strategy, how often a child may be restarted, and whether a
+-- directive is for all children (Akka's `OneForOneStrategy` and `AllForOneStrategy` with `maxNrOfRetries`); and how many
 -- entries its journal may have
 pub record Identity : Type 0 where
   pub this : ActorId
@@ -18,6 +18,6 @@ pub record Identity : Type 0 where
   pub all_for_one : Bool
   pub limit : ℕ
 
--- the actor is the guardian (Akka's user guardian), which stands above all others and is no object of the user's
+-- the actor is the guardian (Akka's user guardian), which is above all others and is not an object of the user's
 abbrev pub is_guardian : Identity → Bool
 is_guardian who = is_none who.parent

@@ -1,4 +1,4 @@
--- What the actor was given to handle since it last began.
+-- The messages that the actor was given to handle since its last start or restart.
 use Rattle.std.specs.Prelude.{if◌then◌else◌, List, [], ◌∷◌, ◌++◌}
 use Rattle.mb_msg.specs.declared.envelope.Body.{Body}
 use Rattle.mb_msg.specs.declared.envelope.Body.TheVariants as body
@@ -9,13 +9,15 @@ use Rattle.mb_journal.specs.Entry.Entry.{Handled}
 use Rattle.mb_journal.specs.Identity.{Identity}
 use Rattle.mb_journal.specs.Life.{is_beginning}
 
--- what an envelope gives the actor to handle: the others are handled by its cell (`ActorCell.autoReceiveMessage`)
+-- the message that an envelope gives the actor to handle, if any: a PoisonPill and a Kill are handled by its cell
+-- (`ActorCell.autoReceiveMessage`)
 abbrev pub body_messages : Body → List Message
 body_messages (body.User kind value) = message.User kind value ∷ []
 body_messages (body.Control kind value) = message.Control kind value ∷ []
 body_messages (body.Terminated x) = message.Terminated x ∷ []
 body_messages _ = []
 
+-- what an entry gives the actor to handle: the message of an envelope that was handled
 abbrev pub entry_messages : Entry → List Message
 entry_messages (Handled envelope reading outcome) = body_messages envelope.body
 entry_messages _ = []

@@ -18,7 +18,7 @@ use Rattle.mb_actor.specs.declared.effect.Effect.{Effect}
 use Rattle.mb_actor.specs.declared.message.Message.TheVariants as message
 use Rattle.mb_actor.specs.ActorList.{has}
 use Rattle.mb_journal.specs.Aside.{sets_aside, next_front, next_number}
-use Rattle.mb_actor.specs.Tray.{spawns_of}
+use Rattle.mb_actor.specs.OutboxView.{spawns_of}
 use Rattle.mb_journal.specs.Effects.{lasting_effects}
 use Rattle.mb_journal.specs.Entry.{Entry, Outcome, is_applied}
 use Rattle.mb_journal.specs.Entry.Entry.{Handled, System, Dropped}
@@ -72,7 +72,7 @@ unfoldable pub calls : Identity → List Entry → List Call
 calls who [] = []
 calls who (e ∷ before) = option_to_list (call_of who before e) ++ calls who before
 
--- the moment of a call after these entries
+-- the moment of a call after these entries, as an actor's behaviour is stated of it
 abbrev pub moment : Identity → List Entry → Call → Moment
 moment who before call =
     record { messages = messages who before; call = call; actors = who.actors; unspawned = unspawned who before }
@@ -82,7 +82,7 @@ abbrev pub IsAnswered : Call → Option Answer → Type 0
 IsAnswered Stop a = a ≡ None
 IsAnswered _ a = IsSome a
 
--- what is recorded of a call is what it may give after these entries, and its effects are such as an outbox can hold
+-- the recorded answer and effects are what the call may give after these entries, and an outbox can hold the effects
 pub record IsGivenBy (who : Identity) (gives : Moment → Reply → Type 0) (before : List Entry) (call : Call) (a : Option Answer)
     (effects : List Effect) : Type 0 where
   pub answered : IsAnswered call a
@@ -94,17 +94,17 @@ abbrev pub IsGiven : Identity → (Moment → Reply → Type 0) → List Entry �
 IsGiven who gives before None a effects = (a ≡ None) × (effects ≡ [])
 IsGiven who gives before (Some call) a effects = IsGivenBy who gives before call a effects
 
--- a Terminated is handled if the actor is still to be told so
+-- a Terminated is handled if the actor is still to be told of that end
 abbrev pub IsExpected : Identity → List Entry → Body → Type 0
 IsExpected who before (body.Terminated x) = IsTrue (has (due who before) x)
 IsExpected who before _ = ⊤
 
--- a Terminated is dropped if the actor is not to be told so, and nothing else is
+-- a Terminated is dropped if the actor is not to be told of that end, and no other envelope is
 abbrev pub IsUnexpected : Identity → List Entry → Body → Type 0
 IsUnexpected who before (body.Terminated x) = IsTrue (not (has (due who before) x))
 IsUnexpected who before _ = ⊥
 
--- the number is that of the message which is put in front, or the next new one
+-- the number is that of the message which is due before all others, or the next new one
 abbrev pub IsNumbered : Identity → List Entry → ℕ → SysMsg → Type 0
 IsNumbered who before number m = (number ≡ next_number before) ⊎ (next_front who before ≡ Some (number, m))
 

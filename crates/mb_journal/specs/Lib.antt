@@ -1,14 +1,17 @@
-pub mod Acts
+pub mod Accepted
 pub mod ActorList
+pub mod Acts
 pub mod Aside
 pub mod Effects
 pub mod Entry
 pub mod Failure
+pub mod Fates
 pub mod Identity
 pub mod Incarnation
+pub mod JournalView
 pub mod Lawful
 pub mod Life
-pub mod Log
+pub mod Pair
 pub mod Phase
 pub mod Reading
 pub mod Retries
@@ -16,4 +19,5 @@ pub mod Run
 pub mod Stored
 pub mod Supervision
 pub mod Suspension
+pub mod Tells
 pub mod Watching

@@ -1,5 +1,5 @@
--- An actor's life by its journal: what starts it, starts it afresh and ends it; its children; and the phase.
--- In each definition `before` is what came before the entry `e`.
+-- An actor's life by its journal: what starts it, restarts it and ends it; its children; and the phase. In each definition
+-- `before` is what came before the entry `e`.
 use Rattle.std.specs.Prelude.{Bool, true, false, not, ◌&&◌, ◌||◌, if◌then◌else◌, List, [], ◌∷◌, ◌++◌}
 use Rattle.std.specs.List.{list_any}
 use Rattle.mb_msg.specs.declared.id.ActorId.{ActorId}
@@ -7,7 +7,7 @@ use Rattle.mb_msg.specs.declared.system.SysMsg.{SysMsg}
 use Rattle.mb_msg.specs.declared.system.SysMsg.TheVariants as system
 use Rattle.mb_actor.specs.ActorList.{is_same}
 use Rattle.mb_journal.specs.ActorList.{without}
-use Rattle.mb_actor.specs.Tray.{spawns_of}
+use Rattle.mb_actor.specs.OutboxView.{spawns_of}
 use Rattle.mb_journal.specs.Effects.{applies, lasting_effects}
 use Rattle.mb_journal.specs.Entry.{Entry, answered_failed}
 use Rattle.mb_journal.specs.Entry.Entry.{System}
@@ -59,11 +59,12 @@ abbrev pub spawned : Identity → Entry → List Entry → List ActorId
 spawned who e before = if is_guardian who then (if is_start e before then who.prepared else []) else spawns_of (lasting_effects e)
 
 -- the children, in order of spawning: those that were spawned and whose Died was not applied since
--- (`akka.actor.dungeon.Children`; that they stand in this order is this project's own profile)
+-- (`akka.actor.dungeon.Children`; the order is this project's own profile)
 unfoldable pub children : Identity → List Entry → List ActorId
 children who [] = []
 children who (e ∷ before) = after_death e (children who before) ++ spawned who e before
 
+-- the list names nobody
 abbrev pub is_empty : List ActorId → Bool
 is_empty [] = true
 is_empty (x ∷ list) = false
@@ -106,13 +107,15 @@ unfoldable pub phase : Identity → List Entry → Phase
 phase who [] = Fresh
 phase who (e ∷ before) = phase_after (phase who before) who e before
 
+-- the actor's last entry: an ending without children, or, while Ending, the Died of the last child
 abbrev pub is_last : Identity → Entry → List Entry → Bool
 is_last who e before = is_last_in (phase who before) who e before
 
+-- a restart: an applied Recreate, or an applied Resume while Broken; not while Fresh, and not of the guardian
 abbrev pub is_restart : Identity → Entry → List Entry → Bool
 is_restart who e before = is_restart_in (phase who before) who e
 
--- a start or a restart: from here on the actor's content is counted
+-- a start or a restart: the actor's content counts messages from here on
 abbrev pub is_beginning : Identity → Entry → List Entry → Bool
 is_beginning who e before = is_start e before || is_restart who e before
 

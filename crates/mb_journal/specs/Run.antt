@@ -10,8 +10,8 @@ use Rattle.mb_journal.specs.Life.{closed}
 use Rattle.mb_journal.specs.Reading.{IsOpen}
 use Rattle.mb_journal.specs.Suspension.{count}
 
--- the second journal is the first with system messages added. Where a message is put in front, it is the next
--- (`Mailbox.processAllSystemMessages`; what is put in front is this project's own profile)
+-- the second journal is the first with system messages added. Where a message that was set aside is due, it is the next
+-- (`Mailbox.processAllSystemMessages`; setting aside is this project's own profile)
 pub data IsBlock (who : Identity) (from : List Entry) : List Entry → Type 0 where
   no_more : IsBlock who from from
   one_more : (to : List Entry) (number : ℕ) (m : SysMsg) (outcome : Outcome) →
@@ -23,16 +23,15 @@ IsOfEnvelope (Handled envelope reading outcome) = Unit {0}
 IsOfEnvelope (System number m outcome) = ⊥
 IsOfEnvelope (Dropped envelope) = Unit {0}
 
--- the second journal is the first with a block of system messages added, and then, so many times, an envelope and a
--- block. Before an envelope no system message is put in front
+-- the second journal is the first with a block of system messages added, and then, this many times, an envelope and a
+-- block. Before an envelope no system message that was set aside is due
 pub data IsTurns (who : Identity) (from : List Entry) : ℕ → List Entry → Type 0 where
   a_block : (to : List Entry) → IsBlock who from to → IsTurns who from 0 to
   a_turn : (n : ℕ) (middle to : List Entry) (e : Entry) →
       IsTurns who from n middle → next_front who middle ≡ None → IsOfEnvelope e → IsBlock who (e ∷ middle) to → IsTurns who from (suc n) to
 
--- why a run stopped: the throughput was used up; the status word that was read, this one, was not open; the word that was
--- read, this one, was open, but no envelope was there; the mailbox was closed; or there was no room for a message, in the
--- journal or in memory, when it was asked for
+-- why a run stopped: the throughput was used up; the status word that was read was not open; the word that was read was
+-- open, but there was no envelope; the mailbox was closed; or there was no room for a message, in the journal or in memory
 pub data Stopped : Type 0 where
   UsedUp : Stopped
   NotOpen : ℕ → Stopped
@@ -51,8 +50,8 @@ pub record IsShut (who : Identity) (journal : List Entry) (word : ℕ) : Type 0 
 abbrev pub most_envelopes : ℕ → ℕ
 most_envelopes throughput = max throughput 1
 
--- the reason is true of a run that handled so many envelopes and left this journal. Unless the mailbox was closed or
--- there was no room, no system message is put in front at the end
+-- the reason is true of a run that handled this many envelopes and left this journal. Unless the mailbox was closed or
+-- there was no room, no system message that was set aside is due at the end
 abbrev pub IsReason : Identity → ℕ → ℕ → List Entry → Stopped → Type 0
 IsReason who throughput n to UsedUp = (n ≡ most_envelopes throughput) × (next_front who to ≡ None)
 IsReason who throughput n to (NotOpen word) = (n < most_envelopes throughput) × IsShut who to word × (next_front who to ≡ None)

@@ -3,21 +3,21 @@ use Rattle.std.specs.Prelude.{◌≡◌, ℕ, zero, suc, ◌+◌, ◌<◌, ◌�
 use Rattle.mb_msg.specs.Limits.{most_effects}
 use Rattle.mb_actor.specs.declared.effect.Effect.{Effect}
 use Rattle.mb_journal.specs.Entry.{Entry}
-use Rattle.mb_journal.specs.Log.{entry_with}
+use Rattle.mb_journal.specs.JournalView.{entry_with}
 use Rattle.mb_journal.specs.declared.row.Row.{Row}
 use Rattle.mb_journal.specs.declared.journal.Journal.TheInside.{Inside}
 
--- the entries of rows, the earliest first: each with its effects, which begin at this place
+-- the entries of rows, the earliest first, each with its effects; those of the first begin at this index
 unfoldable pub listed : ℕ → List Row → List Effect → List Entry
 listed from [] effects = []
 listed from (row ∷ rows) effects = entry_with row.arrival (slice_range effects from row.end) ∷ listed row.end rows effects
 
--- the rows' effects stand one after another, from this place to that one
+-- the rows' effects are one after another, from this index to that one
 unfoldable pub StandInOrder : ℕ → List Row → ℕ → Type 0
 StandInOrder from [] to = from ≡ to
 StandInOrder from (row ∷ rows) to = (from ≤ row.end) × (row.end ≤ to) × StandInOrder row.end rows to
 
--- where the effects of the row of a place begin: where those of the row before end
+-- where the effects of the row at an index begin: where those of the row before end
 unfoldable pub start_of : ℕ → List Row → ℕ → ℕ
 start_of from rows zero = from
 start_of from [] (suc i) = from

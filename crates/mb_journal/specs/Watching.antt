@@ -58,8 +58,9 @@ after_told (Handled envelope reading outcome) list = told envelope.body list
     told _ list = list
 after_told _ list = list
 
--- whose end the actor is still to be told, in order of dying: each whose newest among its Died that was applied while the
--- actor watched it, its unwatch, its handled Terminated and the actor's ending is that Died (`DeathWatch.terminatedQueued`)
+-- whose end the actor is still to be told, in order of their ends: each whose newest among its Died that was applied while
+-- the actor watched it, its unwatch, its handled Terminated and the actor's ending is that Died
+-- (`DeathWatch.terminatedQueued`)
 unfoldable pub due : Identity → List Entry → List ActorId
 due who [] = []
 due who (e ∷ before) =

@@ -1,9 +1,10 @@
+//! The entries of a journal.
 use mb_actor::{Answer, Effect};
 use mb_msg::{Envelope, SysMsg};
 
-/// What came to an actor, and what became of it, without the effects. The fields lie in an order that takes 56 bytes.
+/// What came to an actor and what became of it, without the effects. With the fields in this order it takes 56 bytes.
 #[derive(Clone, Copy, PartialEq, Eq)]
-pub enum Arrival {
+pub enum Received {
     /// An envelope that was handled: what the actor answered, if it was called, and the status word that was read
     /// before.
     Handled {
@@ -30,9 +31,9 @@ pub enum Arrival {
 
 /// An entry of a journal, as it is read.
 #[derive(Clone, Copy)]
-pub struct Record<'a> {
-    /// What came, and what became of it.
-    pub arrival: Arrival,
+pub struct EntryRef<'a> {
+    /// What came and what became of it.
+    pub arrival: Received,
     /// The effects that the actor asked for, in order.
     pub effects: &'a [Effect],
 }

@@ -1,3 +1,4 @@
+//! Who made an actor fail.
 use mb_msg::ActorId;
 
 /// Who made an actor fail (Akka's `FailedInfo`).

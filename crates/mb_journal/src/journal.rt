@@ -1,12 +1,13 @@
+//! The journal and its operations.
 ghost use Rattle.std.specs.Prelude.{◌≡◌, ◌↔◌, ◌+◌, ◌<◌, ◌≤◌, [], ◌∷◌, ◌++◌, false, true};
 ghost use Rattle.std.specs.Prelude.{length, reverse, slice_get, slice_range, vec_len, vec_capacity, Some, IsTrue, IsErrOf, IsOk, OnOk, OnErr};
 ghost use Rattle.mb_msg.specs.Limits.{most_effects};
 ghost use Rattle.mb_journal.specs.Entry.Entry.{Handled, System, Dropped};
 ghost use Rattle.mb_journal.specs.Entry.Outcome.{Applied, SetAside};
 ghost use Rattle.mb_journal.specs.Stored as stored;
-ghost use Rattle.mb_journal.specs.Log.{entry_of, entry_with};
+ghost use Rattle.mb_journal.specs.JournalView.{entry_of, entry_with};
 
-use crate::entry::{Arrival, Record};
+use crate::entry::{EntryRef, Received};
 use crate::error::ReadyError;
 use crate::row::Row;
 use mb_actor::{Answer, Effect};
@@ -15,9 +16,9 @@ use mb_msg::{Envelope, SysMsg};
 use std::alloc::Global;
 use std::marker::Model;
 
-/// What came to an actor and what became of it (this project's own profile: Akka keeps no journal).
+/// What came to an actor and what became of that (this project's own profile: Akka keeps no journal).
 ///
-/// Room for an entry is made beforehand, by `ready`: to add the entry takes no memory.
+/// `ready` makes room for an entry beforehand, so that adding one takes no memory.
 pub struct Journal {
     rows: Vec<Row>,
     effects: Vec<Effect>,
@@ -25,7 +26,7 @@ pub struct Journal {
     ready: bool,
 }
 
-// Written out: of a derived `Drop` each crate above would prove again how all that is inside is let go.
+// `Drop` is written by hand: with a derived one, each crate above would prove again how the fields are dropped.
 impl Drop for Journal {
     fn drop(self) {
         let Journal {
@@ -39,9 +40,9 @@ impl Drop for Journal {
 
 impl Model for Journal {
     ghost use Rattle.std.specs.Prelude.{reverse};
-    ghost use Rattle.mb_journal.specs.Log.{Log};
+    ghost use Rattle.mb_journal.specs.JournalView.{JournalView};
 
-    ghost Value = { Log };
+    ghost Value = { JournalView };
 
     ghost use Rattle.mb_journal.specs.Stored.{listed, IsStored};
 
@@ -51,7 +52,7 @@ impl Model for Journal {
 }
 
 impl Journal {
-    /// An empty journal that may have so many entries. It takes no memory yet.
+    /// An empty journal that may have `limit` entries. This takes no memory.
     pub fn new(alloc: Global, limit: u32) -> Self
         ensures { result ≡ record { entries = []; limit = limit; is_ready = false } }
     {
@@ -86,7 +87,7 @@ impl Journal {
         self.len() >= self.limit as usize
     }
 
-    /// Makes room for another entry and its effects, if it is not there.
+    /// Makes room for another entry and its effects, unless there is room already.
     ///
     /// It answers `JournalFull` if the journal has as many entries as it may have, and else `NoMemory` if the memory for
     /// the room was refused. Nothing has changed then.
@@ -128,7 +129,7 @@ impl Journal {
         ensures within { length self.new.entries ≤ self.new.limit }
     {
         self.push(
-            Arrival::Handled {
+            Received::Handled {
                 answer,
                 envelope,
                 reading,
@@ -155,7 +156,7 @@ impl Journal {
         ensures within { length self.new.entries ≤ self.new.limit }
     {
         self.push(
-            Arrival::System {
+            Received::System {
                 answer,
                 number,
                 message,
@@ -170,7 +171,7 @@ impl Journal {
         ensures added { self.new ≡ record self.old { entries = System number message SetAside ∷ self.old.entries; is_ready = false } }
         ensures within { length self.new.entries ≤ self.new.limit }
     {
-        self.push(Arrival::SetAside { number, message }, &[]);
+        self.push(Received::SetAside { number, message }, &[]);
     }
 
     /// Adds an envelope that was dropped.
@@ -179,12 +180,12 @@ impl Journal {
         ensures added { self.new ≡ record self.old { entries = Dropped envelope ∷ self.old.entries; is_ready = false } }
         ensures within { length self.new.entries ≤ self.new.limit }
     {
-        self.push(Arrival::Dropped { envelope }, &[]);
+        self.push(Received::Dropped { envelope }, &[]);
     }
 
-    /// Adds an entry and its effects where there is room.
+    /// Adds an entry and its effects. There is room for them.
     #[inline(always)]
-    fn push(&mut self, arrival: Arrival, effects: &[Effect])
+    fn push(&mut self, arrival: Received, effects: &[Effect])
         requires ready { IsTrue self.old.is_ready }
         requires few { length effects.now ≤ most_effects }
         ensures added { self.new ≡ record self.old { entries = entry_with arrival effects.now ∷ self.old.entries; is_ready = false } }
@@ -196,21 +197,21 @@ impl Journal {
         self.rows.push_reserved(Row { arrival, end });
     }
 
-    /// The entry of this place, the first entry's being 0.
-    pub fn get(&self, index: usize) -> Record<'_>
+    /// The entry at this index, from 0.
+    pub fn get(&self, index: usize) -> EntryRef<'_>
         requires { index < length self.now.entries }
         ensures { slice_get (reverse self.now.entries) index ≡ Some (entry_of result) }
     {
         let from = start_of(&self.rows, index);
         let row = self.rows[index];
-        Record {
+        EntryRef {
             arrival: row.arrival,
             effects: part(&self.effects, from, row.end),
         }
     }
 }
 
-/// Adds these effects where there is room for them.
+/// Adds these effects. There is room for them.
 #[inline(always)]
 fn add_all(list: &mut Vec<Effect>, effects: &[Effect])
     requires { vec_len list.old + length effects.now ≤ vec_capacity list.old }
@@ -221,7 +222,7 @@ fn add_all(list: &mut Vec<Effect>, effects: &[Effect])
     }
 }
 
-/// Where the effects of the row of this place begin.
+/// Where the effects of the row at this index begin.
 fn start_of(rows: &[Row], index: usize) -> usize
     requires { index < length rows.now }
     ensures { result ≡ stored.start_of 0 rows.now index }
@@ -229,7 +230,7 @@ fn start_of(rows: &[Row], index: usize) -> usize
     if index == 0 { 0 } else { rows[index - 1].end }
 }
 
-/// The effects from one place up to another.
+/// The effects from one index up to another.
 fn part(effects: &[Effect], from: usize, to: usize) -> &[Effect]
     requires ordered { from ≤ to }
     requires within { to ≤ length effects.now }

@@ -1,12 +1,13 @@
-use crate::entry::Arrival;
+//! How an entry is stored.
+use crate::entry::Received;
 use mb_actor::Effect;
 use std::mem::size_of;
 
-/// A row of the journal: an entry without its effects, and where they end in the list of all effects. They begin where
-/// those of the row before end.
+/// A row of the journal: an entry without its effects, and where its effects end in the list of all effects. They begin
+/// where those of the row before end.
 #[derive(Clone, Copy)]
 pub(crate) struct Row {
-    pub(crate) arrival: Arrival,
+    pub(crate) arrival: Received,
     pub(crate) end: usize,
 }
 

@@ -1,3 +1,4 @@
+//! Dead letters, and why an envelope becomes one.
 use crate::envelope::Envelope;
 
 /// Why an envelope was not queued, or was taken from its queue unhandled.
@@ -18,6 +19,6 @@ pub enum Why {
 pub struct DeadLetter {
     /// What was sent.
     pub envelope: Envelope,
-    /// What became of it.
+    /// Why it is dead.
     pub why: Why,
 }

@@ -1,3 +1,4 @@
+//! Envelopes: what is sent to an actor's mailbox.
 use crate::id::{ActorId, SenderId};
 
 /// What an envelope carries (the messages that Akka's `ActorCell.receiveMessage` and `autoReceiveMessage` tell apart).
@@ -16,9 +17,11 @@ pub enum Body {
     Terminated(ActorId),
 }
 
-/// A message on its way, with what names it: of all envelopes of one sender each has a number of its own.
+/// A message on its way (`akka.dispatch.Envelope`). Its sender and its number name it: of all envelopes of one sender
+/// each has a number of its own.
 ///
-/// The fields lie in an order that takes 32 bytes. Envelopes compare by them in this order, which no rule rests on.
+/// With its fields in this order an envelope takes 32 bytes. Envelopes compare by them in this order; no rule depends
+/// on that.
 #[derive(Clone, Copy, Debug, PartialEq, Eq)]
 pub struct Envelope {
     /// Who sent it.

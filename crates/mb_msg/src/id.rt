@@ -1,3 +1,4 @@
+//! The numbers of actors and of senders.
 ghost use Rattle.std.specs.Prelude.{◌≡◌};
 ghost use Rattle.mb_msg.specs.Sender.{outside_sender};
 

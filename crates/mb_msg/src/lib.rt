@@ -1,15 +1,31 @@
-//! What actors send one another, and the names that they send it by: plain data, compared and ordered by its fields.
+//! The messages between actors, the numbers of actors and senders, supervision's causes and directives, and the limits
+//! of the product: plain data, compared and ordered by its fields.
+//!
+//! The plan from which a system is built: how many workers there are, how they share the work, and for each actor its
+//! parent, its mailbox and its supervision strategy; and what senders outside the actors are to send. Plain data.
 #![tactic(auto)]
 
+mod actor_plan;
 mod dead_letter;
 mod envelope;
 mod id;
 pub mod limits;
+mod mailbox_type;
+mod order;
+mod plan;
+mod pool_kind;
+mod strategy;
 mod supervision;
 mod system;
 
+pub use actor_plan::ActorPlan;
 pub use dead_letter::{DeadLetter, Why};
 pub use envelope::{Body, Envelope};
 pub use id::{ActorId, SenderId};
+pub use mailbox_type::{MailboxType, RankRow};
+pub use order::{Order, OrderKind, SenderOrder};
+pub use plan::Plan;
+pub use pool_kind::PoolKind;
+pub use strategy::{Pattern, Strategy, by_default};
 pub use supervision::{Cause, Directive};
 pub use system::SysMsg;

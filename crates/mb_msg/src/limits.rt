@@ -1,4 +1,4 @@
-//! The limits of the product.
+//! The limits of the product, as named constants.
 
 ghost use Rattle.std.specs.Prelude.{◌≡◌};
 ghost use Rattle.mb_msg.specs.Limits.{most_actors, most_outside_senders, most_effects};

@@ -1,3 +1,5 @@
+//! The causes of failures and the directives of supervisors.
+
 /// Why an actor failed (in Akka the exception that its supervisor is told).
 #[derive(Clone, Copy, Debug, PartialEq, Eq)]
 pub enum Cause {

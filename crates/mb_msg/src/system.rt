@@ -1,3 +1,4 @@
+//! System messages (`akka.dispatch.sysmsg`).
 use crate::id::ActorId;
 use crate::supervision::Cause;
 
@@ -6,7 +7,7 @@ use crate::supervision::Cause;
 pub enum SysMsg {
     /// The first message of an actor: starts it.
     Create,
-    /// Starts it afresh after this failure.
+    /// Restarts it after this failure.
     Recreate(Cause),
     /// Handle no envelopes until resumed.
     Suspend,

@@ -1,4 +1,4 @@
-//! What an outbox answers, what an actor may ask for in it, and which call each call of an actor makes.
+//! Tests of outboxes and of the calls of an actor.
 
 mod asking;
 mod calls;

@@ -1,27 +1,27 @@
-//! Calls of an actor, which are data.
-use mb_actor::{Actor, Answer, Call, Called, Effect, Outbox};
+//! Calls of an actor, as data.
+use mb_actor::{Actor, Answer, Call, Effect, Outbox, RecordedActor};
 use std::process::Abort;
 
-/// A call, what it answers, what is asked for, and the state then.
+/// A call, its answer, its effects, and the state after it.
 pub(crate) type Step = (Call, Option<Answer>, &'static [Effect], i64);
 
-/// Makes each of these calls of the actor, and sees to it that all comes of it as it says.
+/// Makes each of these calls of the actor, and checks what comes of it.
 pub(crate) fn each_call<A: Actor>(rt: &impl Abort, actor: A, out: &mut Outbox, steps: &[Step]) {
-    let mut called = Called::new(actor);
+    let mut called = RecordedActor::new(actor);
     for step in steps {
         let (call, ..) = *step;
         assert!(rt; goes(&mut called, out, step), "{call:?}");
     }
 }
 
-/// Makes a call: whether all comes of it as it says.
-fn goes<A: Actor>(called: &mut Called<A>, out: &mut Outbox, step: &Step) -> bool {
+/// Makes a call; whether what comes of it is as stated.
+fn goes<A: Actor>(called: &mut RecordedActor<A>, out: &mut Outbox, step: &Step) -> bool {
     let (call, answer, effects, state) = *step;
     make(called, &call, out) == answer && out.effects() == effects && called.state() == state
 }
 
 /// Makes a call: its answer, if it has one.
-fn make<A: Actor>(called: &mut Called<A>, call: &Call, out: &mut Outbox) -> Option<Answer> {
+fn make<A: Actor>(called: &mut RecordedActor<A>, call: &Call, out: &mut Outbox) -> Option<Answer> {
     out.settle();
     match call {
         Call::Start => Some(called.start(out)),

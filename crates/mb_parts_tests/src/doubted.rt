@@ -1,4 +1,4 @@
-//! What is looked at in reports, tried on reports by hand: on two that are right, and on others that have one thing wrong.
+//! The checks of reports, tried on reports by hand: on two that are right, and on others with one thing wrong.
 ghost use Rattle.std.specs.Prelude.{◌≡◌, OnOk, IfOk, IsTrue, length};
 
 use crate::doubted::Twist::{
@@ -10,8 +10,7 @@ use mb_journal::Journal;
 use mb_msg::Why::{self, Closed, Full};
 use mb_msg::{ActorId, Body, DeadLetter, Envelope, SenderId, SysMsg};
 use mb_report::{ActorReport, Report, SenderReport};
-use mb_trial::Sending::{Stop, Tell};
-use mb_trial::{ADD, COUNTER, PLAIN, Sending, Story, is_right, plan_of, sends_of};
+use mb_testkit::{ADD, COUNTER, Order, PLAIN, TestCase, is_right, plan_of, sends_of, stop, tell};
 use std::alloc::{AllocError, Global};
 use std::process::Abort;
 
@@ -28,23 +27,23 @@ const FOUR: Letter = (65, 0, 4);
 
 const EIGHT: Letter = (65, 1, 8);
 
-const TWO_SENDERS: Story<'static> = Story {
+const TWO_SENDERS: TestCase<'static> = TestCase {
     senders: 2,
     parts: &[COUNTER],
     ..PLAIN
 };
 
-const FIRST: &[Sending] = &[Tell(1, ADD, 1), Tell(1, ADD, 2)];
+const FIRST: &[Order] = &[tell!(1, ADD, 1), tell!(1, ADD, 2)];
 
-const OTHER: &[Sending] = &[Tell(1, ADD, 4), Tell(1, ADD, 8)];
+const OTHER: &[Order] = &[tell!(1, ADD, 4), tell!(1, ADD, 8)];
 
-const OTHER_AND_STOP: &[Sending] = &[Tell(1, ADD, 4), Tell(1, ADD, 8), Stop(1)];
+const OTHER_AND_STOP: &[Order] = &[tell!(1, ADD, 4), tell!(1, ADD, 8), stop!(1)];
 
 const ALL: &[Letter] = &[ONE, FOUR, TWO, EIGHT];
 
 const WITHOUT_TWO: &[Letter] = &[ONE, FOUR, EIGHT];
 
-/// What else a report says.
+/// What is special about a report.
 #[derive(Clone, Copy)]
 enum Twist {
     Nothing,
@@ -64,11 +63,12 @@ enum Twist {
     StartedLate,
     /// The other sender was to stop the actor, and it was stopped.
     Stopped,
-    /// The other sender was to stop the actor, and nothing came.
+    /// The other sender was to stop the actor, and the actor got no Terminate.
     Overlooked,
 }
 
-/// What a report says of an actor to which the two sent: the envelopes that it handled, its state, its phase, and what else.
+/// A report of an actor to which the two sent: a name, the envelopes that it handled, its state, its phase, and what is
+/// special.
 type Claim = (&'static str, &'static [Letter], i64, Phase, Twist);
 
 const RIGHT: &[Claim] = &[
@@ -128,7 +128,7 @@ const WRONG: &[Claim] = &[
     ("a system message is lost", ALL, 15, Live, StartedLate),
 ];
 
-/// Whether the claim is found right.
+/// Whether the checks find the report right.
 fn is_found_right(alloc: Global, claim: &Claim) -> Result<bool, AllocError> {
     let report = report_of(alloc, claim)?;
     let (_, _, _, _, twist) = *claim;
@@ -142,7 +142,7 @@ fn is_report_right(alloc: Global, report: &Report, twist: Twist) -> Result<bool,
 }
 
 /// What the two were to send.
-fn sends(alloc: Global, twist: Twist) -> Result<Vec<Vec<Sending>>, AllocError> {
+fn sends(alloc: Global, twist: Twist) -> Result<Vec<Vec<Order>>, AllocError> {
     let other = match twist {
         Stopped | Overlooked => OTHER_AND_STOP,
         _ => OTHER,
@@ -185,7 +185,6 @@ fn guardian(alloc: Global, twist: Twist) -> Result<ActorReport, AllocError> {
     Ok(guardian)
 }
 
-/// The actor that handled what is claimed.
 fn receiver(alloc: Global, claim: &Claim) -> Result<ActorReport, AllocError> {
     let (_, _, state, phase, twist) = *claim;
     let first = u64::from(matches!(twist, StartedLate));
@@ -247,7 +246,7 @@ fn started(alloc: Global, number: u64, answer: Option<Answer>) -> Result<ActorRe
     })
 }
 
-/// Adds that the system message of this number was applied.
+/// Adds the entry of the system message of this number.
 fn apply(
     journal: &mut Journal,
     number: u64,
@@ -259,7 +258,7 @@ fn apply(
     Ok(())
 }
 
-/// Adds that this was handled, before which this status word was read.
+/// Adds the entry of this envelope, handled at this status word.
 fn handle(journal: &mut Journal, letter: Letter, reading: u64) -> Result<(), AllocError> {
     make_ready(journal)?;
     journal.push_handled(envelope(letter), reading, Some(Answer::Handled), &[]);

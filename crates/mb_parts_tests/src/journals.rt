@@ -1,9 +1,10 @@
-//! A journal is read back entry by entry, keeps to its limit, and a strategy decides by its first row that matches.
+//! Tests of journals, which are read back entry by entry and keep to their limit, and of strategies, which decide by
+//! their first row that matches.
 ghost use Rattle.std.specs.Prelude.{◌≡◌, true};
 
 use mb_actor::{Answer, Effect};
-use mb_journal::{Arrival, Journal, Pattern, ReadyError, Record, Strategy};
-use mb_msg::{ActorId, Body, Cause, Directive, Envelope, SenderId, SysMsg};
+use mb_journal::{EntryRef, Journal, ReadyError, Received};
+use mb_msg::{ActorId, Body, Cause, Directive, Envelope, Pattern, SenderId, Strategy, SysMsg};
 use std::alloc::{AllocError, Global};
 use std::process::Abort;
 use std::test::Fail;
@@ -37,12 +38,12 @@ const ADDED: Envelope = Envelope {
 };
 
 /// An entry, with its effects.
-type Told = (Arrival, &'static [Effect]);
+type Told = (Received, &'static [Effect]);
 
 /// One of each kind.
 const ENTRIES: &[Told] = &[
     (
-        Arrival::System {
+        Received::System {
             number: 0,
             message: SysMsg::Create,
             answer: Some(Answer::Handled),
@@ -50,7 +51,7 @@ const ENTRIES: &[Told] = &[
         &[Effect::Spawn(ActorId(2)), Effect::Watch(ActorId(2))],
     ),
     (
-        Arrival::Handled {
+        Received::Handled {
             envelope: ADDED,
             reading: 2,
             answer: Some(Answer::Failed(3)),
@@ -58,14 +59,14 @@ const ENTRIES: &[Told] = &[
         &[],
     ),
     (
-        Arrival::SetAside {
+        Received::SetAside {
             number: 1,
             message: SysMsg::Failed(ActorId(2), Cause::Error(1)),
         },
         &[],
     ),
     (
-        Arrival::Handled {
+        Received::Handled {
             envelope: Envelope {
                 number: 1,
                 body: Body::User { kind: 1, value: 8 },
@@ -77,7 +78,7 @@ const ENTRIES: &[Told] = &[
         &[Effect::Stop(ActorId(3))],
     ),
     (
-        Arrival::Dropped {
+        Received::Dropped {
             envelope: Envelope {
                 number: 2,
                 body: Body::User { kind: 1, value: 9 },
@@ -88,29 +89,28 @@ const ENTRIES: &[Told] = &[
     ),
 ];
 
-/// Adds this entry.
 fn push(rt: &impl Abort, journal: &mut Journal, told: &Told) {
     let (arrival, effects) = *told;
     assert!(rt; effects.len() <= 16);
     make_ready(rt, journal);
     match arrival {
-        Arrival::Handled {
+        Received::Handled {
             envelope,
             reading,
             answer,
         } => journal.push_handled(envelope, reading, answer, effects),
-        Arrival::System {
+        Received::System {
             number,
             message,
             answer,
         } => journal.push_system(number, message, answer, effects),
-        Arrival::SetAside { number, message } => journal.push_set_aside(number, message),
-        Arrival::Dropped { envelope } => journal.push_dropped(envelope),
+        Received::SetAside { number, message } => journal.push_set_aside(number, message),
+        Received::Dropped { envelope } => journal.push_dropped(envelope),
     }
 }
 
-/// Sees to it that an entry is as it was added.
-fn is_read_back(rt: &impl Abort, entry: &Record<'_>, told: &Told) {
+/// Checks that an entry is as it was added.
+fn is_read_back(rt: &impl Abort, entry: &EntryRef<'_>, told: &Told) {
     let (arrival, effects) = *told;
     assert!(rt; entry.arrival == arrival && entry.effects == effects);
 }
@@ -135,7 +135,7 @@ fn the_limit_is_kept(rt: HostRuntime) {
     is_full_after(&rt, &mut Journal::new(rt.alloc(), 2), 2);
 }
 
-/// Sees to it that so many entries find room in a new journal, and no more.
+/// Checks that a new journal has room for this many entries, and no more.
 fn is_full_after(rt: &impl Abort, journal: &mut Journal, entries: u64) {
     for number in 0..entries {
         assert!(rt; !journal.is_full());
@@ -159,16 +159,15 @@ fn a_long_journal_keeps_its_entries(rt: HostRuntime) {
     }
 }
 
-/// One effect.
 const TOLD: &[Effect] = &[Effect::Tell {
     to: ActorId(2),
     kind: 4,
     value: 6,
 }];
 
-/// Sees to it that an entry tells of the envelope of this number, and of this effect.
-fn tells_of(rt: &impl Abort, entry: &Record<'_>, number: u64) {
-    let arrival = Arrival::Handled {
+/// Checks that an entry is of the envelope of this number, with this effect.
+fn tells_of(rt: &impl Abort, entry: &EntryRef<'_>, number: u64) {
+    let arrival = Received::Handled {
         envelope: add(number, 5),
         reading: 2,
         answer: Some(Answer::Handled),
@@ -196,7 +195,7 @@ const BY_DEFAULT: &[(Cause, Directive)] = &[
     (Cause::Killed, Directive::Stop),
 ];
 
-/// Sees to it that a strategy of these rows decides so.
+/// Checks that a strategy of these rows decides so.
 fn decides(rt: &impl Abort, rows: Vec<(Pattern, Directive)>, cases: &[(Cause, Directive)]) {
     let strategy = Strategy {
         rows,
@@ -209,7 +208,7 @@ fn decides(rt: &impl Abort, rows: Vec<(Pattern, Directive)>, cases: &[(Cause, Di
     }
 }
 
-/// A list of the rows, made again where memory was refused.
+/// A list of the rows; retried where memory was refused.
 fn rows_at_last(alloc: Global) -> Result<Vec<(Pattern, Directive)>, AllocError> {
     match ROWS.to_vec(alloc) {
         Err(_) => ROWS.to_vec(alloc),

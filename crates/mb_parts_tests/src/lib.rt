@@ -1,5 +1,5 @@
-//! The tests of the small crates that all others stand on: statuses, names and limits, outboxes and calls of an actor, lists of
-//! system messages, journals, scripts and reports, the machine, and what is looked at in a trial's report.
+//! The tests of the lower crates: statuses, ids and limits, outboxes and calls of actors, lists of system messages,
+//! journals, scripts and reports, the machine, and the checks of reports.
 #![tactic(auto)]
 
 #[cfg(test)]

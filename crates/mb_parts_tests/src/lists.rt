@@ -1,4 +1,5 @@
-//! A list of system messages gives the earliest first, goes on numbering, and may be long and go to another thread.
+//! Tests of lists of system messages: they give the earliest first, go on numbering, may be long, and may go to another
+//! thread.
 ghost use Rattle.std.specs.Prelude.{◌≡◌};
 
 use mb_msg::{ActorId, Cause, SysMsg};
@@ -21,12 +22,12 @@ fn node_of(rt: &impl Abort, alloc: Global, message: SysMsg) -> Node
     }
 }
 
-/// Pushes a node, whose number has to be this one.
+/// Pushes a node; its number has to be this one.
 fn push(rt: &impl Abort, list: &mut SysList, node: Node, number: u64) {
     assert!(rt; list.push(node).ok() == Some(number), "{number}");
 }
 
-/// Takes a node out of a chain, which has to have this number and this message.
+/// Takes a node out of a chain; it has to have this number and this message.
 fn take(rt: &impl Abort, chain: &mut Chain, number: u64, message: SysMsg) {
     assert!(rt; next_of(chain) == Some((number, message)), "{number}");
 }
@@ -47,7 +48,7 @@ fn long_list(rt: &impl Abort, alloc: Global) -> SysList {
     list
 }
 
-/// A call on a list, or on what was drained of it last, and its answer.
+/// A call on a list, or on what was drained last, and its answer.
 #[derive(Clone, Copy)]
 enum Step {
     /// The message is listed under this number.
@@ -137,7 +138,7 @@ fn relisted(list: &mut SysList, chain: &mut Chain, message: SysMsg) -> Option<u6
     list.push(node).ok()
 }
 
-/// Sees to it that all goes so on a new list, step by step.
+/// Checks these steps on a new list.
 fn goes_so(rt: &impl Abort, alloc: Global, course: &[Step]) {
     let mut list = SysList::new();
     let mut chain = list.drain();

@@ -1,4 +1,5 @@
-//! The machine: the table of its steps, with worked runs, where runs begin, a long one, and generated runs against the laws.
+//! Tests of the machine: a table of its steps, worked runs, where runs begin, a long run, and random runs against the
+//! laws.
 mod cases;
 mod generated;
 mod runs;

@@ -1,4 +1,4 @@
-//! The limits, each at its last place and one past it.
+//! Tests of the limits, each at its last value and one past it.
 
 use mb_msg::{Body, Envelope, SenderId, limits};
 

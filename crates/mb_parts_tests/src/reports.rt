@@ -1,4 +1,4 @@
-//! The text of a report of three actors, also where memory is refused.
+//! Tests of the text of a report of three actors, also where memory is refused.
 ghost use Rattle.std.specs.Prelude.{◌≡◌, ◌+◌, IfSome, length};
 
 use mb_actor::{Answer, Phase};
@@ -17,7 +17,7 @@ fn envelope(to: u32, number: u64) -> Envelope {
     }
 }
 
-/// An actor of which nothing is to be told but its journal.
+/// An actor with nothing but a journal.
 fn quiet(alloc: Global, phase: Phase, state: Option<i64>, journal: Journal) -> ActorReport {
     ActorReport {
         phase,
@@ -79,7 +79,6 @@ fn actors(alloc: Global) -> Option<Vec<ActorReport>>
     vec![in alloc; guardian, first, second].ok()
 }
 
-/// A dead letter to an actor.
 fn dead(to: u32, number: u64, why: Why) -> DeadLetter {
     DeadLetter {
         envelope: envelope(to, number),
@@ -100,7 +99,6 @@ fn senders(alloc: Global) -> Option<Vec<SenderReport>>
     vec![in alloc; SenderReport { sent: 8, dead }].ok()
 }
 
-/// The names of the two actors.
 fn names(alloc: Global) -> Option<Vec<String>>
     ensures { IfSome result (λ made. length made.items ≡ 2) }
 {
@@ -119,7 +117,7 @@ fn reported(alloc: Global) -> Option<(Report, Vec<String>)>
     Some((Report { actors, senders }, names))
 }
 
-/// The same, made again where memory was refused.
+/// The same; retried where memory was refused.
 fn reported_at_last(alloc: Global) -> Option<(Report, Vec<String>)>
     ensures { IfSome result (λ made. length made.0.actors.items ≡ length made.1.items + 1) }
 {
@@ -129,14 +127,13 @@ fn reported_at_last(alloc: Global) -> Option<(Report, Vec<String>)>
     }
 }
 
-/// Its text.
 const TEXT: &str = "guardian live state - suspended 0 handled 0 left 0 dead 0 restarts 0
 a ended state -9223372036854775808 suspended 0 handled 2 left 0 dead 3 restarts 1
 b_2 broken state 7 suspended 3 handled 0 left 2 dead 1 restarts 0
 sent 8 handled 2 left 2 dead 4
 ";
 
-/// The text of the report, made and written again where memory was refused.
+/// The text of the report; retried where memory was refused.
 fn printed_at_last(alloc: Global) -> Option<String> {
     let (report, names) = reported_at_last(alloc)?;
     match report_text(alloc, &report, &names) {
@@ -145,7 +142,7 @@ fn printed_at_last(alloc: Global) -> Option<String> {
     }
 }
 
-/// Run with each allocation refused in turn (`tools/refuse_each_allocation_of_scenarios`).
+/// `tools/refuse_each_allocation report` runs this with each allocation refused in turn.
 #[test]
 fn a_refused_text_can_be_written_again(rt: HostRuntime) -> Result<(), Fail> {
     let text = printed_at_last(rt.alloc()).ok_or(AllocError)?;

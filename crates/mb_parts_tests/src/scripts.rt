@@ -1,4 +1,4 @@
-//! What a script does at each call, and among how many rows it finds the one of a message.
+//! Tests of what a script does at each call, and of finding the row of a message among many.
 ghost use Rattle.std.specs.Prelude.{◌≡◌, ◌<◌, [], ◌∷◌, IfOk};
 
 use crate::course::{Step, each_call};
@@ -57,7 +57,7 @@ fn does_the_first_row_of_a_kind(rt: HostRuntime) -> Result<(), Fail> {
     Ok(())
 }
 
-/// What comes of it. The first row of kind 2 adds twice; nothing is done for kind 3, or at the end of another.
+/// What comes of it. The first row of kind 2 adds twice; nothing is done for kind 3, or at a Terminated.
 const BY_KIND: &[Step] = &[
     (Call::Start, HANDLED, &[], 10),
     (
@@ -108,12 +108,12 @@ fn with_row(alloc: Global, operations: &[Operation]) -> Result<Script, AllocErro
     with_rows(alloc, 0, vec![in alloc; row]?)
 }
 
-/// The actor that is told, watched and stopped.
+/// The actor that messages are sent to, and that is watched and stopped.
 const OTHER: ActorId = ActorId(1);
 
 const CHILD: ActorId = ActorId(2);
 
-/// Each operation; one is refused, a second of a kind too, and what comes behind a failure is not done.
+/// Each operation; one is refused, a second spawn too, and what comes after a failure is not done.
 const EACH: &[Operation] = &[
     Operation::Add,
     Operation::Ignore,
@@ -170,7 +170,7 @@ fn does_what_its_hooks_say(rt: HostRuntime) -> Result<(), Fail> {
     Ok(())
 }
 
-/// What comes of it: the value of what is told is 0, and the number of the one that has ended.
+/// What comes of it: the value that is sent is 0, and at a Terminated the number of the actor that has ended.
 const BY_HOOK: &[Step] = &[
     (
         Call::Start,
@@ -224,7 +224,7 @@ fn adder(alloc: Global) -> Result<Script, AllocError> {
     with_rows(alloc, 1, rows)
 }
 
-/// The same, made again where memory was refused.
+/// The same; retried where memory was refused.
 fn adder_at_last(alloc: Global) -> Result<Script, AllocError> {
     match adder(alloc) {
         Ok(script) => Ok(script),
@@ -232,7 +232,7 @@ fn adder_at_last(alloc: Global) -> Result<Script, AllocError> {
     }
 }
 
-/// An outbox, made again where memory was refused.
+/// An outbox; retried where memory was refused.
 fn outbox_at_last(alloc: Global) -> Result<Outbox, AllocError>
     ensures { IfOk result (λ out. out ≡ record { effects = []; actors = 3; unspawned = (record { 0 = 2 }) ∷ [] }) }
 {
@@ -242,7 +242,7 @@ fn outbox_at_last(alloc: Global) -> Result<Outbox, AllocError>
     }
 }
 
-/// Run with each allocation refused in turn (`tools/refuse_each_allocation_of_scenarios`).
+/// `tools/refuse_each_allocation script` runs this with each allocation refused in turn.
 #[test]
 fn a_refused_script_can_be_made_again(rt: HostRuntime) -> Result<(), Fail> {
     let alloc = rt.alloc();
@@ -273,7 +273,7 @@ const BY_ADDER: &[Step] = &[
     ),
 ];
 
-/// The state of an actor with so many rows, each of which adds, after a million messages of all kinds in turn.
+/// The state of an actor with this many rows, each of which adds, after a million messages of all kinds in turn.
 fn after_a_million(alloc: Global, kinds: u32) -> Result<i64, Fail>
     requires { 0 < kinds }
 {

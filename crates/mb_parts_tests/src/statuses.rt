@@ -1,9 +1,9 @@
-//! Each transition on the first words of a mailbox, by the table of `akka.dispatch.Mailbox`.
+//! Tests of each transition on the first status words, by the table of `akka.dispatch.Mailbox`.
 
 use mb_status::Status;
 use std::process::Abort;
 
-/// A word, and what each call gives on it.
+/// A status word, and what each call gives on it.
 struct Row {
     word: u64,
     with_scheduled: Option<u64>,

@@ -1,4 +1,4 @@
--- What all ends and feeds of a pool have alike, which no call on them changes. (For the crates above.)
+-- What all ends and feeds of a pool have in common, which no call of them changes. (For the crates above.)
 use Rattle.std.proofs.Common.{◌≡◌, ◌<◌, ℕ, List, [], ◌∷◌, ◌++◌, length, get_or, set, map, take, sym, refl, ap, ◌∙◌, subst}
 use Rattle.std.specs.Prelude.{All, Option, Some}
 use Rattle.std.proofs.lemmas.List.{append-nil, length-map, length-replicate, map-append}
@@ -6,10 +6,10 @@ use Rattle.std.proofs.lemmas.List.Elements.{All-cons, All-get_or, All-head, All-
 use Rattle.mb_gate.specs.declared.claim.Claim.{Claim}
 use Rattle.mb_gate.specs.Untouched.{Origin}
 use Rattle.mb_pool.specs.Account.{Account}
-use Rattle.mb_pool.specs.Ledger.{Turn, turn}
+use Rattle.mb_pool.specs.Ledger.{IndexedClaim, turn}
 use Rattle.mb_pool.specs.Moves.{Pushes}
-use Rattle.mb_pool.specs.Places.{AreEnds, AreFeeds, Look, Parts, Way, Whole, feed_parts, gates_of, parts_of, pushed_at}
-use Rattle.mb_pool.specs.Went.{went_by}
+use Rattle.mb_pool.specs.Places.{AreEnds, AreFeeds, PoolPort, Parts, PoolEndpoint, PoolView, feed_parts, gates_of, parts_of, pushed_at}
+use Rattle.mb_pool.specs.PushedThrough.{pushed_through}
 use Rattle.mb_pool.proofs.Gathering.{same_set}
 use Rattle.mb_pool.proofs.Ports.{all_right, all_unmap}
 use Rattle.mb_pool.proofs.Wholes.{count_of, each_end}
@@ -26,48 +26,48 @@ pub map_last : {X Y : Type 0} (f : X → Y) (xs ys : List X) (x y : X) → map f
     → map f (xs ++ x ∷ []) ≡ map f (ys ++ y ∷ [])
 map_last f xs ys x y front last = map-append f xs (x ∷ []) ∙ (λ i. front i ++ last i ∷ []) ∙ sym (map-append f ys (y ∷ []))
 
-module _ {H : Type 0} (pool : Whole H) where
+module _ {H : Type 0} (pool : PoolView H) where
   -- the claims are of the pool's gates
-  abbrev pub IsOfPool : Way H → Type 0
+  abbrev pub IsOfPool : PoolEndpoint H → Type 0
   IsOfPool w = gates_of w ≡ Some pool.gates
 
   abbrev IsOurs : Parts H → Type 0
-  IsOurs p = p.door.gates ≡ Some pool.gates
+  IsOurs p = p.shared_port.gates ≡ Some pool.gates
 
-  pub ends_gates : (ends : List (Way H)) → AreEnds pool ends → All IsOfPool ends
+  pub ends_gates : (ends : List (PoolEndpoint H)) → AreEnds pool ends → All IsOfPool ends
   ends_gates ends are = each_end pool ends are IsOurs (λ n. refl)
 
-  pub feeds_gates : (feeds : List (Way H)) → AreFeeds pool feeds → All IsOfPool feeds
+  pub feeds_gates : (feeds : List (PoolEndpoint H)) → AreFeeds pool feeds → All IsOfPool feeds
   feeds_gates feeds are = all_unmap IsOurs (parts_of {H = H}) feeds
       (subst (All IsOurs) (sym are) (All-replicate IsOurs pool.feeds (feed_parts pool) refl))
 
-  pub end_gates : (ends : List (Way H)) (k : ℕ) (d : Way H) → AreEnds pool ends → k < length ends → gates_of (get_or ends k d) ≡ Some pool.gates
+  pub end_gates : (ends : List (PoolEndpoint H)) (k : ℕ) (d : PoolEndpoint H) → AreEnds pool ends → k < length ends → gates_of (get_or ends k d) ≡ Some pool.gates
   end_gates ends k d are lt = All-get_or IsOfPool ends k d lt (ends_gates ends are)
 
-  pub feed_gates : (feeds : List (Way H)) (k : ℕ) (d : Way H) → AreFeeds pool feeds → k < length feeds
+  pub feed_gates : (feeds : List (PoolEndpoint H)) (k : ℕ) (d : PoolEndpoint H) → AreFeeds pool feeds → k < length feeds
       → gates_of (get_or feeds k d) ≡ Some pool.gates
   feed_gates feeds k d are lt = All-get_or IsOfPool feeds k d lt (feeds_gates feeds are)
 
-  pub count_ends : (ends : List (Way H)) → AreEnds pool ends → length ends ≡ pool.ends
+  pub count_ends : (ends : List (PoolEndpoint H)) → AreEnds pool ends → length ends ≡ pool.ends
   count_ends = count_of pool
 
-  pub count_feeds : (feeds : List (Way H)) → AreFeeds pool feeds → length feeds ≡ pool.feeds
+  pub count_feeds : (feeds : List (PoolEndpoint H)) → AreFeeds pool feeds → length feeds ≡ pool.feeds
   count_feeds feeds are = sym (length-map feeds (parts_of {H = H})) ∙ ap length are ∙ length-replicate pool.feeds (feed_parts pool)
 
-  pub still_ends : (ends : List (Way H)) (k : ℕ) (d w : Way H) → parts_of w ≡ parts_of (get_or ends k d) → AreEnds pool ends
+  pub still_ends : (ends : List (PoolEndpoint H)) (k : ℕ) (d w : PoolEndpoint H) → parts_of w ≡ parts_of (get_or ends k d) → AreEnds pool ends
       → AreEnds pool (set ends k w)
   still_ends ends k d w same are = same_set (parts_of {H = H}) ends k d w same ∙ are
 
-  pub still_feeds : (feeds : List (Way H)) (k : ℕ) (d w : Way H) → parts_of w ≡ parts_of (get_or feeds k d) → AreFeeds pool feeds
+  pub still_feeds : (feeds : List (PoolEndpoint H)) (k : ℕ) (d w : PoolEndpoint H) → parts_of w ≡ parts_of (get_or feeds k d) → AreFeeds pool feeds
       → AreFeeds pool (set feeds k w)
   still_feeds feeds k d w same are = same_set (parts_of {H = H}) feeds k d w same ∙ are
 
--- a push adds its claim to those that went into the pool by way of the end or the feed
-pub push_goes_in : {H : Type 0} (IsFit : Option (Origin H) → Claim H → Type 0) (old new : Way H) (c : Claim H) → Pushes IsFit old c new
-    → went_by new ≡ went_by old ++ c ∷ []
+-- a push adds its claim to those that were pushed through the end or the feed
+pub push_goes_in : {H : Type 0} (IsFit : Option (Origin H) → Claim H → Type 0) (old new : PoolEndpoint H) (c : Claim H) → Pushes IsFit old c new
+    → pushed_through new ≡ pushed_through old ++ c ∷ []
 push_goes_in {H} IsFit old new c p =
-    let of : Turn (Claim H) → Claim H = λ t. t.claim in
-    let first : List (Look H) → List (Claim H) = λ ls. pushed_at (take 1 ls) in
+    let of : IndexedClaim (Claim H) → Claim H = λ t. t.claim in
+    let first : List (PoolPort H) → List (Claim H) = λ ls. pushed_at (take 1 ls) in
     let before = p.look.ledger.pushed in
     ap first p.then' ∙ append-nil (map of p.after.pushed) ∙ ap (λ (l : Account H). map of l.pushed) p.last.2
     ∙ map-append of before (turn (length (p.last.1.gone ++ p.last.0)) c ∷ [])

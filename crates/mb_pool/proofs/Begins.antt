@@ -4,19 +4,19 @@ use Rattle.std.proofs.Common.{subst, map, arith, append_assoc, append-nil, repli
 use Rattle.std.specs.Prelude.{All, Option, Some, None}
 use Rattle.std.proofs.lemmas.List.{map-append, map_push, take-map, drop-map, length-drop, length-map, length_push, drop_all, take_all}
 use Rattle.std.proofs.lemmas.List.Elements.{All-nil, All-cons, All-head, All-tail, All-map, All-append, All-replicate, All-weaker}
-use Rattle.mb_pool.specs.declared.kind.Kind.{Kind}
-use Rattle.mb_pool.specs.declared.kind.Kind.TheVariants.{Shared, Stealing}
-use Rattle.mb_pool.specs.declared.member.Member.{Member}
-use Rattle.mb_pool.specs.Begins.{AreMembers, AreNew, AreNewOf, borrowed, borrowed_next, bound_of, fresh, lent, new_door, with_shares}
+use Rattle.mb_msg.specs.declared.pool_kind.PoolKind.{PoolKind}
+use Rattle.mb_msg.specs.declared.pool_kind.PoolKind.TheVariants.{Shared, Stealing}
+use Rattle.mb_pool.specs.declared.end_deques.EndDeques.{EndDeques}
+use Rattle.mb_pool.specs.Begins.{AreEndDeques, AreNew, AreNewOf, borrowed, borrowed_next, bound_of, fresh, lent, new_shared_port, with_shares}
 use Rattle.mb_pool.specs.Made.{AreDeques, AreUnused, IsBegun, IsDeque, IsOfKind, IsWhole, spots_of}
 use Rattle.mb_gate.specs.Untouched.{Origin}
-use Rattle.mb_pool.specs.Places.{AreEnds, AreFeeds, Look, Parts, Spot, Way, Whole, door_part, looks}
+use Rattle.mb_pool.specs.Places.{AreEnds, AreFeeds, PoolPort, Parts, QueueInfo, PoolEndpoint, PoolView, shared_port_part, looks}
 use Rattle.mb_pool.specs.Places.{numbers, part_of, parts_of, pushed_at, taken_at}
 use Rattle.mb_pool.specs.Ledger.{claims_in, opened}
-use Rattle.mb_pool.specs.Ways.{AreOpen, IsOpen, next_of, of_feed, own_of, way_of}
+use Rattle.mb_pool.specs.Endpoints.{AreOpen, IsOpen, next_of, of_feed, own_of, endpoint_of}
 
 module _ {A : Type 0} where
-  -- the first so many mapped, the rest as they are
+  -- the first ones mapped, the rest as they are
   abbrev pub upto : (A → A) → ℕ → List A → List A
   upto f i xs = map f (take i xs) ++ drop i xs
 
@@ -67,7 +67,7 @@ pub numbers_push : (first count : ℕ) → numbers first (suc count) ≡ numbers
 numbers_push first zero = ap (λ n. n ∷ []) (omega arith)
 numbers_push first (suc count) = ap (λ l. first ∷ l) (numbers_push (first + 1) count ∙ ap (λ n. numbers (first + 1) count ++ n ∷ []) (omega arith))
 
-pub deques_push : (first : ℕ) (spots : List Spot) (spot : Spot) → AreDeques first spots → IsDeque (first + length spots) spot
+pub deques_push : (first : ℕ) (spots : List QueueInfo) (spot : QueueInfo) → AreDeques first spots → IsDeque (first + length spots) spot
     → AreDeques first (spots ++ spot ∷ [])
 deques_push first [] spot h is = let e : first + 0 ≡ first = omega arith in (subst (λ n. IsDeque n spot) e is, tt)
 deques_push first (s ∷ spots) spot h is = let e : first + suc (length spots) ≡ first + 1 + length spots = omega arith in
@@ -77,12 +77,12 @@ module _ {H : Type 0} where
   pub new_none : (o : Origin H) (shares : ℕ) → AreNew o shares 0 []
   new_none o shares = record { many = refl; unused = refl; deques = tt }
 
-  pub new_more : (o : Origin H) (shares count : ℕ) (owns : List (Look H)) (own : Look H) → AreNew o shares count owns → IsDeque count own.spot
+  pub new_more : (o : Origin H) (shares count : ℕ) (owns : List (PoolPort H)) (own : PoolPort H) → AreNew o shares count owns → IsDeque count own.spot
       → own ≡ fresh o shares shares own.spot
       → AreNew o shares (count + 1) (owns ++ own ∷ [])
   new_more o shares count owns own new is e =
-      let spots : spots_of (owns ++ own ∷ []) ≡ spots_of owns ++ own.spot ∷ [] = map_push (λ (l : Look H). l.spot) owns own in
-      let there : count ≡ 0 + length (spots_of owns) = let l = length-map owns (λ (l : Look H). l.spot) in let m = new.many in omega (arith, l, m) in
+      let spots : spots_of (owns ++ own ∷ []) ≡ spots_of owns ++ own.spot ∷ [] = map_push (λ (l : PoolPort H). l.spot) owns own in
+      let there : count ≡ 0 + length (spots_of owns) = let l = length-map owns (λ (l : PoolPort H). l.spot) in let m = new.many in omega (arith, l, m) in
       record {
         many = length_push owns own ∙ ap (λ n. n + 1) new.many;
         unused = (λ k. new.unused k ++ e k ∷ []) ∙ sym (map_push (fresh o shares shares) (spots_of owns) own.spot)
@@ -90,38 +90,38 @@ module _ {H : Type 0} where
         deques = subst (AreDeques 0) (sym spots) (deques_push 0 (spots_of owns) own.spot new.deques (subst (λ n. IsDeque n own.spot) there is));
       }
 
-  pub new_opened : (o : Origin H) (shares count : ℕ) (owns : List (Look H)) (own own' : Look H) → AreNew o shares count owns → IsDeque count own.spot
+  pub new_opened : (o : Origin H) (shares count : ℕ) (owns : List (PoolPort H)) (own own' : PoolPort H) → AreNew o shares count owns → IsDeque count own.spot
       → own' ≡ record own { ledger = opened (Some o) shares shares }
       → AreNew o shares (count + 1) (owns ++ own' ∷ [])
   new_opened o shares count owns own own' new is e =
-      let spot : own'.spot ≡ own.spot = ap (λ (l : Look H). l.spot) e in
+      let spot : own'.spot ≡ own.spot = ap (λ (l : PoolPort H). l.spot) e in
       new_more o shares count owns own' new (subst (IsDeque count) (sym spot) is) (e ∙ ap (fresh o shares shares) (sym spot))
 
-  -- the ports as they stand after so many ends borrowed of the next ones: each once rotated, with the shares that it has then
-  abbrev pub rotated : List (Look H) → ℕ → List (Look H)
+  -- the ports after some ends borrowed of the next ones: rotated once for each end, with the shares that they have then
+  abbrev pub rotated : List (PoolPort H) → ℕ → List (PoolPort H)
   rotated owns k = map (with_shares (length owns - k)) (drop k owns) ++ map (with_shares (length owns - k + 1)) (take k owns)
 
-  same_shares : (n : ℕ) (owns : List (Look H)) → All (λ (l : Look H). l.ledger.shares ≡ n) owns → map (with_shares n) owns ≡ owns
+  same_shares : (n : ℕ) (owns : List (PoolPort H)) → All (λ (l : PoolPort H). l.ledger.shares ≡ n) owns → map (with_shares n) owns ≡ owns
   same_shares n [] h = refl
   same_shares n (o ∷ owns) h =
-      let P : Look H → Type 0 = λ l. l.ledger.shares ≡ n in
+      let P : PoolPort H → Type 0 = λ l. l.ledger.shares ≡ n in
       let one : with_shares n o ≡ o = λ i. record { spot = o.spot; ledger = record o.ledger { shares = sym (All-head P o owns h) i } } in
       (λ i. one i ∷ same_shares n owns (All-tail P o owns h) i)
 
-  pub rotated_none : (owns : List (Look H)) → All (λ (l : Look H). l.ledger.shares ≡ length owns) owns → rotated owns 0 ≡ owns
+  pub rotated_none : (owns : List (PoolPort H)) → All (λ (l : PoolPort H). l.ledger.shares ≡ length owns) owns → rotated owns 0 ≡ owns
   rotated_none owns h = append-nil (map (with_shares (length owns - 0)) owns)
       ∙ ap (λ n. map (with_shares n) owns) (let e : length owns - 0 ≡ length owns = omega arith in e) ∙ same_shares (length owns) owns h
 
-  pub rotated_all : (owns : List (Look H)) → rotated owns (length owns) ≡ map (with_shares 1) owns
+  pub rotated_all : (owns : List (PoolPort H)) → rotated owns (length owns) ≡ map (with_shares 1) owns
   rotated_all owns = let n : ℕ = length owns in
       (λ i. map (with_shares (n - n)) (drop_all n owns (omega arith) i) ++ map (with_shares (n - n + 1)) (take_all n owns (omega arith) i))
       ∙ ap (λ k. map (with_shares k) owns) (let e : n - n + 1 ≡ 1 = omega arith in e)
 
-  module _ (owns : List (Look H)) (k : ℕ) (d : Look H) (lt : k < length owns) where
+  module _ (owns : List (PoolPort H)) (k : ℕ) (d : PoolPort H) (lt : k < length owns) where
     abbrev pub left : ℕ
     left = length owns - k
 
-    abbrev pub after : List (Look H)
+    abbrev pub after : List (PoolPort H)
     after = map (with_shares left) (drop (suc k) owns) ++ map (with_shares (left + 1)) (take k owns)
 
     -- the end's own deque comes first, the next ones in order after it
@@ -129,12 +129,12 @@ module _ {H : Type 0} where
     rotated_first = ap (λ l. map (with_shares left) l ++ map (with_shares (left + 1)) (take k owns)) (drop_suc owns k d lt)
 
     -- each of the next ones has a share to lend
-    pub may_lend : All (λ (l : Look H). 1 < l.ledger.shares) after
-    may_lend = All-append (λ (l : Look H). 1 < l.ledger.shares) (map (with_shares left) (drop (suc k) owns))
+    pub may_lend : All (λ (l : PoolPort H). 1 < l.ledger.shares) after
+    may_lend = All-append (λ (l : PoolPort H). 1 < l.ledger.shares) (map (with_shares left) (drop (suc k) owns))
         (map (with_shares (left + 1)) (take k owns))
-        (All-map (λ (l : Look H). 1 < l.ledger.shares) (with_shares left) (drop (suc k) owns)
+        (All-map (λ (l : PoolPort H). 1 < l.ledger.shares) (with_shares left) (drop (suc k) owns)
         (all_const (1 < left) (drop (suc k) owns) (λ some. let e = length-drop (suc k) owns in omega (arith, e, some, lt))))
-        (All-map (λ (l : Look H). 1 < l.ledger.shares) (with_shares (left + 1)) (take k owns)
+        (All-map (λ (l : PoolPort H). 1 < l.ledger.shares) (with_shares (left + 1)) (take k owns)
         (all_const (1 < left + 1) (take k owns) (λ some. omega (arith, lt))))
 
     -- what was borrowed of them
@@ -145,10 +145,10 @@ module _ {H : Type 0} where
         ∙ sym (map-append (borrowed {H = H}) (drop (suc k) owns) (take k owns))
         ∙ ap (λ n. map (borrowed {H = H}) (drop n owns ++ take k owns)) (let e : suc k ≡ k + 1 = omega arith in e)
 
-    -- and how they stand once it is the next end's turn
+    -- and how they are when the next end borrows
     pub rotated_next : map (lent {H = H}) after ++ with_shares left (get_or owns k d) ∷ [] ≡ rotated owns (k + 1)
     rotated_next =
-        let x : Look H = get_or owns k d in let a : List (Look H) = drop (suc k) owns in let b : List (Look H) = take k owns in
+        let x : PoolPort H = get_or owns k d in let a : List (PoolPort H) = drop (suc k) owns in let b : List (PoolPort H) = take k owns in
         let fewer : left - 1 ≡ length owns - (k + 1) = omega arith in
         let same : left ≡ length owns - (k + 1) + 1 = omega (arith, lt) in
         let one : left + 1 - 1 ≡ left = omega arith in
@@ -203,8 +203,8 @@ singles {A} {B} f pre (x ∷ xs) =
     (λ i. head i ∷ tail i)
 
 module _ {H : Type 0} where
-  module _ (fo fn : ℕ → List (Look H)) where
-    pub zip_all : (P : List (Look H) → List (Look H) → Type 0) → ((k : ℕ) → P (fo k) (fn k)) → (ms : List (Option (Member H))) (ks : List ℕ)
+  module _ (fo fn : ℕ → List (PoolPort H)) where
+    pub zip_all : (P : List (PoolPort H) → List (PoolPort H) → Type 0) → ((k : ℕ) → P (fo k) (fn k)) → (ms : List (Option (EndDeques H))) (ks : List ℕ)
         → map (own_of {H = H}) ms ≡ map fo ks → map (next_of {H = H}) ms ≡ map fn ks
         → All (λ m. P (own_of m) (next_of m)) ms
     zip_all P h [] ks eo en = All-nil (λ m. P (own_of m) (next_of m))
@@ -212,106 +212,106 @@ module _ {H : Type 0} where
     zip_all P h (m ∷ ms) (k ∷ ks) eo en =
         let o : own_of m ≡ fo k = cons_head (own_of m) (fo k) (map (own_of {H = H}) ms) (map fo ks) eo in
         let n : next_of m ≡ fn k = cons_head (next_of m) (fn k) (map (next_of {H = H}) ms) (map fn ks) en in
-        All-cons (λ m'. P (own_of m') (next_of m')) m ms (subst (λ (y : List (Look H) × List (Look H)). P y.0 y.1) (λ i. (sym o i, sym n i)) (h k))
+        All-cons (λ m'. P (own_of m') (next_of m')) m ms (subst (λ (y : List (PoolPort H) × List (PoolPort H)). P y.0 y.1) (λ i. (sym o i, sym n i)) (h k))
         (zip_all P h ms ks (cons_tail (own_of m) (fo k) (map (own_of {H = H}) ms) (map fo ks) eo)
         (cons_tail (next_of m) (fn k) (map (next_of {H = H}) ms) (map fn ks) en))
 
-    pub zip_parts : (door : Look H) (ms : List (Option (Member H))) (ks : List ℕ) → map (own_of {H = H}) ms ≡ map fo ks
+    pub zip_parts : (shared_port : PoolPort H) (ms : List (Option (EndDeques H))) (ks : List ℕ) → map (own_of {H = H}) ms ≡ map fo ks
         → map (next_of {H = H}) ms ≡ map fn ks
-        → map (λ m. parts_of (way_of door m)) ms ≡ map (λ (k : ℕ). let p : Parts H = record
-        { own = map (part_of {H = H}) (fo k); door = part_of door; next = map (part_of {H = H}) (fn k) } in p) ks
-    zip_parts door [] [] eo en = refl
-    zip_parts door [] (k ∷ ks) eo en = absurd (cons_nil (fo k) (map fo ks) (sym eo))
-    zip_parts door (m ∷ ms) [] eo en = absurd (cons_nil (own_of m) (map (own_of {H = H}) ms) eo)
-    zip_parts door (m ∷ ms) (k ∷ ks) eo en =
+        → map (λ m. parts_of (endpoint_of shared_port m)) ms ≡ map (λ (k : ℕ). let p : Parts H = record
+        { own = map (part_of {H = H}) (fo k); shared_port = part_of shared_port; next = map (part_of {H = H}) (fn k) } in p) ks
+    zip_parts shared_port [] [] eo en = refl
+    zip_parts shared_port [] (k ∷ ks) eo en = absurd (cons_nil (fo k) (map fo ks) (sym eo))
+    zip_parts shared_port (m ∷ ms) [] eo en = absurd (cons_nil (own_of m) (map (own_of {H = H}) ms) eo)
+    zip_parts shared_port (m ∷ ms) (k ∷ ks) eo en =
         let o : own_of m ≡ fo k = cons_head (own_of m) (fo k) (map (own_of {H = H}) ms) (map fo ks) eo in
         let n : next_of m ≡ fn k = cons_head (next_of m) (fn k) (map (next_of {H = H}) ms) (map fn ks) en in
-        let rest = zip_parts door ms ks (cons_tail (own_of m) (fo k) (map (own_of {H = H}) ms) (map fo ks) eo)
+        let rest = zip_parts shared_port ms ks (cons_tail (own_of m) (fo k) (map (own_of {H = H}) ms) (map fo ks) eo)
         (cons_tail (next_of m) (fn k) (map (next_of {H = H}) ms) (map fn ks) en) in
-        (λ i. record { own = map (part_of {H = H}) (o i); door = part_of door; next = map (part_of {H = H}) (n i) } ∷ rest i)
+        (λ i. record { own = map (part_of {H = H}) (o i); shared_port = part_of shared_port; next = map (part_of {H = H}) (n i) } ∷ rest i)
 
-  -- nothing was pushed or taken yet by way of the port
-  abbrev pub IsUnused : Look H → Type 0
+  -- nothing was pushed or taken through the port yet
+  abbrev pub IsUnused : PoolPort H → Type 0
   IsUnused l = (l.ledger.pushed ≡ []) × (l.ledger.taken ≡ [])
 
-  none_at : (ls : List (Look H)) → All IsUnused ls → (pushed_at ls ≡ []) × (taken_at ls ≡ [])
+  none_at : (ls : List (PoolPort H)) → All IsUnused ls → (pushed_at ls ≡ []) × (taken_at ls ≡ [])
   none_at [] h = (refl, refl)
   none_at (l ∷ ls) h = let one = All-head IsUnused l ls h in let rest = none_at ls (All-tail IsUnused l ls h) in
       (λ i. claims_in (one.0 i) ++ rest.0 i, λ i. claims_in (one.1 i) ++ rest.1 i)
 
-  pub none_by : (ws : List (Way H)) → All (λ (w : Way H). All IsUnused (looks w)) ws → AreUnused ws
+  pub none_by : (ws : List (PoolEndpoint H)) → All (λ (w : PoolEndpoint H). All IsUnused (looks w)) ws → AreUnused ws
   none_by [] h = (refl, refl)
   none_by (w ∷ ws) h =
-      let P : Way H → Type 0 = λ v. All IsUnused (looks v) in
+      let P : PoolEndpoint H → Type 0 = λ v. All IsUnused (looks v) in
       let one = none_at (looks w) (All-head P w ws h) in let rest = none_by ws (All-tail P w ws h) in
       (λ i. one.0 i ++ rest.0 i, λ i. one.1 i ++ rest.1 i)
 
-  module _ (pool : Whole H) (ms : List (Option (Member H))) (members : AreMembers pool ms) where
-    abbrev pub one : Spot → Look H
+  module _ (pool : PoolView H) (ms : List (Option (EndDeques H))) (members : AreEndDeques pool ms) where
+    abbrev pub one : QueueInfo → PoolPort H
     one = fresh pool.gates pool.ends 1
 
-    abbrev pub own_at : ℕ → List (Look H)
+    abbrev pub own_at : ℕ → List (PoolPort H)
     own_at k = map one (take 1 (drop k pool.deques))
 
-    abbrev pub next_at : ℕ → List (Look H)
+    abbrev pub next_at : ℕ → List (PoolPort H)
     next_at k = map one (drop (k + 1) pool.deques ++ take k pool.deques)
 
     -- an open port that is not used yet
-    abbrev pub IsReady : Look H → Type 0
+    abbrev pub IsReady : PoolPort H → Type 0
     IsReady l = IsOpen (Some pool.gates) (part_of l) × IsUnused l
 
-    all_ready : (spots : List Spot) → All IsReady (map one spots)
+    all_ready : (spots : List QueueInfo) → All IsReady (map one spots)
     all_ready spots = All-map IsReady one spots (each spots)
       where
-        each : (ss : List Spot) → All (λ s. IsReady (one s)) ss
+        each : (ss : List QueueInfo) → All (λ s. IsReady (one s)) ss
         each [] = All-nil (λ s. IsReady (one s))
         each (s ∷ ss) = All-cons (λ s'. IsReady (one s')) s ss (record { share = omega arith; same = refl }, (refl, refl)) (each ss)
 
-    pub members_ready : All (λ m. All IsReady (looks (way_of (new_door pool) m))) ms
-    members_ready = zip_all own_at next_at (λ own next. All IsReady (own ++ new_door pool ∷ next))
-        (λ k. All-append IsReady (own_at k) (new_door pool ∷ next_at k) (all_ready (take 1 (drop k pool.deques)))
-        (All-cons IsReady (new_door pool) (next_at k) (record { share = omega arith; same = refl }, (refl, refl))
+    pub members_ready : All (λ m. All IsReady (looks (endpoint_of (new_shared_port pool) m))) ms
+    members_ready = zip_all own_at next_at (λ own next. All IsReady (own ++ new_shared_port pool ∷ next))
+        (λ k. All-append IsReady (own_at k) (new_shared_port pool ∷ next_at k) (all_ready (take 1 (drop k pool.deques)))
+        (All-cons IsReady (new_shared_port pool) (next_at k) (record { share = omega arith; same = refl }, (refl, refl))
         (all_ready (drop (k + 1) pool.deques ++ take k pool.deques))))
         ms (numbers 0 pool.ends) members.own members.next
 
-    pub members_open : All (λ m. AreOpen (way_of (new_door pool) m)) ms
-    members_open = All-weaker (λ m. All IsReady (looks (way_of (new_door pool) m))) (λ m. AreOpen (way_of (new_door pool) m))
-        (λ m h. All-weaker IsReady (λ (l : Look H). IsOpen (Some pool.gates) (part_of l)) (λ l x. x.0)
-        (looks (way_of (new_door pool) m)) h) ms members_ready
+    pub members_open : All (λ m. AreOpen (endpoint_of (new_shared_port pool) m)) ms
+    members_open = All-weaker (λ m. All IsReady (looks (endpoint_of (new_shared_port pool) m))) (λ m. AreOpen (endpoint_of (new_shared_port pool) m))
+        (λ m h. All-weaker IsReady (λ (l : PoolPort H). IsOpen (Some pool.gates) (part_of l)) (λ l x. x.0)
+        (looks (endpoint_of (new_shared_port pool) m)) h) ms members_ready
 
-    pub are_ends : (ends : List (Way H)) → ends ≡ map (way_of (new_door pool)) ms → AreEnds pool ends
-    are_ends ends e = ap (map (parts_of {H = H})) e ∙ map_map (parts_of {H = H}) (way_of (new_door pool)) ms
-        ∙ zip_parts own_at next_at (new_door pool) ms (numbers 0 pool.ends) members.own members.next
+    pub are_ends : (ends : List (PoolEndpoint H)) → ends ≡ map (endpoint_of (new_shared_port pool)) ms → AreEnds pool ends
+    are_ends ends e = ap (map (parts_of {H = H})) e ∙ map_map (parts_of {H = H}) (endpoint_of (new_shared_port pool)) ms
+        ∙ zip_parts own_at next_at (new_shared_port pool) ms (numbers 0 pool.ends) members.own members.next
         ∙ (λ i. map (λ (k : ℕ). let p : Parts H = record {
           own = map_map (part_of {H = H}) one (take 1 (drop k pool.deques)) i;
-          door = door_part pool;
+          shared_port = shared_port_part pool;
           next = map_map (part_of {H = H}) one (drop (k + 1) pool.deques ++ take k pool.deques) i;
         } in p) (numbers 0 pool.ends))
 
-    pub are_feeds : (feeds : List (Way H)) → feeds ≡ replicate pool.feeds (of_feed (new_door pool)) → AreFeeds pool feeds
-    are_feeds feeds e = ap (map (parts_of {H = H})) e ∙ map_replicate (parts_of {H = H}) pool.feeds (of_feed (new_door pool))
+    pub are_feeds : (feeds : List (PoolEndpoint H)) → feeds ≡ replicate pool.feeds (of_feed (new_shared_port pool)) → AreFeeds pool feeds
+    are_feeds feeds e = ap (map (parts_of {H = H})) e ∙ map_replicate (parts_of {H = H}) pool.feeds (of_feed (new_shared_port pool))
 
-    pub all_unused : (ends feeds : List (Way H)) → ends ≡ map (way_of (new_door pool)) ms → feeds ≡ replicate pool.feeds (of_feed (new_door pool))
+    pub all_unused : (ends feeds : List (PoolEndpoint H)) → ends ≡ map (endpoint_of (new_shared_port pool)) ms → feeds ≡ replicate pool.feeds (of_feed (new_shared_port pool))
         → AreUnused (ends ++ feeds)
     all_unused ends feeds ee ef =
-        let P : Way H → Type 0 = λ w. All IsUnused (looks w) in
+        let P : PoolEndpoint H → Type 0 = λ w. All IsUnused (looks w) in
         none_by (ends ++ feeds) (All-append P ends feeds
-        (subst (All P) (sym ee) (All-map P (way_of (new_door pool)) ms
-        (All-weaker (λ m. All IsReady (looks (way_of (new_door pool) m))) (λ m. P (way_of (new_door pool) m))
-        (λ m h. All-weaker IsReady IsUnused (λ l x. x.1) (looks (way_of (new_door pool) m)) h) ms members_ready)))
-        (subst (All P) (sym ef) (All-replicate P pool.feeds (of_feed (new_door pool))
-        (All-cons IsUnused (new_door pool) [] (refl, refl) (All-nil IsUnused)))))
+        (subst (All P) (sym ee) (All-map P (endpoint_of (new_shared_port pool)) ms
+        (All-weaker (λ m. All IsReady (looks (endpoint_of (new_shared_port pool) m))) (λ m. P (endpoint_of (new_shared_port pool) m))
+        (λ m h. All-weaker IsReady IsUnused (λ l x. x.1) (looks (endpoint_of (new_shared_port pool) m)) h) ms members_ready)))
+        (subst (All P) (sym ef) (All-replicate P pool.feeds (of_feed (new_shared_port pool))
+        (All-cons IsUnused (new_shared_port pool) [] (refl, refl) (All-nil IsUnused)))))
 
-  module _ (pool : Whole H) (ms : List (Option (Member H))) where
-    nothing_taken : (k : ℕ) (spots : List Spot) → spots ≡ [] → map (fresh pool.gates pool.ends 1) (take 1 (drop k spots)) ≡ []
+  module _ (pool : PoolView H) (ms : List (Option (EndDeques H))) where
+    nothing_taken : (k : ℕ) (spots : List QueueInfo) → spots ≡ [] → map (fresh pool.gates pool.ends 1) (take 1 (drop k spots)) ≡ []
     nothing_taken k spots e = ap (λ l. map (fresh pool.gates pool.ends 1) (take 1 l)) (ap (drop k) e ∙ drop_all k [] (omega arith))
 
-    nothing_next : (k : ℕ) (spots : List Spot) → spots ≡ [] → map (fresh pool.gates pool.ends 1) (drop (k + 1) spots ++ take k spots) ≡ []
+    nothing_next : (k : ℕ) (spots : List QueueInfo) → spots ≡ [] → map (fresh pool.gates pool.ends 1) (drop (k + 1) spots ++ take k spots) ≡ []
     nothing_next k spots e = ap (λ l. map (fresh pool.gates pool.ends 1) (drop (k + 1) l ++ take k l)) e
         ∙ (λ i. map (fresh pool.gates pool.ends 1) (drop_all (k + 1) [] (omega arith) i ++ take_all k [] (omega arith) i))
 
     -- of a shared pool
-    pub members_none : pool.deques ≡ [] → ms ≡ replicate pool.ends None → AreMembers pool ms
+    pub members_none : pool.deques ≡ [] → ms ≡ replicate pool.ends None → AreEndDeques pool ms
     members_none e is = record {
       own = ap (map (own_of {H = H})) is ∙ map_replicate (own_of {H = H}) pool.ends None
           ∙ sym (const_numbers (λ (k : ℕ). map (fresh pool.gates pool.ends 1) (take 1 (drop k pool.deques))) []
@@ -322,16 +322,16 @@ module _ {H : Type 0} where
     }
 
     -- of a stealing one
-    pub members_some : (owns : List (Look H)) → owns ≡ map (fresh pool.gates pool.ends pool.ends) pool.deques → length owns ≡ pool.ends
-        → map (own_of {H = H}) ms ≡ map (λ (o : Look H). with_shares 1 o ∷ []) owns
-        → map (next_of {H = H}) ms ≡ map (borrowed_next owns) (numbers 0 (length owns)) → AreMembers pool ms
+    pub members_some : (owns : List (PoolPort H)) → owns ≡ map (fresh pool.gates pool.ends pool.ends) pool.deques → length owns ≡ pool.ends
+        → map (own_of {H = H}) ms ≡ map (λ (o : PoolPort H). with_shares 1 o ∷ []) owns
+        → map (next_of {H = H}) ms ≡ map (borrowed_next owns) (numbers 0 (length owns)) → AreEndDeques pool ms
     members_some owns e many own next =
-        let whole : Spot → Look H = fresh pool.gates pool.ends pool.ends in
-        let one' : Spot → Look H = fresh pool.gates pool.ends 1 in
-        let ds : List Spot = pool.deques in
+        let whole : QueueInfo → PoolPort H = fresh pool.gates pool.ends pool.ends in
+        let one' : QueueInfo → PoolPort H = fresh pool.gates pool.ends 1 in
+        let ds : List QueueInfo = pool.deques in
         let count : length ds ≡ pool.ends = sym (length-map ds whole) ∙ ap length (sym e) ∙ many in
         record {
-          own = own ∙ ap (map (λ (o : Look H). with_shares 1 o ∷ [])) e ∙ map_map (λ (o : Look H). with_shares 1 o ∷ []) whole ds
+          own = own ∙ ap (map (λ (o : PoolPort H). with_shares 1 o ∷ [])) e ∙ map_map (λ (o : PoolPort H). with_shares 1 o ∷ []) whole ds
               ∙ singles one' [] ds ∙ ap (λ n. map (λ (k : ℕ). map one' (take 1 (drop k ds))) (numbers 0 n)) count;
           next = next ∙ (λ i. map (borrowed_next (e i)) (numbers 0 (many i)))
               ∙ (λ i. map (λ (k : ℕ). (ap (map (borrowed {H = H})) ((λ j. drop-map whole (k + 1) ds j ++ take-map whole k ds j)
@@ -340,53 +340,53 @@ module _ {H : Type 0} where
         }
 
 module _ {H : Type 0} where
-  pub new_shares : (kind : Kind) (o : Origin H) (count : ℕ) (owns : List (Look H)) → AreNewOf kind o count owns
-      → All (λ (l : Look H). l.ledger.shares ≡ length owns) owns
-  new_shares Shared o count owns e = subst (λ os. All (λ (l : Look H). l.ledger.shares ≡ length owns) os) (sym e)
-      (All-nil (λ (l : Look H). l.ledger.shares ≡ length owns))
+  pub new_shares : (kind : PoolKind) (o : Origin H) (count : ℕ) (owns : List (PoolPort H)) → AreNewOf kind o count owns
+      → All (λ (l : PoolPort H). l.ledger.shares ≡ length owns) owns
+  new_shares Shared o count owns e = subst (λ os. All (λ (l : PoolPort H). l.ledger.shares ≡ length owns) os) (sym e)
+      (All-nil (λ (l : PoolPort H). l.ledger.shares ≡ length owns))
   new_shares Stealing o count owns new =
-      let P : Look H → Type 0 = λ l. l.ledger.shares ≡ length owns in
+      let P : PoolPort H → Type 0 = λ l. l.ledger.shares ≡ length owns in
       subst (All P) (sym new.unused) (All-map P (fresh o count count) (spots_of owns)
       (all_const (count ≡ length owns) (spots_of owns) (λ _. sym new.many)))
 
-  -- the pool that is made of a door and deques of this kind
-  module _ (o : Origin H) (kind : Kind) (workers feeds : ℕ) (owns : List (Look H)) (door : Spot) (new : AreNewOf kind o workers owns)
+  -- the pool that is made of the port of the queue that all share and of deques
+  module _ (o : Origin H) (kind : PoolKind) (workers feeds : ℕ) (owns : List (PoolPort H)) (shared_port : QueueInfo) (new : AreNewOf kind o workers owns)
       (some : 0 < workers) where
-    abbrev pub made : Whole H
-    made = record { gates = o; door = door; deques = spots_of owns; ends = workers; feeds = feeds }
+    abbrev pub made : PoolView H
+    made = record { gates = o; shared_port = shared_port; deques = spots_of owns; ends = workers; feeds = feeds }
 
     pub made_whole : IsWhole made
     made_whole = by_kind kind new
       where
-        by_kind : (k : Kind) → AreNewOf k o workers owns → IsWhole made
+        by_kind : (k : PoolKind) → AreNewOf k o workers owns → IsWhole made
         by_kind Shared e = let none : spots_of owns ≡ [] = ap spots_of e in
             record { some = some; deques = subst (AreDeques 0) (sym none) tt; many = inl none }
-        by_kind Stealing n = record { some = some; deques = n.deques; many = inr (length-map owns (λ (l : Look H). l.spot) ∙ n.many) }
+        by_kind Stealing n = record { some = some; deques = n.deques; many = inr (length-map owns (λ (l : PoolPort H). l.spot) ∙ n.many) }
 
-    pub made_kind : door.capacity ≡ bound_of kind → IsOfKind kind made
+    pub made_kind : shared_port.capacity ≡ bound_of kind → IsOfKind kind made
     made_kind bound = by_kind kind new bound
       where
-        by_kind : (k : Kind) → AreNewOf k o workers owns → door.capacity ≡ bound_of k → IsOfKind k made
+        by_kind : (k : PoolKind) → AreNewOf k o workers owns → shared_port.capacity ≡ bound_of k → IsOfKind k made
         by_kind Shared e b = (b, ap spots_of e)
-        by_kind Stealing n b = (b, length-map owns (λ (l : Look H). l.spot) ∙ n.many, n.deques)
+        by_kind Stealing n b = (b, length-map owns (λ (l : PoolPort H). l.spot) ∙ n.many, n.deques)
 
-    pub made_members : (ms : List (Option (Member H))) → (owns ≡ [] → ms ≡ replicate workers None)
-        → (0 < length owns → map (own_of {H = H}) ms ≡ map (λ (l : Look H). with_shares 1 l ∷ []) owns)
-        → (0 < length owns → map (next_of {H = H}) ms ≡ map (borrowed_next owns) (numbers 0 (length owns))) → AreMembers made ms
+    pub made_members : (ms : List (Option (EndDeques H))) → (owns ≡ [] → ms ≡ replicate workers None)
+        → (0 < length owns → map (own_of {H = H}) ms ≡ map (λ (l : PoolPort H). with_shares 1 l ∷ []) owns)
+        → (0 < length owns → map (next_of {H = H}) ms ≡ map (borrowed_next owns) (numbers 0 (length owns))) → AreEndDeques made ms
     made_members ms none own next = by_kind kind new
       where
-        by_kind : (k : Kind) → AreNewOf k o workers owns → AreMembers made ms
+        by_kind : (k : PoolKind) → AreNewOf k o workers owns → AreEndDeques made ms
         by_kind Shared e = members_none made ms (ap spots_of e) (none e)
         by_kind Stealing n = let many = n.many in let there : 0 < length owns = omega (arith, many, some) in
             members_some made ms owns n.unused n.many (own there) (next there)
 
-    pub count_members : (ms : List (Option (Member H))) → AreMembers made ms → length ms ≡ workers
+    pub count_members : (ms : List (Option (EndDeques H))) → AreEndDeques made ms → length ms ≡ workers
     count_members ms m = sym (length-map ms (own_of {H = H})) ∙ ap length m.own ∙ length-map (numbers 0 workers) (own_at made ms m)
         ∙ length_numbers 0 workers
 
-    pub begun : (ms : List (Option (Member H))) (of_workers of_feeds : List (Way H)) → door.capacity ≡ bound_of kind → AreMembers made ms
-        → of_workers ≡ map (way_of (new_door made)) ms
-        → of_feeds ≡ replicate feeds (of_feed (new_door made)) → IsBegun o kind workers feeds made of_workers of_feeds
+    pub begun : (ms : List (Option (EndDeques H))) (of_workers of_feeds : List (PoolEndpoint H)) → shared_port.capacity ≡ bound_of kind → AreEndDeques made ms
+        → of_workers ≡ map (endpoint_of (new_shared_port made)) ms
+        → of_feeds ≡ replicate feeds (of_feed (new_shared_port made)) → IsBegun o kind workers feeds made of_workers of_feeds
     begun ms of_workers of_feeds bound m ew ef = record {
       gates = refl;
       ends_are = refl;

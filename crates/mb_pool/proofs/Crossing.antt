@@ -11,27 +11,27 @@ use Rattle.crossbeam_queue.proofs.array_queue.Slotted.TheSendSync as slotted
 use Rattle.crossbeam_deque.proofs.injector.Injector.TheSendSync as injector
 use Rattle.crossbeam_deque.proofs.handles.Worker.TheSendSync as worker
 use Rattle.crossbeam_deque.proofs.handles.Stealer.TheSendSync as stealer
-use Rattle.mb_gate.specs.declared.resident.Resident as resident
+use Rattle.mb_gate.specs.declared.mailbox_state.MailboxState as resident
 use Rattle.mb_gate.proofs.Crossing.{claim_send}
-use Rattle.mb_pool.proofs.apart.Apart.TheSendSync as apart
-use Rattle.mb_pool.specs.contracts.parked.Parked as parked
+use Rattle.mb_pool.proofs.padding.Padding.TheSendSync as apart
+use Rattle.mb_pool.specs.contracts.pooled_claim.PooledClaim as parked
 use Rattle.mb_pool.specs.contracts.pool.Pool as pool
 use Rattle.mb_pool.specs.contracts.pool.Pool.TheInside as pool_inside
 use Rattle.mb_pool.specs.contracts.slots.Slots as slots
 use Rattle.mb_pool.specs.contracts.slots_port.SlotsPort as slots_port
 use Rattle.mb_pool.specs.contracts.slots_port.SlotsPort.TheInside as slots_inside
-use Rattle.mb_pool.specs.contracts.inlet.Inlet as inlet
-use Rattle.mb_pool.specs.contracts.inlet_port.InletPort as inlet_port
-use Rattle.mb_pool.specs.contracts.inlet_port.InletPort.TheInside as inlet_inside
-use Rattle.mb_pool.specs.contracts.door.Door as door
+use Rattle.mb_pool.specs.contracts.feed_queue.FeedQueue as inlet
+use Rattle.mb_pool.specs.contracts.feed_queue_port.FeedQueuePort as inlet_port
+use Rattle.mb_pool.specs.contracts.feed_queue_port.FeedQueuePort.TheInside as feed_queue_inside
+use Rattle.mb_pool.specs.contracts.shared_port.SharedPort as shared_port
 use Rattle.mb_pool.specs.contracts.deque.Deque as deque
-use Rattle.mb_pool.specs.contracts.own.Own as own
-use Rattle.mb_pool.specs.contracts.own.Own.TheInside as own_inside
+use Rattle.mb_pool.specs.contracts.own_deque.OwnDeque as own
+use Rattle.mb_pool.specs.contracts.own_deque.OwnDeque.TheInside as own_inside
 use Rattle.mb_pool.specs.contracts.thief.Thief as thief
 use Rattle.mb_pool.specs.contracts.thief.Thief.TheInside as thief_inside
-use Rattle.mb_pool.specs.contracts.member.Member as member
-use Rattle.mb_pool.specs.contracts.end.WorkerEnd as end
-use Rattle.mb_pool.specs.contracts.end.WorkerEnd.TheInside as end_inside
+use Rattle.mb_pool.specs.contracts.end_deques.EndDeques as member
+use Rattle.mb_pool.specs.contracts.end.PoolEnd as end
+use Rattle.mb_pool.specs.contracts.end.PoolEnd.TheInside as end_inside
 use Rattle.mb_pool.specs.contracts.feed.Feed as feed
 use Rattle.mb_pool.specs.contracts.feed.Feed.TheInside as feed_inside
 
@@ -65,22 +65,22 @@ module _ (H : RattleType) (g : resident.Ghosts H.Denot) (home : IsSend H) where
     (search (sendable, std_crosses, seat.the_send, parked_send) depth 20, tt),
   ))
 
-  inlet_send : IsSend (inlet.the_row H g)
-  inlet_send = declared_send (inlet.the_type H g)
+  feed_queue_send : IsSend (inlet.the_row H g)
+  feed_queue_send = declared_send (inlet.the_type H g)
       (search (sendable, std_crosses, heap_send, injector.the_field_send, injector.the_send, parked_send) depth 30, tt)
 
-  inlet_sync : IsSync (inlet.the_row H g)
-  inlet_sync = declared_sync (inlet.the_type H g)
+  feed_queue_sync : IsSync (inlet.the_row H g)
+  feed_queue_sync = declared_sync (inlet.the_type H g)
       (search (sendable, std_crosses, heap_send, heap_sync, injector.the_field_sync, injector.the_sync, parked_send) depth 30, tt)
 
-  inlet_port_send : IsSend (inlet_port.the_row H g)
-  inlet_port_send = view_send _ _ _ _ _ (declared_send (inlet_inside.the_type H g) (
-    search (sendable, std_crosses, inlet_send, inlet_sync) depth 20,
+  feed_queue_port_send : IsSend (inlet_port.the_row H g)
+  feed_queue_port_send = view_send _ _ _ _ _ (declared_send (feed_queue_inside.the_type H g) (
+    search (sendable, std_crosses, feed_queue_send, feed_queue_sync) depth 20,
     (search (sendable, std_crosses, heap_send, web_seat.the_send, parked_send) depth 20, tt),
   ))
 
-  pub door_send : IsSend (door.the_row H g)
-  door_send = variants_send (door.enum H g) ((slots_port_send, tt), ((inlet_port_send, tt), tt))
+  pub shared_port_send : IsSend (shared_port.the_row H g)
+  shared_port_send = variants_send (shared_port.enum H g) ((slots_port_send, tt), ((feed_queue_port_send, tt), tt))
 
   deque_send : IsSend (deque.the_row H g)
   deque_send = declared_send (deque.the_type H g)
@@ -107,7 +107,7 @@ module _ (H : RattleType) (g : resident.Ghosts H.Denot) (home : IsSend H) where
       (declared_send (end_inside.the_type H g) (
         apart.the_send,
         (
-          door_send,
+          shared_port_send,
           (
             search (sendable, std_crosses, member_send) depth 20,
             (apart.the_send, tt),
@@ -116,4 +116,4 @@ module _ (H : RattleType) (g : resident.Ghosts H.Denot) (home : IsSend H) where
       ))
 
   pub feed_send : IsSend (feed.the_row H g)
-  feed_send = view_send _ _ _ _ _ (declared_send (feed_inside.the_type H g) (door_send, tt))
+  feed_send = view_send _ _ _ _ _ (declared_send (feed_inside.the_type H g) (shared_port_send, tt))

@@ -13,6 +13,8 @@ pub mod Looks
 pub mod Loops
 pub mod Making
 pub mod Moves
+pub mod PoolPortCrossing
+pub mod PoolPortLemmas
 pub mod Ports
 pub mod SameGates
 pub mod Stealing

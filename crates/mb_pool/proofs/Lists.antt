@@ -22,13 +22,13 @@ module _ {X : Type 0} where
   pub before : (a b c : List X) → IsPermutation a b → IsPermutation (a ++ c) (b ++ c)
   before a b c h = IsPermutation-append a b c c h (IsPermutation-refl c)
 
-  -- what stands first may stand second
+  -- the first two may be exchanged
   pub past : (a b c : List X) → IsPermutation (a ++ (b ++ c)) (b ++ (a ++ c))
   past a b c = from_left (a ++ (b ++ c)) ((a ++ b) ++ c) (b ++ (a ++ c)) (sym (append_assoc a b c))
       (IsPermutation-trans ((a ++ b) ++ c) ((b ++ a) ++ c) (b ++ (a ++ c)) (before (a ++ b) (b ++ a) c (IsPermutation-append_comm a b))
       (same_elements ((b ++ a) ++ c) (b ++ (a ++ c)) (append_assoc b a c)))
 
-  -- one more in the middle may stand last
+  -- one in the middle may be put last
   pub to_end : (a b : List X) (x : X) → IsPermutation ((a ++ x ∷ []) ++ b) ((a ++ b) ++ x ∷ [])
   to_end a b x = from_left ((a ++ x ∷ []) ++ b) (a ++ (x ∷ [] ++ b)) ((a ++ b) ++ x ∷ []) (append_assoc a (x ∷ []) b)
       (IsPermutation-trans (a ++ (x ∷ [] ++ b)) (a ++ (b ++ x ∷ [])) ((a ++ b) ++ x ∷ [])

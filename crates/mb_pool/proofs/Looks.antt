@@ -1,4 +1,4 @@
--- From what a call tells of the deque to what it tells of the port.
+-- From what a call says of the deque to what it says of the port.
 use Rattle.std.proofs.Common.{◌≡◌, ℕ, MatchResult, MatchOption, Some, None}
 use Rattle.std.specs.Prelude.{Option, Result, Ok, Err}
 use Rattle.crossbeam_deque.specs.Handles as deque
@@ -7,9 +7,9 @@ use Rattle.crossbeam_deque.specs.Injected.{InjectorPass, injector_view}
 use Rattle.crossbeam_queue.specs.Passes as queue
 use Rattle.mb_pool.specs.declared.slots.Slots.{Slots}
 use Rattle.mb_pool.specs.Account.{Account}
-use Rattle.mb_pool.specs.Places.{deque_at, slots_at, inlet_at}
+use Rattle.mb_pool.specs.Places.{deque_at, slots_at, feed_queue_at}
 use Rattle.mb_pool.specs.Deques.{own_look, thief_look}
-use Rattle.mb_pool.specs.Shared.{slots_look, inlet_look}
+use Rattle.mb_pool.specs.Shared.{slots_look, feed_queue_look}
 
 pub of_result : {A B : Type 0} (P P' : A → Type 0) (Q Q' : B → Type 0) (r : Result A B) → ((a : A) → P a → P' a) → ((b : B) → Q b → Q' b)
     → MatchResult r P Q → MatchResult r P' Q'
@@ -33,6 +33,6 @@ pub same_slots : {T H : Type 0} (q : Slots H) (p p' : queue.Pass T (Account H)) 
     → slots_look q p' ≡ slots_look q p
 same_slots q p p' d v i = record { spot = record { place = slots_at (d i); capacity = Some (queue.ruled_capacity q.queue) }; ledger = v i }
 
-pub same_inlet : {T A H : Type 0} (p p' : InjectorPass T (Account H) A) → p'.web ≡ p.web → injector_view p' ≡ injector_view p
-    → inlet_look p' ≡ inlet_look p
-same_inlet p p' d v i = record { spot = record { place = inlet_at (d i); capacity = None }; ledger = v i }
+pub same_feed_queue : {T A H : Type 0} (p p' : InjectorPass T (Account H) A) → p'.web ≡ p.web → injector_view p' ≡ injector_view p
+    → feed_queue_look p' ≡ feed_queue_look p
+same_feed_queue p p' d v i = record { spot = record { place = feed_queue_at (d i); capacity = None }; ledger = v i }

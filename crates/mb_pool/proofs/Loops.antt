@@ -5,7 +5,7 @@ use Rattle.std.proofs.lemmas.List.{map_push, length-map, length-replicate, repli
 use Rattle.mb_pool.specs.Begins.{borrowed, borrowed_next, lent, with_shares}
 use Rattle.mb_pool.specs.Ledger.{opened}
 use Rattle.mb_pool.specs.Account.{Account}
-use Rattle.mb_pool.specs.Places.{Look, numbers}
+use Rattle.mb_pool.specs.Places.{PoolPort, numbers}
 use Rattle.mb_pool.proofs.Begins.{cons_head, cons_tail, numbers_push, take_suc}
 use Rattle.mb_pool.proofs.Begins.{upto, upto_set}
 
@@ -42,56 +42,56 @@ module _ {A B : Type 0} (f : A → B) (d : B) where
       let c : length (map f old) ≡ length (replicate n d) = ap length h in omega (arith, none, some, a, b, c)
 
 module _ {H : Type 0} where
-  pub with_all : (l : Look H) (n : ℕ) → l.ledger.shares ≡ n → with_shares n l ≡ l
+  pub with_all : (l : PoolPort H) (n : ℕ) → l.ledger.shares ≡ n → with_shares n l ≡ l
   with_all l n e = λ i. record { spot = l.spot; ledger = record l.ledger { shares = sym e i } }
 
-  -- the first port of a place after it lent another share
-  pub lent_one : (l first : Look H) (shares : ℕ) → l ≡ with_shares shares first → (lent l ≡ with_shares (shares - 1) first)
+  -- the first port of a queue after it lent another share
+  pub lent_one : (l first : PoolPort H) (shares : ℕ) → l ≡ with_shares shares first → (lent l ≡ with_shares (shares - 1) first)
       × (borrowed l ≡ borrowed first)
   lent_one l first shares e = (ap (lent {H = H}) e, ap (borrowed {H = H}) e)
 
   -- and once it has one share itself
-  pub last_one : (first : Look H) (count : ℕ) → first.ledger ≡ opened first.ledger.gates first.ledger.members count
+  pub last_one : (first : PoolPort H) (count : ℕ) → first.ledger ≡ opened first.ledger.gates first.ledger.members count
       → with_shares 1 first ≡ borrowed first
-  last_one first count e = ap (λ (a : Account H). let l : Look H = record { spot = first.spot; ledger = record a { shares = 1 } } in l) e
+  last_one first count e = ap (λ (a : Account H). let l : PoolPort H = record { spot = first.spot; ledger = record a { shares = 1 } } in l) e
 
-  module _ {V : Type 0} (f : V → Look H) (doors new : List V) (last : V) (first : Look H) (k count : ℕ)
+  module _ {V : Type 0} (f : V → PoolPort H) (doors new : List V) (last : V) (first : PoolPort H) (k count : ℕ)
       (before : map f doors ≡ replicate (k - 1) (borrowed first)) (more : new ≡ doors ++ last ∷ []) where
-    -- one port more of the place
-    pub door_more : (l l' : Look H) → 1 ≤ k → l ≡ with_shares (count - (k - 1)) first → l' ≡ lent l → f last ≡ borrowed l
+    -- one port more of the queue
+    pub shared_port_more : (l l' : PoolPort H) → 1 ≤ k → l ≡ with_shares (count - (k - 1)) first → l' ≡ lent l → f last ≡ borrowed l
         → (map f new ≡ replicate (k + 1 - 1) (borrowed first)) × (l' ≡ with_shares (count - (k + 1 - 1)) first)
-    door_more l l' low here left got =
+    shared_port_more l l' low here left got =
         let one = lent_one l first (count - (k - 1)) here in
-        let door : f last ≡ borrowed first = got ∙ one.1 in
+        let shared_port : f last ≡ borrowed first = got ∙ one.1 in
         let next : k - 1 + 1 ≡ k + 1 - 1 = omega (arith, low) in
         let fewer : count - (k - 1) - 1 ≡ count - (k + 1 - 1) = omega (arith, low) in (
-          ap (map f) more ∙ map_push f doors last ∙ (λ i. before i ++ door i ∷ []) ∙ replicate_more (k - 1) (borrowed first)
+          ap (map f) more ∙ map_push f doors last ∙ (λ i. before i ++ shared_port i ∷ []) ∙ replicate_more (k - 1) (borrowed first)
               ∙ ap (λ n. replicate n (borrowed first)) next,
           left ∙ one.0 ∙ ap (λ n. with_shares n first) fewer,
         )
 
     -- and the first one is the last
-    pub door_last : k ≡ count → 0 < count → f last ≡ with_shares (count - (k - 1)) first
+    pub shared_port_last : k ≡ count → 0 < count → f last ≡ with_shares (count - (k - 1)) first
         → first.ledger ≡ opened first.ledger.gates first.ledger.members count → map f new ≡ replicate count (borrowed first)
-    door_last end low here whole =
+    shared_port_last end low here whole =
         let one : count - (k - 1) ≡ 1 = omega (arith, end, low) in
         let next : k - 1 + 1 ≡ count = omega (arith, end, low) in
-        let door : f last ≡ borrowed first = here ∙ ap (λ n. with_shares n first) one ∙ last_one first count whole in
-        ap (map f) more ∙ map_push f doors last ∙ (λ i. before i ++ door i ∷ []) ∙ replicate_more (k - 1) (borrowed first)
+        let shared_port : f last ≡ borrowed first = here ∙ ap (λ n. with_shares n first) one ∙ last_one first count whole in
+        ap (map f) more ∙ map_push f doors last ∙ (λ i. before i ++ shared_port i ∷ []) ∙ replicate_more (k - 1) (borrowed first)
         ∙ ap (λ n. replicate n (borrowed first)) next
 
   -- each of the next ends' deques lends a share
-  pub lend_one : (owns : List (Look H)) (k : ℕ) (d : Look H) → k < length owns
+  pub lend_one : (owns : List (PoolPort H)) (k : ℕ) (d : PoolPort H) → k < length owns
       → set (upto (lent {H = H}) k owns) k (lent (get_or owns k d)) ≡ upto (lent {H = H}) (suc k) owns
   lend_one owns k d lt = upto_set (lent {H = H}) owns k d lt
 
-  pub borrow_one : (owns : List (Look H)) (k : ℕ) (d : Look H) → k < length owns
+  pub borrow_one : (owns : List (PoolPort H)) (k : ℕ) (d : PoolPort H) → k < length owns
       → map (borrowed {H = H}) (take k owns) ++ borrowed (get_or owns k d) ∷ [] ≡ map (borrowed {H = H}) (take (suc k) owns)
   borrow_one owns k d lt = sym (map_push (borrowed {H = H}) (take k owns) (get_or owns k d))
       ∙ ap (map (borrowed {H = H})) (sym (take_suc owns k d lt))
 
-  -- one more end has its ways into the next ones' deques
-  pub lists_more : {V : Type 0} (items : V → List (Look H)) (owns : List (Look H)) (lists new : List V) (v : V) (k : ℕ)
+  -- one more end has its ports of the next ones' deques
+  pub lists_more : {V : Type 0} (items : V → List (PoolPort H)) (owns : List (PoolPort H)) (lists new : List V) (v : V) (k : ℕ)
       → map items lists ≡ map (borrowed_next owns) (numbers 0 k) → items v ≡ borrowed_next owns k
       → new ≡ lists ++ v ∷ [] → map items new ≡ map (borrowed_next owns) (numbers 0 (k + 1))
   lists_more items owns lists new v k h e n =

@@ -1,4 +1,4 @@
--- Each step of a port keeps the rule of a place.
+-- Each step of a port keeps the rule of its queue.
 use Rattle.std.proofs.Common.{◌≡◌, ℕ, ◌+◌, ◌<◌, List, [], ◌∷◌, ◌++◌, length, set, sym, refl, ap, ◌∙◌, subst, append_assoc}
 use Rattle.std.proofs.Common.{append-nil, arith, Option, None}
 use Rattle.std.specs.Prelude.{IsPermutation, flat_map, All}
@@ -8,32 +8,32 @@ use Rattle.std.proofs.lemmas.List.Concat.{flat_map-append}
 use Rattle.std.proofs.lemmas.List.Elements.{All-nil, All-cons, All-head, All-tail, All-push}
 use mathlib.Core.Option.{some}
 use lib.ListN.{get_elem?}
-use Rattle.mb_pool.specs.Ledger.{Turn, turn, turns, turns_from, Ledger, opened, unused, pushing, taking, lending, borrowing, joining, spent}
+use Rattle.mb_pool.specs.Ledger.{IndexedClaim, turn, turns, indexed_from, Ledger, opened, unused, pushing, taking, lending, borrowing, joining, spent}
 use Rattle.mb_pool.specs.Rule.{all_pushed, all_taken, all_shares, Agrees, Kept, Moment, PutsLast, TakesFirst}
 use Rattle.mb_pool.proofs.Lists.{same_elements, from_left, behind, before, past, to_end, nothing_more, others, set_swap, get_other, pulls}
 use Rattle.mb_pool.proofs.Lists.{pulls_own, weighs, weighs_own, holds_at, holds_others, holds_set}
 
 module _ {C : Type 0} where
-  pub turns_push : (n : ℕ) (cs : List C) (c : C) → turns_from n (cs ++ c ∷ []) ≡ turns_from n cs ++ turn (n + length cs) c ∷ []
+  pub turns_push : (n : ℕ) (cs : List C) (c : C) → indexed_from n (cs ++ c ∷ []) ≡ indexed_from n cs ++ turn (n + length cs) c ∷ []
   turns_push n [] c = ap (λ k. turn k c ∷ []) (omega arith)
-  turns_push n (x ∷ cs) c = ap (λ l. turn n x ∷ l) (turns_push (n + 1) cs c ∙ ap (λ k. turns_from (n + 1) cs ++ turn k c ∷ []) (omega arith))
+  turns_push n (x ∷ cs) c = ap (λ l. turn n x ∷ l) (turns_push (n + 1) cs c ∙ ap (λ k. indexed_from (n + 1) cs ++ turn k c ∷ []) (omega arith))
 
   pub turns_end : (cs : List C) (c : C) → turns (cs ++ c ∷ []) ≡ turns cs ++ turn (length cs) c ∷ []
   turns_end cs c = turns_push 0 cs c ∙ ap (λ k. turns cs ++ turn k c ∷ []) (omega arith)
 
-  turns_none : (n : ℕ) (cs : List C) → turns_from n cs ≡ [] → cs ≡ []
+  turns_none : (n : ℕ) (cs : List C) → indexed_from n cs ≡ [] → cs ≡ []
   turns_none n [] e = refl
   turns_none n (c ∷ cs) e = absurd (subst IsSome e tt)
     where
-      IsSome : List (Turn C) → Type 0
+      IsSome : List (IndexedClaim C) → Type 0
       IsSome [] = ⊥
       IsSome (x ∷ xs) = Unit {0}
 
 module _ {G C : Type 0} where
-  abbrev of_pushed : Ledger G C → List (Turn C)
+  abbrev of_pushed : Ledger G C → List (IndexedClaim C)
   of_pushed l = l.pushed
 
-  abbrev of_taken : Ledger G C → List (Turn C)
+  abbrev of_taken : Ledger G C → List (IndexedClaim C)
   of_taken l = l.taken
 
   abbrev of_shares : Ledger G C → ℕ
@@ -72,8 +72,8 @@ module _ {G C : Type 0} (IsFit : Option G → C → Type 0) (items : List C) (vi
   came_by = IsPermutation-trans (v.pushed ++ all_pushed rest) (all_pushed views) (turns (k.gone ++ items))
       (IsPermutation-sym (all_pushed views) (v.pushed ++ all_pushed rest) (pulls_own of_pushed views port v at)) k.came
 
-  pub went_by : IsPermutation (v.taken ++ all_taken rest) (turns k.gone)
-  went_by = IsPermutation-trans (v.taken ++ all_taken rest) (all_taken views) (turns k.gone)
+  pub pushed_through : IsPermutation (v.taken ++ all_taken rest) (turns k.gone)
+  pushed_through = IsPermutation-trans (v.taken ++ all_taken rest) (all_taken views) (turns k.gone)
       (IsPermutation-sym (all_taken views) (v.taken ++ all_taken rest) (pulls_own of_taken views port v at)) k.went
 
   abbrev pub moment : 0 < v.shares → Moment IsFit v items
@@ -83,7 +83,7 @@ module _ {G C : Type 0} (IsFit : Option G → C → Type 0) (items : List C) (vi
     taken = all_taken rest;
     fit = subst (λ g. All (IsFit g) (k.gone ++ items)) (sym same.0) k.fit;
     came = came_by;
-    went = went_by;
+    went = pushed_through;
     few = let e = shares_are in let s = same.1 in omega (arith, e, s);
     alone = λ all. no_shares k.gates k.members rest (let e = shares_are in let s = same.1 in omega (arith, e, s, all))
         (holds_others (Agrees k.gates k.members) views port k.agree);
@@ -92,7 +92,7 @@ module _ {G C : Type 0} (IsFit : Option G → C → Type 0) (items : List C) (vi
   -- a push
   pub puts : (c : C) → 0 < v.shares → IsFit v.gates c → (w : Ledger G C) × Kept IsFit (items ++ c ∷ []) (set views port w) × PutsLast IsFit v c w
   puts c share fit = let same = mine.same share in
-      let t : Turn C = turn (length (k.gone ++ items)) c in
+      let t : IndexedClaim C = turn (length (k.gone ++ items)) c in
       let w : Ledger G C = pushing v t in
       let more : k.gone ++ (items ++ c ∷ []) ≡ (k.gone ++ items) ++ c ∷ [] = sym (append_assoc k.gone items (c ∷ [])) in (
         w,
@@ -109,7 +109,7 @@ module _ {G C : Type 0} (IsFit : Option G → C → Type 0) (items : List C) (vi
               (turns (k.gone ++ items) ++ t ∷ []) (to_end v.pushed (all_pushed rest) t)
               (before (v.pushed ++ all_pushed rest) (turns (k.gone ++ items)) (t ∷ []) came_by))));
           went = IsPermutation-trans (all_taken (set views port w)) (v.taken ++ all_taken rest) (turns k.gone)
-              (pulls of_taken views port v w at) went_by;
+              (pulls of_taken views port v w at) pushed_through;
           whole = weighs of_shares views port v w at ∙ shares_are;
           agree = holds_set (Agrees k.gates k.members) views port w (record { same = λ _. same; idle = λ none. absurd (omega (arith, none, share)) })
               (holds_others (Agrees k.gates k.members) views port k.agree);
@@ -117,7 +117,7 @@ module _ {G C : Type 0} (IsFit : Option G → C → Type 0) (items : List C) (vi
         (items, moment share, refl),
       )
 
-  -- so the port of a place that is not opened yet is all that there is
+  -- so the port of a queue that is not opened yet is the only one
   is_all : v ≡ unused → (all_shares rest ≡ 0) × (k.gone ++ items ≡ []) × (all_pushed rest ≡ []) × (all_taken rest ≡ [])
   is_all e =
       let one : v.shares ≡ 1 = ap (λ (l : Ledger G C). l.shares) e in
@@ -141,7 +141,7 @@ module _ {G C : Type 0} (IsFit : Option G → C → Type 0) (items : List C) (vi
       IsSome (y ∷ l) = Unit {0}
 
   -- a new port comes
-  came_more : (f : Ledger G C → List (Turn C)) (w n : Ledger G C) → f n ≡ []
+  came_more : (f : Ledger G C → List (IndexedClaim C)) (w n : Ledger G C) → f n ≡ []
       → IsPermutation (flat_map f (set views port w ++ n ∷ [])) (f w ++ flat_map f rest)
   came_more f w n e = from_left (flat_map f (set views port w ++ n ∷ [])) (flat_map f (set views port w)) (f w ++ flat_map f rest)
       (flat_map-append f (set views port w) (n ∷ []) ∙ ap (λ l. flat_map f (set views port w) ++ (l ++ [])) e
@@ -179,7 +179,7 @@ module _ {G C : Type 0} (IsFit : Option G → C → Type 0) (items : List C) (vi
     came = IsPermutation-trans (all_pushed (set views port w ++ n ∷ [])) (v.pushed ++ all_pushed rest) (turns (k.gone ++ items))
         (came_more of_pushed w n refl) came_by;
     went = IsPermutation-trans (all_taken (set views port w ++ n ∷ [])) (v.taken ++ all_taken rest) (turns k.gone)
-        (came_more of_taken w n refl) went_by;
+        (came_more of_taken w n refl) pushed_through;
     whole = let s = shares_more w n in let t = shares_are in omega (arith, s, t, shares);
     agree = All-push (Agrees k.gates k.members) (set views port w) n
         (holds_set (Agrees k.gates k.members) views port w (record { same = λ _. same; idle = λ none. absurd (omega (arith, none, shares)) })
@@ -192,7 +192,7 @@ module _ {G C : Type 0} (IsFit : Option G → C → Type 0) (c : C) (items : Lis
   -- a take
   pub takes : 0 < v.shares → (w : Ledger G C) × Kept IsFit items (set views port w) × TakesFirst IsFit v c w
   takes share = let same = (mine IsFit (c ∷ items) views port v k at).same share in
-      let t : Turn C = turn (length k.gone) c in
+      let t : IndexedClaim C = turn (length k.gone) c in
       let w : Ledger G C = taking v t in
       let left : List (Ledger G C) = others port views in
       let more : k.gone ++ (c ∷ items) ≡ (k.gone ++ c ∷ []) ++ items = sym (append_assoc k.gone (c ∷ []) items) in (
@@ -210,7 +210,7 @@ module _ {G C : Type 0} (IsFit : Option G → C → Type 0) (c : C) (items : Lis
               (pulls of_taken views port v w at)
               (IsPermutation-trans ((v.taken ++ t ∷ []) ++ all_taken left) ((v.taken ++ all_taken left) ++ t ∷ []) (turns k.gone ++ t ∷ [])
               (to_end v.taken (all_taken left) t)
-              (before (v.taken ++ all_taken left) (turns k.gone) (t ∷ []) (went_by IsFit (c ∷ items) views port v k at))));
+              (before (v.taken ++ all_taken left) (turns k.gone) (t ∷ []) (pushed_through IsFit (c ∷ items) views port v k at))));
           whole = weighs of_shares views port v w at ∙ shares_are IsFit (c ∷ items) views port v k at;
           agree = holds_set (Agrees k.gates k.members) views port w (record { same = λ _. same; idle = λ none. absurd (omega (arith, none, share)) })
               (holds_others (Agrees k.gates k.members) views port k.agree);
@@ -240,10 +240,10 @@ module _ {G C : Type 0} (IsFit : Option G → C → Type 0) (items : List C) (vi
   swapped : set (set views port both) other spent ≡ set without port both
   swapped = set_swap views port other both spent (λ e. two (sym e))
 
-  gathers : (f : Ledger G C → List (Turn C)) → f spent ≡ [] → f both ≡ f v ++ f u
+  gathers : (f : Ledger G C → List (IndexedClaim C)) → f spent ≡ [] → f both ≡ f v ++ f u
       → IsPermutation (flat_map f (set without port both)) (flat_map f views)
   gathers f none sum =
-      let away : List (Turn C) = flat_map f (others other views) in
+      let away : List (IndexedClaim C) = flat_map f (others other views) in
       let w = flat_map f without in
       IsPermutation-trans (flat_map f (set without port both)) (f both ++ flat_map f left) (flat_map f views) (pulls f without port v both still)
       (from_left (f both ++ flat_map f left) (f v ++ (f u ++ flat_map f left)) (flat_map f views)

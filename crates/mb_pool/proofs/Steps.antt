@@ -1,4 +1,4 @@
--- The steps as the kit's queues and deques ask for them.
+-- The steps in the form that the queues and deques below are generic in.
 use Rattle.std.proofs.Common.{◌≡◌, ℕ, suc, ◌<◌, ◌≤◌, List, [], ◌∷◌, ◌++◌, length, set, sym, refl, ap, ◌∙◌, subst, arith, min, Option}
 use mathlib.Core.Option.{some}
 use lib.ListN.{get_elem?}
@@ -7,26 +7,26 @@ use Rattle.crossbeam_deque.specs.Tasks as tasks
 use Rattle.crossbeam_deque.specs.Handles.{Pass, IsPassOf, SamePass}
 use Rattle.atomic_blocks.specs.Lent.{RowsId}
 use Rattle.mb_gate.specs.declared.claim.Claim.{Claim}
-use Rattle.mb_pool.specs.declared.parked.Parked.{Parked}
+use Rattle.mb_pool.specs.declared.pooled_claim.PooledClaim.{PooledClaim}
 use Rattle.mb_pool.specs.Items.{claims_of}
 use Rattle.mb_pool.specs.Ledger.{Ledger, opened, unused, lending, borrowing, joining, spent}
 use Rattle.mb_pool.specs.Rule.{Kept, Moment, PutsLast, TakesFirst}
 use Rattle.mb_pool.proofs.Moves.{puts, takes, moment, opens, lends, joins}
 
 module _ {H : Type 0} where
-  pub claims_push : (items : List (Parked H)) (p : Parked H) → claims_of (items ++ p ∷ []) ≡ claims_of items ++ p.claim ∷ []
+  pub claims_push : (items : List (PooledClaim H)) (p : PooledClaim H) → claims_of (items ++ p ∷ []) ≡ claims_of items ++ p.claim ∷ []
   claims_push [] p = refl
   claims_push (q ∷ items) p = ap (λ l. q.claim ∷ l) (claims_push items p)
 
-  pub claims_count : (items : List (Parked H)) → length (claims_of items) ≡ length items
+  pub claims_count : (items : List (PooledClaim H)) → length (claims_of items) ≡ length items
   claims_count [] = refl
   claims_count (q ∷ items) = ap suc (claims_count items)
 
 module _ {G H : Type 0} (IsFit : Option G → Claim H → Type 0) where
-  abbrev pub Holds : List (Parked H) → List (Ledger G (Claim H)) → Type 0
+  abbrev pub Holds : List (PooledClaim H) → List (Ledger G (Claim H)) → Type 0
   Holds items ledgers = Kept IsFit (claims_of items) ledgers
 
-  pub queue_push : (n port : ℕ) (v : Ledger G (Claim H)) (p : Parked H) → 0 < v.shares → IsFit v.gates p.claim
+  pub queue_push : (n port : ℕ) (v : Ledger G (Claim H)) (p : PooledClaim H) → 0 < v.shares → IsFit v.gates p.claim
       → fifo.Pushes Holds n port v p (PutsLast IsFit v p.claim)
   queue_push n port v p share fit = λ items views lt h at. let r = puts IsFit (claims_of items) views port v h at p.claim share fit in
       (r.0, subst (λ l. Kept IsFit l (set views port r.0)) (sym (claims_push items p)) r.1, r.2)
@@ -34,12 +34,12 @@ module _ {G H : Type 0} (IsFit : Option G → Claim H → Type 0) where
   pub learns : (port : ℕ) (v : Ledger G (Claim H)) → 0 < v.shares → fifo.Learns Holds port v (λ items. Moment IsFit v (claims_of items))
   learns port v share = λ items views h at. moment IsFit (claims_of items) views port v h at share
 
-  -- a place that held nothing, or as much as it can
-  pub was_empty : (v : Ledger G (Claim H)) (items : List (Parked H)) → length items ≡ 0 → Moment IsFit v (claims_of items) → Moment IsFit v []
+  -- a queue that was empty, or full
+  pub was_empty : (v : Ledger G (Claim H)) (items : List (PooledClaim H)) → length items ≡ 0 → Moment IsFit v (claims_of items) → Moment IsFit v []
   was_empty v [] none m = m
   was_empty v (p ∷ items) none m = absurd (omega (arith, none))
 
-  pub was_full : (v : Ledger G (Claim H)) (most : ℕ) (items : List (Parked H)) → length items ≡ most → Moment IsFit v (claims_of items)
+  pub was_full : (v : Ledger G (Claim H)) (most : ℕ) (items : List (PooledClaim H)) → length items ≡ most → Moment IsFit v (claims_of items)
       → (held : List (Claim H)) × (length held ≡ most) × Moment IsFit v held
   was_full v most items many m = (claims_of items, claims_count items ∙ many, m)
 
@@ -56,12 +56,12 @@ module _ {G H : Type 0} (IsFit : Option G → Claim H → Type 0) where
       → fifo.Merges Holds port v other u (joining v u) spent
   joined port v other u mine theirs = λ items views h at two at'. joins IsFit (claims_of items) views port v other u h at two at' mine theirs
 
-  pub deque_push : (port : ℕ) (v : Ledger G (Claim H)) (p : Parked H) → 0 < v.shares → IsFit v.gates p.claim
+  pub deque_push : (port : ℕ) (v : Ledger G (Claim H)) (p : PooledClaim H) → 0 < v.shares → IsFit v.gates p.claim
       → tasks.Pushes Holds port v (p ∷ []) (λ w. (c : Claim H) × (claims_of (p ∷ []) ≡ c ∷ []) × PutsLast IsFit v c w)
   deque_push port v p share fit = λ items views h at. let r = puts IsFit (claims_of items) views port v h at p.claim share fit in
       (r.0, subst (λ l. Kept IsFit l (set views port r.0)) (sym (claims_push items p)) r.1, (p.claim, refl, r.2))
 
-  deque_first : (port : ℕ) (v : Ledger G (Claim H)) → 0 < v.shares → (xs items : List (Parked H)) (views : List (Ledger G (Claim H))) → 0 < length xs
+  deque_first : (port : ℕ) (v : Ledger G (Claim H)) → 0 < v.shares → (xs items : List (PooledClaim H)) (views : List (Ledger G (Claim H))) → 0 < length xs
       → length xs < 2 → Holds (xs ++ items) views
       → get_elem? views port ≡ some v
       → (w : Ledger G (Claim H)) × Holds items (set views port w) × ((c : Claim H) × (claims_of xs ≡ c ∷ []) × TakesFirst IsFit v c w)
@@ -77,7 +77,7 @@ module _ {G H : Type 0} (IsFit : Option G → Claim H → Type 0) where
   pub deque_empty : (port : ℕ) (v : Ledger G (Claim H)) → 0 < v.shares → tasks.Finds Holds port v (Moment IsFit v [])
   deque_empty port v share = λ views h at. moment IsFit [] views port v h at share
 
-  none_held : (port : ℕ) (v : Ledger G (Claim H)) → 0 < v.shares → (items : List (Parked H)) (views : List (Ledger G (Claim H))) → length items ≤ 0
+  none_held : (port : ℕ) (v : Ledger G (Claim H)) → 0 < v.shares → (items : List (PooledClaim H)) (views : List (Ledger G (Claim H))) → length items ≤ 0
       → Holds items views → get_elem? views port ≡ some v → Moment IsFit v []
   none_held port v share [] views le h at = moment IsFit [] views port v h at share
   none_held port v share (p ∷ items) views le h at = absurd (omega (arith, le))
@@ -92,12 +92,12 @@ module _ {G H : Type 0} (IsFit : Option G → Claim H → Type 0) where
   head_of d (x ∷ xs) = x
 
   -- the one claim of a step of a deque
-  pub took : (v w : Ledger G (Claim H)) (p : Parked H) (x : Claim H) → x ≡ p.claim → (c : Claim H) × (claims_of (p ∷ []) ≡ c ∷ [])
+  pub took : (v w : Ledger G (Claim H)) (p : PooledClaim H) (x : Claim H) → x ≡ p.claim → (c : Claim H) × (claims_of (p ∷ []) ≡ c ∷ [])
       × TakesFirst IsFit v c w → TakesFirst IsFit v x w
   unfolding head_of
   took v w p x e t = subst (λ y. TakesFirst IsFit v y w) (sym (e ∙ ap (head_of x) t.1)) t.2
 
-  pub put : (v w : Ledger G (Claim H)) (p : Parked H) → (c : Claim H) × (claims_of (p ∷ []) ≡ c ∷ []) × PutsLast IsFit v c w
+  pub put : (v w : Ledger G (Claim H)) (p : PooledClaim H) → (c : Claim H) × (claims_of (p ∷ []) ≡ c ∷ []) × PutsLast IsFit v c w
       → PutsLast IsFit v p.claim w
   unfolding head_of
   put v w p t = subst (λ y. PutsLast IsFit v y w) (sym (ap (head_of p.claim) t.1)) t.2

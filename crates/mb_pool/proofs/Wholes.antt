@@ -1,4 +1,5 @@
--- All ends and feeds of a pool are there: then its places are whole, and what is left is what was pushed and not taken.
+-- All ends and feeds of a pool are given: then all shares of its queues are, and what is left is what was pushed and not
+-- taken.
 use Rattle.std.proofs.Common.{◌≡◌, ◌⊎◌, inl, inr, ℕ, zero, suc, ◌+◌, ◌*◌, ◌<◌, ◌≤◌, List, [], ◌∷◌, ◌++◌, length, get_or, take, drop, replicate}
 use Rattle.std.proofs.Common.{sym, refl, ap, ◌∙◌, subst, map, arith, append_assoc, append-nil}
 use Rattle.std.specs.Prelude.{All, IsPermutation, Option, Some, flat_map, sum_by}
@@ -10,12 +11,12 @@ use Rattle.std.proofs.lemmas.List.Elements.{All-replicate}
 use Rattle.std.proofs.lemmas.List.Sorted.{IsPermutation-refl, IsPermutation-sym, IsPermutation-trans}
 use Rattle.std.proofs.lemmas.List.Sums.{sum_by-cons, sum_by-append}
 use Rattle.mb_gate.specs.declared.claim.Claim.{Claim}
-use Rattle.mb_pool.specs.Ends.{AreAlike, AreGathered, AreMatched, Empties, Frame, IsAllOf, IsAmong, MayJoin, TakesIn, Where, doors_of, frame_of}
+use Rattle.mb_pool.specs.Ends.{AreAlike, AreGathered, AreMatched, Empties, Frame, IsAllOf, IsAmong, MayJoin, TakesIn, Where, shared_ports_of, frame_of}
 use Rattle.mb_pool.specs.Ends.{joined, nexts_of, owns_of, shares_in, where_is}
 use Rattle.mb_pool.specs.Ledger.{claims_in}
 use Rattle.mb_pool.specs.Made.{AreDeques, IsLeft, IsWhole}
 use Rattle.mb_gate.specs.Untouched.{Origin}
-use Rattle.mb_pool.specs.Places.{AreEnds, AreFeeds, Look, Part, Parts, Spot, Way, Whole, deque_parts, door_part, end_parts, feed_parts, looks}
+use Rattle.mb_pool.specs.Places.{AreEnds, AreFeeds, PoolPort, Part, Parts, QueueInfo, PoolEndpoint, PoolView, deque_parts, shared_port_part, end_parts, feed_parts, looks}
 use Rattle.mb_pool.specs.Places.{numbers, owner_of, part_of, parts_of, pushed_at, pushed_by, taken_at, taken_by}
 use Rattle.mb_pool.proofs.Begins.{cons_head, cons_tail, cons_nil, const_numbers, drop_length, length_numbers, map_map, map_replicate, singles}
 use Rattle.mb_pool.proofs.Lists.{same_elements, from_left, behind, before}
@@ -44,7 +45,7 @@ all_most f m (x ∷ xs) few sum =
         let mine : f x ≤ m = All-head (λ y. f y ≤ m) x xs h in let r = at_most f m xs (All-tail (λ y. f y ≤ m) x xs h) in
         let s = sum_by-cons f x xs in let one : suc (length xs) * m ≡ length xs * m + m = suc-mul (length xs) m in omega (arith, mine, r, s, one)
 
-cut : (ss : List Spot) (k : ℕ) → length (take 1 (drop k ss)) + length (drop (k + 1) ss ++ take k ss) ≡ length ss
+cut : (ss : List QueueInfo) (k : ℕ) → length (take 1 (drop k ss)) + length (drop (k + 1) ss ++ take k ss) ≡ length ss
 cut ss k = let a = length-take 1 (drop k ss) in let b = length-drop k ss in let c = length-append (drop (k + 1) ss) (take k ss) in
     let d = length-drop (k + 1) ss in let e = length-take k ss in omega (arith, a, b, c, d, e)
 
@@ -62,8 +63,8 @@ flat_nils (suc n) = flat_nils n
 
 module _ {H : Type 0} where
   -- each of the ends, by what is said of the ends of the pool in order
-  pub each_end : (pool : Whole H) (ends : List (Way H)) → AreEnds pool ends → (Q : Parts H → Type 0) → ((k : ℕ) → Q (end_parts pool k))
-      → All (λ (w : Way H). Q (parts_of w)) ends
+  pub each_end : (pool : PoolView H) (ends : List (PoolEndpoint H)) → AreEnds pool ends → (Q : Parts H → Type 0) → ((k : ℕ) → Q (end_parts pool k))
+      → All (λ (w : PoolEndpoint H). Q (parts_of w)) ends
   each_end pool ends e Q h = all_unmap Q (parts_of {H = H}) ends (subst (All Q) (sym e)
       (All-map Q (end_parts pool) (numbers 0 pool.ends) (all_of (λ k. Q (end_parts pool k)) h (numbers 0 pool.ends))))
     where
@@ -71,11 +72,11 @@ module _ {H : Type 0} where
       all_of P h [] = All-nil P
       all_of P h (k ∷ ks) = All-cons P k ks (h k) (all_of P h ks)
 
-  pub count_of : (pool : Whole H) (ends : List (Way H)) → AreEnds pool ends → length ends ≡ pool.ends
+  pub count_of : (pool : PoolView H) (ends : List (PoolEndpoint H)) → AreEnds pool ends → length ends ≡ pool.ends
   count_of pool ends e = sym (length-map ends (parts_of {H = H})) ∙ ap length e ∙ length-map (numbers 0 pool.ends) (end_parts pool)
       ∙ length_numbers 0 pool.ends
 
-  end_at : (pool : Whole H) (ends : List (Way H)) → AreEnds pool ends → (k : ℕ) (d : Way H) → k < length ends
+  end_at : (pool : PoolView H) (ends : List (PoolEndpoint H)) → AreEnds pool ends → (k : ℕ) (d : PoolEndpoint H) → k < length ends
       → parts_of (get_or ends k d) ≡ end_parts pool k
   end_at pool ends e k d lt =
       let count = count_of pool ends e in let n = length_numbers 0 pool.ends in
@@ -85,15 +86,15 @@ module _ {H : Type 0} where
       ∙ get_or-map (end_parts pool) (numbers 0 pool.ends) k 0 (parts_of d) there
       ∙ ap (end_parts pool) (numbers_at 0 pool.ends k 0 small ∙ (let z : 0 + k ≡ k = omega arith in z))
 
-  abbrev pub deque_part : Whole H → Spot → Part H
+  abbrev pub deque_part : PoolView H → QueueInfo → Part H
   deque_part pool s = record { spot = s; gates = Some pool.gates; members = pool.ends; shares = 1 }
 
-  may_join_one : (xs : List (Look H)) (p : Part H) → map (part_of {H = H}) xs ≡ p ∷ [] → 0 < p.shares → MayJoin xs p
+  may_join_one : (xs : List (PoolPort H)) (p : Part H) → map (part_of {H = H}) xs ≡ p ∷ [] → 0 < p.shares → MayJoin xs p
   may_join_one [] p e some = absurd (cons_nil p [] (sym e))
   may_join_one (x ∷ xs) p e some = (sym (ap (λ (q : Part H). q.spot) (cons_head (part_of x) p (map (part_of {H = H}) xs) [] e)), some)
 
-  -- the deque at each place is the own one of the end with its number
-  own_deques : (pool : Whole H) (ends : List (Way H)) → AreEnds pool ends → (pre post : List Spot) → pool.deques ≡ pre ++ post
+  -- the deque at each index is that of the end with this number
+  own_deques : (pool : PoolView H) (ends : List (PoolEndpoint H)) → AreEnds pool ends → (pre post : List QueueInfo) → pool.deques ≡ pre ++ post
       → length pool.deques ≤ length ends → AreDeques (length pre) post
       → All (λ s. IsAmong ends (deque_part pool s)) post
   own_deques pool ends e pre [] is few h = All-nil (λ s. IsAmong ends (deque_part pool s))
@@ -102,24 +103,24 @@ module _ {H : Type 0} where
       let number : owner_of s ≡ n = ap owner_of h.0.1 in
       let whole : length pool.deques ≡ length pre + suc (length post) = ap length is ∙ length_append pre (s ∷ post) in
       let lt : n < length ends = omega (arith, whole, few) in
-      let own : (d : Way H) → map (part_of {H = H}) (get_or ends n d).own ≡ deque_part pool s ∷ []
+      let own : (d : PoolEndpoint H) → map (part_of {H = H}) (get_or ends n d).own ≡ deque_part pool s ∷ []
       = λ d. ap (λ (p : Parts H). p.own) (end_at pool ends e n d lt) ∙ ap (λ l. deque_parts pool (take 1 (drop n l))) is
       ∙ ap (λ l. deque_parts pool (take 1 l)) (drop_length pre (s ∷ post)) in
       let here : IsAmong ends (deque_part pool s) = subst (λ k. (k < length ends)
-      × ((d : Way H) → MayJoin (get_or ends k d).own (deque_part pool s))) (sym number)
+      × ((d : PoolEndpoint H) → MayJoin (get_or ends k d).own (deque_part pool s))) (sym number)
       (lt, λ d. may_join_one (get_or ends n d).own (deque_part pool s) (own d) (omega arith)) in
       let more : length (pre ++ s ∷ []) ≡ n + 1 = length_append pre (s ∷ []) in
       All-cons (λ t. IsAmong ends (deque_part pool t)) s post here
       (own_deques pool ends e (pre ++ s ∷ []) post (is ∙ sym (append_assoc pre (s ∷ []) post)) few (subst (λ k. AreDeques k post) (sym more) h.1))
     where
-      length_append : (xs ys : List Spot) → length (xs ++ ys) ≡ length xs + length ys
+      length_append : (xs ys : List QueueInfo) → length (xs ++ ys) ≡ length xs + length ys
       length_append [] ys = omega arith
       length_append (x ∷ xs) ys = let r = length_append xs ys in omega (arith, r)
 
-  pub matched : (pool : Whole H) (ends : List (Way H)) → IsWhole pool → AreEnds pool ends → AreMatched ends
+  pub matched : (pool : PoolView H) (ends : List (PoolEndpoint H)) → IsWhole pool → AreEnds pool ends → AreMatched ends
   matched pool ends w e =
-      let ds : List Spot = pool.deques in
-      let Fits : Spot → Type 0 = λ s. IsAmong ends (deque_part pool s) in
+      let ds : List QueueInfo = pool.deques in
+      let Fits : QueueInfo → Type 0 = λ s. IsAmong ends (deque_part pool s) in
       let count = count_of pool ends e in
       let all : All Fits ds = own_deques pool ends e [] ds refl (few w.many count) w.deques in
       flat ends (each_end pool ends e (λ (p : Parts H). All (IsAmong ends) p.next)
@@ -130,21 +131,21 @@ module _ {H : Type 0} where
       few (inl none) count = let z : length pool.deques ≡ 0 = ap length none in omega (arith, z)
       few (inr all) count = omega (arith, all, count)
 
-      flat : (ws : List (Way H)) → All (λ (v : Way H). All (IsAmong ends) (parts_of v).next) ws
-          → All (λ (l : Look H). IsAmong ends (part_of l)) (nexts_of ws)
-      flat [] h = All-nil (λ (l : Look H). IsAmong ends (part_of l))
-      flat (v ∷ ws) h = All-append (λ (l : Look H). IsAmong ends (part_of l)) v.next (nexts_of ws)
-          (all_unmap (IsAmong ends) (part_of {H = H}) v.next (All-head (λ (u : Way H). All (IsAmong ends) (parts_of u).next) v ws h))
-          (flat ws (All-tail (λ (u : Way H). All (IsAmong ends) (parts_of u).next) v ws h))
+      flat : (ws : List (PoolEndpoint H)) → All (λ (v : PoolEndpoint H). All (IsAmong ends) (parts_of v).next) ws
+          → All (λ (l : PoolPort H). IsAmong ends (part_of l)) (nexts_of ws)
+      flat [] h = All-nil (λ (l : PoolPort H). IsAmong ends (part_of l))
+      flat (v ∷ ws) h = All-append (λ (l : PoolPort H). IsAmong ends (part_of l)) v.next (nexts_of ws)
+          (all_unmap (IsAmong ends) (part_of {H = H}) v.next (All-head (λ (u : PoolEndpoint H). All (IsAmong ends) (parts_of u).next) v ws h))
+          (flat ws (All-tail (λ (u : PoolEndpoint H). All (IsAmong ends) (parts_of u).next) v ws h))
 
   -- how many shares these ports have, when each has one
-  pub sum_parts : (ls : List (Look H)) → shares_in ls ≡ sum_by (λ (p : Part H). p.shares) (map (part_of {H = H}) ls)
+  pub sum_parts : (ls : List (PoolPort H)) → shares_in ls ≡ sum_by (λ (p : Part H). p.shares) (map (part_of {H = H}) ls)
   sum_parts [] = refl
   sum_parts (l ∷ ls) =
-      let a = sum_by-cons (λ (x : Look H). x.ledger.shares) l ls in let b =
+      let a = sum_by-cons (λ (x : PoolPort H). x.ledger.shares) l ls in let b =
       sum_by-cons (λ (p : Part H). p.shares) (part_of l) (map (part_of {H = H}) ls) in let r = sum_parts ls in omega (arith, a, b, r)
 
-  sum_deques : (pool : Whole H) (ss : List Spot) → sum_by (λ (p : Part H). p.shares) (deque_parts pool ss) ≡ length ss
+  sum_deques : (pool : PoolView H) (ss : List QueueInfo) → sum_by (λ (p : Part H). p.shares) (deque_parts pool ss) ≡ length ss
   sum_deques pool [] = refl
   sum_deques pool (s ∷ ss) = let a = sum_by-cons (λ (p : Part H). p.shares) (deque_part pool s) (deque_parts pool ss) in
       let r = sum_deques pool ss in omega (arith, a, r)
@@ -153,37 +154,37 @@ module _ {H : Type 0} where
   sum_ones zero p e = refl
   sum_ones (suc n) p e = let a = sum_by-cons (λ (q : Part H). q.shares) p (replicate n p) in let r = sum_ones n p e in omega (arith, a, r, e)
 
-  totals : (ws : List (Way H)) (m : ℕ) → All (λ (w : Way H). shares_in w.own + shares_in w.next ≡ m) ws
+  totals : (ws : List (PoolEndpoint H)) (m : ℕ) → All (λ (w : PoolEndpoint H). shares_in w.own + shares_in w.next ≡ m) ws
       → shares_in (owns_of ws) + shares_in (nexts_of ws) ≡ length ws * m
   totals [] m h = omega arith
   totals (w ∷ ws) m h =
-      let P : Way H → Type 0 = λ v. shares_in v.own + shares_in v.next ≡ m in
-      let f : Look H → ℕ = λ l. l.ledger.shares in
+      let P : PoolEndpoint H → Type 0 = λ v. shares_in v.own + shares_in v.next ≡ m in
+      let f : PoolPort H → ℕ = λ l. l.ledger.shares in
       let mine = All-head P w ws h in let r = totals ws m (All-tail P w ws h) in
       let a = sum_by-append f w.own (owns_of ws) in let b = sum_by-append f w.next (nexts_of ws) in
       let one : suc (length ws) * m ≡ length ws * m + m = suc-mul (length ws) m in omega (arith, mine, r, a, b, one)
 
-  all_shares : (pool : Whole H) (ends : List (Way H)) → AreEnds pool ends
+  all_shares : (pool : PoolView H) (ends : List (PoolEndpoint H)) → AreEnds pool ends
       → shares_in (owns_of ends) + shares_in (nexts_of ends) ≡ pool.ends * length pool.deques
   all_shares pool ends e =
-      let ds : List Spot = pool.deques in
+      let ds : List QueueInfo = pool.deques in
       let sum : List (Part H) → ℕ = sum_by (λ (p : Part H). p.shares) in
       let Q : Parts H → Type 0 = λ p. sum p.own + sum p.next ≡ length ds in
       let each = each_end pool ends e Q (λ k. (λ i. sum_deques pool (take 1 (drop k ds)) i + sum_deques pool (drop (k + 1) ds ++ take k ds) i)
       ∙ cut ds k) in
-      let all = All-weaker (λ (w : Way H). Q (parts_of w)) (λ (w : Way H). shares_in w.own + shares_in w.next ≡ length ds)
+      let all = All-weaker (λ (w : PoolEndpoint H). Q (parts_of w)) (λ (w : PoolEndpoint H). shares_in w.own + shares_in w.next ≡ length ds)
       (λ w h. (λ i. sum_parts w.own i + sum_parts w.next i) ∙ h) ends each in
       totals ends (length ds) all ∙ ap (λ n. n * length ds) (count_of pool ends e)
 
-  owns_flat : (ws : List (Way H)) → map (part_of {H = H}) (owns_of ws) ≡ flat_map (λ (p : Parts H). p.own) (map (parts_of {H = H}) ws)
+  owns_flat : (ws : List (PoolEndpoint H)) → map (part_of {H = H}) (owns_of ws) ≡ flat_map (λ (p : Parts H). p.own) (map (parts_of {H = H}) ws)
   owns_flat [] = refl
   owns_flat (w ∷ ws) = map-append (part_of {H = H}) w.own (owns_of ws) ∙ ap (λ l. map (part_of {H = H}) w.own ++ l) (owns_flat ws)
 
   -- the ends' own deques are the deques of the pool
-  own_parts : (pool : Whole H) (ends : List (Way H)) → IsWhole pool → AreEnds pool ends
+  own_parts : (pool : PoolView H) (ends : List (PoolEndpoint H)) → IsWhole pool → AreEnds pool ends
       → map (part_of {H = H}) (owns_of ends) ≡ deque_parts pool pool.deques
   own_parts pool ends w e =
-      let ds : List Spot = pool.deques in
+      let ds : List QueueInfo = pool.deques in
       let at : ℕ → List (Part H) = λ k. deque_parts pool (take 1 (drop k ds)) in
       owns_flat ends ∙ ap (flat_map (λ (p : Parts H). p.own)) e ∙ flat_of (λ (p : Parts H). p.own) (map (end_parts pool) (numbers 0 pool.ends))
       ∙ ap (flat_map (λ (l : List (Part H)). l)) (map_map (λ (p : Parts H). p.own) (end_parts pool) (numbers 0 pool.ends)) ∙ by_kind w.many
@@ -199,81 +200,81 @@ module _ {H : Type 0} where
           ap (λ n. flat_map (λ (l : List (Part H)). l) (map (λ (k : ℕ). deque_parts pool (take 1 (drop k pool.deques))) (numbers 0 n))) (sym all)
           ∙ ap (flat_map (λ (l : List (Part H)). l)) (sym (singles (deque_part pool) [] pool.deques)) ∙ flat_singles (deque_part pool) pool.deques
 
-  owns_where : (old new : List (Way H)) → map (frame_of {H = H}) new ≡ map (frame_of {H = H}) old
+  owns_where : (old new : List (PoolEndpoint H)) → map (frame_of {H = H}) new ≡ map (frame_of {H = H}) old
       → map (where_is {H = H}) (owns_of new) ≡ map (where_is {H = H}) (owns_of old)
   owns_where old new e = flat new ∙ ap (flat_map (λ (f : Frame H). f.own)) e ∙ sym (flat old)
     where
-      flat : (ws : List (Way H)) → map (where_is {H = H}) (owns_of ws) ≡ flat_map (λ (f : Frame H). f.own) (map (frame_of {H = H}) ws)
+      flat : (ws : List (PoolEndpoint H)) → map (where_is {H = H}) (owns_of ws) ≡ flat_map (λ (f : Frame H). f.own) (map (frame_of {H = H}) ws)
       flat [] = refl
       flat (w ∷ ws) = map-append (where_is {H = H}) w.own (owns_of ws) ∙ ap (λ l. map (where_is {H = H}) w.own ++ l) (flat ws)
 
-  pub doors_same : (old new : List (Way H)) → map (frame_of {H = H}) new ≡ map (frame_of {H = H}) old → doors_of new ≡ doors_of old
-  doors_same old new e = sym (map_map (λ (f : Frame H). f.door) (frame_of {H = H}) new) ∙ ap (map (λ (f : Frame H). f.door)) e
-      ∙ map_map (λ (f : Frame H). f.door) (frame_of {H = H}) old
+  pub shared_ports_same : (old new : List (PoolEndpoint H)) → map (frame_of {H = H}) new ≡ map (frame_of {H = H}) old → shared_ports_of new ≡ shared_ports_of old
+  shared_ports_same old new e = sym (map_map (λ (f : Frame H). f.shared_port) (frame_of {H = H}) new) ∙ ap (map (λ (f : Frame H). f.shared_port)) e
+      ∙ map_map (λ (f : Frame H). f.shared_port) (frame_of {H = H}) old
 
-  -- the place of all, as each port of it has it
-  abbrev pub door_where : Whole H → Where H
-  door_where pool = record { spot = pool.door; gates = Some pool.gates; members = pool.ends + pool.feeds }
+  -- the queue that all share, as each port of it has it
+  abbrev pub shared_port_where : PoolView H → Where H
+  shared_port_where pool = record { spot = pool.shared_port; gates = Some pool.gates; members = pool.ends + pool.feeds }
 
   abbrev where_of : Part H → Where H
   where_of p = record { spot = p.spot; gates = p.gates; members = p.members }
 
-  pub end_doors : (pool : Whole H) (ends : List (Way H)) → AreEnds pool ends
-      → map (part_of {H = H}) (doors_of ends) ≡ replicate pool.ends (door_part pool)
-  end_doors pool ends e = map_map (part_of {H = H}) (λ (w : Way H). w.door) ends ∙ sym (map_map (λ (p : Parts H). p.door) (parts_of {H = H}) ends)
-      ∙ ap (map (λ (p : Parts H). p.door)) e
-      ∙ map_map (λ (p : Parts H). p.door) (end_parts pool) (numbers 0 pool.ends)
-      ∙ const_numbers (λ (k : ℕ). door_part pool) (door_part pool) (λ k. refl) 0 pool.ends
+  pub end_shared_ports : (pool : PoolView H) (ends : List (PoolEndpoint H)) → AreEnds pool ends
+      → map (part_of {H = H}) (shared_ports_of ends) ≡ replicate pool.ends (shared_port_part pool)
+  end_shared_ports pool ends e = map_map (part_of {H = H}) (λ (w : PoolEndpoint H). w.shared_port) ends ∙ sym (map_map (λ (p : Parts H). p.shared_port) (parts_of {H = H}) ends)
+      ∙ ap (map (λ (p : Parts H). p.shared_port)) e
+      ∙ map_map (λ (p : Parts H). p.shared_port) (end_parts pool) (numbers 0 pool.ends)
+      ∙ const_numbers (λ (k : ℕ). shared_port_part pool) (shared_port_part pool) (λ k. refl) 0 pool.ends
 
-  pub feed_doors : (pool : Whole H) (feeds : List (Way H)) → AreFeeds pool feeds
-      → map (part_of {H = H}) (doors_of feeds) ≡ replicate pool.feeds (door_part pool)
-  feed_doors pool feeds e = map_map (part_of {H = H}) (λ (w : Way H). w.door) feeds
-      ∙ sym (map_map (λ (p : Parts H). p.door) (parts_of {H = H}) feeds) ∙ ap (map (λ (p : Parts H). p.door)) e
-      ∙ map_replicate (λ (p : Parts H). p.door) pool.feeds (feed_parts pool)
+  pub feed_shared_ports : (pool : PoolView H) (feeds : List (PoolEndpoint H)) → AreFeeds pool feeds
+      → map (part_of {H = H}) (shared_ports_of feeds) ≡ replicate pool.feeds (shared_port_part pool)
+  feed_shared_ports pool feeds e = map_map (part_of {H = H}) (λ (w : PoolEndpoint H). w.shared_port) feeds
+      ∙ sym (map_map (λ (p : Parts H). p.shared_port) (parts_of {H = H}) feeds) ∙ ap (map (λ (p : Parts H). p.shared_port)) e
+      ∙ map_replicate (λ (p : Parts H). p.shared_port) pool.feeds (feed_parts pool)
 
-  pub all_here : (pool : Whole H) (ls : List (Look H)) (n : ℕ) → map (part_of {H = H}) ls ≡ replicate n (door_part pool)
-      → All (λ (l : Look H). where_is l ≡ door_where pool) ls
-  all_here pool ls n e = all_unmap (λ (p : Part H). where_of p ≡ door_where pool) (part_of {H = H}) ls
-      (subst (All (λ (p : Part H). where_of p ≡ door_where pool)) (sym e)
-      (All-replicate (λ (p : Part H). where_of p ≡ door_where pool) n (door_part pool) refl))
+  pub all_here : (pool : PoolView H) (ls : List (PoolPort H)) (n : ℕ) → map (part_of {H = H}) ls ≡ replicate n (shared_port_part pool)
+      → All (λ (l : PoolPort H). where_is l ≡ shared_port_where pool) ls
+  all_here pool ls n e = all_unmap (λ (p : Part H). where_of p ≡ shared_port_where pool) (part_of {H = H}) ls
+      (subst (All (λ (p : Part H). where_of p ≡ shared_port_where pool)) (sym e)
+      (All-replicate (λ (p : Part H). where_of p ≡ shared_port_where pool) n (shared_port_part pool) refl))
 
-  pub alike : (pool : Whole H) (ls : List (Look H)) → All (λ (l : Look H). where_is l ≡ door_where pool) ls → AreAlike ls
+  pub alike : (pool : PoolView H) (ls : List (PoolPort H)) → All (λ (l : PoolPort H). where_is l ≡ shared_port_where pool) ls → AreAlike ls
   alike pool [] h = tt
   alike pool (l ∷ ls) h =
-      let P : Look H → Type 0 = λ x. where_is x ≡ door_where pool in let mine : where_is l ≡ door_where pool = All-head P l ls h in
-      All-weaker P (λ (x : Look H). where_is x ≡ where_is l) (λ x e. e ∙ sym mine) ls (All-tail P l ls h)
+      let P : PoolPort H → Type 0 = λ x. where_is x ≡ shared_port_where pool in let mine : where_is l ≡ shared_port_where pool = All-head P l ls h in
+      All-weaker P (λ (x : PoolPort H). where_is x ≡ where_is l) (λ x e. e ∙ sym mine) ls (All-tail P l ls h)
 
-  pub ends_alike : (pool : Whole H) (ends now : List (Way H)) → AreEnds pool ends → AreGathered ends now → AreAlike (doors_of now)
-  ends_alike pool ends now e g = alike pool (doors_of now) (subst (All (λ (l : Look H). where_is l ≡ door_where pool))
-      (sym (doors_same ends now g.frames)) (all_here pool (doors_of ends) pool.ends (end_doors pool ends e)))
+  pub ends_alike : (pool : PoolView H) (ends now : List (PoolEndpoint H)) → AreEnds pool ends → AreGathered ends now → AreAlike (shared_ports_of now)
+  ends_alike pool ends now e g = alike pool (shared_ports_of now) (subst (All (λ (l : PoolPort H). where_is l ≡ shared_port_where pool))
+      (sym (shared_ports_same ends now g.frames)) (all_here pool (shared_ports_of ends) pool.ends (end_shared_ports pool ends e)))
 
-  pub all_of_where : (pool : Whole H) (ls : List (Look H)) (door : Look H) → All (λ (l : Look H). where_is l ≡ door_where pool) ls → IsAllOf ls door
-      → where_is door ≡ door_where pool
-  all_of_where pool [] door h is = absurd is
-  all_of_where pool (l ∷ ls) door h is = is.same ∙ All-head (λ (x : Look H). where_is x ≡ door_where pool) l ls h
+  pub all_of_where : (pool : PoolView H) (ls : List (PoolPort H)) (shared_port : PoolPort H) → All (λ (l : PoolPort H). where_is l ≡ shared_port_where pool) ls → IsAllOf ls shared_port
+      → where_is shared_port ≡ shared_port_where pool
+  all_of_where pool [] shared_port h is = absurd is
+  all_of_where pool (l ∷ ls) shared_port h is = is.same ∙ All-head (λ (x : PoolPort H). where_is x ≡ shared_port_where pool) l ls h
 
-  pub all_of_shares : (ls : List (Look H)) (door : Look H) → IsAllOf ls door → door.ledger.shares ≡ shares_in ls
-  all_of_shares [] door is = absurd is
-  all_of_shares (l ∷ ls) door is = let a = is.shares in let b = sum_by-cons (λ (x : Look H). x.ledger.shares) l ls in omega (arith, a, b)
+  pub all_of_shares : (ls : List (PoolPort H)) (shared_port : PoolPort H) → IsAllOf ls shared_port → shared_port.ledger.shares ≡ shares_in ls
+  all_of_shares [] shared_port is = absurd is
+  all_of_shares (l ∷ ls) shared_port is = let a = is.shares in let b = sum_by-cons (λ (x : PoolPort H). x.ledger.shares) l ls in omega (arith, a, b)
 
-  all_of_pushed : (ls : List (Look H)) (door : Look H) → IsAllOf ls door → claims_in door.ledger.pushed ≡ pushed_at ls
-  all_of_pushed [] door is = absurd is
-  all_of_pushed (l ∷ ls) door is = is.pushed
+  all_of_pushed : (ls : List (PoolPort H)) (shared_port : PoolPort H) → IsAllOf ls shared_port → claims_in shared_port.ledger.pushed ≡ pushed_at ls
+  all_of_pushed [] shared_port is = absurd is
+  all_of_pushed (l ∷ ls) shared_port is = is.pushed
 
-  all_of_taken : (ls : List (Look H)) (door : Look H) → IsAllOf ls door → claims_in door.ledger.taken ≡ taken_at ls
-  all_of_taken [] door is = absurd is
-  all_of_taken (l ∷ ls) door is = is.taken
+  all_of_taken : (ls : List (PoolPort H)) (shared_port : PoolPort H) → IsAllOf ls shared_port → claims_in shared_port.ledger.taken ≡ taken_at ls
+  all_of_taken [] shared_port is = absurd is
+  all_of_taken (l ∷ ls) shared_port is = is.taken
 
-  -- all that is known of ends without ways into the next ones' deques
-  spread : (f : Look H → List (Claim H)) (ws : List (Way H)) → nexts_of ws ≡ []
-      → IsPermutation (flat_map (λ (v : Way H). flat_map f (looks v)) ws) (flat_map f (owns_of ws) ++ flat_map f (doors_of ws))
+  -- all that is known of ends without ports of the other deques
+  spread : (f : PoolPort H → List (Claim H)) (ws : List (PoolEndpoint H)) → nexts_of ws ≡ []
+      → IsPermutation (flat_map (λ (v : PoolEndpoint H). flat_map f (looks v)) ws) (flat_map f (owns_of ws) ++ flat_map f (shared_ports_of ws))
   spread f [] none = IsPermutation-refl []
   spread f (w ∷ ws) none =
       let mine : w.next ≡ [] = first_nil w.next (nexts_of ws) none in let rest : nexts_of ws ≡ [] = second_nil w.next (nexts_of ws) none in
-      let o : List (Claim H) = flat_map f w.own in let d : List (Claim H) = f w.door in
-      let os : List (Claim H) = flat_map f (owns_of ws) in let ds : List (Claim H) = flat_map f (doors_of ws) in
-      let all : List (Claim H) = flat_map (λ (v : Way H). flat_map f (looks v)) ws in
-      let here : flat_map f (looks w) ≡ o ++ d = ap (λ n. flat_map f (w.own ++ w.door ∷ n)) mine ∙ flat_map-append f w.own (w.door ∷ [])
+      let o : List (Claim H) = flat_map f w.own in let d : List (Claim H) = f w.shared_port in
+      let os : List (Claim H) = flat_map f (owns_of ws) in let ds : List (Claim H) = flat_map f (shared_ports_of ws) in
+      let all : List (Claim H) = flat_map (λ (v : PoolEndpoint H). flat_map f (looks v)) ws in
+      let here : flat_map f (looks w) ≡ o ++ d = ap (λ n. flat_map f (w.own ++ w.shared_port ∷ n)) mine ∙ flat_map-append f w.own (w.shared_port ∷ [])
       ∙ ap (λ l. o ++ l) (append-nil d) in
       let to : (o ++ os) ++ (d ++ ds) ≡ flat_map f (w.own ++ owns_of ws) ++ (d ++ ds) =
       ap (λ l. l ++ (d ++ ds)) (sym (flat_map-append f w.own (owns_of ws))) in
@@ -283,18 +284,18 @@ module _ {H : Type 0} where
       (IsPermutation-trans ((o ++ d) ++ (os ++ ds)) ((o ++ os) ++ (d ++ ds)) (flat_map f (w.own ++ owns_of ws) ++ (d ++ ds)) (exchange o d os ds)
       (same_elements ((o ++ os) ++ (d ++ ds)) (flat_map f (w.own ++ owns_of ws) ++ (d ++ ds)) to)))
     where
-      first_nil : (xs ys : List (Look H)) → xs ++ ys ≡ [] → xs ≡ []
+      first_nil : (xs ys : List (PoolPort H)) → xs ++ ys ≡ [] → xs ≡ []
       first_nil [] ys e = refl
       first_nil (x ∷ xs) ys e = absurd (cons_nil x (xs ++ ys) e)
 
-      second_nil : (xs ys : List (Look H)) → xs ++ ys ≡ [] → ys ≡ []
+      second_nil : (xs ys : List (PoolPort H)) → xs ++ ys ≡ [] → ys ≡ []
       second_nil [] ys e = e
       second_nil (x ∷ xs) ys e = absurd (cons_nil x (xs ++ ys) e)
 
-  -- feeds have ports of the feeds' place alone
-  feeds_flat : (f : Look H → List (Claim H)) (pool : Whole H) (n : ℕ) (feeds : List (Way H))
+  -- feeds have ports of the queue that all share alone
+  feeds_flat : (f : PoolPort H → List (Claim H)) (pool : PoolView H) (n : ℕ) (feeds : List (PoolEndpoint H))
       → map (parts_of {H = H}) feeds ≡ replicate n (feed_parts pool)
-      → flat_map (λ (v : Way H). flat_map f (looks v)) feeds ≡ flat_map f (doors_of feeds)
+      → flat_map (λ (v : PoolEndpoint H). flat_map f (looks v)) feeds ≡ flat_map f (shared_ports_of feeds)
   feeds_flat f pool n [] e = refl
   feeds_flat f pool zero (w ∷ feeds) e = absurd (cons_nil (parts_of w) (map (parts_of {H = H}) feeds) e)
   feeds_flat f pool (suc n) (w ∷ feeds) e =
@@ -304,84 +305,84 @@ module _ {H : Type 0} where
       (replicate n (feed_parts pool)) e) in
       let own : w.own ≡ [] = no_parts w.own (ap (λ (p : Parts H). p.own) mine) in
       let next : w.next ≡ [] = no_parts w.next (ap (λ (p : Parts H). p.next) mine) in
-      (λ i. flat_map f (own i ++ w.door ∷ next i) ++ rest i) ∙ ap (λ l. l ++ flat_map f (doors_of feeds)) (append-nil (f w.door))
+      (λ i. flat_map f (own i ++ w.shared_port ∷ next i) ++ rest i) ∙ ap (λ l. l ++ flat_map f (shared_ports_of feeds)) (append-nil (f w.shared_port))
     where
-      no_parts : (xs : List (Look H)) → map (part_of {H = H}) xs ≡ [] → xs ≡ []
+      no_parts : (xs : List (PoolPort H)) → map (part_of {H = H}) xs ≡ [] → xs ≡ []
       no_parts [] e = refl
       no_parts (x ∷ xs) e = absurd (cons_nil (part_of x) (map (part_of {H = H}) xs) e)
 
-module _ {H : Type 0} (IsFit : Option (Origin H) → Claim H → Type 0) (pool : Whole H) (ends feeds now : List (Way H)) (first last : Look H)
+module _ {H : Type 0} (IsFit : Option (Origin H) → Claim H → Type 0) (pool : PoolView H) (ends feeds now : List (PoolEndpoint H)) (first last : PoolPort H)
     (whole : IsWhole pool) (are_ends : AreEnds pool ends) (are_feeds : AreFeeds pool feeds)
-    (gathered : AreGathered ends now) (is_first : IsAllOf (doors_of now) first) (is_last : TakesIn first (doors_of feeds) last) where
-  abbrev pub ports : List (Look H)
+    (gathered : AreGathered ends now) (is_first : IsAllOf (shared_ports_of now) first) (is_last : TakesIn first (shared_ports_of feeds) last) where
+  abbrev pub ports : List (PoolPort H)
   ports = owns_of now ++ last ∷ []
 
-  here : All (λ (l : Look H). where_is l ≡ door_where pool) (doors_of now)
-  here = subst (All (λ (l : Look H). where_is l ≡ door_where pool)) (sym (doors_same ends now gathered.frames))
-      (all_here pool (doors_of ends) pool.ends (end_doors pool ends are_ends))
+  here : All (λ (l : PoolPort H). where_is l ≡ shared_port_where pool) (shared_ports_of now)
+  here = subst (All (λ (l : PoolPort H). where_is l ≡ shared_port_where pool)) (sym (shared_ports_same ends now gathered.frames))
+      (all_here pool (shared_ports_of ends) pool.ends (end_shared_ports pool ends are_ends))
 
-  pub first_where : where_is first ≡ door_where pool
-  first_where = all_of_where pool (doors_of now) first here is_first
+  pub first_where : where_is first ≡ shared_port_where pool
+  first_where = all_of_where pool (shared_ports_of now) first here is_first
 
-  pub last_where : where_is last ≡ door_where pool
+  pub last_where : where_is last ≡ shared_port_where pool
   last_where = is_last.same ∙ first_where
 
-  -- the place of all has all its shares at the last port
+  -- the last port of the queue that all share has all its shares
   last_whole : HasAll last
   last_whole =
-      let a = is_last.shares in let b = all_of_shares (doors_of now) first is_first in
-      let c : shares_in (doors_of now) ≡ pool.ends = ap shares_in (doors_same ends now gathered.frames) ∙ sum_parts (doors_of ends)
-      ∙ ap (sum_by (λ (p : Part H). p.shares)) (end_doors pool ends are_ends) ∙ sum_ones pool.ends (door_part pool) refl in
-      let d : shares_in (doors_of feeds) ≡ pool.feeds = sum_parts (doors_of feeds)
-      ∙ ap (sum_by (λ (p : Part H). p.shares)) (feed_doors pool feeds are_feeds) ∙ sum_ones pool.feeds (door_part pool) refl in
+      let a = is_last.shares in let b = all_of_shares (shared_ports_of now) first is_first in
+      let c : shares_in (shared_ports_of now) ≡ pool.ends = ap shares_in (shared_ports_same ends now gathered.frames) ∙ sum_parts (shared_ports_of ends)
+      ∙ ap (sum_by (λ (p : Part H). p.shares)) (end_shared_ports pool ends are_ends) ∙ sum_ones pool.ends (shared_port_part pool) refl in
+      let d : shares_in (shared_ports_of feeds) ≡ pool.feeds = sum_parts (shared_ports_of feeds)
+      ∙ ap (sum_by (λ (p : Part H). p.shares)) (feed_shared_ports pool feeds are_feeds) ∙ sum_ones pool.feeds (shared_port_part pool) refl in
       let e : last.ledger.members ≡ pool.ends + pool.feeds = ap (λ (w : Where H). w.members) last_where in
       omega (arith, a, b, c, d, e)
 
-  owns_at : map (where_is {H = H}) (owns_of now) ≡ map (λ (s : Spot). where_of (deque_part pool s)) pool.deques
+  owns_at : map (where_is {H = H}) (owns_of now) ≡ map (λ (s : QueueInfo). where_of (deque_part pool s)) pool.deques
   owns_at = owns_where ends now gathered.frames ∙ sym (map_map (where_of {H = H}) (part_of {H = H}) (owns_of ends))
       ∙ ap (map (where_of {H = H})) (own_parts pool ends whole are_ends)
       ∙ map_map (where_of {H = H}) (deque_part pool) pool.deques
 
-  all_members : All (λ (l : Look H). l.ledger.members ≡ pool.ends) (owns_of now)
+  all_members : All (λ (l : PoolPort H). l.ledger.members ≡ pool.ends) (owns_of now)
   all_members = all_unmap (λ (w : Where H). w.members ≡ pool.ends) (where_is {H = H}) (owns_of now)
       (subst (All (λ (w : Where H). w.members ≡ pool.ends)) (sym owns_at) (each pool.deques))
     where
-      each : (ss : List Spot) → All (λ (w : Where H). w.members ≡ pool.ends) (map (λ (s : Spot). where_of (deque_part pool s)) ss)
+      each : (ss : List QueueInfo) → All (λ (w : Where H). w.members ≡ pool.ends) (map (λ (s : QueueInfo). where_of (deque_part pool s)) ss)
       each [] = All-nil (λ (w : Where H). w.members ≡ pool.ends)
       each (s ∷ ss) = All-cons (λ (w : Where H). w.members ≡ pool.ends) (where_of (deque_part pool s))
-          (map (λ (t : Spot). where_of (deque_part pool t)) ss) refl (each ss)
+          (map (λ (t : QueueInfo). where_of (deque_part pool t)) ss) refl (each ss)
 
-  -- and so has each deque, since no port has more than all of its place
+  -- and so has that of each deque, since no port has more than all shares of its queue
   owns_whole : All (HasFew {H = H}) (owns_of now) → All (HasAll {H = H}) (owns_of now)
   owns_whole few =
-      let Is : Look H → Type 0 = λ l. l.ledger.members ≡ pool.ends in
-      let Most : Look H → Type 0 = λ l. l.ledger.shares ≤ pool.ends in
-      let Each : Look H → Type 0 = λ l. l.ledger.shares ≡ pool.ends in
+      let Is : PoolPort H → Type 0 = λ l. l.ledger.members ≡ pool.ends in
+      let Most : PoolPort H → Type 0 = λ l. l.ledger.shares ≤ pool.ends in
+      let Each : PoolPort H → Type 0 = λ l. l.ledger.shares ≡ pool.ends in
       let most : All Most (owns_of now) = both (HasFew {H = H}) Is Most (λ l f m. omega (arith, f, m)) (owns_of now) few all_members in
       let count : length (owns_of now) ≡ length pool.deques = sym (length-map (owns_of now) (where_is {H = H})) ∙ ap length owns_at
-      ∙ length-map pool.deques (λ (s : Spot). where_of (deque_part pool s)) in
+      ∙ length-map pool.deques (λ (s : QueueInfo). where_of (deque_part pool s)) in
       let sum : shares_in (owns_of now) ≡ pool.ends * length pool.deques = gathered.shares ∙ all_shares pool ends are_ends in
       let same : length (owns_of now) * pool.ends ≡ pool.ends * length pool.deques = ap (λ n. n * pool.ends) count
       ∙ mul_comm (length pool.deques) pool.ends in
       both Each Is (HasAll {H = H}) (λ l s m. s ∙ sym m) (owns_of now)
-      (all_most (λ (l : Look H). l.ledger.shares) pool.ends (owns_of now) most (omega (arith, same, sum))) all_members
+      (all_most (λ (l : PoolPort H). l.ledger.shares) pool.ends (owns_of now) most (omega (arith, same, sum))) all_members
     where
-      both : (P Q R : Look H → Type 0) → ((l : Look H) → P l → Q l → R l) → (ls : List (Look H)) → All P ls → All Q ls → All R ls
+      both : (P Q R : PoolPort H → Type 0) → ((l : PoolPort H) → P l → Q l → R l) → (ls : List (PoolPort H)) → All P ls → All Q ls → All R ls
       both P Q R f [] p q = All-nil R
       both P Q R f (l ∷ ls) p q = All-cons R l ls (f l (All-head P l ls p) (All-head Q l ls q))
           (both P Q R f ls (All-tail P l ls p) (All-tail Q l ls q))
 
-  ports_know : (f : Look H → List (Claim H)) → IsPermutation (flat_map (λ (v : Way H). flat_map f (looks v)) now)
-      (flat_map (λ (v : Way H). flat_map f (looks v)) ends) → f first ≡ flat_map f (doors_of now)
-      → f last ≡ flat_map f (first ∷ doors_of feeds) → IsPermutation (flat_map f ports)
-      (flat_map (λ (v : Way H). flat_map f (looks v)) (ends ++ feeds))
+  ports_know : (f : PoolPort H → List (Claim H)) → IsPermutation (flat_map (λ (v : PoolEndpoint H). flat_map f (looks v)) now)
+      (flat_map (λ (v : PoolEndpoint H). flat_map f (looks v)) ends) → f first ≡ flat_map f (shared_ports_of now)
+      → f last ≡ flat_map f (first ∷ shared_ports_of feeds) → IsPermutation (flat_map f ports)
+      (flat_map (λ (v : PoolEndpoint H). flat_map f (looks v)) (ends ++ feeds))
   ports_know f same is_f is_l =
-      let F : List (Way H) → List (Claim H) = flat_map (λ (v : Way H). flat_map f (looks v)) in
-      let o : List (Claim H) = flat_map f (owns_of now) in let d : List (Claim H) = flat_map f (doors_of now) in
-      let e : List (Claim H) = flat_map f (doors_of feeds) in
+      let F : List (PoolEndpoint H) → List (Claim H) = flat_map (λ (v : PoolEndpoint H). flat_map f (looks v)) in
+      let o : List (Claim H) = flat_map f (owns_of now) in let d : List (Claim H) = flat_map f (shared_ports_of now) in
+      let e : List (Claim H) = flat_map f (shared_ports_of feeds) in
       let from : flat_map f ports ≡ (o ++ d) ++ e = flat_map-append f (owns_of now) (last ∷ [])
       ∙ ap (λ l. o ++ l) (append-nil (f last) ∙ is_l ∙ ap (λ l. l ++ e) is_f) ∙ sym (append_assoc o d e) in
-      let to : F (ends ++ feeds) ≡ F ends ++ e = flat_map-append (λ (v : Way H). flat_map f (looks v)) ends feeds
+      let to : F (ends ++ feeds) ≡ F ends ++ e = flat_map-append (λ (v : PoolEndpoint H). flat_map f (looks v)) ends feeds
       ∙ ap (λ l. F ends ++ l) (feeds_flat f pool pool.feeds feeds are_feeds) in
       from_left (flat_map f ports) ((o ++ d) ++ e) (F (ends ++ feeds)) from
       (IsPermutation-trans ((o ++ d) ++ e) (F now ++ e) (F (ends ++ feeds))
@@ -401,9 +402,9 @@ module _ {H : Type 0} (IsFit : Option (Origin H) → Claim H → Type 0) (pool :
       let shares : All (HasAll {H = H}) ports = All-append (HasAll {H = H}) (owns_of now) (last ∷ []) (owns_whole p.few)
       (All-cons (HasAll {H = H}) last [] last_whole (All-nil (HasAll {H = H}))) in
       let taken : IsPermutation (taken_at ports) (taken_by (ends ++ feeds)) =
-      ports_know (λ (l : Look H). claims_in l.ledger.taken) gathered.taken (all_of_taken (doors_of now) first is_first) is_last.taken in
+      ports_know (λ (l : PoolPort H). claims_in l.ledger.taken) gathered.taken (all_of_taken (shared_ports_of now) first is_first) is_last.taken in
       let pushed : IsPermutation (pushed_at ports) (pushed_by (ends ++ feeds)) =
-      ports_know (λ (l : Look H). claims_in l.ledger.pushed) gathered.pushed (all_of_pushed (doors_of now) first is_first) is_last.pushed in (
+      ports_know (λ (l : PoolPort H). claims_in l.ledger.pushed) gathered.pushed (all_of_pushed (shared_ports_of now) first is_first) is_last.pushed in (
         IsPermutation-trans (taken_by (ends ++ feeds) ++ left) (taken_at ports ++ left) (pushed_by (ends ++ feeds))
             (before (taken_by (ends ++ feeds)) (taken_at ports) left (IsPermutation-sym (taken_at ports) (taken_by (ends ++ feeds)) taken))
             (IsPermutation-trans (taken_at ports ++ left) (pushed_at ports) (pushed_by (ends ++ feeds))
@@ -411,19 +412,19 @@ module _ {H : Type 0} (IsFit : Option (Origin H) → Claim H → Type 0) (pool :
         subst (All (IsFit (Some pool.gates))) is all.fit,
       )
 
--- One end more was taken apart: its own deque was emptied, and its port of the feeds' place was taken in.
+-- One end more was taken apart: its own deque was emptied, and its port of the queue that all share was joined.
 module _ {H : Type 0} (IsFit : Option (Origin H) → Claim H → Type 0) where
-  pub one_more_door : (base door other : Look H) (done : List (Way H)) (end : Way H) → TakesIn base (doors_of done) door → other ≡ end.door
-      → TakesIn base (doors_of (done ++ end ∷ [])) (joined door other)
-  one_more_door base door other done end t e =
-      subst (λ (y : List (Look H) × Look H). TakesIn base y.0 (joined door y.1)) (λ i. (sym (map_push (λ (w : Way H). w.door) done end) i, sym e i))
-      (takes_in_more base (doors_of done) door end.door t)
+  pub one_more_shared_port : (base shared_port other : PoolPort H) (done : List (PoolEndpoint H)) (end : PoolEndpoint H) → TakesIn base (shared_ports_of done) shared_port → other ≡ end.shared_port
+      → TakesIn base (shared_ports_of (done ++ end ∷ [])) (joined shared_port other)
+  one_more_shared_port base shared_port other done end t e =
+      subst (λ (y : List (PoolPort H) × PoolPort H). TakesIn base y.0 (joined shared_port y.1)) (λ i. (sym (map_push (λ (w : PoolEndpoint H). w.shared_port) done end) i, sym e i))
+      (takes_in_more base (shared_ports_of done) shared_port end.shared_port t)
 
-  pub one_more_own : (base : Look H) (done : List (Way H)) (end : Way H) (a b c : List (Claim H))
-      → Empties IsFit base.ledger.gates (owns_of done) a b → where_is end.door ≡ where_is base
-      → Empties IsFit end.door.ledger.gates end.own b c → Empties IsFit base.ledger.gates (owns_of (done ++ end ∷ [])) a c
+  pub one_more_own : (base : PoolPort H) (done : List (PoolEndpoint H)) (end : PoolEndpoint H) (a b c : List (Claim H))
+      → Empties IsFit base.ledger.gates (owns_of done) a b → where_is end.shared_port ≡ where_is base
+      → Empties IsFit end.shared_port.ledger.gates end.own b c → Empties IsFit base.ledger.gates (owns_of (done ++ end ∷ [])) a c
   one_more_own base done end a b c p alike' q =
-      let owns : owns_of (done ++ end ∷ []) ≡ owns_of done ++ end.own = flat_map-append (λ (w : Way H). w.own) done (end ∷ [])
+      let owns : owns_of (done ++ end ∷ []) ≡ owns_of done ++ end.own = flat_map-append (λ (w : PoolEndpoint H). w.own) done (end ∷ [])
       ∙ ap (λ l. owns_of done ++ l) (append-nil end.own) in
       subst (λ l. Empties IsFit base.ledger.gates l a c) (sym owns)
       (empties_append IsFit base.ledger.gates (owns_of done) end.own a b c p

@@ -1,12 +1,14 @@
--- What is kept of a port of a deque, as contracts see it (this project's own profile).
+-- The ports of a deque, as contracts see them (this project's own profile).
 use Rattle.std.specs.Prelude.{ℕ, None}
 use Rattle.crossbeam_deque.specs.Handles.{Pass, view, worker_deque, worker_view}
 use Rattle.crossbeam_deque.specs.declared.handles.Worker.{Worker}
 use Rattle.mb_pool.specs.Account.{Account}
-use Rattle.mb_pool.specs.Places.{Look, deque_at}
+use Rattle.mb_pool.specs.Places.{PoolPort, deque_at}
 
-abbrev pub own_look : {T A H P : Type 0} → ℕ → Worker T A (Account H) P → Look H
+-- a worker's port of its own deque, as contracts see it
+abbrev pub own_look : {T A H P : Type 0} → ℕ → Worker T A (Account H) P → PoolPort H
 own_look n w = record { spot = record { place = deque_at n (worker_deque w).0; capacity = None }; ledger = worker_view w }
 
-abbrev pub thief_look : {T A H : Type 0} → ℕ → Pass T (Account H) A → Look H
+-- a thief's port of a deque, as contracts see it
+abbrev pub thief_look : {T A H : Type 0} → ℕ → Pass T (Account H) A → PoolPort H
 thief_look n p = record { spot = record { place = deque_at n p.rows; capacity = None }; ledger = view p }

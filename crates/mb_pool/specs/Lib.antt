@@ -1,6 +1,7 @@
 pub mod Account
 pub mod Begins
 pub mod Deques
+pub mod Endpoints
 pub mod Ends
 pub mod Items
 pub mod Ledger
@@ -8,7 +9,7 @@ pub mod Made
 pub mod Moves
 pub mod Parts
 pub mod Places
+pub mod PoolPorts
+pub mod PushedThrough
 pub mod Rule
 pub mod Shared
-pub mod Ways
-pub mod Went

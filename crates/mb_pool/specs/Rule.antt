@@ -1,27 +1,29 @@
--- The rule of a place: what holds between any two steps of any threads (this project's own profile).
+-- The rule of a queue of the pool: what holds between any two steps of any threads (this project's own profile).
 use Rattle.std.specs.Prelude.{◌≡◌, ℕ, ◌<◌, ◌≤◌, List, [], ◌∷◌, ◌++◌, length, All, IsPermutation, flat_map, sum_by, Option}
-use Rattle.mb_pool.specs.Ledger.{Turn, turn, turns, Ledger, pushing, taking}
+use Rattle.mb_pool.specs.Ledger.{IndexedClaim, turn, turns, Ledger, pushing, taking}
 
 module _ {G C : Type 0} where
-  -- all that was pushed by way of these ports, and all that was taken
-  abbrev pub all_pushed : List (Ledger G C) → List (Turn C)
+  -- all that was pushed through these ports, and all that was taken
+  abbrev pub all_pushed : List (Ledger G C) → List (IndexedClaim C)
   all_pushed = flat_map (λ (l : Ledger G C). l.pushed)
 
-  abbrev pub all_taken : List (Ledger G C) → List (Turn C)
+  abbrev pub all_taken : List (Ledger G C) → List (IndexedClaim C)
   all_taken = flat_map (λ (l : Ledger G C). l.taken)
 
   -- how many shares they have
   abbrev pub all_shares : List (Ledger G C) → ℕ
   all_shares = sum_by (λ (l : Ledger G C). l.shares)
 
-  -- a port with a share agrees on the gates and on how many shares there are; by way of one without a share nothing came or went
+  -- a port with a share has these gates and this number of shares in all; through one without a share nothing was pushed or
+  -- taken
   pub record Agrees (gates : Option G) (members : ℕ) (l : Ledger G C) : Type 0 where
     pub same : 0 < l.shares → (l.gates ≡ gates) × (l.members ≡ members)
     pub idle : l.shares ≡ 0 → (l.pushed ≡ []) × (l.taken ≡ [])
 
 module _ {G C : Type 0} (IsFit : Option G → C → Type 0) where
-  -- Of what the place holds, the oldest first, and of what each port knows. `gone` is what was taken, in the order of the
-  -- pushes: each claim was pushed once, by way of one port, and the first that were pushed are those that were taken, each once.
+  -- The rule, of what the queue holds, the oldest first, and of what each port knows. `gone` is what was taken, in the
+  -- order of the pushes: each claim was pushed once, through one port, and the first that were pushed are those that were
+  -- taken, each once.
   pub record Kept (items : List C) (ledgers : List (Ledger G C)) : Type 0 where
     pub gates : Option G
     pub members : ℕ
@@ -32,22 +34,22 @@ module _ {G C : Type 0} (IsFit : Option G → C → Type 0) where
     pub whole : all_shares ledgers ≡ members
     pub agree : All (Agrees gates members) ledgers
 
-  -- What may have been so at one moment, as far as a port can know it: the place held this, the oldest first. By then this
-  -- was gone, and the other ports had pushed and taken this; they had done nothing if this port has all the shares.
+  -- What may have held at one moment, as far as a port can know: the queue held this, the oldest first. By then `gone` was
+  -- taken, and the other ports had pushed and taken this; they had done nothing if this port has all the shares.
   pub record Moment (l : Ledger G C) (items : List C) : Type 0 where
     pub gone : List C
-    pub pushed : List (Turn C)
-    pub taken : List (Turn C)
+    pub pushed : List (IndexedClaim C)
+    pub taken : List (IndexedClaim C)
     pub fit : All (IsFit l.gates) (gone ++ items)
     pub came : IsPermutation (l.pushed ++ pushed) (turns (gone ++ items))
     pub went : IsPermutation (l.taken ++ taken) (turns gone)
     pub few : l.shares ≤ l.members
     pub alone : l.shares ≡ l.members → (pushed ≡ []) × (taken ≡ [])
 
-  -- the claim was put behind all that the place held
+  -- the claim was pushed behind all that the queue held
   abbrev pub PutsLast : Ledger G C → C → Ledger G C → Type 0
   PutsLast old c new = (items : List C) × (m : Moment old items) × (new ≡ pushing old (turn (length (m.gone ++ items)) c))
 
-  -- the claim was the first of those that the place held, so the one that was pushed first
+  -- the claim was the first that the queue held, so the one that was pushed first
   abbrev pub TakesFirst : Ledger G C → C → Ledger G C → Type 0
   TakesFirst old c new = (rest : List C) × (m : Moment old (c ∷ rest)) × (new ≡ taking old (turn (length m.gone) c))

@@ -1,13 +1,15 @@
--- What is kept of a port of the kit's queues, as contracts see it (this project's own profile).
+-- The ports of the bounded queue and of the injector, as contracts see them (this project's own profile).
 use Rattle.std.specs.Prelude.{Some, None}
 use Rattle.crossbeam_queue.specs.Passes.{Pass, view, ruled_capacity}
 use Rattle.crossbeam_deque.specs.Injected.{InjectorPass, injector_view}
 use Rattle.mb_pool.specs.declared.slots.Slots.{Slots}
 use Rattle.mb_pool.specs.Account.{Account}
-use Rattle.mb_pool.specs.Places.{Look, slots_at, inlet_at}
+use Rattle.mb_pool.specs.Places.{PoolPort, slots_at, feed_queue_at}
 
-abbrev pub slots_look : {T H : Type 0} → Slots H → Pass T (Account H) → Look H
+-- a port of the bounded queue, as contracts see it
+abbrev pub slots_look : {T H : Type 0} → Slots H → Pass T (Account H) → PoolPort H
 slots_look slots pass = record { spot = record { place = slots_at pass.table_id; capacity = Some (ruled_capacity slots.queue) }; ledger = view pass }
 
-abbrev pub inlet_look : {T A H : Type 0} → InjectorPass T (Account H) A → Look H
-inlet_look pass = record { spot = record { place = inlet_at pass.web; capacity = None }; ledger = injector_view pass }
+-- a port of the injector, as contracts see it
+abbrev pub feed_queue_look : {T A H : Type 0} → InjectorPass T (Account H) A → PoolPort H
+feed_queue_look pass = record { spot = record { place = feed_queue_at pass.web; capacity = None }; ledger = injector_view pass }

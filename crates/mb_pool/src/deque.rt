@@ -1,37 +1,37 @@
-//! A deque under the rule of a place, as its owner uses it.
+//! A worker's deque, as its owner uses it.
 ghost use Rattle.std.specs.Prelude.{◌≡◌, ◌<◌, [], IfOk, MatchOption, MatchResult};
 ghost use Rattle.crossbeam_deque.specs.Handles.{view, IsPassOf, worker_deque, worker_flavor, worker_view};
 ghost use Rattle.mb_pool.specs.Ledger.{borrowing, joining, lending, opened, unused};
 ghost use Rattle.mb_pool.specs.Rule.{Moment, PutsLast, TakesFirst};
 ghost use Rattle.mb_gate.specs.Untouched.{IsUntouched};
 
-use crate::knowledge::Knowledge;
-use crate::parked::Parked;
-use crate::rule::{Accounted, Joins, Lends, Opens, Pushed, Scoped, Taken};
+use crate::pooled_claim::PooledClaim;
+use crate::port_ledger::PortLedger;
+use crate::rule::{Joins, Lends, Opens, PoolRule, Pushed, Scoped, Taken};
 use crossbeam_deque::{Pass, Worker};
-use mb_gate::{Claim, Resident};
+use mb_gate::{Claim, MailboxState};
 use std::alloc::{AllocError, Global};
 
-/// The slots with which a deque begins. It grows.
+/// The capacity with which a deque begins. It grows.
 const FIRST_SLOTS: usize = 64;
 
-/// The kit's deque under the rule of a place.
-pub struct Deque<H: Resident> {
-    /// The owner's handle of it.
-    pub worker: Worker<Parked<H>, Global, Knowledge<H>, Accounted>,
+/// A deque of `crossbeam_deque` under the pool's rule.
+pub struct Deque<H: MailboxState> {
+    /// The owner's handle.
+    pub worker: Worker<PooledClaim<H>, Global, PortLedger<H>, PoolRule>,
 }
 
-/// What one other port knows of it.
-pub type DequePass<H> = Pass<Parked<H>, Knowledge<H>, Global>;
+/// What another end's port knows of it.
+pub type DequePass<H> = Pass<PooledClaim<H>, PortLedger<H>, Global>;
 
-impl<H: Resident> Drop for Deque<H> {
+impl<H: MailboxState> Drop for Deque<H> {
     fn drop(self) {
         let Self { worker } = self;
         drop(worker);
     }
 }
 
-impl<H: Resident> Deque<H> {
+impl<H: MailboxState> Deque<H> {
     /// An empty deque, first in, first out.
     pub fn new(alloc: Global) -> Result<Deque<H>, AllocError>
         ensures { IfOk result (λ d. (worker_flavor d.worker ≡ 0) × (worker_view d.worker ≡ unused)) }
@@ -40,19 +40,19 @@ impl<H: Resident> Deque<H> {
         Ok(Deque { worker })
     }
 
-    /// Puts the claim last, or gives it back for want of memory.
+    /// Pushes the claim, or gives it back where memory was refused.
     #[inline]
     pub fn push(&mut self, claim: Claim<H>) -> Result<(), Claim<H>>
         requires share { 0 < (worker_view self.old.worker).shares }
-        requires fit { IsUntouched H.is_of H.journal H.mailbox H.rested H.given H.closed_to (worker_view self.old.worker).gates claim }
+        requires fit { IsUntouched H.is_of H.facts (worker_view self.old.worker).gates claim }
         ensures same { (worker_deque self.new.worker ≡ worker_deque self.old.worker)
             × (worker_flavor self.new.worker ≡ worker_flavor self.old.worker) }
         ensures pushed { MatchResult result
-            (λ _. PutsLast (IsUntouched H.is_of H.journal H.mailbox H.rested H.given H.closed_to) (worker_view self.old.worker) claim
+            (λ _. PutsLast (IsUntouched H.is_of H.facts) (worker_view self.old.worker) claim
             (worker_view self.new.worker))
             (λ back. (back ≡ claim) × (worker_view self.new.worker ≡ worker_view self.old.worker)) }
     {
-        match self.worker.push_as::<Pushed>(Parked { claim }) {
+        match self.worker.push_as::<Pushed>(PooledClaim { claim }) {
             Ok(()) => Ok(()),
             Err(parked) => Err(parked.open()),
         }
@@ -67,8 +67,8 @@ impl<H: Resident> Deque<H> {
             × (worker_flavor self.new.worker ≡ worker_flavor self.old.worker) }
         ensures taken { MatchOption result
             ((worker_view self.new.worker ≡ worker_view self.old.worker)
-            × Moment (IsUntouched H.is_of H.journal H.mailbox H.rested H.given H.closed_to) (worker_view self.old.worker) [])
-            (λ c. TakesFirst (IsUntouched H.is_of H.journal H.mailbox H.rested H.given H.closed_to) (worker_view self.old.worker) c
+            × Moment (IsUntouched H.is_of H.facts) (worker_view self.old.worker) [])
+            (λ c. TakesFirst (IsUntouched H.is_of H.facts) (worker_view self.old.worker) c
             (worker_view self.new.worker)) }
     {
         match self.worker.pop_as::<Taken>() {
@@ -77,18 +77,18 @@ impl<H: Resident> Deque<H> {
         }
     }
 
-    /// Settles of which gates the claims are, and how many shares there are.
+    /// Fixes whose gates' claims go in, and how many ports there are.
     pub fn open<S: Scoped<H>>(&mut self)
         requires unused { worker_view self.old.worker ≡ unused }
         ensures same { (worker_deque self.new.worker ≡ worker_deque self.old.worker)
             × (worker_flavor self.new.worker ≡ worker_flavor self.old.worker) }
         ensures opened { worker_view self.new.worker ≡ opened S.gates S.members S.members }
     {
-        // The step settles what the owner knows. The second pass that it splits off has no share, and is let go.
+        // The step settles what the owner knows. The second pass that it splits off has no share and is dropped.
         let _ = self.worker.another::<Opens<S>>();
     }
 
-    /// One of its shares goes to a pass of its own.
+    /// Makes a pass with one of its shares.
     pub fn lend(&mut self) -> DequePass<H>
         requires shares { 1 < (worker_view self.old.worker).shares }
         ensures same { (worker_deque self.new.worker ≡ worker_deque self.old.worker)
@@ -100,7 +100,7 @@ impl<H: Resident> Deque<H> {
         self.worker.another::<Lends>()
     }
 
-    /// Takes another pass in, with its shares and its account.
+    /// Joins another pass, with its shares and its account.
     pub fn join(&mut self, other: DequePass<H>)
         requires theirs { IsPassOf (worker_deque self.old.worker) other }
         requires shares { (0 < (worker_view self.old.worker).shares) × (0 < (view other).shares) }

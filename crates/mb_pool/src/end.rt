@@ -4,143 +4,145 @@ ghost use Rattle.mb_pool.specs.Moves.{given_back, IsRefusedBy, Pushes, Takes, Wa
 ghost use Rattle.mb_pool.specs.Parts.{look_of};
 ghost use Rattle.mb_pool.specs.Places.{gates_of, looks, parts_of};
 ghost use Rattle.mb_gate.specs.Untouched.{IsUntouched};
-ghost use Rattle.mb_pool.specs.Ways.{AreOpen, way_of};
+ghost use Rattle.mb_pool.specs.Endpoints.{AreOpen, endpoint_of};
 
-use crate::apart::Apart;
-use crate::door::Door;
-use crate::member::{Member, take_somewhere};
-use crate::refused::Refused;
-use mb_gate::{Claim, Resident};
+use crate::claim_refused::ClaimRefused;
+use crate::end_deques::{EndDeques, take_somewhere};
+use crate::padding::Padding;
+use crate::shared_port::SharedPort;
+use mb_gate::{Claim, MailboxState};
 use std::marker::Model;
 use std::sync::Wait;
 
-/// A worker's end of a pool. Contracts see of which gates its claims are, in which places it looks, in order, and what was
-/// pushed and taken by way of it in each. (In Akka a thread of the executor's; that it has an end is this project's own profile.)
-pub struct WorkerEnd<H: Resident> {
-    /// Room: ends lie beside one another in a list, and each writes its own.
-    pub(crate) before: Apart,
-    /// Its port of the place that all share.
-    pub(crate) door: Door<H>,
-    /// What it has beside that in a stealing pool.
-    pub(crate) member: Option<Member<H>>,
-    /// Room, as before.
-    pub(crate) behind: Apart,
+/// A worker's end of a pool. Contracts see whose gates' claims it handles, in which queues it looks, in order, and what
+/// was pushed and taken through it in each. (In Akka a worker is a thread of the executor; that it has an end is this
+/// project's own profile.)
+pub struct PoolEnd<H: MailboxState> {
+    /// Padding: ends are side by side in a list, and each thread writes its own.
+    pub(crate) before: Padding,
+    /// Its port of the queue that all share.
+    pub(crate) shared_port: SharedPort<H>,
+    /// In a stealing pool, its deque and its ports of the others.
+    pub(crate) member: Option<EndDeques<H>>,
+    /// Padding, as before.
+    pub(crate) behind: Padding,
 }
 
-// Written out: of a derived `Drop` each crate above would prove again how all that is inside is let go.
-impl<H: Resident> Drop for WorkerEnd<H> {
+// `Drop` is written by hand: with a derived one, each crate above would prove again how the fields are dropped.
+impl<H: MailboxState> Drop for PoolEnd<H> {
     fn drop(self) {
-        let WorkerEnd {
+        let PoolEnd {
             before: _,
-            door,
+            shared_port,
             member,
             behind: _,
         } = self;
-        drop(door);
+        drop(shared_port);
         drop(member);
     }
 }
 
-impl<H: Resident> Model for WorkerEnd<H> {
-    ghost use Rattle.mb_pool.specs.Places.{Way};
+impl<H: MailboxState> Model for PoolEnd<H> {
+    ghost use Rattle.mb_pool.specs.Places.{PoolEndpoint};
 
-    ghost Value = { Way H };
+    ghost Value = { PoolEndpoint H };
 
     ghost use Rattle.mb_pool.specs.Parts.{look_of};
-    ghost use Rattle.mb_pool.specs.Ways.{AreOpen, way_of};
+    ghost use Rattle.mb_pool.specs.Endpoints.{AreOpen, endpoint_of};
 
-    ghost view = { λ e. way_of (look_of e.door) e.member };
+    ghost view = { λ e. endpoint_of (look_of e.shared_port) e.member };
 
-    ghost invariant = { λ e. AreOpen (way_of (look_of e.door) e.member) };
+    ghost invariant = { λ e. AreOpen (endpoint_of (look_of e.shared_port) e.member) };
 }
 
-impl<H: Resident> WorkerEnd<H> {
-    /// Puts the claim last: in a shared pool into the one place, in a stealing one into the end's own deque. The claim is of
-    /// the pool's gates, and nothing of it was changed since it was taken. Refused, it comes back and nothing has changed:
-    /// `Full` only where all 64 places of a shared pool were taken at a moment of the call, `NoMemory` where a deque found no
-    /// memory to grow. (In Akka a mailbox is given to the executor, by `Dispatcher.registerForExecution`.)
+impl<H: MailboxState> PoolEnd<H> {
+    /// Pushes the claim: into the one queue of a shared pool, into the end's own deque in a stealing one. The claim has
+    /// to be of the pool's gates and unchanged since it was taken. Where it is refused, it comes back and nothing has
+    /// changed: `Full` only where all 64 places of a shared pool were taken at a moment of the call, `NoMemory` only
+    /// where a deque could not grow. (In Akka a mailbox is given to the executor, by
+    /// `Dispatcher.registerForExecution`.)
     #[inline]
-    pub fn push<R: Wait>(&mut self, rt: &R, claim: Claim<H>) -> Result<(), Refused<H>>
-        requires fit { IsUntouched H.is_of H.journal H.mailbox H.rested H.given H.closed_to (gates_of self.old) claim }
+    pub fn push<R: Wait>(&mut self, rt: &R, claim: Claim<H>) -> Result<(), ClaimRefused<H>>
+        requires fit { IsUntouched H.is_of H.facts (gates_of self.old) claim }
         ensures pushed { MatchResult result
-            (λ _. Pushes (IsUntouched H.is_of H.journal H.mailbox H.rested H.given H.closed_to) self.old claim self.new)
+            (λ _. Pushes (IsUntouched H.is_of H.facts) self.old claim self.new)
             (λ refused. (given_back refused ≡ claim) × (self.new ≡ self.old)
-            × IsRefusedBy (IsUntouched H.is_of H.journal H.mailbox H.rested H.given H.closed_to) self.old refused) }
+            × IsRefusedBy (IsUntouched H.is_of H.facts) self.old refused) }
         ensures same { parts_of self.new ≡ parts_of self.old }
     {
-        push_first(rt, &mut self.door, &mut self.member, claim)
+        push_first(rt, &mut self.shared_port, &mut self.member, claim)
     }
 
-    /// Takes the first claim of the first place that has one: in a shared pool of the one place; in a stealing one of the end's
-    /// own deque, else of the feeds' place, else of the next ends' deques in order. It is of the pool's gates, and as it was at
-    /// the push. `None` only where each of these places was empty at a moment of the call, not all at the same. (In Akka the
-    /// executor's threads do so.)
+    /// Takes a claim: in a shared pool the first of the one queue; in a stealing one the first of the end's own deque,
+    /// else of the injector, else one stolen from the next ends' deques in order. It is of the pool's gates, and as it
+    /// was when it was pushed. `None` only where each of these queues was empty at a moment of the call, which need not
+    /// be the same moment. (In Akka the executor's threads do so.)
     #[inline]
     pub fn take<R: Wait>(&mut self, rt: &R) -> Option<Claim<H>>
         ensures taken { MatchOption result
-            ((self.new ≡ self.old) × All (WasEmpty (IsUntouched H.is_of H.journal H.mailbox H.rested H.given H.closed_to)) (looks self.old))
-            (λ c. Takes (IsUntouched H.is_of H.journal H.mailbox H.rested H.given H.closed_to) self.old c self.new) }
-        ensures fit { IfSome result (λ c. IsUntouched H.is_of H.journal H.mailbox H.rested H.given H.closed_to (gates_of self.old) c) }
+            ((self.new ≡ self.old) × All (WasEmpty (IsUntouched H.is_of H.facts)) (looks self.old))
+            (λ c. Takes (IsUntouched H.is_of H.facts) self.old c self.new) }
+        ensures fit { IfSome result (λ c. IsUntouched H.is_of H.facts (gates_of self.old) c) }
         ensures same { parts_of self.new ≡ parts_of self.old }
     {
-        take_first(rt, &mut self.door, &mut self.member)
+        take_first(rt, &mut self.shared_port, &mut self.member)
     }
 
-    /// Its port of the place that all share, and what it has beside that.
-    pub(crate) fn into_parts(self) -> (Door<H>, Option<Member<H>>)
-        ensures same { way_of (look_of result.0) result.1 ≡ self }
-        ensures open { AreOpen (way_of (look_of result.0) result.1) }
+    /// Its port of the queue that all share, and what it has beside that in a stealing pool.
+    pub(crate) fn into_parts(self) -> (SharedPort<H>, Option<EndDeques<H>>)
+        ensures same { endpoint_of (look_of result.0) result.1 ≡ self }
+        ensures open { AreOpen (endpoint_of (look_of result.0) result.1) }
     {
-        let WorkerEnd {
+        let PoolEnd {
             before: _,
-            door,
+            shared_port,
             member,
             behind: _,
         } = self;
-        (door, member)
+        (shared_port, member)
     }
 }
 
-/// Puts the claim last: into the end's own deque, if it has one, else into the place that all share.
-fn push_first<H: Resident, R: Wait>(
+/// Pushes the claim into the end's own deque, if it has one, else into the queue that all share.
+fn push_first<H: MailboxState, R: Wait>(
     rt: &R,
-    door: &mut Door<H>,
-    member: &mut Option<Member<H>>,
+    shared_port: &mut SharedPort<H>,
+    member: &mut Option<EndDeques<H>>,
     claim: Claim<H>,
-) -> Result<(), Refused<H>>
-    requires open { AreOpen (way_of (look_of door.old) member.old) }
-    requires fit { IsUntouched H.is_of H.journal H.mailbox H.rested H.given H.closed_to (look_of door.old).ledger.gates claim }
+) -> Result<(), ClaimRefused<H>>
+    requires open { AreOpen (endpoint_of (look_of shared_port.old) member.old) }
+    requires fit { IsUntouched H.is_of H.facts (look_of shared_port.old).ledger.gates claim }
     ensures pushed { MatchResult result
-        (λ _. Pushes (IsUntouched H.is_of H.journal H.mailbox H.rested H.given H.closed_to) (way_of (look_of door.old) member.old) claim
-        (way_of (look_of door.new) member.new))
-        (λ refused. (given_back refused ≡ claim) × (way_of (look_of door.new) member.new ≡ way_of (look_of door.old) member.old)
-        × IsRefusedBy (IsUntouched H.is_of H.journal H.mailbox H.rested H.given H.closed_to) (way_of (look_of door.old) member.old) refused) }
-    ensures same { parts_of (way_of (look_of door.new) member.new) ≡ parts_of (way_of (look_of door.old) member.old) }
+        (λ _. Pushes (IsUntouched H.is_of H.facts) (endpoint_of (look_of shared_port.old) member.old) claim
+        (endpoint_of (look_of shared_port.new) member.new))
+        (λ refused. (given_back refused ≡ claim) × (endpoint_of (look_of shared_port.new) member.new ≡ endpoint_of (look_of shared_port.old) member.old)
+        × IsRefusedBy (IsUntouched H.is_of H.facts) (endpoint_of (look_of shared_port.old) member.old) refused) }
+    ensures same { parts_of (endpoint_of (look_of shared_port.new) member.new) ≡ parts_of (endpoint_of (look_of shared_port.old) member.old) }
 {
     match member {
-        None => return door.push(rt, claim),
+        None => return shared_port.push(rt, claim),
         Some(member) => match member.own.push(claim) {
             Ok(()) => return Ok(()),
-            Err(back) => return Err(Refused::NoMemory(back)),
+            Err(back) => return Err(ClaimRefused::NoMemory(back)),
         },
     }
 }
 
-/// Takes the first claim of the first place that has one, in the order in which the end looks.
-fn take_first<H: Resident, R: Wait>(
+/// Takes the first claim of the first queue that has one, in the order in which the end looks.
+fn take_first<H: MailboxState, R: Wait>(
     rt: &R,
-    door: &mut Door<H>,
-    member: &mut Option<Member<H>>,
+    shared_port: &mut SharedPort<H>,
+    member: &mut Option<EndDeques<H>>,
 ) -> Option<Claim<H>>
-    requires { AreOpen (way_of (look_of door.old) member.old) }
-    ensures taken { MatchOption result ((way_of (look_of door.new) member.new ≡ way_of (look_of door.old) member.old)
-        × All (WasEmpty (IsUntouched H.is_of H.journal H.mailbox H.rested H.given H.closed_to)) (looks (way_of (look_of door.old) member.old)))
-        (λ c. Takes (IsUntouched H.is_of H.journal H.mailbox H.rested H.given H.closed_to) (way_of (look_of door.old) member.old) c
-        (way_of (look_of door.new) member.new)) }
-    ensures same { parts_of (way_of (look_of door.new) member.new) ≡ parts_of (way_of (look_of door.old) member.old) }
+    requires { AreOpen (endpoint_of (look_of shared_port.old) member.old) }
+    ensures taken { MatchOption result ((endpoint_of (look_of shared_port.new) member.new ≡ endpoint_of (look_of shared_port.old) member.old)
+        × All (WasEmpty (IsUntouched H.is_of H.facts)) (looks (endpoint_of (look_of shared_port.old) member.old)))
+        (λ c. Takes (IsUntouched H.is_of H.facts) (endpoint_of (look_of shared_port.old) member.old) c
+        (endpoint_of (look_of shared_port.new) member.new)) }
+    ensures same { parts_of (endpoint_of (look_of shared_port.new) member.new) ≡ parts_of (endpoint_of (look_of shared_port.old) member.old) }
 {
     match member {
-        None => return door.take(rt),
-        Some(member) => return take_somewhere(rt, member, door),
+        None => return shared_port.take(rt),
+        Some(member) => return take_somewhere(rt, member, shared_port),
     }
 }

@@ -1,16 +1,16 @@
-//! How the ends of a pool take one another's ways into their deques in.
+//! At the end of a stealing pool: each deque's owner joins the other ends' ports of it.
 ghost use Rattle.std.specs.Prelude.{◌≡◌, [], All};
 ghost use Rattle.mb_pool.specs.Ends.{AreGathered, AreMatched, Gathers, IsAmong, joined_first, MayJoin};
-ghost use Rattle.mb_pool.specs.Places.{Look, part_of};
+ghost use Rattle.mb_pool.specs.Places.{PoolPort, part_of};
 
-use crate::end::WorkerEnd;
+use crate::end::PoolEnd;
 use crate::thief::Thief;
-use mb_gate::Resident;
+use mb_gate::MailboxState;
 use std::alloc::Global;
 use std::mem;
 
-/// Each end's ways into the next ones' deques are taken in by these.
-pub fn gather<H: Resident>(alloc: Global, ends: &mut [WorkerEnd<H>])
+/// Each end's ports of the other deques are joined by the owners of these.
+pub fn gather<H: MailboxState>(alloc: Global, ends: &mut [PoolEnd<H>])
     requires { AreMatched ends.old }
     ensures { AreGathered ends.old ends.new }
 {
@@ -21,8 +21,8 @@ pub fn gather<H: Resident>(alloc: Global, ends: &mut [WorkerEnd<H>])
     }
 }
 
-/// The end's ways into the next ones' deques, which it has no longer.
-fn take_thieves<H: Resident>(alloc: Global, end: &mut WorkerEnd<H>) -> Vec<Thief<H>>
+/// Takes the end's ports of the other deques out of it.
+fn take_thieves<H: MailboxState>(alloc: Global, end: &mut PoolEnd<H>) -> Vec<Thief<H>>
     ensures thieves { result.items ≡ end.old.next }
     ensures rest { end.new ≡ record end.old { next = [] } }
 {
@@ -32,9 +32,9 @@ fn take_thieves<H: Resident>(alloc: Global, end: &mut WorkerEnd<H>) -> Vec<Thief
     }
 }
 
-/// Each way into a deque is taken in by the end that it belongs to.
-fn join_all<H: Resident>(ends: &mut [WorkerEnd<H>], thieves: Vec<Thief<H>>)
-    requires { All (λ (l : Look H). IsAmong ends.old (part_of l)) thieves.items }
+/// Each of these ports is joined by the end whose deque it is of.
+fn join_all<H: MailboxState>(ends: &mut [PoolEnd<H>], thieves: Vec<Thief<H>>)
+    requires { All (λ (l : PoolPort H). IsAmong ends.old (part_of l)) thieves.items }
     ensures { Gathers ends.old thieves.items ends.new }
 {
     for thief in thieves {
@@ -44,8 +44,8 @@ fn join_all<H: Resident>(ends: &mut [WorkerEnd<H>], thieves: Vec<Thief<H>>)
     }
 }
 
-/// The way into the end's own deque is taken in.
-fn join_own<H: Resident>(end: &mut WorkerEnd<H>, thief: Thief<H>)
+/// The end joins a port of its own deque.
+fn join_own<H: MailboxState>(end: &mut PoolEnd<H>, thief: Thief<H>)
     requires { MayJoin end.old.own (part_of thief) }
     ensures { end.new ≡ record end.old { own = joined_first end.old.own thief } }
 {

@@ -1,36 +1,47 @@
-//! The pool of claims: what was pushed is taken once, or is left, as it was pushed (the run queue of Akka's executors;
+//! The pool of claims, the run queue of the workers (in Akka that of the executor of a dispatcher): each claim that was
+//! pushed is taken once, or is left, as it was pushed.
+//!
+//! Each worker has an end, by which it takes claims and pushes those that it scheduled. Each sender outside has a feed,
+//! by which it pushes. There are two kinds of pool with one contract: shared and stealing. The layers above cannot tell
+//! them apart.
+//!
+//! The ports through which claims go into the pool when an actor is registered for execution: a worker's end and a
+//! sender's feed (in Akka `Dispatcher.registerForExecution` calls the executor; that there are two kinds of port is
 //! this project's own profile).
 //!
-//! A worker has an end of a pool, from which it takes claims and to which it gives those that it scheduled; who is no
-//! worker has a feed. Two kinds of pool keep one contract, and nobody above sees which it is.
+//! A claim that goes in was pushed through the end or the feed. One that comes back was refused by the pool, for a
+//! reason of the pool's.
 #![tactic(auto)]
 
-mod apart;
+mod back;
+mod claim_refused;
 mod deque;
-mod door;
-mod doors;
 mod end;
+mod end_deques;
 mod feed;
+mod feed_port;
+mod feed_queue;
+mod feed_queue_port;
 mod gather;
-mod inlet;
-mod inlet_port;
-mod kind;
-mod knowledge;
 mod leaving;
-mod member;
-mod members;
-mod own;
-mod parked;
+mod new_end_deques;
+mod own_deque;
+mod padding;
 mod pool;
-mod refused;
+mod pooled_claim;
+mod port_ledger;
 mod rule;
+mod shared_port;
+mod shared_ports;
 mod slots;
 mod slots_port;
 mod thief;
+mod worker_port;
 
-pub use end::WorkerEnd;
+pub use claim_refused::ClaimRefused;
+pub use end::PoolEnd;
 pub use feed::Feed;
-pub use kind::Kind;
-pub use leaving::{NotLeft, remaining};
+pub use feed_port::FeedPort;
+pub use leaving::{RemainingError, remaining};
 pub use pool::Pool;
-pub use refused::Refused;
+pub use worker_port::WorkerPort;

@@ -1,33 +1,34 @@
-//! The rule of a place and its steps, as the kit's queues and deques take them.
-use crate::knowledge::Knowledge;
-use crate::parked::Parked;
+//! The rule of a queue of the pool and its steps, in the form that `crossbeam_queue` and `crossbeam_deque` are generic
+//! in.
+use crate::pooled_claim::PooledClaim;
+use crate::port_ledger::PortLedger;
 use crossbeam_deque::protocol as deque;
 use crossbeam_queue::protocol as queue;
 use crossbeam_queue::protocol::{Join, Split};
-use mb_gate::Resident;
+use mb_gate::MailboxState;
 use std::marker::{Brand, PhantomData};
 
-/// The rule: what the place holds and what each port knows belong together.
-pub struct Accounted;
+/// The rule: what each port knows is true of what the queue holds.
+pub struct PoolRule;
 
-impl<H: Resident> queue::Protocol<Parked<H>, Knowledge<H>> for Accounted {
+impl<H: MailboxState> queue::Protocol<PooledClaim<H>, PortLedger<H>> for PoolRule {
     ghost use Rattle.mb_pool.specs.Ledger.{unused};
     ghost use Rattle.mb_pool.specs.Rule.{Kept};
     ghost use Rattle.mb_pool.specs.Items.{claims_of};
     ghost use Rattle.mb_gate.specs.Untouched.{IsUntouched};
 
-    ghost holds = { λ items ledgers. Kept (IsUntouched H.is_of H.journal H.mailbox H.rested H.given H.closed_to) (claims_of items) ledgers };
+    ghost holds = { λ items ledgers. Kept (IsUntouched H.is_of H.facts) (claims_of items) ledgers };
 
     ghost first = { unused };
 }
 
-impl<H: Resident> deque::Protocol<Parked<H>, Knowledge<H>> for Accounted {
+impl<H: MailboxState> deque::Protocol<PooledClaim<H>, PortLedger<H>> for PoolRule {
     ghost use Rattle.mb_pool.specs.Ledger.{unused};
     ghost use Rattle.mb_pool.specs.Rule.{Kept};
     ghost use Rattle.mb_pool.specs.Items.{claims_of};
     ghost use Rattle.mb_gate.specs.Untouched.{IsUntouched};
 
-    ghost holds = { λ items ledgers. Kept (IsUntouched H.is_of H.journal H.mailbox H.rested H.given H.closed_to) (claims_of items) ledgers };
+    ghost holds = { λ items ledgers. Kept (IsUntouched H.is_of H.facts) (claims_of items) ledgers };
 
     ghost first = { unused };
 
@@ -37,23 +38,23 @@ impl<H: Resident> deque::Protocol<Parked<H>, Knowledge<H>> for Accounted {
 /// A push.
 pub struct Pushed;
 
-impl<H: Resident> queue::Outcome<Parked<H>, Knowledge<H>> for Pushed {
+impl<H: MailboxState> queue::Outcome<PooledClaim<H>, PortLedger<H>> for Pushed {
     ghost use Rattle.mb_pool.specs.Rule.{PutsLast};
     ghost use Rattle.mb_gate.specs.Untouched.{IsUntouched};
 
-    ghost then = { λ old p new. PutsLast (IsUntouched H.is_of H.journal H.mailbox H.rested H.given H.closed_to) old p.claim new };
+    ghost then = { λ old p new. PutsLast (IsUntouched H.is_of H.facts) old p.claim new };
 }
 
-/// What a push learns of a place that it found full.
-impl<H: Resident> queue::Lesson<Parked<H>, Knowledge<H>> for Pushed {
+/// What a push learns of a queue that it found full.
+impl<H: MailboxState> queue::Lesson<PooledClaim<H>, PortLedger<H>> for Pushed {
     ghost use Rattle.mb_pool.specs.Rule.{Moment};
     ghost use Rattle.mb_pool.specs.Items.{claims_of};
     ghost use Rattle.mb_gate.specs.Untouched.{IsUntouched};
 
-    ghost fact = { λ old items. Moment (IsUntouched H.is_of H.journal H.mailbox H.rested H.given H.closed_to) old (claims_of items) };
+    ghost fact = { λ old items. Moment (IsUntouched H.is_of H.facts) old (claims_of items) };
 }
 
-impl<H: Resident> deque::Outcome<Parked<H>, Knowledge<H>> for Pushed {
+impl<H: MailboxState> deque::Outcome<PooledClaim<H>, PortLedger<H>> for Pushed {
     ghost use Rattle.std.specs.Prelude.{◌≡◌, [], ◌∷◌};
     ghost use Rattle.mb_gate.specs.declared.claim.Claim.{Claim};
     ghost use Rattle.mb_pool.specs.Rule.{PutsLast};
@@ -61,29 +62,29 @@ impl<H: Resident> deque::Outcome<Parked<H>, Knowledge<H>> for Pushed {
     ghost use Rattle.mb_gate.specs.Untouched.{IsUntouched};
 
     ghost then = { λ old ps new. (c : Claim H) × (claims_of ps ≡ c ∷ [])
-        × PutsLast (IsUntouched H.is_of H.journal H.mailbox H.rested H.given H.closed_to) old c new };
+        × PutsLast (IsUntouched H.is_of H.facts) old c new };
 }
 
 /// A take of the first.
 pub struct Taken;
 
-impl<H: Resident> queue::Outcome<Parked<H>, Knowledge<H>> for Taken {
+impl<H: MailboxState> queue::Outcome<PooledClaim<H>, PortLedger<H>> for Taken {
     ghost use Rattle.mb_pool.specs.Rule.{TakesFirst};
     ghost use Rattle.mb_gate.specs.Untouched.{IsUntouched};
 
-    ghost then = { λ old p new. TakesFirst (IsUntouched H.is_of H.journal H.mailbox H.rested H.given H.closed_to) old p.claim new };
+    ghost then = { λ old p new. TakesFirst (IsUntouched H.is_of H.facts) old p.claim new };
 }
 
-/// What a take learns of a place that it found empty.
-impl<H: Resident> queue::Lesson<Parked<H>, Knowledge<H>> for Taken {
+/// What a take learns of a queue that it found empty.
+impl<H: MailboxState> queue::Lesson<PooledClaim<H>, PortLedger<H>> for Taken {
     ghost use Rattle.mb_pool.specs.Rule.{Moment};
     ghost use Rattle.mb_pool.specs.Items.{claims_of};
     ghost use Rattle.mb_gate.specs.Untouched.{IsUntouched};
 
-    ghost fact = { λ old items. Moment (IsUntouched H.is_of H.journal H.mailbox H.rested H.given H.closed_to) old (claims_of items) };
+    ghost fact = { λ old items. Moment (IsUntouched H.is_of H.facts) old (claims_of items) };
 }
 
-impl<H: Resident> deque::Outcome<Parked<H>, Knowledge<H>> for Taken {
+impl<H: MailboxState> deque::Outcome<PooledClaim<H>, PortLedger<H>> for Taken {
     ghost use Rattle.std.specs.Prelude.{◌≡◌, [], ◌∷◌};
     ghost use Rattle.mb_gate.specs.declared.claim.Claim.{Claim};
     ghost use Rattle.mb_pool.specs.Rule.{Moment, TakesFirst};
@@ -91,12 +92,12 @@ impl<H: Resident> deque::Outcome<Parked<H>, Knowledge<H>> for Taken {
     ghost use Rattle.mb_gate.specs.Untouched.{IsUntouched};
 
     ghost then = { λ old ps new. (c : Claim H) × (claims_of ps ≡ c ∷ [])
-        × TakesFirst (IsUntouched H.is_of H.journal H.mailbox H.rested H.given H.closed_to) old c new };
+        × TakesFirst (IsUntouched H.is_of H.facts) old c new };
 
-    ghost empty = { λ old. Moment (IsUntouched H.is_of H.journal H.mailbox H.rested H.given H.closed_to) old [] };
+    ghost empty = { λ old. Moment (IsUntouched H.is_of H.facts) old [] };
 }
 
-/// Of which gates the claims of a place are, and how many shares it has. A call picks it.
+/// Whose gates' claims go into a queue, and how many ports it has. The caller chooses it.
 pub trait Scoped<H> {
     ghost use Rattle.std.specs.Prelude.{ℕ, Option};
     ghost use Rattle.mb_gate.specs.Untouched.{Origin};
@@ -114,10 +115,10 @@ impl<H> Scoped<H> for Brand {
     ghost members = { 1 };
 }
 
-/// The first step: it settles of which gates the claims are, and how many shares there are.
+/// The first step: it fixes whose gates' claims go in, and how many ports there are.
 pub struct Opens<S>(PhantomData<S>);
 
-impl<H, S: Scoped<H>> Split<Knowledge<H>> for Opens<S> {
+impl<H, S: Scoped<H>> Split<PortLedger<H>> for Opens<S> {
     ghost use Rattle.mb_pool.specs.Ledger.{opened, spent};
 
     ghost left = { λ old. opened S.gates S.members S.members };
@@ -128,7 +129,7 @@ impl<H, S: Scoped<H>> Split<Knowledge<H>> for Opens<S> {
 /// A share goes to a port of its own.
 pub struct Lends;
 
-impl<H> Split<Knowledge<H>> for Lends {
+impl<H> Split<PortLedger<H>> for Lends {
     ghost use Rattle.mb_pool.specs.Ledger.{lending, borrowing};
 
     ghost left = { λ old. lending 1 old };
@@ -139,7 +140,7 @@ impl<H> Split<Knowledge<H>> for Lends {
 /// A port comes back with its share.
 pub struct Joins;
 
-impl<H> Join<Knowledge<H>> for Joins {
+impl<H> Join<PortLedger<H>> for Joins {
     ghost use Rattle.mb_pool.specs.Ledger.{joining, spent};
 
     ghost both = { λ old other. joining old other };

@@ -1,4 +1,4 @@
-//! The place of a shared pool, over the kit's ring of slots.
+//! The one queue of a shared pool, over the bounded queue of `crossbeam_queue`.
 ghost use Rattle.std.specs.Prelude.{◌≡◌, ◌<◌, [], MatchOption, MatchResult};
 ghost use Rattle.crossbeam_queue.specs.Passes.{view, IsPassOf, ruled_capacity};
 ghost use Rattle.mb_pool.specs.Ledger.{borrowing, joining, lending, opened, unused};
@@ -6,25 +6,25 @@ ghost use Rattle.mb_pool.specs.Moves.{WasFull};
 ghost use Rattle.mb_pool.specs.Rule.{Moment, PutsLast, TakesFirst};
 ghost use Rattle.mb_gate.specs.Untouched.{IsUntouched};
 
-use crate::knowledge::Knowledge;
-use crate::parked::Parked;
-use crate::rule::{Accounted, Joins, Lends, Opens, Pushed, Scoped, Taken};
+use crate::pooled_claim::PooledClaim;
+use crate::port_ledger::PortLedger;
+use crate::rule::{Joins, Lends, Opens, PoolRule, Pushed, Scoped, Taken};
 use crossbeam_queue::{Pass, RuledArrayQueue};
-use mb_gate::{Claim, Resident};
+use mb_gate::{Claim, MailboxState};
 use std::sync::Wait;
 
-/// The kit's bounded queue under the rule of a place.
+/// A bounded queue of `crossbeam_queue` under the pool's rule.
 #[derive(Drop)]
-pub struct Slots<H: Resident> {
+pub struct Slots<H: MailboxState> {
     /// The queue itself.
-    pub queue: RuledArrayQueue<Parked<H>, Knowledge<H>, Accounted>,
+    pub queue: RuledArrayQueue<PooledClaim<H>, PortLedger<H>, PoolRule>,
 }
 
 /// What one port knows of it.
-pub type SlotsPass<H> = Pass<Parked<H>, Knowledge<H>>;
+pub type SlotsPass<H> = Pass<PooledClaim<H>, PortLedger<H>>;
 
-impl<H: Resident> Slots<H> {
-    /// Puts the claim last, or gives it back where the place was full at a moment of the call.
+impl<H: MailboxState> Slots<H> {
+    /// Pushes the claim, or gives it back where the queue was full at a moment of the call.
     #[inline]
     pub fn push<R: Wait>(
         &self,
@@ -34,28 +34,31 @@ impl<H: Resident> Slots<H> {
     ) -> Result<(), Claim<H>>
         requires queue { IsPassOf self.now.queue pass.old }
         requires share { 0 < (view pass.old).shares }
-        requires fit { IsUntouched H.is_of H.journal H.mailbox H.rested H.given H.closed_to (view pass.old).gates claim }
+        requires fit { IsUntouched H.is_of H.facts (view pass.old).gates claim }
         ensures queue { (IsPassOf self.now.queue pass.new) × (pass.new.table_id ≡ pass.old.table_id) }
         ensures pushed { MatchResult result
-            (λ _. PutsLast (IsUntouched H.is_of H.journal H.mailbox H.rested H.given H.closed_to) (view pass.old) claim (view pass.new))
+            (λ _. PutsLast (IsUntouched H.is_of H.facts) (view pass.old) claim (view pass.new))
             (λ back. (back ≡ claim) × (view pass.new ≡ view pass.old)
-            × WasFull (IsUntouched H.is_of H.journal H.mailbox H.rested H.given H.closed_to) (ruled_capacity self.now.queue) (view pass.old)) }
+            × WasFull (IsUntouched H.is_of H.facts) (ruled_capacity self.now.queue) (view pass.old)) }
     {
-        match self.queue.push_as::<Pushed, R>(rt, pass, Parked { claim }) {
+        match self
+            .queue
+            .push_as::<Pushed, R>(rt, pass, PooledClaim { claim })
+        {
             Ok(()) => Ok(()),
             Err(parked) => Err(parked.open()),
         }
     }
 
-    /// Takes the first claim. `None` only if the place was empty at a moment of the call.
+    /// Takes the first claim. `None` only if the queue was empty at a moment of the call.
     #[inline]
     pub fn take<R: Wait>(&self, rt: &R, pass: &mut SlotsPass<H>) -> Option<Claim<H>>
         requires queue { IsPassOf self.now.queue pass.old }
         requires share { 0 < (view pass.old).shares }
         ensures queue { (IsPassOf self.now.queue pass.new) × (pass.new.table_id ≡ pass.old.table_id) }
         ensures taken { MatchOption result
-            ((view pass.new ≡ view pass.old) × Moment (IsUntouched H.is_of H.journal H.mailbox H.rested H.given H.closed_to) (view pass.old) [])
-            (λ c. TakesFirst (IsUntouched H.is_of H.journal H.mailbox H.rested H.given H.closed_to) (view pass.old) c (view pass.new)) }
+            ((view pass.new ≡ view pass.old) × Moment (IsUntouched H.is_of H.facts) (view pass.old) [])
+            (λ c. TakesFirst (IsUntouched H.is_of H.facts) (view pass.old) c (view pass.new)) }
     {
         match self.queue.pop_as::<Taken, R>(rt, pass) {
             Some(parked) => Some(parked.open()),
@@ -63,18 +66,18 @@ impl<H: Resident> Slots<H> {
         }
     }
 
-    /// Settles of which gates the claims are, and how many shares there are.
+    /// Fixes whose gates' claims go in, and how many ports there are.
     pub fn open<S: Scoped<H>>(&self, pass: &mut SlotsPass<H>)
         requires queue { IsPassOf self.now.queue pass.old }
         requires unused { view pass.old ≡ unused }
         ensures queue { (IsPassOf self.now.queue pass.new) × (pass.new.table_id ≡ pass.old.table_id) }
         ensures opened { view pass.new ≡ opened S.gates S.members S.members }
     {
-        // The step settles what this pass knows. The second pass that it splits off has no share, and is let go.
+        // The step settles what this pass knows. The second pass that it splits off has no share and is dropped.
         let _ = self.queue.another::<Opens<S>>(pass);
     }
 
-    /// One of its shares goes to a pass of its own.
+    /// Makes a pass with one of its shares.
     pub fn lend(&self, pass: &mut SlotsPass<H>) -> SlotsPass<H>
         requires queue { IsPassOf self.now.queue pass.old }
         requires shares { 1 < (view pass.old).shares }
@@ -86,7 +89,7 @@ impl<H: Resident> Slots<H> {
         self.queue.another::<Lends>(pass)
     }
 
-    /// Takes another pass in, with its shares and its account.
+    /// Joins another pass, with its shares and its account.
     pub fn join(&self, pass: &mut SlotsPass<H>, other: SlotsPass<H>)
         requires queue { IsPassOf self.now.queue pass.old × IsPassOf self.now.queue other }
         requires shares { (0 < (view pass.old).shares) × (0 < (view other).shares) }

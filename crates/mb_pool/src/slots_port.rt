@@ -1,36 +1,37 @@
-//! A port of the place of a shared pool.
+//! A port of the one queue of a shared pool.
 ghost use Rattle.std.specs.Prelude.{◌≡◌, ◌<◌, [], Some, None, IsSome, IfOk, MatchOption, MatchResult};
 ghost use Rattle.mb_pool.specs.Ledger.{borrowing, joining, lending, opened, unused};
 ghost use Rattle.mb_pool.specs.Moves.{given_back, IsRefusal};
 ghost use Rattle.mb_pool.specs.Rule.{Moment, PutsLast, TakesFirst};
 ghost use Rattle.mb_gate.specs.Untouched.{IsUntouched};
 
-use crate::refused::Refused;
+use crate::claim_refused::ClaimRefused;
 use crate::rule::Scoped;
 use crate::slots::{Slots, SlotsPass};
 use crossbeam_queue::RuledArrayQueue;
-use mb_gate::{Claim, Resident};
+use mb_gate::{Claim, MailboxState};
 use std::alloc::{AllocError, Global};
 use std::marker::Model;
 use std::sync::{Arc, Wait};
 
-/// The kit's queue, which all ports of the place share, and what this one knows of it.
-pub struct SlotsPort<H: Resident> {
+/// The queue, which all its ports share, and what this port knows of it.
+pub struct SlotsPort<H: MailboxState> {
     slots: Arc<Slots<H>, Global>,
     pass: SlotsPass<H>,
 }
 
-// Written out: of a derived `Drop` each function that lets one go would prove again how all that is inside is let go.
-impl<H: Resident> Drop for SlotsPort<H> {
+// `Drop` is written by hand: with a derived one, each function that drops a value would prove again how the fields are
+// dropped.
+impl<H: MailboxState> Drop for SlotsPort<H> {
     fn drop(self) {
         let SlotsPort { slots: _, pass: _ } = self;
     }
 }
 
-impl<H: Resident> Model for SlotsPort<H> {
-    ghost use Rattle.mb_pool.specs.Places.{Look};
+impl<H: MailboxState> Model for SlotsPort<H> {
+    ghost use Rattle.mb_pool.specs.Places.{PoolPort};
 
-    ghost Value = { Look H };
+    ghost Value = { PoolPort H };
 
     ghost use Rattle.crossbeam_queue.specs.Passes.{IsPassOf};
     ghost use Rattle.mb_pool.specs.Shared.{slots_look};
@@ -40,8 +41,9 @@ impl<H: Resident> Model for SlotsPort<H> {
     ghost invariant = { λ p. IsPassOf p.slots.value.queue p.pass };
 }
 
-impl<H: Resident> SlotsPort<H> {
-    /// The first port of a place that holds so many at most. It is not settled yet of which gates its claims are.
+impl<H: MailboxState> SlotsPort<H> {
+    /// The first port of a new queue of this capacity. Whose gates' claims go in is not fixed yet. The only error:
+    /// memory was refused.
     pub fn new(alloc: Global, capacity: usize) -> Result<SlotsPort<H>, AllocError>
         requires { 0 < capacity }
         ensures { IfOk result (λ port. (port.spot.capacity ≡ Some capacity) × (port.ledger ≡ unused)) }
@@ -51,36 +53,36 @@ impl<H: Resident> SlotsPort<H> {
         Ok(SlotsPort { slots, pass })
     }
 
-    /// Puts the claim last, or gives it back.
+    /// Pushes the claim, or gives it back.
     #[inline]
-    pub fn push<R: Wait>(&mut self, rt: &R, claim: Claim<H>) -> Result<(), Refused<H>>
+    pub fn push<R: Wait>(&mut self, rt: &R, claim: Claim<H>) -> Result<(), ClaimRefused<H>>
         requires share { 0 < self.old.ledger.shares }
-        requires fit { IsUntouched H.is_of H.journal H.mailbox H.rested H.given H.closed_to self.old.ledger.gates claim }
+        requires fit { IsUntouched H.is_of H.facts self.old.ledger.gates claim }
         ensures spot { self.new.spot ≡ self.old.spot }
         ensures pushed { MatchResult result
-            (λ _. PutsLast (IsUntouched H.is_of H.journal H.mailbox H.rested H.given H.closed_to) self.old.ledger claim self.new.ledger)
+            (λ _. PutsLast (IsUntouched H.is_of H.facts) self.old.ledger claim self.new.ledger)
             (λ refused. (given_back refused ≡ claim) × (self.new ≡ self.old)
-            × IsRefusal (IsUntouched H.is_of H.journal H.mailbox H.rested H.given H.closed_to) self.old refused) }
+            × IsRefusal (IsUntouched H.is_of H.facts) self.old refused) }
     {
         match self.slots.push(rt, &mut self.pass, claim) {
             Ok(()) => return Ok(()),
-            Err(back) => return Err(Refused::Full(back)),
+            Err(back) => return Err(ClaimRefused::Full(back)),
         }
     }
 
-    /// Takes the first claim. `None` only if the place was empty at a moment of the call.
+    /// Takes the first claim. `None` only if the queue was empty at a moment of the call.
     #[inline]
     pub fn take<R: Wait>(&mut self, rt: &R) -> Option<Claim<H>>
         requires share { 0 < self.old.ledger.shares }
         ensures spot { self.new.spot ≡ self.old.spot }
         ensures taken { MatchOption result
-            ((self.new ≡ self.old) × Moment (IsUntouched H.is_of H.journal H.mailbox H.rested H.given H.closed_to) self.old.ledger [])
-            (λ c. TakesFirst (IsUntouched H.is_of H.journal H.mailbox H.rested H.given H.closed_to) self.old.ledger c self.new.ledger) }
+            ((self.new ≡ self.old) × Moment (IsUntouched H.is_of H.facts) self.old.ledger [])
+            (λ c. TakesFirst (IsUntouched H.is_of H.facts) self.old.ledger c self.new.ledger) }
     {
         self.slots.take(rt, &mut self.pass)
     }
 
-    /// Settles of which gates the claims are, and how many shares there are.
+    /// Fixes whose gates' claims go in, and how many ports there are.
     pub fn open<S: Scoped<H>>(&mut self)
         requires { self.old.ledger ≡ unused }
         ensures { self.new ≡ record self.old { ledger = opened S.gates S.members S.members } }
@@ -88,7 +90,7 @@ impl<H: Resident> SlotsPort<H> {
         self.slots.open::<S>(&mut self.pass);
     }
 
-    /// A port of the same place with one of its shares. Where it is refused, nothing has changed.
+    /// A port of the same queue with one of its shares. The only error: memory was refused. Nothing has changed then.
     pub fn lend(&mut self) -> Result<SlotsPort<H>, AllocError>
         requires { 1 < self.old.ledger.shares }
         ensures { MatchResult result
@@ -101,7 +103,7 @@ impl<H: Resident> SlotsPort<H> {
         Ok(SlotsPort { slots, pass })
     }
 
-    /// Takes another port of the same place in, with its shares and its account.
+    /// Joins another port of the same queue, with its shares and its account.
     pub fn join(&mut self, other: SlotsPort<H>)
         requires place { other.spot ≡ self.old.spot }
         requires shares { (0 < self.old.ledger.shares) × (0 < other.ledger.shares) }
@@ -111,11 +113,11 @@ impl<H: Resident> SlotsPort<H> {
         self.slots.join(&mut self.pass, pass);
     }
 
-    /// Its place holds so many claims at most.
+    /// For proofs alone: its queue has a bound.
     pub fn has_bound(&self)
         ensures { IsSome self.now.spot.capacity }
     {
-        // A look at a field shows the proof what holds of each port.
+        // Reading a field gives the proof the port's invariant.
         let _ = &self.pass;
     }
 }

@@ -4,30 +4,30 @@ use denote.Param.Send.{IsSend}
 use Rattle.std.specs.contracts.sync.atomic.AtomicU64 as number
 use Rattle.mb_gate.specs.contracts.gates.Gates as gates
 use Rattle.mb_gate.specs.contracts.pass.Pass as pass
-use Rattle.mb_desk.proofs.desk.Desk.TheSendSync as desk
-use Rattle.mb_desk.specs.contracts.desk.Desk as desk_row
-use Rattle.mb_desk.specs.contracts.desk.DeskResident.TheImpl as resident
+use Rattle.mb_testkit.proofs.stub_home.StubHome.TheSendSync as desk
+use Rattle.mb_testkit.specs.contracts.stub_home.StubHome as stub_home_row
+use Rattle.mb_testkit.specs.contracts.stub_home.StubHomeMailboxState.TheImpl as resident
 use Rattle.mb_pool.proofs.Crossing as pool
-use Rattle.mb_pool.specs.contracts.end.WorkerEnd as end
+use Rattle.mb_pool.specs.contracts.end.PoolEnd as end
 use Rattle.mb_pool.specs.contracts.feed.Feed as feed
 
 abbrev pub TheGates : RattleType
-TheGates = gates.the_row desk_row.the_row resident.ghosts
+TheGates = gates.the_row stub_home_row.the_row resident.ghosts
 
 abbrev pub ThePass : RattleType
-ThePass = pass.the_row desk_row.the_row
+ThePass = pass.the_row stub_home_row.the_row
 
 abbrev pub TheEnd : RattleType
-TheEnd = end.the_row desk_row.the_row resident.ghosts
+TheEnd = end.the_row stub_home_row.the_row resident.ghosts
 
 abbrev pub TheFeed : RattleType
-TheFeed = feed.the_row desk_row.the_row resident.ghosts
+TheFeed = feed.the_row stub_home_row.the_row resident.ghosts
 
 abbrev pub TheNumber : RattleType
 TheNumber = number.the_row
 
 pub end_crosses : IsSend TheEnd
-end_crosses = pool.end_send desk_row.the_row resident.ghosts desk.the_send
+end_crosses = pool.end_send stub_home_row.the_row resident.ghosts desk.the_send
 
 pub feed_crosses : IsSend TheFeed
-feed_crosses = pool.feed_send desk_row.the_row resident.ghosts desk.the_send
+feed_crosses = pool.feed_send stub_home_row.the_row resident.ghosts desk.the_send

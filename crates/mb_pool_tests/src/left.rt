@@ -1,30 +1,30 @@
-//! What is left of a pool.
+//! Ending a pool, and checking the claims that are left.
 ghost use Rattle.std.specs.Prelude.{◌≡◌, All, Some, IfOk};
-ghost use Rattle.mb_gate.specs.Names.{gates_id, pass_id};
+ghost use Rattle.mb_gate.specs.Accessors.{gates_id, pass_id};
 ghost use Rattle.mb_gate.specs.Untouched.{origin_of, IsUntouched};
 ghost use Rattle.mb_pool.specs.Places.{AreEnds, AreFeeds};
 
-use mb_desk::give;
-use mb_gate::{Claim, Gates, Pass, Resident};
-use mb_pool::{Feed, NotLeft, Pool, WorkerEnd, remaining};
+use mb_gate::{Claim, Gates, MailboxState, Pass};
+use mb_pool::{Feed, Pool, PoolEnd, RemainingError, remaining};
+use mb_testkit::give;
 use std::alloc::Global;
 use std::sync::Wait;
 use std::test::Fail;
 
-/// Ends the pool, at the second try where the first is refused.
-pub fn left<H: Resident, R: Wait>(
+/// Ends the pool; retried once where memory is refused.
+pub fn left<H: MailboxState, R: Wait>(
     rt: &R,
     alloc: Global,
     pool: Pool<H>,
-    ends: Vec<WorkerEnd<H>>,
+    ends: Vec<PoolEnd<H>>,
     feeds: Vec<Feed<H>>,
 ) -> Result<Vec<Claim<H>>, Fail>
     requires ends { AreEnds pool ends.items }
     requires feeds { AreFeeds pool feeds.items }
     ensures { IfOk result (λ claims.
-        All (IsUntouched H.is_of H.journal H.mailbox H.rested H.given H.closed_to (Some pool.gates)) claims.items) }
+        All (IsUntouched H.is_of H.facts (Some pool.gates)) claims.items) }
 {
-    let NotLeft { pool, ends, feeds } = match remaining(rt, alloc, pool, ends, feeds) {
+    let RemainingError { pool, ends, feeds } = match remaining(rt, alloc, pool, ends, feeds) {
         Ok(claims) => return Ok(claims),
         Err(refused) => refused,
     };
@@ -34,8 +34,8 @@ pub fn left<H: Resident, R: Wait>(
     }
 }
 
-/// Whether the claims are of the actors from the first to before the end, in order. Their cells go home.
-pub fn are_of<H: Resident>(
+/// Whether the claims are of the actors from the first up to before the end, in order. The claims are released.
+pub fn are_of<H: MailboxState>(
     gates: &Gates<H>,
     pass: &mut Pass<H>,
     mut claims: Vec<Claim<H>>,
@@ -43,7 +43,7 @@ pub fn are_of<H: Resident>(
     end: u32,
 ) -> bool
     requires ours { pass_id pass.old ≡ gates_id gates.now }
-    requires fit { All (IsUntouched H.is_of H.journal H.mailbox H.rested H.given H.closed_to (Some (origin_of gates.now))) claims.items }
+    requires fit { All (IsUntouched H.is_of H.facts (Some (origin_of gates.now))) claims.items }
     ensures ours { pass_id pass.new ≡ gates_id gates.now }
 {
     let mut are_those = true;

@@ -13,7 +13,7 @@ mod pushed;
 #[cfg(test)]
 mod refused;
 #[cfg(test)]
-mod scene;
+mod test_pool;
 #[cfg(test)]
 mod threads;
 #[cfg(test)]

@@ -1,11 +1,11 @@
-//! What is done to a pool, and what it has to answer, as data.
+//! Calls on a pool, as data, and what each has to answer.
 ghost use Rattle.std.specs.Prelude.{◌<◌};
 
-use crate::pushed::Answer;
-use crate::scene::{Scene, made};
-use mb_desk::Desk;
-use mb_gate::Resident;
-use mb_pool::Kind;
+use crate::pushed::PushAnswer;
+use crate::test_pool::{TestPool, made};
+use mb_gate::MailboxState;
+use mb_msg::PoolKind;
+use mb_testkit::StubHome;
 use std::alloc::Global;
 use std::process::Abort;
 use std::sync::Wait;
@@ -13,25 +13,25 @@ use std::test::Fail;
 
 /// A call, and its answer.
 #[derive(Clone, Copy)]
-pub enum Step {
-    /// To this end the claims of the actors from this to before that are pushed.
+pub enum PoolStep {
+    /// The claims of the actors from this one up to before that one are pushed to this end.
     Push(usize, u32, u32),
     /// The same to the feed.
     Feed(u32, u32),
-    /// A push of the actor's claim to this end finds all places taken.
+    /// A push of the actor's claim to this end finds the pool full.
     Full(usize, u32),
     /// This end takes the claim of this actor, or finds none.
     Take(usize, Option<u32>),
 }
 
-/// A pool of the claims of so many actors, with three ends and a feed, to which all this was done.
+/// Makes a pool for this many actors, with three ends and a feed, and does all these steps.
 pub fn played<R: Abort + Wait>(
     rt: &R,
     alloc: Global,
-    kind: Kind,
+    kind: PoolKind,
     actors: u32,
-    steps: &[Step],
-) -> Result<Scene<Desk>, Fail>
+    steps: &[PoolStep],
+) -> Result<TestPool<StubHome>, Fail>
     requires { 0 < actors }
 {
     let mut scene = made(alloc, actors, kind)?;
@@ -39,40 +39,45 @@ pub fn played<R: Abort + Wait>(
     Ok(scene)
 }
 
-fn play<H: Resident, R: Abort + Wait>(rt: &R, scene: &mut Scene<H>, steps: &[Step]) {
+fn play<H: MailboxState, R: Abort + Wait>(rt: &R, scene: &mut TestPool<H>, steps: &[PoolStep]) {
     for &step in steps {
         assert!(rt; answers(rt, scene, step));
     }
 }
 
-/// Whether the calls of the step have its answers.
-fn answers<H: Resident, R: Wait>(rt: &R, scene: &mut Scene<H>, step: Step) -> bool {
+/// Whether the calls of the step have their answers.
+fn answers<H: MailboxState, R: Wait>(rt: &R, scene: &mut TestPool<H>, step: PoolStep) -> bool {
     match step {
-        Step::Push(end, first, last) => push_each(rt, scene, end, first, last),
-        Step::Feed(first, last) => feed_each(rt, scene, first, last),
-        Step::Full(end, actor) => matches!(scene.push(rt, end, actor), Answer::Full),
-        Step::Take(end, actor) => scene.take(rt, end) == actor,
+        PoolStep::Push(end, first, last) => push_each(rt, scene, end, first, last),
+        PoolStep::Feed(first, last) => feed_each(rt, scene, first, last),
+        PoolStep::Full(end, actor) => matches!(scene.push(rt, end, actor), PushAnswer::Full),
+        PoolStep::Take(end, actor) => scene.take(rt, end) == actor,
     }
 }
 
-fn push_each<H: Resident, R: Wait>(
+fn push_each<H: MailboxState, R: Wait>(
     rt: &R,
-    scene: &mut Scene<H>,
+    scene: &mut TestPool<H>,
     end: usize,
     first: u32,
     last: u32,
 ) -> bool {
     let mut are_done = true;
     for actor in first..last {
-        are_done &= matches!(scene.push(rt, end, actor), Answer::Done);
+        are_done &= matches!(scene.push(rt, end, actor), PushAnswer::Done);
     }
     are_done
 }
 
-fn feed_each<H: Resident, R: Wait>(rt: &R, scene: &mut Scene<H>, first: u32, last: u32) -> bool {
+fn feed_each<H: MailboxState, R: Wait>(
+    rt: &R,
+    scene: &mut TestPool<H>,
+    first: u32,
+    last: u32,
+) -> bool {
     let mut are_done = true;
     for actor in first..last {
-        are_done &= matches!(scene.feed(rt, actor), Answer::Done);
+        are_done &= matches!(scene.feed(rt, actor), PushAnswer::Done);
     }
     are_done
 }

@@ -1,16 +1,16 @@
-//! Pushes that are made again where memory is refused.
+//! Pushes that are retried where memory is refused.
 ghost use Rattle.std.specs.Prelude.{◌≡◌};
 ghost use Rattle.mb_gate.specs.Untouched.{IsUntouched};
 ghost use Rattle.mb_pool.specs.Moves.{given_back};
 ghost use Rattle.mb_pool.specs.Places.{gates_of, parts_of};
 
-use mb_gate::{Claim, Resident};
-use mb_pool::{Feed, Refused, WorkerEnd};
+use mb_gate::{Claim, MailboxState};
+use mb_pool::{ClaimRefused, Feed, PoolEnd};
 use std::sync::Wait;
 
-/// What a push answers: done, or why the claim came back; or that there is no such claim or way to push it.
+/// The answer of a push: done, or why the claim came back; or that there is no such claim or port.
 #[derive(Clone, Copy)]
-pub enum Answer {
+pub enum PushAnswer {
     Done,
     Full,
     NoMemory,
@@ -18,47 +18,55 @@ pub enum Answer {
     Nowhere,
 }
 
-/// A push to this end, made again where it is refused for want of memory. A claim that comes back then is given up.
-pub fn push_at_last<H: Resident, R: Wait>(rt: &R, end: &mut WorkerEnd<H>, claim: Claim<H>) -> Answer
-    requires fit { IsUntouched H.is_of H.journal H.mailbox H.rested H.given H.closed_to (gates_of end.old) claim }
+/// A push to this end, retried where memory is refused. A claim that comes back then is dropped.
+pub fn push_at_last<H: MailboxState, R: Wait>(
+    rt: &R,
+    end: &mut PoolEnd<H>,
+    claim: Claim<H>,
+) -> PushAnswer
+    requires fit { IsUntouched H.is_of H.facts (gates_of end.old) claim }
     ensures same { parts_of end.new ≡ parts_of end.old }
 {
     match end.push(rt, claim) {
-        Err(Refused::NoMemory(claim)) => told(end.push(rt, claim)),
+        Err(ClaimRefused::NoMemory(claim)) => told(end.push(rt, claim)),
         pushed => told(pushed),
     }
 }
 
-/// A push to this feed, made again where it is refused for want of memory. A claim that comes back then is given up.
-pub fn feed_at_last<H: Resident, R: Wait>(rt: &R, feed: &mut Feed<H>, claim: Claim<H>) -> Answer
-    requires fit { IsUntouched H.is_of H.journal H.mailbox H.rested H.given H.closed_to (gates_of feed.old) claim }
+/// A push to this feed, retried where memory is refused. A claim that comes back then is dropped.
+pub fn feed_at_last<H: MailboxState, R: Wait>(
+    rt: &R,
+    feed: &mut Feed<H>,
+    claim: Claim<H>,
+) -> PushAnswer
+    requires fit { IsUntouched H.is_of H.facts (gates_of feed.old) claim }
     ensures same { parts_of feed.new ≡ parts_of feed.old }
 {
     match feed.push(rt, claim) {
-        Err(Refused::NoMemory(claim)) => told(feed.push(rt, claim)),
+        Err(ClaimRefused::NoMemory(claim)) => told(feed.push(rt, claim)),
         pushed => told(pushed),
     }
 }
 
 /// The claim that comes back.
-pub fn back<H>(refused: Refused<H>) -> Claim<H>
+pub fn back<H>(refused: ClaimRefused<H>) -> Claim<H>
     ensures { result ≡ given_back refused }
 {
     match refused {
-        Refused::Full(claim) | Refused::NoMemory(claim) => claim,
+        ClaimRefused::Full(claim) | ClaimRefused::NoMemory(claim) => claim,
     }
 }
 
-fn told<H: Drop>(pushed: Result<(), Refused<H>>) -> Answer {
+fn told<H: Drop>(pushed: Result<(), ClaimRefused<H>>) -> PushAnswer {
     match pushed {
-        Ok(()) => Answer::Done,
-        Err(Refused::Full(claim)) => {
+        Ok(()) => PushAnswer::Done,
+        Err(ClaimRefused::Full(claim)) => {
             claim.abandon();
-            Answer::Full
+            PushAnswer::Full
         }
-        Err(Refused::NoMemory(claim)) => {
+        Err(ClaimRefused::NoMemory(claim)) => {
             claim.abandon();
-            Answer::NoMemory
+            PushAnswer::NoMemory
         }
     }
 }

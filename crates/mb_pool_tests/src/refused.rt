@@ -1,22 +1,22 @@
-//! Calls that are made again where memory is refused: each comes back as it was, so the second try does all
-//! (`tools/refuse_each_allocation_of_a_pool`).
-use crate::play::{Step, played};
-use mb_pool::Kind;
+//! Calls that are retried where memory is refused: `tools/refuse_each_allocation pool` runs this with each allocation
+//! refused in turn.
+use crate::play::{PoolStep, played};
+use mb_msg::PoolKind;
 use std::test::Fail;
 
 #[test]
 fn a_refused_call_of_a_shared_pool_can_be_made_again(rt: HostRuntime) -> Result<(), Fail> {
-    let steps = [Step::Push(1, 0, 32), Step::Feed(32, 64)];
-    let scene = played(&rt, rt.alloc(), Kind::Shared, 64, &steps)?;
+    let steps = [PoolStep::Push(1, 0, 32), PoolStep::Feed(32, 64)];
+    let scene = played(&rt, rt.alloc(), PoolKind::Shared, 64, &steps)?;
     assert!(rt; scene.leaves(&rt, rt.alloc(), 0, 64)?);
     Ok(())
 }
 
-/// It holds more than the places of a shared one.
+/// This pool holds more claims than a shared one can.
 #[test]
 fn a_refused_call_of_a_stealing_pool_can_be_made_again(rt: HostRuntime) -> Result<(), Fail> {
-    let steps = [Step::Push(1, 0, 200), Step::Feed(200, 400)];
-    let scene = played(&rt, rt.alloc(), Kind::Stealing, 400, &steps)?;
+    let steps = [PoolStep::Push(1, 0, 200), PoolStep::Feed(200, 400)];
+    let scene = played(&rt, rt.alloc(), PoolKind::Stealing, 400, &steps)?;
     assert!(rt; scene.leaves(&rt, rt.alloc(), 0, 400)?);
     Ok(())
 }

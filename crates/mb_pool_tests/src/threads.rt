@@ -1,16 +1,16 @@
-//! Three ends and a feed on threads of their own.
+//! Tests with three ends and a feed on threads of their own.
 ghost use Rattle.std.specs.Prelude.{◌≡◌, ◌<◌, Some, IfSome};
-ghost use Rattle.mb_gate.specs.Names.{gates_id, pass_id, actors_of};
+ghost use Rattle.mb_gate.specs.Accessors.{gates_id, pass_id, actors_of};
 ghost use Rattle.mb_gate.specs.Untouched.{origin_of};
 ghost use Rattle.mb_pool.specs.Places.{AreEnds, AreFeeds, gates_of, parts_of};
 
 use crate::left::{are_of, left};
-use crate::scene::{Scene, made};
+use crate::test_pool::{TestPool, made};
 use crate::work::{ACTORS, MOVES, supply, work};
-use mb_desk::{Desk, attempt, give};
 use mb_gate::{Gates, Pass};
-use mb_msg::ActorId;
-use mb_pool::{Feed, Kind, Pool, WorkerEnd};
+use mb_msg::{ActorId, PoolKind};
+use mb_pool::{Feed, Pool, PoolEnd};
+use mb_testkit::{StubHome, attempt, give};
 use std::alloc::Global;
 use std::sync::Wait;
 use std::sync::atomic::AtomicU64;
@@ -19,12 +19,16 @@ use std::test::Fail;
 use std::thread::{Threads, join};
 
 /// An end, and the pass of its thread.
-type Worker = (WorkerEnd<Desk>, Pass<Desk>);
+type Worker = (PoolEnd<StubHome>, Pass<StubHome>);
 
-/// A pool of this kind whose three ends and whose feed move claims on threads of their own. No claim is lost: what is left goes
-/// home, and then each actor can be scheduled.
-fn move_claims<R: Threads + Wait + Sync>(rt: &R, alloc: Global, kind: Kind) -> Result<bool, Fail> {
-    let Scene {
+/// Three ends and a feed of a pool of this kind move claims on threads of their own. No claim is lost: once those that
+/// are left are released, each actor can be scheduled.
+fn move_claims<R: Threads + Wait + Sync>(
+    rt: &R,
+    alloc: Global,
+    kind: PoolKind,
+) -> Result<bool, Fail> {
+    let TestPool {
         gates,
         mut pass,
         pool,
@@ -41,14 +45,14 @@ fn move_claims<R: Threads + Wait + Sync>(rt: &R, alloc: Global, kind: Kind) -> R
     Ok(all_home && moved.load(SeqCst) >= MOVES)
 }
 
-/// The three ends and the feed of a pool at work, and then again in their places; `None` where there are not as many.
+/// Runs the three ends and the feed of a pool, and puts them back; `None` where there are not as many.
 fn all_work<R: Threads + Wait + Sync>(
     rt: &R,
-    gates: &Gates<Desk>,
-    pass: &mut Pass<Desk>,
-    pool: &Pool<Desk>,
-    ends: &mut Vec<WorkerEnd<Desk>>,
-    feeds: &mut Vec<Feed<Desk>>,
+    gates: &Gates<StubHome>,
+    pass: &mut Pass<StubHome>,
+    pool: &Pool<StubHome>,
+    ends: &mut Vec<PoolEnd<StubHome>>,
+    feeds: &mut Vec<Feed<StubHome>>,
     moved: &AtomicU64,
 ) -> Option<()>
     requires ours { pass_id pass.old ≡ gates_id gates.now }
@@ -75,19 +79,19 @@ fn all_work<R: Threads + Wait + Sync>(
     Some(())
 }
 
-/// Three ends and a feed at work on threads of their own: they come back.
+/// Runs three ends and a feed on threads of their own, and gives them back.
 fn four_work<R: Threads + Wait + Sync>(
     rt: &R,
-    gates: &Gates<Desk>,
-    pass: &mut Pass<Desk>,
-    first: WorkerEnd<Desk>,
-    second: WorkerEnd<Desk>,
-    third: WorkerEnd<Desk>,
-    feed: Feed<Desk>,
+    gates: &Gates<StubHome>,
+    pass: &mut Pass<StubHome>,
+    first: PoolEnd<StubHome>,
+    second: PoolEnd<StubHome>,
+    third: PoolEnd<StubHome>,
+    feed: Feed<StubHome>,
     moved: &AtomicU64,
 ) -> (
-    (WorkerEnd<Desk>, WorkerEnd<Desk>),
-    (WorkerEnd<Desk>, Feed<Desk>),
+    (PoolEnd<StubHome>, PoolEnd<StubHome>),
+    (PoolEnd<StubHome>, Feed<StubHome>),
 )
     requires ours { pass_id pass.old ≡ gates_id gates.now }
     requires there { actors_of gates.now ≡ 80 }
@@ -107,12 +111,12 @@ fn four_work<R: Threads + Wait + Sync>(
     let d = gates.another(pass);
     join(
         rt,
-        || -> (WorkerEnd<Desk>, WorkerEnd<Desk>)
+        || -> (PoolEnd<StubHome>, PoolEnd<StubHome>)
             requires ours { (pass_id a ≡ gates_id gates.now) × (pass_id b ≡ gates_id gates.now) }
             requires these { (gates_of first ≡ Some (origin_of gates.now)) × (gates_of second ≡ Some (origin_of gates.now)) }
             ensures same { (parts_of result.0 ≡ parts_of first) × (parts_of result.1 ≡ parts_of second) }
         { two_work(rt, gates, (first, a), (second, b), moved) },
-        || -> (WorkerEnd<Desk>, Feed<Desk>)
+        || -> (PoolEnd<StubHome>, Feed<StubHome>)
             requires ours { (pass_id c ≡ gates_id gates.now) × (pass_id d ≡ gates_id gates.now) }
             requires there { actors_of gates.now ≡ 80 }
             requires these { (gates_of third ≡ Some (origin_of gates.now)) × (gates_of feed ≡ Some (origin_of gates.now)) }
@@ -123,11 +127,11 @@ fn four_work<R: Threads + Wait + Sync>(
 
 fn two_work<R: Threads + Wait + Sync>(
     rt: &R,
-    gates: &Gates<Desk>,
+    gates: &Gates<StubHome>,
     first: Worker,
     second: Worker,
     moved: &AtomicU64,
-) -> (WorkerEnd<Desk>, WorkerEnd<Desk>)
+) -> (PoolEnd<StubHome>, PoolEnd<StubHome>)
     requires ours { (pass_id first.1 ≡ gates_id gates.now) × (pass_id second.1 ≡ gates_id gates.now) }
     requires these { (gates_of first.0 ≡ Some (origin_of gates.now)) × (gates_of second.0 ≡ Some (origin_of gates.now)) }
     ensures same { (parts_of result.0 ≡ parts_of first.0) × (parts_of result.1 ≡ parts_of second.0) }
@@ -136,12 +140,12 @@ fn two_work<R: Threads + Wait + Sync>(
     let (other, of_other) = second;
     join(
         rt,
-        || -> WorkerEnd<Desk>
+        || -> PoolEnd<StubHome>
             requires ours { pass_id pass ≡ gates_id gates.now }
             requires these { gates_of end ≡ Some (origin_of gates.now) }
             ensures same { parts_of result ≡ parts_of end }
         { work(rt, gates, pass, end, moved) },
-        || -> WorkerEnd<Desk>
+        || -> PoolEnd<StubHome>
             requires ours { pass_id of_other ≡ gates_id gates.now }
             requires these { gates_of other ≡ Some (origin_of gates.now) }
             ensures same { parts_of result ≡ parts_of other }
@@ -151,12 +155,12 @@ fn two_work<R: Threads + Wait + Sync>(
 
 fn work_and_supply<R: Threads + Wait + Sync>(
     rt: &R,
-    gates: &Gates<Desk>,
+    gates: &Gates<StubHome>,
     worker: Worker,
-    feed: Feed<Desk>,
-    supplier: Pass<Desk>,
+    feed: Feed<StubHome>,
+    supplier: Pass<StubHome>,
     moved: &AtomicU64,
-) -> (WorkerEnd<Desk>, Feed<Desk>)
+) -> (PoolEnd<StubHome>, Feed<StubHome>)
     requires ours { (pass_id worker.1 ≡ gates_id gates.now) × (pass_id supplier ≡ gates_id gates.now) }
     requires there { actors_of gates.now ≡ 80 }
     requires these { (gates_of worker.0 ≡ Some (origin_of gates.now)) × (gates_of feed ≡ Some (origin_of gates.now)) }
@@ -165,12 +169,12 @@ fn work_and_supply<R: Threads + Wait + Sync>(
     let (end, pass) = worker;
     join(
         rt,
-        || -> WorkerEnd<Desk>
+        || -> PoolEnd<StubHome>
             requires ours { pass_id pass ≡ gates_id gates.now }
             requires these { gates_of end ≡ Some (origin_of gates.now) }
             ensures same { parts_of result ≡ parts_of end }
         { work(rt, gates, pass, end, moved) },
-        || -> Feed<Desk>
+        || -> Feed<StubHome>
             requires ours { pass_id supplier ≡ gates_id gates.now }
             requires there { actors_of gates.now ≡ 80 }
             requires these { gates_of feed ≡ Some (origin_of gates.now) }
@@ -180,7 +184,7 @@ fn work_and_supply<R: Threads + Wait + Sync>(
 }
 
 /// Whether each actor can be scheduled.
-fn are_home(gates: &Gates<Desk>, pass: &mut Pass<Desk>) -> bool
+fn are_home(gates: &Gates<StubHome>, pass: &mut Pass<StubHome>) -> bool
     requires ours { pass_id pass.old ≡ gates_id gates.now }
     requires there { actors_of gates.now ≡ 80 }
 {
@@ -196,12 +200,12 @@ fn are_home(gates: &Gates<Desk>, pass: &mut Pass<Desk>) -> bool
 
 #[test]
 fn a_shared_pool_loses_none(rt: HostRuntime) -> Result<(), Fail> {
-    assert!(rt; move_claims(&rt, rt.alloc(), Kind::Shared)?);
+    assert!(rt; move_claims(&rt, rt.alloc(), PoolKind::Shared)?);
     Ok(())
 }
 
 #[test]
 fn a_stealing_pool_loses_none(rt: HostRuntime) -> Result<(), Fail> {
-    assert!(rt; move_claims(&rt, rt.alloc(), Kind::Stealing)?);
+    assert!(rt; move_claims(&rt, rt.alloc(), PoolKind::Stealing)?);
     Ok(())
 }

@@ -1,33 +1,33 @@
-//! What a thread does with an end, and what one does with a feed.
+//! What a thread does with an end, and what another does with a feed.
 ghost use Rattle.std.specs.Prelude.{◌≡◌, ◌<◌, Some};
-ghost use Rattle.mb_gate.specs.Names.{gates_id, pass_id, actors_of};
+ghost use Rattle.mb_gate.specs.Accessors.{gates_id, pass_id, actors_of};
 ghost use Rattle.mb_gate.specs.Untouched.{origin_of};
 ghost use Rattle.mb_pool.specs.Places.{gates_of, parts_of};
 
 use crate::pushed::back;
-use mb_desk::{attempt, give};
-use mb_gate::{Gates, Pass, Resident};
+use mb_gate::{Gates, MailboxState, Pass};
 use mb_msg::ActorId;
-use mb_pool::{Feed, WorkerEnd};
+use mb_pool::{Feed, PoolEnd};
+use mb_testkit::{attempt, give};
 use std::sync::Wait;
 use std::sync::atomic::AtomicU64;
 use std::sync::atomic::Ordering::SeqCst;
 use std::thread;
 
-/// How many claims are taken.
+/// How many claims are taken in all.
 pub const MOVES: u64 = 100_000;
 
-/// More than a shared pool has places.
+/// More actors than a shared pool has places.
 pub const ACTORS: u32 = 80;
 
-/// Moves claims by this end until enough were taken.
-pub fn work<H: Resident, R: Wait>(
+/// Moves claims through this end until enough were taken.
+pub fn work<H: MailboxState, R: Wait>(
     rt: &R,
     gates: &Gates<H>,
     mut pass: Pass<H>,
-    mut end: WorkerEnd<H>,
+    mut end: PoolEnd<H>,
     moved: &AtomicU64,
-) -> WorkerEnd<H>
+) -> PoolEnd<H>
     requires ours { pass_id pass ≡ gates_id gates.now }
     requires these { gates_of end ≡ Some (origin_of gates.now) }
     ensures same { parts_of result ≡ parts_of end }
@@ -45,13 +45,13 @@ pub fn work<H: Resident, R: Wait>(
     end
 }
 
-/// Takes a claim, if there is one. Its cell goes home, its actor is scheduled again, and that claim is pushed, or goes home where
-/// the pool refuses it.
-fn move_one<H: Resident, R: Wait>(
+/// Takes a claim, if there is one, and releases it. Then schedules its actor again and pushes that claim, which is
+/// released where the pool refuses it.
+fn move_one<H: MailboxState, R: Wait>(
     rt: &R,
     gates: &Gates<H>,
     pass: &mut Pass<H>,
-    end: &mut WorkerEnd<H>,
+    end: &mut PoolEnd<H>,
 ) -> bool
     requires ours { pass_id pass.old ≡ gates_id gates.now }
     requires these { gates_of end.old ≡ Some (origin_of gates.now) }
@@ -72,7 +72,7 @@ fn move_one<H: Resident, R: Wait>(
 }
 
 /// Schedules each actor that is free, and pushes its claim, until enough were taken.
-pub fn supply<H: Resident, R: Wait>(
+pub fn supply<H: MailboxState, R: Wait>(
     rt: &R,
     gates: &Gates<H>,
     mut pass: Pass<H>,
@@ -96,8 +96,8 @@ pub fn supply<H: Resident, R: Wait>(
     feed
 }
 
-/// Schedules the actor if it is free, and pushes its claim, which goes home where the pool refuses it.
-fn supply_one<H: Resident, R: Wait>(
+/// Schedules the actor if it is free, and pushes its claim, which is released where the pool refuses it.
+fn supply_one<H: MailboxState, R: Wait>(
     rt: &R,
     gates: &Gates<H>,
     pass: &mut Pass<H>,

@@ -3,14 +3,14 @@ use Rattle.std.proofs.Common.{◌≡◌, ℕ, suc, ◌+◌, ◌-◌, List, [], �
 use Rattle.std.specs.Prelude.{slice_get}
 use Rattle.mb_actor.specs.Behaviour.{AllowsSame, Moment, Reply}
 use Rattle.mb_actor.specs.declared.message.Message.{Message}
-use Rattle.mb_build.specs.Behaved.{AreBehaved, IsBehaved}
-use Rattle.mb_format.specs.Context.{KinData}
-use Rattle.mb_reader.specs.Fields.{map_items}
-use Rattle.mb_reader.specs.Plans.{ScenarioData}
-use Rattle.mb_reader.specs.Reading.{IsReadAs}
-use Rattle.mb_reader.specs.Scripts.{scripted_of}
+use Rattle.mb_build.specs.BehavesAsPlanned.{BehaveAsPlanned, BehavesAsPlanned}
+use Rattle.mb_schema.specs.Context.{ActorEntryData}
+use Rattle.mb_scenario.specs.Fields.{map_items}
+use Rattle.mb_scenario.specs.Plans.{ScenarioData}
+use Rattle.mb_scenario.specs.Reading.{IsReadAs}
+use Rattle.mb_scenario.specs.Scripts.{scripted_of}
 use Rattle.mb_script.specs.Script.{Scripted, after_of, gives_of}
-use Rattle.mb_program.specs.Scripts.{after_at, after_script, gives_at, gives_script}
+use Rattle.mb_program.specs.Scripts.{after_by_scripts, after_script, gives_by_scripts, gives_script}
 use Rattle.toml.specs.Data.{Items, no_items, item}
 
 -- an actor that is read has not begun
@@ -18,7 +18,7 @@ abbrev AreNew : List Scripted → Type 0
 AreNew [] = Unit {0}
 AreNew (s ∷ scripts) = (s.state ≡ s.script.initial) × AreNew scripts
 
-new-items : (kin : List KinData) (items : Items) → AreNew (map_items (scripted_of kin) items)
+new-items : (kin : List ActorEntryData) (items : Items) → AreNew (map_items (scripted_of kin) items)
 new-items kin no_items = tt
 new-items kin (item d items) = (refl, new-items kin items)
 
@@ -35,9 +35,9 @@ length-pushed [] x = refl
 length-pushed (y ∷ xs) x = let e = length-pushed xs x in omega (arith, e)
 
 -- those behind the first, whose number is one more than how many come before it
-behaved : (before scripts : List Scripted) → AreNew scripts → AreBehaved (λ (s : Scripted). s.state)
+behaved : (before scripts : List Scripted) → AreNew scripts → BehaveAsPlanned (λ (s : Scripted). s.state)
     (λ (s : Scripted). after_of s.script.initial s.script.rows) (λ (s : Scripted). gives_of s.script)
-    (after_at (before ++ scripts)) (gives_at (before ++ scripts)) (length before + 1) scripts
+    (after_by_scripts (before ++ scripts)) (gives_by_scripts (before ++ scripts)) (length before + 1) scripts
 behaved before [] new = tt
 behaved before (s ∷ scripts) new =
     let there : slice_get (before ++ s ∷ scripts) (length before + 1 - 1) ≡ Some s =
@@ -48,8 +48,8 @@ behaved before (s ∷ scripts) new =
         behaves = ap after_script (sym there);
         allows = subst (λ o. AllowsSame (gives_of s.script) (gives_script o)) (sym there) (λ m r. (λ h. h, λ h. h));
       },
-      subst (λ (p : List Scripted × ℕ). AreBehaved (λ (s : Scripted). s.state) (λ (s : Scripted). after_of s.script.initial s.script.rows)
-          (λ (s : Scripted). gives_of s.script) (after_at p.0) (gives_at p.0) p.1 scripts)
+      subst (λ (p : List Scripted × ℕ). BehaveAsPlanned (λ (s : Scripted). s.state) (λ (s : Scripted). after_of s.script.initial s.script.rows)
+          (λ (s : Scripted). gives_of s.script) (after_by_scripts p.0) (gives_by_scripts p.0) p.1 scripts)
           (λ i. (
             pushed before scripts s i,
             (let e : length (before ++ s ∷ []) + 1 ≡ length before + 1 + 1 =
@@ -57,8 +57,8 @@ behaved before (s ∷ scripts) new =
           )) rest,
     )
 
-pub all-behaved : (text : List ℕ) (scenario : ScenarioData) → IsReadAs text scenario → AreBehaved (λ (s : Scripted). s.state)
+pub all-behaved : (text : List ℕ) (scenario : ScenarioData) → IsReadAs text scenario → BehaveAsPlanned (λ (s : Scripted). s.state)
     (λ (s : Scripted). after_of s.script.initial s.script.rows) (λ (s : Scripted). gives_of s.script)
-    (after_at scenario.scripts) (gives_at scenario.scripts) 1 scenario.scripts
+    (after_by_scripts scenario.scripts) (gives_by_scripts scenario.scripts) 1 scenario.scripts
 all-behaved text scenario read =
     behaved [] scenario.scripts (subst (λ (s : ScenarioData). AreNew s.scripts) (sym read.2.1) (new-items _ _))

@@ -1,11 +1,11 @@
 -- Why a run was broken off, in the words of the plan.
 use Rattle.std.proofs.Common.{ℕ}
 use Rattle.mb_actor.specs.Behaviour.{Moment, Reply}
-use Rattle.mb_plan.specs.declared.plan.Plan.{Plan}
+use Rattle.mb_msg.specs.declared.plan.Plan.{Plan}
 use Rattle.mb_startup.specs.Begun.{IsBegun}
 use Rattle.mb_system.specs.declared.built.Built.{Built}
 use Rattle.mb_dispatch.proofs.FullJournal.{full-journal}
-use Rattle.mb_startup.proofs.Rolls.{of-plan}
+use Rattle.mb_startup.proofs.Directories.{of-plan}
 use Rattle.mb_program.specs.Broken.{IsBrokenOff}
 use Rattle.mb_program.specs.Faults.{IsFaultOf}
 use Rattle.mb_streams.specs.declared.fault.RunFault.{RunFault}

@@ -7,20 +7,20 @@ use Rattle.std.proofs.lemmas.Option.{same_Some}
 use Rattle.mb_msg.specs.Limits.{most_actors}
 use Rattle.mb_actor.specs.Behaviour.{Moment, Reply}
 use Rattle.mb_actor.specs.declared.message.Message.{Message}
-use Rattle.mb_fates.specs.Accepted.{accepted}
-use Rattle.mb_fates.specs.declared.posting.Posting.{Posting}
-use Rattle.mb_gate.specs.Names.{actors_of, first_of, known_by}
+use Rattle.mb_journal.specs.Accepted.{accepted}
+use Rattle.mb_journal.specs.declared.sent_envelope.SentEnvelope.{SentEnvelope}
+use Rattle.mb_gate.specs.Accessors.{actors_of, first_home, pass_view}
 use Rattle.mb_gate.specs.Rule.{IsPart}
-use Rattle.mb_gate.specs.View.{Sight}
-use Rattle.mb_home.specs.Roll.{Enrolled}
-use Rattle.mb_build.proofs.HouseLemmas.{length-who}
-use Rattle.mb_plan.specs.declared.plan.Plan.{Plan}
-use Rattle.mb_reader.specs.declared.scenario.Sending.{Sending}
-use Rattle.mb_reckon.specs.Homes.{CameHome}
-use Rattle.mb_reckon.specs.Seen.{GoesOnFromAll}
-use Rattle.mb_reckon.proofs.Lists.{at-place, length-mapped, there, within}
+use Rattle.mb_gate.specs.View.{Observation}
+use Rattle.mb_home.specs.Directory.{DirectoryEntry}
+use Rattle.mb_build.proofs.NewHomesLemmas.{length-who}
+use Rattle.mb_msg.specs.declared.plan.Plan.{Plan}
+use Rattle.mb_msg.specs.declared.order.SenderOrder.{SenderOrder}
+use Rattle.mb_shutdown.specs.Homes.{HomesReturned}
+use Rattle.mb_shutdown.specs.Seen.{ReportExtendsAll}
+use Rattle.mb_shutdown.proofs.Lists.{at-place, length-mapped, there, within}
 use Rattle.mb_report.specs.declared.report.Report.{Report}
-use Rattle.mb_build.specs.Planned.{IsRollOf}
+use Rattle.mb_build.specs.Planned.{IsDirectoryOf}
 use Rattle.mb_startup.specs.Begun.{IsBegun}
 use Rattle.mb_dispatch.specs.Orders.{addressed, said_to, stopped_by}
 use Rattle.mb_system.specs.declared.built.Built.{Built}
@@ -30,11 +30,11 @@ use Rattle.mb_system.specs.declared.system.System.{System}
 use Rattle.mb_shutdown.specs.Refused.{DisagreesIfSaid, IsRefusal}
 use Rattle.mb_shutdown.specs.declared.ending.FinishError.{FinishError}
 use Rattle.mb_shutdown.specs.declared.ending.FinishError.TheVariants as end
-use Rattle.mb_shutdown.proofs.Unended.{does-not-agree, work-left}
-use Rattle.mb_program.specs.Broken.{IsToldAs, IsUnended}
+use Rattle.mb_shutdown.proofs.NotFinished.{does-not-agree, work-left}
+use Rattle.mb_program.specs.Broken.{IsFaultOfFinish, FailsToFinish}
 use Rattle.mb_program.specs.Faults.{IsFaultOf}
 use Rattle.mb_program.specs.Orders.{orders_of}
-use Rattle.mb_program.specs.Ran.{HasRun, HasSpoken, IsSeenIn}
+use Rattle.mb_program.specs.Ran.{HasRun, HasSentAsOrdered, IsSeenIn}
 use Rattle.mb_program.specs.Ready.{IsEnded, IsReady}
 use Rattle.mb_program.specs.Senders.{HasSentAll}
 use Rattle.mb_streams.specs.declared.fault.RunFault.{RunFault}
@@ -45,30 +45,30 @@ use Rattle.mb_program.proofs.SenderLemmas.{sender-here}
 
 -- how it is told why what was ready has no end
 pub unended : {A K : Type 0} (gives : ℕ → Moment → Reply → Type 0) (built : Built A K) (error : FinishError A K) (fault : RunFault)
-    → IsRefusal built error → DisagreesIfSaid gives built error → IsToldAs error fault → IsUnended gives built fault
+    → IsRefusal built error → DisagreesIfSaid gives built error → IsFaultOfFinish error fault → FailsToFinish gives built fault
 unended gives built (end.MissingEnd number back) fault refused why told = absurd told
 unended gives built (end.MissingSender number back) fault refused why told = absurd told
 unended gives built (end.NotQuiet id back) fault refused why told =
-    subst (λ f. IsUnended gives built f) (sym told) (record { within = refused.1; back = back; read = refused.2 })
-unended gives built (end.NoMemory back) fault refused why told = subst (λ f. IsUnended gives built f) (sym told) tt
-unended gives built (end.Mismatch what) fault refused why told = subst (λ f. IsUnended gives built f) (sym told) (what, why)
+    subst (λ f. FailsToFinish gives built f) (sym told) (record { within = refused.1; back = back; read = refused.2 })
+unended gives built (end.NoMemory back) fault refused why told = subst (λ f. FailsToFinish gives built f) (sym told) tt
+unended gives built (end.Mismatch what) fault refused why told = subst (λ f. FailsToFinish gives built f) (sym told) (what, why)
 
-module _ {A K : Type 0} (after : ℕ → List Message → ℤ) (gives : ℕ → Moment → Reply → Type 0) (plan : Plan) (sends : List Sending)
+module _ {A K : Type 0} (after : ℕ → List Message → ℤ) (gives : ℕ → Moment → Reply → Type 0) (plan : Plan) (sends : List SenderOrder)
     (built : Built A K) (report : Report) where
   -- what one sender was answered, and said
-  spoken : (log : List Sight) (number : ℕ) (s : Sender A K) → HasSentAll built.system.gates number (orders_of number sends) s
-      → IsPart (known_by s.inner.waker.pass).log log → GoesOnFromAll report (known_by s.inner.waker.pass)
-      → HasSpoken sends log report number s.inner.book.posted
+  spoken : (log : List Observation) (number : ℕ) (s : Sender A K) → HasSentAll built.system.gates number (orders_of number sends) s
+      → IsPart (pass_view s.inner.registrar.pass).log log → ReportExtendsAll report (pass_view s.inner.registrar.pass)
+      → HasSentAsOrdered sends log report number s.inner.send_log.posted
   spoken log number s all part goes_on = record {
     told = ap (λ l. addressed (accepted l)) (all.sent.posted ∙ ap (λ l. l ++ all.sent.more) all.unused) ∙ all.sent.accepted_are;
-    view = known_by s.inner.waker.pass;
+    view = pass_view s.inner.registrar.pass;
     said = all.sent.said ∙ ap (λ l. reverse (stopped_by (orders_of number sends)) ++ said_to l) all.silent
         ∙ append-nil (reverse (stopped_by (orders_of number sends)));
     among = (part, goes_on);
   }
 
-  spoken-at : IsReady (λ number. orders_of number sends) built → (ended : IsEnded after gives built report) → (number : ℕ) (postings : List Posting)
-      → slice_get ended.answers number ≡ Some postings → HasSpoken sends ended.log report number postings
+  spoken-at : IsReady (λ number. orders_of number sends) built → (ended : IsEnded after gives built report) → (number : ℕ) (postings : List SentEnvelope)
+      → slice_get ended.answers number ≡ Some postings → HasSentAsOrdered sends ended.log report number postings
   spoken-at ready ended number postings is =
       let lt = within ended.answers number postings is in
       let count = ended.answered.length_is in let many = ready.many in
@@ -77,32 +77,32 @@ module _ {A K : Type 0} (after : ℕ → List Message → ℤ) (gives : ℕ → 
       let all : HasSentAll built.system.gates number (orders_of number sends) s =
       sender-here built.system.gates (λ n. orders_of n sends) built.senders.items number s ready.senders found.1 in
       let by = all.by in
-      let place : s.inner.book.by.0 - most_actors ≡ number = omega (arith, by) in
-      let answered = at-place (λ (s : Sender A K). slice_get ended.answers (s.inner.book.by.0 - most_actors) ≡ Some s.inner.book.posted)
+      let place : s.inner.send_log.by.0 - most_actors ≡ number = omega (arith, by) in
+      let answered = at-place (λ (s : Sender A K). slice_get ended.answers (s.inner.send_log.by.0 - most_actors) ≡ Some s.inner.send_log.posted)
       built.senders.items number s ended.answered.each found.1 in
-      let same : s.inner.book.posted ≡ postings = same_Some s.inner.book.posted postings
+      let same : s.inner.send_log.posted ≡ postings = same_Some s.inner.send_log.posted postings
       (sym answered ∙ ap (slice_get ended.answers) place ∙ is) in
-      subst (HasSpoken sends ended.log report number) same
+      subst (HasSentAsOrdered sends ended.log report number) same
       (spoken ended.log number s all
-      (at-place (λ (s : Sender A K). IsPart (known_by s.inner.waker.pass).log ended.log) built.senders.items number s ended.all_seen.1 found.1)
-      (at-place (λ (s : Sender A K). GoesOnFromAll report (known_by s.inner.waker.pass)) built.senders.items number s ended.goes_on.1 found.1))
+      (at-place (λ (s : Sender A K). IsPart (pass_view s.inner.registrar.pass).log ended.log) built.senders.items number s ended.all_seen.1 found.1)
+      (at-place (λ (s : Sender A K). ReportExtendsAll report (pass_view s.inner.registrar.pass)) built.senders.items number s ended.goes_on.1 found.1))
 
-  pub has-run : IsReady (λ number. orders_of number sends) built → IsRollOf plan (first_of built.system.gates).value.roll
+  pub has-run : IsReady (λ number. orders_of number sends) built → IsDirectoryOf plan (first_home built.system.gates).value.directory
       → built.system.senders ≡ plan.senders → built.system.workers ≡ plan.workers → IsEnded after gives built report
       → HasRun after gives plan sends report
   has-run ready planned senders workers ended =
-      let knew = λ (e : WorkerEnd A K). known_by e.waker.pass in record {
-        roll = (first_of built.system.gates).value.roll;
+      let knew = λ (e : WorkerEnd A K). pass_view e.registrar.pass in record {
+        directory = (first_home built.system.gates).value.directory;
         planned = planned;
         log = ended.log;
         outside = ended.answers;
         many = ended.answered.length_is ∙ senders;
         whole = ended.whole;
         homes = record {
-          first = (first_of built.system.gates).value;
+          first = (first_home built.system.gates).value;
           rolled = refl;
           view = ended.home.view;
-          home = subst (λ (n : ℕ). CameHome gives (first_of built.system.gates).value n ended.home.view report) (sym built.system.roll)
+          home = subst (λ (n : ℕ). HomesReturned gives (first_home built.system.gates).value n ended.home.view report) (sym built.system.directory)
               ended.home.home;
           counted = ended.home.counted;
         };
@@ -115,14 +115,14 @@ module _ {A K : Type 0} (after : ℕ → List Message → ℤ) (gives : ℕ → 
   -- the report has a line for each actor of the plan, and the guardian's
   pub as-many-lines : HasRun after gives plan sends report → length report.actors.items ≡ length plan.actors.items + 1
   as-many-lines ran =
-      ran.whole.many.0 ∙ sym (length-map ran.roll (λ (e : Enrolled). e.who)) ∙ ap length ran.planned.who
+      ran.whole.many.0 ∙ sym (length-map ran.directory (λ (e : DirectoryEntry). e.who)) ∙ ap length ran.planned.who
       ∙ length-who plan.journal_limit plan.actors.items
 
-module _ {A K : Type 0} (after : ℕ → List Message → ℤ) (gives : ℕ → Moment → Reply → Type 0) (plan : Plan) (sends : List Sending) (first : Built A K)
+module _ {A K : Type 0} (after : ℕ → List Message → ℤ) (gives : ℕ → Moment → Reply → Type 0) (plan : Plan) (sends : List SenderOrder) (first : Built A K)
     (begun : IsBegun gives plan first) (built : Built A K) (same : built.system ≡ first.system)
     (ready : IsReady (λ number. orders_of number sends) built) where
-  of-plan : IsRollOf plan (first_of built.system.gates).value.roll
-  of-plan = subst (λ (s : System A K). IsRollOf plan (first_of s.gates).value.roll) (sym same) (planned gives plan first begun)
+  of-plan : IsDirectoryOf plan (first_home built.system.gates).value.directory
+  of-plan = subst (λ (s : System A K). IsDirectoryOf plan (first_home s.gates).value.directory) (sym same) (planned gives plan first begun)
 
   ran : (report : Report) → IsEnded after gives built report → HasRun after gives plan sends report
   ran report ended =
@@ -140,7 +140,7 @@ module _ {A K : Type 0} (after : ℕ → List Message → ℤ) (gives : ℕ → 
   all-lines (Err fault) ended = ended
 
   -- what was found of the system is so of one of the plan
-  fault-unended : (fault : RunFault) → IsUnended gives built fault → IsFaultOf gives plan fault
+  fault-unended : (fault : RunFault) → FailsToFinish gives built fault → IsFaultOf gives plan fault
   fault-unended NoMemory found = tt
   fault-unended JournalFull found = absurd found
   fault-unended (NotQuiet id) found = (
@@ -149,6 +149,6 @@ module _ {A K : Type 0} (after : ℕ → List Message → ℤ) (gives : ℕ → 
   )
   fault-unended Mismatch found = (found.0, does-not-agree plan built of-plan gives found.0 (ap (λ (s : System A K). s.senders) same ∙ begun.numbers.1) found.1)
 
-  pub all-unended : (result : Result Report RunFault) → IfErr result (IsUnended gives built) → IfErr result (IsFaultOf gives plan)
+  pub all-unended : (result : Result Report RunFault) → IfErr result (FailsToFinish gives built) → IfErr result (IsFaultOf gives plan)
   all-unended (Ok report) found = found
   all-unended (Err fault) found = fault-unended fault found

@@ -5,8 +5,7 @@ use Rattle.std.proofs.lemmas.List.Elements.{All-cons, All-head, All-nil, All-tai
 use Rattle.mb_gate.specs.declared.gates.Gates.{Gates}
 use Rattle.mb_home.specs.Contents.{Contents}
 use Rattle.mb_system.specs.Members.{IsSenderOf}
-use Rattle.mb_dispatch.specs.Orders.{repeated}
-use Rattle.mb_dispatch.specs.declared.order.Order.{Order}
+use Rattle.mb_msg.specs.declared.order.Order.{Order}
 use Rattle.mb_system.specs.declared.sender.Sender.{Sender}
 use Rattle.mb_dispatch.specs.Jobs.{AreJobsOf, AreDone}
 use Rattle.mb_dispatch.specs.declared.job.Job.{Job}
@@ -20,7 +19,7 @@ place-left before rest all x is = let long = ap length is in let both = length-a
 module _ {A K : Type 0} (orders : ℕ → List Order) where
   -- one job more
   jobs-more : (number : ℕ) (senders : List (Sender A K)) (jobs : List (Job A K)) (s : Sender A K) (j : Job A K)
-      → AreJobs orders number senders jobs → j.sender ≡ s → repeated j.sends.items ≡ orders (number + length jobs)
+      → AreJobs orders number senders jobs → j.sender ≡ s → j.sends.items ≡ orders (number + length jobs)
       → AreJobs orders number (senders ++ s ∷ []) (jobs ++ j ∷ [])
   jobs-more number [] [] s j are sender sends =
       (sender, sends ∙ ap orders (let e : number + 0 ≡ number = omega arith in e), tt)
@@ -34,7 +33,7 @@ module _ {A K : Type 0} (orders : ℕ → List Order) where
   )
 
   pub jobs-pushed : (senders : List (Sender A K)) (jobs new : List (Job A K)) (s : Sender A K) (j : Job A K) → AreJobs orders 0 senders jobs
-      → new ≡ jobs ++ j ∷ [] → j.sender ≡ s → repeated j.sends.items ≡ orders (length jobs) → AreJobs orders 0 (senders ++ s ∷ []) new
+      → new ≡ jobs ++ j ∷ [] → j.sender ≡ s → j.sends.items ≡ orders (length jobs) → AreJobs orders 0 (senders ++ s ∷ []) new
   jobs-pushed senders jobs new s j are pushed sender sends =
       subst (AreJobs orders 0 (senders ++ s ∷ [])) (sym pushed)
       (jobs-more 0 senders jobs s j are sender (sends ∙ ap orders (sym (zero-add (length jobs)))))
@@ -70,7 +69,7 @@ module _ {A K : Type 0} (orders : ℕ → List Order) where
         let P = λ (j : Job A K). IsSenderOf gates j.sender.inner in
         let begun : HasSentAll gates number [] k.sender = subst (HasSentAll gates number []) (sym are.0) all.0 in (
           subst (λ o. HasSentAll gates number o d.sender) are.1
-              (all-then gates number [] (repeated k.sends.items) k.sender d.sender begun done.0.sent (All-head P d rest ours)),
+              (all-then gates number [] k.sends.items k.sender d.sender begun done.0.sent (All-head P d rest ours)),
           jobs-done (number + 1) senders jobs rest are.2 all.1 done.1 (All-tail P d rest ours),
         )
 

@@ -7,12 +7,12 @@ use Rattle.mb_msg.specs.Limits.{most_actors}
 use Rattle.mb_build.specs.Numbers.{numbers}
 use Rattle.mb_gate.specs.declared.gates.Gates.{Gates}
 use Rattle.mb_home.specs.Contents.{Contents}
-use Rattle.mb_reckon.proofs.Lists.{length-mapped}
+use Rattle.mb_shutdown.proofs.Lists.{length-mapped}
 use Rattle.mb_system.specs.Belonging.{BelongsTogether, senders_numbers}
 use Rattle.mb_system.specs.Members.{ends_numbers}
 use Rattle.mb_system.specs.declared.built.Built.{Built}
 use Rattle.mb_system.specs.declared.end.WorkerEnd.{WorkerEnd}
-use Rattle.mb_dispatch.specs.declared.order.Order.{Order}
+use Rattle.mb_msg.specs.declared.order.Order.{Order}
 use Rattle.mb_system.specs.declared.sender.Sender.{Sender}
 use Rattle.mb_shutdown.specs.Belonging.{AreThere}
 use Rattle.mb_shutdown.specs.Refused.{IsComplete}
@@ -49,17 +49,17 @@ module _ {A K : Type 0} where
   numbers-of gates orders number [] all = refl
   numbers-of gates orders number (s ∷ senders) all =
       let by = all.0.by in
-      let this : s.inner.book.by.0 - most_actors ≡ number = omega (arith, by) in
+      let this : s.inner.send_log.by.0 - most_actors ≡ number = omega (arith, by) in
       λ i. this i ∷ numbers-of gates orders (number + 1) senders all.1 i
 
   numbered : (gates : Gates (Box Contents)) (orders : ℕ → List Order) (number limit : ℕ) (senders : List (Sender A K))
       → HaveSentAll gates orders number senders → number + length senders ≤ limit
-      → All (λ (s : Sender A K). (most_actors ≤ s.inner.book.by.0) × (s.inner.book.by.0 < most_actors + limit)) senders
+      → All (λ (s : Sender A K). (most_actors ≤ s.inner.send_log.by.0) × (s.inner.send_log.by.0 < most_actors + limit)) senders
   numbered gates orders number limit [] all le =
-      All-nil (λ (s : Sender A K). (most_actors ≤ s.inner.book.by.0) × (s.inner.book.by.0 < most_actors + limit))
+      All-nil (λ (s : Sender A K). (most_actors ≤ s.inner.send_log.by.0) × (s.inner.send_log.by.0 < most_actors + limit))
   numbered gates orders number limit (s ∷ senders) all le =
       let by = all.0.by in
-      All-cons (λ (s : Sender A K). (most_actors ≤ s.inner.book.by.0) × (s.inner.book.by.0 < most_actors + limit)) s senders
+      All-cons (λ (s : Sender A K). (most_actors ≤ s.inner.send_log.by.0) × (s.inner.send_log.by.0 < most_actors + limit)) s senders
       (omega (arith, by), omega (arith, by, le)) (numbered gates orders (number + 1) limit senders all.1 (omega (arith, le)))
 
   -- what is ready belongs together, and nothing is missing

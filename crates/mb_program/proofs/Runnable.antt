@@ -6,35 +6,33 @@ use Rattle.std.proofs.lemmas.Bool.Decides.{nat_tests}
 use Rattle.std.proofs.lemmas.List.{length-map}
 use Rattle.std.proofs.lemmas.List.Elements.{All-cons, All-head, All-nil, All-tail}
 use Rattle.toml.specs.Data.{Data, Items, Members, get_member}
-use Rattle.mb_format.specs.Check.{all_kin, document_check, items_in}
-use Rattle.mb_format.specs.Value.{item_count}
+use Rattle.mb_schema.specs.Check.{actor_entries_of, document_check, items_in}
+use Rattle.mb_schema.specs.Value.{item_count}
 use Rattle.mb_msg.specs.declared.id.ActorId.{ActorId}
-use Rattle.mb_plan.specs.declared.actor_plan.ActorPlan.{ActorPlan}
-use Rattle.mb_plan.specs.declared.kind.Kind.{Kind}
-use Rattle.mb_plan.specs.declared.kind.Kind.TheVariants.{Unbounded, Bounded, Priority, Control}
-use Rattle.mb_plan.specs.declared.plan.Plan.{Plan}
+use Rattle.mb_msg.specs.declared.actor_plan.ActorPlan.{ActorPlan}
+use Rattle.mb_msg.specs.declared.mailbox_type.MailboxType.{MailboxType}
+use Rattle.mb_msg.specs.declared.mailbox_type.MailboxType.TheVariants.{Unbounded, Bounded, Priority, Control}
+use Rattle.mb_msg.specs.declared.plan.Plan.{Plan}
 use Rattle.mb_build.specs.Reasons.{bad_bounds, bad_numbers, bad_parents, may_be_bound, reasons, unless}
 use Rattle.mb_build.specs.declared.check.PlanError.{PlanError}
 use Rattle.mb_build.specs.declared.check.PlanError.TheVariants.{Actors, Boxes, Parent, Capacity, Senders, Workers, JournalLimit}
-use Rattle.mb_reader.specs.Fields.{map_items, number_or, small}
-use Rattle.mb_reader.specs.Plans.{PlanData, ScenarioData, name_of, planned_actor, plan_of, scenario_of, sends_in, workers_in}
-use Rattle.mb_reader.specs.Reading.{IsReadAs}
-use Rattle.mb_reader.specs.Scripts.{scripted_of}
-use Rattle.mb_reader.specs.Sends.{senders_of}
-use Rattle.mb_reader.specs.View.{actor_data, kind_data, plan_data}
-use Rattle.mb_reader.specs.declared.scenario.Sending.{Sending}
-use Rattle.mb_reader.specs.declared.scenario.What.{What}
-use Rattle.mb_reader.specs.declared.scenario.What.TheVariants.{Envelope, Stop}
+use Rattle.mb_scenario.specs.Fields.{map_items, number_or, small}
+use Rattle.mb_scenario.specs.Plans.{PlanData, ScenarioData, name_of, planned_actor, plan_of, scenario_of, sends_in, workers_in}
+use Rattle.mb_scenario.specs.Reading.{IsReadAs}
+use Rattle.mb_scenario.specs.Scripts.{scripted_of}
+use Rattle.mb_scenario.specs.Sends.{senders_of}
+use Rattle.mb_scenario.specs.View.{actor_data, kind_data, plan_data}
+use Rattle.mb_msg.specs.declared.order.SenderOrder.{SenderOrder}
+use Rattle.mb_msg.specs.declared.order.OrderKind.{OrderKind}
+use Rattle.mb_msg.specs.declared.order.OrderKind.TheVariants.{Tell, Stop}
 use Rattle.mb_script.specs.Script.{Scripted}
 use Rattle.mb_program.specs.Given.{AreSendable, CanRun, IsReceiver, IsSendable}
 use Rattle.mb_program.specs.Faults.{IsFaultOf}
-use Rattle.mb_program.specs.Orders.{what_of}
 use Rattle.mb_streams.specs.declared.fault.RunFault.{RunFault}
-use Rattle.mb_streams.specs.declared.fault.RunFault.TheVariants.{NoMemory, JournalFull, NotQuiet, Mismatch}
+use Rattle.mb_streams.specs.declared.program_error.ProgramError.TheVariants.{Run}
 use Rattle.mb_program.specs.Answer.{IsRefused}
-use Rattle.mb_streams.specs.Failure.{failure_of_run}
-use Rattle.mb_program.specs.Scripts.{gives_at}
-use Rattle.mb_reader.proofs.Passed.{AreActorData, IsActorData, IsBoundData, IsPassed, IsReceived, IsSendData, length-items, passed, senders-right}
+use Rattle.mb_program.specs.Scripts.{gives_by_scripts}
+use Rattle.mb_scenario.proofs.Passed.{AreActorData, IsActorData, IsBoundData, IsPassed, IsReceived, IsSendData, length-items, passed, senders-right}
 
 -- ---- no reason against the plan
 
@@ -62,7 +60,7 @@ no-parents id (a ∷ actors) are =
     none-of (unless (nat_lt a.parent.0 id) (Parent (record { 0 = id }))) (bad_parents (id + 1) actors)
     (ruled-out (nat_lt a.parent.0 id) (Parent (record { 0 = id })) (below a.parent.0 id are.0.0)) (no-parents (id + 1) actors are.1)
 
-bound : (kind : Kind) → IsBoundData (kind_data kind) → may_be_bound kind ≡ true
+bound : (kind : MailboxType) → IsBoundData (kind_data kind) → may_be_bound kind ≡ true
 bound Unbounded is = refl
 bound (Bounded capacity) is = within 1 capacity 65536 is.0 is.1
 bound (Priority rows other) is = refl
@@ -94,17 +92,17 @@ no-reasons plan actors few as_many are senders least most limit =
 
 -- ---- what is sent
 
-receiver : (actors : ℕ) (to : ActorId) (what : What) → IsReceived actors to what → IsReceiver actors to (what_of what)
-receiver actors to (Envelope body) is = is
+receiver : (actors : ℕ) (to : ActorId) (what : OrderKind) → IsReceived actors to what → IsReceiver actors to what
+receiver actors to (Tell body) is = is
 receiver actors to Stop is = is
 
-sendable : (actors senders : ℕ) (sends : List Sending) → All (IsSendData actors) sends → All (λ (s : Sending). s.from < senders) sends
+sendable : (actors senders : ℕ) (sends : List SenderOrder) → All (IsSendData actors) sends → All (λ (s : SenderOrder). s.from < senders) sends
     → AreSendable senders actors sends
 sendable actors senders [] all from = All-nil (IsSendable senders actors)
 sendable actors senders (s ∷ sends) all from =
     All-cons (IsSendable senders actors) s sends
-    (All-head (λ (s : Sending). s.from < senders) s sends from, receiver actors s.to s.what (All-head (IsSendData actors) s sends all).1)
-    (sendable actors senders sends (All-tail (IsSendData actors) s sends all) (All-tail (λ (s : Sending). s.from < senders) s sends from))
+    (All-head (λ (s : SenderOrder). s.from < senders) s sends from, receiver actors s.order.to s.order.what (All-head (IsSendData actors) s sends all).1)
+    (sendable actors senders sends (All-tail (IsSendData actors) s sends all) (All-tail (λ (s : SenderOrder). s.from < senders) s sends from))
 
 -- ---- the scenario
 
@@ -116,8 +114,8 @@ of-document top plan none planned =
     let right = senders-right (1 + item_count items) (sends_in top) is.sends in
     let actors : map actor_data plan.actors.items ≡ (plan_of top).actors = ap (λ (p : PlanData). p.actors) planned in
     let many : length plan.actors.items ≡ item_count items = sym (length-map plan.actors.items actor_data) ∙ ap length actors
-    ∙ length-items (planned_actor (all_kin items)) items in
-    let scripts : length (scenario_of top).scripts ≡ item_count items = length-items (scripted_of (all_kin items)) items in
+    ∙ length-items (planned_actor (actor_entries_of items)) items in
+    let scripts : length (scenario_of top).scripts ≡ item_count items = length-items (scripted_of (actor_entries_of items)) items in
     let senders : plan.senders ≡ small (senders_of (sends_in top)) = ap (λ (p : PlanData). p.senders) planned in
     let workers : plan.workers ≡ max 1 (workers_in top) = ap (λ (p : PlanData). p.workers) planned in
     let limit : plan.journal_limit ≡ number_or 4294967295 (get_member (codes "journal_limit") top) =
@@ -133,7 +131,7 @@ of-document top plan none planned =
       sendable =
           sendable (length plan.actors.items + 1) plan.senders (sends_in top)
           (subst (λ n. All (IsSendData n) (sends_in top)) (omega (arith, many)) is.sends)
-          (subst (λ n. All (λ (s : Sending). s.from < n) (sends_in top)) (sym senders) right.1);
+          (subst (λ n. All (λ (s : SenderOrder). s.from < n) (sends_in top)) (sym senders) right.1);
     }
 
 -- a scenario that was read can be run
@@ -151,13 +149,10 @@ as-many-names text scenario plan names read planned named =
     let is : scenario ≡ scenario_of read.0 = read.2.1 in
     let items = items_in (get_member (codes "actor") read.0) in
     sym (length-map plan.actors.items actor_data) ∙ ap (λ (p : PlanData). length p.actors) (planned ∙ ap (λ (s : ScenarioData). s.plan) is)
-    ∙ length-items (planned_actor (all_kin items)) items ∙ sym (length-items name_of items)
+    ∙ length-items (planned_actor (actor_entries_of items)) items ∙ sym (length-items name_of items)
     ∙ sym (ap length (named ∙ ap (λ (s : ScenarioData). s.names) is))
 
 -- a fault of the run of a scenario that was read is why there is no report of it
 pub refused-run : (text : List ℕ) (scenario : ScenarioData) (plan : Plan) (fault : RunFault) → IsReadAs text scenario
-    → plan_data plan ≡ scenario.plan → IsFaultOf (gives_at scenario.scripts) plan fault → IsRefused text (failure_of_run fault)
-refused-run text scenario plan NoMemory read planned is = tt
-refused-run text scenario plan JournalFull read planned is = (scenario, read, record { plan = plan; planned = planned; fault_of = is })
-refused-run text scenario plan (NotQuiet id) read planned is = (scenario, read, record { plan = plan; planned = planned; fault_of = is })
-refused-run text scenario plan Mismatch read planned is = (scenario, read, record { plan = plan; planned = planned; fault_of = is })
+    → plan_data plan ≡ scenario.plan → IsFaultOf (gives_by_scripts scenario.scripts) plan fault → IsRefused text (Run fault)
+refused-run text scenario plan fault read planned is = (scenario, read, record { plan = plan; planned = planned; fault_of = is })

@@ -1,6 +1,6 @@
 -- What senders have sent, one after another.
 use Rattle.std.proofs.Common.{◌≡◌, ℕ, zero, suc, ◌+◌, ◌<◌, ◌≤◌, List, [], ◌∷◌, ◌++◌, length, refl, sym, ap, ◌∙◌, subst, arith, Some}
-use Rattle.std.proofs.Common.{replicate, get_or, set, take, zero-add}
+use Rattle.std.proofs.Common.{get_or, set, take, zero-add}
 use Rattle.std.specs.Prelude.{All, pos, slice_get}
 use Rattle.std.specs.Global.{Box}
 use Rattle.std.proofs.lemmas.List.{append-nil}
@@ -11,18 +11,18 @@ use Rattle.mb_gate.specs.declared.gates.Gates.{Gates}
 use Rattle.mb_home.specs.Contents.{Contents}
 use Rattle.mb_system.specs.Members.{IsSenderOf}
 use Rattle.mb_dispatch.specs.Orders.{HasSent}
-use Rattle.mb_dispatch.specs.declared.order.Order.{Order}
+use Rattle.mb_msg.specs.declared.order.Order.{Order}
 use Rattle.mb_system.specs.declared.sender.Sender.{Sender}
 use Rattle.mb_dispatch.proofs.Sending.{sent-then}
-use Rattle.mb_reader.specs.declared.scenario.Sending.{Sending as Planned}
-use Rattle.mb_reader.specs.declared.scenario.What.TheVariants.{Envelope}
-use Rattle.mb_program.specs.Orders.{order_of, orders_of}
+use Rattle.mb_msg.specs.declared.order.SenderOrder.{SenderOrder}
+use Rattle.mb_msg.specs.declared.order.OrderKind.TheVariants.{Tell}
+use Rattle.mb_program.specs.Orders.{orders_of}
 use Rattle.mb_program.specs.Senders.{HasSentAll, HaveSentAll}
-use Rattle.mb_program.proofs.OrderLemmas.{each_time, orders-next, orders-other, orders-own}
+use Rattle.mb_program.proofs.OrderLemmas.{orders-next, orders-other, orders-own}
 
 -- a send of nothing, which stands where a list has none
-abbrev pub no-sending : Planned
-no-sending = record { from = 0; to = record { 0 = 0 }; what = Envelope (User 0 (pos 0)); times = 0 }
+abbrev pub no-sending : SenderOrder
+no-sending = record { from = 0; order = record { to = record { 0 = 0 }; what = Tell (User 0 (pos 0)); times = 0 } }
 
 module _ {A K : Type 0} where
   module _ (gates : Gates (Box Contents)) where
@@ -88,9 +88,9 @@ module _ {A K : Type 0} where
         subst (λ n. HasSentAll gates n (orders n) s) (zero-add i) (sender-at orders 0 senders i s all there)
 
     -- a send more, by the sender in its place
-    pub sent-more : (sends : List Planned) (senders : List (Sender A K)) (k : ℕ) (d : Planned) (e t : Sender A K) → k < length sends
+    pub sent-more : (sends : List SenderOrder) (senders : List (Sender A K)) (k : ℕ) (d : SenderOrder) (e t : Sender A K) → k < length sends
         → (get_or sends k d).from < length senders → HaveSentAll gates (λ n. orders_of n (take k sends)) 0 senders
-        → HasSent (replicate (get_or sends k d).times (order_of (get_or sends k d))) (get_or senders (get_or sends k d).from e) t
+        → HasSent ((get_or sends k d).order ∷ []) (get_or senders (get_or sends k d).from e) t
         → IsSenderOf gates t.inner → HaveSentAll gates (λ n. orders_of n (take (k + 1) sends)) 0 (set senders (get_or sends k d).from t)
     sent-more sends senders k d e t in_sends lt all more ours =
         let send = get_or sends k d in
@@ -98,8 +98,8 @@ module _ {A K : Type 0} where
         let next : ℕ → List Order = λ n. orders_of n (take (k + 1) sends) in
         let s = get_or senders send.from e in
         let before = sender-here first senders send.from s all (slice_get-get_or senders send.from e lt) in
-        let after = all-then send.from (first send.from) (each_time send) s t before more ours in
-        let own : first send.from ++ each_time send ≡ next send.from =
+        let after = all-then send.from (first send.from) (send.order ∷ []) s t before more ours in
+        let own : first send.from ++ send.order ∷ [] ≡ next send.from =
         sym (orders-next send.from sends k d in_sends ∙ ap (λ l. first send.from ++ l) (orders-own send.from send refl)) in
         one-more first next 0 senders send.from t lt all
         (subst (λ n. HasSentAll gates n (next n) t) (sym (zero-add send.from)) (subst (λ o. HasSentAll gates send.from o t) own after))

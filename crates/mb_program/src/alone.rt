@@ -1,6 +1,6 @@
-//! A quiet run: all is sent first, in the order of the text, and then run on one thread.
-ghost use Rattle.std.specs.Prelude.{◌≡◌, [], IfErr, OnOk, length, replicate};
-ghost use Rattle.mb_gate.specs.Names.{actors_of};
+//! A run on one thread: all is sent first, in the order of the text, and then what there is to run is run.
+ghost use Rattle.std.specs.Prelude.{◌≡◌, [], ◌∷◌, IfErr, OnOk, length};
+ghost use Rattle.mb_gate.specs.Accessors.{actors_of};
 ghost use Rattle.mb_system.specs.Members.{IsSenderOf};
 ghost use Rattle.mb_dispatch.specs.Orders.{HasSent};
 ghost use Rattle.mb_program.specs.Broken.{IsBrokenOff};
@@ -11,10 +11,9 @@ ghost use Rattle.mb_program.specs.Senders.{HaveSentAll};
 ghost use Rattle.mb_streams.specs.declared.fault.RunFault.TheVariants.{NoMemory};
 
 use crate::fault::of_run;
-use crate::orders::order_of;
 use mb_actor::{Actor, Behaviours};
-use mb_dispatch::{Order, run_quietly, send_all};
-use mb_reader::Sending;
+use mb_dispatch::{run_quietly, send_all};
+use mb_msg::{Order, SenderOrder};
 use mb_streams::RunFault;
 use mb_system::{Built, Sender, System};
 use std::sync::Wait;
@@ -23,7 +22,7 @@ use std::sync::Wait;
 pub(crate) fn run_alone<A: Actor, K: Behaviours, R: Wait>(
     rt: &R,
     built: &mut Built<A, K>,
-    sends: &[Sending],
+    sends: &[SenderOrder],
 ) -> Result<(), RunFault>
     requires ready { IsReady (λ _. []) built.old }
     requires sendable { AreSendable built.old.system.senders (actors_of built.old.system.gates) sends.now }
@@ -38,12 +37,12 @@ pub(crate) fn run_alone<A: Actor, K: Behaviours, R: Wait>(
     Ok(())
 }
 
-/// Each send by its sender, in the order of the text.
+/// Has each sender send its own, in the order of the text.
 fn send_in_turn<A: Actor, K: Behaviours, R: Wait>(
     rt: &R,
     system: &System<A, K>,
     senders: &mut [Sender<A, K>],
-    sends: &[Sending],
+    sends: &[SenderOrder],
 ) -> Result<(), RunFault>
     requires unsent { HaveSentAll system.now.gates (λ _. []) 0 senders.old }
     requires sendable { AreSendable (length senders.old) (actors_of system.now.gates) sends.now }
@@ -51,31 +50,28 @@ fn send_in_turn<A: Actor, K: Behaviours, R: Wait>(
     ensures sent { OnOk result (HaveSentAll system.now.gates (λ number. orders_of number sends.now) 0 senders.new) }
     ensures fault { IfErr result (λ fault. fault ≡ NoMemory) }
 {
-    for sending in sends {
-        let sender = &mut senders[sending.from as usize];
-        send_often(rt, system, sender, order_of(sending), sending.times)?;
+    for send in sends {
+        let sender = &mut senders[send.from as usize];
+        send_one(rt, system, sender, send.order)?;
     }
     Ok(())
 }
 
-/// Sends this so many times.
-fn send_often<A: Actor, K: Behaviours, R: Wait>(
+/// Carries out one order.
+fn send_one<A: Actor, K: Behaviours, R: Wait>(
     rt: &R,
     system: &System<A, K>,
     sender: &mut Sender<A, K>,
     order: Order,
-    times: u32,
 ) -> Result<(), RunFault>
     requires ours { IsSenderOf system.now.gates sender.old.inner }
     requires there { IsOrderable (actors_of system.now.gates) order }
     ensures ours { IsSenderOf system.now.gates sender.new.inner }
-    ensures sent { OnOk result (HasSent (replicate times order) sender.old sender.new) }
+    ensures sent { OnOk result (HasSent (order ∷ []) sender.old sender.new) }
     ensures fault { IfErr result (λ fault. fault ≡ NoMemory) }
 {
-    for _ in 0..times {
-        if let Err(error) = send_all(rt, system, sender, &[order]) {
-            return Err(of_run(error));
-        }
+    if let Err(error) = send_all(rt, system, sender, &[order]) {
+        return Err(of_run(error));
     }
     Ok(())
 }

@@ -1,7 +1,8 @@
-//! The program as a function of its streams: a scenario is read, run, and its report written, or one line says why not.
+//! The program as a function of its streams: a scenario is read and run, and its report written; or one line says why not.
 //!
-//! A run of a scenario, with actors of any kind: a system is built of its plan and its actors, each sender sends what the scenario
-//! says of it, the workers run the mailboxes until nothing is left to run, and the report tells what all came to.
+//! A run of a scenario may have actors of any kind. A system is built from its plan and its actors, each sender sends what the
+//! scenario says of it, the workers run the mailboxes until nothing is left to run, and the report tells what became of
+//! everything.
 #![tactic(auto)]
 
 mod alone;
@@ -13,5 +14,5 @@ mod running;
 mod together;
 
 pub use drive::run_program;
-pub use mb_streams::{RunFault, Watched};
+pub use mb_streams::{RunFault, TrackedStream};
 pub use running::run;

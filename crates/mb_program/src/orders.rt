@@ -1,52 +1,32 @@
-//! What the sends of a scenario are to a sender.
+//! From the sends of a scenario to the orders of its senders.
 ghost use Rattle.std.specs.Prelude.{◌≡◌, ◌++◌, [], ◌∷◌, IfOk, OnOk};
-ghost use Rattle.mb_dispatch.specs.Orders.{repeated};
-ghost use Rattle.mb_program.specs.Orders.{order_of, orders_of};
+ghost use Rattle.mb_program.specs.Orders.{orders_of};
 
-use mb_dispatch::{Order, Repeat, What};
-use mb_reader::{Sending, What as Said};
+use mb_msg::{Order, SenderOrder};
 use std::alloc::{AllocError, Global};
 
-/// All that this sender is to send, in the order of the text: a row for each send, with how often it says.
-pub(crate) fn repeats_of(
+/// The orders of this sender, in the order of the text.
+pub(crate) fn orders_of(
     alloc: Global,
     from: u32,
-    sends: &[Sending],
-) -> Result<Vec<Repeat>, AllocError>
-    ensures { IfOk result (λ repeats. repeated repeats.items ≡ orders_of from sends.now) }
+    sends: &[SenderOrder],
+) -> Result<Vec<Order>, AllocError>
+    ensures { IfOk result (λ orders. orders.items ≡ orders_of from sends.now) }
 {
-    let mut repeats = Vec::new(alloc);
-    for sending in sends {
-        add_own(&mut repeats, from, sending)?;
+    let mut orders = Vec::new(alloc);
+    for send in sends {
+        add_own(&mut orders, from, send)?;
     }
-    Ok(repeats)
+    Ok(orders)
 }
 
 /// What one send is to this sender: nothing, where it is another's.
-fn add_own(repeats: &mut Vec<Repeat>, from: u32, sending: &Sending) -> Result<(), AllocError>
-    ensures { OnOk result (repeated repeats.new.items ≡ repeated repeats.old.items ++ orders_of from (sending.now ∷ [])) }
+fn add_own(orders: &mut Vec<Order>, from: u32, send: &SenderOrder) -> Result<(), AllocError>
+    ensures { OnOk result (orders.new.items ≡ orders.old.items ++ orders_of from (send.now ∷ [])) }
 {
-    if sending.from != from {
+    if send.from != from {
         return Ok(());
     }
-    let order = order_of(sending);
-    repeats.push(Repeat {
-        order,
-        times: sending.times,
-    })?;
+    orders.push(send.order)?;
     Ok(())
-}
-
-/// What is sent each time.
-pub(crate) fn order_of(sending: &Sending) -> Order
-    ensures { result ≡ order_of sending.now }
-{
-    let what = match sending.what {
-        Said::Envelope(body) => What::Tell(body),
-        Said::Stop => What::Stop,
-    };
-    Order {
-        to: sending.to,
-        what,
-    }
 }

@@ -1,10 +1,10 @@
-//! The whole run.
+//! A run, from the plan and its actors to the report.
 ghost use Rattle.std.specs.Prelude.{◌≡◌, ℕ, ◌+◌, IfErr, IfOk, OnOk, [], length};
-ghost use Rattle.mb_build.specs.Behaved.{AreBehaved};
-ghost use Rattle.mb_gate.specs.Names.{actors_of};
+ghost use Rattle.mb_build.specs.BehavesAsPlanned.{BehaveAsPlanned};
+ghost use Rattle.mb_gate.specs.Accessors.{actors_of};
 ghost use Rattle.mb_system.specs.Belonging.{BelongsTogether};
 ghost use Rattle.mb_shutdown.specs.Refused.{IsComplete, IsOfWhole};
-ghost use Rattle.mb_program.specs.Broken.{IsBrokenOff, IsToldAs, IsUnended};
+ghost use Rattle.mb_program.specs.Broken.{IsBrokenOff, IsFaultOfFinish, FailsToFinish};
 ghost use Rattle.mb_program.specs.Faults.{IsFaultOf};
 ghost use Rattle.mb_program.specs.Given.{AreSendable, CanRun};
 ghost use Rattle.mb_program.specs.Orders.{orders_of};
@@ -14,8 +14,7 @@ ghost use Rattle.mb_program.specs.Ready.{IsEnded, IsReady};
 use crate::alone::run_alone;
 use crate::together::run_together;
 use mb_actor::{Actor, Behaviours};
-use mb_plan::Plan;
-use mb_reader::Sending;
+use mb_msg::{Plan, SenderOrder};
 use mb_report::Report;
 use mb_shutdown::{FinishError, finish};
 use mb_startup::{BuildError, build};
@@ -35,11 +34,11 @@ pub fn run<A: Actor + Send, K: Behaviours + Send, R: Threads + Wait + Sync>(
     alloc: Global,
     plan: Plan,
     actors: Vec<A>,
-    sends: &[Sending],
+    sends: &[SenderOrder],
     is_quiet: bool,
 ) -> Result<Report, RunFault>
     requires can_run { CanRun plan (length actors.items) sends.now }
-    requires behaved { AreBehaved A.content A.after A.gives K.after K.gives 1 actors.items }
+    requires behaved { BehaveAsPlanned A.content A.after A.gives K.after K.gives 1 actors.items }
     ensures ran { IfOk result (HasRun K.after K.gives plan sends.now) }
     ensures many { IfOk result (λ report. length report.actors.items ≡ length plan.actors.items + 1) }
     ensures fault { IfErr result (IsFaultOf K.gives plan) }
@@ -58,7 +57,7 @@ fn send_and_run<A: Actor + Send, K: Behaviours + Send, R: Threads + Wait + Sync>
     rt: &R,
     alloc: Global,
     built: &mut Built<A, K>,
-    sends: &[Sending],
+    sends: &[SenderOrder],
     is_quiet: bool,
 ) -> Result<(), RunFault>
     requires ready { IsReady (λ _. []) built.old }
@@ -73,7 +72,7 @@ fn send_and_run<A: Actor + Send, K: Behaviours + Send, R: Threads + Wait + Sync>
     run_together(rt, alloc, built, sends)
 }
 
-/// The report of a system that was run.
+/// Ends a system that was run: its report.
 fn report_of<A: Actor, K: Behaviours, R: Wait>(
     rt: &R,
     built: Built<A, K>,
@@ -81,7 +80,7 @@ fn report_of<A: Actor, K: Behaviours, R: Wait>(
     requires together { BelongsTogether built }
     requires complete { IsComplete built }
     ensures ended { IfOk result (IsEnded K.after K.gives built) }
-    ensures fault { IfErr result (IsUnended K.gives built) }
+    ensures fault { IfErr result (FailsToFinish K.gives built) }
 {
     match finish(rt, built) {
         Ok(report) => Ok(report),
@@ -92,7 +91,7 @@ fn report_of<A: Actor, K: Behaviours, R: Wait>(
 /// How it is told that there is no report of a system of which nothing is missing.
 fn fault_of<A: Actor, K: Behaviours>(error: &FinishError<A, K>) -> RunFault
     requires { (actors : ℕ) × IsOfWhole actors error.now }
-    ensures { IsToldAs error.now result }
+    ensures { IsFaultOfFinish error.now result }
 {
     match error {
         FinishError::NotQuiet(id, _) => RunFault::NotQuiet(*id),

@@ -1,6 +1,6 @@
 //! A run on threads: each sender has a job, with its sends in the order of the text, beside the workers.
 ghost use Rattle.std.specs.Prelude.{◌≡◌, ◌≤◌, [], IfErr, IfOk, OnOk, length, map};
-ghost use Rattle.mb_gate.specs.Names.{actors_of};
+ghost use Rattle.mb_gate.specs.Accessors.{actors_of};
 ghost use Rattle.mb_program.specs.Broken.{IsBrokenOff};
 ghost use Rattle.mb_program.specs.Given.{AreSendable};
 ghost use Rattle.mb_program.specs.Orders.{orders_of};
@@ -8,10 +8,10 @@ ghost use Rattle.mb_program.specs.Ready.{IsReady};
 ghost use Rattle.mb_program.specs.Senders.{AreJobs};
 
 use crate::fault::of_run;
-use crate::orders::repeats_of;
+use crate::orders::orders_of;
 use mb_actor::{Actor, Behaviours};
 use mb_dispatch::{Job, run};
-use mb_reader::Sending;
+use mb_msg::SenderOrder;
 use mb_streams::RunFault;
 use mb_system::{Built, Sender};
 use std::alloc::{AllocError, Global};
@@ -19,12 +19,12 @@ use std::mem;
 use std::sync::Wait;
 use std::thread::Threads;
 
-/// Runs the workers while the senders send. The senders are away while they have jobs, and after a fault they stay away.
+/// Runs the workers while the senders send. The senders are in their jobs meanwhile; after an error they stay there.
 pub(crate) fn run_together<A: Actor + Send, K: Behaviours + Send, R: Threads + Wait + Sync>(
     rt: &R,
     alloc: Global,
     built: &mut Built<A, K>,
-    sends: &[Sending],
+    sends: &[SenderOrder],
 ) -> Result<(), RunFault>
     requires ready { IsReady (λ _. []) built.old }
     requires sendable { AreSendable built.old.system.senders (actors_of built.old.system.gates) sends.now }
@@ -46,14 +46,14 @@ pub(crate) fn run_together<A: Actor + Send, K: Behaviours + Send, R: Threads + W
 fn jobs_of<A: Actor, K: Behaviours>(
     alloc: Global,
     senders: Vec<Sender<A, K>>,
-    sends: &[Sending],
+    sends: &[SenderOrder],
 ) -> Result<Vec<Job<A, K>>, AllocError>
     requires few { length senders.items ≤ 16 }
     ensures { IfOk result (λ jobs. AreJobs (λ number. orders_of number sends.now) 0 senders.items jobs.items) }
 {
     let mut jobs = Vec::with_capacity(alloc, senders.len())?;
     for sender in senders {
-        let sends = repeats_of(alloc, jobs.len() as u32, sends)?;
+        let sends = orders_of(alloc, jobs.len() as u32, sends)?;
         jobs.push(Job { sender, sends })?;
     }
     Ok(jobs)

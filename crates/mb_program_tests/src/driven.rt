@@ -1,5 +1,5 @@
 //! Whole runs, from bytes to bytes.
-use mb_program::{Watched, run_program};
+use mb_program::{TrackedStream, run_program};
 use std::alloc::Global;
 use std::io::Read;
 use std::process::Abort;
@@ -45,9 +45,9 @@ pub fn ran<T: Threads + Wait + Sync>(
         rt,
         alloc,
         arguments,
-        &mut Watched::new(reader),
-        &mut Watched::new(&mut written),
-        &mut Watched::new(&mut errors),
+        &mut TrackedStream::new(reader),
+        &mut TrackedStream::new(&mut written),
+        &mut TrackedStream::new(&mut errors),
     );
     (status, written, errors)
 }
@@ -62,7 +62,7 @@ pub fn driven<T: Threads + Wait + Sync>(
     ran(rt, alloc, 0, &mut rest)
 }
 
-/// Sees to it that the text is refused with the status 2 and this line, and nothing written.
+/// Checks that the text is refused with the status 2 and this line, and that nothing is written.
 pub fn is_refused<T: Abort + Threads + Wait + Sync>(
     rt: &T,
     alloc: Global,

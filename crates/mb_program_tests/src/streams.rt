@@ -1,6 +1,6 @@
-//! What streams that fail lead to.
+//! What becomes of streams that fail.
 use crate::driven::{COUNT, COUNT_REPORT, ran};
-use mb_program::{Watched, run_program};
+use mb_program::{TrackedStream, run_program};
 use std::alloc::Global;
 use std::io;
 use std::io::{Read, Write};
@@ -8,7 +8,7 @@ use std::process::Abort;
 use std::sync::Wait;
 use std::thread::Threads;
 
-/// What is said of a text that is none of TOML.
+/// What is said of a text that is no TOML.
 const REFUSED: &[u8] = b"mailrun: 11 NotToml\n";
 
 /// A reader that gives one byte at a time, and fails once it was read so often.
@@ -132,9 +132,9 @@ fn with_room<T: Threads + Wait + Sync>(
         rt,
         alloc,
         0,
-        &mut Watched::new(&mut rest),
-        &mut Watched::new(&mut writer),
-        &mut Watched::new(&mut errors),
+        &mut TrackedStream::new(&mut rest),
+        &mut TrackedStream::new(&mut writer),
+        &mut TrackedStream::new(&mut errors),
     );
     (status, writer, errors)
 }
@@ -201,9 +201,9 @@ fn flushes(rt: HostRuntime) {
             &rt,
             rt.alloc(),
             0,
-            &mut Watched::new(&mut rest),
-            &mut Watched::new(&mut writer),
-            &mut Watched::new(&mut errors),
+            &mut TrackedStream::new(&mut rest),
+            &mut TrackedStream::new(&mut writer),
+            &mut TrackedStream::new(&mut errors),
         );
         assert_eq!(rt; status, u8::from(fails));
         assert_eq!(rt; writer.taken.as_slice(), COUNT_REPORT.as_bytes());

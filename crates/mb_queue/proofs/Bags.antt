@@ -8,10 +8,10 @@ use Rattle.std.proofs.lemmas.List.Elements.{All-append, All-head, All-tail}
 use Rattle.std.proofs.lemmas.List.Sorted.{All-permutation, sum_by-IsPermutation, IsPermutation-map}
 use Rattle.std.specs.List.{All}
 use Rattle.mb_msg.specs.declared.envelope.Envelope.{Envelope}
-use Rattle.mb_lane.specs.Ledger.{is_control, sent_by}
-use Rattle.mb_rank.specs.declared.ranks.RankRow.{RankRow}
-use Rattle.mb_rank.specs.declared.waiting.Arrival.{Arrival}
-use Rattle.mb_queue.specs.Kept.{envelopes_of}
+use Rattle.mb_queue.specs.Ledger.{is_control, sent_by}
+use Rattle.mb_msg.specs.declared.mailbox_type.RankRow.{RankRow}
+use Rattle.mb_queue.specs.declared.waiting.Arrival.{Arrival}
+use Rattle.mb_queue.specs.Representation.{envelopes_of}
 use Rattle.mb_queue.specs.Parts.{controls, others}
 use Rattle.mb_queue.specs.Takes.{IsSameBag, arrivals_from, Chooses}
 
@@ -44,7 +44,7 @@ module _ (p q : Envelope → Bool) where
       ∙ sym (sum_by-cons (λ y. cond (q y && p y) 1 0) x xs)
 
 module _ (sender : ℕ) (pushed : List Envelope) where
-  -- all that was pushed came out in order, of each part
+  -- all that was pushed was taken in order, of each part
   pub once_of_whole : (taken : List Envelope) → pushed ≡ sent_by sender taken → IsSameBag pushed (sent_by sender taken)
   once_of_whole taken is test = ap (count_by test) is
 

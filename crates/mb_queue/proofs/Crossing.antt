@@ -4,12 +4,12 @@ use denote.Param.SendFields.{declared_send, variants_send}
 use Rattle.std.proofs.Crossing.{crosses as std_crosses}
 use Rattle.std.proofs.option.Option.TheSendSync as option
 use Rattle.mb_msg.proofs.id.SenderId.TheSendSync as sender_id
-use Rattle.mb_lane.proofs.port.Port.TheSendSync as port
-use Rattle.mb_lane.proofs.Crossing.{log_send}
-use Rattle.mb_rank.proofs.ranks.Ranks.TheSendSync as ranks
-use Rattle.mb_rank.proofs.Crossing.{waiting_send}
-use Rattle.mb_queue.specs.contracts.choice.Choice as choice
-use Rattle.mb_queue.specs.contracts.order.Order as order
+use Rattle.mb_queue.proofs.port.Port.TheSendSync as port
+use Rattle.mb_ghost.proofs.Crossing.{log_send}
+use Rattle.mb_queue.proofs.ranks.Ranks.TheSendSync as ranks
+use Rattle.mb_queue.proofs.RankCrossing.{waiting_send}
+use Rattle.mb_queue.specs.contracts.priority_state.PriorityState as choice
+use Rattle.mb_queue.specs.contracts.take_order.TakeOrder as order
 use Rattle.mb_queue.specs.contracts.send_pass.SendPass as send_pass
 use Rattle.mb_queue.specs.contracts.send_pass.SendPass.TheInside as send_inside
 use Rattle.mb_queue.specs.contracts.take_pass.TakePass as take_pass

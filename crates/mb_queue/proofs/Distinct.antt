@@ -1,4 +1,4 @@
--- Of distinct senders each account is at home until it is lent.
+-- Where senders are distinct, the taker has each account until it is lent.
 use Rattle.std.proofs.Common.{◌≡◌, ◌≢◌, ◌==◌, ℕ, ◌+◌, ◌<◌, Bool, false, cond, List, [], ◌∷◌, ◌++◌, map, take, length, get_or, refl, sym, ap, ◌∙◌}
 use Rattle.std.proofs.Common.{arith, Option, Some, None}
 use Rattle.std.specs.List.{All, AllPairs, Contains}
@@ -7,7 +7,7 @@ use Rattle.std.proofs.lemmas.List.{get_or-map, get_or-take, length-map, length-t
 use Rattle.std.proofs.lemmas.List.Elements.{All-tail}
 use Rattle.mb_msg.specs.declared.id.SenderId.{SenderId}
 use Rattle.mb_msg.specs.declared.envelope.Envelope.{Envelope}
-use Rattle.mb_lane.specs.Ledger.{account, account_after, lent}
+use Rattle.mb_queue.specs.Ledger.{account, account_after, lent}
 use Rattle.mb_queue.specs.Made.{numbers_of}
 
 not_lent : (before : Option (List Envelope)) (others : List ℕ) (s : ℕ) → All (λ x. x ≢ s) others → account_after before (map lent others) s ≡ before

@@ -7,15 +7,15 @@ use Rattle.std.proofs.lemmas.Bool.Decides.{nat_tests}
 use Rattle.std.proofs.lemmas.List.{append-nil}
 use Rattle.std.proofs.lemmas.List.Sums.{sum_by-append, sum_by-cons}
 use Rattle.mb_msg.specs.declared.envelope.Envelope.{Envelope}
-use Rattle.mb_lane.specs.declared.ledger.Account.{Account}
-use Rattle.mb_lane.specs.Ledger.{account, is_control, sent_by}
-use Rattle.mb_lane.specs.Port.{Known}
-use Rattle.mb_lane.proofs.Lists.{sent_by-mine}
-use Rattle.mb_queue.specs.declared.choice.Choice.{Choice}
-use Rattle.mb_queue.specs.declared.order.Order.{Order}
-use Rattle.mb_queue.specs.declared.order.Order.TheVariants.{FirstInFirstOut, ControlFirst, ByRank}
+use Rattle.mb_queue.specs.declared.ledger.Account.{Account}
+use Rattle.mb_queue.specs.Ledger.{account, is_control, sent_by}
+use Rattle.mb_queue.specs.Port.{LanePort}
+use Rattle.mb_queue.proofs.Lists.{sent_by-mine}
+use Rattle.mb_queue.specs.declared.priority_state.PriorityState.{PriorityState}
+use Rattle.mb_queue.specs.declared.take_order.TakeOrder.{TakeOrder}
+use Rattle.mb_queue.specs.declared.take_order.TakeOrder.TheVariants.{FirstInFirstOut, ControlFirst, ByRank}
 use Rattle.mb_queue.specs.Fates.{NothingLeft}
-use Rattle.mb_queue.specs.Kept.{IsTaking, envelopes_of, gone_of, taking_of, waiting_of}
+use Rattle.mb_queue.specs.Representation.{IsTaking, envelopes_of, gone_of, taking_of, waiting_of}
 use Rattle.mb_queue.specs.Parts.{controls, others}
 use Rattle.mb_queue.specs.Steps.{Begins, IsStep, RankTakes}
 use Rattle.mb_queue.specs.Takes.{AllBegin, AllOut, IsSameBag}
@@ -81,9 +81,9 @@ pushed_of : (o : Option (List Envelope)) → IsSome o → (pushed : List Envelop
 pushed_of None is = absurd (false≢true is)
 pushed_of (Some pushed) is = (pushed, refl)
 
-module _ (main : Known) (taken : List Envelope) (accounts : List Account) (choice : Choice)
+module _ (main : LanePort) (taken : List Envelope) (accounts : List Account) (choice : PriorityState)
     (kept : IsTaking main (ByRank choice) taken accounts) where
-  rank_emptied : (sender : ℕ) (pushed : List Envelope) (e : Envelope) (choice' : Choice) (main' : Known) → choice.waiting ≡ []
+  rank_emptied : (sender : ℕ) (pushed : List Envelope) (e : Envelope) (choice' : PriorityState) (main' : LanePort) → choice.waiting ≡ []
       → IsSameBag pushed (sent_by sender taken) → account accounts sender ≡ Some pushed → sender ≡ e.by.0
       → RankTakes choice main (Some e) choice' main' → ⊥
   rank_emptied sender pushed e choice' main' none bag is by step =
@@ -101,7 +101,7 @@ module _ (main : Known) (taken : List Envelope) (accounts : List Account) (choic
       m.begins
 
 -- once nothing is left, no take gives an envelope
-pub emptied : (main : Known) (order : Order) (taken : List Envelope) (accounts : List Account) (e : Envelope) (main' : Known) (order' : Order)
+pub emptied : (main : LanePort) (order : TakeOrder) (taken : List Envelope) (accounts : List Account) (e : Envelope) (main' : LanePort) (order' : TakeOrder)
     → IsTaking main order taken accounts → IsStep main order (Some e) main' order' → NothingLeft (taking_of main order taken accounts) → ⊥
 emptied main FirstInFirstOut taken accounts e main' order' kept step nothing =
     let known = given_known main FirstInFirstOut taken accounts e main' order' kept step in
@@ -121,7 +121,7 @@ emptied main (ByRank choice) taken accounts e main' order' kept step nothing =
     rank_emptied main taken accounts choice kept e.by.0 p.0 e step.0 main' nothing.2 (nothing.1 e.by.0 p.0 p.1) p.1 refl step.2
 
 -- none is held after None
-pub none_held : (main : Known) (order : Order) (main' : Known) (order' : Order) → IsStep main order None main' order' → waiting_of order' ≡ []
+pub none_held : (main : LanePort) (order : TakeOrder) (main' : LanePort) (order' : TakeOrder) → IsStep main order None main' order' → waiting_of order' ≡ []
 none_held main FirstInFirstOut main' order' step = ap waiting_of step.0
 none_held main (ControlFirst control) main' order' step = ap waiting_of step.1
 none_held main (ByRank choice) main' order' step = ap waiting_of step.1 ∙ step.2.choice.1

@@ -1,27 +1,27 @@
--- A send pass is taken in, with its account.
+-- Joining a send pass, with its account.
 use Rattle.std.proofs.Common.{◌≡◌, ℕ, List, [], ◌∷◌, ◌++◌, sym, ap, ◌∙◌, subst, Some, None, option_map, length}
 use Rattle.std.specs.List.{All}
 use Rattle.std.proofs.lemmas.List.{map-append}
 use Rattle.mb_msg.specs.declared.envelope.Envelope.{Envelope}
-use Rattle.mb_lane.specs.declared.ledger.Account.{Account}
-use Rattle.mb_lane.specs.declared.ledger.Ledger.TheVariants.{Sender}
-use Rattle.mb_lane.specs.declared.ledger.Part.{Part}
-use Rattle.mb_lane.specs.declared.ledger.Part.TheVariants.{Whole, Controls, Others}
-use Rattle.mb_lane.specs.declared.ledger.Scope.{Scope}
-use Rattle.mb_lane.specs.Ledger.{home, joining}
-use Rattle.mb_lane.specs.Port.{Known}
-use Rattle.mb_lane.specs.Rule.{Belongs}
-use Rattle.mb_queue.specs.declared.choice.Choice.{Choice}
-use Rattle.mb_queue.specs.declared.order.Order.TheVariants.{FirstInFirstOut, ControlFirst, ByRank}
-use Rattle.mb_queue.specs.Kept.{IsSending, IsTaking, Took, envelopes_of, gone_of, scope_in}
+use Rattle.mb_queue.specs.declared.ledger.Account.{Account}
+use Rattle.mb_queue.specs.declared.ledger.Ledger.TheVariants.{Sender}
+use Rattle.mb_queue.specs.declared.ledger.QueuePart.{QueuePart}
+use Rattle.mb_queue.specs.declared.ledger.QueuePart.TheVariants.{Whole, Controls, Others}
+use Rattle.mb_queue.specs.declared.ledger.Scope.{Scope}
+use Rattle.mb_queue.specs.Ledger.{home, joining}
+use Rattle.mb_queue.specs.Port.{LanePort}
+use Rattle.mb_queue.specs.Rule.{Belongs}
+use Rattle.mb_queue.specs.declared.priority_state.PriorityState.{PriorityState}
+use Rattle.mb_queue.specs.declared.take_order.TakeOrder.TheVariants.{FirstInFirstOut, ControlFirst, ByRank}
+use Rattle.mb_queue.specs.Representation.{IsSending, IsTaking, Took, envelopes_of, gone_of, scope_in}
 use Rattle.mb_queue.specs.Parts.{accounts_of, controls, others}
 use Rattle.mb_queue.specs.Takes.{IsSameBag}
 use Rattle.mb_queue.proofs.Taken.{settled}
 
-abbrev pub joined : Known → Known → Known
+abbrev pub joined : LanePort → LanePort → LanePort
 joined port own = record port { ledger = joining port.ledger own.ledger }
 
-joined_took : (scope scope' : Scope) (part : Part) (out pushed : List Envelope) (accounts : List Account) (by : ℕ) (port own : Known)
+joined_took : (scope scope' : Scope) (part : QueuePart) (out pushed : List Envelope) (accounts : List Account) (by : ℕ) (port own : LanePort)
     → Took port scope part out accounts → own.ledger ≡ Sender scope' by pushed
     → Took (joined port own) scope part out (accounts ++ home by pushed ∷ [])
 joined_took scope scope' part out pushed accounts by port own took sent i = joining (took i) (sent i)
@@ -31,7 +31,7 @@ joined_part : (part : List Envelope → List Envelope) (by : ℕ) (pushed : List
 joined_part part by pushed accounts = sym
     (map-append (λ (a : Account). record { by = a.by; pushed = option_map part a.pushed }) accounts (home by pushed ∷ []))
 
-module _ (main own : Known) (taken : List Envelope) (accounts : List Account) (by : ℕ) (pushed : List Envelope) where
+module _ (main own : LanePort) (taken : List Envelope) (accounts : List Account) (by : ℕ) (pushed : List Envelope) where
   abbrev all : List Account
   all = accounts ++ home by pushed ∷ []
 
@@ -41,7 +41,7 @@ module _ (main own : Known) (taken : List Envelope) (accounts : List Account) (b
       settled (scope_in main.ledger) Whole taken all (joined main own)
       (joined_took (scope_in main.ledger) _ Whole taken pushed accounts by main own kept sent)
 
-  pub control_joined : (control his : Known) → IsTaking main (ControlFirst control) taken accounts → IsSending by own (Some his) pushed
+  pub control_joined : (control his : LanePort) → IsTaking main (ControlFirst control) taken accounts → IsSending by own (Some his) pushed
       → IsTaking (joined main own) (ControlFirst (joined control his)) taken all
   control_joined control his kept sent =
       let scope = scope_in main.ledger in
@@ -55,7 +55,7 @@ module _ (main own : Known) (taken : List Envelope) (accounts : List Account) (b
         kept.3,
       )
 
-  pub rank_joined : (choice : Choice) → IsTaking main (ByRank choice) taken accounts → IsSending by own None pushed
+  pub rank_joined : (choice : PriorityState) → IsTaking main (ByRank choice) taken accounts → IsSending by own None pushed
       → IsTaking (joined main own) (ByRank choice) taken all
   rank_joined choice kept sent =
       let scope = scope_in main.ledger in let gone = gone_of main.ledger in

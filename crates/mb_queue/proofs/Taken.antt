@@ -4,35 +4,35 @@ use Rattle.std.proofs.Common.{None, option_map}
 use Rattle.std.proofs.lemmas.List.{append-nil}
 use Rattle.std.proofs.lemmas.List.Elements.{filter-append}
 use Rattle.mb_msg.specs.declared.envelope.Envelope.{Envelope}
-use Rattle.mb_lane.specs.declared.ledger.Account.{Account}
-use Rattle.mb_lane.specs.declared.ledger.Ledger.TheVariants.{Taker}
-use Rattle.mb_lane.specs.declared.ledger.Part.{Part}
-use Rattle.mb_lane.specs.declared.ledger.Scope.{Scope}
-use Rattle.mb_lane.specs.Ledger.{account, account_after, taking}
-use Rattle.mb_lane.specs.Port.{Known}
-use Rattle.mb_lane.specs.Rule as lane
-use Rattle.mb_queue.specs.Kept.{Took, parted, scope_in}
+use Rattle.mb_queue.specs.declared.ledger.Account.{Account}
+use Rattle.mb_queue.specs.declared.ledger.Ledger.TheVariants.{Taker}
+use Rattle.mb_queue.specs.declared.ledger.QueuePart.{QueuePart}
+use Rattle.mb_queue.specs.declared.ledger.Scope.{Scope}
+use Rattle.mb_queue.specs.Ledger.{account, account_after, taking}
+use Rattle.mb_queue.specs.Port.{LanePort}
+use Rattle.mb_queue.specs.Rule as lane
+use Rattle.mb_queue.specs.Representation.{Took, parted, scope_in}
 use Rattle.mb_queue.specs.Parts.{accounts_of}
 use Rattle.mb_queue.specs.Steps.{TakesOf}
 use Rattle.mb_queue.specs.Takes.{AllBegin, AllOut}
 
-module _ (scope : Scope) (part : Part) (out : List Envelope) (accounts : List Account) where
+module _ (scope : Scope) (part : QueuePart) (out : List Envelope) (accounts : List Account) where
   -- the scope is the one that the port says
-  pub settled : (port : Known) → Took port scope part out accounts → Took port (scope_in port.ledger) part out accounts
+  pub settled : (port : LanePort) → Took port scope part out accounts → Took port (scope_in port.ledger) part out accounts
   settled port took = took ∙ ap (λ l. Taker (parted l part) out accounts) (sym (ap scope_in took))
 
-  pub took_next : (port : Known) (e : Envelope) (port' : Known) → Took port scope part out accounts → TakesOf port (Some e) port'
+  pub took_next : (port : LanePort) (e : Envelope) (port' : LanePort) → Took port scope part out accounts → TakesOf port (Some e) port'
       → Took port' scope part (out ++ e ∷ []) accounts
-  took_next port e port' took step = ap (λ (p : Known). p.ledger) step.0 ∙ ap (λ l. taking l e) took
+  took_next port e port' took step = ap (λ (p : LanePort). p.ledger) step.0 ∙ ap (λ l. taking l e) took
 
-  pub found_next : (port : Known) (e : Envelope) (port' : Known) → Took port scope part out accounts → TakesOf port (Some e) port'
-      → lane.Belongs (parted scope part) e × lane.AllBegin accounts (out ++ e ∷ [])
+  pub found_next : (port : LanePort) (e : Envelope) (port' : LanePort) → Took port scope part out accounts → TakesOf port (Some e) port'
+      → lane.Belongs (parted scope part) e × lane.LaneAllBegin accounts (out ++ e ∷ [])
   found_next port e port' took step = subst (λ l. lane.FoundNext l e) took step.1
 
-  pub took_none : (port port' : Known) → Took port scope part out accounts → TakesOf port None port' → Took port' scope part out accounts
-  took_none port port' took step = ap (λ (p : Known). p.ledger) step.0 ∙ took
+  pub took_none : (port port' : LanePort) → Took port scope part out accounts → TakesOf port None port' → Took port' scope part out accounts
+  took_none port port' took step = ap (λ (p : LanePort). p.ledger) step.0 ∙ took
 
-  pub found_empty : (port : Known) → Took port scope part out accounts → lane.FoundEmpty port.ledger → lane.AllOut accounts out
+  pub found_empty : (port : LanePort) → Took port scope part out accounts → lane.FoundEmpty port.ledger → lane.LaneAllOut accounts out
   found_empty port took found = subst lane.FoundEmpty took found
 
 module _ (part : List Envelope → List Envelope) where
@@ -53,11 +53,11 @@ module _ (part : List Envelope → List Envelope) where
   part_of_account none accounts sender pushed is = ap (λ l. account_after (Some l) (accounts_of part accounts) sender) (sym none)
       ∙ account_after-part (Some []) accounts sender ∙ ap (option_map part) is
 
-  pub all_out : part [] ≡ [] → (accounts : List Account) (out : List Envelope) → lane.AllOut (accounts_of part accounts) (part out)
+  pub all_out : part [] ≡ [] → (accounts : List Account) (out : List Envelope) → lane.LaneAllOut (accounts_of part accounts) (part out)
       → AllOut part accounts out
   all_out none accounts out all sender pushed is = all sender (part pushed) (part_of_account none accounts sender pushed is)
 
-  pub all_begin : part [] ≡ [] → (accounts : List Account) (out : List Envelope) → lane.AllBegin (accounts_of part accounts) (part out)
+  pub all_begin : part [] ≡ [] → (accounts : List Account) (out : List Envelope) → lane.LaneAllBegin (accounts_of part accounts) (part out)
       → AllBegin part accounts out
   all_begin none accounts out all sender pushed is = all sender (part pushed) (part_of_account none accounts sender pushed is)
 

@@ -1,20 +1,20 @@
--- Taking in, one envelope after another.
+-- TakePassView envelopes from the lane, one after another, to be held.
 use Rattle.std.proofs.Common.{◌≡◌, ℕ, ◌+◌, List, [], ◌∷◌, ◌++◌, length, refl, sym, ap, ◌∙◌, subst, inl, inr, append_assoc, arith}
 use Rattle.std.proofs.Common.{length-append, IsPermutation}
 use Rattle.std.proofs.lemmas.List.{append-nil}
 use Rattle.std.proofs.lemmas.List.Elements.{All-nil, All-push}
 use Rattle.std.proofs.lemmas.List.Sorted.{IsPermutation-refl, IsPermutation-push_more}
 use Rattle.mb_msg.specs.declared.envelope.Envelope.{Envelope}
-use Rattle.mb_lane.specs.declared.ledger.Ledger.{Ledger}
-use Rattle.mb_lane.specs.declared.ledger.Ledger.TheVariants.{Sender, Taker, Spent}
-use Rattle.mb_lane.specs.Ledger.{taking, IsTaker}
-use Rattle.mb_lane.specs.Port.{Known}
-use Rattle.mb_lane.specs.Rule as lane
-use Rattle.mb_rank.specs.declared.ranks.RankRow.{RankRow}
-use Rattle.mb_rank.specs.declared.waiting.Arrival.{Arrival}
-use Rattle.mb_rank.specs.Rank.{rank_of}
-use Rattle.mb_queue.specs.declared.choice.Choice.{Choice}
-use Rattle.mb_queue.specs.Kept.{scope_in}
+use Rattle.mb_queue.specs.declared.ledger.Ledger.{Ledger}
+use Rattle.mb_queue.specs.declared.ledger.Ledger.TheVariants.{Sender, Taker, Spent}
+use Rattle.mb_queue.specs.Ledger.{taking, IsTaker}
+use Rattle.mb_queue.specs.Port.{LanePort}
+use Rattle.mb_queue.specs.Rule as lane
+use Rattle.mb_msg.specs.declared.mailbox_type.RankRow.{RankRow}
+use Rattle.mb_queue.specs.declared.waiting.Arrival.{Arrival}
+use Rattle.mb_queue.specs.Rank.{rank_of}
+use Rattle.mb_queue.specs.declared.priority_state.PriorityState.{PriorityState}
+use Rattle.mb_queue.specs.Representation.{scope_in}
 use Rattle.mb_queue.specs.Takes.{arrivals_from}
 use Rattle.mb_queue.specs.Steps.{taking_all, Begins, OneMore, TakesMore}
 
@@ -43,7 +43,7 @@ begins_next (Sender scope by pushed) e found = found
 begins_next (Taker scope taken accounts) e found = found.1
 begins_next Spent e found = found
 
--- what was found next is such as the lane has
+-- the next envelope is of the lane's scope
 found_known : (l : Ledger) (e : Envelope) → lane.FoundNext l e → lane.Belongs (scope_in l) e
 found_known (Sender scope by pushed) e found = absurd found
 found_known (Taker scope taken accounts) e found = found.0
@@ -59,7 +59,7 @@ still_taker (Sender scope by pushed) e is = is
 still_taker (Taker scope taken accounts) e is = is
 still_taker Spent e is = is
 
-pub starts : (c : Choice) (port : Known) → TakesMore c port c port
+pub starts : (c : PriorityState) (port : LanePort) → TakesMore c port c port
 starts c port = record {
   fresh = [];
   ranks = refl;
@@ -71,11 +71,11 @@ starts c port = record {
   held = subst (λ l. IsPermutation l c.waiting) (sym (append-nil c.waiting)) (IsPermutation-refl c.waiting);
 }
 
-pub one_more : (old : Choice) (port : Known) (mid : Choice) (port' : Known) (new : Choice) (port'' : Known) → TakesMore old port mid port'
+pub one_more : (old : PriorityState) (port : LanePort) (mid : PriorityState) (port' : LanePort) (new : PriorityState) (port'' : LanePort) → TakesMore old port mid port'
     → OneMore mid port' new port'' → TakesMore old port new port''
 one_more old port mid port' new port'' m o =
-    let led : port'.ledger ≡ taking_all port.ledger m.fresh = ap (λ (p : Known). p.ledger) m.came in
-    let lan : port'.lane ≡ port.lane = ap (λ (p : Known). p.lane) m.came in
+    let led : port'.ledger ≡ taking_all port.ledger m.fresh = ap (λ (p : LanePort). p.ledger) m.came in
+    let lan : port'.lane ≡ port.lane = ap (λ (p : LanePort). p.lane) m.came in
     let e : Envelope = o.envelope in let es : List Envelope = m.fresh in
     let item : Arrival = record { rank = rank_of old.ranks old.other e.body; number = old.next + length es; envelope = e } in
     let same : record { rank = rank_of mid.ranks mid.other e.body; number = mid.next; envelope = e } ≡ item
@@ -85,7 +85,7 @@ one_more old port mid port' new port'' m o =
       other = o.other ∙ m.other;
       next = omega (arith, o.next, m.next, length-append es (e ∷ []));
       came = o.came.0 ∙ (λ i. record { lane = lan i; ledger = (ap (λ l. taking l e) led ∙ taking_all-more port.ledger es e) i });
-      begins = inr (subst (λ (p : Known). Begins p.ledger) (sym o.came.0) (begins_next port'.ledger e o.came.1));
+      begins = inr (subst (λ (p : LanePort). Begins p.ledger) (sym o.came.0) (begins_next port'.ledger e o.came.1));
       known = All-push (lane.Belongs (scope_in port.ledger)) es e m.known
           (subst (λ l. lane.Belongs l e) (ap scope_in led ∙ scope_all port.ledger es) (found_known port'.ledger e o.came.1));
       held = subst (λ l. IsPermutation (old.waiting ++ l) new.waiting) (sym (arrivals_from-more old.ranks old.other old.next es e))

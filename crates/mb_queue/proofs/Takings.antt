@@ -5,24 +5,24 @@ use Rattle.std.proofs.lemmas.List.{append-nil}
 use Rattle.std.proofs.lemmas.List.Elements.{All-nil}
 use Rattle.std.specs.List.{All, Contains}
 use Rattle.mb_msg.specs.declared.envelope.Envelope.{Envelope}
-use Rattle.mb_lane.specs.declared.ledger.Account.{Account}
-use Rattle.mb_lane.specs.declared.ledger.Ledger.TheVariants.{Taker}
-use Rattle.mb_lane.specs.declared.ledger.Scope.{Scope}
-use Rattle.mb_lane.specs.declared.ledger.Part.TheVariants.{Whole, Controls, Others}
-use Rattle.mb_lane.specs.Ledger.{is_control}
-use Rattle.mb_lane.specs.Port.{Known}
-use Rattle.mb_lane.specs.Rule as lane
-use Rattle.mb_queue.specs.declared.choice.Choice.{Choice}
-use Rattle.mb_queue.specs.declared.order.Order.{Order}
-use Rattle.mb_queue.specs.declared.order.Order.TheVariants.{FirstInFirstOut, ControlFirst, ByRank}
-use Rattle.mb_queue.specs.Kept.{IsTaking, Took, envelopes_of, gone_of, parted, scope_in, taking_of, turns_of}
+use Rattle.mb_queue.specs.declared.ledger.Account.{Account}
+use Rattle.mb_queue.specs.declared.ledger.Ledger.TheVariants.{Taker}
+use Rattle.mb_queue.specs.declared.ledger.Scope.{Scope}
+use Rattle.mb_queue.specs.declared.ledger.QueuePart.TheVariants.{Whole, Controls, Others}
+use Rattle.mb_queue.specs.Ledger.{is_control}
+use Rattle.mb_queue.specs.Port.{LanePort}
+use Rattle.mb_queue.specs.Rule as lane
+use Rattle.mb_queue.specs.declared.priority_state.PriorityState.{PriorityState}
+use Rattle.mb_queue.specs.declared.take_order.TakeOrder.{TakeOrder}
+use Rattle.mb_queue.specs.declared.take_order.TakeOrder.TheVariants.{FirstInFirstOut, ControlFirst, ByRank}
+use Rattle.mb_queue.specs.Representation.{IsTaking, Took, envelopes_of, gone_of, parted, scope_in, taking_of, turns_of}
 use Rattle.mb_queue.specs.Parts.{accounts_of, controls, others, whole}
 use Rattle.mb_queue.specs.Steps.{Begins, IsStep, RankTakes, TakesOf, taking_all}
 use Rattle.mb_queue.specs.Takes.{AllBegin, AllOut, EachOnce, IsSameBag, IsTake, TakesByRank, arrivals_from}
 use Rattle.mb_queue.proofs.Bags.{all_chosen, all_held, bag_given, bag_none, once_by_rank, once_of_parts, once_of_whole}
 use Rattle.mb_queue.proofs.Taken.{all_begin, all_out, filter-more, filter-same, found_empty, found_next, settled, took_next, took_none}
 
-module _ (main : Known) (taken : List Envelope) (accounts : List Account) where
+module _ (main : LanePort) (taken : List Envelope) (accounts : List Account) where
   abbrev ours : Scope
   ours = scope_in main.ledger
 
@@ -30,20 +30,20 @@ module _ (main : Known) (taken : List Envelope) (accounts : List Account) where
   no_control e = not (is_control e)
 
   -- first in, first out
-  fifo_kept : (e : Envelope) (main' : Known) → IsTaking main FirstInFirstOut taken accounts → TakesOf main (Some e) main'
+  fifo_kept : (e : Envelope) (main' : LanePort) → IsTaking main FirstInFirstOut taken accounts → TakesOf main (Some e) main'
       → IsTaking main' FirstInFirstOut (taken ++ e ∷ []) accounts
   fifo_kept e main' kept step = settled ours Whole (taken ++ e ∷ []) accounts main' (took_next ours Whole taken accounts main e main' kept step)
 
-  module _ (control : Known) (kept : IsTaking main (ControlFirst control) taken accounts) where
+  module _ (control : LanePort) (kept : IsTaking main (ControlFirst control) taken accounts) where
     -- a control message leaves
-    control_kept : (e : Envelope) (control' main' : Known) → TakesOf control (Some e) control' → main' ≡ main
+    control_kept : (e : Envelope) (control' main' : LanePort) → TakesOf control (Some e) control' → main' ≡ main
         → IsTaking main' (ControlFirst control') (taken ++ e ∷ []) accounts
     control_kept e control' main' step same =
         let is : is_control e ≡ true = (found_next ours Controls (controls taken)
         (accounts_of controls accounts) control e control' kept.1 step).0.2 in
         let less : others (taken ++ e ∷ []) ≡ others taken = filter-same no_control taken e (ap not is) in
         let more : controls (taken ++ e ∷ []) ≡ controls taken ++ e ∷ [] = filter-more is_control taken e is in
-        let lane_same : control'.lane ≡ control.lane = ap (λ (p : Known). p.lane) step.0 in
+        let lane_same : control'.lane ≡ control.lane = ap (λ (p : LanePort). p.lane) step.0 in
         let at_main : IsTaking main (ControlFirst control') (taken ++ e ∷ []) accounts = (
           subst (λ l. Took main ours Others l (accounts_of others accounts)) (sym less) kept.0,
           subst (λ l. Took control' ours Controls l (accounts_of controls accounts)) (sym more)
@@ -54,7 +54,7 @@ module _ (main : Known) (taken : List Envelope) (accounts : List Account) where
         subst (λ m. IsTaking m (ControlFirst control') (taken ++ e ∷ []) accounts) (sym same) at_main
 
     -- another message leaves
-    other_kept : (e : Envelope) (control' main' : Known) → TakesOf control None control' → TakesOf main (Some e) main'
+    other_kept : (e : Envelope) (control' main' : LanePort) → TakesOf control None control' → TakesOf main (Some e) main'
         → IsTaking main' (ControlFirst control') (taken ++ e ∷ []) accounts
     other_kept e control' main' none step =
         let is : is_control e ≡ false = (found_next ours Others (others taken) (accounts_of others accounts) main e main' kept.0 step).0.2 in
@@ -63,49 +63,49 @@ module _ (main : Known) (taken : List Envelope) (accounts : List Account) where
         let took : Took main' ours Others (others taken ++ e ∷ []) (accounts_of others accounts) =
         took_next ours Others (others taken) (accounts_of others accounts) main e main' kept.0 step in
         let same : parted ours Others ≡ scope_in main'.ledger = sym (ap scope_in took) in
-        let lane_same : main'.lane ≡ main.lane = ap (λ (p : Known). p.lane) step.0 in (
+        let lane_same : main'.lane ≡ main.lane = ap (λ (p : LanePort). p.lane) step.0 in (
           subst (λ l. Took main' (scope_in main'.ledger) Others l (accounts_of others accounts)) (sym more)
               (settled ours Others _ (accounts_of others accounts) main' took),
           subst (λ l. Took control' (scope_in main'.ledger) Controls l (accounts_of controls accounts)) (sym less)
               (subst (λ s. Took control' s Controls (controls taken) (accounts_of controls accounts)) same
               (took_none ours Controls (controls taken) (accounts_of controls accounts) control control' kept.1 none)),
           ap (λ l. l.capacity) lane_same ∙ kept.2,
-          ap (λ (p : Known). p.lane.capacity) none.0 ∙ kept.3,
+          ap (λ (p : LanePort). p.lane.capacity) none.0 ∙ kept.3,
         )
 
     abbrev Control_turn : Envelope → Type 0
     Control_turn e = MatchBool (is_control e) (AllBegin controls accounts (taken ++ e ∷ [])) (AllOut controls accounts taken
         × AllBegin others accounts (taken ++ e ∷ []))
 
-    control_turn : (e : Envelope) (control' : Known) → TakesOf control (Some e) control' → Control_turn e
+    control_turn : (e : Envelope) (control' : LanePort) → TakesOf control (Some e) control' → Control_turn e
     control_turn e control' step =
         let found = found_next ours Controls (controls taken) (accounts_of controls accounts) control e control' kept.1 step in
         let is : is_control e ≡ true = found.0.2 in
         let begins : AllBegin controls accounts (taken ++ e ∷ []) = all_begin controls refl accounts (taken ++ e ∷ [])
-        (subst (lane.AllBegin (accounts_of controls accounts)) (sym (filter-more is_control taken e is)) found.1) in
+        (subst (lane.LaneAllBegin (accounts_of controls accounts)) (sym (filter-more is_control taken e is)) found.1) in
         subst (λ b. MatchBool b (AllBegin controls accounts (taken ++ e ∷ [])) (AllOut controls accounts taken
         × AllBegin others accounts (taken ++ e ∷ []))) (sym is) begins
 
-    other_turn : (e : Envelope) (control' main' : Known) → TakesOf control None control' → TakesOf main (Some e) main' → Control_turn e
+    other_turn : (e : Envelope) (control' main' : LanePort) → TakesOf control None control' → TakesOf main (Some e) main' → Control_turn e
     other_turn e control' main' none step =
         let found = found_next ours Others (others taken) (accounts_of others accounts) main e main' kept.0 step in
         let is : is_control e ≡ false = found.0.2 in
         let begins : AllBegin others accounts (taken ++ e ∷ []) = all_begin others refl accounts (taken ++ e ∷ [])
-        (subst (lane.AllBegin (accounts_of others accounts)) (sym (filter-more no_control taken e (ap not is))) found.1) in
+        (subst (lane.LaneAllBegin (accounts_of others accounts)) (sym (filter-more no_control taken e (ap not is))) found.1) in
         let out : AllOut controls accounts taken =
         all_out controls refl accounts taken (found_empty ours Controls (controls taken) (accounts_of controls accounts) control kept.1 none.1) in
         subst (λ b. MatchBool b (AllBegin controls accounts (taken ++ e ∷ [])) (AllOut controls accounts taken
         × AllBegin others accounts (taken ++ e ∷ []))) (sym is) (out, begins)
 
-  module _ (choice : Choice) (kept : IsTaking main (ByRank choice) taken accounts) where
+  module _ (choice : PriorityState) (kept : IsTaking main (ByRank choice) taken accounts) where
     abbrev gone : List Envelope
     gone = gone_of main.ledger
 
-    pub came_all : (fresh : List Envelope) (main' : Known) → main' ≡ record main { ledger = taking_all main.ledger fresh }
+    pub came_all : (fresh : List Envelope) (main' : LanePort) → main' ≡ record main { ledger = taking_all main.ledger fresh }
         → Took main' ours Whole (gone ++ fresh) accounts
-    came_all fresh main' came = ap (λ (p : Known). p.ledger) came ∙ ap (λ l. taking_all l fresh) kept.0
+    came_all fresh main' came = ap (λ (p : LanePort). p.ledger) came ∙ ap (λ l. taking_all l fresh) kept.0
 
-    rank_kept : (result : Option Envelope) (taken' : List Envelope) (choice' : Choice) (main' : Known)
+    rank_kept : (result : Option Envelope) (taken' : List Envelope) (choice' : PriorityState) (main' : LanePort)
         → (step : RankTakes choice main result choice' main')
         → IsSameBag (gone ++ step.taken_in.more.fresh) (taken' ++ envelopes_of choice'.waiting)
         → All (lane.Belongs ours) (envelopes_of choice'.waiting) → IsTaking main' (ByRank choice') taken' accounts
@@ -118,40 +118,40 @@ module _ (main : Known) (taken : List Envelope) (accounts : List Account) where
           subst (λ l. All (lane.Belongs l) (envelopes_of choice'.waiting)) (sym (ap scope_in took ∙ sym (ap scope_in kept.0))) known,
         )
 
-    came_in : (result : Option Envelope) (choice' : Choice) (main' : Known) → (step : RankTakes choice main result choice' main')
+    came_in : (result : Option Envelope) (choice' : PriorityState) (main' : LanePort) → (step : RankTakes choice main result choice' main')
         → IsPermutation (choice.waiting ++ arrivals_from choice.ranks choice.other (length gone) step.taken_in.more.fresh) step.held
     came_in result choice' main' step = subst
         (λ n. IsPermutation (choice.waiting ++ arrivals_from choice.ranks choice.other n step.taken_in.more.fresh) step.held) kept.1
         step.taken_in.more.held
 
-    -- all that are held then are such as the lane has
-    rank_held : (result : Option Envelope) (choice' : Choice) (main' : Known) → (step : RankTakes choice main result choice' main')
+    -- all that are held then are of the lane's scope
+    rank_held : (result : Option Envelope) (choice' : PriorityState) (main' : LanePort) → (step : RankTakes choice main result choice' main')
         → All (lane.Belongs ours) (envelopes_of step.held)
     rank_held result choice' main' step =
         all_held (lane.Belongs ours) choice.ranks choice.other (length gone) choice.waiting step.taken_in.more.fresh step.held
         (came_in result choice' main' step) kept.3 step.taken_in.more.known
 
-    rank_known : (e : Envelope) (choice' : Choice) (main' : Known) → RankTakes choice main (Some e) choice' main'
+    rank_known : (e : Envelope) (choice' : PriorityState) (main' : LanePort) → RankTakes choice main (Some e) choice' main'
         → lane.Belongs ours e × All (lane.Belongs ours) (envelopes_of choice'.waiting)
     rank_known e choice' main' step = all_chosen (lane.Belongs ours) step.held e choice'.waiting step.choice (rank_held (Some e) choice' main' step)
 
-    rank_none_known : (choice' : Choice) (main' : Known) → RankTakes choice main None choice' main'
+    rank_none_known : (choice' : PriorityState) (main' : LanePort) → RankTakes choice main None choice' main'
         → All (lane.Belongs ours) (envelopes_of choice'.waiting)
     rank_none_known choice' main' step = subst (λ l. All (lane.Belongs ours) (envelopes_of l)) (sym step.choice.1) (All-nil (lane.Belongs ours))
 
-    pub rank_bag : (e : Envelope) (choice' : Choice) (main' : Known) → (step : RankTakes choice main (Some e) choice' main')
+    pub rank_bag : (e : Envelope) (choice' : PriorityState) (main' : LanePort) → (step : RankTakes choice main (Some e) choice' main')
         → IsSameBag (gone ++ step.taken_in.more.fresh) ((taken ++ e ∷ []) ++ envelopes_of choice'.waiting)
     rank_bag e choice' main' step = bag_given choice.ranks choice.other
         (length gone) gone step.taken_in.more.fresh taken choice.waiting step.held choice'.waiting e kept.2
         (came_in (Some e) choice' main' step) step.choice
 
-    rank_bag_none : (choice' : Choice) (main' : Known) → (step : RankTakes choice main None choice' main')
+    rank_bag_none : (choice' : PriorityState) (main' : LanePort) → (step : RankTakes choice main None choice' main')
         → IsSameBag (gone ++ step.taken_in.more.fresh) (taken ++ envelopes_of choice'.waiting)
     rank_bag_none choice' main' step = bag_none choice.ranks choice.other
         (length gone) gone step.taken_in.more.fresh taken choice.waiting step.held choice'.waiting kept.2
         (came_in None choice' main' step) step.choice
 
-    rank_turn : (result : Option Envelope) (taken' : List Envelope) (choice' : Choice) (main' : Known)
+    rank_turn : (result : Option Envelope) (taken' : List Envelope) (choice' : PriorityState) (main' : LanePort)
         → (step : RankTakes choice main result choice' main')
         → TakesByRank choice.ranks choice.other (taking_of main (ByRank choice) taken accounts) result
         (taking_of main' (ByRank choice') taken' accounts)
@@ -171,7 +171,7 @@ module _ (main : Known) (taken : List Envelope) (accounts : List Account) where
         }
 
 -- what is kept of a take pass, after a take
-pub kept_some : (main : Known) (order : Order) (taken : List Envelope) (accounts : List Account) (e : Envelope) (main' : Known) (order' : Order)
+pub kept_some : (main : LanePort) (order : TakeOrder) (taken : List Envelope) (accounts : List Account) (e : Envelope) (main' : LanePort) (order' : TakeOrder)
     → IsTaking main order taken accounts → IsStep main order (Some e) main' order' → IsTaking main' order' (taken ++ e ∷ []) accounts
 kept_some main FirstInFirstOut taken accounts e main' order' kept step =
     subst (λ o. IsTaking main' o (taken ++ e ∷ []) accounts) (sym step.0) (fifo_kept main taken accounts e main' kept step.1)
@@ -185,20 +185,20 @@ kept_some main (ByRank choice) taken accounts e main' order' kept step =
     (rank_bag main taken accounts choice kept e step.0 main' step.2)
     (rank_known main taken accounts choice kept e step.0 main' step.2).1)
 
-pub kept_none : (main : Known) (order : Order) (taken : List Envelope) (accounts : List Account) (main' : Known) (order' : Order)
+pub kept_none : (main : LanePort) (order : TakeOrder) (taken : List Envelope) (accounts : List Account) (main' : LanePort) (order' : TakeOrder)
     → IsTaking main order taken accounts → IsStep main order None main' order' → IsTaking main' order' taken accounts
 kept_none main FirstInFirstOut taken accounts main' order' kept step =
     subst (λ o. IsTaking main' o taken accounts) (sym step.0) (subst (λ m. IsTaking m FirstInFirstOut taken accounts) (sym step.1.0) kept)
 kept_none main (ControlFirst control) taken accounts main' order' kept step =
     subst (λ o. IsTaking main' o taken accounts) (sym step.1)
-    (subst (λ (y : Known × Known). IsTaking y.0 (ControlFirst y.1) taken accounts) (λ i. (sym step.2.1.0 i, sym step.2.0.0 i)) kept)
+    (subst (λ (y : LanePort × LanePort). IsTaking y.0 (ControlFirst y.1) taken accounts) (λ i. (sym step.2.1.0 i, sym step.2.0.0 i)) kept)
 kept_none main (ByRank choice) taken accounts main' order' kept step =
     subst (λ o. IsTaking main' o taken accounts) (sym step.1)
     (rank_kept main taken accounts choice kept None taken step.0 main' step.2 (rank_bag_none main taken accounts choice kept step.0 main' step.2)
     (rank_none_known main taken accounts choice kept step.0 main' step.2))
 
 -- what was given is by one of the senders and to the actor
-pub given_known : (main : Known) (order : Order) (taken : List Envelope) (accounts : List Account) (e : Envelope) (main' : Known) (order' : Order)
+pub given_known : (main : LanePort) (order : TakeOrder) (taken : List Envelope) (accounts : List Account) (e : Envelope) (main' : LanePort) (order' : TakeOrder)
     → IsTaking main order taken accounts → IsStep main order (Some e) main' order'
     → Contains (scope_in main.ledger).senders e.by.0 × (e.to.0 ≡ (scope_in main.ledger).to)
 given_known main FirstInFirstOut taken accounts e main' order' kept step =
@@ -212,8 +212,8 @@ given_known main (ControlFirst control) taken accounts e main' order' kept step 
 given_known main (ByRank choice) taken accounts e main' order' kept step =
     let b = (rank_known main taken accounts choice kept e step.0 main' step.2).0 in (b.0, b.1)
 
--- and it is the turn of what was given
-pub turn_some : (main : Known) (order : Order) (taken : List Envelope) (accounts : List Account) (e : Envelope) (main' : Known) (order' : Order)
+-- and what was given is the next in the order
+pub turn_some : (main : LanePort) (order : TakeOrder) (taken : List Envelope) (accounts : List Account) (e : Envelope) (main' : LanePort) (order' : TakeOrder)
     → IsTaking main order taken accounts → IsStep main order (Some e) main' order'
     → IsTake (turns_of order) (taking_of main order taken accounts) (Some e) (taking_of main' order' (taken ++ e ∷ []) accounts)
 turn_some main FirstInFirstOut taken accounts e main' order' kept step =
@@ -234,7 +234,7 @@ turn_some main (ByRank choice) taken accounts e main' order' kept step =
     (taking_of main' o (taken ++ e ∷ []) accounts)) (sym step.1)
     (rank_turn main taken accounts choice kept (Some e) (taken ++ e ∷ []) step.0 main' step.2)
 
-pub turn_none : (main : Known) (order : Order) (taken : List Envelope) (accounts : List Account) (main' : Known) (order' : Order)
+pub turn_none : (main : LanePort) (order : TakeOrder) (taken : List Envelope) (accounts : List Account) (main' : LanePort) (order' : TakeOrder)
     → IsTaking main order taken accounts → IsStep main order None main' order'
     → IsTake (turns_of order) (taking_of main order taken accounts) None (taking_of main' order' taken accounts)
 turn_none main FirstInFirstOut taken accounts main' order' kept step =
@@ -257,7 +257,7 @@ turn_none main (ByRank choice) taken accounts main' order' kept step =
     (sym step.1)
     (rank_turn main taken accounts choice kept None taken step.0 main' step.2)
 
-rank_once : (main : Known) (choice : Choice) (taken : List Envelope) (accounts : List Account) (main' : Known) (choice' : Choice)
+rank_once : (main : LanePort) (choice : PriorityState) (taken : List Envelope) (accounts : List Account) (main' : LanePort) (choice' : PriorityState)
     → IsTaking main (ByRank choice) taken accounts → RankTakes choice main None choice' main'
     → EachOnce (taking_of main' (ByRank choice') taken accounts)
 rank_once main choice taken accounts main' choice' kept step sender pushed is =
@@ -272,7 +272,7 @@ rank_once main choice taken accounts main' choice' kept step sender pushed is =
     once_by_rank sender pushed (gone_of main'.ledger) taken bag (out sender pushed is)
 
 -- None, and all that was pushed by those that were joined was given, once each
-pub each_once : (main : Known) (order : Order) (taken : List Envelope) (accounts : List Account) (main' : Known) (order' : Order)
+pub each_once : (main : LanePort) (order : TakeOrder) (taken : List Envelope) (accounts : List Account) (main' : LanePort) (order' : TakeOrder)
     → IsTaking main order taken accounts → IsStep main order None main' order' → EachOnce (taking_of main' order' taken accounts)
 each_once main FirstInFirstOut taken accounts main' order' kept step sender pushed is =
     once_of_whole sender pushed taken ((turn_none main FirstInFirstOut taken accounts main' order' kept step).1 sender pushed is)

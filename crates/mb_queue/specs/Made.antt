@@ -1,37 +1,38 @@
--- What a new queue is.
+-- A new queue: its kind, its senders and its passes.
 use Rattle.std.specs.Prelude.{◌≡◌, ℕ, ◌<◌, List, [], map, Option, Some, None}
 use Rattle.mb_msg.specs.declared.id.SenderId.{SenderId}
-use Rattle.mb_lane.specs.Ledger.{lent}
-use Rattle.mb_queue.specs.declared.kind.Kind.{Kind}
-use Rattle.mb_queue.specs.declared.kind.Kind.TheVariants.{Unbounded, Bounded, Priority, Control}
-use Rattle.mb_queue.specs.Passes.{Queue, Sending, Taking, Turns, first_in_first_out, control_first, by_rank}
+use Rattle.mb_queue.specs.Ledger.{lent}
+use Rattle.mb_msg.specs.declared.mailbox_type.MailboxType.{MailboxType}
+use Rattle.mb_msg.specs.declared.mailbox_type.MailboxType.TheVariants.{Unbounded, Bounded, Priority, Control}
+use Rattle.mb_queue.specs.Passes.{Queue, SendPassView, TakePassView, Turns, first_in_first_out, control_first, by_rank}
 
+-- the numbers of senders
 abbrev pub numbers_of : List SenderId → List ℕ
 numbers_of = map (λ (s : SenderId). s.0)
 
 -- a bound is at least 1
-abbrev pub IsMakeable : Kind → Type 0
+abbrev pub IsMakeable : MailboxType → Type 0
 IsMakeable Unbounded = Unit {0}
 IsMakeable (Bounded capacity) = 0 < capacity
 IsMakeable (Priority rows other) = Unit {0}
 IsMakeable Control = Unit {0}
 
--- whose turn it is in a queue of this kind
-abbrev pub turns_in : Kind → Turns
+-- the order in which a queue of this kind gives
+abbrev pub turns_in : MailboxType → Turns
 turns_in Unbounded = first_in_first_out
 turns_in (Bounded capacity) = first_in_first_out
-turns_in (Priority rows other) = by_rank rows other
+turns_in (Priority rows other) = by_rank rows.items other
 turns_in Control = control_first
 
 -- how much a queue of this kind holds at most
-abbrev pub bound_of : Kind → Option ℕ
+abbrev pub bound_of : MailboxType → Option ℕ
 bound_of Unbounded = None
 bound_of (Bounded capacity) = Some capacity
 bound_of (Priority rows other) = None
 bound_of Control = None
 
 -- a take pass of an empty queue of this kind, for these senders and this actor
-pub record IsEmpty (kind : Kind) (to : ℕ) (senders : List ℕ) (t : Taking) : Type 0 where
+pub record IsEmpty (kind : MailboxType) (to : ℕ) (senders : List ℕ) (t : TakePassView) : Type 0 where
   pub senders_are : t.queue.senders ≡ senders
   pub actor : t.queue.to ≡ to
   pub turns : t.turns ≡ turns_in kind
@@ -40,17 +41,17 @@ pub record IsEmpty (kind : Kind) (to : ℕ) (senders : List ℕ) (t : Taking) : 
   pub waiting : t.waiting ≡ []
   pub taken : t.taken ≡ []
 
--- all accounts are at home, and empty
-pub record IsOpened (kind : Kind) (to : ℕ) (senders : List ℕ) (t : Taking) : Type 0 where
+-- the take pass of a queue before any account was lent
+pub record IsOpened (kind : MailboxType) (to : ℕ) (senders : List ℕ) (t : TakePassView) : Type 0 where
   pub empty : IsEmpty kind to senders t
   pub accounts : t.accounts ≡ []
 
 -- the send pass of this sender, unused
-abbrev pub unused : Queue → ℕ → Sending
+abbrev pub unused : Queue → ℕ → SendPassView
 unused queue sender = record { queue = queue; by = sender; pushed = [] }
 
--- each sender has its pass, unused, and its account is out with that
-pub record IsNew (kind : Kind) (to : ℕ) (senders : List ℕ) (t : Taking) (sends : List Sending) : Type 0 where
+-- each sender has its pass, unused, with its account
+pub record IsNew (kind : MailboxType) (to : ℕ) (senders : List ℕ) (t : TakePassView) (sends : List SendPassView) : Type 0 where
   pub empty : IsEmpty kind to senders t
   pub accounts : t.accounts ≡ map lent senders
   pub passes : sends ≡ map (unused t.queue) senders

@@ -1,8 +1,8 @@
 -- The two parts of a control-aware queue (`akka.dispatch.UnboundedControlAwareMailbox`).
 use Rattle.std.specs.Prelude.{List, filter, map, not, option_map}
 use Rattle.mb_msg.specs.declared.envelope.Envelope.{Envelope}
-use Rattle.mb_lane.specs.declared.ledger.Account.{Account}
-use Rattle.mb_lane.specs.Ledger.{is_control}
+use Rattle.mb_queue.specs.declared.ledger.Account.{Account}
+use Rattle.mb_queue.specs.Ledger.{is_control}
 
 abbrev pub controls : List Envelope → List Envelope
 controls = filter is_control

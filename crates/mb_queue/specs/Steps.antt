@@ -1,17 +1,17 @@
--- What a take does to the ports of the lanes.
+-- What a take does with the ports of the lanes.
 use Rattle.std.specs.Prelude.{◌≡◌, ◌+◌, ◌≤◌, ◌⊎◌, List, [], ◌∷◌, ◌++◌, length, Option, Some, None, IsPermutation, All}
 use Rattle.mb_msg.specs.declared.envelope.Envelope.{Envelope}
-use Rattle.mb_lane.specs.declared.ledger.Ledger.{Ledger}
-use Rattle.mb_lane.specs.declared.ledger.Ledger.TheVariants.{Sender, Taker, Spent}
-use Rattle.mb_lane.specs.Ledger.{taking, IsTaker}
-use Rattle.mb_lane.specs.Port.{Known}
-use Rattle.mb_lane.specs.Rule as lane
-use Rattle.mb_rank.specs.declared.waiting.Arrival.{Arrival}
-use Rattle.mb_rank.specs.Rank.{rank_of}
-use Rattle.mb_queue.specs.declared.choice.Choice.{Choice}
-use Rattle.mb_queue.specs.declared.order.Order.{Order}
-use Rattle.mb_queue.specs.declared.order.Order.TheVariants.{FirstInFirstOut, ControlFirst, ByRank}
-use Rattle.mb_queue.specs.Kept.{scope_in}
+use Rattle.mb_queue.specs.declared.ledger.Ledger.{Ledger}
+use Rattle.mb_queue.specs.declared.ledger.Ledger.TheVariants.{Sender, Taker, Spent}
+use Rattle.mb_queue.specs.Ledger.{taking, IsTaker}
+use Rattle.mb_queue.specs.Port.{LanePort}
+use Rattle.mb_queue.specs.Rule as lane
+use Rattle.mb_queue.specs.declared.waiting.Arrival.{Arrival}
+use Rattle.mb_queue.specs.Rank.{rank_of}
+use Rattle.mb_queue.specs.declared.priority_state.PriorityState.{PriorityState}
+use Rattle.mb_queue.specs.declared.take_order.TakeOrder.{TakeOrder}
+use Rattle.mb_queue.specs.declared.take_order.TakeOrder.TheVariants.{FirstInFirstOut, ControlFirst, ByRank}
+use Rattle.mb_queue.specs.Representation.{scope_in}
 use Rattle.mb_queue.specs.Takes.{arrivals_from, Chooses}
 
 -- after several takes
@@ -20,19 +20,19 @@ taking_all (Sender scope by pushed) es = Sender scope by pushed
 taking_all (Taker scope taken accounts) es = Taker scope (taken ++ es) accounts
 taking_all Spent es = Spent
 
--- each account at home begins with what came out of the lane
+-- each account that came back begins with what was taken from the lane
 abbrev pub Begins : Ledger → Type 0
 Begins (Sender scope by pushed) = ⊥
-Begins (Taker scope taken accounts) = lane.AllBegin accounts taken
+Begins (Taker scope taken accounts) = lane.LaneAllBegin accounts taken
 Begins Spent = ⊥
 
 -- one take of one lane
-abbrev pub TakesOf : Known → Option Envelope → Known → Type 0
+abbrev pub TakesOf : LanePort → Option Envelope → LanePort → Type 0
 TakesOf port None port' = (port' ≡ port) × lane.FoundEmpty port.ledger
 TakesOf port (Some e) port' = (port' ≡ record port { ledger = taking port.ledger e }) × lane.FoundNext port.ledger e
 
--- one envelope more is held
-pub record OneMore (old : Choice) (port : Known) (new : Choice) (port' : Known) : Type 0 where
+-- one envelope more was taken from the lane and is held
+pub record OneMore (old : PriorityState) (port : LanePort) (new : PriorityState) (port' : LanePort) : Type 0 where
   pub envelope : Envelope
   pub ranks : new.ranks ≡ old.ranks
   pub other : new.other ≡ old.other
@@ -46,11 +46,11 @@ pub record OneMore (old : Choice) (port : Known) (new : Choice) (port' : Known) 
   } ∷ old.waiting) new.waiting
 
 -- the lane was empty, and nothing changed
-abbrev pub NoMore : Choice → Known → Choice → Known → Type 0
+abbrev pub NoMore : PriorityState → LanePort → PriorityState → LanePort → Type 0
 NoMore old port new port' = (new ≡ old) × TakesOf port None port'
 
--- some were taken in, all such as the lane has
-pub record TakesMore (old : Choice) (port : Known) (new : Choice) (port' : Known) : Type 0 where
+-- some envelopes were taken from the lane, and are held
+pub record TakesMore (old : PriorityState) (port : LanePort) (new : PriorityState) (port' : LanePort) : Type 0 where
   pub fresh : List Envelope
   pub ranks : new.ranks ≡ old.ranks
   pub other : new.other ≡ old.other
@@ -60,33 +60,33 @@ pub record TakesMore (old : Choice) (port : Known) (new : Choice) (port' : Known
   pub known : All (lane.Belongs (scope_in port.ledger)) fresh
   pub held : IsPermutation (old.waiting ++ arrivals_from old.ranks old.other old.next fresh) new.waiting
 
--- so many that as many are held as may be, or the lane was empty, and no more than may be
-pub record TakenIn (old : Choice) (port : Known) (new : Choice) (port' : Known) : Type 0 where
+-- so many that 1,024 are held, the most, or the lane was empty
+pub record TakenIn (old : PriorityState) (port : LanePort) (new : PriorityState) (port' : LanePort) : Type 0 where
   pub more : TakesMore old port new port'
   pub room : length new.waiting ≤ 1024
   pub enough : (length new.waiting ≡ 1024) ⊎ lane.FoundEmpty port'.ledger
 
--- and then the first of those held was given
-pub record RankTakes (old : Choice) (port : Known) (result : Option Envelope) (new : Choice) (port' : Known) : Type 0 where
+-- then the first of those held was given
+pub record RankTakes (old : PriorityState) (port : LanePort) (result : Option Envelope) (new : PriorityState) (port' : LanePort) : Type 0 where
   pub held : List Arrival
   pub taken_in : TakenIn old port (record new { waiting = held }) port'
   pub choice : Chooses held result new.waiting
 
--- one take of two lanes: of the second only where the first was empty
-abbrev pub TakesOfTwo : Known → Known → Option Envelope → Known → Known → Type 0
+-- one take from two lanes: from the second only where the first was empty
+abbrev pub TakesOfTwo : LanePort → LanePort → Option Envelope → LanePort → LanePort → Type 0
 TakesOfTwo control main None control' main' = TakesOf control None control' × TakesOf main None main'
 TakesOfTwo control main (Some e) control' main' =
     (TakesOf control (Some e) control' × (main' ≡ main)) ⊎ (TakesOf control None control' × TakesOf main (Some e) main')
 
--- one take, of the lanes of any kind of queue
-abbrev pub IsStep : Known → Order → Option Envelope → Known → Order → Type 0
+-- one take from the lanes, by the order of the queue
+abbrev pub IsStep : LanePort → TakeOrder → Option Envelope → LanePort → TakeOrder → Type 0
 IsStep main FirstInFirstOut result main' order' = (order' ≡ FirstInFirstOut) × TakesOf main result main'
-IsStep main (ControlFirst control) result main' order' = (control' : Known) × (order' ≡ ControlFirst control')
+IsStep main (ControlFirst control) result main' order' = (control' : LanePort) × (order' ≡ ControlFirst control')
     × TakesOfTwo control main result control' main'
-IsStep main (ByRank choice) result main' order' = (choice' : Choice) × (order' ≡ ByRank choice') × RankTakes choice main result choice' main'
+IsStep main (ByRank choice) result main' order' = (choice' : PriorityState) × (order' ≡ ByRank choice') × RankTakes choice main result choice' main'
 
--- all the ports that there are take
-abbrev pub AllTake : Known → Order → Type 0
+-- all ports of the pass take
+abbrev pub AllTake : LanePort → TakeOrder → Type 0
 AllTake main FirstInFirstOut = IsTaker main.ledger
 AllTake main (ControlFirst control) = IsTaker main.ledger × IsTaker control.ledger
 AllTake main (ByRank choice) = IsTaker main.ledger

@@ -1,19 +1,38 @@
-//! The envelope queue of one mailbox: what each sender pushed is taken once and in the mailbox's order, or is left.
+//! The envelope queue of one mailbox (`akka.dispatch.MessageQueue`): each envelope that was pushed is taken once, in
+//! the mailbox's order, or is still in the queue.
 //!
-//! Four kinds as Akka has them: unbounded, bounded, stable priority and control-aware. A sender has a pass to push with,
-//! the mailbox has the pass to take with, and a pass may go to any thread.
+//! There are four kinds, as in Akka: unbounded, bounded, stable priority and control-aware. Each sender has a pass to
+//! push with, and the mailbox has the pass to take with. A pass may go to any thread.
+//!
+//! The order of a priority mailbox: the rank of each envelope, and which of those held is next.
+//!
+//! One lane of an envelope queue: a first-in-first-out queue for many senders and one taker, with an account of what
+//! each sender pushed.
+//!
+//! What a sender's port pushed is taken at the taker's port once and in the sender's order, or is still in the lane.
+//! That is the lane's rule. It holds between any two steps of any threads of the lock-free queues below.
 #![tactic(auto)]
 
-mod choice;
-mod kind;
+mod bounded_lane;
+mod ledger;
 mod make;
-mod order;
+mod port;
+mod priority_state;
+mod rank_key;
+mod ranks;
+mod refused;
+mod rule;
 mod send_pass;
+mod take_order;
 mod take_pass;
+mod unbounded_lane;
+mod waiting;
 
-pub use kind::Kind;
+pub use ledger::{Account, Ledger, QueuePart, Scope};
 pub use make::MailQueue;
-pub use mb_lane::PushError;
-pub use mb_rank::{RankRow, Ranks};
+pub use port::Port;
+pub use ranks::Ranks;
+pub use refused::{PushError, Refusal};
 pub use send_pass::SendPass;
 pub use take_pass::TakePass;
+pub use waiting::{Arrival, HELD_AT_MOST, Waiting};

@@ -1,30 +1,33 @@
-//! How a queue is made.
+//! Making a queue and its passes.
 ghost use Rattle.std.specs.Prelude.{◌≡◌, ◌≢◌, [], ◌∷◌, ◌++◌, AllPairs, Contains, IfOk, None, Some};
-ghost use Rattle.mb_lane.specs.declared.ledger.Ledger.TheVariants.{Taker};
-ghost use Rattle.mb_lane.specs.Ledger.{account, lent, scope_of};
-ghost use Rattle.mb_queue.specs.Kept.{IsTaking, taking_of};
+ghost use Rattle.mb_queue.specs.declared.ledger.Ledger.TheVariants.{Taker};
+ghost use Rattle.mb_queue.specs.Ledger.{account, lent, scope_of};
+ghost use Rattle.mb_queue.specs.Representation.{IsTaking, taking_of};
 ghost use Rattle.mb_queue.specs.Lent.{LendsControl, MayLendControl};
 ghost use Rattle.mb_queue.specs.Made.{IsMakeable, IsNew, IsOpened, numbers_of, unused};
-ghost use Rattle.mb_queue.specs.Passes.{Sending, Taking};
+ghost use Rattle.mb_queue.specs.Passes.{SendPassView, TakePassView};
 
-use crate::choice::Choice;
-use crate::kind::Kind;
-use crate::order::Order;
+use crate::ledger::{Account, QueuePart};
+use crate::port::Port;
+use crate::priority_state::PriorityState;
+use crate::ranks::Ranks;
 use crate::send_pass::SendPass;
+use crate::take_order::TakeOrder;
 use crate::take_pass::TakePass;
-use mb_lane::{Account, Log, Part, Port};
-use mb_msg::{ActorId, SenderId};
+use mb_ghost::Log;
+use mb_msg::{ActorId, MailboxType, SenderId};
 use std::alloc::{AllocError, Global};
 
-/// The envelope queue of one mailbox. It is what its passes share; there is no value of this type.
+/// The envelope queue of one mailbox. Its passes share it; there is no value of this type.
 pub struct MailQueue;
 
 impl MailQueue {
-    /// An empty queue of this kind for envelopes to this actor: the pass to take with, and for each of these senders, in
-    /// their order, the pass to push with. All memory that a take or a bounded queue ever needs is taken here.
+    /// An empty queue of this kind for envelopes to this actor: the pass to take with, and for each of these senders,
+    /// in their order, the pass to push with. All memory that a take or a bounded queue ever needs is taken here; the
+    /// only error: it was refused.
     pub fn new(
         alloc: Global,
-        kind: Kind,
+        kind: MailboxType,
         to: ActorId,
         senders: &[SenderId],
     ) -> Result<(TakePass, Vec<SendPass>), AllocError>
@@ -43,10 +46,10 @@ impl MailQueue {
     }
 }
 
-/// An empty queue, with all accounts at home.
+/// An empty queue whose take pass has all accounts.
 fn open(
     alloc: Global,
-    kind: Kind,
+    kind: MailboxType,
     to: ActorId,
     senders: &[SenderId],
 ) -> Result<TakePass, AllocError>
@@ -54,24 +57,24 @@ fn open(
     ensures { IfOk result (IsOpened kind to.0 (numbers_of senders.now)) }
 {
     match kind {
-        Kind::Unbounded => {
-            let main = open_lane(alloc, to, senders, Part::Whole)?;
-            Ok(begin(main, Order::FirstInFirstOut))
+        MailboxType::Unbounded => {
+            let main = open_lane(alloc, to, senders, QueuePart::Whole)?;
+            Ok(begin(main, TakeOrder::FirstInFirstOut))
         }
-        Kind::Bounded(capacity) => {
+        MailboxType::Bounded(capacity) => {
             let mut main = Port::bounded(alloc, capacity as usize)?;
-            main.open(senders, to, Part::Whole);
-            Ok(begin(main, Order::FirstInFirstOut))
+            main.open(senders, to, QueuePart::Whole);
+            Ok(begin(main, TakeOrder::FirstInFirstOut))
         }
-        Kind::Priority { rows, other } => {
-            let main = open_lane(alloc, to, senders, Part::Whole)?;
-            let choice = Choice::new(alloc, rows, other)?;
-            Ok(begin(main, Order::ByRank(choice)))
+        MailboxType::Priority { rows, other } => {
+            let main = open_lane(alloc, to, senders, QueuePart::Whole)?;
+            let choice = PriorityState::new(alloc, Ranks::new(rows), other)?;
+            Ok(begin(main, TakeOrder::ByRank(choice)))
         }
-        Kind::Control => {
-            let main = open_lane(alloc, to, senders, Part::Others)?;
-            let control = open_lane(alloc, to, senders, Part::Controls)?;
-            Ok(begin(main, Order::ControlFirst(control)))
+        MailboxType::Control => {
+            let main = open_lane(alloc, to, senders, QueuePart::Others)?;
+            let control = open_lane(alloc, to, senders, QueuePart::Controls)?;
+            Ok(begin(main, TakeOrder::ControlFirst(control)))
         }
     }
 }
@@ -81,7 +84,7 @@ fn open_lane(
     alloc: Global,
     to: ActorId,
     senders: &[SenderId],
-    part: Part,
+    part: QueuePart,
 ) -> Result<Port, AllocError>
     ensures { IfOk result (λ port. (port.lane.capacity ≡ None) × (port.ledger ≡ Taker (scope_of senders.now to.0 part) [] [])) }
 {
@@ -90,8 +93,8 @@ fn open_lane(
     Ok(port)
 }
 
-/// A take pass of nothing yet.
-fn begin(main: Port, order: Order) -> TakePass
+/// A take pass by which nothing was taken yet.
+fn begin(main: Port, order: TakeOrder) -> TakePass
     requires { IsTaking main order [] [] }
     ensures { result ≡ taking_of main order [] [] }
 {
@@ -103,7 +106,7 @@ fn begin(main: Port, order: Order) -> TakePass
     }
 }
 
-/// Lends the account of one sender to a pass of its own.
+/// Lends the account of one sender to its own pass.
 fn lend(take: TakePass, by: SenderId) -> Result<(TakePass, SendPass), AllocError>
     requires known { Contains take.queue.senders by.0 }
     requires home { account take.accounts by.0 ≡ Some [] }
@@ -136,17 +139,17 @@ fn lend(take: TakePass, by: SenderId) -> Result<(TakePass, SendPass), AllocError
     Ok((take, send))
 }
 
-/// The same of the lane of control messages, where there is one.
-fn lend_control(order: &mut Order, by: SenderId) -> Result<Option<Port>, AllocError>
+/// The same for the lane of control messages, where there is one.
+fn lend_control(order: &mut TakeOrder, by: SenderId) -> Result<Option<Port>, AllocError>
     requires { MayLendControl by.0 order.old }
     ensures { IfOk result (LendsControl by.0 order.old order.new) }
 {
     match order {
-        Order::ControlFirst(control) => {
+        TakeOrder::ControlFirst(control) => {
             let port = control.lend(by)?;
             Ok(Some(port))
         }
-        Order::FirstInFirstOut => Ok(None),
-        Order::ByRank(_) => Ok(None),
+        TakeOrder::FirstInFirstOut => Ok(None),
+        TakeOrder::ByRank(_) => Ok(None),
     }
 }

@@ -1,10 +1,12 @@
-//! A sender's way into a queue.
+//! The pass by which one sender pushes into a queue.
 ghost use Rattle.std.specs.Prelude.{◌≡◌, [], ◌∷◌, ◌++◌, IfErr, MatchResult};
-ghost use Rattle.mb_lane.specs.Ledger.{is_control_body};
-ghost use Rattle.mb_lane.specs.Rule.{given_back};
+ghost use Rattle.mb_queue.specs.Ledger.{is_control_body};
+ghost use Rattle.mb_queue.specs.Rule.{given_back};
 ghost use Rattle.mb_queue.specs.Pushes.{IsRefusal};
 
-use mb_lane::{Log, Port, PushError};
+use crate::port::Port;
+use crate::refused::PushError;
+use mb_ghost::Log;
 use mb_msg::{Body, Envelope, SenderId};
 use std::marker::Model;
 use std::sync::Wait;
@@ -23,11 +25,11 @@ pub struct SendPass {
 }
 
 impl Model for SendPass {
-    ghost use Rattle.mb_queue.specs.Passes.{Sending};
+    ghost use Rattle.mb_queue.specs.Passes.{SendPassView};
 
-    ghost Value = { Sending };
+    ghost Value = { SendPassView };
 
-    ghost use Rattle.mb_queue.specs.Kept.{sending, IsSending};
+    ghost use Rattle.mb_queue.specs.Representation.{sending, IsSending};
 
     ghost view = { λ p. sending p.by.0 p.main p.control p.pushed };
 
@@ -35,10 +37,11 @@ impl Model for SendPass {
 }
 
 impl SendPass {
-    ghost use Rattle.mb_queue.specs.Passes.{Sending};
+    ghost use Rattle.mb_queue.specs.Passes.{SendPassView};
 
-    /// Puts an envelope of this sender, to the queue's actor, last in the queue, or gives it back: `Full` only where the queue has a bound and was
-    /// full at a moment of the call, `NoMemory` where a queue without a bound found no memory. Refused, it changes nothing.
+    /// Pushes an envelope of this sender to the queue's actor, or gives it back: `Full` only where the queue has a
+    /// bound and was full at a moment of the call, `NoMemory` only where the queue has no bound and memory was refused.
+    /// Where it is refused, nothing has changed.
     #[inline(always)]
     pub fn push<R: Wait>(&mut self, rt: &R, envelope: Envelope) -> Result<(), PushError>
         requires sender { envelope.by.0 ≡ self.old.by }
@@ -66,7 +69,6 @@ impl SendPass {
     }
 }
 
-/// Whether it is a control message.
 #[inline]
 fn is_control(body: Body) -> bool
     ensures { result ≡ is_control_body body }

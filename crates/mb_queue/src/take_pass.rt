@@ -1,25 +1,27 @@
-//! The mailbox's way into its queue.
+//! The pass by which the mailbox takes from its queue.
 ghost use Rattle.std.specs.Prelude.{◌≡◌, ◌≢◌, ℕ, None, Some, [], ◌∷◌, ◌++◌, All, Contains, IfNone, IfSome, option_to_list};
-ghost use Rattle.mb_lane.specs.Ledger.{home};
+ghost use Rattle.mb_queue.specs.Ledger.{home};
 ghost use Rattle.mb_queue.specs.Fates.{AllJoined, InOrder, NothingLeft, pushed_by};
 ghost use Rattle.mb_queue.specs.Passes.{first_in_first_out, IsOfQueue};
 ghost use Rattle.mb_queue.specs.Takes.{EachOnce, IsTake};
 
-use crate::order::{Order, take_next};
+use crate::ledger::Account;
+use crate::port::Port;
 use crate::send_pass::SendPass;
-use mb_lane::{Account, Log, Port};
+use crate::take_order::{TakeOrder, take_next};
+use mb_ghost::Log;
 use mb_msg::Envelope;
 use std::marker::Model;
 use std::sync::Wait;
 
-/// Takes for the mailbox. Contracts see which queue it is of, what came in and what is held, what it gave, and the accounts
-/// of the senders whose passes were joined.
+/// Takes for the mailbox. Contracts see its queue, what it took from the lanes, what it holds of that, what it gave,
+/// and the accounts of the senders whose passes were joined.
 #[derive(Drop)]
 pub struct TakePass {
     /// The taker's port of the one lane, or of the lane of all but control messages.
     pub(crate) main: Port,
-    /// Whose turn it is, with what that needs: another port, or what is held.
-    pub(crate) order: Order,
+    /// The order, with what it needs: another port, or the envelopes that are held.
+    pub(crate) order: TakeOrder,
     /// What it gave, for proofs alone.
     pub(crate) taken: Log<Envelope>,
     /// The accounts of the senders, for proofs alone.
@@ -27,11 +29,11 @@ pub struct TakePass {
 }
 
 impl Model for TakePass {
-    ghost use Rattle.mb_queue.specs.Passes.{Taking};
+    ghost use Rattle.mb_queue.specs.Passes.{TakePassView};
 
-    ghost Value = { Taking };
+    ghost Value = { TakePassView };
 
-    ghost use Rattle.mb_queue.specs.Kept.{taking_of, IsTakePass};
+    ghost use Rattle.mb_queue.specs.Representation.{taking_of, IsTakePass};
 
     ghost view = { λ p. taking_of p.main p.order p.taken p.accounts };
 
@@ -39,11 +41,12 @@ impl Model for TakePass {
 }
 
 impl TakePass {
-    ghost use Rattle.mb_queue.specs.Passes.{Taking};
+    ghost use Rattle.mb_queue.specs.Passes.{TakePassView};
 
-    /// Takes the next envelope by the order of the queue's kind. `None` only if the queue was empty at a moment of the call
-    /// (of a control-aware queue each of its parts, not both at one); then all that a joined pass pushed was given, and where
-    /// all passes are joined each later take gives `None` too. All that it ever gave is by senders of the queue and to its actor.
+    /// Takes the next envelope in the order of the queue's kind. `None` only if the queue was empty at a moment of the
+    /// call (each lane of a control-aware queue, at a moment of its own). Then all that a joined pass pushed was given,
+    /// and where all passes are joined each later take gives `None` too. All that was ever given is by senders of the
+    /// queue and to its actor.
     #[inline(always)]
     pub fn take<R: Wait>(&mut self, rt: &R) -> Option<Envelope>
         ensures taken { self.new.taken ≡ self.old.taken ++ option_to_list result }
@@ -67,7 +70,7 @@ impl TakePass {
         }
     }
 
-    /// Takes a send pass of this queue in: from now on it is known here what that pushed.
+    /// Joins a send pass of this queue: from now on contracts know here what it pushed.
     pub fn join(&mut self, pass: SendPass)
         requires { pass.queue ≡ self.old.queue }
         ensures joined { self.new ≡ record self.old { accounts = self.old.accounts ++ home pass.by pass.pushed ∷ [] } }
@@ -82,9 +85,9 @@ impl TakePass {
         } = pass;
         self.main.join(main);
         match (&mut self.order, control) {
-            (Order::ControlFirst(own), Some(control)) => own.join(control),
-            (Order::FirstInFirstOut, None) => {}
-            (Order::ByRank(_), None) => {}
+            (TakeOrder::ControlFirst(own), Some(control)) => own.join(control),
+            (TakeOrder::FirstInFirstOut, None) => {}
+            (TakeOrder::ByRank(_), None) => {}
             _ => unreachable!(),
         }
         self.accounts.add(Account {

@@ -1,15 +1,15 @@
-//! Calls on a queue, one after the other on one thread, and what each answers.
+//! Calls on a queue, as data, and what each has to answer.
 ghost use Rattle.std.specs.Prelude.{◌≡◌};
 
 use crate::mail::{NEAR, control, pushed, queue, user, value_taken};
-use crate::sort::Sort;
+use crate::queue_kind::QueueKind;
 use mb_queue::{SendPass, TakePass};
 use std::alloc::{AllocError, Global};
 use std::sync::Wait;
 
-/// One call, and its answer; or many.
+/// One call or several, with the answers.
 #[derive(Clone, Copy)]
-pub enum Step {
+pub enum QueueStep {
     /// A user message of this kind and value is queued.
     Queued(u32, i64),
     /// User messages of kind 1 are queued, of each value from 0 up to this one.
@@ -24,13 +24,13 @@ pub enum Step {
     AllTaken(i64, i64),
 }
 
-/// Whether all steps go so, in a new queue, and nothing is left then. Where memory is refused to a push, the push is made
-/// `again`, or else was not done.
+/// Whether all steps have their answers, in a new queue, and nothing is left then. Where a push is refused memory it is
+/// retried, if `again` is set.
 pub fn is_run<R: Wait>(
     rt: &R,
     alloc: Global,
-    sort: Sort,
-    course: &[Step],
+    sort: QueueKind,
+    course: &[QueueStep],
     again: bool,
 ) -> Result<bool, AllocError> {
     let (mut take, mut near, far) = queue(alloc, sort)?;
@@ -44,7 +44,7 @@ fn all_go<R: Wait>(
     rt: &R,
     take: &mut TakePass,
     near: &mut SendPass,
-    course: &[Step],
+    course: &[QueueStep],
     again: bool,
 ) -> bool
     requires { (near.old.by ≡ 1) × (near.old.queue.to ≡ 2) }
@@ -58,24 +58,30 @@ fn all_go<R: Wait>(
     are_so
 }
 
-fn goes<R: Wait>(rt: &R, take: &mut TakePass, near: &mut SendPass, step: Step, again: bool) -> bool
+fn goes<R: Wait>(
+    rt: &R,
+    take: &mut TakePass,
+    near: &mut SendPass,
+    step: QueueStep,
+    again: bool,
+) -> bool
     requires { (near.old.by ≡ 1) × (near.old.queue.to ≡ 2) }
     ensures taker { take.new.queue ≡ take.old.queue }
     ensures sender { (near.new.queue ≡ near.old.queue) × (near.new.by ≡ near.old.by) }
 {
     match step {
-        Step::Queued(kind, value) => {
+        QueueStep::Queued(kind, value) => {
             pushed(rt, near, user(NEAR, 0, kind, value), again) == Some(true)
         }
-        Step::AllQueued(end) => are_queued(rt, near, end, again),
-        Step::ControlQueued(value) => {
+        QueueStep::AllQueued(end) => are_queued(rt, near, end, again),
+        QueueStep::ControlQueued(value) => {
             pushed(rt, near, control(NEAR, 0, value), again) == Some(true)
         }
-        Step::Full(kind, value) => {
+        QueueStep::Full(kind, value) => {
             pushed(rt, near, user(NEAR, 0, kind, value), again) == Some(false)
         }
-        Step::Taken(value) => value_taken(rt, take) == Some(value),
-        Step::AllTaken(from, end) => are_taken(rt, take, from, end),
+        QueueStep::Taken(value) => value_taken(rt, take) == Some(value),
+        QueueStep::AllTaken(from, end) => are_taken(rt, take, from, end),
     }
 }
 

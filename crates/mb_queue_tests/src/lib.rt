@@ -10,6 +10,6 @@ mod mail;
 #[cfg(test)]
 mod memory;
 #[cfg(test)]
-mod sort;
+mod queue_kind;
 #[cfg(test)]
 mod threads;

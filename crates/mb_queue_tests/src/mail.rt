@@ -1,13 +1,13 @@
-//! A queue of two senders, and the calls of its passes with no more of their contracts than the tests need.
+//! A queue of two senders, with wrappers of the calls that have only as much of the contracts as the tests need.
 ghost use Rattle.std.specs.Prelude.{◌≡◌, [], ◌∷◌, IfOk};
 
-use crate::sort::{Sort, kind_of};
+use crate::queue_kind::{QueueKind, kind_of};
 use mb_msg::{ActorId, Body, Envelope, SenderId};
 use mb_queue::{MailQueue, PushError, SendPass, TakePass};
 use std::alloc::{AllocError, Global};
 use std::sync::Wait;
 
-/// The actor that every queue here is of.
+/// The actor of every queue here.
 pub const ME: ActorId = ActorId(2);
 
 /// The two senders of every queue here.
@@ -38,7 +38,7 @@ pub fn control(by: SenderId, number: u64, value: i64) -> Envelope
 }
 
 /// A queue and the passes of its two senders.
-pub fn queue(alloc: Global, sort: Sort) -> Result<(TakePass, SendPass, SendPass), AllocError>
+pub fn queue(alloc: Global, sort: QueueKind) -> Result<(TakePass, SendPass, SendPass), AllocError>
     ensures queue { IfOk result (λ r. (r.1.queue ≡ r.0.queue) × (r.2.queue ≡ r.0.queue)) }
     ensures senders { IfOk result (λ r. (r.1.by ≡ 1) × (r.2.by ≡ 64)) }
     ensures actor { IfOk result (λ r. r.0.queue.to ≡ 2) }
@@ -55,8 +55,8 @@ pub fn queue(alloc: Global, sort: Sort) -> Result<(TakePass, SendPass, SendPass)
     Ok((take, near, far))
 }
 
-/// Whether the push was done; if not, the envelope came back as from a full queue. Where memory is refused the envelope comes
-/// back too, and if it is to be pushed `again`, the same push is done then.
+/// Whether the push was done; if not, the envelope came back. Where memory was refused, the push is retried if `again`
+/// is set.
 pub fn pushed<R: Wait>(rt: &R, pass: &mut SendPass, envelope: Envelope, again: bool) -> Option<bool>
     requires { (envelope.by.0 ≡ pass.old.by) × (envelope.to.0 ≡ pass.old.queue.to) }
     ensures { (pass.new.queue ≡ pass.old.queue) × (pass.new.by ≡ pass.old.by) }
@@ -76,7 +76,7 @@ pub fn taken<R: Wait>(rt: &R, take: &mut TakePass) -> Option<Envelope>
     take.take(rt)
 }
 
-/// The value of the message that is taken.
+/// The value of the message that is taken, if there is one.
 pub fn value_taken<R: Wait>(rt: &R, take: &mut TakePass) -> Option<i64>
     ensures { take.new.queue ≡ take.old.queue }
 {

@@ -1,7 +1,7 @@
-//! Memory that is refused: run this with each allocation refused in turn (`tools/refuse_each_allocation_of_a_queue`).
+//! Memory that is refused: `tools/refuse_each_allocation queue` runs this with each allocation refused in turn.
 use crate::alone::COURSES;
-use crate::course::{Step, is_run};
-use crate::sort::Sort;
+use crate::course::{QueueStep, is_run};
+use crate::queue_kind::QueueKind;
 use std::alloc::{AllocError, Global};
 use std::sync::Wait;
 use std::test::Fail;
@@ -15,12 +15,12 @@ fn a_refused_push_can_be_made_again(rt: HostRuntime) -> Result<(), Fail> {
     Ok(())
 }
 
-/// Whether all steps go so, with a queue that is made again where memory was refused.
+/// Whether all steps have their answers; making the queue is retried where memory was refused.
 fn is_run_at_last<R: Wait>(
     rt: &R,
     alloc: Global,
-    sort: Sort,
-    steps: &[Step],
+    sort: QueueKind,
+    steps: &[QueueStep],
 ) -> Result<bool, AllocError> {
     match is_run(rt, alloc, sort, steps, true) {
         Err(_) => is_run(rt, alloc, sort, steps, true),

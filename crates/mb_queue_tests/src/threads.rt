@@ -1,11 +1,11 @@
-//! Two senders and a taker, each on its thread, for each kind of queue.
+//! Tests with two senders and a taker, each on its own thread, for each kind of queue.
 ghost use Rattle.std.specs.Prelude.{◌≡◌};
 ghost use Rattle.mb_queue.specs.Fates.{AllJoined, InOrder};
 ghost use Rattle.mb_queue.specs.Passes.{first_in_first_out};
 ghost use Rattle.mb_queue.specs.Takes.{EachOnce};
 
 use crate::mail::{FAR, NEAR, control, pushed, queue, taken, user};
-use crate::sort::Sort;
+use crate::queue_kind::QueueKind;
 use mb_msg::{Envelope, SenderId};
 use mb_queue::{SendPass, TakePass};
 use std::alloc::{AllocError, Global};
@@ -20,12 +20,12 @@ const EACH: u64 = 1_000;
 /// How often a thread tries.
 const TURNS: u64 = 100_000_000;
 
-/// What a sending thread pushes: even numbers of one part and odd ones of another, where they are told apart.
+/// What a sending thread pushes: the even numbers are one part and the odd ones another.
 #[derive(Clone, Copy)]
 struct Parts {
-    /// Even numbers are control messages, and else user messages of kind 9.
+    /// Whether even numbers are control messages; else they are user messages of kind 9.
     has_control: bool,
-    /// Each part comes in its order, but not both in one.
+    /// Whether each part comes in its own order; else all come in one order.
     are_two: bool,
 }
 
@@ -44,11 +44,11 @@ const CONTROL_FIRST: Parts = Parts {
     are_two: true,
 };
 
-const QUEUES: [(&str, Sort, Parts); 4] = [
-    ("unbounded", Sort::Unbounded, IN_ONE),
-    ("bounded", Sort::OfSixteen, IN_ONE),
-    ("by rank", Sort::Ranked, BY_RANK),
-    ("control-aware", Sort::Control, CONTROL_FIRST),
+const QUEUES: [(&str, QueueKind, Parts); 4] = [
+    ("unbounded", QueueKind::Unbounded, IN_ONE),
+    ("bounded", QueueKind::OfSixteen, IN_ONE),
+    ("by rank", QueueKind::Ranked, BY_RANK),
+    ("control-aware", QueueKind::Control, CONTROL_FIRST),
 ];
 
 #[test]
@@ -59,12 +59,12 @@ fn all_come_among_threads(rt: HostRuntime) -> Result<(), Fail> {
     Ok(())
 }
 
-/// Two threads push and a third takes; then the passes are joined, and nothing is left. Whether all envelopes of both senders
-/// come once, and nothing else; of each sender those of each part in their order.
+/// Two threads push and a third takes; then the passes are joined, and nothing is left. Whether all envelopes of both
+/// senders come once, and nothing else, those of each sender and part in order.
 fn run_three<R: Threads + Wait + Sync>(
     rt: &R,
     alloc: Global,
-    sort: Sort,
+    sort: QueueKind,
     parts: Parts,
 ) -> Result<bool, AllocError> {
     let (take, near, far) = queue(alloc, sort)?;
@@ -88,7 +88,8 @@ fn run_three<R: Threads + Wait + Sync>(
     Ok(all_come)
 }
 
-/// What is known at the end: of both senders each envelope was taken once, first in, first out in the sender's order.
+/// What the contracts say at the end: each envelope of both senders was taken once, and first in, first out in the
+/// sender's order.
 fn expect_all_taken(take: &TakePass)
     requires each_once { AllJoined take.now × EachOnce take.now }
     requires in_order { take.now.turns ≡ first_in_first_out → InOrder take.now }
@@ -118,7 +119,7 @@ fn push_and_take<R: Threads + Wait + Sync>(
     )
 }
 
-/// Pushes all of one sender, each as often as it takes.
+/// Pushes all envelopes of one sender, each until it succeeds.
 fn push_all<R: Wait>(rt: &R, mut pass: SendPass, by: SenderId, parts: Parts) -> SendPass
     requires { (pass.by ≡ by.0) × (pass.queue.to ≡ 2) }
     ensures { (result.queue ≡ pass.queue) × (result.by ≡ pass.by) }
@@ -154,7 +155,7 @@ fn push_one<R: Wait>(rt: &R, pass: &mut SendPass, envelope: Envelope)
     }
 }
 
-/// Takes as many as both senders push: whether each was due.
+/// Takes as many as both senders push; whether each was due.
 fn take_all<R: Wait>(rt: &R, mut take: TakePass, parts: Parts) -> (TakePass, bool)
     ensures { result.0.queue ≡ take.queue }
 {
@@ -176,7 +177,7 @@ fn take_all<R: Wait>(rt: &R, mut take: TakePass, parts: Parts) -> (TakePass, boo
     (take, are_due && count == 2 * EACH)
 }
 
-/// Whether this envelope's number is the one that is due of its sender's part; then the next one is.
+/// Whether this envelope's number is the one that is due for its sender and part; then the next one is due.
 fn is_due(due: &mut [u64; 4], envelope: Envelope, parts: Parts) -> bool {
     let is_odd = parts.are_two && envelope.number % 2 == 1;
     let place = match (envelope.by == FAR, is_odd) {

@@ -9,7 +9,7 @@ use Rattle.mb_journal.specs.Entry.Outcome.{Applied}
 use Rattle.mb_report.specs.declared.report.ActorReport.{ActorReport}
 use Rattle.mb_report.specs.declared.report.SenderReport.{SenderReport}
 
--- the entry tells of an envelope, that the actor handled or that was dropped
+-- the entry is of an envelope, which the actor handled or which was dropped
 abbrev pub tells_of_envelope : Entry → Bool
 tells_of_envelope (Handled envelope reading outcome) = true
 tells_of_envelope (System number message outcome) = false
@@ -21,7 +21,7 @@ may_restart (system.Recreate cause) = true
 may_restart (system.Resume of_failure) = true
 may_restart _ = false
 
--- the entry tells of a call of the actor's `restart`: a message that restarts, for which the actor was called
+-- the entry is of a call of the actor's `restart`: of a message that restarts, for which the actor was called
 abbrev pub tells_of_restart : Entry → Bool
 tells_of_restart (System number message (Applied (Some answer) effects)) = may_restart message
 tells_of_restart _ = false

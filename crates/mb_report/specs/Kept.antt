@@ -3,7 +3,7 @@ use Rattle.std.specs.Prelude.{string_bytes}
 use Rattle.mb_report.specs.Lines.{LineData}
 use Rattle.mb_report.specs.declared.line.Line.{Line}
 
--- a line without where it lies in memory
+-- a line of the code, as contracts see it
 abbrev pub kept : Line → LineData
 kept line = record {
   name = string_bytes line.name;

@@ -55,7 +55,7 @@ state_text (Some number) = signed_decimal number
 unfoldable pub counts_text : ℕ → ℕ → ℕ → List ℕ
 counts_text handled left dead = codes " handled " ++ decimal handled ++ codes " left " ++ decimal left ++ codes " dead " ++ decimal dead
 
--- where an actor stands, as it is printed
+-- the phase and the state of an actor, as it is printed
 unfoldable pub standing_text : List ℕ → Phase → Option ℤ → List ℕ
 standing_text name phase state = name ++ codes " " ++ phase_text phase ++ codes " state " ++ state_text state
 
@@ -63,6 +63,7 @@ standing_text name phase state = name ++ codes " " ++ phase_text phase ++ codes 
 unfoldable pub suspended_text : ℕ → List ℕ
 suspended_text suspended = codes " suspended " ++ decimal suspended
 
+-- how many restarts there were, as it is printed, with the end of the line
 unfoldable pub restarts_text : ℕ → List ℕ
 restarts_text restarts = codes " restarts " ++ decimal restarts ++ codes "\n"
 
@@ -75,6 +76,7 @@ line_text line = standing_text line.name line.phase line.state ++ suspended_text
 abbrev pub totals_text : ℕ → ℕ → ℕ → List ℕ
 totals_text handled left dead = codes "sent " ++ decimal (handled + left + dead) ++ counts_text handled left dead ++ codes "\n"
 
+-- the line of totals: the sums over the lines
 abbrev pub totals_of : List LineData → List ℕ
 totals_of lines = totals_text (sum_by (λ (line : LineData). line.handled) lines) (sum_by (λ (line : LineData). line.left) lines)
     (sum_by (λ (line : LineData). line.dead) lines)

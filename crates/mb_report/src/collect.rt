@@ -1,4 +1,4 @@
-//! The lines of a report.
+//! Making the lines of a report.
 
 ghost use Rattle.std.specs.Prelude.{◌≡◌, ◌+◌, ◌<◌, ◌≤◌, ◌^◌, [], ◌∷◌, codes, IfOk, length, map, slice_index_or};
 ghost use Rattle.std.specs.Prelude.{string_bytes};
@@ -11,7 +11,7 @@ use crate::lines::Lines;
 use crate::report::{ActorReport, Report, SenderReport};
 use std::alloc::{AllocError, Global};
 
-/// The lines of a report, whose actors have these names beside the guardian.
+/// The lines of a report; the actors other than the guardian have these names.
 pub(crate) fn lines_of(
     alloc: Global,
     report: &Report,

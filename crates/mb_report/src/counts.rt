@@ -1,22 +1,20 @@
-//! The numbers of a report, counted in its lists.
+//! Counting the numbers of a report in its lists.
 
 ghost use Rattle.std.specs.Prelude.{◌≡◌, ◌+◌, ◌*◌, ◌-◌, ◌<◌, ◌≤◌, ◌^◌, length, count_by, if◌then◌else◌};
-ghost use Rattle.mb_journal.specs.Log.{entry_of};
+ghost use Rattle.mb_journal.specs.JournalView.{entry_of};
 ghost use Rattle.mb_report.specs.Counts.{tells_of_envelope, tells_of_restart, may_restart, is_to, refused_to};
 
 use crate::report::SenderReport;
-use mb_journal::{Arrival, Journal, Record};
+use mb_journal::{EntryRef, Journal, Received};
 use mb_msg::{DeadLetter, SysMsg};
 
-/// What a journal tells how often.
+/// How many entries of a kind a journal has.
 pub(crate) struct Counts {
-    /// An envelope that was handled or dropped.
+    /// Envelopes that were handled or dropped.
     pub(crate) handled: usize,
-    /// A restart.
     pub(crate) restarts: usize,
 }
 
-/// How often a journal tells of an envelope and of a restart.
 pub(crate) fn counts_of(journal: &Journal) -> Counts
     ensures handled { result.handled ≡ count_by tells_of_envelope journal.now.entries }
     ensures restarts { result.restarts ≡ count_by tells_of_restart journal.now.entries }
@@ -31,7 +29,7 @@ pub(crate) fn counts_of(journal: &Journal) -> Counts
     Counts { handled, restarts }
 }
 
-/// One more, where it is so.
+/// One more where the condition holds.
 fn plus_if(count: usize, is_so: bool) -> usize
     requires { count < 2 ^ 64 - 1 }
     ensures value { result ≡ count + (if is_so then 1 else 0) }
@@ -40,22 +38,22 @@ fn plus_if(count: usize, is_so: bool) -> usize
     if is_so { count + 1 } else { count }
 }
 
-/// Whether the entry tells of an envelope.
-fn tells_of_envelope(entry: &Record<'_>) -> bool
+/// Whether the entry is of an envelope.
+fn tells_of_envelope(entry: &EntryRef<'_>) -> bool
     ensures { result ≡ tells_of_envelope (entry_of entry.now) }
 {
     match entry.arrival {
-        Arrival::Handled { .. } | Arrival::Dropped { .. } => true,
-        Arrival::System { .. } | Arrival::SetAside { .. } => false,
+        Received::Handled { .. } | Received::Dropped { .. } => true,
+        Received::System { .. } | Received::SetAside { .. } => false,
     }
 }
 
-/// Whether the entry tells of a restart.
-fn tells_of_restart(entry: &Record<'_>) -> bool
+/// Whether the entry is of a restart.
+fn tells_of_restart(entry: &EntryRef<'_>) -> bool
     ensures { result ≡ tells_of_restart (entry_of entry.now) }
 {
     match entry.arrival {
-        Arrival::System {
+        Received::System {
             answer: Some(_),
             number: _,
             message,
@@ -64,7 +62,7 @@ fn tells_of_restart(entry: &Record<'_>) -> bool
     }
 }
 
-/// Whether an actor is restarted by this system message, if by any.
+/// Whether this system message can restart an actor.
 fn may_restart(message: SysMsg) -> bool
     ensures { result ≡ may_restart message }
 {

@@ -1,6 +1,6 @@
-//! What a run of a system of actors has come to, and how that is printed.
+//! The report of a run: what became of each actor and each sender, and how that is printed.
 //!
-//! A report lists what became of each actor and of each sender. Every number that is printed is a query of these lists.
+//! A report is lists, and every number that is printed is a query of them.
 #![tactic(auto)]
 
 mod collect;

@@ -1,3 +1,4 @@
+//! The line of one actor.
 ghost use Rattle.std.specs.Prelude.{◌≡◌, Some};
 ghost use Rattle.std.specs.Fmt.{WritesOnOk};
 ghost use Rattle.mb_report.specs.Lines.{phase_text, standing_text, suspended_text, counts_text, restarts_text, line_text};
@@ -9,9 +10,8 @@ use std::fmt;
 /// What the report says of one actor. Its `Display` is the actor's line.
 #[derive(Drop)]
 pub(crate) struct Line {
-    /// The actor's name.
     pub(crate) name: String,
-    /// Where it stands in its life.
+    /// The phase of its life.
     pub(crate) phase: Phase,
     /// Its content; the guardian has none.
     pub(crate) state: Option<i64>,
@@ -81,7 +81,7 @@ pub(crate) fn write_counts<W: fmt::Write>(
     write!(f, " handled {handled} left {left} dead {dead}")
 }
 
-/// The word for a phase.
+/// The word for a phase, as it is printed.
 fn word(phase: Phase) -> &'static str
     ensures { result.now ≡ phase_text phase }
 {

@@ -1,3 +1,4 @@
+//! The lines of all actors.
 ghost use Rattle.std.specs.Prelude.{◌<◌, ◌≤◌, ◌^◌, Some, length, map};
 ghost use Rattle.std.specs.List.{All};
 

@@ -1,3 +1,4 @@
+//! The report of a run, as lists.
 ghost use Rattle.std.specs.Prelude.{◌≤◌, length};
 
 use mb_actor::Phase;
@@ -7,7 +8,7 @@ use mb_msg::{DeadLetter, Envelope, SysMsg};
 /// What became of one actor.
 #[derive(Drop)]
 pub struct ActorReport {
-    /// Where it stands in its life.
+    /// The phase of its life.
     pub phase: Phase,
     /// How many suspensions keep its envelopes waiting: 0 once it is closed.
     pub count: u64,
@@ -34,15 +35,15 @@ pub struct SenderReport {
     pub dead: Vec<DeadLetter>,
 }
 
-/// What a run has come to: the actors in the order of their numbers, the guardian first, and the senders, each actor as
-/// a sender first and then those outside.
+/// What a run has come to: the actors by their numbers, the guardian first; and the senders, first each actor as a
+/// sender and then those outside.
 #[derive(Drop)]
 pub struct Report {
     /// The actors.
     pub actors: Vec<ActorReport>,
     /// The senders.
     pub senders: Vec<SenderReport>,
-    // As many as a plan may have: the totals then fit.
+    // The most that a plan may have. The totals fit then.
     pub ghost few_actors: { length actors.items ≤ 64 },
     pub ghost few_senders: { length senders.items ≤ 80 },
 }

@@ -1,3 +1,4 @@
+//! The line of totals.
 ghost use Rattle.std.specs.Prelude.{◌≡◌, ◌+◌, ◌<◌, ◌≤◌, ◌^◌, length, map, sum_by};
 ghost use Rattle.std.specs.Fmt.{WritesOnOk};
 ghost use Rattle.std.specs.List.{All};
@@ -8,14 +9,12 @@ ghost use Rattle.mb_report.specs.declared.line.Line.{Line as LineType};
 use crate::line::{Line, write_counts};
 use std::fmt;
 
-/// Sums over the actors.
 struct Sums {
     handled: u128,
     left: u128,
     dead: u128,
 }
 
-/// Writes the line of totals.
 pub(crate) fn write_totals<W: fmt::Write>(f: &mut fmt::Formatter<W>, lines: &[Line]) -> fmt::Result
     requires few { length lines.now ≤ 64 }
     requires small { All (λ (line : LineType). line.dead < 2 ^ 72) lines.now }

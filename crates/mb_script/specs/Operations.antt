@@ -1,7 +1,7 @@
 -- What the operations of a script do, one after another (this project's own profile: in Akka it is the actor's own code).
 use Rattle.std.specs.Prelude.{ℕ, ℤ, ◌+ℤ◌, List, [], ◌∷◌, fold, Option, Some, None}
 use Rattle.std.specs.Int.{w64, saturate_signed}
-use Rattle.mb_actor.specs.Tray.{Tray, added, refusal}
+use Rattle.mb_actor.specs.OutboxView.{OutboxView, added, refusal}
 use Rattle.mb_actor.specs.declared.answer.Answer.{Answer}
 use Rattle.mb_actor.specs.declared.answer.Answer.TheVariants.{Handled, Failed}
 use Rattle.mb_actor.specs.declared.effect.Effect.{Effect}
@@ -29,7 +29,7 @@ answer_by (Some number) = Failed number
 abbrev pub answer_after : List Operation → Answer
 answer_after operations = answer_by (failure operations)
 
--- the state after one operation: `add` grows it by the message's value, held at the ends of 64 bits
+-- the state after one operation: `add` adds the message's value, saturating at the ends of 64 bits
 abbrev pub after_operation : ℤ → ℤ → Operation → ℤ
 after_operation value state Add = saturate_signed w64 (state +ℤ value)
 after_operation value state _ = state
@@ -49,10 +49,10 @@ effect_of value (Spawn x) = Some (effect.Spawn x)
 effect_of value _ = None
 
 -- the outbox once an effect was asked for: one that it refuses is left out
-abbrev pub asked : Option Effect → Tray → Tray
+abbrev pub asked : Option Effect → OutboxView → OutboxView
 asked None tray = tray
 asked (Some e) tray = added (refusal tray e) e tray
 
 -- the outbox once the operations are done
-abbrev pub asked_by : ℤ → Tray → List Operation → Tray
+abbrev pub asked_by : ℤ → OutboxView → List Operation → OutboxView
 asked_by value tray operations = fold (λ t operation. asked (effect_of value operation) t) tray (done operations)

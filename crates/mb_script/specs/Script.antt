@@ -1,7 +1,7 @@
 -- What a script does with the calls of its actor (this project's own profile: in Akka it is the actor's own code).
 use Rattle.std.specs.Prelude.{◌≡◌, ℕ, ℤ, pos, List, [], ◌∷◌, ◌==◌, fold, Option, Some, None, option_map, if◌then◌else◌}
 use Rattle.mb_actor.specs.Behaviour.{Moment, Reply}
-use Rattle.mb_actor.specs.Tray.{Tray}
+use Rattle.mb_actor.specs.OutboxView.{OutboxView}
 use Rattle.mb_actor.specs.declared.answer.Answer.{Answer}
 use Rattle.mb_actor.specs.declared.answer.Answer.TheVariants.{Unhandled}
 use Rattle.mb_actor.specs.declared.call.Call.{Call}
@@ -18,7 +18,7 @@ pub record RowData : Type 0 where
   pub kind : ℕ
   pub operations : List Operation
 
--- a row without where it lies in memory
+-- a row of the code, as contracts see it
 abbrev pub row_data : Row → RowData
 row_data row = record { kind = row.kind; operations = row.operations.items }
 
@@ -42,7 +42,7 @@ abbrev pub row_for : ℕ → List RowData → Option RowData
 row_for kind [] = None
 row_for kind (row ∷ rows) = if row.kind == kind then Some row else row_for kind rows
 
--- what is done, and with which value
+-- the work of a call: the operations, and their value
 pub record Work : Type 0 where
   pub operations : List Operation
   pub value : ℤ
@@ -73,7 +73,7 @@ answer_to script Stop = None
 answer_to script call = Some (answer_with (work_for script call))
 
 -- the outbox once the work is done
-abbrev pub asked_with : Option Work → Tray → Tray
+abbrev pub asked_with : Option Work → OutboxView → OutboxView
 asked_with None tray = tray
 asked_with (Some work) tray = asked_by work.value tray work.operations
 

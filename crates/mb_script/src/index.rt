@@ -1,4 +1,4 @@
-//! The table that finds the first row of a kind.
+//! The index that finds the first row of a kind.
 
 ghost use Rattle.std.specs.Prelude.{◌≡◌, All, IfOk, length, map, option_map};
 ghost use Rattle.std.specs.BTreeMap.{IsEmpty};
@@ -9,16 +9,15 @@ use crate::operation::Row;
 use std::alloc::{AllocError, Global};
 use std::collections::BTreeMap;
 
-/// Where the first row of each kind stands. There are as many maps as rows, and a kind is in the one that its
-/// remainder names: so mostly a map has few kinds, and where all are in one it is still searched in order.
+/// Where the first row of each kind is. There are as many maps as rows, and a kind is in the map of its remainder. So a
+/// map mostly has few kinds, and where all are in one it is still an ordered map.
 pub(crate) type Index = Vec<BTreeMap<u32, usize>>;
 
-/// The index of the rows.
 pub(crate) fn index_of(alloc: Global, rows: &[Row]) -> Result<Index, AllocError>
     ensures { IfOk result (λ index. IsIndexFrom 0 rows.now index.items) }
 {
     let mut index = empty_maps(alloc, rows.len())?;
-    // From the last row on, so that the first of a kind stays.
+    // Backwards, so that the first row of a kind is the one that stays.
     let mut place = rows.len();
     while place > 0 {
         place -= 1;
@@ -29,7 +28,7 @@ pub(crate) fn index_of(alloc: Global, rows: &[Row]) -> Result<Index, AllocError>
     Ok(index)
 }
 
-/// So many maps without an entry.
+/// This many empty maps.
 fn empty_maps(alloc: Global, count: usize) -> Result<Index, AllocError>
     ensures count { IfOk result (λ index. length index.items ≡ count) }
     ensures empty { IfOk result (λ index. All IsEmpty index.items) }
@@ -41,7 +40,7 @@ fn empty_maps(alloc: Global, count: usize) -> Result<Index, AllocError>
     Ok(index)
 }
 
-/// How many rows are sooner looked through than found by an index.
+/// Up to this many rows a linear search is faster than the index.
 const FEW: usize = 8;
 
 /// The first row for messages of the kind.
@@ -60,7 +59,7 @@ pub(crate) fn first_of_kind<'a>(
     }
 }
 
-/// The same, found by looking at one row after another.
+/// The same by linear search.
 fn first_in_order(rows: &[Row], kind: u32) -> Option<&Row>
     ensures { option_map (λ row. row_data row.now) result ≡ row_for kind (map row_data rows.now) }
 {
@@ -72,7 +71,7 @@ fn first_in_order(rows: &[Row], kind: u32) -> Option<&Row>
     None
 }
 
-/// The same, found by the index.
+/// The same by the index.
 fn first_by_index<'a>(rows: &'a [Row], index: &[BTreeMap<u32, usize>], kind: u32) -> Option<&'a Row>
     requires { IsIndexFrom 0 rows.now index.now }
     ensures { option_map (λ row. row_data row.now) result ≡ row_for kind (map row_data rows.now) }

@@ -1,4 +1,4 @@
-//! The actor that does what its script says: its rows tell which operations each kind of message asks for.
+//! An actor that runs a script: for each kind of message its rows list the operations.
 #![tactic(auto)]
 
 mod index;

@@ -1,13 +1,14 @@
+//! The operations and rows of scripts.
 use mb_msg::ActorId;
 
 /// What a script can do with a message that has a value.
 #[derive(Clone, Copy, Debug, PartialEq, Eq)]
 pub enum Operation {
-    /// The state grows by the value, held at the ends of `i64`. It does so with messages of a kind alone.
+    /// Adds the value to the state, saturating at the ends of `i64`. In rows alone: a hook leaves the state as it is.
     Add,
     /// Nothing.
     Ignore,
-    /// The actor answers that it failed, with this number. What comes after is not done.
+    /// The actor answers that it failed, with this number. The operations after it are not done.
     Fail(u32),
     /// This actor is sent a message of this kind, with the value.
     Tell { to: ActorId, kind: u32 },

@@ -1,4 +1,4 @@
-//! Doing operations.
+//! Performing the operations of a script.
 
 ghost use Rattle.std.specs.Prelude.{◌≡◌};
 ghost use Rattle.mb_script.specs.Operations.{after_operation, answer_after, asked, asked_by, effect_of, grown};
@@ -6,16 +6,16 @@ ghost use Rattle.mb_script.specs.Operations.{after_operation, answer_after, aske
 use crate::operation::Operation;
 use mb_actor::{Answer, Outbox};
 
-/// What operations have come to.
+/// What the operations of a row came to.
 #[derive(Clone, Copy)]
 pub(crate) struct Performed {
     /// The state after them.
     pub(crate) state: i64,
-    /// What is answered.
+    /// The actor's answer.
     pub(crate) answer: Answer,
 }
 
-/// Does the operations in order, up to the first that fails. An effect that the outbox refuses is left out.
+/// Performs the operations in order, up to the first that fails. An effect that the outbox refuses is left out.
 #[inline(always)]
 pub(crate) fn perform(
     operations: &[Operation],
@@ -46,7 +46,6 @@ pub(crate) fn perform(
     }
 }
 
-/// The state after one operation.
 fn after_operation(state: i64, operation: Operation, value: i64) -> i64
     ensures { result ≡ after_operation value state operation }
 {

@@ -1,3 +1,4 @@
+//! The actor that runs a script.
 ghost use Rattle.std.specs.Prelude.{◌≡◌, IfOk, map, option_map};
 ghost use Rattle.mb_script.specs.Script.{answer_with, after_work, asked_with, row_data, work_of_kind};
 
@@ -9,7 +10,7 @@ use mb_msg::Cause;
 use std::alloc::{AllocError, Global};
 use std::marker::Model;
 
-/// What a script does beside its rows.
+/// What a script does at the hooks of an actor.
 #[derive(Debug, Drop)]
 pub struct Hooks {
     /// At a start.
@@ -18,13 +19,13 @@ pub struct Hooks {
     pub restart: Vec<Operation>,
     /// At the end.
     pub stop: Vec<Operation>,
-    /// When an actor has ended that it watches; without it that is not handled.
+    /// When an actor that it watches has ended. Without it the Terminated is not handled.
     pub terminated: Option<Vec<Operation>>,
 }
 
-/// An actor with a number for its state, which does with a message what the first row of its kind says.
+/// An actor whose state is a number. It does with a message what the first row of the message's kind says.
 ///
-/// A message of a kind that has no row is not handled. Where the rows are many, a message takes hardly longer.
+/// A message of a kind without a row is not handled. With many rows a message takes hardly longer.
 #[derive(Drop)]
 pub struct Script {
     initial: i64,
@@ -58,7 +59,7 @@ impl Model for Script {
 }
 
 impl Script {
-    /// An actor whose state begins at `initial`, with these hooks and rows. Its one error is that memory was refused.
+    /// An actor whose state begins at `initial`, with these hooks and rows. The only error: memory was refused.
     pub fn new(
         alloc: Global,
         initial: i64,
@@ -87,7 +88,7 @@ impl Script {
         })
     }
 
-    /// What it does beside its rows.
+    /// What it does at the hooks.
     pub fn hooks(&self) -> &Hooks
         ensures start { result.now.start.items ≡ self.now.script.start }
         ensures restart { result.now.restart.items ≡ self.now.script.restart }

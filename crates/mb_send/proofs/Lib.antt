@@ -1,8 +1,8 @@
 pub mod Posting
 pub mod Routes
 pub mod Answering
-pub mod Vouching
+pub mod SeenClosed
 pub mod Bounding
 pub mod Crossing
-pub mod Owing
+pub mod Obligations
 pub mod Failing

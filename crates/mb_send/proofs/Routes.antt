@@ -4,12 +4,12 @@ use Rattle.std.proofs.Common.{◌∷◌, ◌++◌, Some, None, slice_get, slice_
 use Rattle.std.proofs.lemmas.Option.{none-some, same_Some}
 use Rattle.mb_msg.specs.declared.envelope.Envelope.{Envelope}
 use Rattle.mb_msg.specs.declared.dead_letter.Why.{Why}
-use Rattle.mb_fates.specs.declared.posting.Posting.{Posting}
-use Rattle.mb_fates.specs.Accepted.{queued, to_actor}
-use Rattle.mb_queue.specs.Passes.{Queue, Sending}
+use Rattle.mb_journal.specs.declared.sent_envelope.SentEnvelope.{SentEnvelope}
+use Rattle.mb_journal.specs.Accepted.{queued, to_actor}
+use Rattle.mb_queue.specs.Passes.{Queue, SendPassView}
 use Rattle.mb_send.specs.Posted.{posting}
 use Rattle.mb_send.specs.Sends.{AreRoutes, IsRoute, receiving_queues}
-use Rattle.mb_wake.proofs.Bits.{same_or_other}
+use Rattle.mb_register.proofs.Bits.{same_or_other}
 use Rattle.mb_send.proofs.Posting.{route-more, route-other, route-dead}
 
 set-at : {A : Type 0} (xs : List A) (k : ℕ) (y s : A) → slice_get (slice_set xs k y) k ≡ Some s → s ≡ y
@@ -25,22 +25,22 @@ set-other (x ∷ xs) (suc k) zero y ne = refl
 set-other (x ∷ xs) (suc k) (suc i) y ne = set-other xs k i y (λ e. ne (ap suc e))
 
 -- the queue of a pass
-pub queue-there : (xs : List Sending) (k : ℕ) (old : Sending) → slice_get xs k ≡ Some old → slice_get (receiving_queues xs) k ≡ Some old.queue
+pub queue-there : (xs : List SendPassView) (k : ℕ) (old : SendPassView) → slice_get xs k ≡ Some old → slice_get (receiving_queues xs) k ≡ Some old.queue
 queue-there [] k old there = absurd (none-some old there)
-queue-there (x ∷ xs) zero old there = ap (λ (s : Sending). Some s.queue) (same_Some x old there)
+queue-there (x ∷ xs) zero old there = ap (λ (s : SendPassView). Some s.queue) (same_Some x old there)
 queue-there (x ∷ xs) (suc k) old there = queue-there xs k old there
 
 -- a pass that is of its queue still leaves the queues as they were
-pub queues-set : (xs : List Sending) (k : ℕ) (old new : Sending) → slice_get xs k ≡ Some old → new.queue ≡ old.queue →
+pub queues-set : (xs : List SendPassView) (k : ℕ) (old new : SendPassView) → slice_get xs k ≡ Some old → new.queue ≡ old.queue →
     receiving_queues (slice_set xs k new) ≡ receiving_queues xs
 queues-set [] k old new there same = refl
 queues-set (x ∷ xs) zero old new there same =
-    ap (λ (q : Queue). q ∷ receiving_queues xs) (same ∙ ap (λ (s : Sending). s.queue) (sym (same_Some x old there)))
+    ap (λ (q : Queue). q ∷ receiving_queues xs) (same ∙ ap (λ (s : SendPassView). s.queue) (sym (same_Some x old there)))
 queues-set (x ∷ xs) (suc k) old new there same = ap (λ (qs : List Queue). x.queue ∷ qs) (queues-set xs k old new there same)
 
-module _ (by : ℕ) (ps : List Posting) (sends : List Sending) (routes : AreRoutes by ps sends) (k : ℕ) (old : Sending)
+module _ (by : ℕ) (ps : List SentEnvelope) (sends : List SendPassView) (routes : AreRoutes by ps sends) (k : ℕ) (old : SendPassView)
     (there : slice_get sends k ≡ Some old) (e : Envelope) where
-  pub routes-more : (new : Sending) → new ≡ record old { pushed = old.pushed ++ e ∷ [] } → e.to.0 ≡ k + 1
+  pub routes-more : (new : SendPassView) → new ≡ record old { pushed = old.pushed ++ e ∷ [] } → e.to.0 ≡ k + 1
       → AreRoutes by (ps ++ posting e None ∷ []) (slice_set sends k new)
   routes-more new is here i s at = by_place (same_or_other i k)
     where
@@ -51,9 +51,9 @@ module _ (by : ℕ) (ps : List Posting) (sends : List Sending) (routes : AreRout
           let now : s ≡ record old { pushed = old.pushed ++ e ∷ [] } = found ∙ is in
           let one : k + 1 ≡ i + 1 = ap (λ n. n + 1) (sym same) in
           record {
-            sender = ap (λ (t : Sending). t.by) now ∙ route.sender;
-            receiver = ap (λ (t : Sending). t.queue.to) now ∙ route.receiver ∙ one;
-            pushed = ap (λ (t : Sending). t.pushed) now ∙ ap (λ l. l ++ e ∷ []) route.pushed ∙ sym (route-more (k + 1) ps e here)
+            sender = ap (λ (t : SendPassView). t.by) now ∙ route.sender;
+            receiver = ap (λ (t : SendPassView). t.queue.to) now ∙ route.receiver ∙ one;
+            pushed = ap (λ (t : SendPassView). t.pushed) now ∙ ap (λ l. l ++ e ∷ []) route.pushed ∙ sym (route-more (k + 1) ps e here)
                 ∙ ap (λ n. to_actor n (queued (ps ++ posting e None ∷ []))) one;
           }
       by_place (inr other) =
@@ -61,7 +61,7 @@ module _ (by : ℕ) (ps : List Posting) (sends : List Sending) (routes : AreRout
           let apart : e.to.0 ≢ i + 1 = λ same. other (omega (arith, here, same)) in
           record { sender = route.sender; receiver = route.receiver; pushed = route.pushed ∙ sym (route-other (i + 1) ps e apart) }
 
-  pub routes-dead : (new : Sending) (why : Why) → new ≡ old → AreRoutes by (ps ++ posting e (Some why) ∷ []) (slice_set sends k new)
+  pub routes-dead : (new : SendPassView) (why : Why) → new ≡ old → AreRoutes by (ps ++ posting e (Some why) ∷ []) (slice_set sends k new)
   routes-dead new why is i s at = by_place (same_or_other i k)
     where
       from : IsRoute by (i + 1) ps s → IsRoute by (i + 1) (ps ++ posting e (Some why) ∷ []) s
@@ -74,7 +74,7 @@ module _ (by : ℕ) (ps : List Posting) (sends : List Sending) (routes : AreRout
       by_place (inr other) = from (routes i s (sym (set-other sends k i new other) ∙ at))
 
 -- the passes stay as they are where nothing was pushed
-pub routes-buried : (by : ℕ) (ps : List Posting) (sends : List Sending) (e : Envelope) (why : Why) → AreRoutes by ps sends →
+pub routes-is_dead_letter : (by : ℕ) (ps : List SentEnvelope) (sends : List SendPassView) (e : Envelope) (why : Why) → AreRoutes by ps sends →
     AreRoutes by (ps ++ posting e (Some why) ∷ []) sends
-routes-buried by ps sends e why routes i s at = let route = routes i s at in
+routes-is_dead_letter by ps sends e why routes i s at = let route = routes i s at in
     record { sender = route.sender; receiver = route.receiver; pushed = route.pushed ∙ sym (route-dead (i + 1) ps e why) }

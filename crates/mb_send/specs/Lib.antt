@@ -1,6 +1,6 @@
 pub mod Posted
 pub mod Sends
-pub mod Vouched
+pub mod SeenClosed
 pub mod Bounded
 pub mod Answers
 pub mod Faults

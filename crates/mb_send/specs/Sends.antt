@@ -1,19 +1,19 @@
--- A sender's ways into the queues of its receivers.
+-- The passes by which a sender pushes into the queues of its receivers.
 use Rattle.std.specs.Prelude.{◌≡◌, ℕ, ◌+◌, List, Some, map, slice_get}
-use Rattle.mb_fates.specs.declared.posting.Posting.{Posting}
-use Rattle.mb_fates.specs.Accepted.{queued, to_actor}
-use Rattle.mb_queue.specs.Passes.{Queue, Sending}
+use Rattle.mb_journal.specs.declared.sent_envelope.SentEnvelope.{SentEnvelope}
+use Rattle.mb_journal.specs.Accepted.{queued, to_actor}
+use Rattle.mb_queue.specs.Passes.{Queue, SendPassView}
 
--- it pushes for this sender into the queue of this receiver, and pushed all that the sender was answered "queued" for
-pub record IsRoute (by to : ℕ) (posted : List Posting) (s : Sending) : Type 0 where
+-- The pass pushes for this sender into the queue of this receiver. It pushed all envelopes that the sender was answered "queued" for.
+pub record IsRoute (by to : ℕ) (posted : List SentEnvelope) (s : SendPassView) : Type 0 where
   pub sender : s.by ≡ by
   pub receiver : s.queue.to ≡ to
   pub pushed : s.pushed ≡ to_actor to (queued posted)
 
--- the passes of all receivers in the order of their numbers, from 1 on: the guardian receives no envelopes
-abbrev pub AreRoutes : ℕ → List Posting → List Sending → Type 0
-AreRoutes by posted sends = (i : ℕ) (s : Sending) → slice_get sends i ≡ Some s → IsRoute by (i + 1) posted s
+-- These are the passes to all receivers in the order of their numbers, from 1 on. The guardian receives no envelopes.
+abbrev pub AreRoutes : ℕ → List SentEnvelope → List SendPassView → Type 0
+AreRoutes by posted sends = (i : ℕ) (s : SendPassView) → slice_get sends i ≡ Some s → IsRoute by (i + 1) posted s
 
--- the queues that these passes push into
-abbrev pub receiving_queues : List Sending → List Queue
-receiving_queues = map (λ (s : Sending). s.queue)
+-- The queues that these passes push into.
+abbrev pub receiving_queues : List SendPassView → List Queue
+receiving_queues = map (λ (s : SendPassView). s.queue)

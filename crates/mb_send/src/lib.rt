@@ -1,19 +1,20 @@
-//! Sending to actors from outside: looking, putting, telling and stopping, and the book of what each envelope was answered
+//! Sending to actors from outside: looking, putting, telling and stopping, and the log of what each envelope was answered
 //! (`akka.actor.ActorRef.tell`, `akka.dispatch.Dispatcher.dispatch`).
 //!
-//! A sender's envelope is counted once, and queued, or a dead letter whose reason was met; its book and its passes agree.
+//! An envelope of a sender is counted once. Then it is queued, or it is a dead letter whose reason was met. The sender's log
+//! and its passes into the queues agree.
 #![tactic(auto)]
 
-mod book;
 mod put;
+mod send_error;
+mod send_log;
 mod sender;
 mod stopping;
 mod telling;
 mod ticket;
-mod unsent;
 
-pub use book::Book;
 pub use put::Put;
-pub use sender::Sender;
+pub use send_error::SendError;
+pub use send_log::SendLog;
+pub use sender::GatesSender;
 pub use ticket::{Look, Ticket};
-pub use unsent::Unsent;

@@ -1,3 +1,4 @@
+//! The answer to an envelope that was sent.
 use mb_msg::Why;
 
 /// What became of an envelope that was sent.

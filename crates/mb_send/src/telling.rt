@@ -1,128 +1,130 @@
 //! What a sender outside the actors sends to them.
 ghost use Rattle.std.specs.Prelude.{◌≡◌, ◌⊎◌, ℕ, ◌+◌, ◌<◌, ◌≤◌, true, vec_len, IfOk, IsErrOf, OnErr, Some};
 ghost use Rattle.mb_core.specs.Actor.{nothing};
-ghost use Rattle.mb_gate.specs.View.{owes};
-ghost use Rattle.mb_gate.specs.Names.{gates_id, pass_id, actors_of, known_by};
-ghost use Rattle.mb_send.specs.declared.unsent.Unsent.TheVariants as Unsent;
+ghost use Rattle.mb_gate.specs.View.{obligation_to};
+ghost use Rattle.mb_gate.specs.Accessors.{gates_id, pass_id, actors_of, pass_view};
+ghost use Rattle.mb_send.specs.declared.send_error.SendError.TheVariants as SendError;
 ghost use Rattle.mb_gate.specs.Untouched.{origin_of};
-ghost use Rattle.mb_wake.specs.Owed.{is_owed};
+ghost use Rattle.mb_register.specs.Owed.{is_owed};
 ghost use Rattle.mb_send.specs.Sends.{receiving_queues};
-ghost use Rattle.mb_send.specs.Answers.{IsSent, IsBuried, IsTold, reason};
-ghost use Rattle.mb_send.specs.Vouched.{has_seen_closed};
-ghost use Rattle.mb_send.specs.Faults.{OnlyLooked, SaysTheSame};
-ghost use Rattle.mb_send.specs.Asked.{WakesAtMost, account_of};
+ghost use Rattle.mb_send.specs.Answers.{IsSent, IsDeadLetter, IsTold, reason};
+ghost use Rattle.mb_send.specs.SeenClosed.{has_seen_closed};
+ghost use Rattle.mb_send.specs.Faults.{OnlyLooked, IsSameSendLog};
+ghost use Rattle.mb_send.specs.Asked.{RegistersAtMost, account_of};
 
 use crate::put::Put;
-use crate::sender::Sender;
+use crate::send_error::SendError;
+use crate::sender::GatesSender;
 use crate::ticket::{Look, Ticket};
-use crate::unsent::Unsent;
-use mb_gate::{Gates, Resident};
-use mb_lane::PushError;
+use mb_gate::{Gates, MailboxState, RunQueue};
 use mb_msg::{ActorId, Body, Why};
-use mb_wake::Way;
+use mb_queue::PushError;
+use mb_register::Hint;
 use std::sync::Wait;
 
-impl<H: Resident, W: Way<H>> Sender<H, W> {
-    /// Sends this body to the receiver of the ticket: counts the envelope, queues it, and wakes the receiver. What a bounded
-    /// queue refuses since it is full, or any for want of memory, is a dead letter, which takes a number too.
+impl<H: MailboxState, W: RunQueue<H>> GatesSender<H, W> {
+    /// Sends this body to the receiver of the ticket: counts the envelope, queues it, and registers the receiver. An envelope
+    /// that a queue refuses, since it is full or memory was refused, becomes a dead letter, which takes a number too.
     ///
-    /// It answers `NoMemory` if there was no room for the dead letter that it might become, or the sender's last number is
-    /// used up: then nothing is sent, and no number is used. Whom the sender owed a look, it owes one still, and besides the
-    /// receiver alone, where the pool refused its claim.
+    /// It answers `NoMemory` if there was no room for the dead letter that it might become, or if the sender's last number is
+    /// used up: then nothing is sent, and no number is used. The sender still owes every look that it owed, and besides one to
+    /// the receiver, if the run queue refused its claim.
     pub fn put<R: Wait>(
         &mut self,
         rt: &R,
         gates: &Gates<H>,
         ticket: Ticket,
         body: Body,
-    ) -> Result<Put, Unsent>
-        requires ours { (pass_id self.old.waker.pass ≡ gates_id gates.now) × (W.origin self.old.waker.way ≡ Some (origin_of gates.now)) }
+    ) -> Result<Put, SendError>
+        requires ours { (pass_id self.old.registrar.pass ≡ gates_id gates.now) × (W.origin self.old.registrar.run_queue ≡ Some (origin_of gates.now)) }
         requires all { vec_len self.old.sends + 1 ≡ actors_of gates.now }
         requires there { (0 < ticket.to.0) × (ticket.to.0 < actors_of gates.now) × (ticket.to.0 < 64) }
-        ensures refused { OnErr result (IsErrOf result Unsent.NoMemory × (self.new.book.posted ≡ self.old.book.posted)
-            × (self.new.waker ≡ self.old.waker)) }
-        ensures unsent { OnErr result (SaysTheSame self.old.book self.new.book × (self.new.sends ≡ self.old.sends)) }
-        ensures sent { IfOk result (IsSent self.old.book.by self.old.book.sent ticket.to body self.old.book.posted self.new.book.posted
-            self.old.sends.items (known_by self.old.waker.pass) (known_by self.new.waker.pass)) }
-        ensures paid { IfOk result (λ _. (owes ticket.to.0 (known_by self.new.waker.pass) ≡ nothing) ⊎ (is_owed self.new.waker.owed ticket.to.0
+        ensures refused { OnErr result (IsErrOf result SendError.NoMemory × (self.new.send_log.posted ≡ self.old.send_log.posted)
+            × (self.new.registrar ≡ self.old.registrar)) }
+        ensures unsent { OnErr result (IsSameSendLog self.old.send_log self.new.send_log × (self.new.sends ≡ self.old.sends)) }
+        ensures sent { IfOk result (IsSent self.old.send_log.by self.old.send_log.sent ticket.to body self.old.send_log.posted self.new.send_log.posted
+            self.old.sends.items (pass_view self.old.registrar.pass) (pass_view self.new.registrar.pass)) }
+        ensures discharged { IfOk result (λ _. (obligation_to ticket.to.0 (pass_view self.new.registrar.pass) ≡ nothing) ⊎ (is_owed self.new.registrar.owed ticket.to.0
             ≡ true)) }
-        ensures still { (id : ℕ) → is_owed self.old.waker.owed id ≡ true → is_owed self.new.waker.owed id ≡ true }
-        ensures woken { WakesAtMost ticket.to.0 (account_of W.pushed W.refused self.old.waker) (account_of W.pushed W.refused self.new.waker) }
-        ensures ours { (pass_id self.new.waker.pass ≡ pass_id self.old.waker.pass) × (W.origin self.new.waker.way ≡ W.origin self.old.waker.way) }
-        ensures same { (self.new.book.by ≡ self.old.book.by) × (vec_len self.new.sends ≡ vec_len self.old.sends) }
+        ensures still { (id : ℕ) → is_owed self.old.registrar.owed id ≡ true → is_owed self.new.registrar.owed id ≡ true }
+        ensures registered { RegistersAtMost ticket.to.0 (account_of W.pushed W.refused self.old.registrar) (account_of W.pushed W.refused self.new.registrar) }
+        ensures ours { (pass_id self.new.registrar.pass ≡ pass_id self.old.registrar.pass) × (W.origin self.new.registrar.run_queue ≡ W.origin self.old.registrar.run_queue) }
+        ensures same { (self.new.send_log.by ≡ self.old.send_log.by) × (vec_len self.new.sends ≡ vec_len self.old.sends) }
         ensures queues { receiving_queues self.new.sends.items ≡ receiving_queues self.old.sends.items }
     {
-        self.book.ready()?;
+        self.send_log.ready()?;
         let to = ticket.to;
-        let number = self.book.sent;
-        let envelope = self.book.next(to, body);
-        gates.note_sent(&mut self.waker.pass, to);
+        let number = self.send_log.sent;
+        let envelope = self.send_log.next(to, body);
+        // Counted before its queue gets it, and taken back where that refuses it (`counts` of `mb_register`). A run does so too with
+        // what its actor tells (`send` of `mb_mailbox`, which says why these are two functions).
+        gates.note_sent(&mut self.registrar.pass, to);
         match self.sends[to.0 as usize - 1].push(rt, envelope) {
             Ok(()) => {
-                self.book.post_queued(envelope);
-                self.waker.register(rt, gates, to, true, false);
+                self.send_log.record_queued(envelope);
+                self.registrar.register(rt, gates, to, Hint::Message);
                 Ok(Put::Queued(number))
             }
             Err(refused) => {
                 let why = why_of(refused);
-                self.book.post_dead(envelope, why);
-                gates.note_unsent(&mut self.waker.pass, to);
-                self.waker.register(rt, gates, to, false, false);
+                self.send_log.record_dead(envelope, why);
+                gates.note_unsent(&mut self.registrar.pass, to);
+                self.registrar.register(rt, gates, to, Hint::None);
                 Ok(Put::Dead(number, why))
             }
         }
     }
 
-    /// Sends this body to the receiver (`ActorRef.tell`): looks, and puts where it saw the receiver open. To one that it saw
-    /// closed the envelope is a dead letter.
+    /// Sends this body to the receiver (`ActorRef.tell`): looks, and puts where it saw the receiver open. If it saw it closed,
+    /// the envelope becomes a dead letter.
     ///
-    /// It answers `NoSuchActor` as a look does, and else `NoMemory` as a put does: then nothing is sent, and no number is used;
-    /// what was seen stays seen. Whom the sender owed a look, it owes one still, and besides the receiver alone, where the pool
-    /// refused its claim.
+    /// It answers `NoSuchActor` as a look does, and else `NoMemory` as a put does: then nothing is sent, and no number is used,
+    /// but what was seen stays seen. The sender still owes every look that it owed, and besides one to the receiver, if the run
+    /// queue refused its claim.
     pub fn tell<R: Wait>(
         &mut self,
         rt: &R,
         gates: &Gates<H>,
         to: ActorId,
         body: Body,
-    ) -> Result<Put, Unsent>
-        requires ours { (pass_id self.old.waker.pass ≡ gates_id gates.now) × (W.origin self.old.waker.way ≡ Some (origin_of gates.now)) }
+    ) -> Result<Put, SendError>
+        requires ours { (pass_id self.old.registrar.pass ≡ gates_id gates.now) × (W.origin self.old.registrar.run_queue ≡ Some (origin_of gates.now)) }
         requires all { (vec_len self.old.sends + 1 ≡ actors_of gates.now) × (actors_of gates.now ≤ 64) }
-        ensures refused { OnErr result ((self.new.book.posted ≡ self.old.book.posted)
-            × ((IsErrOf result Unsent.NoSuchActor × ((to.0 ≡ 0) ⊎ (actors_of gates.now ≤ to.0)))
-            ⊎ (IsErrOf result Unsent.NoMemory × (0 < to.0) × (to.0 < actors_of gates.now)))) }
-        ensures unknown { IsErrOf result Unsent.NoSuchActor → self.new ≡ self.old }
-        ensures unsent { IsErrOf result Unsent.NoMemory → OnlyLooked to self.old self.new }
+        ensures refused { OnErr result ((self.new.send_log.posted ≡ self.old.send_log.posted)
+            × ((IsErrOf result SendError.NoSuchActor × ((to.0 ≡ 0) ⊎ (actors_of gates.now ≤ to.0)))
+            ⊎ (IsErrOf result SendError.NoMemory × (0 < to.0) × (to.0 < actors_of gates.now)))) }
+        ensures unknown { IsErrOf result SendError.NoSuchActor → self.new ≡ self.old }
+        ensures unsent { IsErrOf result SendError.NoMemory → OnlyLooked to self.old self.new }
         ensures there { IfOk result (λ _. (0 < to.0) × (to.0 < actors_of gates.now)) }
-        ensures told { IfOk result (IsTold self.old.book.by self.old.book.sent to body self.old.book.posted self.new.book.posted
-            self.old.sends.items (known_by self.old.waker.pass) (known_by self.new.waker.pass)) }
-        ensures paid { IfOk result (λ _. (owes to.0 (known_by self.new.waker.pass) ≡ nothing) ⊎ (is_owed self.new.waker.owed to.0 ≡ true)) }
-        ensures still { (id : ℕ) → is_owed self.old.waker.owed id ≡ true → is_owed self.new.waker.owed id ≡ true }
-        ensures woken { WakesAtMost to.0 (account_of W.pushed W.refused self.old.waker) (account_of W.pushed W.refused self.new.waker) }
-        ensures ours { (pass_id self.new.waker.pass ≡ pass_id self.old.waker.pass) × (W.origin self.new.waker.way ≡ W.origin self.old.waker.way) }
-        ensures same { (self.new.book.by ≡ self.old.book.by) × (vec_len self.new.sends ≡ vec_len self.old.sends) }
+        ensures told { IfOk result (IsTold self.old.send_log.by self.old.send_log.sent to body self.old.send_log.posted self.new.send_log.posted
+            self.old.sends.items (pass_view self.old.registrar.pass) (pass_view self.new.registrar.pass)) }
+        ensures discharged { IfOk result (λ _. (obligation_to to.0 (pass_view self.new.registrar.pass) ≡ nothing) ⊎ (is_owed self.new.registrar.owed to.0 ≡ true)) }
+        ensures still { (id : ℕ) → is_owed self.old.registrar.owed id ≡ true → is_owed self.new.registrar.owed id ≡ true }
+        ensures registered { RegistersAtMost to.0 (account_of W.pushed W.refused self.old.registrar) (account_of W.pushed W.refused self.new.registrar) }
+        ensures ours { (pass_id self.new.registrar.pass ≡ pass_id self.old.registrar.pass) × (W.origin self.new.registrar.run_queue ≡ W.origin self.old.registrar.run_queue) }
+        ensures same { (self.new.send_log.by ≡ self.old.send_log.by) × (vec_len self.new.sends ≡ vec_len self.old.sends) }
         ensures queues { receiving_queues self.new.sends.items ≡ receiving_queues self.old.sends.items }
     {
         let look = self.look(gates, to)?;
         match look {
             Look::Open(ticket) => self.put(rt, gates, ticket, body),
-            Look::Closed => self.bury(to, body),
+            Look::Closed => self.record_dead_letter(to, body),
         }
     }
 
-    // The next envelope is a dead letter, since its receiver was seen closed.
-    fn bury(&mut self, to: ActorId, body: Body) -> Result<Put, Unsent>
-        requires closed { has_seen_closed (known_by self.old.waker.pass).log to.0 ≡ true }
+    // Makes the next envelope a dead letter, since its receiver was seen closed.
+    fn record_dead_letter(&mut self, to: ActorId, body: Body) -> Result<Put, SendError>
+        requires closed { has_seen_closed (pass_view self.old.registrar.pass).log to.0 ≡ true }
         requires there { (0 < to.0) × (to.0 ≤ vec_len self.old.sends) }
-        ensures refused { OnErr result (IsErrOf result Unsent.NoMemory × (self.new.book.posted ≡ self.old.book.posted)) }
-        ensures unsent { OnErr result (SaysTheSame self.old.book self.new.book) }
-        ensures buried { IfOk result (IsBuried self.old.book.by self.old.book.sent to body self.old.book.posted self.new.book.posted) }
-        ensures same { (self.new.waker ≡ self.old.waker) × (self.new.sends ≡ self.old.sends) × (self.new.book.by ≡ self.old.book.by) }
+        ensures refused { OnErr result (IsErrOf result SendError.NoMemory × (self.new.send_log.posted ≡ self.old.send_log.posted)) }
+        ensures unsent { OnErr result (IsSameSendLog self.old.send_log self.new.send_log) }
+        ensures is_dead_letter { IfOk result (IsDeadLetter self.old.send_log.by self.old.send_log.sent to body self.old.send_log.posted self.new.send_log.posted) }
+        ensures same { (self.new.registrar ≡ self.old.registrar) × (self.new.sends ≡ self.old.sends) × (self.new.send_log.by ≡ self.old.send_log.by) }
     {
-        self.book.ready()?;
-        let number = self.book.sent;
-        let envelope = self.book.next(to, body);
-        self.book.post_dead(envelope, Why::Closed);
+        self.send_log.ready()?;
+        let number = self.send_log.sent;
+        let envelope = self.send_log.next(to, body);
+        self.send_log.record_dead(envelope, Why::Closed);
         Ok(Put::Dead(number, Why::Closed))
     }
 }

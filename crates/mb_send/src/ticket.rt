@@ -1,6 +1,7 @@
+//! The answer to a look: a ticket for a receiver that is open, or that it is closed.
 use mb_msg::ActorId;
 
-/// That a receiver was seen open. It may be used again, also once the receiver has ended: what is sent by it then stays
+/// Says that a receiver was seen open. It may be used again, also after the receiver has ended: what is sent by it then stays
 /// queued (this project's own profile).
 #[derive(Clone, Copy, Debug, PartialEq, Eq)]
 pub struct Ticket {

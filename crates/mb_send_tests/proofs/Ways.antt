@@ -1,10 +1,10 @@
 -- Two unused ways of a sender into queues.
 use Rattle.std.proofs.Common.{◌≡◌, ℕ, zero, suc, [], ◌∷◌, subst}
 use Rattle.std.proofs.lemmas.Option.{none-some, same_Some}
-use Rattle.mb_queue.specs.Passes.{Sending}
+use Rattle.mb_queue.specs.Passes.{SendPassView}
 use Rattle.mb_send.specs.Sends.{AreRoutes, IsRoute}
 
-module _ (by : ℕ) (p q : Sending) (mine : (p.by ≡ by) × (p.queue.to ≡ 1) × (p.pushed ≡ []))
+module _ (by : ℕ) (p q : SendPassView) (mine : (p.by ≡ by) × (p.queue.to ≡ 1) × (p.pushed ≡ []))
     (yours : (q.by ≡ by) × (q.queue.to ≡ 2) × (q.pushed ≡ [])) where
   -- they are in order, and nothing was pushed by them
   pub routes-two : AreRoutes by [] (p ∷ q ∷ [])

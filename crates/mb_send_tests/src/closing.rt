@@ -1,14 +1,19 @@
-//! How an actor is ended.
+//! How the tests end an actor.
 ghost use Rattle.std.specs.Prelude.{◌≡◌, ◌<◌};
-ghost use Rattle.mb_gate.specs.Names.{gates_id, pass_id, actors_of};
+ghost use Rattle.mb_gate.specs.Accessors.{gates_id, pass_id, actors_of};
 
-use crate::desk::Desk;
+use crate::desk::OpenHome;
 use mb_gate::{Gates, Pass, Tried};
 use mb_msg::ActorId;
 use std::sync::Wait;
 
 /// Closes the actor's mailbox and ends its list, where it is not held, and answers whether it did. The claim is abandoned.
-pub fn close<R: Wait>(rt: &R, gates: &Gates<Desk>, pass: &mut Pass<Desk>, id: ActorId) -> bool
+pub fn close<R: Wait>(
+    rt: &R,
+    gates: &Gates<OpenHome>,
+    pass: &mut Pass<OpenHome>,
+    id: ActorId,
+) -> bool
     requires ours { pass_id pass.old ≡ gates_id gates.now }
     requires there { id.0 < actors_of gates.now }
     ensures ours { pass_id pass.new ≡ pass_id pass.old }

@@ -1,8 +1,8 @@
-//! A stand-in for a home, and the gates of three.
+//! A stand-in for a home, and the gates of three actors.
 ghost use Rattle.std.specs.Prelude.{◌≡◌, ◌<◌, false, IfOk};
-ghost use Rattle.mb_gate.specs.Names.{gates_id, pass_id, actors_of};
+ghost use Rattle.mb_gate.specs.Accessors.{gates_id, pass_id, actors_of};
 
-use mb_gate::{Gates, Pass, Resident};
+use mb_gate::{Gates, MailboxState, Pass};
 use mb_msg::ActorId;
 use mb_status::Status;
 use std::alloc::Global;
@@ -19,33 +19,33 @@ pub const NOBODY: ActorId = ActorId(3);
 
 /// One of the three actors.
 #[derive(Clone, Copy)]
-pub enum Actor {
+pub enum Target {
     Guardian,
     First,
     Second,
 }
 
-impl Actor {
+impl Target {
     /// Its number.
     pub fn id(self) -> ActorId
         ensures there { result.0 < 3 }
     {
         match self {
-            Actor::Guardian => GUARDIAN,
-            Actor::First => FIRST,
-            Actor::Second => SECOND,
+            Target::Guardian => GUARDIAN,
+            Target::First => FIRST,
+            Target::Second => SECOND,
         }
     }
 }
 
 /// A status that is neither suspended nor scheduled; its journal stays empty.
 #[derive(Drop)]
-pub struct Desk {
+pub struct OpenHome {
     status: Status,
     ghost idle: { status ≡ record { closed = false; scheduled = false; count = 0 } },
 }
 
-impl Resident for Desk {
+impl MailboxState for OpenHome {
     ghost use Rattle.std.specs.Prelude.{◌≡◌, [], None, pos, false};
 
     ghost is_of = { λ first actor desk. Unit {0} };
@@ -61,15 +61,13 @@ impl Resident for Desk {
       limit = 0;
     } };
 
-    ghost journal = { λ desk. [] };
-
-    ghost mailbox = { λ desk. desk.status };
-
-    ghost rested = { λ desk. Unit {0} };
-
-    ghost given = { λ desk. 0 };
-
-    ghost closed_to = { λ desk. [] };
+    ghost facts = { λ desk. record {
+      journal = [];
+      mailbox = desk.status;
+      rested = Unit {0};
+      given = 0;
+      closed_to = [];
+    } };
 
     fn status(&self) -> Status {
         self.status
@@ -77,16 +75,16 @@ impl Resident for Desk {
 }
 
 /// The gates of a guardian and two actors, with a pass.
-pub fn gates_of_three(alloc: Global) -> Result<(Gates<Desk>, Pass<Desk>), Fail>
+pub fn gates_of_three(alloc: Global) -> Result<(Gates<OpenHome>, Pass<OpenHome>), Fail>
     ensures { IfOk result (λ made. (actors_of made.0 ≡ 3) × (pass_id made.1 ≡ gates_id made.0)) }
 {
     let mut desks = Vec::with_capacity(alloc, 3)?;
     let Some(status) = Status::of(0) else {
         return Err(Fail::from("a valid word"));
     };
-    desks.push_reserved(Desk { status });
-    desks.push_reserved(Desk { status });
-    desks.push_reserved(Desk { status });
+    desks.push_reserved(OpenHome { status });
+    desks.push_reserved(OpenHome { status });
+    desks.push_reserved(OpenHome { status });
     match Gates::new(alloc, desks) {
         Ok(made) => Ok(made),
         Err(_) => Err(Fail::from("no memory")),

@@ -1,19 +1,19 @@
-//! The tests of waking and sending from outside, with ample memory: what `register`, `pay`, `look`, `put`, `tell` and `stop`
-//! answer, and what stands then in the pool, among those that are owed a look, and in the sender's book. A story is a
-//! table, a step with its answer in each row.
+//! The tests of registering and of sending from outside, with ample memory: what `register`, `retry_refused`, `look`, `put`, `tell` and
+//! `stop` answer, and what is then in the run queue, in the set of owed looks, and in the sender's log. A story is a table with
+//! a step and its answer in each row.
 #![tactic(auto)]
 
-#[cfg(test)]
-mod awake;
 #[cfg(test)]
 mod closing;
 #[cfg(test)]
 mod desk;
 #[cfg(test)]
+mod one_place;
+#[cfg(test)]
 mod outside;
 #[cfg(test)]
-mod seat;
+mod registering;
+#[cfg(test)]
+mod registrar_test;
 #[cfg(test)]
 mod sending;
-#[cfg(test)]
-mod waking;

@@ -1,18 +1,18 @@
-//! The gates of three actors with a sender, whose calls ask for nothing: that they fit stands in the type.
+//! The gates of three actors with a sender. Their calls have no preconditions: the type says that all fits together.
 ghost use Rattle.std.specs.Prelude.{◌≡◌, [], vec_len, IfOk};
-ghost use Rattle.mb_gate.specs.Names.{gates_id, pass_id, actors_of};
+ghost use Rattle.mb_gate.specs.Accessors.{gates_id, pass_id, actors_of};
 ghost use Rattle.mb_gate.specs.Untouched.{origin_of};
 ghost use Rattle.mb_queue.specs.Made.{IsMakeable};
 
 use crate::closing::close;
-use crate::desk::{Desk, FIRST, SECOND, gates_of_three};
-use crate::seat::Seat;
-use crate::sending::{HELLO, Step};
+use crate::desk::{FIRST, OpenHome, SECOND, gates_of_three};
+use crate::one_place::OnePlace;
+use crate::sending::{HELLO, SendStep};
 use mb_gate::{Gates, Pass};
-use mb_msg::{ActorId, SenderId};
-use mb_queue::{Kind, MailQueue, SendPass};
-use mb_send::{Sender, Ticket};
-use mb_wake::{Owed, Waker};
+use mb_msg::{ActorId, MailboxType, SenderId};
+use mb_queue::{MailQueue, SendPass};
+use mb_register::{Owed, Registrar};
+use mb_send::{GatesSender, Ticket};
 use std::alloc::Global;
 use std::sync::Wait;
 use std::test::Fail;
@@ -20,15 +20,15 @@ use std::test::Fail;
 /// The sender.
 pub const ME: SenderId = SenderId(64);
 
-/// The gates of three actors, a sender whose pool has one place, and a second pass. The queue of the second actor has two
+/// The gates of three actors, a sender whose run queue has one place, and a second pass. The queue of the second actor has two
 /// places.
 pub struct Outside {
-    gates: Gates<Desk>,
-    sender: Sender<Desk, Seat>,
-    other: Pass<Desk>,
+    gates: Gates<OpenHome>,
+    sender: GatesSender<OpenHome, OnePlace>,
+    other: Pass<OpenHome>,
     ghost three: { actors_of gates ≡ 3 },
-    ghost ours: { (pass_id sender.waker.pass ≡ gates_id gates) × (pass_id other ≡ gates_id gates) },
-    ghost way: { origin_of sender.waker.way.gates.value ≡ origin_of gates },
+    ghost ours: { (pass_id sender.registrar.pass ≡ gates_id gates) × (pass_id other ≡ gates_id gates) },
+    ghost run_queue: { origin_of sender.registrar.run_queue.gates.value ≡ origin_of gates },
     ghost all: { vec_len sender.sends ≡ 2 },
 }
 
@@ -39,22 +39,22 @@ impl Drop for Outside {
             sender,
             other: _,
         } = self;
-        let Sender {
-            waker,
+        let GatesSender {
+            registrar,
             sends: _,
-            book: _,
+            send_log: _,
             alloc: _,
         } = sender;
-        let Waker {
+        let Registrar {
             pass: _,
-            way: _,
+            run_queue: _,
             owed: _,
-        } = waker;
+        } = registrar;
     }
 }
 
-/// The sender's way into a new queue of this actor.
-fn way_to(alloc: Global, to: ActorId, kind: Kind) -> Result<SendPass, Fail>
+/// The sender's pass into a new queue of this actor.
+fn way_to(alloc: Global, to: ActorId, kind: MailboxType) -> Result<SendPass, Fail>
     requires kind { IsMakeable kind }
     ensures unused { IfOk result (λ pass. (pass.by ≡ 64) × (pass.queue.to ≡ to.0) × (pass.pushed ≡ [])) }
 {
@@ -66,19 +66,19 @@ fn way_to(alloc: Global, to: ActorId, kind: Kind) -> Result<SendPass, Fail>
 }
 
 impl Outside {
-    /// Three actors with nothing to do, to whom nothing was sent.
+    /// Three actors with nothing to do, to which nothing was sent.
     pub fn new(alloc: Global) -> Result<Self, Fail> {
         let (gates, mut pass) = gates_of_three(alloc)?;
         let other = gates.another(&mut pass);
         let mut sends = Vec::with_capacity(alloc, 2)?;
-        sends.push_reserved(way_to(alloc, FIRST, Kind::Unbounded)?);
-        sends.push_reserved(way_to(alloc, SECOND, Kind::Bounded(2))?);
-        let waker = Waker {
+        sends.push_reserved(way_to(alloc, FIRST, MailboxType::Unbounded)?);
+        sends.push_reserved(way_to(alloc, SECOND, MailboxType::Bounded(2))?);
+        let registrar = Registrar {
             pass,
-            way: Seat::new(&gates),
+            run_queue: OnePlace::new(&gates),
             owed: Owed::none(),
         };
-        let sender = Sender::new(alloc, ME, waker, sends);
+        let sender = GatesSender::new(alloc, ME, registrar, sends);
         Ok(Outside {
             gates,
             sender,
@@ -87,27 +87,30 @@ impl Outside {
     }
 
     /// Whether the call of the step has its answer.
-    pub fn answers<R: Wait>(&mut self, rt: &R, step: Step) -> bool {
+    pub fn answers<R: Wait>(&mut self, rt: &R, step: SendStep) -> bool {
         match step {
-            Step::Look(to, seen) => self.sender.look(&self.gates, to) == seen,
-            Step::Tell(to, put) => self.sender.tell(rt, &self.gates, to, HELLO) == put,
-            Step::PutFirst(put) => {
+            SendStep::Look(to, seen) => self.sender.look(&self.gates, to) == seen,
+            SendStep::Tell(to, put) => self.sender.tell(rt, &self.gates, to, HELLO) == put,
+            SendStep::PutFirst(put) => {
                 let ticket = Ticket { to: FIRST };
                 self.sender.put(rt, &self.gates, ticket, HELLO) == put
             }
-            Step::Stop(id, is_listed) => self.sender.stop(rt, &self.gates, id) == is_listed,
-            Step::Close(actor, is_done) => {
+            SendStep::Stop(id, is_listed) => self.sender.stop(rt, &self.gates, id) == is_listed,
+            SendStep::Close(actor, is_done) => {
                 close(rt, &self.gates, &mut self.other, actor.id()) == is_done
             }
-            Step::Waiting(actor, count) => {
+            SendStep::Waiting(actor, count) => {
                 self.gates.waiting(&mut self.other, actor.id()) == count
             }
-            Step::HasSystem(actor, is_there) => {
+            SendStep::HasSystem(actor, is_there) => {
                 self.gates.has_system(&mut self.other, actor.id()) == is_there
             }
-            Step::Owes(actor, is_owed) => { self.sender.waker.owed.contains(actor.id()) == is_owed }
-            Step::Sent(count) => self.sender.book.sent == count,
-            Step::Dead(place, letter) => self.sender.book.dead.get(place).copied() == letter,
+            SendStep::Owes(actor, is_owed) => {
+                self.sender.registrar.owed.contains(actor.id()) == is_owed
+            }
+            SendStep::Sent(count) => self.sender.send_log.sent == count,
+            SendStep::Dead(place, letter) => self.sender.send_log.dead.get(place).copied()
+                == letter,
         }
     }
 }

@@ -1,9 +1,9 @@
 //! Looking, putting, telling and stopping.
 
-use crate::desk::{Actor, FIRST, GUARDIAN, NOBODY, SECOND};
+use crate::desk::{FIRST, GUARDIAN, NOBODY, SECOND, Target};
 use crate::outside::{ME, Outside};
 use mb_msg::{ActorId, Body, DeadLetter, Envelope, Why};
-use mb_send::{Look, Put, Ticket, Unsent};
+use mb_send::{Look, Put, SendError, Ticket};
 use std::alloc::Global;
 use std::process::Abort;
 use std::sync::Wait;
@@ -11,26 +11,26 @@ use std::test::Fail;
 
 /// A call, and its answer.
 #[derive(Clone, Copy)]
-pub enum Step {
+pub enum SendStep {
     /// Looks whether the receiver is open.
-    Look(ActorId, Result<Look, Unsent>),
+    Look(ActorId, Result<Look, SendError>),
     /// Sends an envelope to the receiver.
-    Tell(ActorId, Result<Put, Unsent>),
+    Tell(ActorId, Result<Put, SendError>),
     /// Sends an envelope to the first actor, by a ticket.
-    PutFirst(Result<Put, Unsent>),
+    PutFirst(Result<Put, SendError>),
     /// Stops the actor.
-    Stop(ActorId, Result<bool, Unsent>),
+    Stop(ActorId, Result<bool, SendError>),
     /// Ends the actor, where it is not held: whether it is.
-    Close(Actor, bool),
+    Close(Target, bool),
     /// How many envelopes are counted as waiting for the actor.
-    Waiting(Actor, u64),
+    Waiting(Target, u64),
     /// Whether there is system work for the actor.
-    HasSystem(Actor, bool),
-    /// Whether the actor is owed a look.
-    Owes(Actor, bool),
+    HasSystem(Target, bool),
+    /// Whether a look is owed to the actor.
+    Owes(Target, bool),
     /// How many envelopes the sender was answered for.
     Sent(u64),
-    /// The dead letter of this place in its book.
+    /// The dead letter at this place in its log.
     Dead(usize, Option<DeadLetter>),
 }
 
@@ -48,32 +48,32 @@ const FULL: DeadLetter = DeadLetter {
     why: Why::Full,
 };
 
-const TOLD: [Step; 21] = [
+const TOLD: [SendStep; 21] = [
     // Nothing goes to the guardian, or to nobody.
-    Step::Look(GUARDIAN, Err(Unsent::NoSuchActor)),
-    Step::Look(NOBODY, Err(Unsent::NoSuchActor)),
-    Step::Tell(GUARDIAN, Err(Unsent::NoSuchActor)),
-    Step::Tell(NOBODY, Err(Unsent::NoSuchActor)),
-    Step::Stop(NOBODY, Err(Unsent::NoSuchActor)),
-    Step::Sent(0),
+    SendStep::Look(GUARDIAN, Err(SendError::NoSuchActor)),
+    SendStep::Look(NOBODY, Err(SendError::NoSuchActor)),
+    SendStep::Tell(GUARDIAN, Err(SendError::NoSuchActor)),
+    SendStep::Tell(NOBODY, Err(SendError::NoSuchActor)),
+    SendStep::Stop(NOBODY, Err(SendError::NoSuchActor)),
+    SendStep::Sent(0),
     // Envelopes are numbered over all receivers, and counted.
-    Step::Look(FIRST, Ok(Look::Open(Ticket { to: FIRST }))),
-    Step::Tell(FIRST, Ok(Put::Queued(0))),
-    Step::Tell(SECOND, Ok(Put::Queued(1))),
-    Step::PutFirst(Ok(Put::Queued(2))),
-    Step::Sent(3),
-    Step::Waiting(Actor::First, 2),
-    Step::Waiting(Actor::Second, 1),
-    // The pool has one place, in which the first one's claim lies.
-    Step::Owes(Actor::First, false),
-    Step::Owes(Actor::Second, true),
+    SendStep::Look(FIRST, Ok(Look::Open(Ticket { to: FIRST }))),
+    SendStep::Tell(FIRST, Ok(Put::Queued(0))),
+    SendStep::Tell(SECOND, Ok(Put::Queued(1))),
+    SendStep::PutFirst(Ok(Put::Queued(2))),
+    SendStep::Sent(3),
+    SendStep::Waiting(Target::First, 2),
+    SendStep::Waiting(Target::Second, 1),
+    // The run queue has one place, and the claim of the first actor is in it.
+    SendStep::Owes(Target::First, false),
+    SendStep::Owes(Target::Second, true),
     // What finds the queue full is a dead letter.
-    Step::Tell(SECOND, Ok(Put::Queued(3))),
-    Step::Tell(SECOND, Ok(Put::Dead(4, Why::Full))),
-    Step::Tell(FIRST, Ok(Put::Queued(5))),
-    Step::Dead(0, Some(FULL)),
-    Step::Dead(1, None),
-    Step::Waiting(Actor::Second, 2),
+    SendStep::Tell(SECOND, Ok(Put::Queued(3))),
+    SendStep::Tell(SECOND, Ok(Put::Dead(4, Why::Full))),
+    SendStep::Tell(FIRST, Ok(Put::Queued(5))),
+    SendStep::Dead(0, Some(FULL)),
+    SendStep::Dead(1, None),
+    SendStep::Waiting(Target::Second, 2),
 ];
 
 /// The envelope that found the first actor ended.
@@ -87,36 +87,36 @@ const CLOSED: DeadLetter = DeadLetter {
     why: Why::Closed,
 };
 
-const ENDED: [Step; 15] = [
+const ENDED: [SendStep; 15] = [
     // What is told to an ended actor is a dead letter.
-    Step::Look(FIRST, Ok(Look::Open(Ticket { to: FIRST }))),
-    Step::Close(Actor::First, true),
-    Step::Look(FIRST, Ok(Look::Closed)),
-    Step::Tell(FIRST, Ok(Put::Dead(0, Why::Closed))),
-    Step::Dead(0, Some(CLOSED)),
-    Step::Tell(SECOND, Ok(Put::Queued(1))),
-    Step::Waiting(Actor::First, 0),
+    SendStep::Look(FIRST, Ok(Look::Open(Ticket { to: FIRST }))),
+    SendStep::Close(Target::First, true),
+    SendStep::Look(FIRST, Ok(Look::Closed)),
+    SendStep::Tell(FIRST, Ok(Put::Dead(0, Why::Closed))),
+    SendStep::Dead(0, Some(CLOSED)),
+    SendStep::Tell(SECOND, Ok(Put::Queued(1))),
+    SendStep::Waiting(Target::First, 0),
     // A ticket from before may be used still.
-    Step::PutFirst(Ok(Put::Queued(2))),
-    Step::Owes(Actor::First, false),
+    SendStep::PutFirst(Ok(Put::Queued(2))),
+    SendStep::Owes(Target::First, false),
     // An actor is told to stop, the guardian too, unless its list is ended.
-    Step::HasSystem(Actor::Guardian, false),
-    Step::Stop(GUARDIAN, Ok(true)),
-    Step::HasSystem(Actor::Guardian, true),
-    Step::Owes(Actor::Guardian, true),
-    Step::Stop(FIRST, Ok(false)),
-    Step::Owes(Actor::First, false),
+    SendStep::HasSystem(Target::Guardian, false),
+    SendStep::Stop(GUARDIAN, Ok(true)),
+    SendStep::HasSystem(Target::Guardian, true),
+    SendStep::Owes(Target::Guardian, true),
+    SendStep::Stop(FIRST, Ok(false)),
+    SendStep::Owes(Target::First, false),
 ];
 
 /// Tries each step of a story.
-fn play<R: Abort + Wait>(rt: &R, outside: &mut Outside, story: &[Step]) {
+fn play<R: Abort + Wait>(rt: &R, outside: &mut Outside, story: &[SendStep]) {
     for &step in story {
         assert!(rt; outside.answers(rt, step));
     }
 }
 
 /// The same from three actors with nothing to do.
-fn try_each<R: Abort + Wait>(rt: &R, alloc: Global, story: &[Step]) -> Result<(), Fail> {
+fn try_each<R: Abort + Wait>(rt: &R, alloc: Global, story: &[SendStep]) -> Result<(), Fail> {
     let mut outside = Outside::new(alloc)?;
     play(rt, &mut outside, story);
     Ok(())

@@ -8,29 +8,29 @@ use Rattle.std.proofs.lemmas.List.Elements.{All-cons, All-head, All-same, All-ta
 use Rattle.std.proofs.lemmas.Option.{same_Some}
 use Rattle.mb_gate.specs.declared.pass.Pass.{Pass}
 use Rattle.mb_msg.specs.declared.id.ActorId.{ActorId}
-use Rattle.mb_gate.specs.Names.{actors_of, gates_id, known_by, pass_id}
+use Rattle.mb_gate.specs.Accessors.{actors_of, gates_id, pass_view, pass_id}
 use Rattle.mb_gate.specs.Rule.{IsAmong, IsPart}
-use Rattle.mb_gate.specs.View.{Counted, Sight, View}
+use Rattle.mb_gate.specs.View.{Counted, Observation, View}
 use Rattle.mb_home.specs.Contents.{Contents}
 use Rattle.mb_pool.specs.Places.{gates_of}
-use Rattle.mb_reckon.specs.Rooms.{AreCounted, HasOnlyCounted}
-use Rattle.mb_reckon.specs.Settled.{AreSettledBy, IsUnsettled}
-use Rattle.mb_reckon.proofs.Lists.{length-mapped, mapped}
-use Rattle.mb_reckon.proofs.Steps.{only-part}
+use Rattle.mb_shutdown.specs.Rooms.{AreCounted, HasOnlyCounted}
+use Rattle.mb_shutdown.specs.Idle.{WereReadIdle, WasReadBusy}
+use Rattle.mb_shutdown.proofs.Lists.{length-mapped, mapped}
+use Rattle.mb_shutdown.proofs.Steps.{only-part}
 use Rattle.mb_report.specs.declared.report.ActorReport.{ActorReport}
 use Rattle.mb_report.specs.declared.report.Report.{Report}
-use Rattle.mb_ways.specs.declared.end_way.EndWay.{EndWay}
+use Rattle.mb_pool.specs.declared.worker_port.WorkerPort.{WorkerPort}
 use Rattle.mb_system.specs.Belonging.{BelongsTogether, senders_numbers}
 use Rattle.mb_system.specs.Members.{IsEndOf, IsSenderOf, ends_numbers}
 use Rattle.mb_system.specs.declared.built.Built.{Built}
 use Rattle.mb_system.specs.declared.end.WorkerEnd.{WorkerEnd}
 use Rattle.mb_system.specs.declared.sender.Sender.{Sender}
 use Rattle.mb_system.specs.declared.system.System.{System}
-use Rattle.mb_shutdown.specs.Belonging.{AreThere, HasAllSeen, HasRead, IsBack, WasSettled}
-use Rattle.mb_shutdown.specs.Refused.{FindsSettled, FindsUnsettled, IsComplete, LeavesCounted}
+use Rattle.mb_shutdown.specs.Belonging.{AreThere, HasAllSeen, HasRead, OnlyFirstEndRead, WasFoundIdle}
+use Rattle.mb_shutdown.specs.Refused.{FindsIdle, FindsBusy, IsComplete, LeavesCounted}
 use Rattle.mb_shutdown.proofs.Gathered.{seen_by_end, seen_by_sender}
 use Rattle.mb_shutdown.proofs.Parts.{AllSeen, part-trans}
-use Rattle.mb_shutdown.proofs.Settling.{settled-part}
+use Rattle.mb_shutdown.proofs.IdleLemmas.{settled-part}
 
 module _ {X : Type 0} where
   same-first : (x y : X) (xs ys : List X) → (x ∷ xs) ≡ (y ∷ ys) → x ≡ y
@@ -39,7 +39,7 @@ module _ {X : Type 0} where
   same-rest : (x y : X) (xs ys : List X) → (x ∷ xs) ≡ (y ∷ ys) → xs ≡ ys
   same-rest x y xs ys same = ap (drop 1) same
 
-found-part : (many : ℕ) (before after : View) → FindsSettled many before after → IsPart before.log after.log
+found-part : (many : ℕ) (before after : View) → FindsIdle many before after → IsPart before.log after.log
 found-part many before after found =
     part-trans before.log found.0.log after.log (settled-part 0 many before found.0 found.1) (only-part found.0 after found.2)
 
@@ -55,7 +55,7 @@ among-part x part all is among =
     }
 
 -- as many are left as were counted, each of which was read
-pub left-counted : (report : Report) (waiting : List ℕ) (log : List Sight)
+pub left-counted : (report : Report) (waiting : List ℕ) (log : List Observation)
     → map (λ (a : ActorReport). length a.left.items) report.actors.items ≡ waiting → AreCounted log waiting → LeavesCounted log report
 left-counted report waiting log same all id a found =
     all id (length a.left.items)
@@ -84,23 +84,23 @@ module _ {A K : Type 0} where
     system = built.system;
     ends = with_item built.ends 0 (record {
       number = first.number;
-      waker = record { pass = pass; way = first.waker.way; owed = first.waker.owed };
+      registrar = record { pass = pass; run_queue = first.registrar.run_queue; owed = first.registrar.owed };
     });
     senders = built.senders;
   }
 
   pub read-again : (built : Built A K) (first : WorkerEnd A K) (pass : Pass (Box Contents)) → 0 < length built.ends.items
-      → first ≡ get_or built.ends.items 0 first → pass_id pass ≡ pass_id first.waker.pass
-      → IsBack built (read_by built first pass) (known_by first.waker.pass) (known_by pass)
+      → first ≡ get_or built.ends.items 0 first → pass_id pass ≡ pass_id first.registrar.pass
+      → OnlyFirstEndRead built (read_by built first pass) (pass_view first.registrar.pass) (pass_view pass)
   read-again built first pass some is ours =
       let parts = split built.ends.items first some is in record {
         system = refl;
         senders = refl;
         first = first;
-        first' = record { number = first.number; waker = record { pass = pass; way = first.waker.way; owed = first.waker.owed } };
+        first' = record { number = first.number; registrar = record { pass = pass; run_queue = first.registrar.run_queue; owed = first.registrar.owed } };
         rest = parts.0;
         was = parts.1;
-        is = parts.2 (record { number = first.number; waker = record { pass = pass; way = first.waker.way; owed = first.waker.owed } });
+        is = parts.2 (record { number = first.number; registrar = record { pass = pass; run_queue = first.registrar.run_queue; owed = first.registrar.owed } });
         others = (refl, refl, refl);
         ours = ours;
         knew = refl;
@@ -109,30 +109,30 @@ module _ {A K : Type 0} where
 
   -- the first end is of the gates, as all are
   pub first-ours : (built : Built A K) (first : WorkerEnd A K) → 0 < length built.ends.items → first ≡ get_or built.ends.items 0 first
-      → All (λ (e : WorkerEnd A K). IsEndOf built.system.gates e.waker) built.ends.items → pass_id first.waker.pass ≡ gates_id built.system.gates
+      → All (λ (e : WorkerEnd A K). IsEndOf built.system.gates e.registrar) built.ends.items → pass_id first.registrar.pass ≡ gates_id built.system.gates
   first-ours built first some is all =
-      (subst (λ (e : WorkerEnd A K). IsEndOf built.system.gates e.waker) (sym is) (all 0 first some)).0
+      (subst (λ (e : WorkerEnd A K). IsEndOf built.system.gates e.registrar) (sym is) (all 0 first some)).0
 
-  pub match-read : (found : Option ActorId) (many : ℕ) (old new : Built A K) (before after : View) → IsBack old new before after
-      → MatchOption found (AreSettledBy 0 many before after)
-      (λ id. (id.0 < many) × ((between : View) × AreSettledBy 0 id.0 before between × IsUnsettled id.0 between after))
-      → MatchOption found (HasRead (AreSettledBy 0 many) old new) (λ id. (id.0 < many) × HasRead (FindsUnsettled id.0) old new)
+  pub match-read : (found : Option ActorId) (many : ℕ) (old new : Built A K) (before after : View) → OnlyFirstEndRead old new before after
+      → MatchOption found (WereReadIdle 0 many before after)
+      (λ id. (id.0 < many) × ((between : View) × WereReadIdle 0 id.0 before between × WasReadBusy id.0 between after))
+      → MatchOption found (HasRead (WereReadIdle 0 many) old new) (λ id. (id.0 < many) × HasRead (FindsBusy id.0) old new)
   match-read None many old new before after back settled = (before, after, back, settled)
   match-read (Some id) many old new before after back busy = (busy.0, (before, after, back, busy.1))
 
-  pub back-ends : (old new : Built A K) (before after : View) → IsBack old new before after
-      → All (λ (e : WorkerEnd A K). IsEndOf old.system.gates e.waker) old.ends.items
-      → All (λ (e : WorkerEnd A K). IsEndOf new.system.gates e.waker) new.ends.items
+  pub back-ends : (old new : Built A K) (before after : View) → OnlyFirstEndRead old new before after
+      → All (λ (e : WorkerEnd A K). IsEndOf old.system.gates e.registrar) old.ends.items
+      → All (λ (e : WorkerEnd A K). IsEndOf new.system.gates e.registrar) new.ends.items
   back-ends old new before after back all =
-      let IsOurs = λ (e : WorkerEnd A K). IsEndOf old.system.gates e.waker in
+      let IsOurs = λ (e : WorkerEnd A K). IsEndOf old.system.gates e.registrar in
       let those = All-same IsOurs (back.first ∷ back.rest) old.ends.items (sym back.was) all in
       let one = All-head IsOurs back.first back.rest those in
-      let first : IsOurs back.first' = (back.ours ∙ one.0, ap (λ (way : EndWay (Box Contents)). gates_of way.end) back.others.1 ∙ one.1, one.2) in
-      subst (λ (s : System A K). All (λ (e : WorkerEnd A K). IsEndOf s.gates e.waker) new.ends.items) (sym back.system)
+      let first : IsOurs back.first' = (back.ours ∙ one.0, ap (λ (way : WorkerPort (Box Contents)). gates_of way.end) back.others.1 ∙ one.1, one.2) in
+      subst (λ (s : System A K). All (λ (e : WorkerEnd A K). IsEndOf s.gates e.registrar) new.ends.items) (sym back.system)
       (All-same IsOurs new.ends.items (back.first' ∷ back.rest) back.is
       (All-cons IsOurs back.first' back.rest first (All-tail IsOurs back.first back.rest those)))
 
-  pub back-together : (old new : Built A K) (before after : View) → IsBack old new before after → BelongsTogether old → BelongsTogether new
+  pub back-together : (old new : Built A K) (before after : View) → OnlyFirstEndRead old new before after → BelongsTogether old → BelongsTogether new
   back-together old new before after back together =
       let same : ◌≡◌ {A = System A K × List (Sender A K)} (old.system, old.senders.items) (new.system, new.senders.items) =
       λ i. (sym back.system i, sym back.senders i) in
@@ -140,11 +140,11 @@ module _ {A K : Type 0} where
         ends = back-ends old new before after back together.ends;
         senders = subst (λ (p : System A K × List (Sender A K)). All (λ (s : Sender A K). IsSenderOf p.0.gates s.inner) p.1) same together.senders;
         once = subst (λ (l : List (Sender A K)). AllPairs (λ a b. a ≢ b) (senders_numbers l)) (sym back.senders) together.once;
-        numbered = subst (λ (p : System A K × List (Sender A K)). All (λ (s : Sender A K). (64 ≤ s.inner.book.by.0)
-            × (s.inner.book.by.0 < 64 + p.0.senders)) p.1) same together.numbered;
+        numbered = subst (λ (p : System A K × List (Sender A K)). All (λ (s : Sender A K). (64 ≤ s.inner.send_log.by.0)
+            × (s.inner.send_log.by.0 < 64 + p.0.senders)) p.1) same together.numbered;
       }
 
-  pub back-complete : (old new : Built A K) (before after : View) → IsBack old new before after → IsComplete old → IsComplete new
+  pub back-complete : (old new : Built A K) (before after : View) → OnlyFirstEndRead old new before after → IsComplete old → IsComplete new
   back-complete old new before after back complete =
       let ends : ends_numbers old.ends.items ≡ ends_numbers new.ends.items =
       ap ends_numbers back.was ∙ ap (λ n. n ∷ ends_numbers back.rest) (sym back.others.0) ∙ ap ends_numbers (sym back.is) in (
@@ -153,14 +153,14 @@ module _ {A K : Type 0} where
             (λ i. (sym back.system i, sym back.senders i)) complete.1,
       )
 
-  pub back-some : (old new : Built A K) (before after : View) → IsBack old new before after → 0 < length new.ends.items
+  pub back-some : (old new : Built A K) (before after : View) → OnlyFirstEndRead old new before after → 0 < length new.ends.items
   back-some old new before after back =
       let many : length new.ends.items ≡ length (back.first' ∷ back.rest) = ap length back.is in
       omega (arith, many)
 
   -- what was read first, and what was read then
-  pub back-twice : (old between new : Built A K) (before during then after : View) → IsBack old between before during → IsBack between new then after
-      → IsBack old new before after
+  pub back-twice : (old between new : Built A K) (before during then after : View) → OnlyFirstEndRead old between before during → OnlyFirstEndRead between new then after
+      → OnlyFirstEndRead old new before after
   back-twice old between new before during then after one two =
       let same : one.first' ∷ one.rest ≡ two.first ∷ two.rest = sym one.is ∙ two.was in
       let first = same-first one.first' two.first one.rest two.rest same in
@@ -174,26 +174,26 @@ module _ {A K : Type 0} where
         is = two.is ∙ ap (λ l. two.first' ∷ l) (sym (same-rest one.first' two.first one.rest two.rest same));
         others = (
           two.others.0 ∙ ap (λ (e : WorkerEnd A K). e.number) (sym first) ∙ one.others.0,
-          two.others.1 ∙ ap (λ (e : WorkerEnd A K). e.waker.way) (sym first) ∙ one.others.1,
-          two.others.2 ∙ ap (λ (e : WorkerEnd A K). e.waker.owed) (sym first) ∙ one.others.2,
+          two.others.1 ∙ ap (λ (e : WorkerEnd A K). e.registrar.run_queue) (sym first) ∙ one.others.1,
+          two.others.2 ∙ ap (λ (e : WorkerEnd A K). e.registrar.owed) (sym first) ∙ one.others.2,
         );
-        ours = two.ours ∙ ap (λ (e : WorkerEnd A K). pass_id e.waker.pass) (sym first) ∙ one.ours;
+        ours = two.ours ∙ ap (λ (e : WorkerEnd A K). pass_id e.registrar.pass) (sym first) ∙ one.ours;
         knew = one.knew;
         knows = two.knows;
       }
 
-  known-between : (old between new : Built A K) (before during then after : View) → IsBack old between before during → IsBack between new then after
+  known-between : (old between new : Built A K) (before during then after : View) → OnlyFirstEndRead old between before during → OnlyFirstEndRead between new then after
       → then ≡ during
   known-between old between new before during then after one two =
       let same : one.first' ∷ one.rest ≡ two.first ∷ two.rest = sym one.is ∙ two.was in
-      sym two.knew ∙ ap (λ (e : WorkerEnd A K). known_by e.waker.pass) (sym (same-first one.first' two.first one.rest two.rest same)) ∙ one.knows
+      sym two.knew ∙ ap (λ (e : WorkerEnd A K). pass_view e.registrar.pass) (sym (same-first one.first' two.first one.rest two.rest same)) ∙ one.knows
 
   abbrev pub ReadMore : Built A K → Built A K → Type 0
   ReadMore = HasRead HasOnlyCounted
 
   -- nothing was to run, and then waiting numbers were read
-  pub settled-then-read : (many : ℕ) (old between new : Built A K) → HasRead (AreSettledBy 0 many) old between → ReadMore between new
-      → HasRead (FindsSettled many) old new
+  pub settled-then-read : (many : ℕ) (old between new : Built A K) → HasRead (WereReadIdle 0 many) old between → ReadMore between new
+      → HasRead (FindsIdle many) old new
   settled-then-read many old between new settled more = (
     settled.0,
     more.1,
@@ -207,7 +207,7 @@ module _ {A K : Type 0} where
   )
 
   -- what the first end had seen, and what the others, is a part of what all that came back had
-  ends-seen : (old new : Built A K) (before after : View) (log : List Sight) → IsBack old new before after → IsPart before.log after.log
+  ends-seen : (old new : Built A K) (before after : View) (log : List Observation) → OnlyFirstEndRead old new before after → IsPart before.log after.log
       → AllSeen seen_by_end new.ends.items log → AllSeen seen_by_end old.ends.items log
   ends-seen old new before after log back more all =
       let HasSeen = λ (e : WorkerEnd A K). IsPart (seen_by_end e) log in
@@ -218,14 +218,14 @@ module _ {A K : Type 0} where
       (subst (λ (v : View). IsPart v.log log) (sym back.knew) (part-trans before.log after.log log more last))
       (All-tail HasSeen back.first' back.rest those))
 
-  pub all-seen : (many : ℕ) (old new : Built A K) (log : List Sight) → HasRead (FindsSettled many) old new → HasAllSeen new log → HasAllSeen old log
+  pub all-seen : (many : ℕ) (old new : Built A K) (log : List Observation) → HasRead (FindsIdle many) old new → HasAllSeen new log → HasAllSeen old log
   all-seen many old new log found all = (
     ends-seen old new found.0 found.1 log found.2 (found-part many found.0 found.1 found.3) all.0,
     All-same (λ (s : Sender A K). IsPart (seen_by_sender s) log) old.senders.items new.senders.items (sym found.2.senders) all.1,
   )
 
-  pub was-settled : (old new : Built A K) (log : List Sight) → HasRead (FindsSettled (actors_of old.system.gates)) old new
-      → AllSeen seen_by_end new.ends.items log → WasSettled old log
+  pub was-settled : (old new : Built A K) (log : List Observation) → HasRead (FindsIdle (actors_of old.system.gates)) old new
+      → AllSeen seen_by_end new.ends.items log → WasFoundIdle old log
   was-settled old new log found ends =
       let HasSeen = λ (e : WorkerEnd A K). IsPart (seen_by_end e) log in
       let back = found.2 in
@@ -237,12 +237,12 @@ module _ {A K : Type 0} where
         rest = back.rest;
         are = back.was;
         read = found.3.0;
-        settled = subst (λ (v : View). AreSettledBy 0 (actors_of old.system.gates) v found.3.0) (sym back.knew) found.3.1;
+        settled = subst (λ (v : View). WereReadIdle 0 (actors_of old.system.gates) v found.3.0) (sym back.knew) found.3.1;
         among = part-trans found.3.0.log found.1.log log (only-part found.3.0 found.1 found.3.2) last;
       }
 
   -- what was counted as the first end read it was seen
-  pub counted-all : (old new : Built A K) (log : List Sight) (waiting : List ℕ)
+  pub counted-all : (old new : Built A K) (log : List Observation) (waiting : List ℕ)
       → HasRead (λ (before : View) (after : View). AreCounted after.log waiting) old new → AllSeen seen_by_end new.ends.items log
       → AreCounted log waiting
   counted-all old new log waiting read ends =

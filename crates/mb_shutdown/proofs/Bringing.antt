@@ -12,28 +12,28 @@ use Rattle.std.specs.Global.{Box}
 use Rattle.mb_msg.specs.declared.dead_letter.DeadLetter.{DeadLetter}
 use Rattle.mb_msg.specs.declared.dead_letter.Why.{Why}
 use Rattle.mb_msg.specs.declared.dead_letter.Why.TheVariants as why
-use Rattle.mb_fates.specs.Accepted.{dead_letters}
-use Rattle.mb_gate.specs.Names.{first_of}
+use Rattle.mb_journal.specs.Accepted.{dead_letters}
+use Rattle.mb_gate.specs.Accessors.{first_home}
 use Rattle.mb_gate.specs.Rule.{IsPart}
-use Rattle.mb_gate.specs.View.{Sight}
+use Rattle.mb_gate.specs.View.{Observation}
 use Rattle.mb_gate.specs.declared.gates.Gates.{Gates}
 use Rattle.mb_home.specs.Contents.{Contents}
-use Rattle.mb_home.specs.Roll.{Enrolled}
-use Rattle.mb_queue.specs.Passes.{Sending}
+use Rattle.mb_home.specs.Directory.{DirectoryEntry}
+use Rattle.mb_queue.specs.Passes.{SendPassView}
 use Rattle.mb_send.specs.Bounded.{are_of_bounded}
 use Rattle.mb_send.specs.Sends.{AreRoutes, receiving_queues}
-use Rattle.mb_send.specs.Vouched.{are_vouched, finds_closed, has_seen_closed, may_be_dead}
-use Rattle.mb_send.specs.declared.book.Book.{Book}
+use Rattle.mb_send.specs.SeenClosed.{were_seen_closed, finds_closed, has_seen_closed, may_be_dead}
+use Rattle.mb_send.specs.declared.send_log.SendLog.{SendLog}
 use Rattle.mb_build.specs.Numbers.{numbers}
-use Rattle.mb_reckon.specs.Outside.{AreOutsiders, HasKnownSenders, IsSenderAmong}
-use Rattle.mb_reckon.specs.declared.outsider.Outsider.{Outsider}
-use Rattle.mb_reckon.proofs.Gathering.{number-inside, number-outside}
-use Rattle.mb_reckon.proofs.Lists.{alike, each-place, length-mapped, mapped, there}
+use Rattle.mb_shutdown.specs.OutsideSenders.{AreFinishedSenders, HasKnownSenders, IsSenderAmong}
+use Rattle.mb_shutdown.specs.declared.finished_sender.FinishedSender.{FinishedSender}
+use Rattle.mb_shutdown.proofs.Gathering.{number-inside, number-outside}
+use Rattle.mb_shutdown.proofs.Lists.{alike, each-place, length-mapped, mapped, there}
 use Rattle.mb_system.specs.Belonging.{senders_numbers}
-use Rattle.mb_system.specs.Enrolled.{AreKnown, IsKnown}
+use Rattle.mb_system.specs.KnownSenders.{AreKnown, IsKnown}
 use Rattle.mb_system.specs.Members.{IsSenderOf}
 use Rattle.mb_system.specs.declared.sender.Sender.{Sender}
-use Rattle.mb_shutdown.specs.Belonging.{AreAnswers, AreWays, brings, brought}
+use Rattle.mb_shutdown.specs.Belonging.{AreAnswers, AreSendPasses, brings, brought}
 use Rattle.mb_shutdown.proofs.Gathered.{seen_by_sender}
 use Rattle.mb_shutdown.proofs.Parts.{AllSeen}
 
@@ -54,7 +54,7 @@ or-true : (b : Bool) → (b || true) ≡ true
 or-true true = refl
 or-true false = refl
 
-seen-in : (id : ℕ) (part log : List Sight) → IsPart part log → has_seen_closed part id ≡ true → has_seen_closed log id ≡ true
+seen-in : (id : ℕ) (part log : List Observation) → IsPart part log → has_seen_closed part id ≡ true → has_seen_closed log id ≡ true
 seen-in id part log is seen =
     ap (list_any (finds_closed id)) is.joined ∙ list_any-append (finds_closed id) is.before (part ++ is.after)
     ∙ ap (λ b. list_any (finds_closed id) is.before || b)
@@ -67,14 +67,14 @@ may-in a b why.Full more may = refl
 may-in a b why.NoMemory more may = refl
 may-in a b why.Cleaned more may = refl
 
-vouched-in : (part log : List Sight) (dead : List DeadLetter) → IsPart part log → are_vouched part dead ≡ true → are_vouched log dead ≡ true
+vouched-in : (part log : List Observation) (dead : List DeadLetter) → IsPart part log → were_seen_closed part dead ≡ true → were_seen_closed log dead ≡ true
 vouched-in part log [] is all = refl
 vouched-in part log (d ∷ dead) is all =
     let to = d.envelope.to.0 in
     let this = may_be_dead (has_seen_closed part to) d.why in
-    and-both (may_be_dead (has_seen_closed log to) d.why) (are_vouched log dead)
-    (may-in (has_seen_closed part to) (has_seen_closed log to) d.why (seen-in to part log is) (and-left this (are_vouched part dead) all))
-    (vouched-in part log dead is (and-right this (are_vouched part dead) all))
+    and-both (may_be_dead (has_seen_closed log to) d.why) (were_seen_closed log dead)
+    (may-in (has_seen_closed part to) (has_seen_closed log to) d.why (seen-in to part log is) (and-left this (were_seen_closed part dead) all))
+    (vouched-in part log dead is (and-right this (were_seen_closed part dead) all))
 
 -- ---- the senders outside
 
@@ -85,79 +85,79 @@ number-at first (suc count) (suc i) lt = number-at (first + 1) count i (omega (a
 
 module _ {A K : Type 0} where
   -- what came of each sender, in their order, is what it brought
-  abbrev pub AreBrought : List (Sender A K) → List Outsider → Type 0
+  abbrev pub AreBrought : List (Sender A K) → List FinishedSender → Type 0
   AreBrought senders outside =
       map brought outside ≡ map brings senders
 
-  pub outsiders : (gates : Gates (Box Contents)) (log : List Sight) (place : ℕ) (senders : List (Sender A K)) (outside : List Outsider)
+  pub outsiders : (gates : Gates (Box Contents)) (log : List Observation) (place : ℕ) (senders : List (Sender A K)) (outside : List FinishedSender)
       → All (λ (s : Sender A K). IsSenderOf gates s.inner) senders → AllSeen seen_by_sender senders log
-      → All (λ (s : Sender A K). 64 ≤ s.inner.book.by.0) senders → senders_numbers senders ≡ numbers place (length senders)
-      → AreBrought senders outside → AreOutsiders (first_of gates).value.roll log (64 + place) outside
+      → All (λ (s : Sender A K). 64 ≤ s.inner.send_log.by.0) senders → senders_numbers senders ≡ numbers place (length senders)
+      → AreBrought senders outside → AreFinishedSenders (first_home gates).value.directory log (64 + place) outside
   outsiders gates log place [] [] ours seen least numbered same_all = tt
   outsiders gates log place [] (o ∷ outside) ours seen least numbered same_all = absurd (let e = ap length same_all in omega (arith, e))
   outsiders gates log place (s ∷ senders) [] ours seen least numbered same_all = tt
   outsiders gates log place (s ∷ senders) (o ∷ outside) ours seen least numbered same_all =
       let one = All-head (λ (s : Sender A K). IsSenderOf gates s.inner) s senders ours in
-      let low = All-head (λ (s : Sender A K). 64 ≤ s.inner.book.by.0) s senders least in
+      let low = All-head (λ (s : Sender A K). 64 ≤ s.inner.send_log.by.0) s senders least in
       let part = All-head (λ (s : Sender A K). IsPart (seen_by_sender s) log) s senders seen in
-      let number : s.inner.book.by.0 - 64 ≡ place = same_Some (s.inner.book.by.0 - 64) place (ap (λ l. slice_get l 0) numbered) in
+      let number : s.inner.send_log.by.0 - 64 ≡ place = same_Some (s.inner.send_log.by.0 - 64) place (ap (λ l. slice_get l 0) numbered) in
       let same = alike brought brings (o ∷ outside)
       (s ∷ senders) 0 o s same_all refl refl in
-      let by : o.book.by.0 ≡ s.inner.book.by.0 = ap (λ (p : List Sending × Book). p.1.by.0) same in
+      let by : o.send_log.by.0 ≡ s.inner.send_log.by.0 = ap (λ (p : List SendPassView × SendLog). p.1.by.0) same in
       let rest = outsiders gates log (place + 1) senders outside (All-tail (λ (s : Sender A K). IsSenderOf gates s.inner) s senders ours)
       (All-tail (λ (s : Sender A K). IsPart (seen_by_sender s) log) s senders seen)
-      (All-tail (λ (s : Sender A K). 64 ≤ s.inner.book.by.0) s senders least) (ap (drop 1) numbered) (ap (drop 1) same_all) in (
+      (All-tail (λ (s : Sender A K). 64 ≤ s.inner.send_log.by.0) s senders least) (ap (drop 1) numbered) (ap (drop 1) same_all) in (
         record {
           number_is = omega (arith, by, number, low);
-          queues = ap (λ (p : List Sending × Book). receiving_queues p.0) same ∙ one.queues;
-          routes = subst (λ (p : List Sending × Book). AreRoutes p.1.by.0 p.1.posted p.0) (sym same) s.inner.routes;
-          vouched = subst (λ (p : List Sending × Book). are_vouched log (dead_letters p.1.posted) ≡ true) (sym same)
-              (vouched-in (seen_by_sender s) log (dead_letters s.inner.book.posted) part s.inner.vouched);
-          bounded = subst (λ (p : List Sending × Book). are_of_bounded (receiving_queues p.0) (dead_letters p.1.posted) ≡ true) (sym same)
+          queues = ap (λ (p : List SendPassView × SendLog). receiving_queues p.0) same ∙ one.queues;
+          routes = subst (λ (p : List SendPassView × SendLog). AreRoutes p.1.by.0 p.1.posted p.0) (sym same) s.inner.routes;
+          vouched = subst (λ (p : List SendPassView × SendLog). were_seen_closed log (dead_letters p.1.posted) ≡ true) (sym same)
+              (vouched-in (seen_by_sender s) log (dead_letters s.inner.send_log.posted) part s.inner.vouched);
+          bounded = subst (λ (p : List SendPassView × SendLog). are_of_bounded (receiving_queues p.0) (dead_letters p.1.posted) ≡ true) (sym same)
               s.inner.bounded;
         },
-        subst (λ (n : ℕ). AreOutsiders (first_of gates).value.roll log n outside)
+        subst (λ (n : ℕ). AreFinishedSenders (first_home gates).value.directory log n outside)
             (let sum : 64 + (place + 1) ≡ 64 + place + 1 = omega arith in sum) rest,
       )
 
   -- what each brought is listed in its place
-  module _ {Y : Type 0} (f : List Sending × Book → Y) (many : ℕ) (was now : List (Sender A K)) (outside : List Outsider)
+  module _ {Y : Type 0} (f : List SendPassView × SendLog → Y) (many : ℕ) (was now : List (Sender A K)) (outside : List FinishedSender)
       (count : length now ≡ many) (same : IsPermutation now was) (numbered : senders_numbers now ≡ numbers 0 (length now))
       (same_all : AreBrought now outside) where
     as_many : length outside ≡ length now
     as_many = sym (length-mapped brought outside) ∙ ap length same_all ∙ length-mapped brings now
 
-    brought-many : length (map (λ (o : Outsider). f (brought o)) outside) ≡ many
-    brought-many = length-mapped (λ (o : Outsider). f (brought o)) outside ∙ as_many ∙ count
+    brought-many : length (map (λ (o : FinishedSender). f (brought o)) outside) ≡ many
+    brought-many = length-mapped (λ (o : FinishedSender). f (brought o)) outside ∙ as_many ∙ count
 
     abbrev IsListed : Sender A K → Type 0
-    IsListed s = slice_get (map (λ (o : Outsider). f (brought o)) outside) (s.inner.book.by.0 - 64) ≡ Some (f (brings s))
+    IsListed s = slice_get (map (λ (o : FinishedSender). f (brought o)) outside) (s.inner.send_log.by.0 - 64) ≡ Some (f (brings s))
 
     brought-each : All IsListed was
     brought-each =
-        let number = λ (s : Sender A K). s.inner.book.by.0 - 64 in
+        let number = λ (s : Sender A K). s.inner.send_log.by.0 - 64 in
         All-permutation IsListed now was same (each-place IsListed now (λ i s is.
         (let lt = slice_get_within now i s is in
-        let place : s.inner.book.by.0 - 64 ≡ i = same_Some (s.inner.book.by.0 - 64) i
+        let place : s.inner.send_log.by.0 - 64 ≡ i = same_Some (s.inner.send_log.by.0 - 64) i
         (sym (mapped number now i s is) ∙ ap (λ l. slice_get l i) numbered ∙ number-at 0 (length now) i lt ∙ ap Some (let none : 0 + i ≡ i = omega arith in none)) in
         let one = there outside i (omega (arith, lt, as_many)) in
         let e = alike brought brings outside now i one.0 s same_all one.1 is in
-        ap (slice_get (map (λ (o : Outsider). f (brought o)) outside)) place
-        ∙ mapped (λ (o : Outsider). f (brought o)) outside i one.0 one.1 ∙ ap (λ (p : List Sending × Book). Some (f p)) e)))
+        ap (slice_get (map (λ (o : FinishedSender). f (brought o)) outside)) place
+        ∙ mapped (λ (o : FinishedSender). f (brought o)) outside i one.0 one.1 ∙ ap (λ (p : List SendPassView × SendLog). Some (f p)) e)))
 
   -- each was answered what is listed in its place
-  pub answers : (many : ℕ) (was now : List (Sender A K)) (outside : List Outsider) → length now ≡ many → IsPermutation now was
+  pub answers : (many : ℕ) (was now : List (Sender A K)) (outside : List FinishedSender) → length now ≡ many → IsPermutation now was
       → senders_numbers now ≡ numbers 0 (length now) → AreBrought now outside
-      → AreAnswers many was (map (λ (o : Outsider). o.book.posted) outside)
+      → AreAnswers many was (map (λ (o : FinishedSender). o.send_log.posted) outside)
   answers many was now outside count same numbered same_all = record {
     length_is = brought-many (λ p. p.1.posted) many was now outside count same numbered same_all;
     each = brought-each (λ p. p.1.posted) many was now outside count same numbered same_all;
   }
 
   -- and so are the passes of each
-  pub ways : (many : ℕ) (was now : List (Sender A K)) (outside : List Outsider) → length now ≡ many → IsPermutation now was
+  pub ways : (many : ℕ) (was now : List (Sender A K)) (outside : List FinishedSender) → length now ≡ many → IsPermutation now was
       → senders_numbers now ≡ numbers 0 (length now) → AreBrought now outside
-      → AreWays many was (map (λ (o : Outsider). o.sends.items) outside)
+      → AreSendPasses many was (map (λ (o : FinishedSender). o.sends.items) outside)
   ways many was now outside count same numbered same_all = record {
     length_is = brought-many (λ p. p.0) many was now outside count same numbered same_all;
     each = brought-each (λ p. p.0) many was now outside count same numbered same_all;
@@ -180,9 +180,9 @@ known-among actors outside n known = by_sides (cases_lt n 64)
       number_is = (let e : n ≡ 64 + (n - 64) = omega (arith, le) in e) ∙ sym (number-outside actors (actors + (n - 64)) (n - 64) refl);
     }
 
-pub known-senders : (roll : List Enrolled) (outside : ℕ) → AreKnown roll outside → HasKnownSenders roll outside
-known-senders roll outside =
-    All-weaker (λ (e : Enrolled). All (IsKnown (length roll) outside) e.queue.senders)
-    (λ (e : Enrolled). All (IsSenderAmong (length roll) outside) e.queue.senders)
-    (λ e. All-weaker (IsKnown (length roll) outside) (IsSenderAmong (length roll) outside) (known-among (length roll) outside) e.queue.senders)
-    roll
+pub known-senders : (directory : List DirectoryEntry) (outside : ℕ) → AreKnown directory outside → HasKnownSenders directory outside
+known-senders directory outside =
+    All-weaker (λ (e : DirectoryEntry). All (IsKnown (length directory) outside) e.queue.senders)
+    (λ (e : DirectoryEntry). All (IsSenderAmong (length directory) outside) e.queue.senders)
+    (λ e. All-weaker (IsKnown (length directory) outside) (IsSenderAmong (length directory) outside) (known-among (length directory) outside) e.queue.senders)
+    directory

@@ -4,18 +4,18 @@ use Rattle.std.specs.Prelude.{All, IsPermutation}
 use Rattle.std.specs.Global.{Box}
 use Rattle.std.proofs.lemmas.List.Sorted.{All-permutation, IsPermutation-sym, length_permutation}
 use Rattle.std.proofs.lemmas.List.Elements.{All-weaker}
-use Rattle.mb_gate.specs.Names.{actors_of, first_of, known_by}
+use Rattle.mb_gate.specs.Accessors.{actors_of, first_home, pass_view}
 use Rattle.mb_gate.specs.Rule.{IsPart}
-use Rattle.mb_gate.specs.View.{Sight, View}
+use Rattle.mb_gate.specs.View.{Observation, View}
 use Rattle.mb_gate.specs.declared.gates.Gates.{Gates}
 use Rattle.mb_home.specs.Contents.{Contents}
 use Rattle.mb_build.specs.Numbers.{numbers}
-use Rattle.mb_reckon.specs.Outside.{AreOutsiders, HasKnownSenders}
-use Rattle.mb_reckon.specs.Rooms.{IsRoom}
-use Rattle.mb_reckon.specs.declared.room.Room.{Room}
-use Rattle.mb_reckon.specs.Seen.{GoesOnFrom, GoesOnFromAll}
-use Rattle.mb_reckon.specs.declared.outsider.Outsider.{Outsider}
-use Rattle.mb_reckon.proofs.Lists.{length-mapped}
+use Rattle.mb_shutdown.specs.OutsideSenders.{AreFinishedSenders, HasKnownSenders}
+use Rattle.mb_shutdown.specs.Rooms.{IsRoom}
+use Rattle.mb_shutdown.specs.declared.room.Room.{Room}
+use Rattle.mb_shutdown.specs.Seen.{ReportExtends, ReportExtendsAll}
+use Rattle.mb_shutdown.specs.declared.finished_sender.FinishedSender.{FinishedSender}
+use Rattle.mb_shutdown.proofs.Lists.{length-mapped}
 use Rattle.mb_report.specs.declared.report.Report.{Report}
 use Rattle.mb_system.specs.Belonging.{BelongsTogether, senders_numbers}
 use Rattle.mb_system.specs.Members.{IsSenderOf}
@@ -23,8 +23,8 @@ use Rattle.mb_system.specs.declared.built.Built.{Built}
 use Rattle.mb_system.specs.declared.end.WorkerEnd.{WorkerEnd}
 use Rattle.mb_system.specs.declared.sender.Sender.{Sender}
 use Rattle.mb_system.specs.declared.system.System.{System}
-use Rattle.mb_shutdown.specs.Belonging.{AreAnswers, AreWays, HasAllSeen, HasRead, IsFoundSettled, brings, brought}
-use Rattle.mb_shutdown.specs.Refused.{FindsSettled, IsComplete}
+use Rattle.mb_shutdown.specs.Belonging.{AreAnswers, AreSendPasses, HasAllSeen, HasRead, AllFoundIdle, brings, brought}
+use Rattle.mb_shutdown.specs.Refused.{FindsIdle, IsComplete}
 use Rattle.mb_shutdown.proofs.Back.{all-seen, was-settled}
 use Rattle.mb_shutdown.proofs.Bringing.{answers, known-senders, outsiders, ways}
 use Rattle.mb_shutdown.proofs.Gathered.{seen_by_end, seen_by_sender}
@@ -33,17 +33,17 @@ use Rattle.mb_shutdown.proofs.Places.{as-many-senders, outside-all}
 
 module _ {A K : Type 0} where
   -- the system's gates came, with all that ends and senders saw, and with what the senders bring, in the order of their numbers
-  pub record IsGathered (built : Built A K) (gates : Gates (Box Contents)) (log : List Sight) (outside : List Outsider) : Type 0 where
+  pub record IsGathered (built : Built A K) (gates : Gates (Box Contents)) (log : List Observation) (outside : List FinishedSender) : Type 0 where
     pub gates_are : gates ≡ built.system.gates
-    pub settled : IsFoundSettled built
+    pub settled : AllFoundIdle built
     pub seen : HasAllSeen built log
     pub now : List (Sender A K)
     pub same : IsPermutation now built.senders.items
     pub numbered : senders_numbers now ≡ numbers 0 built.system.senders
     pub shown : map brought outside ≡ map brings now
 
-  pub gathered : (old new : Built A K) (gates : Gates (Box Contents)) (log : List Sight) (outside : List Outsider)
-      → HasRead (FindsSettled (actors_of old.system.gates)) old new → gates ≡ new.system.gates → HasAllSeen new log
+  pub gathered : (old new : Built A K) (gates : Gates (Box Contents)) (log : List Observation) (outside : List FinishedSender)
+      → HasRead (FindsIdle (actors_of old.system.gates)) old new → gates ≡ new.system.gates → HasAllSeen new log
       → (senders : List (Sender A K)) × IsPermutation senders new.senders.items × (senders_numbers senders ≡ numbers 0 new.system.senders)
       × (map brought outside ≡ map brings senders) → IsGathered old gates log outside
   gathered old new gates log outside found are seen came =
@@ -58,7 +58,7 @@ module _ {A K : Type 0} where
         shown = came.3;
       }
 
-module _ {A K : Type 0} (built : Built A K) (gates : Gates (Box Contents)) (log : List Sight) (outside : List Outsider)
+module _ {A K : Type 0} (built : Built A K) (gates : Gates (Box Contents)) (log : List Observation) (outside : List FinishedSender)
     (together : BelongsTogether built) (complete : IsComplete built) (came : IsGathered built gates log outside) where
   now-many : length came.now ≡ built.system.senders
   now-many =
@@ -74,37 +74,37 @@ module _ {A K : Type 0} (built : Built A K) (gates : Gates (Box Contents)) (log 
   in-places : senders_numbers came.now ≡ numbers 0 (length came.now)
   in-places = came.numbered ∙ ap (numbers 0) (sym now-many)
 
-  pub came-outside : AreOutsiders (first_of gates).value.roll log 64 outside
+  pub came-outside : AreFinishedSenders (first_home gates).value.directory log 64 outside
   came-outside =
       outsiders gates log 0 came.now outside
       (All-permutation (λ (s : Sender A K). IsSenderOf gates s.inner) built.senders.items came.now back
       (subst (λ (g : Gates (Box Contents)). All (λ (s : Sender A K). IsSenderOf g s.inner) built.senders.items) (sym came.gates_are)
       together.senders))
       (All-permutation (λ (s : Sender A K). IsPart (seen_by_sender s) log) built.senders.items came.now back came.seen.1)
-      (All-permutation (λ (s : Sender A K). 64 ≤ s.inner.book.by.0) built.senders.items came.now back
+      (All-permutation (λ (s : Sender A K). 64 ≤ s.inner.send_log.by.0) built.senders.items came.now back
       (outside-all built.system.senders built.senders.items together.numbered)) in-places came.shown
 
-  pub came-known : HasKnownSenders (first_of gates).value.roll (length outside)
+  pub came-known : HasKnownSenders (first_home gates).value.directory (length outside)
   came-known =
-      subst (λ (p : Gates (Box Contents) × ℕ). HasKnownSenders (first_of p.0).value.roll p.1)
+      subst (λ (p : Gates (Box Contents) × ℕ). HasKnownSenders (first_home p.0).value.directory p.1)
       (λ i. (sym came.gates_are i, sym as-many-outside i))
-      (known-senders (first_of built.system.gates).value.roll built.system.senders built.system.known)
+      (known-senders (first_home built.system.gates).value.directory built.system.senders built.system.known)
 
-  pub came-answers : AreAnswers built.system.senders built.senders.items (map (λ (o : Outsider). o.book.posted) outside)
+  pub came-answers : AreAnswers built.system.senders built.senders.items (map (λ (o : FinishedSender). o.send_log.posted) outside)
   came-answers = answers built.system.senders built.senders.items came.now outside now-many came.same in-places came.shown
 
-  pub came-ways : AreWays built.system.senders built.senders.items (map (λ (o : Outsider). o.sends.items) outside)
+  pub came-ways : AreSendPasses built.system.senders built.senders.items (map (λ (o : FinishedSender). o.sends.items) outside)
   came-ways = ways built.system.senders built.senders.items came.now outside now-many came.same in-places came.shown
 
   -- the report goes on from what each end and each sender saw
-  pub goes-on : (report : Report) (v : View) → v.log ≡ log → GoesOnFromAll report v
-      → All (λ (e : WorkerEnd A K). GoesOnFromAll report (known_by e.waker.pass)) built.ends.items
-      × All (λ (s : Sender A K). GoesOnFromAll report (known_by s.inner.waker.pass)) built.senders.items
+  pub goes-on : (report : Report) (v : View) → v.log ≡ log → ReportExtendsAll report v
+      → All (λ (e : WorkerEnd A K). ReportExtendsAll report (pass_view e.registrar.pass)) built.ends.items
+      × All (λ (s : Sender A K). ReportExtendsAll report (pass_view s.inner.registrar.pass)) built.senders.items
   goes-on report v is all = (
-    All-weaker (λ (e : WorkerEnd A K). IsPart (seen_by_end e) log) (λ (e : WorkerEnd A K). GoesOnFromAll report (known_by e.waker.pass))
-        (λ e part. each-part (GoesOnFrom report) (seen_by_end e) v.log (subst (IsPart (seen_by_end e)) (sym is) part) all) built.ends.items came.seen.0,
-    All-weaker (λ (s : Sender A K). IsPart (seen_by_sender s) log) (λ (s : Sender A K). GoesOnFromAll report (known_by s.inner.waker.pass))
-        (λ s part. each-part (GoesOnFrom report) (seen_by_sender s) v.log (subst (IsPart (seen_by_sender s)) (sym is) part) all) built.senders.items
+    All-weaker (λ (e : WorkerEnd A K). IsPart (seen_by_end e) log) (λ (e : WorkerEnd A K). ReportExtendsAll report (pass_view e.registrar.pass))
+        (λ e part. each-part (ReportExtends report) (seen_by_end e) v.log (subst (IsPart (seen_by_end e)) (sym is) part) all) built.ends.items came.seen.0,
+    All-weaker (λ (s : Sender A K). IsPart (seen_by_sender s) log) (λ (s : Sender A K). ReportExtendsAll report (pass_view s.inner.registrar.pass))
+        (λ s part. each-part (ReportExtends report) (seen_by_sender s) v.log (subst (IsPart (seen_by_sender s)) (sym is) part) all) built.senders.items
         came.seen.1,
   )
 

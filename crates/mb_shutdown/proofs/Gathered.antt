@@ -4,13 +4,13 @@ use Rattle.std.specs.Prelude.{All}
 use Rattle.std.specs.Global.{Box}
 use Rattle.std.proofs.lemmas.List.{map-append}
 use Rattle.std.proofs.lemmas.List.Elements.{All-cons, All-head, All-nil, All-same, All-tail}
-use Rattle.mb_gate.specs.Names.{gates_id, known_by, pass_id}
+use Rattle.mb_gate.specs.Accessors.{gates_id, pass_view, pass_id}
 use Rattle.mb_gate.specs.Rule.{IsPart}
-use Rattle.mb_gate.specs.View.{Sight, View, taking_over}
+use Rattle.mb_gate.specs.View.{Observation, View, taking_over}
 use Rattle.mb_gate.specs.declared.gates.Gates.{Gates}
 use Rattle.mb_gate.specs.declared.pass.Pass.{Pass}
 use Rattle.mb_home.specs.Contents.{Contents}
-use Rattle.mb_reckon.specs.declared.outsider.Outsider.{Outsider}
+use Rattle.mb_shutdown.specs.declared.finished_sender.FinishedSender.{FinishedSender}
 use Rattle.mb_system.specs.Members.{IsEndOf, IsSenderOf}
 use Rattle.mb_system.specs.declared.end.WorkerEnd.{WorkerEnd}
 use Rattle.mb_system.specs.declared.sender.Sender.{Sender}
@@ -28,104 +28,104 @@ module _ {X : Type 0} where
       of-next P came x rest (came ++ (x ∷ rest)) refl (All-tail P y (came ++ (x ∷ rest)) (All-same P (y ∷ came ++ (x ∷ rest)) all is each))
 
 module _ {A K : Type 0} where
-  abbrev pub seen_by_end : WorkerEnd A K → List Sight
-  seen_by_end e = (known_by e.waker.pass).log
+  abbrev pub seen_by_end : WorkerEnd A K → List Observation
+  seen_by_end e = (pass_view e.registrar.pass).log
 
-  abbrev pub seen_by_sender : Sender A K → List Sight
-  seen_by_sender s = (known_by s.inner.waker.pass).log
+  abbrev pub seen_by_sender : Sender A K → List Observation
+  seen_by_sender s = (pass_view s.inner.registrar.pass).log
 
   -- the pass is of the gates, and knows what the first of these ends and those that came have seen
   pub record HasEnds (gates : Gates (Box Contents)) (ends came rest : List (WorkerEnd A K)) (pass : Pass (Box Contents)) : Type 0 where
     pub ours : pass_id pass ≡ gates_id gates
     pub first : WorkerEnd A K
     pub are : (first ∷ came) ++ rest ≡ ends
-    pub seen : AllSeen seen_by_end (first ∷ came) (known_by pass).log
+    pub seen : AllSeen seen_by_end (first ∷ came) (pass_view pass).log
 
   pub ends-first : (gates : Gates (Box Contents)) (ends rest : List (WorkerEnd A K)) (e : WorkerEnd A K) (pass : Pass (Box Contents))
-      → e ∷ rest ≡ ends → pass ≡ e.waker.pass → All (λ (w : WorkerEnd A K). IsEndOf gates w.waker) ends → HasEnds gates ends [] rest pass
+      → e ∷ rest ≡ ends → pass ≡ e.registrar.pass → All (λ (w : WorkerEnd A K). IsEndOf gates w.registrar) ends → HasEnds gates ends [] rest pass
   ends-first gates ends rest e pass are is all =
-      let one = of-next (λ (w : WorkerEnd A K). IsEndOf gates w.waker) [] e rest ends are all in record {
+      let one = of-next (λ (w : WorkerEnd A K). IsEndOf gates w.registrar) [] e rest ends are all in record {
         ours = ap pass_id is ∙ one.0;
         first = e;
         are = are;
-        seen = All-cons (λ (w : WorkerEnd A K). IsPart (seen_by_end w) (known_by pass).log) e []
-            (subst (λ (p : Pass (Box Contents)). IsPart (seen_by_end e) (known_by p).log) (sym is) (part-same (seen_by_end e)))
-            (All-nil (λ (w : WorkerEnd A K). IsPart (seen_by_end w) (known_by pass).log));
+        seen = All-cons (λ (w : WorkerEnd A K). IsPart (seen_by_end w) (pass_view pass).log) e []
+            (subst (λ (p : Pass (Box Contents)). IsPart (seen_by_end e) (pass_view p).log) (sym is) (part-same (seen_by_end e)))
+            (All-nil (λ (w : WorkerEnd A K). IsPart (seen_by_end w) (pass_view pass).log));
       }
 
   pub end-ours : (gates : Gates (Box Contents)) (ends came left rest : List (WorkerEnd A K)) (e : WorkerEnd A K) (pass other : Pass (Box Contents))
-      → HasEnds gates ends came left pass → left ≡ e ∷ rest → other ≡ e.waker.pass → All (λ (w : WorkerEnd A K). IsEndOf gates w.waker) ends
+      → HasEnds gates ends came left pass → left ≡ e ∷ rest → other ≡ e.registrar.pass → All (λ (w : WorkerEnd A K). IsEndOf gates w.registrar) ends
       → pass_id other ≡ gates_id gates
   end-ours gates ends came left rest e pass other has next is all =
       ap pass_id is
-      ∙ (of-next (λ (w : WorkerEnd A K). IsEndOf gates w.waker) (has.first ∷ came) e rest ends
+      ∙ (of-next (λ (w : WorkerEnd A K). IsEndOf gates w.registrar) (has.first ∷ came) e rest ends
       (ap (λ l. (has.first ∷ came) ++ l) (sym next) ∙ has.are) all).0
 
   pub ends-more : (gates : Gates (Box Contents)) (ends came left rest : List (WorkerEnd A K)) (e : WorkerEnd A K)
-      (old new other : Pass (Box Contents)) → HasEnds gates ends came left old → left ≡ e ∷ rest → other ≡ e.waker.pass → pass_id new ≡ pass_id old
-      → known_by new ≡ taking_over (known_by old) (known_by other) → HasEnds gates ends (came ++ e ∷ []) rest new
+      (old new other : Pass (Box Contents)) → HasEnds gates ends came left old → left ≡ e ∷ rest → other ≡ e.registrar.pass → pass_id new ≡ pass_id old
+      → pass_view new ≡ taking_over (pass_view old) (pass_view other) → HasEnds gates ends (came ++ e ∷ []) rest new
   ends-more gates ends came left rest e old new other has next is same knows =
-      let log : (known_by new).log ≡ seen_by_end e ++ (known_by old).log =
-      ap (λ (v : View). v.log) knows ∙ ap (λ (p : Pass (Box Contents)). (known_by p).log ++ (known_by old).log) is in
+      let log : (pass_view new).log ≡ seen_by_end e ++ (pass_view old).log =
+      ap (λ (v : View). v.log) knows ∙ ap (λ (p : Pass (Box Contents)). (pass_view p).log ++ (pass_view old).log) is in
       record {
         ours = same ∙ has.ours;
         first = has.first;
         are = next-came (has.first ∷ came) e rest ends (ap (λ l. (has.first ∷ came) ++ l) (sym next) ∙ has.are);
-        seen = seen-more seen_by_end (has.first ∷ came) e (known_by old).log (known_by new).log log has.seen;
+        seen = seen-more seen_by_end (has.first ∷ came) e (pass_view old).log (pass_view new).log log has.seen;
       }
 
   pub ends-all : (gates : Gates (Box Contents)) (ends came left : List (WorkerEnd A K)) (pass : Pass (Box Contents))
-      → HasEnds gates ends came left pass → left ≡ [] → AllSeen seen_by_end ends (known_by pass).log
+      → HasEnds gates ends came left pass → left ≡ [] → AllSeen seen_by_end ends (pass_view pass).log
   ends-all gates ends came left pass has none =
-      subst (λ l. AllSeen seen_by_end l (known_by pass).log)
+      subst (λ l. AllSeen seen_by_end l (pass_view pass).log)
       (sym (append-nil (has.first ∷ came)) ∙ ap (λ l. (has.first ∷ came) ++ l) (sym none) ∙ has.are) has.seen
 
   -- the pass is of the gates, and knows what all ends and those senders that came have seen; these brought this
   pub record HasSenders (gates : Gates (Box Contents)) (ends : List (WorkerEnd A K)) (senders came rest : List (Sender A K))
-      (pass : Pass (Box Contents)) (outside : List Outsider) : Type 0 where
+      (pass : Pass (Box Contents)) (outside : List FinishedSender) : Type 0 where
     pub ours : pass_id pass ≡ gates_id gates
-    pub ends_seen : AllSeen seen_by_end ends (known_by pass).log
+    pub ends_seen : AllSeen seen_by_end ends (pass_view pass).log
     pub are : came ++ rest ≡ senders
-    pub seen : AllSeen seen_by_sender came (known_by pass).log
+    pub seen : AllSeen seen_by_sender came (pass_view pass).log
     pub shown : map brought outside ≡ map brings came
 
   pub senders-first : (gates : Gates (Box Contents)) (ends : List (WorkerEnd A K)) (senders rest : List (Sender A K)) (pass : Pass (Box Contents))
-      (outside : List Outsider) → pass_id pass ≡ gates_id gates → AllSeen seen_by_end ends (known_by pass).log → rest ≡ senders → outside ≡ []
+      (outside : List FinishedSender) → pass_id pass ≡ gates_id gates → AllSeen seen_by_end ends (pass_view pass).log → rest ≡ senders → outside ≡ []
       → HasSenders gates ends senders [] rest pass outside
   senders-first gates ends senders rest pass outside ours seen are none = record {
     ours = ours;
     ends_seen = seen;
     are = are;
-    seen = All-nil (λ (s : Sender A K). IsPart (seen_by_sender s) (known_by pass).log);
+    seen = All-nil (λ (s : Sender A K). IsPart (seen_by_sender s) (pass_view pass).log);
     shown = ap (map brought) none;
   }
 
   pub sender-ours : (gates : Gates (Box Contents)) (ends : List (WorkerEnd A K)) (senders came left rest : List (Sender A K)) (s : Sender A K)
-      (pass other : Pass (Box Contents)) (outside : List Outsider) → HasSenders gates ends senders came left pass outside → left ≡ s ∷ rest
-      → other ≡ s.inner.waker.pass → All (λ (x : Sender A K). IsSenderOf gates x.inner) senders → pass_id other ≡ gates_id gates
+      (pass other : Pass (Box Contents)) (outside : List FinishedSender) → HasSenders gates ends senders came left pass outside → left ≡ s ∷ rest
+      → other ≡ s.inner.registrar.pass → All (λ (x : Sender A K). IsSenderOf gates x.inner) senders → pass_id other ≡ gates_id gates
   sender-ours gates ends senders came left rest s pass other outside has next is all =
       ap pass_id is
       ∙ (of-next (λ (x : Sender A K). IsSenderOf gates x.inner) came s rest senders (ap (λ l. came ++ l) (sym next) ∙ has.are) all).ours.0
 
   pub senders-more : (gates : Gates (Box Contents)) (ends : List (WorkerEnd A K)) (senders came left rest : List (Sender A K)) (s : Sender A K)
-      (old new other : Pass (Box Contents)) (outside outside' : List Outsider) (o : Outsider)
-      → HasSenders gates ends senders came left old outside → left ≡ s ∷ rest → other ≡ s.inner.waker.pass → pass_id new ≡ pass_id old
-      → known_by new ≡ taking_over (known_by old) (known_by other) → outside' ≡ outside ++ o ∷ [] → o.sends ≡ s.inner.sends → o.book ≡ s.inner.book
+      (old new other : Pass (Box Contents)) (outside outside' : List FinishedSender) (o : FinishedSender)
+      → HasSenders gates ends senders came left old outside → left ≡ s ∷ rest → other ≡ s.inner.registrar.pass → pass_id new ≡ pass_id old
+      → pass_view new ≡ taking_over (pass_view old) (pass_view other) → outside' ≡ outside ++ o ∷ [] → o.sends ≡ s.inner.sends → o.send_log ≡ s.inner.send_log
       → HasSenders gates ends senders (came ++ s ∷ []) rest new outside'
-  senders-more gates ends senders came left rest s old new other outside outside' o has next is same knows more sends book =
-      let log : (known_by new).log ≡ seen_by_sender s ++ (known_by old).log =
-      ap (λ (v : View). v.log) knows ∙ ap (λ (p : Pass (Box Contents)). (known_by p).log ++ (known_by old).log) is in
+  senders-more gates ends senders came left rest s old new other outside outside' o has next is same knows more sends send_log =
+      let log : (pass_view new).log ≡ seen_by_sender s ++ (pass_view old).log =
+      ap (λ (v : View). v.log) knows ∙ ap (λ (p : Pass (Box Contents)). (pass_view p).log ++ (pass_view old).log) is in
       record {
         ours = same ∙ has.ours;
-        ends_seen = seen-by seen_by_end ends (known_by old).log (known_by new).log
-            (subst (IsPart (known_by old).log) (sym log) (part-back (seen_by_sender s) (known_by old).log)) has.ends_seen;
+        ends_seen = seen-by seen_by_end ends (pass_view old).log (pass_view new).log
+            (subst (IsPart (pass_view old).log) (sym log) (part-back (seen_by_sender s) (pass_view old).log)) has.ends_seen;
         are = next-came came s rest senders (ap (λ l. came ++ l) (sym next) ∙ has.are);
-        seen = seen-more seen_by_sender came s (known_by old).log (known_by new).log log has.seen;
+        seen = seen-more seen_by_sender came s (pass_view old).log (pass_view new).log log has.seen;
         shown = ap (map brought) more ∙ map-append brought outside (o ∷ [])
-            ∙ (λ i. has.shown i ++ ((sends i).items, book i) ∷ []) ∙ sym (map-append brings came (s ∷ []));
+            ∙ (λ i. has.shown i ++ ((sends i).items, send_log i) ∷ []) ∙ sym (map-append brings came (s ∷ []));
       }
 
   pub senders-all : (gates : Gates (Box Contents)) (ends : List (WorkerEnd A K)) (senders came left : List (Sender A K)) (pass : Pass (Box Contents))
-      (outside : List Outsider) → HasSenders gates ends senders came left pass outside → left ≡ [] → came ≡ senders
+      (outside : List FinishedSender) → HasSenders gates ends senders came left pass outside → left ≡ [] → came ≡ senders
   senders-all gates ends senders came left pass outside has none =
       sym (append-nil came) ∙ ap (λ l. came ++ l) (sym none) ∙ has.are

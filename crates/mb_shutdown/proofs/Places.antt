@@ -1,4 +1,4 @@
--- The numbers of those that are there, by their places.
+-- The numbers of ends and senders, by their places.
 use Rattle.std.proofs.Common.{◌≡◌, ◌⊎◌, inl, inr, ℕ, zero, suc, ◌+◌, ◌-◌, ◌<◌, ◌≤◌, List, [], ◌∷◌, length, map, refl, sym, ap, ◌∙◌, subst, Some}
 use Rattle.std.proofs.Common.{arith, get_or}
 use Rattle.std.specs.Prelude.{All, AllPairs, Bool, Contains, IsPermutation, IsTrue, MatchOption, None, Option, is_some, slice_get, ◌≢◌, ◌↔◌}
@@ -9,7 +9,7 @@ use Rattle.std.proofs.lemmas.List.Edits.{swapped_from_swap}
 use Rattle.std.proofs.lemmas.List.Sorted.{Contains-permutation, IsPermutation-map, IsPermutation-swap, IsPermutation-sym, length_permutation}
 use Rattle.std.proofs.lemmas.Option.{get_or_from_slice_get, none-some, same_Some, slice_get-get_or, slice_get_within}
 use Rattle.mb_build.specs.Numbers.{numbers}
-use Rattle.mb_reckon.proofs.Lists.{at-place, each-place, from-mapped, length-mapped, mapped, there}
+use Rattle.mb_shutdown.proofs.Lists.{at-place, each-place, from-mapped, length-mapped, mapped, there}
 use Rattle.mb_system.specs.Belonging.{senders_numbers}
 use Rattle.mb_system.specs.declared.sender.Sender.{Sender}
 use Rattle.mb_shutdown.specs.Belonging.{AreThere, IsLeastMissing}
@@ -187,18 +187,18 @@ as-many many ns all below apart =
 
 -- so there are as many senders as have numbers, where each is there once
 pub as-many-senders : {A K : Type 0} (many : ℕ) (senders : List (Sender A K)) → AreThere many (senders_numbers senders)
-    → All (λ (s : Sender A K). (64 ≤ s.inner.book.by.0) × (s.inner.book.by.0 < 64 + many)) senders
+    → All (λ (s : Sender A K). (64 ≤ s.inner.send_log.by.0) × (s.inner.send_log.by.0 < 64 + many)) senders
     → AllPairs (λ a b. a ≢ b) (senders_numbers senders) → length senders ≡ many
 as-many-senders {A} {K} many senders all numbered once =
     sym (length-mapped number senders) ∙ as-many many (senders_numbers senders) all below once
   where
     number : Sender A K → ℕ
-    number s = s.inner.book.by.0 - 64
+    number s = s.inner.send_log.by.0 - 64
 
     below : All (λ n. n < many) (senders_numbers senders)
     below = each-place (λ n. n < many) (senders_numbers senders) (λ i n is.
-        (let one = from-mapped (λ (s : Sender A K). s.inner.book.by.0 - 64) senders i n is in
-        let both = at-place (λ (s : Sender A K). (64 ≤ s.inner.book.by.0) × (s.inner.book.by.0 < 64 + many)) senders i one.0 numbered one.1 in
+        (let one = from-mapped (λ (s : Sender A K). s.inner.send_log.by.0 - 64) senders i n is in
+        let both = at-place (λ (s : Sender A K). (64 ≤ s.inner.send_log.by.0) × (s.inner.send_log.by.0 < 64 + many)) senders i one.0 numbered one.1 in
         let low = both.0 in let high = both.1 in let e = one.2 in
         omega (arith, low, high, e)))
 
@@ -209,8 +209,8 @@ all-there {A} {K} many now senders is count all =
     (subst (λ (n : ℕ). AreThere n (senders_numbers senders)) (sym count) all)
 
 pub outside-all : {A K : Type 0} (many : ℕ) (senders : List (Sender A K))
-    → All (λ (s : Sender A K). (64 ≤ s.inner.book.by.0) × (s.inner.book.by.0 < 64 + many)) senders
-    → All (λ (s : Sender A K). 64 ≤ s.inner.book.by.0) senders
+    → All (λ (s : Sender A K). (64 ≤ s.inner.send_log.by.0) × (s.inner.send_log.by.0 < 64 + many)) senders
+    → All (λ (s : Sender A K). 64 ≤ s.inner.send_log.by.0) senders
 outside-all {A} {K} many senders =
-    All-weaker (λ (s : Sender A K). (64 ≤ s.inner.book.by.0) × (s.inner.book.by.0 < 64 + many)) (λ (s : Sender A K). 64 ≤ s.inner.book.by.0)
+    All-weaker (λ (s : Sender A K). (64 ≤ s.inner.send_log.by.0) × (s.inner.send_log.by.0 < 64 + many)) (λ (s : Sender A K). 64 ≤ s.inner.send_log.by.0)
     (λ s both. both.0) senders

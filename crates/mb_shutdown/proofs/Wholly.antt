@@ -1,5 +1,5 @@
 -- A system of which nothing is missing is refused for what its actors are.
-use Rattle.mb_gate.specs.Names.{actors_of}
+use Rattle.mb_gate.specs.Accessors.{actors_of}
 use Rattle.mb_system.specs.declared.built.Built.{Built}
 use Rattle.mb_shutdown.specs.Refused.{IsComplete, IsOfWhole, IsRefusal}
 use Rattle.mb_shutdown.specs.declared.ending.FinishError.{FinishError}

@@ -1,4 +1,4 @@
-//! Whether all that belongs to a system is there.
+//! Whether all that belongs to a system is there, and in the order of its numbers.
 ghost use Rattle.std.specs.Prelude.{◌≡◌, ◌↔◌, ◌≤◌, Contains, IsPermutation, IsTrue, MatchOption, Some, length, map, slice_get};
 ghost use Rattle.mb_build.specs.Numbers.{numbers};
 ghost use Rattle.mb_shutdown.specs.Belonging.{AreThere, IsLeastMissing};
@@ -18,7 +18,7 @@ fn has<T: Numbered>(all: &[T], number: u32) -> bool
     place_of(all, number).is_some()
 }
 
-// The place of the one of this number.
+// The place of the one with this number.
 fn place_of<T: Numbered>(all: &[T], number: u32) -> Option<usize>
     ensures { MatchOption result (Contains (map T.numbered all.now) number → ⊥)
         (λ place. slice_get (map T.numbered all.now) place ≡ Some number) }
@@ -26,8 +26,8 @@ fn place_of<T: Numbered>(all: &[T], number: u32) -> Option<usize>
     all.iter().position(|one| one.number() == number)
 }
 
-/// Puts these in the order of their numbers, all of which are there.
-pub(crate) fn arrange<T: Numbered>(all: &mut [T])
+/// Sorts these by their numbers, all of which are there.
+pub(crate) fn sort_by_number<T: Numbered>(all: &mut [T])
     requires few { length all.old ≤ 16 }
     requires there { AreThere (length all.old) (map T.numbered all.old) }
     ensures numbers { map T.numbered all.new ≡ numbers 0 (length all.old) }

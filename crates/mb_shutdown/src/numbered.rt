@@ -1,4 +1,4 @@
-//! Things that have a number.
+//! Ends and senders by their numbers.
 ghost use Rattle.std.specs.Prelude.{◌≡◌, ℕ};
 
 use mb_actor::{Actor, Behaviours};
@@ -28,9 +28,9 @@ impl<A: Actor, K: Behaviours> Numbered for Sender<A, K> {
     ghost use Rattle.std.specs.Prelude.{◌-◌};
     ghost use Rattle.mb_msg.specs.Limits.{most_actors};
 
-    ghost numbered = { λ s. s.inner.book.by.0 - most_actors };
+    ghost numbered = { λ s. s.inner.send_log.by.0 - most_actors };
 
     fn number(&self) -> u32 {
-        self.inner.book.by.0.saturating_sub(ACTORS)
+        self.inner.send_log.by.0.saturating_sub(ACTORS)
     }
 }

@@ -1,22 +1,22 @@
--- What the homes of a plan make of a system: who may send to whom, and the passes of the senders outside.
+-- Who may send to whom in a new system, and the passes of its senders outside, by the homes of its plan.
 use Rattle.std.proofs.Common.{◌≡◌, ◌≤◌, ◌<◌, ℕ, zero, suc, ◌+◌, List, [], ◌∷◌, length, map, drop, refl, sym, ap, ◌∙◌, subst, arith}
 use Rattle.std.specs.Prelude.{All, slice_get, Some}
 use Rattle.std.specs.Global.{Box}
 use Rattle.std.proofs.lemmas.List.Elements.{All-append, All-cons, All-head, All-nil, All-tail}
 use Rattle.std.proofs.lemmas.Option.{none-some}
 use Rattle.mb_journal.specs.Identity.{Identity}
-use Rattle.mb_queue.specs.declared.kind.Kind.{Kind}
-use Rattle.mb_queue.specs.Passes.{Sending, Taking}
+use Rattle.mb_msg.specs.declared.mailbox_type.MailboxType.{MailboxType}
+use Rattle.mb_queue.specs.Passes.{SendPassView, TakePassView}
 use Rattle.mb_home.specs.Contents.{Contents}
-use Rattle.mb_home.specs.Roll.{Enrolled, queues_of}
+use Rattle.mb_home.specs.Directory.{DirectoryEntry, queues_of}
 use Rattle.mb_send.specs.Sends.{receiving_queues}
 use Rattle.mb_build.specs.Handed.{passes_of}
-use Rattle.mb_build.specs.Housed.{AreAtFirst, enrolled}
+use Rattle.mb_build.specs.NewHomes.{AreAtFirst, directory_of}
 use Rattle.mb_build.specs.Made.{AreEmpty, AreMade}
 use Rattle.mb_build.specs.Numbers.{numbers, sender_numbers}
-use Rattle.mb_build.proofs.RollLemmas.{length-enrolled, queues-enrolled}
+use Rattle.mb_build.proofs.DirectoryLemmas.{length-enrolled, queues-enrolled}
 use Rattle.mb_startup.specs.Begun.{AreUnused}
-use Rattle.mb_system.specs.Enrolled.{AreKnown, IsKnown}
+use Rattle.mb_system.specs.KnownSenders.{AreKnown, IsKnown}
 
 -- the actors' numbers, and those of the senders outside
 inside : (actors outside first count : ℕ) → first + count ≤ actors → actors ≤ 64 → All (IsKnown actors outside) (numbers first count)
@@ -39,56 +39,56 @@ all-known actors outside few =
     (beyond actors outside 64 outside (omega arith) (omega arith))
 
 -- the queues that are made are for these senders
-all-for : (kinds : List Kind) (to : ℕ) (senders : List ℕ) (takes : List Taking) → AreEmpty kinds to senders takes
-    → All (λ (t : Taking). t.queue.senders ≡ senders) takes
-all-for [] to senders [] are = All-nil (λ (t : Taking). t.queue.senders ≡ senders)
+all-for : (kinds : List MailboxType) (to : ℕ) (senders : List ℕ) (takes : List TakePassView) → AreEmpty kinds to senders takes
+    → All (λ (t : TakePassView). t.queue.senders ≡ senders) takes
+all-for [] to senders [] are = All-nil (λ (t : TakePassView). t.queue.senders ≡ senders)
 all-for [] to senders (t ∷ takes) are = absurd are
 all-for (k ∷ kinds) to senders [] are = absurd are
 all-for (k ∷ kinds) to senders (t ∷ takes) are =
-    All-cons (λ (x : Taking). x.queue.senders ≡ senders) t takes are.0.0.senders_are (all-for kinds (to + 1) senders takes are.1)
+    All-cons (λ (x : TakePassView). x.queue.senders ≡ senders) t takes are.0.0.senders_are (all-for kinds (to + 1) senders takes are.1)
 
--- what holds of each sender holds of those of each queue on the roll
-known-queues : (actors outside : ℕ) (senders : List ℕ) (whos : List Identity) (takes : List Taking) → All (IsKnown actors outside) senders
-    → All (λ (t : Taking). t.queue.senders ≡ senders) takes
-    → All (λ (e : Enrolled). All (IsKnown actors outside) e.queue.senders) (enrolled whos takes)
-known-queues actors outside senders [] takes known all = All-nil (λ (e : Enrolled). All (IsKnown actors outside) e.queue.senders)
-known-queues actors outside senders (who ∷ whos) [] known all = All-nil (λ (e : Enrolled). All (IsKnown actors outside) e.queue.senders)
+-- what holds of each sender holds of the senders of each queue in the directory
+known-queues : (actors outside : ℕ) (senders : List ℕ) (whos : List Identity) (takes : List TakePassView) → All (IsKnown actors outside) senders
+    → All (λ (t : TakePassView). t.queue.senders ≡ senders) takes
+    → All (λ (e : DirectoryEntry). All (IsKnown actors outside) e.queue.senders) (directory_of whos takes)
+known-queues actors outside senders [] takes known all = All-nil (λ (e : DirectoryEntry). All (IsKnown actors outside) e.queue.senders)
+known-queues actors outside senders (who ∷ whos) [] known all = All-nil (λ (e : DirectoryEntry). All (IsKnown actors outside) e.queue.senders)
 known-queues actors outside senders (who ∷ whos) (t ∷ takes) known all =
-    All-cons (λ (e : Enrolled). All (IsKnown actors outside) e.queue.senders) _ (enrolled whos takes)
-    (subst (All (IsKnown actors outside)) (sym (All-head (λ (x : Taking). x.queue.senders ≡ senders) t takes all)) known)
-    (known-queues actors outside senders whos takes known (All-tail (λ (x : Taking). x.queue.senders ≡ senders) t takes all))
+    All-cons (λ (e : DirectoryEntry). All (IsKnown actors outside) e.queue.senders) _ (directory_of whos takes)
+    (subst (All (IsKnown actors outside)) (sym (All-head (λ (x : TakePassView). x.queue.senders ≡ senders) t takes all)) known)
+    (known-queues actors outside senders whos takes known (All-tail (λ (x : TakePassView). x.queue.senders ≡ senders) t takes all))
 
 -- who may send to the actors of a system that begins
-pub known-first : (kinds : List Kind) (outside : ℕ) (guardian : Taking) (takes : List Taking) (rows : List (List Sending)) (who : Identity)
+pub known-first : (kinds : List MailboxType) (outside : ℕ) (guardian : TakePassView) (takes : List TakePassView) (rows : List (List SendPassView)) (who : Identity)
     (whos : List Identity) → AreMade kinds (sender_numbers (length (who ∷ whos)) outside) guardian takes rows → length takes ≡ length whos
-    → length (who ∷ whos) ≤ 64 → AreKnown (enrolled (who ∷ whos) (guardian ∷ takes)) outside
+    → length (who ∷ whos) ≤ 64 → AreKnown (directory_of (who ∷ whos) (guardian ∷ takes)) outside
 known-first kinds outside guardian takes rows who whos made many few =
     let actors = length (who ∷ whos) in
     let both : length (guardian ∷ takes) ≡ length (who ∷ whos) = ap suc many in
-    subst (λ n. All (λ (e : Enrolled). All (IsKnown n outside) e.queue.senders) (enrolled (who ∷ whos) (guardian ∷ takes)))
+    subst (λ n. All (λ (e : DirectoryEntry). All (IsKnown n outside) e.queue.senders) (directory_of (who ∷ whos) (guardian ∷ takes)))
     (sym (length-enrolled (who ∷ whos) (guardian ∷ takes) both))
-    (All-cons (λ (e : Enrolled). All (IsKnown actors outside) e.queue.senders) _ (enrolled whos takes)
+    (All-cons (λ (e : DirectoryEntry). All (IsKnown actors outside) e.queue.senders) _ (directory_of whos takes)
     (subst (All (IsKnown actors outside)) (sym made.nobody.senders_are) (All-nil (IsKnown actors outside)))
     (known-queues actors outside (sender_numbers actors outside) whos takes (all-known actors outside few)
     (all-for kinds 1 (sender_numbers actors outside) takes made.empty)))
 
-ways-of : (takes : List Taking) (sender : ℕ) → receiving_queues (passes_of takes sender) ≡ map (λ (t : Taking). t.queue) takes
+ways-of : (takes : List TakePassView) (sender : ℕ) → receiving_queues (passes_of takes sender) ≡ map (λ (t : TakePassView). t.queue) takes
 ways-of [] sender = refl
 ways-of (t ∷ takes) sender = ap (λ l. t.queue ∷ l) (ways-of takes sender)
 
-length-passes : (takes : List Taking) (sender : ℕ) → length (passes_of takes sender) ≡ length takes
+length-passes : (takes : List TakePassView) (sender : ℕ) → length (passes_of takes sender) ≡ length takes
 length-passes [] sender = refl
 length-passes (t ∷ takes) sender = ap suc (length-passes takes sender)
 
-routes : (kinds : List Kind) (to : ℕ) (senders : List ℕ) (takes : List Taking) (sender place : ℕ) (s : Sending) → AreEmpty kinds to senders takes
+routes : (kinds : List MailboxType) (to : ℕ) (senders : List ℕ) (takes : List TakePassView) (sender place : ℕ) (s : SendPassView) → AreEmpty kinds to senders takes
     → slice_get (passes_of takes sender) place ≡ Some s → (s.by ≡ sender) × (s.queue.to ≡ to + place) × (s.pushed ≡ [])
 routes kinds to senders [] sender place s are there = absurd (none-some s there)
 routes [] to senders (t ∷ takes) sender place s are there = absurd are
 routes (k ∷ kinds) to senders (t ∷ takes) sender zero s are there =
     let is : record { queue = t.queue; by = sender; pushed = [] } ≡ s = cc in let sum : to ≡ to + 0 = omega arith in (
-      ap (λ (x : Sending). x.by) (sym is),
-      ap (λ (x : Sending). x.queue.to) (sym is) ∙ are.0.0.actor ∙ sum,
-      ap (λ (x : Sending). x.pushed) (sym is),
+      ap (λ (x : SendPassView). x.by) (sym is),
+      ap (λ (x : SendPassView). x.queue.to) (sym is) ∙ are.0.0.actor ∙ sum,
+      ap (λ (x : SendPassView). x.pushed) (sym is),
     )
 routes (k ∷ kinds) to senders (t ∷ takes) sender (suc place) s are there =
     let sum : (to + 1) + place ≡ to + suc place = omega arith in
@@ -96,9 +96,9 @@ routes (k ∷ kinds) to senders (t ∷ takes) sender (suc place) s are there =
     (rest.0, rest.1 ∙ sum, rest.2)
 
 -- the passes of the senders outside are unused
-pub unused-outside : (kinds : List Kind) (senders : List ℕ) (guardian : Taking) (takes : List Taking) (rows : List (List Sending))
+pub unused-outside : (kinds : List MailboxType) (senders : List ℕ) (guardian : TakePassView) (takes : List TakePassView) (rows : List (List SendPassView))
     (whos : List Identity) (first count : ℕ) → AreMade kinds senders guardian takes rows → length (guardian ∷ takes) ≡ length whos
-    → AreUnused (drop 1 (queues_of (enrolled whos (guardian ∷ takes)))) (length whos) first (map (passes_of takes) (numbers first count))
+    → AreUnused (drop 1 (queues_of (directory_of whos (guardian ∷ takes)))) (length whos) first (map (passes_of takes) (numbers first count))
 unused-outside kinds senders guardian takes rows whos first zero made many = tt
 unused-outside kinds senders guardian takes rows whos first (suc count) made many = (
   record {
@@ -111,22 +111,22 @@ unused-outside kinds senders guardian takes rows whos first (suc count) made man
   unused-outside kinds senders guardian takes rows whos (first + 1) count made many,
 )
 
--- the roll of the first home, and how many homes there are
-pub first-roll : (roll : List Enrolled) (others : List Taking) (number : ℕ) (whos : List Identity) (takes : List Taking) (homes : List (Box Contents))
-    (first : Box Contents) → AreAtFirst roll others number whos takes homes → slice_get homes 0 ≡ Some first → first.value.roll ≡ roll
-first-roll roll others number whos takes [] first are there = absurd (none-some first there)
-first-roll roll others number [] [] (h ∷ homes) first are there = absurd are
-first-roll roll others number [] (t ∷ takes) (h ∷ homes) first are there = absurd are
-first-roll roll others number (who ∷ whos) [] (h ∷ homes) first are there = absurd are
-first-roll roll others number (who ∷ whos) (t ∷ takes) (h ∷ homes) first are there =
+-- the directory of the first home, and how many homes there are
+pub first-directory : (directory : List DirectoryEntry) (others : List TakePassView) (number : ℕ) (whos : List Identity) (takes : List TakePassView) (homes : List (Box Contents))
+    (first : Box Contents) → AreAtFirst directory others number whos takes homes → slice_get homes 0 ≡ Some first → first.value.directory ≡ directory
+first-directory directory others number whos takes [] first are there = absurd (none-some first there)
+first-directory directory others number [] [] (h ∷ homes) first are there = absurd are
+first-directory directory others number [] (t ∷ takes) (h ∷ homes) first are there = absurd are
+first-directory directory others number (who ∷ whos) [] (h ∷ homes) first are there = absurd are
+first-directory directory others number (who ∷ whos) (t ∷ takes) (h ∷ homes) first are there =
     let is : h ≡ first = cc in
-    ap (λ (x : Box Contents). x.value.roll) (sym is) ∙ ap (λ (c : Contents). c.roll) are.0
+    ap (λ (x : Box Contents). x.value.directory) (sym is) ∙ ap (λ (c : Contents). c.directory) are.0
 
-pub as-many-homes : (roll : List Enrolled) (others : List Taking) (number : ℕ) (whos : List Identity) (takes : List Taking)
-    (homes : List (Box Contents)) → AreAtFirst roll others number whos takes homes → length homes ≡ length whos
-as-many-homes roll others number [] [] [] are = refl
-as-many-homes roll others number [] [] (h ∷ homes) are = absurd are
-as-many-homes roll others number [] (t ∷ takes) homes are = absurd are
-as-many-homes roll others number (who ∷ whos) [] homes are = absurd are
-as-many-homes roll others number (who ∷ whos) (t ∷ takes) [] are = absurd are
-as-many-homes roll others number (who ∷ whos) (t ∷ takes) (h ∷ homes) are = ap suc (as-many-homes roll others (number + 1) whos takes homes are.1)
+pub as-many-homes : (directory : List DirectoryEntry) (others : List TakePassView) (number : ℕ) (whos : List Identity) (takes : List TakePassView)
+    (homes : List (Box Contents)) → AreAtFirst directory others number whos takes homes → length homes ≡ length whos
+as-many-homes directory others number [] [] [] are = refl
+as-many-homes directory others number [] [] (h ∷ homes) are = absurd are
+as-many-homes directory others number [] (t ∷ takes) homes are = absurd are
+as-many-homes directory others number (who ∷ whos) [] homes are = absurd are
+as-many-homes directory others number (who ∷ whos) (t ∷ takes) [] are = absurd are
+as-many-homes directory others number (who ∷ whos) (t ∷ takes) (h ∷ homes) are = ap suc (as-many-homes directory others (number + 1) whos takes homes are.1)

@@ -3,58 +3,58 @@ use Rattle.std.proofs.Common.{◌≡◌, ◌<◌, List, [], ◌∷◌, ◌++◌,
 use Rattle.std.specs.Prelude.{All}
 use Rattle.std.specs.Global.{Box}
 use Rattle.std.proofs.lemmas.List.Elements.{All-cons}
-use Rattle.mb_gate.specs.Names.{gates_id, known_by, pass_id}
-use Rattle.mb_gate.specs.View.{View, added_debts}
+use Rattle.mb_gate.specs.Accessors.{gates_id, pass_view, pass_id}
+use Rattle.mb_gate.specs.View.{View, added_obligations}
 use Rattle.mb_gate.specs.declared.gates.Gates.{Gates}
 use Rattle.mb_gate.specs.declared.pass.Pass.{Pass}
 use Rattle.mb_home.specs.Contents.{Contents}
-use Rattle.mb_startup.specs.Begun.{AreLedEnds, AreNewEnds, IsCreated, IsNewEnd, OwesFirstRun}
-use Rattle.mb_system.specs.Members.{IsEndOf, ways_of_ends}
+use Rattle.mb_startup.specs.Begun.{AreFirstEnds, AreNewEnds, IsCreated, IsNewEnd, OwesFirstRun}
+use Rattle.mb_system.specs.Members.{IsEndOf, pool_ends_of}
 use Rattle.mb_system.specs.declared.end.WorkerEnd.{WorkerEnd}
-use Rattle.mb_startup.proofs.Founded.{all-ends}
-use Rattle.mb_startup.proofs.Owing.{owes-over}
+use Rattle.mb_startup.proofs.NewGates.{all-ends}
+use Rattle.mb_startup.proofs.Obligations.{owes-over}
 
 module _ {A K : Type 0} (gates : Gates (Box Contents)) where
   -- all ends are of the gates, the first too
-  pub all-led : (ends : List (WorkerEnd A K)) → AreLedEnds gates ends → All (λ (e : WorkerEnd A K). IsEndOf gates e.waker) ends
+  pub all-led : (ends : List (WorkerEnd A K)) → AreFirstEnds gates ends → All (λ (e : WorkerEnd A K). IsEndOf gates e.registrar) ends
   all-led ends led =
-      subst (All (λ (e : WorkerEnd A K). IsEndOf gates e.waker)) (sym led.ends_are)
-      (All-cons (λ (e : WorkerEnd A K). IsEndOf gates e.waker) led.end led.others led.ours (all-ends gates 1 led.others led.others_are))
+      subst (All (λ (e : WorkerEnd A K). IsEndOf gates e.registrar)) (sym led.ends_are)
+      (All-cons (λ (e : WorkerEnd A K). IsEndOf gates e.registrar) led.end led.others led.ours (all-ends gates 1 led.others led.others_are))
 
   -- the first of new ends takes over a pass
   pub first-ours : (ends : List (WorkerEnd A K)) (d e : WorkerEnd A K) → e ≡ get_or ends 0 d → 0 < length ends → AreNewEnds gates 0 ends
-      → pass_id e.waker.pass ≡ gates_id gates
+      → pass_id e.registrar.pass ≡ gates_id gates
   first-ours [] d e is some are = absurd (omega (arith, some))
-  first-ours (x ∷ others) d e is some are = ap (λ (w : WorkerEnd A K). pass_id w.waker.pass) is ∙ are.0.ours.0
+  first-ours (x ∷ others) d e is some are = ap (λ (w : WorkerEnd A K). pass_id w.registrar.pass) is ∙ are.0.ours.0
 
   -- by its own way into the pool
   pub first-ways : (ends : List (WorkerEnd A K)) (d e : WorkerEnd A K) (p : Pass (Box Contents)) → e ≡ get_or ends 0 d
-      → ways_of_ends (set ends 0 (record e { waker = record e.waker { pass = p } })) ≡ ways_of_ends ends
+      → pool_ends_of (set ends 0 (record e { registrar = record e.registrar { pass = p } })) ≡ pool_ends_of ends
   first-ways [] d e p is = refl
-  first-ways (x ∷ others) d e p is = ap (λ (w : WorkerEnd A K). w.waker.way.end ∷ ways_of_ends others) is
+  first-ways (x ∷ others) d e p is = ap (λ (w : WorkerEnd A K). w.registrar.run_queue.end ∷ pool_ends_of others) is
 
   led-by : (x e : WorkerEnd A K) (others : List (WorkerEnd A K)) (p : Pass (Box Contents)) (v : View) → e ≡ x → IsNewEnd gates 0 x
-      → AreNewEnds gates 1 others → pass_id p ≡ pass_id e.waker.pass → IsCreated v × OwesFirstRun v
-      → (known_by p).log ≡ v.log ++ (known_by e.waker.pass).log → (known_by p).got ≡ v.got ++ (known_by e.waker.pass).got → v.got ≡ []
-      → (known_by p).debts ≡ added_debts v.debts (known_by e.waker.pass).debts
-      → AreLedEnds gates (record e { waker = record e.waker { pass = p } } ∷ others)
+      → AreNewEnds gates 1 others → pass_id p ≡ pass_id e.registrar.pass → IsCreated v × OwesFirstRun v
+      → (pass_view p).log ≡ v.log ++ (pass_view e.registrar.pass).log → (pass_view p).got ≡ v.got ++ (pass_view e.registrar.pass).got → v.got ≡ []
+      → (pass_view p).obligations ≡ added_obligations v.obligations (pass_view e.registrar.pass).obligations
+      → AreFirstEnds gates (record e { registrar = record e.registrar { pass = p } } ∷ others)
   led-by x e others p v is new are id created saw got none owed =
       let mine : IsNewEnd gates 0 e = subst (IsNewEnd gates 0) (sym is) new in record {
-        end = record e { waker = record e.waker { pass = p } };
+        end = record e { registrar = record e.registrar { pass = p } };
         others = others;
         ends_are = refl;
         others_are = are;
         ours = (id ∙ mine.ours.0, mine.ours.1, mine.ours.2);
         first_end = (mine.number_is, mine.nobody);
         created = (created.0.0, saw ∙ ap (λ l. v.log ++ l) mine.blank ∙ append-nil v.log ∙ created.0.1);
-        settled = owes-over v (known_by e.waker.pass) (known_by p) owed created.1 mine.settled;
+        settled = owes-over v (pass_view e.registrar.pass) (pass_view p) owed created.1 mine.settled;
         unclaimed = got ∙ ap (λ l. v.got ++ l) mine.unclaimed ∙ append-nil v.got ∙ none;
       }
 
   pub first-led : (ends : List (WorkerEnd A K)) (d e : WorkerEnd A K) (p : Pass (Box Contents)) (v : View) → e ≡ get_or ends 0 d
-      → 0 < length ends → AreNewEnds gates 0 ends → pass_id p ≡ pass_id e.waker.pass → IsCreated v × OwesFirstRun v
-      → (known_by p).log ≡ v.log ++ (known_by e.waker.pass).log → (known_by p).got ≡ v.got ++ (known_by e.waker.pass).got → v.got ≡ []
-      → (known_by p).debts ≡ added_debts v.debts (known_by e.waker.pass).debts
-      → AreLedEnds gates (set ends 0 (record e { waker = record e.waker { pass = p } }))
+      → 0 < length ends → AreNewEnds gates 0 ends → pass_id p ≡ pass_id e.registrar.pass → IsCreated v × OwesFirstRun v
+      → (pass_view p).log ≡ v.log ++ (pass_view e.registrar.pass).log → (pass_view p).got ≡ v.got ++ (pass_view e.registrar.pass).got → v.got ≡ []
+      → (pass_view p).obligations ≡ added_obligations v.obligations (pass_view e.registrar.pass).obligations
+      → AreFirstEnds gates (set ends 0 (record e { registrar = record e.registrar { pass = p } }))
   first-led [] d e p v is some are id created saw got none owed = absurd (omega (arith, some))
   first-led (x ∷ others) d e p v is some are id created saw got none owed = led-by x e others p v is are.0 are.1 id created saw got none owed

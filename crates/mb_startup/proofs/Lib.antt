@@ -1,9 +1,9 @@
 pub mod Right
 pub mod Known
-pub mod Opened
+pub mod EndsAndSenders
 pub mod Sharing
-pub mod Founded
-pub mod Owing
+pub mod NewGates
+pub mod Obligations
 pub mod Led
-pub mod Rolls
+pub mod Directories
 pub mod There

@@ -2,7 +2,7 @@
 use Rattle.std.proofs.Common.{◌≡◌, ◌≤◌, ◌<◌, ◌==◌, ◌&&◌, ℕ, Bool, true, false, List, [], ◌∷◌, ◌++◌, length, refl, arith}
 use Rattle.std.specs.Prelude.{nat_le, nat_lt}
 use Rattle.std.proofs.lemmas.Bool.Decides.{nat_tests}
-use Rattle.mb_plan.specs.declared.plan.Plan.{Plan}
+use Rattle.mb_msg.specs.declared.plan.Plan.{Plan}
 use Rattle.mb_build.specs.Reasons.{bad_bounds, bad_numbers, bad_parents, reasons, unless}
 use Rattle.mb_build.specs.declared.check.PlanError.{PlanError}
 use Rattle.mb_build.specs.declared.check.PlanError.TheVariants.{Actors, Boxes, Senders, Workers, JournalLimit}

@@ -1,14 +1,14 @@
--- What is split off a pass is the whole with the rest.
+-- What is split off a pass makes the whole with the rest.
 use Rattle.std.proofs.Common.{◌≡◌, ℕ, ◌+◌, ◌-◌, ◌^◌, ◌<◌, ◌≤◌, List, [], ◌∷◌, ◌++◌, length, get_or, set, sym, ap, ◌∙◌, subst}
 use Rattle.std.proofs.Common.{append-nil, append_assoc, arith}
 use Rattle.std.specs.List.{flat_map}
 use Rattle.std.specs.Global.{Box}
-use Rattle.mb_rule.specs.Seen.{Each}
-use Rattle.mb_rule.specs.Shares.{FitsIn, IsWhole, amount, half_of, halved}
-use Rattle.mb_rule.proofs.SeenLemmas.{each_append}
-use Rattle.mb_rule.proofs.SharesLemmas.{halves_amount, halves_fit}
-use Rattle.mb_rule.proofs.SummedLemmas.{total_append}
-use Rattle.mb_gate.specs.Names.{known_by}
+use Rattle.mb_ghost.specs.Seen.{Each}
+use Rattle.mb_ghost.specs.Shares.{FitsIn, IsWhole, amount, half_of, halved}
+use Rattle.mb_ghost.proofs.SeenLemmas.{each_append}
+use Rattle.mb_ghost.proofs.SharesLemmas.{halves_amount, halves_fit}
+use Rattle.mb_ghost.proofs.SummedLemmas.{total_append}
+use Rattle.mb_gate.specs.Accessors.{pass_view}
 use Rattle.mb_gate.specs.declared.pass.Pass.{Pass}
 use Rattle.mb_home.specs.Contents.{Contents}
 use Rattle.mb_startup.specs.Shared.{KeepsWhole, share_of_end, shares_of_ends}
@@ -72,8 +72,8 @@ whole-with share sent mine outside ends lent new whole senders led is same =
 module _ {A K : Type 0} where
   -- the first end has its share and that of the pass
   pub first-shares : (ends : List (WorkerEnd A K)) (d e : WorkerEnd A K) (p : Pass (Box Contents)) (share : List ℕ) → e ≡ get_or ends 0 d
-      → 0 < length ends → (known_by p).share ≡ share ++ share_of_end e
-      → shares_of_ends (set ends 0 (record e { waker = record e.waker { pass = p } })) ≡ share ++ shares_of_ends ends
+      → 0 < length ends → (pass_view p).share ≡ share ++ share_of_end e
+      → shares_of_ends (set ends 0 (record e { registrar = record e.registrar { pass = p } })) ≡ share ++ shares_of_ends ends
   first-shares [] d e p share is some has = absurd (omega (arith, some))
   first-shares (x ∷ others) d e p share is some has =
       ap (λ l. l ++ shares_of_ends others) (has ∙ ap (λ z. share ++ share_of_end z) is)

@@ -7,8 +7,8 @@ use Rattle.mb_msg.specs.Limits.{most_actors}
 use Rattle.mb_actor.specs.Behaviour.{Moment, Reply}
 use Rattle.mb_gate.specs.declared.gates.Gates.{Gates}
 use Rattle.mb_home.specs.Contents.{Contents}
-use Rattle.mb_plan.specs.declared.plan.Plan.{Plan}
-use Rattle.mb_queue.specs.Passes.{Sending}
+use Rattle.mb_msg.specs.declared.plan.Plan.{Plan}
+use Rattle.mb_queue.specs.Passes.{SendPassView}
 use Rattle.mb_build.specs.Handed.{passes_of}
 use Rattle.mb_build.specs.Numbers.{numbers}
 use Rattle.mb_startup.specs.Begun.{AreNewEnds, AreNewSenders, IsBegun}
@@ -33,7 +33,7 @@ module _ {A K : Type 0} (gates : Gates (Box Contents)) where
   numbers-of-ends number [] are = refl
   numbers-of-ends number (e ∷ ends) are = λ i. are.0.number_is i ∷ numbers-of-ends (number + 1) ends are.1 i
 
-  numbers-of-senders : (number : ℕ) (rows : List (List Sending)) (senders : List (Sender A K)) → most_actors ≤ number
+  numbers-of-senders : (number : ℕ) (rows : List (List SendPassView)) (senders : List (Sender A K)) → most_actors ≤ number
       → AreNewSenders gates number rows senders
       → (senders_numbers senders ≡ numbers (number - most_actors) (length senders)) × (length senders ≡ length rows)
   numbers-of-senders number [] [] least are = (refl, refl)
@@ -42,7 +42,7 @@ module _ {A K : Type 0} (gates : Gates (Box Contents)) where
   numbers-of-senders number (row ∷ rows) (s ∷ senders) least are =
       let rest = numbers-of-senders (number + 1) rows senders (omega (arith, least)) are.1 in
       let next : (number + 1) - most_actors ≡ (number - most_actors) + 1 = omega (arith, least) in
-      let one : s.inner.book.by.0 - most_actors ≡ number - most_actors = ap (λ n. n.0 - most_actors) are.0.by in
+      let one : s.inner.send_log.by.0 - most_actors ≡ number - most_actors = ap (λ n. n.0 - most_actors) are.0.by in
       ((λ i. one i ∷ (rest.0 ∙ ap (λ n. numbers n (length senders)) next) i), ap suc rest.1)
 
 module _ {A K : Type 0} (gives : ℕ → Moment → Reply → Type 0) (plan : Plan) (built : Built A K) (begun : IsBegun gives plan built) where

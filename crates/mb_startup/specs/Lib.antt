@@ -1,4 +1,4 @@
 pub mod Shared
 pub mod Begun
-pub mod Founded
+pub mod NewGates
 pub mod Unbuilt

@@ -1,17 +1,17 @@
-//! How a system is built.
+//! Building a system from a plan and its actors.
 ghost use Rattle.std.specs.Prelude.{◌≡◌, [], IfErr, IfOk, OnOk, length};
-ghost use Rattle.mb_build.specs.Behaved.{AreBehaved};
+ghost use Rattle.mb_build.specs.BehavesAsPlanned.{BehaveAsPlanned};
 ghost use Rattle.mb_build.specs.Reasons.{reasons};
-ghost use Rattle.mb_startup.specs.Begun.{IsBegun, kind_in};
+ghost use Rattle.mb_startup.specs.Begun.{IsBegun};
 ghost use Rattle.mb_startup.specs.Unbuilt.{IsNoSystem};
 
-use crate::founding::{Founded, found};
-use crate::opening::{Opened, open};
+use crate::ends_and_senders::{EndsAndSenders, open};
+use crate::new_gates::{NewGates, found};
 use mb_actor::{Actor, Behaviours};
 use mb_build::{PlanError, check_plan};
-use mb_plan::Plan;
-use mb_pool::{Kind, Pool};
-use mb_system::{Built, Going, System};
+use mb_msg::Plan;
+use mb_pool::Pool;
+use mb_system::{Built, RunActivity, System};
 use std::alloc::{AllocError, Global};
 use std::sync::Wait;
 
@@ -20,7 +20,7 @@ use std::sync::Wait;
 pub enum BuildError<A: Actor> {
     /// None can be built from the plan. The plan and the actors come back.
     BadPlan(PlanError, Plan, Vec<A>),
-    /// Memory was refused. The plan and the actors are let go.
+    /// Memory was refused. The plan and the actors are dropped.
     NoMemory,
 }
 
@@ -34,7 +34,7 @@ pub fn build<A: Actor, K: Behaviours, R: Wait>(
     plan: Plan,
     actors: Vec<A>,
 ) -> Result<Built<A, K>, BuildError<A>>
-    requires behaved { AreBehaved A.content A.after A.gives K.after K.gives 1 actors.items }
+    requires behaved { BehaveAsPlanned A.content A.after A.gives K.after K.gives 1 actors.items }
     ensures begun { IfOk result (IsBegun K.gives plan) }
     ensures right { OnOk result (reasons plan (length actors.items) ≡ []) }
     ensures refused { IfErr result (IsNoSystem plan actors.items) }
@@ -48,7 +48,7 @@ pub fn build<A: Actor, K: Behaviours, R: Wait>(
     }
 }
 
-// Puts the system of a plan that is not refused together.
+// Puts the system together, of a plan that is not refused.
 fn assemble<A: Actor, K: Behaviours, R: Wait>(
     rt: &R,
     alloc: Global,
@@ -56,7 +56,7 @@ fn assemble<A: Actor, K: Behaviours, R: Wait>(
     actors: Vec<A>,
 ) -> Result<Built<A, K>, AllocError>
     requires right { reasons plan (length actors.items) ≡ [] }
-    requires behaved { AreBehaved A.content A.after A.gives K.after K.gives 1 actors.items }
+    requires behaved { BehaveAsPlanned A.content A.after A.gives K.after K.gives 1 actors.items }
     ensures { IfOk result (IsBegun K.gives plan) }
 {
     let Plan {
@@ -67,19 +67,13 @@ fn assemble<A: Actor, K: Behaviours, R: Wait>(
         journal_limit,
         actors: plans,
     } = plan;
-    let Founded {
+    let NewGates {
         gates,
         pass,
         outside,
     } = found(alloc, plans, actors, senders, journal_limit)?;
-    let (pool, ends, feeds) = Pool::new(
-        alloc,
-        &gates,
-        kind_of(pool),
-        workers as usize,
-        senders as usize,
-    )?;
-    let Opened {
+    let (pool, ends, feeds) = Pool::new(alloc, &gates, pool, workers as usize, senders as usize)?;
+    let EndsAndSenders {
         ends,
         senders: outside,
     } = open(rt, alloc, &gates, pass, ends, feeds, outside)?;
@@ -88,7 +82,7 @@ fn assemble<A: Actor, K: Behaviours, R: Wait>(
         senders,
         gates,
         pool,
-        going: Going::new(),
+        going: RunActivity::new(),
         throughput,
         alloc,
     };
@@ -97,14 +91,4 @@ fn assemble<A: Actor, K: Behaviours, R: Wait>(
         ends,
         senders: outside,
     })
-}
-
-// How the workers share the claims.
-fn kind_of(pool: mb_plan::Pool) -> Kind
-    ensures { result ≡ kind_in pool }
-{
-    match pool {
-        mb_plan::Pool::Shared => Kind::Shared,
-        mb_plan::Pool::Stealing => Kind::Stealing,
-    }
 }

@@ -13,7 +13,7 @@ pub record Mailbox : Type 0 where
 abbrev pub most_suspensions : ℕ
 most_suspensions = 4294967296
 
--- a mailbox that can be: a closed one is neither scheduled nor suspended, and no count is past the limit
+-- a possible mailbox: a closed one is neither scheduled nor suspended, and no count is past the limit
 abbrev pub is_possible : Mailbox → Bool
 is_possible m = if m.closed then not m.scheduled && m.count == 0 else nat_le m.count most_suspensions
 
@@ -21,7 +21,7 @@ is_possible m = if m.closed then not m.scheduled && m.count == 0 else nat_le m.c
 abbrev pub word_of : Mailbox → ℕ
 word_of m = if m.closed then 1 else 4 * m.count + (if m.scheduled then 2 else 0)
 
--- the words that mailboxes have: 1, or an even number whose count is within the limit
+-- the words of possible mailboxes: 1, or an even number whose count is within the limit
 abbrev pub is_valid : ℕ → Bool
 is_valid word = word == 1 || (word % 2 == 0 && nat_le (word / 4) most_suspensions)
 
@@ -33,9 +33,11 @@ mailbox_of word = record { closed = word == 1; scheduled = word / 2 % 2 == 1; co
 abbrev pub fresh : Mailbox
 fresh = record { closed = false; scheduled = false; count = 1 }
 
-abbrev pub the_closed : Mailbox
-the_closed = record { closed = true; scheduled = false; count = 0 }
+-- the closed mailbox: neither scheduled nor suspended
+abbrev pub closed_mailbox : Mailbox
+closed_mailbox = record { closed = true; scheduled = false; count = 0 }
 
+-- suspended at least once
 abbrev pub suspended : Mailbox → Bool
 suspended m = nat_lt 0 m.count
 
@@ -47,6 +49,7 @@ should_process m = not m.closed && not (suspended m)
 abbrev pub with_scheduled : Mailbox → Option Mailbox
 with_scheduled m = if m.closed || m.scheduled then None else Some (record m { scheduled = true })
 
+-- the mailbox, no longer scheduled
 abbrev pub idle : Mailbox → Mailbox
 idle m = record m { scheduled = false }
 
@@ -58,6 +61,6 @@ suspend m = if m.closed then m else record m { count = m.count + 1 }
 abbrev pub resume : Mailbox → Mailbox
 resume m = record m { count = m.count - 1 }
 
--- it is worth giving to a worker: for system messages unless closed, for envelopes if they may be handled
+-- it is worth scheduling: for system messages unless closed, for envelopes if they may be handled
 abbrev pub can_schedule : Mailbox → Bool → Bool → Bool
 can_schedule m messages system = not m.closed && (system || (messages && not (suspended m)))

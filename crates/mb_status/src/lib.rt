@@ -1,7 +1,7 @@
-//! The status of a mailbox in one word, and its transitions: nobody else does arithmetic on the word.
+//! The status of a mailbox as one word, with its transitions (`akka.dispatch.Mailbox`). No other crate does arithmetic
+//! on the word.
 //!
-//! A status is whether the mailbox is closed, whether it is scheduled, and how often it is suspended
-//! (`akka.dispatch.Mailbox`).
+//! A status says whether the mailbox is closed, whether it is scheduled, and how often it is suspended.
 #![tactic(auto)]
 
 mod status;

@@ -1,5 +1,6 @@
+//! The status word and its transitions (`akka.dispatch.Mailbox`).
 ghost use Rattle.std.specs.Prelude.{◌≡◌, ◌↔◌, ◌<◌, ◌≤◌, not, IsTrue, IsSome, IfSome};
-ghost use Rattle.mb_status.specs.Mailbox.{word_of, mailbox_of, is_valid, is_possible, most_suspensions, suspended, fresh, should_process, with_scheduled, idle, suspend, resume, the_closed, can_schedule};
+ghost use Rattle.mb_status.specs.Mailbox.{word_of, mailbox_of, is_valid, is_possible, most_suspensions, suspended, fresh, should_process, with_scheduled, idle, suspend, resume, closed_mailbox, can_schedule};
 
 use std::marker::Model;
 
@@ -9,10 +10,10 @@ const CLOSED: u64 = 1;
 /// Set while a worker holds the actor.
 const SCHEDULED: u64 = 2;
 
-/// One suspension: the count stands above the two bits.
+/// One suspension: the count is above the two bits.
 const SUSPENSION: u64 = 4;
 
-/// How many bits stand below the count.
+/// How many bits are below the count.
 const COUNT_AT: u32 = 2;
 
 /// The most suspensions that a mailbox counts (this project's own profile).
@@ -45,7 +46,7 @@ impl Model for Status {
 }
 
 impl Status {
-    /// The status that this word is, or `None` for a word that no mailbox has: not 1, and odd or with a count
+    /// The status of this word, or `None` for a word that no mailbox has: an odd one other than 1, or one with a count
     /// above 2^32 (which words there are is Akka's; the limit of the count is this project's own profile).
     pub fn of(word: u64) -> Option<Status>
         ensures valid { IsSome result ↔ IsTrue (is_valid word) }
@@ -164,7 +165,7 @@ impl Status {
 
     /// Closes the mailbox for good, and answers `false` if it was closed already (`becomeClosed`).
     pub fn close(&mut self) -> bool
-        ensures after { self.new ≡ the_closed }
+        ensures after { self.new ≡ closed_mailbox }
         ensures first { result ≡ not self.old.closed }
     {
         let first = self.word != CLOSED;
@@ -172,8 +173,8 @@ impl Status {
         first
     }
 
-    /// Whether it is worth scheduling the actor (`canBeScheduledForExecution`): with system messages unless it is
-    /// closed, with envelopes if they may be handled. A mailbox that may handle envelopes can have either hint.
+    /// Whether the actor is worth scheduling (`canBeScheduledForExecution`): for system messages unless the mailbox is
+    /// closed, for envelopes if they may be handled. Where they may be, either hint is enough.
     pub fn can_schedule(self, messages: bool, system: bool) -> bool
         ensures { result ≡ can_schedule self messages system }
     {

@@ -1,9 +1,9 @@
 -- What is read of an input (this project's own profile).
 use Rattle.std.specs.Prelude.{◌≡◌, ℕ, ◌≤◌, Bool, IsTrue, List, length, take, Option, IfSome}
 use Rattle.std.specs.Io.KnownBytes.{Consumes}
-use Rattle.mb_reader.specs.declared.fault.Fault.TheVariants.{NoMemory, NotToml, BadScenario}
-use Rattle.mb_streams.specs.declared.failure.Failure.{Failure}
-use Rattle.mb_streams.specs.declared.failure.Failure.TheVariants.{Os, Arguments, JournalFull, NotQuiet, Mismatch, Input}
+use Rattle.mb_scenario.specs.declared.read_error.ReadError.TheVariants.{NoMemory, NotToml, BadScenario}
+use Rattle.mb_streams.specs.declared.program_error.ProgramError.{ProgramError}
+use Rattle.mb_streams.specs.declared.program_error.ProgramError.TheVariants.{Os, Arguments, Run, Input}
 
 -- how many bytes of the input are read at most: one more than a scenario may have
 abbrev pub most_read : ℕ
@@ -18,12 +18,10 @@ abbrev pub TakesAtMost : ℕ → Option (List ℕ) → Option (List ℕ) → Typ
 TakesAtMost most old new = (taken : List ℕ) × Consumes old new taken × (length taken ≤ most)
 
 -- reading ended in this failure: the reader failed, or memory was refused and it did not
-abbrev pub IsReadFailure : Bool → Bool → Failure → Type 0
+abbrev pub IsReadFailure : Bool → Bool → ProgramError → Type 0
 IsReadFailure before after Os = IsTrue after
 IsReadFailure before after Arguments = ⊥
-IsReadFailure before after JournalFull = ⊥
-IsReadFailure before after (NotQuiet id) = ⊥
-IsReadFailure before after Mismatch = ⊥
+IsReadFailure before after (Run fault) = ⊥
 IsReadFailure before after (Input NoMemory) = after ≡ before
 IsReadFailure before after (Input NotToml) = ⊥
 IsReadFailure before after (Input (BadScenario place reason)) = ⊥

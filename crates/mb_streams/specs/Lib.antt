@@ -1,6 +1,6 @@
-pub mod Failure
-pub mod HandedOut
+pub mod ProgramError
+pub mod ReportOutput
 pub mod Input
-pub mod Saying
-pub mod Watching
+pub mod ErrorLine
+pub mod Tracking
 pub mod Written

@@ -1,7 +1,7 @@
 //! The arguments of the program.
 use std::env::{Env, FillError};
 
-/// How many arguments the program was given, its own path left out. None is read: an argument may be any bytes.
+/// How many arguments the program was given, without its own path. They are not read: an argument may be any bytes.
 pub fn argument_count(env: &impl Env) -> usize {
     for count in 0..usize::MAX {
         if let Err(FillError::NotPresent) = env.arg(count + 1, &mut []) {

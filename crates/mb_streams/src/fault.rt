@@ -11,9 +11,9 @@ pub enum RunFault {
     NoMemory,
     /// The journal of an actor has as many entries as it may have.
     JournalFull,
-    /// This actor has something to run still.
+    /// This actor still has something to run.
     NotQuiet(ActorId),
-    /// What came apart at the end does not agree.
+    /// The parts of the system do not agree at the end.
     Mismatch,
 }
 

@@ -1,21 +1,24 @@
-//! How the input is read.
+//! Reading the input.
 ghost use Rattle.std.specs.Prelude.{◌≡◌, false, IfOk, MatchResult};
 ghost use Rattle.mb_streams.specs.Input.{most_read, IsRead, IsReadFailure, TakesAtMost};
 
-use crate::failure::Failure;
-use crate::watched::Watched;
+use crate::program_error::ProgramError;
+use crate::tracked_stream::TrackedStream;
 use std::alloc::Global;
 use std::io::Read;
 
-/// How many bytes of the input are read at most: one more than a scenario may have.
+/// The most bytes of the input that are read: one more than a scenario may have.
 const MOST_READ: usize = 1_048_577;
 
 /// How many bytes are asked for at a time.
 const CHUNK: usize = 8192;
 
 /// Reads to the end of the input, or until there is one byte more than a scenario may have. The first error of the
-/// reader ends it with `Os`.
-pub fn read_input<R: Read>(alloc: Global, reader: &mut Watched<R>) -> Result<Vec<u8>, Failure>
+/// reader is `Os`; memory that is refused is `Input(NoMemory)`.
+pub fn read_input<R: Read>(
+    alloc: Global,
+    reader: &mut TrackedStream<R>,
+) -> Result<Vec<u8>, ProgramError>
     requires reader { reader.old.failed ≡ false }
     ensures text { IfOk result (λ text. IsRead (R.remaining reader.old.stream) text.items) }
     ensures taken { TakesAtMost most_read (R.remaining reader.old.stream) (R.remaining reader.new.stream) }
@@ -27,7 +30,7 @@ pub fn read_input<R: Read>(alloc: Global, reader: &mut Watched<R>) -> Result<Vec
         let room = CHUNK.min(MOST_READ - text.len());
         let count = match reader.read(&mut chunk[..room]) {
             Ok(count) => count,
-            Err(_) => return Err(Failure::Os),
+            Err(_) => return Err(ProgramError::Os),
         };
         if count == 0 {
             return Ok(text);

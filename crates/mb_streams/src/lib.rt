@@ -1,18 +1,18 @@
-//! The streams of the program, each of which knows whether a call of it has failed: how its input is read, how a report is written,
-//! and which line and which exit status tell why there is none.
+//! The input and output of the program: how its input is read, how a report is written, and which line and exit status
+//! say why there is no report. No stream is called again after a call of it failed.
 #![tactic(auto)]
 
 mod arguments;
-mod failure;
 mod fault;
 mod input;
+mod program_error;
 mod refusal;
 mod report;
-mod watched;
+mod tracked_stream;
 
 pub use arguments::argument_count;
-pub use failure::Failure;
 pub use fault::RunFault;
 pub use input::read_input;
-pub use report::hand_out;
-pub use watched::Watched;
+pub use program_error::ProgramError;
+pub use report::write_report;
+pub use tracked_stream::TrackedStream;

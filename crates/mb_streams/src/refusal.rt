@@ -1,74 +1,91 @@
-//! How it is told why there is no report.
+//! Printing why there is no report.
 ghost use Rattle.std.specs.Prelude.{◌≡◌, false, IfOk, string_bytes};
-ghost use Rattle.mb_reader.specs.declared.fault.Fault.TheVariants.{NoMemory};
-ghost use Rattle.mb_streams.specs.Failure.{error_line, exit_status};
-ghost use Rattle.mb_streams.specs.Saying.{IsLineSaid, IsRefusal};
-ghost use Rattle.mb_streams.specs.declared.failure.Failure.{Failure};
-ghost use Rattle.mb_streams.specs.declared.failure.Failure.TheVariants.{Input};
+ghost use Rattle.mb_scenario.specs.declared.read_error.ReadError.TheVariants.{NoMemory};
+ghost use Rattle.mb_streams.specs.ProgramError.{error_line, exit_status};
+ghost use Rattle.mb_streams.specs.ErrorLine.{IsLineSaid, IsRefusal};
+ghost use Rattle.mb_streams.specs.declared.program_error.ProgramError.TheVariants.{Input, Run};
+ghost use Rattle.mb_streams.specs.declared.fault.RunFault.TheVariants as run;
 
-use crate::failure::Failure;
-use crate::watched::Watched;
+use crate::fault::RunFault;
+use crate::program_error::ProgramError;
+use crate::tracked_stream::TrackedStream;
 use mb_msg::ActorId;
-use mb_reader::Fault;
+use mb_scenario::ReadError;
 use std::alloc::{AllocError, Global};
 use std::io::Write;
 
-/// Says why there is no report, as far as that can be written, and answers the exit status. Where there is no memory for
-/// the line, that is the failure.
-pub(crate) fn refuse<E: Write>(alloc: Global, errors: &mut Watched<E>, failure: &Failure) -> u8
+/// Prints why there is no report, as far as that can be written, and answers the exit status. Where memory for the line
+/// is refused, the failure is that.
+pub(crate) fn print_failure<E: Write>(
+    alloc: Global,
+    errors: &mut TrackedStream<E>,
+    failure: &ProgramError,
+) -> u8
     requires errors { errors.old.failed ≡ false }
     ensures { IsRefusal failure.now result (E.contents errors.old.stream) (E.contents errors.new.stream) errors.new.failed }
 {
     match failure {
-        Failure::Os => say(errors, failure, "mailrun: 2 Os\n"),
-        Failure::Arguments => say(
+        ProgramError::Os => print_line(errors, failure, "mailrun: 2 Os\n"),
+        ProgramError::Arguments => print_line(
             errors,
             failure,
             "mailrun: 12 BadScenario arguments: too many\n",
         ),
-        Failure::JournalFull => say(errors, failure, "mailrun: 6 JournalFull\n"),
-        Failure::Mismatch => say(errors, failure, "mailrun: 10 Mismatch\n"),
-        Failure::NotQuiet(id) => match not_quiet_line(alloc, *id) {
-            Ok(line) => say(errors, failure, line.as_str()),
-            Err(_) => say_no_memory(errors),
-        },
-        Failure::Input(fault) => match fault_line(alloc, fault) {
-            Ok(line) => say(errors, failure, line.as_str()),
-            Err(_) => say_no_memory(errors),
+        ProgramError::Run(fault) => refuse_run(alloc, errors, *fault),
+        ProgramError::Input(fault) => match fault_line(alloc, fault) {
+            Ok(line) => print_line(errors, failure, line.as_str()),
+            Err(_) => print_no_memory(errors),
         },
     }
 }
 
-/// The line of an actor that has something to run still.
+/// The same where a run gave no report.
+fn refuse_run<E: Write>(alloc: Global, errors: &mut TrackedStream<E>, fault: RunFault) -> u8
+    requires errors { errors.old.failed ≡ false }
+    ensures { IsRefusal (Run fault) result (E.contents errors.old.stream) (E.contents errors.new.stream) errors.new.failed }
+{
+    let failure = ProgramError::Run(fault);
+    match fault {
+        RunFault::NoMemory => print_line(errors, &failure, "mailrun: 1 NoMemory\n"),
+        RunFault::JournalFull => print_line(errors, &failure, "mailrun: 6 JournalFull\n"),
+        RunFault::Mismatch => print_line(errors, &failure, "mailrun: 10 Mismatch\n"),
+        RunFault::NotQuiet(id) => match not_quiet_line(alloc, id) {
+            Ok(line) => print_line(errors, &failure, line.as_str()),
+            Err(_) => print_no_memory(errors),
+        },
+    }
+}
+
+/// The line for an actor that still has something to run.
 fn not_quiet_line(alloc: Global, id: ActorId) -> Result<String, AllocError>
-    ensures { IfOk result (λ line. string_bytes line ≡ error_line (Failure.NotQuiet id)) }
+    ensures { IfOk result (λ line. string_bytes line ≡ error_line (Run (run.NotQuiet id))) }
 {
     let number = id.0;
     format!(in alloc; "mailrun: 9 NotQuiet {number}\n")
 }
 
-/// The line of a fault of the input.
-fn fault_line(alloc: Global, fault: &Fault) -> Result<String, AllocError>
-    ensures { IfOk result (λ line. string_bytes line ≡ error_line (Failure.Input fault.now)) }
+/// The line for an error of the input.
+fn fault_line(alloc: Global, fault: &ReadError) -> Result<String, AllocError>
+    ensures { IfOk result (λ line. string_bytes line ≡ error_line (Input fault.now)) }
 {
     format!(in alloc; "mailrun: {fault}\n")
 }
 
-/// Says that memory was refused, which needs none.
-fn say_no_memory<E: Write>(errors: &mut Watched<E>) -> u8
+/// Prints that memory was refused; this takes no memory.
+fn print_no_memory<E: Write>(errors: &mut TrackedStream<E>) -> u8
     requires errors { errors.old.failed ≡ false }
     ensures { (result ≡ exit_status (Input NoMemory))
         × IsLineSaid (E.contents errors.old.stream) (E.contents errors.new.stream) errors.new.failed (error_line (Input NoMemory)) }
 {
-    say(
+    print_line(
         errors,
-        &Failure::Input(Fault::NoMemory),
+        &ProgramError::Input(ReadError::NoMemory),
         "mailrun: 1 NoMemory\n",
     )
 }
 
-/// Says the line of a failure, as far as it can be written, and answers the exit status.
-fn say<E: Write>(errors: &mut Watched<E>, failure: &Failure, line: &str) -> u8
+/// Prints the line of a failure, as far as it can be written, and answers the exit status.
+fn print_line<E: Write>(errors: &mut TrackedStream<E>, failure: &ProgramError, line: &str) -> u8
     requires errors { errors.old.failed ≡ false }
     requires line { line.now ≡ error_line failure.now }
     ensures { (result ≡ exit_status failure.now)

@@ -1,4 +1,4 @@
--- The messages that lie in a chain of boxes.
+-- The messages in a chain of boxes.
 use Rattle.std.specs.Prelude.{◌≡◌, ◌+◌, ◌%◌, ◌^◌, List, [], ◌∷◌, IsTrue, length}
 use Rattle.mb_msg.specs.declared.system.SysMsg.{SysMsg}
 use Rattle.mb_syslist.specs.declared.link.Link.{Link, End, More'}

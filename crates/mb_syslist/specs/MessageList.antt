@@ -1,4 +1,4 @@
--- A list of system messages, as its callers see it.
+-- A list of system messages, as contracts see it.
 use Rattle.std.specs.Prelude.{ℕ, ◌+◌, ◌%◌, ◌^◌, Bool, true, List, [], ◌∷◌, ◌++◌, length}
 use Rattle.mb_msg.specs.declared.system.SysMsg.{SysMsg}
 

@@ -1,3 +1,4 @@
+//! System messages that were drained from a list.
 ghost use Rattle.std.specs.Prelude.{◌≡◌, ◌↔◌, [], ◌∷◌, IsTrue, MatchOption};
 ghost use Rattle.mb_syslist.specs.Boxes.{boxed};
 ghost use Rattle.mb_syslist.specs.MessageList.{numbered};
@@ -7,13 +8,13 @@ use crate::node::Node;
 use std::marker::Model;
 use std::{fmt, mem};
 
-/// Messages that a list gave, the earliest first, each with its number.
+/// Messages that were drained from a list, the earliest first, each with its number.
 pub struct Chain {
     first: Link,
     number: u64,
 }
 
-// Written out: of a derived `Drop` each crate above would prove again how all that is inside is let go.
+// `Drop` is written by hand: with a derived one, each crate above would prove again how the fields are dropped.
 impl Drop for Chain {
     fn drop(self) {
         let Chain { first, number: _ } = self;
@@ -63,7 +64,7 @@ impl Chain {
         Some((number, Node::of_entry(entry)))
     }
 
-    /// A chain of these boxes, the earliest first, numbered from this number on.
+    /// A chain of these boxes, the earliest first, counted from this number on.
     pub(crate) fn of_boxes(first: Link, number: u64) -> Self
         ensures { result ≡ numbered number (boxed first) }
     {
@@ -71,7 +72,7 @@ impl Chain {
     }
 }
 
-// the next number alone, since a chain may be long
+// shows the next number alone: a chain may be long
 impl fmt::Debug for Chain {
     fn fmt<W: fmt::Write>(&self, f: &mut fmt::Formatter<W>) -> fmt::Result {
         f.debug_struct("Chain")

@@ -1,7 +1,7 @@
-//! System messages on their way to a cell: a list that grows at its end, is emptied as a whole, and can be closed for
-//! good (Akka's `akka.dispatch.sysmsg` and the `SystemMessageQueue` of a mailbox).
+//! The list of system messages to one actor: it grows at its end, is drained as a whole, and can be closed for good
+//! (Akka's `akka.dispatch.sysmsg` and the `SystemMessageQueue` of a mailbox).
 //!
-//! A message lies in a node, which is made beforehand and can be used again: only making one takes memory.
+//! Each message is in a node. Nodes are made beforehand and can be used again: only making one takes memory.
 #![tactic(auto)]
 
 mod chain;

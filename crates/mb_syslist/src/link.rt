@@ -1,27 +1,28 @@
+//! The linked list below a list of system messages.
 ghost use Rattle.std.specs.Prelude.{◌≡◌, [], ◌∷◌, IfSome, IfNone, reverse};
 ghost use Rattle.mb_syslist.specs.Boxes.{boxed};
 
 use mb_msg::SysMsg;
 use std::mem;
 
-/// Messages, each in a box of its own that leads to the next one.
+/// A linked list of messages, each in a box of its own.
 #[cycle(link)]
 pub enum Link {
     End,
-    More(Box<Entry>),
+    More(Box<LinkedMessage>),
 }
 
-/// A message, and those behind it.
+/// A message and the rest of the list.
 #[cycle(link)]
 #[derive(Drop)]
-pub struct Entry {
+pub struct LinkedMessage {
     pub message: SysMsg,
     pub next: Link,
 }
 
 impl Link {
-    /// The first box, which leads to all the others.
-    pub fn into_first(self) -> Option<Box<Entry>>
+    /// The first box, with the rest of the list; `None` if the list is empty.
+    pub fn into_first(self) -> Option<Box<LinkedMessage>>
         ensures some { IfSome result (λ entry. boxed self ≡ entry.value.message ∷ boxed entry.value.next) }
         ensures none { IfNone result (boxed self ≡ []) }
     {
@@ -46,13 +47,13 @@ impl Link {
 }
 
 impl Drop for Link {
-    // box by box, since one call for each box would run out of stack
+    // box by box: a call for each box would overflow the stack
     fn drop(mut self) {
         loop {
             match self {
                 Link::End => return,
                 Link::More(entry) => {
-                    let Entry { message: _, next } = Box::into_inner(entry);
+                    let LinkedMessage { message: _, next } = Box::into_inner(entry);
                     self = next;
                 }
             }

@@ -1,3 +1,4 @@
+//! The list of system messages of one actor.
 ghost use Rattle.std.specs.Prelude.{◌≡◌, ◌↔◌, ◌+◌, ◌%◌, ◌^◌, [], ◌∷◌, ◌++◌, false, true, Ok, Err, IfOk, IsTrue, if◌then◌else◌};
 ghost use Rattle.mb_syslist.specs.MessageList.{drained, ended, listed, pushed, with_last};
 
@@ -7,7 +8,7 @@ use crate::node::Node;
 use std::marker::Model;
 use std::{fmt, mem};
 
-/// The list is closed: the same node comes back.
+/// A refused push: the list is closed. It holds the node that was to be pushed.
 #[derive(Debug, Drop)]
 pub struct ListClosed(pub Node);
 
@@ -20,7 +21,7 @@ pub struct SysList {
     closed: bool,
 }
 
-// Written out: of a derived `Drop` each crate above would prove again how all that is inside is let go.
+// `Drop` is written by hand: with a derived one, each crate above would prove again how the fields are dropped.
 impl Drop for SysList {
     fn drop(self) {
         let SysList {
@@ -47,7 +48,7 @@ impl Model for SysList {
 }
 
 impl SysList {
-    /// An open list with no message, from which none was given.
+    /// An open list with no message, from which nothing was drained.
     pub fn new() -> Self
         ensures { result ≡ record { messages = []; given = 0; closed = false } }
     {
@@ -118,7 +119,7 @@ impl SysList {
     }
 }
 
-// the counts alone, since a list may be long
+// shows the counts alone: a list may be long
 impl fmt::Debug for SysList {
     fn fmt<W: fmt::Write>(&self, f: &mut fmt::Formatter<W>) -> fmt::Result {
         f.debug_struct("SysList")

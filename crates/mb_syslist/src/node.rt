@@ -1,18 +1,19 @@
+//! Nodes: boxes for system messages.
 ghost use Rattle.std.specs.Prelude.{◌≡◌, IfOk};
 ghost use Rattle.mb_syslist.specs.declared.link.Link.{End};
 
-use crate::link::{Entry, Link};
+use crate::link::{Link, LinkedMessage};
 use mb_msg::SysMsg;
 use std::alloc::{AllocError, Global};
 use std::fmt;
 use std::marker::Model;
 
-/// A system message in memory of its own, on its way to a list or back from one.
+/// A system message in a box of its own, to be pushed to a list or taken from one.
 pub struct Node {
-    entry: Box<Entry>,
+    entry: Box<LinkedMessage>,
 }
 
-// Written out: of a derived `Drop` each crate above would prove again how all that is inside is let go.
+// `Drop` is written by hand: with a derived one, each crate above would prove again how the fields are dropped.
 impl Drop for Node {
     fn drop(self) {
         let Node { entry } = self;
@@ -42,7 +43,7 @@ impl Node {
     {
         let entry = Box::new(
             alloc,
-            Entry {
+            LinkedMessage {
                 message,
                 next: Link::End,
             },
@@ -64,16 +65,16 @@ impl Node {
         self.entry.message = message;
     }
 
-    /// The box, which leads to no other.
-    pub(crate) fn into_entry(self) -> Box<Entry>
+    /// Its box, with nothing behind it.
+    pub(crate) fn into_entry(self) -> Box<LinkedMessage>
         ensures { result.value ≡ record { message = self; next = End } }
     {
         let Node { entry } = self;
         entry
     }
 
-    /// The node of a box which leads to no other.
-    pub(crate) fn of_entry(entry: Box<Entry>) -> Self
+    /// The node of a box with nothing behind it.
+    pub(crate) fn of_entry(entry: Box<LinkedMessage>) -> Self
         requires { entry.value.next ≡ End }
         ensures { result ≡ entry.value.message }
     {

@@ -12,19 +12,19 @@ use Rattle.std.specs.contracts.boxed.Box as box
 use Rattle.std.specs.contracts.impls.GlobalAllocator.TheImpl as allocator
 use Rattle.mb_actor.specs.declared.actor.Actor as actor
 use Rattle.mb_actor.specs.declared.behaviours.Behaviours as behaviours
-use Rattle.mb_gate.specs.contracts.resident.BoxResident.TheImpl as box_resident
-use Rattle.mb_gate.specs.declared.resident.Resident as resident
+use Rattle.mb_gate.specs.contracts.mailbox_state.BoxMailboxState.TheImpl as box_resident
+use Rattle.mb_gate.specs.declared.mailbox_state.MailboxState as resident
 use Rattle.mb_gate.proofs.Crossing.{gates_sync}
 use Rattle.mb_home.specs.contracts.home.Home as home
-use Rattle.mb_home.specs.contracts.home.resident.HomeResident.TheImpl as home_resident
+use Rattle.mb_home.specs.contracts.home.mailbox_state.HomeMailboxState.TheImpl as home_resident
 use Rattle.mb_home.proofs.Crossing.{home_send}
-use Rattle.mb_wake.proofs.Crossing.{waker_send}
+use Rattle.mb_register.proofs.Crossing.{waker_send}
 use Rattle.mb_send.proofs.Crossing as send
 use Rattle.mb_pool.proofs.Crossing.{pool_sync}
-use Rattle.mb_ways.specs.contracts.end_way.EndWay as end_way
-use Rattle.mb_ways.specs.contracts.feed_way.FeedWay as feed_way
-use Rattle.mb_ways.proofs.Crossing.{end_way_send, feed_way_send}
-use Rattle.mb_system.proofs.going.Going.TheSendSync as going
+use Rattle.mb_pool.specs.contracts.worker_port.WorkerPort as end_way
+use Rattle.mb_pool.specs.contracts.feed_port.FeedPort as feed_way
+use Rattle.mb_pool.proofs.PoolPortCrossing.{end_way_send, feed_way_send}
+use Rattle.mb_system.proofs.run_activity.RunActivity.TheSendSync as going
 use Rattle.mb_system.specs.contracts.end.WorkerEnd as end
 use Rattle.mb_system.specs.contracts.sender.Sender as sender
 use Rattle.mb_system.specs.contracts.system.System as system

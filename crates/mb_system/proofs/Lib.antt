@@ -1,4 +1,4 @@
 pub mod Looking
-pub mod Debts
+pub mod Obligations
 pub mod Crossing
 pub mod Saw

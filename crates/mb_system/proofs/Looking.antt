@@ -1,43 +1,43 @@
--- What looks after actors leave with an end.
+-- What registering actors changes of a worker's end.
 use Rattle.std.proofs.Common.{◌≡◌, ◌⊎◌, inl, inr, ◌++◌, [], Bool, ℕ, ap, refl, sym, ◌∙◌, Option, Some, None}
 use Rattle.std.specs.Prelude.{IfNone}
 use Rattle.std.proofs.lemmas.List.{append-nil}
-use Rattle.mb_wake.specs.Caller.{Caller, IsPaid, LeavesCaller}
-use Rattle.mb_wake.proofs.CallerLemmas.{account-none, account-then, account-woken}
-use Rattle.mb_wake.proofs.MoveLemmas.{further-moves, moves-does}
-use Rattle.mb_gate.specs.View.{owes}
-use Rattle.mb_wake.specs.Views.{LooksAfter}
-use Rattle.mb_wake.specs.Waking.{IsWoken}
+use Rattle.mb_register.specs.Caller.{Caller, IsDischargedOrOwed, LeavesCaller}
+use Rattle.mb_register.proofs.CallerLemmas.{account-none, account-then, account-registered}
+use Rattle.mb_register.proofs.MoveLemmas.{further-moves, moves-does}
+use Rattle.mb_gate.specs.View.{obligation_to}
+use Rattle.mb_register.specs.Views.{LooksAfter}
+use Rattle.mb_register.specs.Registering.{IsRegistered}
 use Rattle.mb_system.proofs.Saw.{saw-same, saw-then}
 
--- the actor was looked after, and woken or not
-pub leaves-woken : {H : Type 0} (id : ℕ) (a b : Caller H) (woken : Bool) → LooksAfter id a.view b.view → IsWoken id a.account b.account woken
-    → IsPaid id b → LeavesCaller a b
-leaves-woken id a b woken looks w paid =
+-- the actor was looked at, and registered or not
+pub leaves-registered : {H : Type 0} (id : ℕ) (a b : Caller H) (registered : Bool) → LooksAfter id a.view b.view → IsRegistered id a.account b.account registered
+    → IsDischargedOrOwed id b → LeavesCaller a b
+leaves-registered id a b registered looks w discharged =
     let moves = moves-does id [] [] a.view b.view tt tt looks in
-    let g = further-moves id a b moves (account-woken id a.account b.account woken w) paid in
+    let g = further-moves id a b moves (account-registered id a.account b.account registered w) discharged in
     record {
       log = record { before = g.more; after = []; joined = g.log ∙ ap (λ l. g.more ++ l) (sym (append-nil a.view.log)) };
       account = g.account;
-      debts = g.debts;
+      obligations = g.obligations;
       share = g.share;
     }
 
 -- nothing was done, or one thing after another
 pub leaves-none : {H : Type 0} (a : Caller H) → LeavesCaller a a
-leaves-none a = record { log = saw-same a.view.log; account = account-none a.account; debts = λ id. inr refl; share = refl }
+leaves-none a = record { log = saw-same a.view.log; account = account-none a.account; obligations = λ id. inr refl; share = refl }
 
 pub leaves-then : {H : Type 0} (a b c : Caller H) → LeavesCaller a b → LeavesCaller b c → LeavesCaller a c
 leaves-then a b c p q = record {
   log = saw-then a.view.log b.view.log c.view.log p.log q.log;
   account = account-then a.account b.account c.account p.account q.account;
-  debts = λ id. by_last id (q.debts id) (p.debts id);
+  obligations = λ id. by_last id (q.obligations id) (p.obligations id);
   share = q.share ∙ p.share;
 }
   where
-    by_last : (id : ℕ) → IsPaid id c ⊎ (owes id c.view ≡ owes id b.view) → IsPaid id b ⊎ (owes id b.view ≡ owes id a.view)
-        → IsPaid id c ⊎ (owes id c.view ≡ owes id a.view)
-    by_last id (inl paid) before = inl paid
+    by_last : (id : ℕ) → IsDischargedOrOwed id c ⊎ (obligation_to id c.view ≡ obligation_to id b.view) → IsDischargedOrOwed id b ⊎ (obligation_to id b.view ≡ obligation_to id a.view)
+        → IsDischargedOrOwed id c ⊎ (obligation_to id c.view ≡ obligation_to id a.view)
+    by_last id (inl discharged) before = inl discharged
     by_last id (inr kept) (inl (inl none)) = inl (inl (kept ∙ none))
     by_last id (inr kept) (inl (inr owed)) = inl (inr (q.account.still id owed))
     by_last id (inr kept) (inr same) = inr (kept ∙ same)

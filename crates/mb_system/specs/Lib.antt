@@ -1,4 +1,4 @@
-pub mod Enrolled
+pub mod KnownSenders
 pub mod Members
-pub mod Debts
+pub mod Obligations
 pub mod Belonging

@@ -1,129 +1,134 @@
-//! A worker's end of a system.
+//! The end of a worker in a system.
 ghost use Rattle.std.specs.Prelude.{◌≡◌, ◌<◌, ℕ, false, true, All, IfNone, IfSome, IsErrOf, MatchResult, OnErr, OnOk};
 ghost use Rattle.mb_core.specs.Actor.{nothing};
-ghost use Rattle.mb_gate.specs.Names.{actors_of, known_by};
+ghost use Rattle.mb_gate.specs.Accessors.{actors_of, pass_view};
 ghost use Rattle.mb_gate.specs.Rule.{IsPart};
-ghost use Rattle.mb_gate.specs.View.{owes};
+ghost use Rattle.mb_gate.specs.View.{obligation_to};
 ghost use Rattle.mb_pool.specs.Places.{gates_of, looks};
 ghost use Rattle.mb_pool.specs.Moves.{Takes, WasEmpty};
-ghost use Rattle.mb_wake.specs.Caller.{IsPaid, LeavesCaller};
+ghost use Rattle.mb_register.specs.Caller.{IsDischargedOrOwed, LeavesCaller};
 ghost use Rattle.mb_home.specs.Fresh.{IsFreshClaim};
-ghost use Rattle.mb_wake.specs.Owed.{is_owed};
-ghost use Rattle.mb_wake.specs.Views.{LooksAfter};
-ghost use Rattle.mb_wake.specs.Waking.{IsWoken, StopsAt};
-ghost use Rattle.mb_system.specs.Debts.{HasPaid, KeepsDebts};
+ghost use Rattle.mb_register.specs.Owed.{is_owed};
+ghost use Rattle.mb_register.specs.Views.{LooksAfter};
+ghost use Rattle.mb_register.specs.Registering.{IsRegistered, StopsAt};
+ghost use Rattle.mb_system.specs.Obligations.{AreDischargedOrOwed, KeepsObligations};
 ghost use Rattle.mb_system.specs.Members.{end_caller, IsEndOf};
 
-use crate::failure::{RunError, of_debts};
+use crate::failure::{RunError, of_still_refused};
 use crate::parting::pass_of;
 use crate::system::System;
 use mb_actor::{Actor, Behaviours};
 use mb_gate::{Claim, Pass};
-use mb_home::Place;
+use mb_home::BoxedHome;
 use mb_msg::ActorId;
-use mb_wake::Waker;
-use mb_ways::EndWay;
+use mb_pool::WorkerPort;
+use mb_register::{Hint, Registrar};
 use std::sync::Wait;
 
-/// A worker's end of a system: with its way into the pool of claims, what it knows of the actors, and whom it owes a look. A
-/// thread of its own may have it.
+/// The end of a worker in a system: its port of the run queue, what it knows of the actors, and to which actors it owes a look.
+/// A thread of its own may have it.
 pub struct WorkerEnd<A: Actor, K: Behaviours> {
     /// Its number among the system's ends, from 0 on.
     pub number: u32,
-    /// What it knows of the actors, its way into the pool, and whom it owes a look.
-    pub waker: Waker<Place<A, K>, EndWay<Place<A, K>>>,
+    /// What it knows of the actors, its port of the run queue, and the actors to which it owes a look.
+    pub registrar: Registrar<BoxedHome<A, K>, WorkerPort<BoxedHome<A, K>>>,
 }
 
 impl<A: Actor, K: Behaviours> Drop for WorkerEnd<A, K> {
     fn drop(self) {
-        let WorkerEnd { number: _, waker } = self;
-        let _ = pass_of(waker);
+        let WorkerEnd {
+            number: _,
+            registrar,
+        } = self;
+        let _ = pass_of(registrar);
     }
 }
 
 impl<A: Actor, K: Behaviours> WorkerEnd<A, K> {
-    /// What the end knows; its way into the pool is let go.
-    pub fn into_pass(self) -> Pass<Place<A, K>>
-        ensures { result ≡ self.waker.pass }
+    /// What the end knows. Its port of the run queue is dropped.
+    pub fn into_pass(self) -> Pass<BoxedHome<A, K>>
+        ensures { result ≡ self.registrar.pass }
     {
-        let WorkerEnd { number: _, waker } = self;
-        pass_of(waker)
+        let WorkerEnd {
+            number: _,
+            registrar,
+        } = self;
+        pass_of(registrar)
     }
 
-    /// Gives the claim of the actor to the pool, where the actor has to be given to a worker
-    /// (`Dispatcher.registerForExecution`), and answers whether it did. `messages` and `systems` say that envelopes, or system
-    /// messages, wait for it, and each spares a look (`Mailbox.canBeScheduledForExecution`); `false` says nothing.
+    /// Gives the actor's claim to the run queue, where the actor has to be given to a worker
+    /// (`Dispatcher.registerForExecution`), and answers whether it did. The hint says that envelopes, or system messages, wait
+    /// for it, which saves reading that (`Mailbox.canBeScheduledForExecution`).
     ///
-    /// Where the pool refuses the claim, it goes home, and the actor is owed a look.
+    /// Where the run queue refuses the claim, the claim goes back, and a look is owed to the actor.
     pub fn register<R: Wait>(
         &mut self,
         rt: &R,
         system: &System<A, K>,
         id: ActorId,
-        messages: bool,
-        systems: bool,
+        hint: Hint,
     ) -> bool
-        requires ours { IsEndOf system.now.gates self.old.waker }
+        requires ours { IsEndOf system.now.gates self.old.registrar }
         requires there { id.0 < actors_of system.now.gates }
-        ensures ours { IsEndOf system.now.gates self.new.waker }
-        ensures looks { LooksAfter id.0 (known_by self.old.waker.pass) (known_by self.new.waker.pass) }
-        ensures paid { IsPaid id.0 (end_caller self.new.waker) }
-        ensures woken { IsWoken id.0 (end_caller self.old.waker).account (end_caller self.new.waker).account result }
-        ensures leaves { LeavesCaller (end_caller self.old.waker) (end_caller self.new.waker) }
+        ensures ours { IsEndOf system.now.gates self.new.registrar }
+        ensures looks { LooksAfter id.0 (pass_view self.old.registrar.pass) (pass_view self.new.registrar.pass) }
+        ensures discharged { IsDischargedOrOwed id.0 (end_caller self.new.registrar) }
+        ensures registered { IsRegistered id.0 (end_caller self.old.registrar).account (end_caller self.new.registrar).account result }
+        ensures leaves { LeavesCaller (end_caller self.old.registrar) (end_caller self.new.registrar) }
         ensures number { self.new.number ≡ self.old.number }
     {
-        self.waker
-            .register(rt, &system.gates, id, messages, systems)
+        self.registrar.register(rt, &system.gates, id, hint)
     }
 
-    /// Does so for all actors, in the order of their numbers. Each is owed nothing then, or a look.
+    /// Registers all actors, in the order of their numbers. Each is owed nothing then, or is in the set of owed looks.
     pub fn register_all<R: Wait>(&mut self, rt: &R, system: &System<A, K>)
-        requires ours { IsEndOf system.now.gates self.old.waker }
-        ensures ours { IsEndOf system.now.gates self.new.waker }
-        ensures leaves { LeavesCaller (end_caller self.old.waker) (end_caller self.new.waker) }
-        ensures paid { HasPaid (actors_of system.now.gates) (end_caller self.new.waker) }
+        requires ours { IsEndOf system.now.gates self.old.registrar }
+        ensures ours { IsEndOf system.now.gates self.new.registrar }
+        ensures leaves { LeavesCaller (end_caller self.old.registrar) (end_caller self.new.registrar) }
+        ensures discharged { AreDischargedOrOwed (actors_of system.now.gates) (end_caller self.new.registrar) }
         ensures number { self.new.number ≡ self.old.number }
-        ensures saw { IsPart (known_by self.old.waker.pass).log (known_by self.new.waker.pass).log }
+        ensures saw { IsPart (pass_view self.old.registrar.pass).log (pass_view self.new.registrar.pass).log }
     {
         for number in 0..system.gates.actors() {
-            self.register(rt, system, ActorId(number as u32), false, false);
+            self.register(rt, system, ActorId(number as u32), Hint::None);
         }
     }
 
-    /// Takes the claim of an actor out of the pool, as it was pushed, and no other: the first of the first place that has one. The
-    /// actor's mailbox is to be run. `None` only if each place in which it looks was empty at a moment; then the end is as it was.
+    /// Takes the claim of an actor out of the pool, as it was pushed, and no other: the first of the first place that has one.
+    /// The actor's mailbox is to be run. It answers `None` only if each place in which it looks was empty at some moment; then
+    /// the end is as it was.
     #[inline(always)]
-    pub fn take<R: Wait>(&mut self, rt: &R) -> Option<Claim<Place<A, K>>>
-        ensures fit { IfSome result (IsFreshClaim K.gives (gates_of self.old.waker.way.end)) }
-        ensures taken { IfSome result (λ claim. Takes (IsFreshClaim K.gives) self.old.waker.way.end claim self.new.waker.way.end) }
-        ensures none { IfNone result ((self.new ≡ self.old) × All (WasEmpty (IsFreshClaim K.gives)) (looks self.old.waker.way.end)) }
-        ensures same { (self.new.waker.pass ≡ self.old.waker.pass) × (self.new.waker.owed ≡ self.old.waker.owed)
-            × (gates_of self.new.waker.way.end ≡ gates_of self.old.waker.way.end) × (self.new.number ≡ self.old.number) }
+    pub fn take<R: Wait>(&mut self, rt: &R) -> Option<Claim<BoxedHome<A, K>>>
+        ensures fit { IfSome result (IsFreshClaim K.gives (gates_of self.old.registrar.run_queue.end)) }
+        ensures taken { IfSome result (λ claim. Takes (IsFreshClaim K.gives) self.old.registrar.run_queue.end claim self.new.registrar.run_queue.end) }
+        ensures none { IfNone result ((self.new ≡ self.old) × All (WasEmpty (IsFreshClaim K.gives)) (looks self.old.registrar.run_queue.end)) }
+        ensures same { (self.new.registrar.pass ≡ self.old.registrar.pass) × (self.new.registrar.owed ≡ self.old.registrar.owed)
+            × (gates_of self.new.registrar.run_queue.end ≡ gates_of self.old.registrar.run_queue.end) × (self.new.number ≡ self.old.number) }
     {
-        self.waker.way.take(rt)
+        self.registrar.run_queue.take(rt)
     }
 
-    /// Looks again after each actor that it owes a look.
+    /// Registers each actor again to which the end owes a look.
     ///
-    /// It answers `NoMemory` if the pool refused a claim again, and then alone: then that actor, and those after it, are owed a look
-    /// still. Whatever is answered, no debt is let go.
-    pub fn pay<R: Wait>(&mut self, rt: &R, system: &System<A, K>) -> Result<(), RunError>
-        requires ours { IsEndOf system.now.gates self.old.waker }
-        ensures ours { IsEndOf system.now.gates self.new.waker }
-        ensures paid { OnOk result ((id : ℕ) → id < actors_of system.now.gates → is_owed self.old.waker.owed id ≡ true
-            → owes id (known_by self.new.waker.pass) ≡ nothing) }
-        ensures done { OnOk result ((id : ℕ) → id < actors_of system.now.gates → is_owed self.new.waker.owed id ≡ false) }
-        ensures debts { KeepsDebts (actors_of system.now.gates) (end_caller self.old.waker) (end_caller self.new.waker) }
+    /// It answers `NoMemory` only if the run queue refused a claim again: then a look is still owed to that actor and to those
+    /// after it. Whatever is answered, nothing that was owed is forgotten.
+    pub fn retry_refused<R: Wait>(&mut self, rt: &R, system: &System<A, K>) -> Result<(), RunError>
+        requires ours { IsEndOf system.now.gates self.old.registrar }
+        ensures ours { IsEndOf system.now.gates self.new.registrar }
+        ensures discharged { OnOk result ((id : ℕ) → id < actors_of system.now.gates → is_owed self.old.registrar.owed id ≡ true
+            → obligation_to id (pass_view self.new.registrar.pass) ≡ nothing) }
+        ensures done { OnOk result ((id : ℕ) → id < actors_of system.now.gates → is_owed self.new.registrar.owed id ≡ false) }
+        ensures obligations { KeepsObligations (actors_of system.now.gates) (end_caller self.old.registrar) (end_caller self.new.registrar) }
         ensures stops { MatchResult result
-            (λ _. (end_caller self.new.waker).account.refused ≡ (end_caller self.old.waker).account.refused)
-            (λ _. StopsAt (end_caller self.old.waker).account (end_caller self.new.waker).account) }
+            (λ _. (end_caller self.new.registrar).account.refused ≡ (end_caller self.old.registrar).account.refused)
+            (λ _. StopsAt (end_caller self.old.registrar).account (end_caller self.new.registrar).account) }
         ensures refused { OnErr result (IsErrOf result RunError.NoMemory) }
         ensures number { self.new.number ≡ self.old.number }
-        ensures saw { IsPart (known_by self.old.waker.pass).log (known_by self.new.waker.pass).log }
+        ensures saw { IsPart (pass_view self.old.registrar.pass).log (pass_view self.new.registrar.pass).log }
     {
-        match self.waker.pay(rt, &system.gates) {
+        match self.registrar.retry_refused(rt, &system.gates) {
             Ok(()) => Ok(()),
-            Err(error) => Err(of_debts(error)),
+            Err(error) => Err(of_still_refused(error)),
         }
     }
 }

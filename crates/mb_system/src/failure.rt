@@ -1,7 +1,7 @@
 //! Why a run was broken off.
 ghost use Rattle.std.specs.Prelude.{◌≡◌};
 
-use mb_wake::Unpaid;
+use mb_register::StillRefused;
 
 /// Why a run was broken off.
 #[derive(Clone, Copy, Debug, PartialEq, Eq)]
@@ -15,7 +15,7 @@ pub enum RunError {
 }
 
 /// What is owed still could not be paid.
-pub fn of_debts(_error: Unpaid) -> RunError
+pub fn of_still_refused(_error: StillRefused) -> RunError
     ensures { result ≡ RunError.NoMemory }
 {
     RunError::NoMemory

@@ -1,32 +1,32 @@
-//! What is left of those who are let go.
+//! What is kept of ends and senders that are dropped.
 ghost use Rattle.std.specs.Prelude.{◌≡◌};
 
 use mb_gate::Pass;
 use mb_queue::SendPass;
-use mb_send::{Book, Sender};
-use mb_wake::Waker;
+use mb_register::Registrar;
+use mb_send::{GatesSender, SendLog};
 
-/// What the waker knows; its way into the pool is let go.
-pub(crate) fn pass_of<H, W: Drop>(waker: Waker<H, W>) -> Pass<H>
-    ensures { result ≡ waker.pass }
+/// What the registrar knows; its port of the run queue is dropped.
+pub(crate) fn pass_of<H, W: Drop>(registrar: Registrar<H, W>) -> Pass<H>
+    ensures { result ≡ registrar.pass }
 {
-    let Waker {
+    let Registrar {
         pass,
-        way: _,
+        run_queue: _,
         owed: _,
-    } = waker;
+    } = registrar;
     pass
 }
 
-/// What the sender knows, its passes into the queues, and what it was answered; its way into the pool is let go.
-pub(crate) fn parts_of<H, W: Drop>(sender: Sender<H, W>) -> (Pass<H>, Vec<SendPass>, Book)
-    ensures { (result.0 ≡ sender.waker.pass) × (result.1 ≡ sender.sends) × (result.2 ≡ sender.book) }
+/// What the sender knows, its passes into the queues, and what it was answered; its port of the run queue is dropped.
+pub(crate) fn parts_of<H, W: Drop>(sender: GatesSender<H, W>) -> (Pass<H>, Vec<SendPass>, SendLog)
+    ensures { (result.0 ≡ sender.registrar.pass) × (result.1 ≡ sender.sends) × (result.2 ≡ sender.send_log) }
 {
-    let Sender {
-        waker,
+    let GatesSender {
+        registrar,
         sends,
-        book,
+        send_log,
         alloc: _,
     } = sender;
-    (pass_of(waker), sends, book)
+    (pass_of(registrar), sends, send_log)
 }

@@ -1,34 +1,35 @@
 //! A sender outside the actors.
 ghost use Rattle.std.specs.Prelude.{◌≡◌, ◌⊎◌, ℕ, ◌<◌, ◌≤◌, true, IfOk, IsErrOf, MatchResult, OnErr, OnOk};
 ghost use Rattle.mb_core.specs.Actor.{nothing};
-ghost use Rattle.mb_gate.specs.Names.{actors_of, known_by};
+ghost use Rattle.mb_gate.specs.Accessors.{actors_of, pass_view};
 ghost use Rattle.mb_gate.specs.Rule.{IsPart};
-ghost use Rattle.mb_gate.specs.View.{owes};
+ghost use Rattle.mb_gate.specs.View.{obligation_to};
 ghost use Rattle.mb_send.specs.Answers.{IsSeen, IsSent, IsTold, Stops};
-ghost use Rattle.mb_send.specs.Asked.{WakesAtMost};
-ghost use Rattle.mb_send.specs.Faults.{OnlyLooked, SaysTheSame};
-ghost use Rattle.mb_send.specs.declared.unsent.Unsent.TheVariants as Refusal;
-ghost use Rattle.mb_wake.specs.Owed.{is_owed};
-ghost use Rattle.mb_wake.specs.Waking.{StopsAt};
-ghost use Rattle.mb_system.specs.Debts.{KeepsDebts, OwesNobody};
+ghost use Rattle.mb_send.specs.Asked.{RegistersAtMost};
+ghost use Rattle.mb_send.specs.Faults.{OnlyLooked, IsSameSendLog};
+ghost use Rattle.mb_send.specs.declared.send_error.SendError.TheVariants as Refusal;
+ghost use Rattle.mb_register.specs.Owed.{is_owed};
+ghost use Rattle.mb_register.specs.Registering.{StopsAt};
+ghost use Rattle.mb_system.specs.Obligations.{KeepsObligations, OwesNobody};
 ghost use Rattle.mb_system.specs.Members.{IsSenderOf, sender_caller};
 
-use crate::failure::{RunError, of_debts};
+use crate::failure::{RunError, of_still_refused};
 use crate::parting::parts_of;
 use crate::system::System;
 use mb_actor::{Actor, Behaviours};
 use mb_gate::Pass;
-use mb_home::Place;
+use mb_home::BoxedHome;
 use mb_msg::{ActorId, Body};
+use mb_pool::FeedPort;
 use mb_queue::SendPass;
-use mb_send::{Book, Look, Put, Ticket, Unsent};
-use mb_ways::FeedWay;
+use mb_send::{Look, Put, SendError, SendLog, Ticket};
 use std::sync::Wait;
 
 /// A sender outside the actors of a system. A thread of its own may have it.
 pub struct Sender<A: Actor, K: Behaviours> {
-    /// Its passes into the actors' queues, what it was answered, what it knows of the actors, and whom it owes a look.
-    pub inner: mb_send::Sender<Place<A, K>, FeedWay<Place<A, K>>>,
+    /// Its passes into the actors' queues, what it was answered, what it knows of the actors, and to which of them it owes a
+    /// look.
+    pub inner: mb_send::GatesSender<BoxedHome<A, K>, FeedPort<BoxedHome<A, K>>>,
 }
 
 impl<A: Actor, K: Behaviours> Drop for Sender<A, K> {
@@ -39,9 +40,9 @@ impl<A: Actor, K: Behaviours> Drop for Sender<A, K> {
 }
 
 impl<A: Actor, K: Behaviours> Sender<A, K> {
-    /// What the sender knows, its passes into the queues, and what it was answered; its way into the pool is let go.
-    pub fn into_parts(self) -> (Pass<Place<A, K>>, Vec<SendPass>, Book)
-        ensures { (result.0 ≡ self.inner.waker.pass) × (result.1 ≡ self.inner.sends) × (result.2 ≡ self.inner.book) }
+    /// What the sender knows, its passes into the queues, and what it was answered; its port of the run queue is dropped.
+    pub fn into_parts(self) -> (Pass<BoxedHome<A, K>>, Vec<SendPass>, SendLog)
+        ensures { (result.0 ≡ self.inner.registrar.pass) × (result.1 ≡ self.inner.sends) × (result.2 ≡ self.inner.send_log) }
     {
         let Sender { inner } = self;
         parts_of(inner)
@@ -50,54 +51,55 @@ impl<A: Actor, K: Behaviours> Sender<A, K> {
     /// Looks whether the receiver is open, by one reading of its status.
     ///
     /// It answers `NoSuchActor` for the guardian and for a number that no actor has; nothing is read then.
-    pub fn look(&mut self, system: &System<A, K>, to: ActorId) -> Result<Look, Unsent>
+    pub fn look(&mut self, system: &System<A, K>, to: ActorId) -> Result<Look, SendError>
         requires ours { IsSenderOf system.now.gates self.old.inner }
         ensures ours { IsSenderOf system.now.gates self.new.inner }
-        ensures by { self.new.inner.book.by ≡ self.old.inner.book.by }
+        ensures by { self.new.inner.send_log.by ≡ self.old.inner.send_log.by }
         ensures refused { OnErr result ((self.new ≡ self.old) × IsErrOf result Refusal.NoSuchActor
             × ((to.0 ≡ 0) ⊎ (actors_of system.now.gates ≤ to.0))) }
         ensures seen { IfOk result (λ look. (0 < to.0) × (to.0 < actors_of system.now.gates)
-            × IsSeen to look (known_by self.old.inner.waker.pass) (known_by self.new.inner.waker.pass)) }
-        ensures same { (self.new.inner.book ≡ self.old.inner.book) × (self.new.inner.sends ≡ self.old.inner.sends)
-            × (self.new.inner.waker.owed ≡ self.old.inner.waker.owed) × (self.new.inner.waker.way ≡ self.old.inner.waker.way) }
+            × IsSeen to look (pass_view self.old.inner.registrar.pass) (pass_view self.new.inner.registrar.pass)) }
+        ensures same { (self.new.inner.send_log ≡ self.old.inner.send_log) × (self.new.inner.sends ≡ self.old.inner.sends)
+            × (self.new.inner.registrar.owed ≡ self.old.inner.registrar.owed) × (self.new.inner.registrar.run_queue ≡ self.old.inner.registrar.run_queue) }
     {
         self.inner.look(&system.gates, to)
     }
 
-    /// Sends this body to the receiver of the ticket, which may be used again. What a bounded queue refuses since it is full, or any
-    /// for want of memory, is a dead letter, which takes a number too.
+    /// Sends this body to the receiver of the ticket, which may be used again. An envelope that a queue refuses, since it is
+    /// full or memory was refused, becomes a dead letter, which takes a number too.
     ///
-    /// It answers `NoMemory` if there was no room for the dead letter that it might become, or the sender's last number is used up:
-    /// then nothing is sent, and no number is used. It comes to owe a look to the receiver alone, where the pool refused its claim.
+    /// It answers `NoMemory` if there was no room for the dead letter that it might become, or if the sender's last number is
+    /// used up: then nothing is sent, and no number is used. It comes to owe a look only to the receiver, if the run queue
+    /// refused its claim.
     pub fn put<R: Wait>(
         &mut self,
         rt: &R,
         system: &System<A, K>,
         ticket: Ticket,
         body: Body,
-    ) -> Result<Put, Unsent>
+    ) -> Result<Put, SendError>
         requires ours { IsSenderOf system.now.gates self.old.inner }
         requires there { (0 < ticket.to.0) × (ticket.to.0 < actors_of system.now.gates) }
         ensures ours { IsSenderOf system.now.gates self.new.inner }
-        ensures by { self.new.inner.book.by ≡ self.old.inner.book.by }
-        ensures refused { OnErr result (IsErrOf result Refusal.NoMemory × (self.new.inner.book.posted ≡ self.old.inner.book.posted)
-            × (self.new.inner.waker ≡ self.old.inner.waker)) }
-        ensures unsent { OnErr result (SaysTheSame self.old.inner.book self.new.inner.book × (self.new.inner.sends ≡ self.old.inner.sends)) }
-        ensures sent { IfOk result (IsSent self.old.inner.book.by self.old.inner.book.sent ticket.to body self.old.inner.book.posted
-            self.new.inner.book.posted self.old.inner.sends.items (known_by self.old.inner.waker.pass) (known_by self.new.inner.waker.pass)) }
-        ensures paid { IfOk result (λ _. (owes ticket.to.0 (known_by self.new.inner.waker.pass) ≡ nothing)
-            ⊎ (is_owed self.new.inner.waker.owed ticket.to.0 ≡ true)) }
-        ensures still { (id : ℕ) → is_owed self.old.inner.waker.owed id ≡ true → is_owed self.new.inner.waker.owed id ≡ true }
-        ensures woken { WakesAtMost ticket.to.0 (sender_caller self.old.inner.waker).account (sender_caller self.new.inner.waker).account }
+        ensures by { self.new.inner.send_log.by ≡ self.old.inner.send_log.by }
+        ensures refused { OnErr result (IsErrOf result Refusal.NoMemory × (self.new.inner.send_log.posted ≡ self.old.inner.send_log.posted)
+            × (self.new.inner.registrar ≡ self.old.inner.registrar)) }
+        ensures unsent { OnErr result (IsSameSendLog self.old.inner.send_log self.new.inner.send_log × (self.new.inner.sends ≡ self.old.inner.sends)) }
+        ensures sent { IfOk result (IsSent self.old.inner.send_log.by self.old.inner.send_log.sent ticket.to body self.old.inner.send_log.posted
+            self.new.inner.send_log.posted self.old.inner.sends.items (pass_view self.old.inner.registrar.pass) (pass_view self.new.inner.registrar.pass)) }
+        ensures discharged { IfOk result (λ _. (obligation_to ticket.to.0 (pass_view self.new.inner.registrar.pass) ≡ nothing)
+            ⊎ (is_owed self.new.inner.registrar.owed ticket.to.0 ≡ true)) }
+        ensures still { (id : ℕ) → is_owed self.old.inner.registrar.owed id ≡ true → is_owed self.new.inner.registrar.owed id ≡ true }
+        ensures registered { RegistersAtMost ticket.to.0 (sender_caller self.old.inner.registrar).account (sender_caller self.new.inner.registrar).account }
     {
         self.inner.put(rt, &system.gates, ticket, body)
     }
 
-    /// Looks, and puts where the receiver was seen open (`ActorRef.tell`). To one that was seen closed the envelope is a dead
+    /// Looks, and puts where the receiver was seen open (`ActorRef.tell`). If it was seen closed, the envelope becomes a dead
     /// letter.
     ///
-    /// It answers `NoSuchActor` as a look does, and else `NoMemory` as a put does: then nothing is sent, and no number is used;
-    /// what was seen stays seen. It comes to owe a look to the receiver alone, where the pool refused its claim.
+    /// It answers `NoSuchActor` as a look does, and else `NoMemory` as a put does: then nothing is sent, and no number is used,
+    /// but what was seen stays seen. It comes to owe a look only to the receiver, if the run queue refused its claim.
     #[inline(always)]
     pub fn tell<R: Wait>(
         &mut self,
@@ -105,75 +107,75 @@ impl<A: Actor, K: Behaviours> Sender<A, K> {
         system: &System<A, K>,
         to: ActorId,
         body: Body,
-    ) -> Result<Put, Unsent>
+    ) -> Result<Put, SendError>
         requires ours { IsSenderOf system.now.gates self.old.inner }
         ensures ours { IsSenderOf system.now.gates self.new.inner }
-        ensures by { self.new.inner.book.by ≡ self.old.inner.book.by }
-        ensures refused { OnErr result ((self.new.inner.book.posted ≡ self.old.inner.book.posted)
+        ensures by { self.new.inner.send_log.by ≡ self.old.inner.send_log.by }
+        ensures refused { OnErr result ((self.new.inner.send_log.posted ≡ self.old.inner.send_log.posted)
             × ((IsErrOf result Refusal.NoSuchActor × ((to.0 ≡ 0) ⊎ (actors_of system.now.gates ≤ to.0)))
             ⊎ (IsErrOf result Refusal.NoMemory × (0 < to.0) × (to.0 < actors_of system.now.gates)))) }
         ensures unknown { IsErrOf result Refusal.NoSuchActor → self.new ≡ self.old }
         ensures unsent { IsErrOf result Refusal.NoMemory → OnlyLooked to self.old.inner self.new.inner }
         ensures there { IfOk result (λ _. (0 < to.0) × (to.0 < actors_of system.now.gates)) }
-        ensures told { IfOk result (IsTold self.old.inner.book.by self.old.inner.book.sent to body self.old.inner.book.posted
-            self.new.inner.book.posted self.old.inner.sends.items (known_by self.old.inner.waker.pass) (known_by self.new.inner.waker.pass)) }
-        ensures paid { IfOk result (λ _. (owes to.0 (known_by self.new.inner.waker.pass) ≡ nothing)
-            ⊎ (is_owed self.new.inner.waker.owed to.0 ≡ true)) }
-        ensures still { (id : ℕ) → is_owed self.old.inner.waker.owed id ≡ true → is_owed self.new.inner.waker.owed id ≡ true }
-        ensures woken { WakesAtMost to.0 (sender_caller self.old.inner.waker).account (sender_caller self.new.inner.waker).account }
+        ensures told { IfOk result (IsTold self.old.inner.send_log.by self.old.inner.send_log.sent to body self.old.inner.send_log.posted
+            self.new.inner.send_log.posted self.old.inner.sends.items (pass_view self.old.inner.registrar.pass) (pass_view self.new.inner.registrar.pass)) }
+        ensures discharged { IfOk result (λ _. (obligation_to to.0 (pass_view self.new.inner.registrar.pass) ≡ nothing)
+            ⊎ (is_owed self.new.inner.registrar.owed to.0 ≡ true)) }
+        ensures still { (id : ℕ) → is_owed self.old.inner.registrar.owed id ≡ true → is_owed self.new.inner.registrar.owed id ≡ true }
+        ensures registered { RegistersAtMost to.0 (sender_caller self.old.inner.registrar).account (sender_caller self.new.inner.registrar).account }
     {
         self.inner.tell(rt, &system.gates, to, body)
     }
 
-    /// Sends a Terminate to the actor, which may be the guardian (`ActorSystem.stop`); `false` if its list is ended: then the
-    /// message went nowhere.
+    /// Sends a Terminate to the actor, which may be the guardian (`ActorSystem.stop`). It answers `false` if the actor's list
+    /// is ended: then the message went nowhere.
     ///
-    /// It answers `NoSuchActor` for a number that no actor has, and else `NoMemory` if memory was refused: then nothing has changed.
-    /// It comes to owe a look to this actor alone, where the pool refused its claim.
+    /// It answers `NoSuchActor` for a number that no actor has, and else `NoMemory` if memory was refused: then nothing has
+    /// changed. It comes to owe a look only to this actor, if the run queue refused its claim.
     pub fn stop<R: Wait>(
         &mut self,
         rt: &R,
         system: &System<A, K>,
         id: ActorId,
-    ) -> Result<bool, Unsent>
+    ) -> Result<bool, SendError>
         requires ours { IsSenderOf system.now.gates self.old.inner }
         ensures ours { IsSenderOf system.now.gates self.new.inner }
-        ensures by { self.new.inner.book.by ≡ self.old.inner.book.by }
+        ensures by { self.new.inner.send_log.by ≡ self.old.inner.send_log.by }
         ensures refused { OnErr result ((self.new ≡ self.old) × ((IsErrOf result Refusal.NoSuchActor × (actors_of system.now.gates ≤ id.0))
             ⊎ (IsErrOf result Refusal.NoMemory × (id.0 < actors_of system.now.gates)))) }
-        ensures stopped { IfOk result (Stops id.0 (known_by self.old.inner.waker.pass) (known_by self.new.inner.waker.pass)) }
-        ensures same { (self.new.inner.book ≡ self.old.inner.book) × (self.new.inner.sends ≡ self.old.inner.sends) }
-        ensures paid { IfOk result (λ _. (owes id.0 (known_by self.new.inner.waker.pass) ≡ nothing)
-            ⊎ (is_owed self.new.inner.waker.owed id.0 ≡ true)) }
-        ensures still { (other : ℕ) → is_owed self.old.inner.waker.owed other ≡ true → is_owed self.new.inner.waker.owed other ≡ true }
-        ensures woken { WakesAtMost id.0 (sender_caller self.old.inner.waker).account (sender_caller self.new.inner.waker).account }
+        ensures stopped { IfOk result (Stops id.0 (pass_view self.old.inner.registrar.pass) (pass_view self.new.inner.registrar.pass)) }
+        ensures same { (self.new.inner.send_log ≡ self.old.inner.send_log) × (self.new.inner.sends ≡ self.old.inner.sends) }
+        ensures discharged { IfOk result (λ _. (obligation_to id.0 (pass_view self.new.inner.registrar.pass) ≡ nothing)
+            ⊎ (is_owed self.new.inner.registrar.owed id.0 ≡ true)) }
+        ensures still { (other : ℕ) → is_owed self.old.inner.registrar.owed other ≡ true → is_owed self.new.inner.registrar.owed other ≡ true }
+        ensures registered { RegistersAtMost id.0 (sender_caller self.old.inner.registrar).account (sender_caller self.new.inner.registrar).account }
     {
         self.inner.stop(rt, &system.gates, id)
     }
 
-    /// Looks again after each actor that it owes a look.
+    /// Registers each actor again to which the sender owes a look.
     ///
-    /// It answers `NoMemory` if the pool refused a claim again, and then alone: then that actor, and those after it, are owed a look
-    /// still. Whatever is answered, no debt is let go.
-    pub fn pay<R: Wait>(&mut self, rt: &R, system: &System<A, K>) -> Result<(), RunError>
+    /// It answers `NoMemory` only if the run queue refused a claim again: then a look is still owed to that actor and to those
+    /// after it. Whatever is answered, nothing that was owed is forgotten.
+    pub fn retry_refused<R: Wait>(&mut self, rt: &R, system: &System<A, K>) -> Result<(), RunError>
         requires ours { IsSenderOf system.now.gates self.old.inner }
         ensures ours { IsSenderOf system.now.gates self.new.inner }
-        ensures by { self.new.inner.book.by ≡ self.old.inner.book.by }
-        ensures paid { OnOk result ((id : ℕ) → id < actors_of system.now.gates → is_owed self.old.inner.waker.owed id ≡ true
-            → owes id (known_by self.new.inner.waker.pass) ≡ nothing) }
+        ensures by { self.new.inner.send_log.by ≡ self.old.inner.send_log.by }
+        ensures discharged { OnOk result ((id : ℕ) → id < actors_of system.now.gates → is_owed self.old.inner.registrar.owed id ≡ true
+            → obligation_to id (pass_view self.new.inner.registrar.pass) ≡ nothing) }
         ensures done { OnOk result (OwesNobody system.now.gates self.new) }
-        ensures debts { KeepsDebts (actors_of system.now.gates) (sender_caller self.old.inner.waker) (sender_caller self.new.inner.waker) }
+        ensures obligations { KeepsObligations (actors_of system.now.gates) (sender_caller self.old.inner.registrar) (sender_caller self.new.inner.registrar) }
         ensures stops { MatchResult result
-            (λ _. (sender_caller self.new.inner.waker).account.refused ≡ (sender_caller self.old.inner.waker).account.refused)
-            (λ _. StopsAt (sender_caller self.old.inner.waker).account (sender_caller self.new.inner.waker).account) }
-        ensures saw { IsPart (known_by self.old.inner.waker.pass).log (known_by self.new.inner.waker.pass).log }
+            (λ _. (sender_caller self.new.inner.registrar).account.refused ≡ (sender_caller self.old.inner.registrar).account.refused)
+            (λ _. StopsAt (sender_caller self.old.inner.registrar).account (sender_caller self.new.inner.registrar).account) }
+        ensures saw { IsPart (pass_view self.old.inner.registrar.pass).log (pass_view self.new.inner.registrar.pass).log }
         ensures refused { OnErr result (IsErrOf result RunError.NoMemory) }
-        ensures same { ((known_by self.new.inner.waker.pass).said ≡ (known_by self.old.inner.waker.pass).said)
-            × (self.new.inner.book ≡ self.old.inner.book) × (self.new.inner.sends ≡ self.old.inner.sends) }
+        ensures same { ((pass_view self.new.inner.registrar.pass).said ≡ (pass_view self.old.inner.registrar.pass).said)
+            × (self.new.inner.send_log ≡ self.old.inner.send_log) × (self.new.inner.sends ≡ self.old.inner.sends) }
     {
-        match self.inner.waker.pay(rt, &system.gates) {
+        match self.inner.registrar.retry_refused(rt, &system.gates) {
             Ok(()) => Ok(()),
-            Err(error) => Err(of_debts(error)),
+            Err(error) => Err(of_still_refused(error)),
         }
     }
 }

@@ -3,8 +3,8 @@ use Rattle.std.proofs.Common.{◌≡◌, ◌≤◌, inl, inr, ℕ, List, length,
 use Rattle.std.specs.Global.{Box}
 use Rattle.mb_msg.specs.declared.id.ActorId.{ActorId}
 use Rattle.mb_actor.specs.Behaviour.{Moment, Reply}
-use Rattle.mb_plan.specs.declared.plan.Plan.{Plan}
-use Rattle.mb_gate.specs.Names.{actors_of}
+use Rattle.mb_msg.specs.declared.plan.Plan.{Plan}
+use Rattle.mb_gate.specs.Accessors.{actors_of}
 use Rattle.mb_gate.specs.declared.gates.Gates.{Gates}
 use Rattle.mb_home.specs.Contents.{Contents}
 use Rattle.mb_startup.specs.Begun.{IsBegun}
@@ -13,16 +13,16 @@ use Rattle.mb_dispatch.specs.Faults.{IsToNobody}
 use Rattle.mb_system.specs.declared.built.Built.{Built}
 use Rattle.mb_system.specs.declared.failure.RunError.{RunError}
 use Rattle.mb_system.specs.declared.failure.RunError.TheVariants as Fault
-use Rattle.mb_dispatch.specs.declared.order.Order.{Order}
-use Rattle.mb_dispatch.specs.declared.order.What.{What}
-use Rattle.mb_dispatch.specs.declared.order.What.TheVariants.{Stop, Tell}
-use Rattle.mb_startup.proofs.Rolls.{actors-there, of-plan}
+use Rattle.mb_msg.specs.declared.order.Order.{Order}
+use Rattle.mb_msg.specs.declared.order.OrderKind.{OrderKind}
+use Rattle.mb_msg.specs.declared.order.OrderKind.TheVariants.{Stop, Tell}
+use Rattle.mb_startup.proofs.Directories.{actors-there, of-plan}
 use Rattle.mb_dispatch.proofs.FullJournal.{full-journal}
 use Rattle.mb_whole.specs.Sent.{BreaksOff}
-use Rattle.mb_whole.specs.Untold.{IsForNobody, MayBreak}
+use Rattle.mb_whole.specs.NoReport.{IsForNobody, MayBreak}
 
 -- what is to nobody by the gates is for none of so many actors
-for-nobody : (gates : Gates (Box Contents)) (many : ℕ) (to : ActorId) (what : What) → actors_of gates ≡ many → IsToNobody gates to what
+for-nobody : (gates : Gates (Box Contents)) (many : ℕ) (to : ActorId) (what : OrderKind) → actors_of gates ≡ many → IsToNobody gates to what
     → IsForNobody many to what
 for-nobody gates many to (Tell body) same (inl guardian) = inl guardian
 for-nobody gates many to (Tell body) same (inr beyond) = inr (subst (λ n. n ≤ to.0) same beyond)
@@ -42,7 +42,8 @@ module _ {A K : Type 0} (gives : ℕ → Moment → Reply → Type 0) (plan : Pl
     (
       one.3.0,
       one.3.1,
-      for-nobody built.system.gates (length (actors_in plan)) one.3.0.to one.3.0.what (actors-there gives plan built begun) one.3.2,
+      one.3.2,
+      for-nobody built.system.gates (length (actors_in plan)) one.3.0.to one.3.0.what (actors-there gives plan built begun) one.3.3,
     ),
   )
   may-break orders Fault.NoSuchActor (inr work) = absurd work.1

@@ -1,11 +1,11 @@
--- What is said of each actor's number is what the very actor does that was handed in for it.
+-- What is known of each actor's number is what the actor does that was handed in for it.
 use Rattle.std.proofs.Common.{◌≡◌, ℕ, suc, ◌+◌, ℤ, List, [], ◌∷◌, ◌++◌, append_assoc, length, refl, sym, ap, ◌∙◌, subst, Some, arith, length-append}
 use Rattle.std.specs.Prelude.{All, Option, slice_get}
 use Rattle.std.proofs.lemmas.List.Elements.{All-head, All-tail}
 use Rattle.mb_actor.specs.Behaviour.{AllowsSame, Moment, Reply}
 use Rattle.mb_actor.specs.declared.message.Message.{Message}
-use Rattle.mb_build.specs.Behaved.{AreBehaved}
-use Rattle.mb_whole.specs.Story.{after_at, after_of, gives_at, gives_of, handed_in}
+use Rattle.mb_build.specs.BehavesAsPlanned.{BehaveAsPlanned}
+use Rattle.mb_whole.specs.WholeRun.{after_at, after_of, gives_at, gives_of, handed_in}
 
 after-those : {A : Type 0} (before : List A) (actor : A) (rest : List A) → slice_get (before ++ actor ∷ rest) (length before) ≡ Some actor
 after-those [] actor rest = refl
@@ -16,7 +16,7 @@ module _ {A : Type 0} (content : A → ℤ) (after : A → List Message → ℤ)
   IsUnused actor = content actor ≡ after actor []
 
   abbrev Behave : ℕ → List A → Type 0
-  Behave = AreBehaved content after gives (after_at all after) (gives_at all gives)
+  Behave = BehaveAsPlanned content after gives (after_at all after) (gives_at all gives)
 
   handed : (before rest : List A) (actor : A) → before ++ actor ∷ rest ≡ all → handed_in all (length before + 1) ≡ Some actor
   handed before rest actor whole =

@@ -1,5 +1,5 @@
 pub mod Sent
 pub mod Chosen
-pub mod Story
-pub mod Untold
+pub mod WholeRun
+pub mod NoReport
 pub mod Breaking

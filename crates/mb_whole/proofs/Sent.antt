@@ -1,4 +1,4 @@
--- Senders that do their orders, one after another.
+-- Senders that carry out their orders, one after another.
 use Rattle.std.proofs.Common.{◌≡◌, ◌⊎◌, inl, inr, ℕ, zero, suc, ◌+◌, ◌-◌, ◌<◌, ◌≤◌, List, [], ◌∷◌, length, map, refl, sym, ap, ◌∙◌, subst, Some}
 use Rattle.std.proofs.Common.{arith, get_or, Vec}
 use Rattle.std.specs.Prelude.{◌≢◌, All, Err, IfErr, IsErrAnd, Ok, Result, slice_get, slice_set}
@@ -9,26 +9,26 @@ use Rattle.std.proofs.lemmas.Option.{same_Some, slice_get_read, slice_get_within
 use Rattle.mb_msg.specs.Limits.{most_actors}
 use Rattle.mb_msg.specs.declared.id.SenderId.{SenderId}
 use Rattle.mb_actor.specs.Behaviour.{Moment, Reply}
-use Rattle.mb_gate.specs.Names.{actors_of, known_by}
+use Rattle.mb_gate.specs.Accessors.{actors_of, pass_view}
 use Rattle.mb_gate.specs.Rule.{IsPart}
 use Rattle.mb_gate.specs.declared.gates.Gates.{Gates}
 use Rattle.mb_home.specs.Contents.{Contents}
 use Rattle.mb_pool.specs.Moves.{WasEmpty}
 use Rattle.mb_pool.specs.Places.{looks}
 use Rattle.mb_home.specs.Fresh.{IsFreshClaim}
-use Rattle.mb_wake.specs.Owed.{IsNobody}
-use Rattle.mb_reckon.proofs.Lists.{mapped, same-maps, there}
+use Rattle.mb_register.specs.Owed.{IsNobody}
+use Rattle.mb_shutdown.proofs.Lists.{mapped, same-maps, there}
 use Rattle.mb_system.specs.Belonging.{BelongsTogether, senders_numbers}
-use Rattle.mb_system.specs.Debts.{OwesNothing}
-use Rattle.mb_system.specs.Members.{IsEndOf, IsSenderOf, SeeOn, end_caller, ends_numbers}
+use Rattle.mb_system.specs.Obligations.{HasNoObligationTo}
+use Rattle.mb_system.specs.Members.{IsEndOf, IsSenderOf, StillSee, end_caller, ends_numbers}
 use Rattle.mb_system.specs.declared.built.Built.{Built}
 use Rattle.mb_system.specs.declared.end.WorkerEnd.{WorkerEnd}
-use Rattle.mb_dispatch.specs.declared.order.Order.{Order}
+use Rattle.mb_msg.specs.declared.order.Order.{Order}
 use Rattle.mb_system.specs.declared.sender.Sender.{Sender}
 use Rattle.mb_dispatch.proofs.Alike.{look-alike}
 use Rattle.mb_dispatch.proofs.Together.{again, by_of}
 use Rattle.mb_shutdown.proofs.Parts.{part-same}
-use Rattle.mb_whole.specs.Sent.{FoundNothing, HasSentAndPaid, HaveSent}
+use Rattle.mb_whole.specs.Sent.{FoundNothing, HasSentAndRetried, HaveSent}
 
 -- what holds of an error holds where it is passed on
 pub err-of : {T E : Type 0} (Q : E → Type 0) (r : Result T E) (e : E) → IsErrAnd r (λ y. y ≡ e) → Q e → IfErr r Q
@@ -95,7 +95,7 @@ orders-at sends place v of given lt is same there = same_Some given of (sym (ord
 module _ {A K : Type 0} (gates : Gates (Box Contents)) (orders : List (List Order)) where
   -- the sender of this place did what was ordered
   abbrev pub Did : ℕ → Sender A K → Sender A K → Type 0
-  Did place old new = (of : List Order) → slice_get orders place ≡ Some of → HasSentAndPaid gates of old new
+  Did place old new = (of : List Order) → slice_get orders place ≡ Some of → HasSentAndRetried gates of old new
 
   pub all-sent : (n : ℕ) (old new : List (Sender A K)) → length old ≤ n → AreUpTo Did n old new → HaveSent gates orders old new
   all-sent n old new all so = record {
@@ -107,7 +107,7 @@ module _ {A K : Type 0} (gates : Gates (Box Contents)) (orders : List (List Orde
   module _ (old new : List (Sender A K)) (as_many : length old ≡ length orders) (sent : HaveSent gates orders old new) where
     -- each is the sender of the number that it was
     pub by-kept : (place : ℕ) (a b : Sender A K) → slice_get old place ≡ Some a → slice_get new place ≡ Some b
-        → b.inner.book.by ≡ a.inner.book.by
+        → b.inner.send_log.by ≡ a.inner.send_log.by
     by-kept place a b was is =
         let lt = slice_get_within old place a was in
         let of = there orders place (omega (arith, lt, as_many)) in (sent.each place of.0 a b of.1 was is).0.by
@@ -122,7 +122,7 @@ module _ {A K : Type 0} where
   -- all belongs together after that
   pub together-kept : (orders : List (List Order)) (old new : Built A K) → length old.senders.items ≡ length orders → new.system ≡ old.system
       → BelongsTogether old → HaveSent old.system.gates orders old.senders.items new.senders.items
-      → All (λ (e : WorkerEnd A K). IsEndOf old.system.gates e.waker) new.ends.items
+      → All (λ (e : WorkerEnd A K). IsEndOf old.system.gates e.registrar) new.ends.items
       → All (λ (s : Sender A K). IsSenderOf old.system.gates s.inner) new.senders.items → BelongsTogether new
   together-kept orders old new as_many same was sent ends senders =
       again old new same ends senders (senders-kept old.system.gates orders old.senders.items new.senders.items as_many sent) was
@@ -134,20 +134,20 @@ module _ {A K : Type 0} where
   first-number old new (x ∷ ends) some is same = ap (λ n. n ∷ ends_numbers ends) (same ∙ ap (λ (w : WorkerEnd A K). w.number) is)
 
   -- an end that goes on from the first is put in its place
-  see-same : (ends : List (WorkerEnd A K)) → SeeOn ends ends
+  see-same : (ends : List (WorkerEnd A K)) → StillSee ends ends
   see-same [] = tt
-  see-same (x ∷ ends) = (part-same (known_by x.waker.pass).log, see-same ends)
+  see-same (x ∷ ends) = (part-same (pass_view x.registrar.pass).log, see-same ends)
 
   pub see-on : (old new : WorkerEnd A K) (ends : List (WorkerEnd A K)) → ends ≢ [] → old ≡ get_or ends 0 old
-      → IsPart (known_by old.waker.pass).log (known_by new.waker.pass).log → SeeOn ends (slice_set ends 0 new)
+      → IsPart (pass_view old.registrar.pass).log (pass_view new.registrar.pass).log → StillSee ends (slice_set ends 0 new)
   see-on old new [] some is saw = absurd (some refl)
   see-on old new (x ∷ ends) some is saw =
-      (subst (λ (e : WorkerEnd A K). IsPart (known_by e.waker.pass).log (known_by new.waker.pass).log) is saw, see-same ends)
+      (subst (λ (e : WorkerEnd A K). IsPart (pass_view e.registrar.pass).log (pass_view new.registrar.pass).log) is saw, see-same ends)
 
   -- the first of the ends, which ran, found nothing more
   pub found-nothing : (gives : ℕ → Moment → Reply → Type 0) (gates : Gates (Box Contents)) (ends : List (WorkerEnd A K)) (e : WorkerEnd A K)
-      → ends ≢ [] → IsNobody e.waker.owed → OwesNothing (actors_of gates) (end_caller e.waker)
-      → All (WasEmpty (IsFreshClaim gives)) (looks e.waker.way.end) → FoundNothing gives gates (slice_set ends 0 e)
+      → ends ≢ [] → IsNobody e.registrar.owed → HasNoObligationTo (actors_of gates) (end_caller e.registrar)
+      → All (WasEmpty (IsFreshClaim gives)) (looks e.registrar.run_queue.end) → FoundNothing gives gates (slice_set ends 0 e)
   found-nothing gives gates [] e some nobody settled empty = absurd (some refl)
   found-nothing gives gates (x ∷ ends) e some nobody settled empty =
       record { first = e; rest = ends; are = refl; nobody = nobody; settled = settled; empty = empty }

@@ -1,3 +1,3 @@
 pub mod Sent
-pub mod Story
-pub mod Untold
+pub mod WholeRun
+pub mod NoReport

@@ -1,19 +1,16 @@
 //! A whole run on one thread, also of boxed actors of mixed kinds.
 ghost use Rattle.std.specs.Prelude.{◌≡◌, ℕ, [], All, IfErr, IfOk, MatchResult, OnOk, length, map};
-ghost use Rattle.mb_build.specs.Behaved.{AreBehaved};
+ghost use Rattle.mb_build.specs.BehavesAsPlanned.{BehaveAsPlanned};
 ghost use Rattle.mb_shutdown.specs.Refused.{IsOfWhole};
-ghost use Rattle.mb_whole.specs.Story.{IsStory, after_at, gives_at};
-ghost use Rattle.mb_whole.specs.Untold.{IsNoStory, IsRight, IsToldBy, IsUnfit};
+ghost use Rattle.mb_whole.specs.WholeRun.{IsReportOfRun, after_at, gives_at};
+ghost use Rattle.mb_whole.specs.NoReport.{IsErrorOfRun, IsRight, IsErrorFor, IsUnfit};
 
 use crate::sending::send_and_run;
 use mb_actor::{Actor, Behaviours};
 use mb_build::{PlanError, check_plan};
-use mb_dispatch::Order;
-use mb_msg::ActorId;
-use mb_plan::Plan;
-use mb_reckon::Mismatch;
+use mb_msg::{ActorId, Order, Plan};
 use mb_report::Report;
-use mb_shutdown::{FinishError, finish};
+use mb_shutdown::{FinishError, Mismatch, finish};
 use mb_startup::{BuildError, build};
 use mb_system::RunError;
 use std::alloc::Global;
@@ -39,12 +36,13 @@ pub enum WholeError {
     Mismatch(Mismatch),
 }
 
-/// Builds a system from a plan and boxed actors of any kinds, sends by each sender outside what stands at its place, runs it on
-/// this thread alone until nothing is left to run, and ends it: the report. No message came to any of the actors yet.
+/// Builds a system from a plan and boxed actors of any kinds, has each sender outside send what stands at its place, runs the
+/// system on this thread alone until nothing is left to run, and ends it with the report. No message may have come to any of
+/// the actors yet.
 ///
-/// The actors come in the order of their numbers, from 1 on; 0 is the guardian's, to whom no envelope can be sent. There is one
-/// list of orders for each sender of the plan, an empty one for a sender that sends nothing. After an error all is let go. (This
-/// project's own profile: in Akka each part of it is a call of its own.)
+/// The actors come in the order of their numbers, from 1 on; 0 is the guardian's, to which no envelope can be sent. There is
+/// one list of orders for each sender of the plan, an empty one for a sender that sends nothing. After an error everything is
+/// dropped. (This project's own profile: in Akka each part of it is a call of its own.)
 pub fn run_boxed<R: Wait>(
     rt: &R,
     alloc: Global,
@@ -53,15 +51,15 @@ pub fn run_boxed<R: Wait>(
     sends: &[Vec<Order>],
 ) -> Result<Report, WholeError>
     requires unused { All (λ actor. content actor ≡ after actor []) actors.items }
-    ensures story { IfOk result (IsStory (after_at actors.items after) (gives_at actors.items gives) plan
+    ensures story { IfOk result (IsReportOfRun (after_at actors.items after) (gives_at actors.items gives) plan
         (map (λ orders. orders.items) sends.now)) }
     ensures right { OnOk result (IsRight plan (length actors.items) (map (λ orders. orders.items) sends.now)) }
-    ensures refused { IfErr result (IsNoStory (gives_at actors.items gives) plan (length actors.items) (map (λ orders. orders.items) sends.now)) }
+    ensures refused { IfErr result (IsErrorOfRun (gives_at actors.items gives) plan (length actors.items) (map (λ orders. orders.items) sends.now)) }
 {
     run_whole::<Box<dyn Actor + Send>, R>(rt, alloc, plan, actors, sends)
 }
 
-/// The same of actors of one type.
+/// The same for actors of one type.
 pub fn run_whole<A: Actor, R: Wait>(
     rt: &R,
     alloc: Global,
@@ -70,15 +68,15 @@ pub fn run_whole<A: Actor, R: Wait>(
     sends: &[Vec<Order>],
 ) -> Result<Report, WholeError>
     requires unused { All (λ actor. A.content actor ≡ A.after actor []) actors.items }
-    ensures story { IfOk result (IsStory (after_at actors.items A.after) (gives_at actors.items A.gives) plan
+    ensures story { IfOk result (IsReportOfRun (after_at actors.items A.after) (gives_at actors.items A.gives) plan
         (map (λ orders. orders.items) sends.now)) }
     ensures right { OnOk result (IsRight plan (length actors.items) (map (λ orders. orders.items) sends.now)) }
-    ensures refused { IfErr result (IsNoStory (gives_at actors.items A.gives) plan (length actors.items) (map (λ orders. orders.items) sends.now)) }
+    ensures refused { IfErr result (IsErrorOfRun (gives_at actors.items A.gives) plan (length actors.items) (map (λ orders. orders.items) sends.now)) }
 {
     run_planned::<A, Brand, R>(rt, alloc, plan, actors, sends)
 }
 
-// The same where it is known what the actor of each number does.
+// The same, where it is known what the actor of each number does.
 fn run_planned<A: Actor, K: Behaviours, R: Wait>(
     rt: &R,
     alloc: Global,
@@ -86,10 +84,10 @@ fn run_planned<A: Actor, K: Behaviours, R: Wait>(
     actors: Vec<A>,
     sends: &[Vec<Order>],
 ) -> Result<Report, WholeError>
-    requires behaved { AreBehaved A.content A.after A.gives K.after K.gives 1 actors.items }
-    ensures story { IfOk result (IsStory K.after K.gives plan (map (λ orders. orders.items) sends.now)) }
+    requires behaved { BehaveAsPlanned A.content A.after A.gives K.after K.gives 1 actors.items }
+    ensures story { IfOk result (IsReportOfRun K.after K.gives plan (map (λ orders. orders.items) sends.now)) }
     ensures right { OnOk result (IsRight plan (length actors.items) (map (λ orders. orders.items) sends.now)) }
-    ensures refused { IfErr result (IsNoStory K.gives plan (length actors.items) (map (λ orders. orders.items) sends.now)) }
+    ensures refused { IfErr result (IsErrorOfRun K.gives plan (length actors.items) (map (λ orders. orders.items) sends.now)) }
 {
     check(&plan, actors.len(), sends)?;
     let mut built = match build::<A, K, R>(rt, alloc, plan, actors) {
@@ -109,7 +107,7 @@ fn run_planned<A: Actor, K: Behaviours, R: Wait>(
 // How it is told why there is no report of a system that has all ends and senders that it began with.
 fn without_report<A: Actor, K: Behaviours>(error: &FinishError<A, K>) -> WholeError
     requires { (actors : ℕ) × IsOfWhole actors error.now }
-    ensures { IsToldBy error.now result }
+    ensures { IsErrorFor error.now result }
 {
     match error {
         FinishError::NotQuiet(id, _) => WholeError::NotQuiet(*id),
@@ -120,7 +118,7 @@ fn without_report<A: Actor, K: Behaviours>(error: &FinishError<A, K>) -> WholeEr
     }
 }
 
-// What is refused before anything is done.
+// Whether the plan and the orders are right; checked before anything is done.
 fn check(plan: &Plan, actors: usize, sends: &[Vec<Order>]) -> Result<(), WholeError>
     ensures { MatchResult result (λ _. IsRight plan.now actors (map (λ orders. orders.items) sends.now))
         (IsUnfit plan.now actors (map (λ orders. orders.items) sends.now)) }

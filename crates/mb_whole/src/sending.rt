@@ -1,19 +1,20 @@
-//! All that is to be sent, and a run of what that leaves to run.
+//! Sending all that is to be sent, and running what that leaves to run.
 ghost use Rattle.std.specs.Prelude.{◌≡◌, ◌≢◌, [], All, IfErr, OnOk, length, map};
 ghost use Rattle.mb_system.specs.Belonging.{BelongsTogether};
 ghost use Rattle.mb_dispatch.specs.Faults.{BreaksSending};
-ghost use Rattle.mb_system.specs.Members.{IsSenderOf, SeeOn, ends_numbers};
-ghost use Rattle.mb_whole.specs.Sent.{BreaksOff, BreaksOne, FoundNothing, HasSentAndPaid, HaveSent};
+ghost use Rattle.mb_system.specs.Members.{IsSenderOf, StillSee, ends_numbers};
+ghost use Rattle.mb_whole.specs.Sent.{BreaksOff, BreaksOne, FoundNothing, HasSentAndRetried, HaveSent};
 
 use mb_actor::{Actor, Behaviours};
-use mb_dispatch::{Order, run_quietly, send_all};
+use mb_dispatch::{run_quietly, send_all};
+use mb_msg::Order;
 use mb_system::{Built, RunError, Sender, System};
 use std::sync::Wait;
 
-/// Sends by each sender what stands at its place, and runs on this thread what there is to run. Nobody is owed a look then, by
-/// the senders or by the end that ran, and that found the pool empty, where it looks.
+/// Has each sender send what stands at its place, and runs on this thread what there is to run. Then neither the senders nor
+/// the end that ran owe anybody a look, and the end found the pool empty where it looks.
 ///
-/// It stops at the first fault of a sender, in their order, and then of the run.
+/// It stops at the first error of a sender, in their order, and then of the run.
 pub(crate) fn send_and_run<A: Actor, K: Behaviours, R: Wait>(
     rt: &R,
     built: &mut Built<A, K>,
@@ -27,8 +28,8 @@ pub(crate) fn send_and_run<A: Actor, K: Behaviours, R: Wait>(
     ensures ends { OnOk result (ends_numbers built.new.ends.items ≡ ends_numbers built.old.ends.items) }
     ensures sent { OnOk result (HaveSent built.old.system.gates (map (λ orders. orders.items) sends.now) built.old.senders.items
         built.new.senders.items) }
-    ensures saw { OnOk result (SeeOn built.old.ends.items built.new.ends.items) }
-    ensures quiet { OnOk result (FoundNothing K.gives built.old.system.gates built.new.ends.items) }
+    ensures saw { OnOk result (StillSee built.old.ends.items built.new.ends.items) }
+    ensures found_nothing { OnOk result (FoundNothing K.gives built.old.system.gates built.new.ends.items) }
     ensures fault { IfErr result (BreaksOff K.gives built.old.system (map (λ orders. orders.items) sends.now)) }
 {
     send_each(rt, &built.system, &mut built.senders, sends)?;
@@ -36,7 +37,7 @@ pub(crate) fn send_and_run<A: Actor, K: Behaviours, R: Wait>(
     Ok(())
 }
 
-// Sends by each of these what stands at its place.
+// Has each of these senders send what stands at its place.
 fn send_each<A: Actor, K: Behaviours, R: Wait>(
     rt: &R,
     system: &System<A, K>,
@@ -50,13 +51,13 @@ fn send_each<A: Actor, K: Behaviours, R: Wait>(
     ensures fault { IfErr result (BreaksOne system.now.gates (map (λ orders. orders.items) sends.now)) }
 {
     for place in 0..senders.len() {
-        send_and_pay(rt, system, &mut senders[place], &sends[place])?;
+        send_and_retry(rt, system, &mut senders[place], &sends[place])?;
     }
     Ok(())
 }
 
-// Sends all, and leaves nobody who is owed a look.
-fn send_and_pay<A: Actor, K: Behaviours, R: Wait>(
+// Sends all, and then registers each actor again to which a look is owed.
+fn send_and_retry<A: Actor, K: Behaviours, R: Wait>(
     rt: &R,
     system: &System<A, K>,
     sender: &mut Sender<A, K>,
@@ -64,9 +65,9 @@ fn send_and_pay<A: Actor, K: Behaviours, R: Wait>(
 ) -> Result<(), RunError>
     requires ours { IsSenderOf system.now.gates sender.old.inner }
     ensures ours { IsSenderOf system.now.gates sender.new.inner }
-    ensures sent { OnOk result (HasSentAndPaid system.now.gates orders.now sender.old sender.new) }
+    ensures sent { OnOk result (HasSentAndRetried system.now.gates orders.now sender.old sender.new) }
     ensures fault { IfErr result (BreaksSending system.now.gates orders.now) }
 {
     send_all(rt, system, sender, orders)?;
-    sender.pay(rt, system)
+    sender.retry_refused(rt, system)
 }

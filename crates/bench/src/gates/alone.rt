@@ -1,10 +1,10 @@
-//! One thread on one actor.
+//! Benchmarks of the gates with one thread on one actor.
 ghost use Rattle.std.specs.Prelude.{◌≡◌, ◌<◌};
-ghost use Rattle.mb_gate.specs.Names.{gates_id, pass_id, actors_of};
+ghost use Rattle.mb_gate.specs.Accessors.{gates_id, pass_id, actors_of};
 
-use crate::gates::desk::{Desk, attempt, give};
+use crate::gates::desk::{BenchHome, attempt, give};
 use crate::gates::held::{drains, goes_round};
-use crate::gates::shown::{Figure, TURNS, show};
+use crate::gates::shown::{PoolFigure, TURNS, show};
 use crate::times::{ROUNDS, Times};
 use mb_gate::{Gates, Pass};
 use mb_msg::ActorId;
@@ -12,29 +12,28 @@ use std::io;
 use std::sync::Wait;
 use std::time::{Clock, Instant};
 
-/// The one actor.
 pub const ACTOR: ActorId = ActorId(1);
 
-/// What is done over and over.
+/// What is done repeatedly.
 #[derive(Clone, Copy)]
 pub enum Work {
     /// The status is read.
     Load,
-    /// The status is read, the actor is scheduled and its cell given home.
+    /// The status is read, the actor is scheduled and its claim released.
     Turn,
     /// An envelope is counted as sent.
     Note,
-    /// The holder drains a list in which nothing is.
+    /// The holder drains an empty list.
     Drain,
-    /// The holder drains the list, and each message is put into it again.
+    /// The holder drains the list, and each message is pushed again.
     GoRound,
 }
 
-/// Shows how often it was done in the last of some rounds, and the median of what these took.
+/// Prints how often it was done in the last of some rounds, and the median of the rounds' times.
 pub fn measure<R: Clock + Wait + Print + Eprint>(
     rt: &R,
-    gates: &Gates<Desk>,
-    pass: &mut Pass<Desk>,
+    gates: &Gates<BenchHome>,
+    pass: &mut Pass<BenchHome>,
     what: &str,
     work: Work,
 ) -> io::Result<()>
@@ -50,10 +49,10 @@ pub fn measure<R: Clock + Wait + Print + Eprint>(
         times.add(rt, begin);
     }
     let median = times.median();
-    show(rt, what, Figure { done, median })
+    show(rt, what, PoolFigure { done, median })
 }
 
-fn often<R: Wait>(rt: &R, gates: &Gates<Desk>, pass: &mut Pass<Desk>, work: Work) -> u64
+fn often<R: Wait>(rt: &R, gates: &Gates<BenchHome>, pass: &mut Pass<BenchHome>, work: Work) -> u64
     requires ours { pass_id pass.old ≡ gates_id gates.now }
     requires there { 1 < actors_of gates.now }
     ensures ours { pass_id pass.new ≡ pass_id pass.old }
@@ -67,7 +66,7 @@ fn often<R: Wait>(rt: &R, gates: &Gates<Desk>, pass: &mut Pass<Desk>, work: Work
     }
 }
 
-fn load_often(gates: &Gates<Desk>, pass: &mut Pass<Desk>) -> u64
+fn load_often(gates: &Gates<BenchHome>, pass: &mut Pass<BenchHome>) -> u64
     requires ours { pass_id pass.old ≡ gates_id gates.now }
     requires there { 1 < actors_of gates.now }
     ensures ours { pass_id pass.new ≡ pass_id pass.old }
@@ -81,8 +80,8 @@ fn load_often(gates: &Gates<Desk>, pass: &mut Pass<Desk>) -> u64
     done
 }
 
-/// How often of so many turns the actor was got.
-pub fn turn_often(gates: &Gates<Desk>, pass: &mut Pass<Desk>, id: ActorId) -> u64
+/// How often scheduling the actor succeeded.
+pub fn turn_often(gates: &Gates<BenchHome>, pass: &mut Pass<BenchHome>, id: ActorId) -> u64
     requires ours { pass_id pass.old ≡ gates_id gates.now }
     requires there { id.0 < actors_of gates.now }
     ensures ours { pass_id pass.new ≡ pass_id pass.old }
@@ -100,8 +99,8 @@ pub fn turn_often(gates: &Gates<Desk>, pass: &mut Pass<Desk>, id: ActorId) -> u6
     done
 }
 
-/// How many envelopes are counted then.
-fn note_often(gates: &Gates<Desk>, pass: &mut Pass<Desk>) -> u64
+/// How many envelopes are counted at the end.
+fn note_often(gates: &Gates<BenchHome>, pass: &mut Pass<BenchHome>) -> u64
     requires ours { pass_id pass.old ≡ gates_id gates.now }
     requires there { 1 < actors_of gates.now }
     ensures ours { pass_id pass.new ≡ pass_id pass.old }

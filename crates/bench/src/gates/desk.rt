@@ -1,22 +1,22 @@
-//! A stand-in for a home: what the gates ask for, and nothing more.
+//! A stub home for the benchmarks of the gates.
 ghost use Rattle.std.specs.Prelude.{◌≡◌, ◌<◌, [], IfOk, IfSome};
-ghost use Rattle.mb_gate.specs.Names.{gates_id, pass_id, claim_id, actors_of, held_actor, taken_with, given_to, recorded_by};
+ghost use Rattle.mb_gate.specs.Accessors.{gates_id, pass_id, claim_id, actors_of, held_actor, taken_with, given_to, recorded_by};
 
 use crate::status::open;
-use mb_gate::{Claim, Gates, Pass, Resident, Tried};
+use mb_gate::{Claim, Gates, MailboxState, Pass, Tried};
 use mb_msg::ActorId;
 use mb_status::Status;
 use std::alloc::{AllocError, Global};
 
-/// A number, a status and how many messages its list gave; its journal stays empty.
+/// A stub home: the actor's number, the status, and how many messages its list gave. Its journal stays empty.
 #[derive(Drop)]
-pub struct Desk {
+pub struct BenchHome {
     pub actor: u32,
     pub status: Status,
     pub given: u64,
 }
 
-impl Resident for Desk {
+impl MailboxState for BenchHome {
     ghost use Rattle.std.specs.Prelude.{◌≡◌, [], None, pos, false};
 
     ghost is_of = { λ first actor desk. desk.actor ≡ actor };
@@ -32,15 +32,13 @@ impl Resident for Desk {
       limit = 0;
     } };
 
-    ghost journal = { λ desk. [] };
-
-    ghost mailbox = { λ desk. desk.status };
-
-    ghost rested = { λ desk. Unit {0} };
-
-    ghost given = { λ desk. desk.given };
-
-    ghost closed_to = { λ desk. [] };
+    ghost facts = { λ desk. record {
+      journal = [];
+      mailbox = desk.status;
+      rested = Unit {0};
+      given = desk.given;
+      closed_to = [];
+    } };
 
     fn status(&self) -> Status {
         self.status
@@ -48,17 +46,17 @@ impl Resident for Desk {
 }
 
 /// The gates of two actors that may run, with a pass.
-pub fn two(alloc: Global) -> Result<(Gates<Desk>, Pass<Desk>), AllocError>
+pub fn two(alloc: Global) -> Result<(Gates<BenchHome>, Pass<BenchHome>), AllocError>
     ensures { IfOk result (λ made. (actors_of made.0 ≡ 2) × (pass_id made.1 ≡ gates_id made.0)) }
 {
     let mut desks = Vec::with_capacity(alloc, 2)?;
     let status = open();
-    desks.push_reserved(Desk {
+    desks.push_reserved(BenchHome {
         actor: 0,
         status,
         given: 0,
     });
-    desks.push_reserved(Desk {
+    desks.push_reserved(BenchHome {
         actor: 1,
         status,
         given: 0,
@@ -69,8 +67,12 @@ pub fn two(alloc: Global) -> Result<(Gates<Desk>, Pass<Desk>), AllocError>
     }
 }
 
-/// A claim, if the try wins.
-pub fn attempt(gates: &Gates<Desk>, pass: &mut Pass<Desk>, id: ActorId) -> Option<Claim<Desk>>
+/// Tries to schedule the actor: its claim, where that succeeds.
+pub fn attempt(
+    gates: &Gates<BenchHome>,
+    pass: &mut Pass<BenchHome>,
+    id: ActorId,
+) -> Option<Claim<BenchHome>>
     requires ours { pass_id pass.old ≡ gates_id gates.now }
     requires there { id.0 < actors_of gates.now }
     ensures ours { pass_id pass.new ≡ pass_id pass.old }
@@ -84,9 +86,9 @@ pub fn attempt(gates: &Gates<Desk>, pass: &mut Pass<Desk>, id: ActorId) -> Optio
     }
 }
 
-/// The claim goes home with the status that it has.
-#[tactic(auto, using(mb_gate::proofs::RecordLemmas::nothing_since))]
-pub fn give(gates: &Gates<Desk>, mut claim: Claim<Desk>, pass: &mut Pass<Desk>)
+/// Releases the claim with the status that it has.
+#[tactic(auto, using(mb_gate::proofs::SentSystemLemmas::nothing_since))]
+pub fn give(gates: &Gates<BenchHome>, mut claim: Claim<BenchHome>, pass: &mut Pass<BenchHome>)
     requires ours { (claim_id claim ≡ gates_id gates.now) × (pass_id pass.old ≡ gates_id gates.now) }
     requires there { held_actor claim < actors_of gates.now }
     requires own { (claim.home.actor ≡ held_actor claim) × (claim.home.given ≡ given_to claim) }

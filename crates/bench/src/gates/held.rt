@@ -1,9 +1,9 @@
-//! System messages on one thread: the holder of an actor drains its list.
+//! Benchmarks of the gates' system lists on one thread: the holder of an actor drains its list.
 ghost use Rattle.std.specs.Prelude.{◌≡◌, ◌%◌, ◌^◌, ◌<◌, length};
-ghost use Rattle.mb_gate.specs.Names.{gates_id, pass_id, claim_id, actors_of, held_actor, taken_with, given_to, recorded_by};
+ghost use Rattle.mb_gate.specs.Accessors.{gates_id, pass_id, claim_id, actors_of, held_actor, taken_with, given_to, recorded_by};
 
 use crate::gates::alone::ACTOR;
-use crate::gates::desk::{Desk, attempt, give};
+use crate::gates::desk::{BenchHome, attempt, give};
 use crate::gates::shown::TURNS;
 use mb_gate::{Claim, Gates, Pass};
 use mb_msg::SysMsg;
@@ -11,11 +11,11 @@ use mb_syslist::{Chain, Node};
 use std::alloc::Global;
 use std::sync::Wait;
 
-/// How many nodes go round, and one drain gives.
+/// How many nodes are pushed and drained again and again.
 const NODES: u64 = 16;
 
-/// The holder drains a list in which nothing is: how often nothing came.
-pub fn drains<R: Wait>(rt: &R, gates: &Gates<Desk>, pass: &mut Pass<Desk>) -> u64
+/// The holder drains an empty list again and again: how often nothing came.
+pub fn drains<R: Wait>(rt: &R, gates: &Gates<BenchHome>, pass: &mut Pass<BenchHome>) -> u64
     requires ours { pass_id pass.old ≡ gates_id gates.now }
     requires there { 1 < actors_of gates.now }
     ensures ours { pass_id pass.new ≡ pass_id pass.old }
@@ -28,8 +28,8 @@ pub fn drains<R: Wait>(rt: &R, gates: &Gates<Desk>, pass: &mut Pass<Desk>) -> u6
     done
 }
 
-/// Nodes go round, out of the list by a drain and into it again by the pass: how many messages did.
-pub fn goes_round<R: Wait>(rt: &R, gates: &Gates<Desk>, pass: &mut Pass<Desk>) -> u64
+/// Nodes are drained from the list and pushed again through the pass: how many were.
+pub fn goes_round<R: Wait>(rt: &R, gates: &Gates<BenchHome>, pass: &mut Pass<BenchHome>) -> u64
     requires ours { pass_id pass.old ≡ gates_id gates.now }
     requires there { 1 < actors_of gates.now }
     ensures ours { pass_id pass.new ≡ pass_id pass.old }
@@ -42,7 +42,7 @@ pub fn goes_round<R: Wait>(rt: &R, gates: &Gates<Desk>, pass: &mut Pass<Desk>) -
     done
 }
 
-fn drain_often<R: Wait>(rt: &R, gates: &Gates<Desk>, claim: &mut Claim<Desk>) -> u64
+fn drain_often<R: Wait>(rt: &R, gates: &Gates<BenchHome>, claim: &mut Claim<BenchHome>) -> u64
     requires ours { claim_id claim.old ≡ gates_id gates.now }
     requires there { held_actor claim.old < actors_of gates.now }
     requires counts { claim.old.home.given ≡ given_to claim.old }
@@ -62,7 +62,6 @@ fn drain_often<R: Wait>(rt: &R, gates: &Gates<Desk>, claim: &mut Claim<Desk>) ->
     done
 }
 
-/// How many are in the chain.
 fn length_of(mut chain: Chain) -> u64
     ensures { result ≡ length chain % 2 ^ 64 }
 {
@@ -77,8 +76,8 @@ fn length_of(mut chain: Chain) -> u64
 pub fn fill<R: Wait>(
     rt: &R,
     alloc: Global,
-    gates: &Gates<Desk>,
-    pass: &mut Pass<Desk>,
+    gates: &Gates<BenchHome>,
+    pass: &mut Pass<BenchHome>,
 ) -> Option<()>
     requires ours { pass_id pass.old ≡ gates_id gates.now }
     requires there { 1 < actors_of gates.now }
@@ -93,12 +92,12 @@ pub fn fill<R: Wait>(
     Some(())
 }
 
-/// How many messages went round, so many drains of all nodes.
+/// Drains all nodes and pushes them again, repeatedly: how many messages were pushed.
 fn go_often<R: Wait>(
     rt: &R,
-    gates: &Gates<Desk>,
-    pass: &mut Pass<Desk>,
-    claim: &mut Claim<Desk>,
+    gates: &Gates<BenchHome>,
+    pass: &mut Pass<BenchHome>,
+    claim: &mut Claim<BenchHome>,
 ) -> u64
     requires ours { (claim_id claim.old ≡ gates_id gates.now) × (pass_id pass.old ≡ gates_id gates.now) }
     requires there { (held_actor claim.old < actors_of gates.now) × (1 < actors_of gates.now) }
@@ -118,8 +117,13 @@ fn go_often<R: Wait>(
     done
 }
 
-/// Puts each node of the chain into the list again, and counts them.
-fn put_back<R: Wait>(rt: &R, gates: &Gates<Desk>, pass: &mut Pass<Desk>, mut chain: Chain) -> u64
+/// Pushes each node of the chain again, and counts them.
+fn put_back<R: Wait>(
+    rt: &R,
+    gates: &Gates<BenchHome>,
+    pass: &mut Pass<BenchHome>,
+    mut chain: Chain,
+) -> u64
     requires ours { pass_id pass.old ≡ gates_id gates.now }
     requires there { 1 < actors_of gates.now }
     ensures ours { pass_id pass.new ≡ pass_id pass.old }

@@ -1,11 +1,11 @@
-//! Two threads, each on an actor of its own.
+//! Benchmarks of the gates with two threads, each on an actor of its own.
 ghost use Rattle.std.specs.Prelude.{◌≡◌, ◌<◌};
-ghost use Rattle.mb_gate.specs.Names.{gates_id, pass_id, actors_of};
+ghost use Rattle.mb_gate.specs.Accessors.{gates_id, pass_id, actors_of};
 
 use crate::clock::elapsed;
 use crate::gates::alone::turn_often;
-use crate::gates::desk::Desk;
-use crate::gates::shown::Figure;
+use crate::gates::desk::BenchHome;
+use crate::gates::shown::PoolFigure;
 use crate::times::{ROUNDS, Times};
 use mb_gate::{Gates, Pass};
 use mb_msg::ActorId;
@@ -13,30 +13,30 @@ use std::thread;
 use std::thread::Threads;
 use std::time::{Clock, Instant};
 
-/// A pass after its turns, and how often its actor was got.
+/// A pass after its rounds, and how often scheduling its actor succeeded.
 #[derive(Drop)]
 struct Turned {
-    pass: Pass<Desk>,
+    pass: Pass<BenchHome>,
     done: u64,
 }
 
-/// How often each thread does as many turns as a round of one thread has, so that its start counts for little.
+/// How many rounds of one thread each thread does, so that starting it counts for little.
 const LAPS: u64 = 4;
 
-/// How long two threads took, and what they gained: how many hundredths of that time they took one after the other.
+/// How long two threads took, and their gain: how many hundredths of that time they took one after the other.
 #[derive(Clone, Copy)]
 pub struct Paired {
-    pub figure: Figure,
+    pub figure: PoolFigure,
     pub gain: u64,
 }
 
-/// Each of two threads schedules its actor and gives its cell home. Before each round the same threads do their turns one
-/// after the other, so that the two are compared while the machine is as fast.
+/// Each of two threads schedules its actor and releases the claim. Before each round the same threads do this one after
+/// the other, so that both are measured at the same speed of the machine.
 pub fn turns<R: Clock + Threads + Sync>(
     rt: &R,
-    gates: &Gates<Desk>,
-    mut first: Pass<Desk>,
-    mut second: Pass<Desk>,
+    gates: &Gates<BenchHome>,
+    mut first: Pass<BenchHome>,
+    mut second: Pass<BenchHome>,
 ) -> Paired
     requires ours { (pass_id first ≡ gates_id gates.now) × (pass_id second ≡ gates_id gates.now) }
     requires there { 1 < actors_of gates.now }
@@ -58,7 +58,7 @@ pub fn turns<R: Clock + Threads + Sync>(
         times.put(time / LAPS);
         gains.put(gain(apart, time));
     }
-    let figure = Figure {
+    let figure = PoolFigure {
         done,
         median: times.median(),
     };
@@ -72,12 +72,12 @@ fn gain(apart: u64, together: u64) -> u64 {
     apart.saturating_mul(100).checked_div(together).unwrap_or(0)
 }
 
-/// Each thread does so many laps.
+/// Each thread does this many laps.
 fn both<R: Threads + Sync>(
     rt: &R,
-    gates: &Gates<Desk>,
-    first: Pass<Desk>,
-    second: Pass<Desk>,
+    gates: &Gates<BenchHome>,
+    first: Pass<BenchHome>,
+    second: Pass<BenchHome>,
     laps: u64,
     second_laps: u64,
 ) -> (Turned, Turned)
@@ -98,7 +98,7 @@ fn both<R: Threads + Sync>(
     )
 }
 
-fn turn_all(gates: &Gates<Desk>, mut pass: Pass<Desk>, id: ActorId, laps: u64) -> Turned
+fn turn_all(gates: &Gates<BenchHome>, mut pass: Pass<BenchHome>, id: ActorId, laps: u64) -> Turned
     requires ours { pass_id pass ≡ gates_id gates.now }
     requires there { id.0 < actors_of gates.now }
     ensures ours { pass_id result.pass ≡ gates_id gates.now }

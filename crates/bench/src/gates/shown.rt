@@ -1,11 +1,11 @@
-//! How a figure is printed.
+//! Printing a figure.
 use crate::times::ROUNDS;
 use crate::told::{note, tell};
 use std::io;
 
 /// How often the work was done in the last round, and the median of what the rounds took, in nanoseconds.
 #[derive(Clone, Copy)]
-pub struct Figure {
+pub struct PoolFigure {
     pub done: u64,
     pub median: u64,
 }
@@ -13,8 +13,8 @@ pub struct Figure {
 /// How often the work is done in one round.
 pub const TURNS: u64 = 1_000_000;
 
-pub fn show<R: Print + Eprint>(rt: &R, what: &str, figure: Figure) -> io::Result<()> {
-    let Figure { done, median } = figure;
+pub fn show<R: Print + Eprint>(rt: &R, what: &str, figure: PoolFigure) -> io::Result<()> {
+    let PoolFigure { done, median } = figure;
     let whole = median / TURNS;
     let tenth = median % TURNS * 10 / TURNS;
     tell(
@@ -24,7 +24,7 @@ pub fn show<R: Print + Eprint>(rt: &R, what: &str, figure: Figure) -> io::Result
     )
 }
 
-/// Shows how many times as long two threads took one after the other as at once.
+/// Prints how many times as long two threads took one after the other as at the same time.
 pub fn show_gain<R: Eprint>(rt: &R, gain: u64) {
     let whole = gain / 100;
     let tenth = gain % 100 / 10;

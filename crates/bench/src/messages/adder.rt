@@ -1,4 +1,4 @@
-//! The actor that is measured: it asks for nothing, or tells itself the value of each message.
+//! The actor that is measured: it has no effects, or sends itself the value of each message.
 
 ghost use Rattle.std.specs.Prelude.{◌≡◌, pos};
 
@@ -6,7 +6,7 @@ use crate::messages::measured::ACTOR;
 use mb_actor::{Actor, Answer, Message, Outbox};
 use mb_msg::Cause;
 
-/// Adds up the values that it gets, held at the ends of 64 bits, and may tell itself each of them.
+/// Adds up the values that it receives, saturating at the ends of 64 bits, and may send itself each of them.
 #[derive(Drop)]
 pub struct Adder {
     sum: i64,
@@ -14,7 +14,7 @@ pub struct Adder {
 }
 
 impl Adder {
-    /// An actor that got nothing yet, and asks for nothing.
+    /// An actor to which nothing came yet, without effects.
     pub fn new() -> Self
         ensures { result.sum ≡ pos 0 }
     {
@@ -24,7 +24,7 @@ impl Adder {
         }
     }
 
-    /// An actor that got nothing yet, and tells itself each value.
+    /// An actor to which nothing came yet, which sends itself each value.
     pub fn telling() -> Self
         ensures { result.sum ≡ pos 0 }
     {

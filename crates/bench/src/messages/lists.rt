@@ -1,4 +1,4 @@
-//! What a system list costs: nodes go round, from a chain into a list and out of it by a drain.
+//! Benchmark of a system list: nodes are pushed and drained again and again.
 
 ghost use Rattle.std.specs.Prelude.{◌≡◌, ◌+◌, ◌*◌, ◌%◌, ◌^◌, [], length, false, IfOk};
 ghost use Rattle.mb_syslist.specs.MessageList.{with_last};
@@ -9,19 +9,18 @@ use mb_syslist::{Chain, Node, SysList};
 use std::alloc::{AllocError, AllocGlobal};
 use std::time::{Clock, Duration};
 
-/// How many nodes one drain gives.
 const NODES: u32 = 16;
 
-/// What the rounds came to, and what they took.
+/// What the rounds came to, and their time.
 #[derive(Clone, Copy)]
 pub struct Listed {
-    /// How many messages were pushed, and given by a drain.
+    /// How many messages were pushed and drained.
     pub given: u64,
     /// The time that it took; `None` where the system does not give it.
     pub time: Option<Duration>,
 }
 
-/// Pushes sixteen nodes and drains them, so many times. The error is that the memory for the nodes was refused.
+/// Pushes sixteen nodes and drains them, `rounds` times. The only error: memory for the nodes was refused.
 pub fn measure_lists<R: Clock + AllocGlobal>(rt: &R, rounds: u32) -> Result<Listed, AllocError>
     ensures { IfOk result (λ listed. listed.given ≡ 16 * rounds) }
 {
@@ -38,7 +37,6 @@ pub fn measure_lists<R: Clock + AllocGlobal>(rt: &R, rounds: u32) -> Result<List
     })
 }
 
-/// A chain of sixteen nodes.
 #[tactic(auto, using(crate::proofs::Numbers::as_many_numbered))]
 fn nodes<R: AllocGlobal>(rt: &R) -> Result<Chain, AllocError>
     ensures { IfOk result (λ chain. length chain ≡ 16) }

@@ -1,4 +1,4 @@
-//! The run that is measured.
+//! The run of a cell that is measured.
 
 ghost use Rattle.std.specs.Prelude.{◌≡◌, ◌↔◌, ◌+◌, ◌<◌, ◌≤◌, [], ◌++◌, length, false, pos, IfOk, OnOk, IsErrOf};
 ghost use Rattle.mb_actor.specs.Behaviour.{AllowsSame};
@@ -13,13 +13,12 @@ use crate::messages::memory::Memory;
 use crate::status::open;
 use mb_actor::{Actor, Behaviours};
 use mb_cell::Cell;
-use mb_journal::{ReadyError, Strategy};
-use mb_msg::{ActorId, Body, Envelope, SenderId, SysMsg, limits};
+use mb_journal::ReadyError;
+use mb_msg::{ActorId, Body, Envelope, SenderId, Strategy, SysMsg, limits};
 use std::alloc::AllocGlobal;
 use std::rt::Files;
 use std::time::{Clock, Duration};
 
-/// The number of the actor.
 pub const ACTOR: ActorId = ActorId(1);
 
 /// The number of the guardian, its parent.
@@ -28,17 +27,16 @@ const GUARDIAN: ActorId = ActorId(0);
 /// How many actors there are, the guardian among them.
 const ACTORS: u32 = 2;
 
-/// The number of the sender.
 const SENDER: SenderId = SenderId(limits::ACTORS);
 
-/// What a run came to, and what it took. A figure is `None` where the system does not give it.
+/// What a run came to, with its time and memory. A figure is `None` where the system does not give it.
 #[derive(Clone, Copy)]
 pub struct Measured {
-    /// How many messages the journal has as handled.
+    /// How many handled messages the journal has.
     pub handled: usize,
     /// The actor's content after them.
     pub state: i64,
-    /// How many acts were asked for meanwhile.
+    /// How many acts there were.
     pub acts: u64,
     /// The time that handling all of them took.
     pub time: Option<Duration>,
@@ -46,10 +44,10 @@ pub struct Measured {
     pub memory: Option<Memory>,
 }
 
-/// Starts the actor, gives it so many messages, and measures how these are handled.
+/// Starts the actor, gives it `count` messages, and measures handling them.
 ///
-/// The faults are `NoMemory`, and `JournalFull` where the messages and the start are more than 2^32 - 1 entries: then no
-/// answer is `Ok`.
+/// The errors are `NoMemory`, and `JournalFull` where the messages and the start are more than 2^32 - 1 entries: then
+/// the answer is never `Ok`.
 pub fn measure<R: Clock + Files + AllocGlobal, A: Actor, K: Behaviours>(
     rt: &R,
     actor: A,
@@ -88,7 +86,7 @@ fn measure_in<R: Clock + Files + AllocGlobal, A: Actor, K: Behaviours>(
     measure_handling(rt, cell, count)
 }
 
-/// Gives the cell so many messages, and measures how these are handled.
+/// Gives the cell `count` messages, and measures handling them.
 fn measure_handling<R: Clock + Files + AllocGlobal, A: Actor, K: Behaviours>(
     rt: &R,
     cell: &mut Cell<A, K>,
@@ -173,8 +171,8 @@ fn start<A: Actor, K: Behaviours>(cell: &mut Cell<A, K>) -> Result<(), ReadyErro
     Ok(())
 }
 
-/// The loop that is measured: so many messages, each with room made for it, handled, and its acts taken. It answers how
-/// many acts there were.
+/// The loop that is measured: for each of `count` messages it makes room, handles it, and takes its acts. It answers
+/// how many acts there were.
 fn handle_all<A: Actor, K: Behaviours>(cell: &mut Cell<A, K>, count: u32) -> Result<u64, ReadyError>
     requires idle { IsIdle cell.old }
     requires the_actor { cell.old.who.this ≡ record { 0 = 1 } }
@@ -195,7 +193,7 @@ fn handle_all<A: Actor, K: Behaviours>(cell: &mut Cell<A, K>, count: u32) -> Res
     Ok(acts)
 }
 
-/// Takes the acts that the cell asks for; answers how many there were.
+/// Takes the acts of the cell; answers how many there were.
 fn take_acts<A: Actor, K: Behaviours>(cell: &mut Cell<A, K>) -> u64
     ensures { cell.new ≡ record cell.old { acts = [] } }
 {
@@ -206,7 +204,6 @@ fn take_acts<A: Actor, K: Behaviours>(cell: &mut Cell<A, K>) -> u64
     acts
 }
 
-/// The envelope of this number.
 fn envelope(number: u32) -> Envelope
     ensures { result ≡ record { by = record { 0 = 64 }; number = number; to = record { 0 = 1 }; body = Body.User 1 (pos 7) } }
 {

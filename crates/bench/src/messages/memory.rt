@@ -1,4 +1,4 @@
-//! How much memory the process has.
+//! Reading how much memory the process has.
 
 ghost use Rattle.std.specs.Prelude.{◌≡◌, ◌-◌};
 
@@ -6,7 +6,7 @@ use std::alloc::AllocGlobal;
 use std::fs;
 use std::rt::Files;
 
-/// The memory of the process, in bytes, as Linux tells of it.
+/// The memory of the process, in bytes, by Linux's `/proc`.
 #[derive(Clone, Copy)]
 pub struct Memory {
     /// What it has now (`VmRSS`).
@@ -22,7 +22,7 @@ impl Memory {
         Memory::said_in(text.as_bytes())
     }
 
-    /// The memory of which the text tells.
+    /// The memory that the text of `/proc/self/status` says.
     fn said_in(text: &[u8]) -> Option<Memory> {
         Some(Memory {
             now: figure(text, b"VmRSS:")?,
@@ -46,7 +46,7 @@ impl Memory {
     }
 }
 
-/// The bytes that stand in kilobytes behind the name.
+/// The kilobytes behind the name, as bytes.
 fn figure(text: &[u8], name: &[u8]) -> Option<u64> {
     let mut named: usize = 0;
     let mut kilobytes: u64 = 0;
@@ -61,7 +61,7 @@ fn figure(text: &[u8], name: &[u8]) -> Option<u64> {
     None
 }
 
-/// The number with this digit behind it, or as it is where the byte is none.
+/// The number with this digit appended, or as it is where the byte is no digit.
 fn with_digit(number: u64, byte: u8) -> u64 {
     if byte.is_ascii_digit() {
         number

@@ -1,4 +1,4 @@
-//! What an outbox costs: a message is told, handed out, and the outbox is made ready for the next call.
+//! Benchmark of an outbox: an effect is asked for and read, and the outbox is made ready for the next call.
 
 ghost use Rattle.std.specs.Prelude.{◌≡◌};
 
@@ -8,20 +8,19 @@ use mb_msg::ActorId;
 use std::alloc::AllocGlobal;
 use std::time::{Clock, Duration};
 
-/// How many actors there are.
 const ACTORS: u32 = 3;
 
-/// What the rounds came to, and what they took.
+/// What the rounds came to, and their time.
 #[derive(Clone, Copy)]
-pub struct Told {
-    /// How many effects were handed out.
+pub struct OutboxCost {
+    /// How many effects were read.
     pub told: usize,
     /// The time that it took; `None` where the system does not give it.
     pub time: Option<Duration>,
 }
 
-/// Tells one message, hands it out and clears the outbox, so many times.
-pub fn measure_outbox<R: Clock + AllocGlobal>(rt: &R, rounds: u32) -> Told
+/// Asks for a tell, reads it and clears the outbox, `rounds` times.
+pub fn measure_outbox<R: Clock + AllocGlobal>(rt: &R, rounds: u32) -> OutboxCost
     ensures { result.told ≡ rounds }
 {
     let mut outbox = Outbox::new(ACTORS, &Vec::new(rt.alloc()));
@@ -33,5 +32,5 @@ pub fn measure_outbox<R: Clock + AllocGlobal>(rt: &R, rounds: u32) -> Told
         outbox.settle();
     }
     let time = since(rt, begin);
-    Told { told, time }
+    OutboxCost { told, time }
 }

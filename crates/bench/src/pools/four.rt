@@ -1,12 +1,12 @@
-//! Four ends on four threads.
+//! Benchmark of a pool with four ends on four threads.
 ghost use Rattle.std.specs.Prelude.{All, IfSome};
 ghost use Rattle.bench.specs.Ready.{AreReady, IsReady};
 
-use crate::pools::shown::{Figure, Made};
+use crate::pools::shown::{Made, PoolFigure};
 use crate::pools::worker::{Worker, work};
 use crate::times::ROUNDS;
-use mb_desk::Desk;
 use mb_gate::Gates;
+use mb_testkit::StubHome;
 use std::sync::Wait;
 use std::thread::{Threads, join};
 use std::time::Clock;
@@ -16,7 +16,7 @@ type Pair = (Worker, Worker);
 /// Each of the last four of these workers pushes a claim and takes one.
 pub fn turns<R: Clock + Threads + Wait + Sync>(
     rt: &R,
-    gates: &Gates<Desk>,
+    gates: &Gates<StubHome>,
     all: &mut Vec<Worker>,
 ) -> Made
     requires { All (IsReady gates.now) all.old.items }
@@ -27,7 +27,7 @@ pub fn turns<R: Clock + Threads + Wait + Sync>(
 }
 
 /// The last two of these workers, if there are two.
-fn two_of(gates: &Gates<Desk>, all: &mut Vec<Worker>) -> Option<Pair>
+fn two_of(gates: &Gates<StubHome>, all: &mut Vec<Worker>) -> Option<Pair>
     requires { All (IsReady gates.now) all.old.items }
     ensures rest { All (IsReady gates.now) all.new.items }
     ensures pair { IfSome result (AreReady gates.now) }
@@ -40,10 +40,10 @@ fn two_of(gates: &Gates<Desk>, all: &mut Vec<Worker>) -> Option<Pair>
 
 fn rounds<R: Clock + Threads + Wait + Sync>(
     rt: &R,
-    gates: &Gates<Desk>,
+    gates: &Gates<StubHome>,
     mut first: Pair,
     mut second: Pair,
-) -> Figure
+) -> PoolFigure
     requires { AreReady gates.now first × AreReady gates.now second }
 {
     for _round in 0..ROUNDS {
@@ -52,14 +52,14 @@ fn rounds<R: Clock + Threads + Wait + Sync>(
     figure_of(&first).with(figure_of(&second))
 }
 
-fn figure_of(pair: &Pair) -> Figure {
-    Figure::of(&pair.0).with(Figure::of(&pair.1))
+fn figure_of(pair: &Pair) -> PoolFigure {
+    PoolFigure::of(&pair.0).with(PoolFigure::of(&pair.1))
 }
 
 /// The pairs of workers after one more round.
 fn four<R: Clock + Threads + Wait + Sync>(
     rt: &R,
-    gates: &Gates<Desk>,
+    gates: &Gates<StubHome>,
     first: Pair,
     second: Pair,
 ) -> (Pair, Pair)
@@ -79,7 +79,7 @@ fn four<R: Clock + Threads + Wait + Sync>(
     )
 }
 
-fn two<R: Clock + Threads + Wait + Sync>(rt: &R, gates: &Gates<Desk>, pair: Pair) -> Pair
+fn two<R: Clock + Threads + Wait + Sync>(rt: &R, gates: &Gates<StubHome>, pair: Pair) -> Pair
     requires { AreReady gates.now pair }
     ensures { AreReady gates.now result }
 {

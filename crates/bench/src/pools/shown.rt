@@ -1,38 +1,38 @@
-//! How a figure is printed.
+//! Printing a figure.
 use crate::pools::worker::Worker;
 use crate::times::ROUNDS;
 use crate::told::tell;
 use std::io;
 
-/// How often the work was done in the last round by all ends together, and how long a round took: of each end the time in the
-/// middle, by its own clock; of these the least and the most.
+/// How often the work was done in the last round by all ends together, and how long a round took: of each end the
+/// median by its own clock; of these the least and the greatest.
 #[derive(Drop)]
-pub struct Figure {
+pub struct PoolFigure {
     pub done: u64,
     pub least: u64,
     pub most: u64,
 }
 
-/// A figure, or that memory was refused.
-pub type Made = Option<Figure>;
+/// A figure; `None` where memory was refused.
+pub type Made = Option<PoolFigure>;
 
 /// How often an end does the work in one round.
 pub const TURNS: u64 = 1_000_000;
 
-impl Figure {
-    /// Of one end.
-    pub fn of(worker: &Worker) -> Figure {
+impl PoolFigure {
+    /// The figure of one end.
+    pub fn of(worker: &Worker) -> PoolFigure {
         let median = worker.times.median();
-        Figure {
+        PoolFigure {
             done: worker.done,
             least: median,
             most: median,
         }
     }
 
-    /// Of these ends and those.
-    pub fn with(self, other: Figure) -> Figure {
-        Figure {
+    /// The figure of these ends and those.
+    pub fn with(self, other: PoolFigure) -> PoolFigure {
+        PoolFigure {
             done: self.done.wrapping_add(other.done),
             least: self.least.min(other.least),
             most: self.most.max(other.most),
@@ -41,7 +41,7 @@ impl Figure {
 }
 
 pub fn show<R: Print + Eprint>(rt: &R, what: &str, made: Made) -> io::Result<()> {
-    let Some(Figure { done, least, most }) = made else {
+    let Some(PoolFigure { done, least, most }) = made else {
         return println!(rt; "{what}: no memory");
     };
     let (least, least_tenth) = each(least);
@@ -55,7 +55,7 @@ pub fn show<R: Print + Eprint>(rt: &R, what: &str, made: Made) -> io::Result<()>
     )
 }
 
-/// The nanoseconds of one turn, and the tenths.
+/// The nanoseconds and tenths of one push and take.
 fn each(round: u64) -> (u64, u64) {
     (round / TURNS, round % TURNS * 10 / TURNS)
 }

@@ -1,18 +1,18 @@
 //! A worker of a pool.
 ghost use Rattle.std.specs.Prelude.{◌≡◌, ◌<◌, ◌≤◌, All, IfSome, Some};
-ghost use Rattle.mb_gate.specs.Names.{gates_id, pass_id, actors_of};
+ghost use Rattle.mb_gate.specs.Accessors.{gates_id, pass_id, actors_of};
 ghost use Rattle.mb_gate.specs.Untouched.{origin_of};
 ghost use Rattle.mb_pool.specs.Moves.{given_back};
-ghost use Rattle.mb_pool.specs.Places.{Way, gates_of};
-ghost use Rattle.mb_desk.specs.declared.desk.Desk.{Desk};
+ghost use Rattle.mb_pool.specs.Places.{PoolEndpoint, gates_of};
+ghost use Rattle.mb_testkit.specs.declared.stub_home.StubHome.{StubHome};
 ghost use Rattle.bench.specs.Ready.{IsReady};
 
 use crate::pools::shown::TURNS;
 use crate::times::Times;
-use mb_desk::{Desk, attempt, give};
-use mb_gate::{Claim, Gates, Pass, Resident};
-use mb_msg::ActorId;
-use mb_pool::{Kind, Pool, Refused, WorkerEnd};
+use mb_gate::{Claim, Gates, MailboxState, Pass};
+use mb_msg::{ActorId, PoolKind};
+use mb_pool::{ClaimRefused, Pool, PoolEnd};
+use mb_testkit::{StubHome, attempt, give};
 use std::alloc::Global;
 use std::sync::Wait;
 use std::time::{Clock, Instant};
@@ -21,8 +21,8 @@ use std::time::{Clock, Instant};
 /// long the rounds took.
 #[derive(Drop)]
 pub struct Worker {
-    pub end: WorkerEnd<Desk>,
-    pub pass: Pass<Desk>,
+    pub end: PoolEnd<StubHome>,
+    pub pass: Pass<StubHome>,
     pub actor: ActorId,
     pub done: u64,
     pub times: Times,
@@ -31,9 +31,9 @@ pub struct Worker {
 /// The workers of a new pool of this kind, each with an actor of its own.
 pub fn workers(
     alloc: Global,
-    gates: &Gates<Desk>,
-    pass: &mut Pass<Desk>,
-    kind: Kind,
+    gates: &Gates<StubHome>,
+    pass: &mut Pass<StubHome>,
+    kind: PoolKind,
     count: u32,
 ) -> Option<Vec<Worker>>
     requires ours { pass_id pass.old ≡ gates_id gates.now }
@@ -46,17 +46,17 @@ pub fn workers(
     workers_of(alloc, gates, pass, &mut ends, count)
 }
 
-/// So many workers, with the last of these ends.
+/// This many workers, with the last of these ends.
 fn workers_of(
     alloc: Global,
-    gates: &Gates<Desk>,
-    pass: &mut Pass<Desk>,
-    ends: &mut Vec<WorkerEnd<Desk>>,
+    gates: &Gates<StubHome>,
+    pass: &mut Pass<StubHome>,
+    ends: &mut Vec<PoolEnd<StubHome>>,
     count: u32,
 ) -> Option<Vec<Worker>>
     requires ours { pass_id pass.old ≡ gates_id gates.now }
     requires there { count ≤ actors_of gates.now }
-    requires these { All (λ (w : Way Desk). gates_of w ≡ Some (origin_of gates.now)) ends.old.items }
+    requires these { All (λ (w : PoolEndpoint StubHome). gates_of w ≡ Some (origin_of gates.now)) ends.old.items }
     ensures { IfSome result (λ workers. All (IsReady gates.now) workers.items) }
 {
     let Ok(mut workers) = Vec::with_capacity(alloc, ends.len()) else {
@@ -75,9 +75,9 @@ fn workers_of(
 }
 
 fn worker_of(
-    gates: &Gates<Desk>,
-    pass: &mut Pass<Desk>,
-    end: WorkerEnd<Desk>,
+    gates: &Gates<StubHome>,
+    pass: &mut Pass<StubHome>,
+    end: PoolEnd<StubHome>,
     actor: ActorId,
 ) -> Worker
     requires ours { pass_id pass.old ≡ gates_id gates.now }
@@ -95,8 +95,8 @@ fn worker_of(
     }
 }
 
-/// The worker after one more round, in which it pushed its actor's claim and took one again and again.
-pub fn work<R: Clock + Wait>(rt: &R, gates: &Gates<Desk>, mut worker: Worker) -> Worker
+/// The worker after one more round, in which it pushed its actor's claim and took one repeatedly.
+pub fn work<R: Clock + Wait>(rt: &R, gates: &Gates<StubHome>, mut worker: Worker) -> Worker
     requires { IsReady gates.now worker }
     ensures { IsReady gates.now result }
 {
@@ -106,11 +106,11 @@ pub fn work<R: Clock + Wait>(rt: &R, gates: &Gates<Desk>, mut worker: Worker) ->
     worker
 }
 
-fn turn_often<H: Resident, R: Wait>(
+fn turn_often<H: MailboxState, R: Wait>(
     rt: &R,
     gates: &Gates<H>,
     pass: &mut Pass<H>,
-    end: &mut WorkerEnd<H>,
+    end: &mut PoolEnd<H>,
     actor: ActorId,
 ) -> u64
     requires ours { pass_id pass.old ≡ gates_id gates.now }
@@ -141,11 +141,11 @@ fn turn_often<H: Resident, R: Wait>(
     done
 }
 
-/// The claim that comes back.
-fn back<H>(refused: Refused<H>) -> Claim<H>
+/// The claim that was refused.
+fn back<H>(refused: ClaimRefused<H>) -> Claim<H>
     ensures { result ≡ given_back refused }
 {
     match refused {
-        Refused::Full(claim) | Refused::NoMemory(claim) => claim,
+        ClaimRefused::Full(claim) | ClaimRefused::NoMemory(claim) => claim,
     }
 }

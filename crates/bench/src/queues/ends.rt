@@ -1,17 +1,17 @@
-//! The two ends of a queue, and how much goes from one to the other.
+//! The two ends of a queue, as traits, and moving items from one to the other.
 use std::sync::Wait;
 use std::thread;
 use std::thread::Threads;
 
-/// An end that envelopes are put into.
+/// An end to push envelopes to.
 pub trait Puts {
-    /// Whether the envelope of this number was put in.
+    /// Pushes the envelope of this number; whether it was done.
     fn put<R: Wait>(&mut self, rt: &R, number: u64) -> bool;
 }
 
-/// An end that envelopes are taken from.
+/// An end to take envelopes from.
 pub trait Takes {
-    /// Whether there was one.
+    /// Takes an envelope; whether there was one.
     fn take<R: Wait>(&mut self, rt: &R) -> bool;
 }
 
@@ -22,7 +22,7 @@ pub struct Ends<P, T> {
     pub take: T,
 }
 
-/// Each put with its take, on this thread: how many were taken.
+/// Each push with its take, on this thread: how many were taken.
 pub(crate) fn alone<R: Wait, P: Puts, T: Takes>(rt: &R, ends: &mut Ends<P, T>, rounds: u64) -> u64 {
     let mut taken = 0u64;
     for number in 0..rounds {
@@ -32,7 +32,7 @@ pub(crate) fn alone<R: Wait, P: Puts, T: Takes>(rt: &R, ends: &mut Ends<P, T>, r
     taken
 }
 
-/// The puts on a thread of their own, and the takes on this one: how many were taken.
+/// The pushes on a thread of their own, and the takes on this one: how many were taken.
 pub(crate) fn paired<R: Threads + Wait + Sync, P: Puts + Send, T: Takes + Send>(
     rt: &R,
     ends: &mut Ends<P, T>,
@@ -48,7 +48,7 @@ pub(crate) fn paired<R: Threads + Wait + Sync, P: Puts + Send, T: Takes + Send>(
     .1
 }
 
-/// Puts so many in, each as often as it takes.
+/// Pushes `rounds` envelopes, each until it succeeds.
 fn put_all<R: Wait, P: Puts>(rt: &R, end: &mut P, rounds: u64) {
     for number in 0..rounds {
         put_at_last(rt, end, number);
@@ -64,7 +64,7 @@ fn put_at_last<R: Wait, P: Puts>(rt: &R, end: &mut P, number: u64) {
     }
 }
 
-/// Takes until it has so many.
+/// Takes until there were `rounds`.
 fn take_all<R: Wait, T: Takes>(rt: &R, end: &mut T, rounds: u64) -> u64 {
     let mut taken = 0u64;
     for _ in rt.forever() {

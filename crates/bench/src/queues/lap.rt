@@ -1,4 +1,4 @@
-//! How queues are timed.
+//! Timing queues.
 use crate::clock::elapsed;
 use crate::queues::ends::{Ends, Puts, Takes, alone, paired};
 use crate::times::Times;
@@ -8,23 +8,23 @@ use std::sync::Wait;
 use std::thread::Threads;
 use std::time::{Clock, Instant};
 
-/// How many laps are timed, how many puts and takes a lap has, and whether the puts have a thread of their own.
+/// How many laps are timed, how many pushes and takes a lap has, and whether the pushes have a thread of their own.
 #[derive(Clone, Copy)]
-pub struct Course {
+pub struct BenchCase {
     pub laps: u64,
     pub rounds: u64,
     pub is_paired: bool,
 }
 
-/// On one thread a lap is so short that little falls into it.
-pub const ALONE: Course = Course {
+/// On one thread a lap is so short that it is seldom interrupted.
+pub const ALONE: BenchCase = BenchCase {
     laps: 400,
     rounds: 1_000,
     is_paired: false,
 };
 
-/// A lap of two threads starts one, and is so long that this counts for little.
-pub const PAIRED: Course = Course {
+/// A lap of two threads starts one of them, and is so long that this counts for little.
+pub const PAIRED: BenchCase = BenchCase {
     laps: 20,
     rounds: 50_000,
     is_paired: true,
@@ -45,22 +45,20 @@ impl Laps {
         }
     }
 
-    /// One more lap.
     pub fn add(&mut self, taken: u64, time: u64) {
         self.taken = self.taken.wrapping_add(taken);
         self.times.put(time);
     }
 
-    /// The median, for one of so many.
+    /// The median of a lap, divided by `rounds`.
     pub fn each(&self, rounds: u64) -> u64 {
         self.times.median().checked_div(rounds).unwrap_or(0)
     }
 }
 
-/// Times one lap.
 fn time<R, P: Puts + Send, T: Takes + Send>(
     rt: &R,
-    course: Course,
+    course: BenchCase,
     ends: &mut Ends<P, T>,
     laps: &mut Laps,
 )
@@ -76,10 +74,10 @@ where
     laps.add(taken, elapsed(rt, begin));
 }
 
-/// Times a queue of a mailbox and a plain one in turn, and tells both.
+/// Times a mailbox queue and a plain one alternately, and prints both.
 pub(crate) fn compare<R, P, T, Q, U>(
     rt: &R,
-    course: Course,
+    course: BenchCase,
     what: &str,
     ours: &mut Ends<P, T>,
     plain: &mut Ends<Q, U>,
@@ -102,7 +100,7 @@ where
 
 fn tell_both<R: Print + Eprint>(
     rt: &R,
-    course: Course,
+    course: BenchCase,
     what: &str,
     ours: &Laps,
     plain: &Laps,
@@ -115,10 +113,10 @@ fn tell_both<R: Print + Eprint>(
     )
 }
 
-/// Times one queue, and tells it.
+/// Times one queue, and prints it.
 pub(crate) fn measure<R, P: Puts + Send, T: Takes + Send>(
     rt: &R,
-    course: Course,
+    course: BenchCase,
     what: &str,
     ends: &mut Ends<P, T>,
 ) -> io::Result<()>
@@ -137,10 +135,10 @@ where
     )
 }
 
-/// Times one queue, the puts of each lap apart from its takes, and tells both.
+/// Times one queue, the pushes of each lap apart from its takes, and prints both.
 pub(crate) fn measure_apart<R: Clock + Wait + Print + Eprint, P: Puts, T: Takes>(
     rt: &R,
-    course: Course,
+    course: BenchCase,
     what: &str,
     ends: &mut Ends<P, T>,
 ) -> io::Result<()> {
@@ -162,14 +160,13 @@ pub(crate) fn measure_apart<R: Clock + Wait + Print + Eprint, P: Puts, T: Takes>
     )
 }
 
-/// So many puts.
 pub(crate) fn put_some<R: Wait, P: Puts>(rt: &R, end: &mut P, rounds: u64) {
     for number in 0..rounds {
         let _ = end.put(rt, number);
     }
 }
 
-/// So many takes: how many gave something.
+/// Takes `rounds` times: how many takes gave something.
 fn take_some<R: Wait, T: Takes>(rt: &R, end: &mut T, rounds: u64) -> u64 {
     let mut taken = 0u64;
     for _ in 0..rounds {

@@ -1,4 +1,4 @@
-//! The kit's plain queues: a reference is either end.
+//! The plain queues of `crossbeam_queue`: a reference is either end.
 use crate::queues::ends::{Puts, Takes};
 use crate::queues::sender::nth;
 use crossbeam_queue::{ArrayQueue, SegQueue};

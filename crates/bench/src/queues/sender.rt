@@ -1,4 +1,4 @@
-//! The sender of every queue here.
+//! The sender of the mailbox queues.
 ghost use Rattle.std.specs.Prelude.{◌≡◌};
 
 use crate::queues::ends::Puts;
@@ -6,10 +6,8 @@ use mb_msg::{ActorId, Body, Envelope, SenderId};
 use mb_queue::SendPass;
 use std::sync::Wait;
 
-/// The one sender.
 pub const SENDER: SenderId = SenderId(1);
 
-/// The one receiver.
 pub const RECEIVER: ActorId = ActorId(2);
 
 /// The `number`th envelope, of four kinds in turn.
@@ -29,20 +27,20 @@ pub(crate) fn nth(number: u64) -> Envelope
 
 /// The send pass of that sender, to that receiver.
 #[derive(Drop)]
-pub struct Sender {
+pub struct QueueSender {
     pass: SendPass,
     ghost addressed: { (pass.by ≡ 1) × (pass.queue.to ≡ 2) },
 }
 
-impl Sender {
-    pub(crate) fn new(pass: SendPass) -> Sender
+impl QueueSender {
+    pub(crate) fn new(pass: SendPass) -> QueueSender
         requires { (pass.by ≡ 1) × (pass.queue.to ≡ 2) }
     {
-        Sender { pass }
+        QueueSender { pass }
     }
 }
 
-impl Puts for Sender {
+impl Puts for QueueSender {
     #[inline(always)]
     fn put<R: Wait>(&mut self, rt: &R, number: u64) -> bool {
         self.pass.push(rt, nth(number)).is_ok()

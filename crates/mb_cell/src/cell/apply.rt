@@ -1,10 +1,10 @@
-//! Which rule a message follows.
+//! Applying an envelope: which rule it follows.
 
 ghost use Rattle.std.specs.Prelude.{◌≡◌};
 ghost use Rattle.mb_status.specs.Mailbox.{word_of};
 ghost use Rattle.mb_journal.specs.Lawful.{IsLawful};
 ghost use Rattle.mb_cell.specs.MayHandle.{MayHandle};
-ghost use Rattle.mb_cell.specs.Seen.{TakesEnvelope};
+ghost use Rattle.mb_cell.specs.CellView.{TakesEnvelope};
 
 use crate::cell::Cell;
 use mb_actor::{Actor, Behaviours, Message};
@@ -12,8 +12,8 @@ use mb_msg::{Body, Envelope};
 use mb_status::Status;
 
 impl<A: Actor, K: Behaviours> Cell<A, K> {
-    /// Takes an envelope: the actor handles it, or its cell does. `reading` is the status word by which the caller knows
-    /// that envelopes may be handled. It takes no memory.
+    /// Applies an envelope: the actor handles it, or its cell does. `reading` is the status by which the caller knows
+    /// that envelopes may be handled. This takes no memory.
     pub fn apply_envelope(&mut self, reading: Status, envelope: Envelope)
         requires may_handle { MayHandle self.old envelope (word_of reading) }
         ensures taken { TakesEnvelope self.old self.new envelope (word_of reading) }
@@ -29,7 +29,7 @@ impl<A: Actor, K: Behaviours> Cell<A, K> {
             Body::PoisonPill => self.apply_poison_pill(reading, envelope),
             Body::Kill => self.apply_kill(reading, envelope),
             Body::Terminated(id) => {
-                if self.books.is_due(id) {
+                if self.cell_state.is_due(id) {
                     self.apply_message(reading, envelope, Message::Terminated(id));
                 } else {
                     self.drop_envelope(reading, envelope);

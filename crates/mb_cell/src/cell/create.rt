@@ -1,8 +1,9 @@
+//! Applying `Create`.
 ghost use Rattle.std.specs.Prelude.{◌≡◌, false};
 ghost use Rattle.mb_actor.specs.declared.phase.Phase.TheVariants.{Fresh};
 ghost use Rattle.mb_journal.specs.Lawful.{IsLawful};
 ghost use Rattle.mb_journal.specs.Life.{phase as phase_of};
-ghost use Rattle.mb_cell.specs.Seen.{MayTake, TakesSystem};
+ghost use Rattle.mb_cell.specs.CellView.{MayTake, TakesSystem};
 
 use crate::cell::Cell;
 use mb_actor::{Actor, Behaviours};
@@ -17,13 +18,13 @@ impl<A: Actor, K: Behaviours> Cell<A, K> {
         ensures lawful { IsLawful self.new.who (K.gives self.new.who.this.0) self.new.journal }
     {
         let Some(actor) = &mut self.actor else {
-            self.books.create_guardian(&self.place, number);
+            self.cell_state.create_guardian(&self.place, number);
             self.journal.push_system(number, SysMsg::Create, None, &[]);
             return;
         };
         let answer = actor.start(&mut self.outbox);
         let effects = self.outbox.effects();
-        self.books.create(&self.place, answer, effects, number);
+        self.cell_state.create(&self.place, answer, effects, number);
         self.journal
             .push_system(number, SysMsg::Create, Some(answer), effects);
         self.outbox.settle();

@@ -1,9 +1,10 @@
+//! Applying `Died` where the actor goes on.
 ghost use Rattle.std.specs.Prelude.{◌≡◌, ◌&&◌, false};
 ghost use Rattle.mb_actor.specs.declared.phase.Phase.TheVariants.{Fresh, Ending};
 ghost use Rattle.mb_journal.specs.Lawful.{IsLawful};
 ghost use Rattle.mb_journal.specs.Life.{phase as phase_of, children, is_alone};
 ghost use Rattle.mb_journal.specs.Phase.{phase_is};
-ghost use Rattle.mb_cell.specs.Seen.{MayTake, TakesSystem};
+ghost use Rattle.mb_cell.specs.CellView.{MayTake, TakesSystem};
 
 use crate::cell::Cell;
 use mb_actor::{Actor, Behaviours};
@@ -19,7 +20,7 @@ impl<A: Actor, K: Behaviours> Cell<A, K> {
         ensures taken { TakesSystem self.old self.new number (SysMsg.Died id) }
         ensures lawful { IsLawful self.new.who (K.gives self.new.who.this.0) self.new.journal }
     {
-        self.books.died(&self.place, id, number);
+        self.cell_state.died(&self.place, id, number);
         self.journal
             .push_system(number, SysMsg::Died(id), None, &[]);
     }

@@ -1,17 +1,17 @@
-//! Which rule a system message follows.
+//! Applying a system message: which rule it follows.
 
 ghost use Rattle.std.specs.Prelude.{◌≡◌, false};
 ghost use Rattle.mb_journal.specs.Aside.{sets_aside};
 ghost use Rattle.mb_journal.specs.Lawful.{IsLawful};
-ghost use Rattle.mb_cell.specs.Seen.{MayTake, TakesSystem};
+ghost use Rattle.mb_cell.specs.CellView.{MayTake, TakesSystem};
 
 use crate::cell::Cell;
 use mb_actor::{Actor, Behaviours};
 use mb_msg::{ActorId, Cause, SysMsg};
 
 impl<A: Actor, K: Behaviours> Cell<A, K> {
-    /// Takes a system message: it is applied, or set aside. `number` is the next new one, or that of the message that
-    /// goes before all others. It takes no memory.
+    /// Applies a system message, or sets it aside. `number` is the next new one, or that of `next_front`. This takes no
+    /// memory.
     pub fn apply_system(&mut self, number: u64, message: SysMsg)
         requires may_take { MayTake self.old number message }
         ensures taken { TakesSystem self.old self.new number message }
@@ -62,7 +62,7 @@ impl<A: Actor, K: Behaviours> Cell<A, K> {
         }
     }
 
-    /// `Resume`: nothing to an actor that was not started; one whose last start or restart failed is started afresh.
+    /// `Resume`: nothing to an actor that was not started; one whose last start or restart failed is restarted.
     fn dispatch_resume(&mut self, number: u64, of_failure: bool)
         requires may_take { MayTake self.old number (SysMsg.Resume of_failure) }
         requires applied { sets_aside self.old.who self.old.journal (SysMsg.Resume of_failure) ≡ false }

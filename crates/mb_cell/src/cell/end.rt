@@ -1,3 +1,4 @@
+//! Applying the message with which an actor ends.
 ghost use Rattle.std.specs.Prelude.{◌≡◌, ◌&&◌, not, false, true};
 ghost use Rattle.mb_actor.specs.declared.phase.Phase.TheVariants.{Live, Ending};
 ghost use Rattle.mb_journal.specs.Aside.{sets_aside};
@@ -5,7 +6,7 @@ ghost use Rattle.mb_journal.specs.Identity.{is_guardian};
 ghost use Rattle.mb_journal.specs.Lawful.{IsLawful, was_live as was_live_at};
 ghost use Rattle.mb_journal.specs.Life.{phase as phase_of, children, is_empty, is_alone};
 ghost use Rattle.mb_journal.specs.Phase.{phase_is};
-ghost use Rattle.mb_cell.specs.Seen.{MayTake, TakesSystem};
+ghost use Rattle.mb_cell.specs.CellView.{MayTake, TakesSystem};
 
 use crate::cell::Cell;
 use mb_actor::{Actor, Behaviours};
@@ -27,7 +28,7 @@ impl<A: Actor, K: Behaviours> Cell<A, K> {
         };
         actor.stop(&mut self.outbox);
         let effects = self.outbox.effects();
-        self.books.end_at_once(&self.place, effects, number);
+        self.cell_state.end_at_once(&self.place, effects, number);
         self.journal
             .push_system(number, SysMsg::Terminate, None, effects);
         self.outbox.clear();
@@ -44,7 +45,7 @@ impl<A: Actor, K: Behaviours> Cell<A, K> {
         ensures taken { TakesSystem self.old self.new number SysMsg.Terminate }
         ensures lawful { IsLawful self.new.who (K.gives self.new.who.this.0) self.new.journal }
     {
-        self.books.end_at_once(&self.place, &[], number);
+        self.cell_state.end_at_once(&self.place, &[], number);
         self.journal
             .push_system(number, SysMsg::Terminate, None, &[]);
     }
@@ -64,7 +65,7 @@ impl<A: Actor, K: Behaviours> Cell<A, K> {
         };
         actor.stop(&mut self.outbox);
         let effects = self.outbox.effects();
-        self.books.died_last(&self.place, id, effects, number);
+        self.cell_state.died_last(&self.place, id, effects, number);
         self.journal
             .push_system(number, SysMsg::Died(id), None, effects);
         self.outbox.clear();
@@ -79,7 +80,7 @@ impl<A: Actor, K: Behaviours> Cell<A, K> {
         ensures taken { TakesSystem self.old self.new number (SysMsg.Died id) }
         ensures lawful { IsLawful self.new.who (K.gives self.new.who.this.0) self.new.journal }
     {
-        self.books.died_last(&self.place, id, &[], number);
+        self.cell_state.died_last(&self.place, id, &[], number);
         self.journal
             .push_system(number, SysMsg::Died(id), None, &[]);
     }

@@ -1,9 +1,10 @@
+//! Applying `Terminate` to an actor with children.
 ghost use Rattle.std.specs.Prelude.{◌≡◌, false};
 ghost use Rattle.mb_actor.specs.declared.phase.Phase.TheVariants.{Ending};
 ghost use Rattle.mb_journal.specs.Lawful.{IsLawful};
 ghost use Rattle.mb_journal.specs.Life.{phase as phase_of, children, is_empty};
 ghost use Rattle.mb_journal.specs.Phase.{phase_is};
-ghost use Rattle.mb_cell.specs.Seen.{MayTake, TakesSystem};
+ghost use Rattle.mb_cell.specs.CellView.{MayTake, TakesSystem};
 
 use crate::cell::Cell;
 use mb_actor::{Actor, Behaviours};
@@ -18,7 +19,7 @@ impl<A: Actor, K: Behaviours> Cell<A, K> {
         ensures taken { TakesSystem self.old self.new number SysMsg.Terminate }
         ensures lawful { IsLawful self.new.who (K.gives self.new.who.this.0) self.new.journal }
     {
-        self.books.terminate(&self.place, number);
+        self.cell_state.terminate(&self.place, number);
         self.journal
             .push_system(number, SysMsg::Terminate, None, &[]);
     }

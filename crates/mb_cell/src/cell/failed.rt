@@ -1,3 +1,4 @@
+//! Applying `Failed`.
 ghost use Rattle.std.specs.Prelude.{◌≡◌, false, true};
 ghost use Rattle.mb_actor.specs.ActorList.{has};
 ghost use Rattle.mb_actor.specs.declared.phase.Phase.TheVariants.{Fresh};
@@ -5,7 +6,7 @@ ghost use Rattle.mb_journal.specs.Aside.{sets_aside};
 ghost use Rattle.mb_journal.specs.Lawful.{IsLawful};
 ghost use Rattle.mb_journal.specs.Life.{phase as phase_of, children};
 ghost use Rattle.mb_journal.specs.Phase.{phase_is};
-ghost use Rattle.mb_cell.specs.Seen.{MayTake, TakesSystem};
+ghost use Rattle.mb_cell.specs.CellView.{MayTake, TakesSystem};
 
 use crate::cell::Cell;
 use mb_actor::{Actor, Behaviours};
@@ -21,7 +22,7 @@ impl<A: Actor, K: Behaviours> Cell<A, K> {
         ensures taken { TakesSystem self.old self.new number (SysMsg.Failed child cause) }
         ensures lawful { IsLawful self.new.who (K.gives self.new.who.this.0) self.new.journal }
     {
-        self.books.supervise(&self.place, child, cause, number);
+        self.cell_state.supervise(&self.place, child, cause, number);
         self.journal
             .push_system(number, SysMsg::Failed(child, cause), None, &[]);
     }

@@ -1,9 +1,10 @@
+//! Applying an envelope that the actor handles.
 ghost use Rattle.std.specs.Prelude.{◌≡◌, [], ◌∷◌, Some};
 ghost use Rattle.mb_status.specs.Mailbox.{word_of};
 ghost use Rattle.mb_journal.specs.Incarnation.{body_messages};
 ghost use Rattle.mb_journal.specs.Lawful.{IsExpected, IsLawful, envelope_call};
 ghost use Rattle.mb_cell.specs.MayHandle.{MayHandle};
-ghost use Rattle.mb_cell.specs.Seen.{TakesEnvelope};
+ghost use Rattle.mb_cell.specs.CellView.{TakesEnvelope};
 
 use crate::cell::Cell;
 use mb_actor::{Actor, Behaviours, Call, Message};
@@ -11,7 +12,7 @@ use mb_msg::Envelope;
 use mb_status::Status;
 
 impl<A: Actor, K: Behaviours> Cell<A, K> {
-    /// An envelope whose message is the actor's to handle: `receive` is called.
+    /// An envelope for the actor itself: its `receive` is called.
     pub(super) fn apply_message(&mut self, reading: Status, envelope: Envelope, message: Message)
         requires may_handle { MayHandle self.old envelope (word_of reading) }
         requires calls { envelope_call envelope.body ≡ Some (Call.Receive message) }
@@ -25,7 +26,7 @@ impl<A: Actor, K: Behaviours> Cell<A, K> {
         };
         let answer = actor.receive(&message, &mut self.outbox);
         let effects = self.outbox.effects();
-        self.books
+        self.cell_state
             .handle(&self.place, envelope.body, Some(answer), effects);
         self.journal
             .push_handled(envelope, reading.word(), Some(answer), effects);

@@ -1,4 +1,4 @@
-//! What the rules ask of a cell to know which of them a message follows.
+//! The questions about a cell that decide which rule a message follows.
 
 ghost use Rattle.std.specs.Prelude.{◌≡◌, false, IsTrue};
 ghost use Rattle.mb_actor.specs.ActorList.{has as holds};
@@ -14,7 +14,6 @@ use mb_actor::{Actor, Behaviours, Phase};
 use mb_msg::{ActorId, SysMsg};
 
 impl<A: Actor, K: Behaviours> Cell<A, K> {
-    /// Whether the actor is the guardian.
     pub(super) fn is_guardian(&self) -> bool
         ensures { result ≡ is_the_guardian self.now.who }
     {
@@ -25,14 +24,14 @@ impl<A: Actor, K: Behaviours> Cell<A, K> {
     pub(super) fn is_fresh(&self) -> bool
         ensures { result ≡ phase_is (phase_of self.now.who self.now.journal) Fresh }
     {
-        matches!(self.books.phase(), Phase::Fresh)
+        matches!(self.cell_state.phase(), Phase::Fresh)
     }
 
     /// Whether the actor was started and handles messages.
     pub(super) fn is_live(&self) -> bool
         ensures { result ≡ phase_is (phase_of self.now.who self.now.journal) Live }
     {
-        matches!(self.books.phase(), Phase::Live)
+        matches!(self.cell_state.phase(), Phase::Live)
     }
 
     /// Whether the last start or restart of the actor failed; the guardian has none that can fail.
@@ -40,42 +39,41 @@ impl<A: Actor, K: Behaviours> Cell<A, K> {
         ensures value { result ≡ phase_is (phase_of self.now.who self.now.journal) Broken }
         ensures an_actor { IsTrue result → is_the_guardian self.now.who ≡ false }
     {
-        matches!(self.books.phase(), Phase::Broken)
+        matches!(self.cell_state.phase(), Phase::Broken)
     }
 
     /// Whether the actor waits for the end of its children.
     pub(super) fn is_ending(&self) -> bool
         ensures { result ≡ phase_is (phase_of self.now.who self.now.journal) Ending }
     {
-        matches!(self.books.phase(), Phase::Ending)
+        matches!(self.cell_state.phase(), Phase::Ending)
     }
 
     /// Whether the actor was Live when it was told to end.
     pub(super) fn was_live(&self) -> bool
         ensures { result ≡ was_live_at self.now.who self.now.journal }
     {
-        self.books.was_live()
+        self.cell_state.was_live()
     }
 
-    /// Whether the actor has no children.
     pub(super) fn is_childless(&self) -> bool
         ensures { result ≡ is_empty (children self.now.who self.now.journal) }
     {
-        self.books.is_childless()
+        self.cell_state.is_childless()
     }
 
     /// Whether this is a child of the actor.
     pub(super) fn has_child(&self, id: ActorId) -> bool
         ensures { result ≡ holds (children self.now.who self.now.journal) id }
     {
-        self.books.has_child(id)
+        self.cell_state.has_child(id)
     }
 
     /// Whether this is the one child that is left to the actor.
     pub(super) fn is_last_child(&self, id: ActorId) -> bool
         ensures { result ≡ is_alone (children self.now.who self.now.journal) id }
     {
-        self.books.is_last_child(id)
+        self.cell_state.is_last_child(id)
     }
 
     /// Whether a message that comes now is set aside.

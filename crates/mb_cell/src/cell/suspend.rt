@@ -1,10 +1,11 @@
+//! Applying `Suspend`.
 ghost use Rattle.std.specs.Prelude.{◌≡◌, false};
 ghost use Rattle.mb_actor.specs.declared.phase.Phase.TheVariants.{Fresh};
 ghost use Rattle.mb_journal.specs.Aside.{sets_aside};
 ghost use Rattle.mb_journal.specs.Lawful.{IsLawful};
 ghost use Rattle.mb_journal.specs.Life.{phase as phase_of};
 ghost use Rattle.mb_journal.specs.Phase.{phase_is};
-ghost use Rattle.mb_cell.specs.Seen.{MayTake, TakesSystem};
+ghost use Rattle.mb_cell.specs.CellView.{MayTake, TakesSystem};
 
 use crate::cell::Cell;
 use mb_actor::{Actor, Behaviours};
@@ -19,7 +20,7 @@ impl<A: Actor, K: Behaviours> Cell<A, K> {
         ensures taken { TakesSystem self.old self.new number SysMsg.Suspend }
         ensures lawful { IsLawful self.new.who (K.gives self.new.who.this.0) self.new.journal }
     {
-        self.books.suspend(number);
+        self.cell_state.suspend(number);
         self.journal.push_system(number, SysMsg::Suspend, None, &[]);
     }
 }

@@ -1,18 +1,18 @@
+//! Applying `Watch`.
 ghost use Rattle.mb_journal.specs.Lawful.{IsLawful};
-ghost use Rattle.mb_cell.specs.Seen.{MayTake, TakesSystem};
+ghost use Rattle.mb_cell.specs.CellView.{MayTake, TakesSystem};
 
 use crate::cell::Cell;
 use mb_actor::{Actor, Behaviours};
 use mb_msg::{ActorId, SysMsg};
 
 impl<A: Actor, K: Behaviours> Cell<A, K> {
-    /// `Watch`.
     pub(super) fn apply_watch(&mut self, number: u64, watcher: ActorId)
         requires may_take { MayTake self.old number (SysMsg.Watch watcher) }
         ensures taken { TakesSystem self.old self.new number (SysMsg.Watch watcher) }
         ensures lawful { IsLawful self.new.who (K.gives self.new.who.this.0) self.new.journal }
     {
-        self.books.watch(watcher, number);
+        self.cell_state.watch(watcher, number);
         self.journal
             .push_system(number, SysMsg::Watch(watcher), None, &[]);
     }

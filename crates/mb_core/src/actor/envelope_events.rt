@@ -1,13 +1,13 @@
+//! The steps on the waiting number and on the envelopes.
 ghost use Rattle.std.specs.Prelude.{◌≡◌, ◌<◌, [], ◌∷◌, ◌++◌, length, OnOk};
 ghost use Rattle.mb_core.specs.declared.event.Step.TheVariants.{Sent, Unsent, Taken, Count, Take};
 ghost use Rattle.mb_core.specs.Run.{Change, IsCarriedOut};
 
 use crate::actor::ActorState;
-use crate::debt::Debt;
+use crate::debt::WakeObligation;
 use mb_msg::Envelope;
 use std::alloc::AllocError;
 
-/// The steps on the waiting number and on the envelopes.
 impl ActorState {
     /// `Sent`: one more is counted as waiting, and the party owes the actor for it as `sending`.
     pub(super) fn count_sent(&mut self, party: usize)
@@ -18,14 +18,15 @@ impl ActorState {
         let debt = self.debt(party);
         self.owe(
             party,
-            Debt {
+            WakeObligation {
                 sending: true,
                 ..debt
             },
         );
     }
 
-    /// `Unsent`: one less is counted, and what the party owed as `sending` it owes as `message`. Refused where it owed none.
+    /// `Unsent`: one less is counted, and what the party owed as `sending` it owes as `message`. Refused where it owed
+    /// no `sending`.
     pub(super) fn count_unsent(&mut self, party: usize) -> bool
         requires { party < length self.old.owed }
         ensures { IsCarriedOut self.old party Unsent self.new result }
@@ -37,7 +38,7 @@ impl ActorState {
         self.waiting = self.waiting.wrapping_sub(1);
         self.owe(
             party,
-            Debt {
+            WakeObligation {
                 message: true,
                 sending: false,
                 ..debt
@@ -66,7 +67,7 @@ impl ActorState {
             let debt = self.debt(party);
             self.owe(
                 party,
-                Debt {
+                WakeObligation {
                     message: false,
                     ..debt
                 },
@@ -82,7 +83,7 @@ impl ActorState {
         Ok(())
     }
 
-    /// `Take`: the envelope of this place leaves the queue. Refused to all but the holder, and where there is none.
+    /// `Take`: the envelope at this index leaves the queue. Refused to all but the holder, and where there is none.
     pub(super) fn take(&mut self, party: usize, place: usize) -> bool
         ensures { IsCarriedOut self.old party (Take place) self.new result }
     {

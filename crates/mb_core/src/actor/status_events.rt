@@ -1,16 +1,16 @@
+//! The steps on the status word.
 ghost use Rattle.std.specs.Prelude.{◌≡◌, ◌<◌, ◌++◌, length, IfOk};
 ghost use Rattle.mb_core.specs.declared.event.Step.TheVariants.{Read, Schedule, Idle, Suspend, Resume, Close};
 ghost use Rattle.mb_core.specs.Run.{Change, IsCarriedOut, after_reading};
 
 use crate::actor::ActorState;
-use crate::debt::Debt;
+use crate::debt::WakeObligation;
 use mb_msg::SysMsg;
 use mb_status::{MOST_SUSPENSIONS, Status};
 use std::alloc::{AllocError, Global};
 
-/// The steps on the status word.
 impl ActorState {
-    /// `Read`: by what the status says the party owes less, or what it owed as `sending` it owes as `message`.
+    /// `Read`: the status may show that the party owes less, or what it owed as `sending` it now owes as `message`.
     pub(super) fn read(&mut self, party: usize)
         requires { party < length self.old.owed }
         ensures { Change self.old party Read self.new }
@@ -29,12 +29,12 @@ impl ActorState {
         };
         self.status = status;
         self.holder = Some(party);
-        self.owe(party, Debt::NOTHING);
+        self.owe(party, WakeObligation::NOTHING);
         true
     }
 
-    /// `Idle`: nobody holds the actor, these messages are the first of its list unless that is gone, and the party owes it both
-    /// looks. Refused to all but the holder.
+    /// `Idle`: nobody holds the actor, these messages are the first of its list unless the list is closed, and the
+    /// party owes it both checks. Refused to all but the holder.
     pub(super) fn give_back(
         &mut self,
         alloc: Global,
@@ -55,7 +55,7 @@ impl ActorState {
         let debt = self.debt(party);
         self.owe(
             party,
-            Debt {
+            WakeObligation {
                 system: true,
                 message: true,
                 ..debt
@@ -64,7 +64,7 @@ impl ActorState {
         Ok(true)
     }
 
-    /// `Suspend`: one suspension more. Refused to all but the holder, and where there are as many as may be.
+    /// `Suspend`: one suspension more. Refused to all but the holder, and at the limit of suspensions.
     pub(super) fn suspend(&mut self, party: usize) -> bool
         ensures { IsCarriedOut self.old party Suspend self.new result }
     {
@@ -98,20 +98,20 @@ impl ActorState {
     }
 }
 
-/// What a party still owes once it has read this status.
-fn after_reading(status: Status, debt: Debt) -> Debt
+/// What a party that owed this still owes once it has read this status.
+fn after_reading(status: Status, debt: WakeObligation) -> WakeObligation
     ensures { result ≡ after_reading status debt }
 {
     if status.closed() || status.scheduled() {
-        Debt::NOTHING
+        WakeObligation::NOTHING
     } else if status.suspended() {
-        Debt {
+        WakeObligation {
             message: false,
             sending: false,
             ..debt
         }
     } else {
-        Debt {
+        WakeObligation {
             message: debt.message || debt.sending,
             sending: false,
             ..debt

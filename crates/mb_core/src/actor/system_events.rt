@@ -1,15 +1,16 @@
+//! The steps on the system list.
 ghost use Rattle.std.specs.Prelude.{◌≡◌, ◌<◌, length, IfOk};
 ghost use Rattle.mb_core.specs.declared.event.Step.TheVariants.{SysAdd, SysRead, SysDrain, SysEnd};
 ghost use Rattle.mb_core.specs.Run.{Change, IsCarriedOut};
 
 use crate::actor::ActorState;
-use crate::debt::Debt;
+use crate::debt::WakeObligation;
 use mb_msg::SysMsg;
 use std::alloc::AllocError;
 
-/// The steps on the system list.
 impl ActorState {
-    /// `SysAdd`: the message is the last of the list, and the party owes the actor a look at it. Refused where the list is gone.
+    /// `SysAdd`: the message is the last of the list, and the party owes the actor a check of it. Refused where the
+    /// list is closed.
     pub(super) fn add_system(&mut self, party: usize, message: SysMsg) -> Result<bool, AllocError>
         requires { party < length self.old.owed }
         ensures { IfOk result (λ done. IsCarriedOut self.old party (SysAdd message) self.new done) }
@@ -21,7 +22,7 @@ impl ActorState {
         let debt = self.debt(party);
         self.owe(
             party,
-            Debt {
+            WakeObligation {
                 system: true,
                 ..debt
             },
@@ -38,7 +39,7 @@ impl ActorState {
             let debt = self.debt(party);
             self.owe(
                 party,
-                Debt {
+                WakeObligation {
                     system: false,
                     ..debt
                 },
@@ -59,7 +60,7 @@ impl ActorState {
         true
     }
 
-    /// `SysEnd`: the list is gone for good. Refused to all but the holder, and where the actor is not closed.
+    /// `SysEnd`: the list is closed for good. Refused to all but the holder, and where the actor is not closed.
     pub(super) fn end_system(&mut self, party: usize) -> bool
         ensures { IsCarriedOut self.old party SysEnd self.new result }
     {

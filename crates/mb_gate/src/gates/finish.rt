@@ -1,29 +1,32 @@
-//! How the gates end.
+//! How the gates end, and give each home back.
 ghost use Rattle.std.specs.Prelude.{◌≡◌, ◌+◌, ◌*◌, ◌<◌, ◌≤◌, [], true, false, slice_index_or, vec_capacity};
 ghost use Rattle.std.specs.Mem.Slots.{slots_items, slots_filled, slots_len, IsFull};
-ghost use Rattle.mb_rule.specs.Layout.{slot_at};
-ghost use Rattle.mb_gate.specs.Leaves.{AreLeft, IsTakenOut, emptied_at};
-ghost use Rattle.mb_gate.specs.Names.{gates_id, pass_id, actors_of, first_of, known_by};
+ghost use Rattle.mb_ghost.specs.Layout.{slot_at};
+ghost use Rattle.mb_gate.specs.Returned.{AreReturned, IsTakenOut, emptied_at};
+ghost use Rattle.mb_gate.specs.Accessors.{gates_id, pass_id, actors_of, first_home, pass_view};
 
 use crate::gates::Gates;
 use crate::layout::{CELL, FLAG, GATE, LIST, STATUS};
-use crate::left::Left;
+use crate::mailbox_state::MailboxState;
 use crate::pass::Pass;
-use crate::resident::Resident;
+use crate::returned_actor::ReturnedActor;
 use crate::slot::Slot;
 use atomic_table::Closed;
 use std::alloc::Global;
 
-impl<H: Resident> Gates<H> {
-    /// Ends the gates: what is left of each actor, the first with the number 0, and `None` of one that a claim has. Each
-    /// home is its actor's own, with the word of its journal, and goes on from all that the pass has seen, which may have
-    /// taken over all others. It takes no memory: the room is the caller's (this project's own profile).
-    pub fn finish(self, pass: Pass<H>, room: Vec<Option<Left<H>>>) -> Vec<Option<Left<H>>>
+impl<H: MailboxState> Gates<H> {
+    /// Ends the gates: what is left of each actor, the first with the number 0, and `None` for one that a claim has still. Each
+    /// home is its actor's own, has the status of its journal, and extends all that the pass has seen, which may have taken
+    /// over all others. It takes no memory: the vector is the caller's (this project's own profile).
+    pub fn finish(
+        self,
+        pass: Pass<H>,
+        room: Vec<Option<ReturnedActor<H>>>,
+    ) -> Vec<Option<ReturnedActor<H>>>
         requires ours { pass_id pass ≡ gates_id self }
         requires empty { room.items ≡ [] }
         requires room { actors_of self ≤ vec_capacity room }
-        ensures left { AreLeft (H.is_of (first_of self)) H.journal H.mailbox H.rested H.given H.closed_to
-            (actors_of self) (known_by pass) result.items }
+        ensures left { AreReturned (H.is_of (first_home self)) H.facts (actors_of self) (pass_view pass) result.items }
     {
         let Gates {
             before: _,
@@ -45,7 +48,10 @@ impl<H: Resident> Gates<H> {
 }
 
 // What is left of one actor, out of its words and slots.
-fn take_out<H: Resident>(closed: &mut Closed<Slot<H>, Global>, actor: usize) -> Option<Left<H>>
+fn take_out<H: MailboxState>(
+    closed: &mut Closed<Slot<H>, Global>,
+    actor: usize,
+) -> Option<ReturnedActor<H>>
     requires words { (16 * actor + 16 ≤ slots_len closed.old.words) × IsFull closed.old.words }
     requires slots { 2 * actor + 2 ≤ slots_len closed.old.slots }
     requires cell { slice_index_or (slots_filled closed.old.slots) (slot_at actor 0) false ≡ true }
@@ -62,12 +68,12 @@ fn take_out<H: Resident>(closed: &mut Closed<Slot<H>, Global>, actor: usize) -> 
     let gate = closed.word(first + GATE);
     let cell = closed.take(2 * actor + CELL);
     let list = closed.take(2 * actor + LIST);
-    // Scheduled, or closed and not flagged: a claim has the cell. An odd gate: a seat has the list.
+    // Scheduled, or closed without the flag: a claim has the cell. An odd gate: a seat has the list.
     if status % 4 != 0 && flag != 1 || gate % 2 != 0 {
         return None;
     }
     match (cell, list) {
-        (Slot::Home(home), Slot::List(list)) => Some(Left {
+        (Slot::Home(home), Slot::List(list)) => Some(ReturnedActor {
             home,
             given: list.given(),
             listed: !list.is_empty(),

@@ -1,4 +1,4 @@
-//! The status that a home says.
+//! The mailbox's status by a home's journal.
 
 ghost use Rattle.std.specs.Prelude.{◌≡◌, ◌≤◌, false, IsTrue};
 ghost use Rattle.mb_status.specs.Mailbox.{most_suspensions};
@@ -11,7 +11,7 @@ use mb_actor::{Actor, Behaviours, Phase};
 use mb_status::Status;
 
 impl<A: Actor, K: Behaviours> Home<A, K> {
-    /// The status that the journal says: closed or not, so often suspended, and not scheduled.
+    /// The status that the journal says: closed or not, how often suspended, and not scheduled.
     pub(crate) fn own_status(&self) -> Status
         ensures { result ≡ mailbox_at self.now.cell.who self.now.cell.journal }
     {
@@ -21,7 +21,7 @@ impl<A: Actor, K: Behaviours> Home<A, K> {
     }
 }
 
-/// Whether it is the last phase.
+/// Whether this is the last phase.
 fn has_ended(phase: Phase) -> bool
     ensures { result ≡ phase_is phase Ended }
 {
@@ -31,7 +31,7 @@ fn has_ended(phase: Phase) -> bool
     }
 }
 
-/// The status of a mailbox that is closed or not, so often suspended, and not scheduled.
+/// The status of a mailbox that is closed or not, suspended so often, and not scheduled.
 #[tactic(auto, using(crate::proofs::StatusLemmas::word_valid, crate::proofs::StatusLemmas::word_open))]
 fn status_of(is_closed: bool, count: u64) -> Status
     requires few { count ≤ most_suspensions }

@@ -1,4 +1,4 @@
-//! System messages: what is drained, and which goes next.
+//! System messages: what is kept of a drain, and which message is applied next.
 
 ghost use Rattle.std.specs.Prelude.{◌≡◌, ◌+◌, ◌%◌, ◌^◌, ◌≤◌, ◌↔◌, [], false, length, IsTrue, IsErrOf, MatchBool, OnOk, OnErr, List, if◌then◌else◌};
 ghost use Rattle.mb_syslist.specs.MessageList.{numbered};
@@ -7,13 +7,13 @@ ghost use Rattle.mb_journal.specs.Acts.{Act};
 ghost use Rattle.mb_journal.specs.Aside.{aside, next_front, next_number};
 ghost use Rattle.mb_journal.specs.Lawful.{IsLawful};
 ghost use Rattle.mb_journal.specs.Phase.{phase_is};
-ghost use Rattle.mb_cell.specs.Seen.{MayTake, TakesSystem};
+ghost use Rattle.mb_cell.specs.CellView.{MayTake, TakesSystem};
 ghost use Rattle.mb_journal.specs.Life.{closed};
 ghost use Rattle.mb_gate.specs.Lists.{IsNumberedFrom};
 ghost use Rattle.mb_home.specs.AtHome.{given_of};
 ghost use Rattle.mb_home.specs.Carried.{LeadsOn};
-ghost use Rattle.mb_home.specs.Settled.{IsSettled, messages_of};
-ghost use Rattle.mb_home.specs.Steps.{HasNext, IsRested, AppliesNext, IsDue, most_tells};
+ghost use Rattle.mb_home.specs.AgreesWithJournal.{AgreesWithJournal, messages_of};
+ghost use Rattle.mb_home.specs.Steps.{HasNext, HasNoBacklog, AppliesNext, IsDue, most_tells};
 
 use super::Home;
 use mb_actor::{Actor, Behaviours, Phase};
@@ -22,13 +22,13 @@ use mb_msg::SysMsg;
 use mb_msg::limits::EFFECTS;
 use mb_syslist::Chain;
 
-/// How many dead letters one message can make: one for each effect, and one that tells of an end.
+/// How many dead letters one message can make: one for each effect, and one for the notice of an end.
 const TELLS: usize = EFFECTS + 1;
 
 impl<A: Actor, K: Behaviours> Home<A, K> {
-    /// Whether a system message is to be applied: one that was set aside and goes in front, or one that was drained.
+    /// Whether a system message is to be applied: one that was set aside and goes before others, or one that was drained.
     pub fn has_next(&self) -> bool
-        ensures { MatchBool result (HasNext self.now) (IsRested self.now) }
+        ensures { MatchBool result (HasNext self.now) (HasNoBacklog self.now) }
     {
         self.cell.next_front().is_some() || !self.rest.is_empty()
     }
@@ -43,13 +43,13 @@ impl<A: Actor, K: Behaviours> Home<A, K> {
         ensures ok { OnOk result (IsTrue self.new.cell.is_ready × (most_tells ≤ self.new.room)) }
         ensures same { self.new ≡ record self.old { cell = record self.old.cell { is_ready = self.new.cell.is_ready }; room = self.new.room } }
         ensures room { self.old.room ≤ self.new.room }
-        ensures settled { (pending : List Act) → IsSettled (K.gives self.old.cell.who.this.0) pending self.old
-            → IsSettled (K.gives self.new.cell.who.this.0) pending self.new }
+        ensures settled { (pending : List Act) → AgreesWithJournal (K.gives self.old.cell.who.this.0) pending self.old
+            → AgreesWithJournal (K.gives self.new.cell.who.this.0) pending self.new }
     {
         self.make_room()
     }
 
-    /// Makes that room.
+    /// Makes room, without the contract on the whole home.
     #[inline(always)]
     fn make_room(&mut self) -> Result<(), ReadyError>
         ensures full { IsErrOf result ReadyError.JournalFull ↔ (self.old.cell.who.limit ≤ length self.old.cell.journal) }
@@ -64,28 +64,28 @@ impl<A: Actor, K: Behaviours> Home<A, K> {
         Ok(())
     }
 
-    /// Keeps what was drained, whose numbers go on from those that the list gave before: nothing else is left.
+    /// Keeps what was drained, whose numbers go on from those that the list gave before. Nothing else may be left of a drain.
     pub fn keep(&mut self, drained: Chain)
         requires none_left { self.old.rest ≡ [] }
         requires goes_on { IsNumberedFrom (given_of self.old) drained }
-        requires settled { IsSettled (K.gives self.old.cell.who.this.0) self.old.cell.acts self.old }
+        requires settled { AgreesWithJournal (K.gives self.old.cell.who.this.0) self.old.cell.acts self.old }
         ensures kept { self.new ≡ record self.old { rest = drained } }
-        ensures settled { IsSettled (K.gives self.new.cell.who.this.0) self.new.cell.acts self.new }
+        ensures settled { AgreesWithJournal (K.gives self.new.cell.who.this.0) self.new.cell.acts self.new }
     {
-        self.put_beside(drained);
+        self.set_backlog(drained);
     }
 
-    /// Puts it beside the cell.
-    fn put_beside(&mut self, drained: Chain)
+    /// Puts the drained messages beside the cell.
+    fn set_backlog(&mut self, drained: Chain)
         requires goes_on { drained ≡ numbered ((next_number self.old.cell.journal + self.old.dropped) % 2 ^ 64) (messages_of drained) }
-        requires settled { IsSettled (K.gives self.old.cell.who.this.0) self.old.cell.acts self.old }
+        requires settled { AgreesWithJournal (K.gives self.old.cell.who.this.0) self.old.cell.acts self.old }
         ensures kept { self.new ≡ record self.old { rest = drained } }
-        ensures settled { IsSettled (K.gives self.new.cell.who.this.0) self.new.cell.acts self.new }
+        ensures settled { AgreesWithJournal (K.gives self.new.cell.who.this.0) self.new.cell.acts self.new }
     {
         self.rest = drained;
     }
 
-    /// Gives the cell the next system message: the one that was set aside and goes in front, else the earliest that was
+    /// Gives the cell the next system message: the one that was set aside and goes before others, else the earliest that was
     /// drained (`Mailbox.processAllSystemMessages`). Its acts are to be carried out then. It takes no memory.
     pub fn apply_next(&mut self)
         requires ready { IsTrue self.old.cell.is_ready }
@@ -93,16 +93,16 @@ impl<A: Actor, K: Behaviours> Home<A, K> {
         requires carried_out { self.old.cell.acts ≡ [] }
         requires not_ended { closed self.old.cell.who self.old.cell.journal ≡ false }
         requires due { HasNext self.old }
-        requires settled { IsSettled (K.gives self.old.cell.who.this.0) [] self.old }
+        requires settled { AgreesWithJournal (K.gives self.old.cell.who.this.0) [] self.old }
         ensures applied { AppliesNext self.old self.new }
         ensures leads { LeadsOn self.old self.new }
-        ensures settled { IsSettled (K.gives self.new.cell.who.this.0) self.new.cell.acts self.new }
+        ensures settled { AgreesWithJournal (K.gives self.new.cell.who.this.0) self.new.cell.acts self.new }
     {
         let (number, message) = self.next_due();
         self.apply(number, message);
     }
 
-    /// Takes out the message that is due.
+    /// Takes out the message that is to be applied next.
     fn next_due(&mut self) -> (u64, SysMsg)
         requires due { HasNext self.old }
         ensures due { IsDue (next_front self.old.cell.who self.old.cell.journal) self.old.rest result.0 result.1 self.new.rest }
@@ -117,7 +117,7 @@ impl<A: Actor, K: Behaviours> Home<A, K> {
         }
     }
 
-    /// Gives it to the cell, and counts what was set aside if the actor ended.
+    /// Gives the message to the cell, and counts what was set aside if the actor ended.
     fn apply(&mut self, number: u64, message: SysMsg)
         requires may_take { MayTake self.old.cell number message }
         ensures taken { TakesSystem self.old.cell self.new.cell number message }
@@ -132,7 +132,7 @@ impl<A: Actor, K: Behaviours> Home<A, K> {
     }
 }
 
-/// How many that were set aside are dead: these, if the actor ended, else as before.
+/// How many messages that were set aside are dead: these, if the actor ended, else as many as before.
 fn counted(phase: Phase, aside: u64, before: u64) -> u64
     ensures { result ≡ (if phase_is phase Ended then aside else before) }
 {

@@ -1,14 +1,14 @@
-//! The acts of a message, and what an actor tells.
+//! The acts of a message, and the envelopes that an actor tells.
 
 ghost use Rattle.std.specs.Prelude.{◌≡◌, ◌+◌, ◌-◌, ◌%◌, ◌^◌, ◌<◌, [], ◌∷◌, ◌++◌, map, option_to_list, length, slice_get, Some, IfErr, IfNone};
 ghost use Rattle.std.specs.Prelude.{IfSome, MatchResult};
 ghost use Rattle.mb_msg.specs.declared.dead_letter.Why.TheVariants.{Closed};
 ghost use Rattle.mb_journal.specs.Acts.Act.{Tell};
-ghost use Rattle.mb_books.specs.ActQueue.{act_of};
-ghost use Rattle.mb_lane.specs.Rule.{given_back};
-ghost use Rattle.mb_queue.specs.Passes.{Sending};
-ghost use Rattle.mb_home.specs.Settled.{IsSettled};
-ghost use Rattle.mb_home.specs.Steps.{Pushes, Buries, Delivers, Fits, IsRefusedBy, PushesInto, Refuses, next_envelope, reason_of};
+ghost use Rattle.mb_supervision.specs.ActQueue.{act_of};
+ghost use Rattle.mb_queue.specs.Rule.{given_back};
+ghost use Rattle.mb_queue.specs.Passes.{SendPassView};
+ghost use Rattle.mb_home.specs.AgreesWithJournal.{AgreesWithJournal};
+ghost use Rattle.mb_home.specs.Steps.{Pushes, RecordsDeadLetter, Delivers, Fits, IsRefusedBy, PushesInto, RefusesPush, next_envelope, reason_of};
 
 use super::Home;
 use mb_actor::{Actor, Behaviours};
@@ -18,35 +18,35 @@ use mb_queue::{PushError, SendPass};
 use std::sync::Wait;
 
 impl<A: Actor, K: Behaviours> Home<A, K> {
-    /// Takes out the next act that is to be carried out, the earliest first; `None` if none is left. What a `Tell` says is
-    /// then to be pushed or to become a dead letter. It takes no memory.
+    /// Takes out the next act that is to be carried out, the earliest first; `None` if none is left. The envelope of a `Tell`
+    /// has to be pushed then, or to become a dead letter. It takes no memory.
     pub fn next_act(&mut self) -> Option<Act>
-        requires settled { IsSettled (K.gives self.old.cell.who.this.0) self.old.cell.acts self.old }
+        requires settled { AgreesWithJournal (K.gives self.old.cell.who.this.0) self.old.cell.acts self.old }
         ensures taken { self.old.cell.acts ≡ map act_of (option_to_list result) ++ self.new.cell.acts }
         ensures none { IfNone result (self.old.cell.acts ≡ []) }
         ensures same { self.new ≡ record self.old { cell = record self.old.cell { acts = self.new.cell.acts } } }
-        ensures settled { IsSettled (K.gives self.new.cell.who.this.0) (map act_of (option_to_list result) ++ self.new.cell.acts) self.new }
+        ensures settled { AgreesWithJournal (K.gives self.new.cell.who.this.0) (map act_of (option_to_list result) ++ self.new.cell.acts) self.new }
     {
         self.cell.next_act()
     }
 
-    /// Sends what the actor tells: puts its envelope last in the receiver's queue (`ActorRef.tell`).
+    /// Sends what the actor tells: puts its envelope last into the receiver's queue (`ActorRef.tell`).
     ///
-    /// It answers `Full` or `NoMemory` with the envelope if its queue refused that, the first only where the queue has a bound
-    /// and was full at a moment. The envelope is then a dead letter for that reason.
+    /// It answers `Full` or `NoMemory` with the envelope if the queue refused it: `Full` only if the queue has a bound and was
+    /// full at some moment. The envelope is then a dead letter for that reason.
     pub fn push<R: Wait>(&mut self, rt: &R, to: ActorId, body: Body) -> Result<(), PushError>
-        requires settled { IsSettled (K.gives self.old.cell.who.this.0) (Tell to body ∷ self.old.cell.acts) self.old }
+        requires settled { AgreesWithJournal (K.gives self.old.cell.who.this.0) (Tell to body ∷ self.old.cell.acts) self.old }
         ensures pushed { MatchResult result (λ _. Pushes self.old self.new to body)
-            (λ refused. (given_back refused ≡ next_envelope self.old to body) × Buries self.old self.new to body (reason_of refused)) }
-        ensures refused { IfErr result (λ refused. Refuses self.old (to.0 - 1) refused) }
-        ensures settled { IsSettled (K.gives self.new.cell.who.this.0) self.new.cell.acts self.new }
+            (λ refused. (given_back refused ≡ next_envelope self.old to body) × RecordsDeadLetter self.old self.new to body (reason_of refused)) }
+        ensures refused { IfErr result (λ refused. RefusesPush self.old (to.0 - 1) refused) }
+        ensures settled { AgreesWithJournal (K.gives self.new.cell.who.this.0) self.new.cell.acts self.new }
     {
         let envelope = self.envelope(to, body);
         let place = to.0 as usize - 1;
         match self.deliver(rt, place, envelope) {
             Ok(()) => Ok(()),
             Err(refused) => {
-                self.bury(envelope, reason(&refused));
+                self.record_dead_letter(envelope, reason(&refused));
                 Err(refused)
             }
         }
@@ -60,23 +60,23 @@ impl<A: Actor, K: Behaviours> Home<A, K> {
         envelope: Envelope,
     ) -> Result<(), PushError>
         requires there { place < length self.old.sends }
-        requires fits { (p : Sending) → slice_get self.old.sends place ≡ Some p → Fits envelope p }
+        requires fits { (p : SendPassView) → slice_get self.old.sends place ≡ Some p → Fits envelope p }
         ensures delivered { MatchResult result (λ _. Delivers self.old self.new place envelope)
-            (λ refused. (given_back refused ≡ envelope) × (self.new ≡ self.old) × Refuses self.old place refused) }
+            (λ refused. (given_back refused ≡ envelope) × (self.new ≡ self.old) × RefusesPush self.old place refused) }
     {
         push_into(rt, &mut self.sends, place, envelope)?;
         self.sent = self.sent.wrapping_add(1);
         Ok(())
     }
 
-    /// What the actor tells is a dead letter, since its receiver's mailbox was seen closed.
-    pub fn bury_closed(&mut self, to: ActorId, body: Body)
-        requires settled { IsSettled (K.gives self.old.cell.who.this.0) (Tell to body ∷ self.old.cell.acts) self.old }
-        ensures buried { Buries self.old self.new to body Closed }
-        ensures settled { IsSettled (K.gives self.new.cell.who.this.0) self.new.cell.acts self.new }
+    /// Makes what the actor tells a dead letter, since its receiver's mailbox was seen closed.
+    pub fn record_closed_receiver(&mut self, to: ActorId, body: Body)
+        requires settled { AgreesWithJournal (K.gives self.old.cell.who.this.0) (Tell to body ∷ self.old.cell.acts) self.old }
+        ensures is_dead_letter { RecordsDeadLetter self.old self.new to body Closed }
+        ensures settled { AgreesWithJournal (K.gives self.new.cell.who.this.0) self.new.cell.acts self.new }
     {
         let envelope = self.envelope(to, body);
-        self.bury(envelope, Why::Closed);
+        self.record_dead_letter(envelope, Why::Closed);
     }
 
     /// The envelope of what the actor tells next.
@@ -91,8 +91,8 @@ impl<A: Actor, K: Behaviours> Home<A, K> {
         }
     }
 
-    /// The next envelope is a dead letter.
-    fn bury(&mut self, envelope: Envelope, why: Why)
+    /// Makes the next envelope a dead letter.
+    fn record_dead_letter(&mut self, envelope: Envelope, why: Why)
         requires { 0 < self.old.room }
         ensures same { self.new ≡ record self.old {
           dead = self.old.dead ++ record { envelope = envelope; why = why } ∷ [];
@@ -114,14 +114,14 @@ fn push_into<R: Wait>(
     envelope: Envelope,
 ) -> Result<(), PushError>
     requires there { place < length sends.old.items }
-    requires fits { (p : Sending) → slice_get sends.old.items place ≡ Some p → Fits envelope p }
+    requires fits { (p : SendPassView) → slice_get sends.old.items place ≡ Some p → Fits envelope p }
     ensures pushed { MatchResult result (λ _. PushesInto sends.old.items sends.new.items place envelope)
         (λ refused. (given_back refused ≡ envelope) × (sends.new.items ≡ sends.old.items) × IsRefusedBy sends.old.items place refused) }
 {
     sends[place].push(rt, envelope)
 }
 
-/// Why it is a dead letter.
+/// Why a refused envelope is a dead letter.
 fn reason(refused: &PushError) -> Why
     ensures { result ≡ reason_of refused.now }
 {

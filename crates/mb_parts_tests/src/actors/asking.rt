@@ -11,7 +11,7 @@ const OTHER: ActorId = ActorId(1);
 /// The child that it spawns.
 const CHILD: ActorId = ActorId(2);
 
-/// At each message it passes it on, watches whom it passes it to, and spawns its child, as far as it may. Its content is
+/// An actor that at each message passes it on, watches the receiver, and spawns its child, if it may. Its content is
 /// how many messages came.
 #[derive(Drop)]
 struct Asking {
@@ -20,7 +20,7 @@ struct Asking {
 
 impl Actor for Asking {
     ghost use Rattle.std.specs.Prelude.{◌≡◌, ℕ, ℤ, pos, length, ◌%◌, ◌^◌, [], Some};
-    ghost use Rattle.mb_actor.specs.Tray.{Tray, added, refusal};
+    ghost use Rattle.mb_actor.specs.OutboxView.{OutboxView, added, refusal};
     ghost use Rattle.mb_actor.specs.declared.answer.Answer.TheVariants.{Handled};
     ghost use Rattle.mb_actor.specs.declared.call.Call.TheVariants.{Start, Receive, Restart, Stop};
     ghost use Rattle.mb_actor.specs.declared.effect.Effect.{Effect};
@@ -32,8 +32,8 @@ impl Actor for Asking {
     ghost content = { λ asking. pos asking.count };
 
     ghost gives = { λ _ m r. (kind : ℕ) (value : ℤ) → m.call ≡ Receive (User kind value) →
-        let asked : Effect → Tray → Tray = λ e tray. added (refusal tray e) e tray in
-        let empty : Tray = record { effects = []; actors = m.actors; unspawned = m.unspawned } in
+        let asked : Effect → OutboxView → OutboxView = λ e tray. added (refusal tray e) e tray in
+        let empty : OutboxView = record { effects = []; actors = m.actors; unspawned = m.unspawned } in
         r ≡ record {
           answer = Some Handled;
           effects = (asked (Spawn (record { 0 = 2 })) (asked (Watch (record { 0 = 1 }))
@@ -76,7 +76,7 @@ const TOLD: Effect = Effect::Tell {
     value: 5,
 };
 
-/// The child is spawned once, and of an end nothing is known.
+/// The child is spawned once, and a Terminated is not handled.
 const CALLS: &[Step] = &[
     (
         Call::Receive(Message::User { kind: 4, value: 5 }),

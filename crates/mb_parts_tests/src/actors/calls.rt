@@ -1,9 +1,9 @@
-//! Each call of an actor makes one call of it, the same, boxed or not.
+//! Tests that each recorded call makes that one call of the actor, boxed or not.
 
 ghost use Rattle.std.specs.Prelude.{◌≡◌};
 
 use crate::course::{Step, each_call};
-use mb_actor::{Actor, Answer, Call, Called, Effect, Message, Outbox};
+use mb_actor::{Actor, Answer, Call, Effect, Message, Outbox, RecordedActor};
 use mb_msg::{ActorId, Cause};
 use std::test::Fail;
 
@@ -15,17 +15,18 @@ const RESTART: u32 = 103;
 
 const STOP: u32 = 104;
 
-/// Whom it tells.
+/// The actor that it sends to.
 const PROBE: ActorId = ActorId(1);
 
-/// Tells the probe which of its hooks is called, and which call it is, from 1. Its content is how many messages came.
+/// An actor that sends which of its hooks is called, and the number of the call, from 1. Its content is how many
+/// messages came.
 #[derive(Drop)]
 struct Counting {
     calls: u32,
     messages: u32,
 }
 
-const _: () = prove!(size_of::<Called<Counting>>() == size_of::<Counting>());
+const _: () = prove!(size_of::<RecordedActor<Counting>>() == size_of::<Counting>());
 
 impl Counting {
     fn tell_of(&mut self, hook: u32, out: &mut Outbox)
@@ -192,7 +193,7 @@ fn is_sent<T: Send>(_value: &T) {}
 
 #[test]
 fn each_call_is_made_once(rt: HostRuntime) {
-    is_sent(&Called::new(UNCALLED));
+    is_sent(&RecordedActor::new(UNCALLED));
     each_call(
         &rt,
         UNCALLED,

@@ -1,11 +1,11 @@
-//! The refusals of an outbox, each at its limit and one past it.
+//! Tests of the refusals of an outbox, each at its limit and one past it.
 
 use mb_actor::{Effect, Outbox, OutboxError};
 use mb_msg::ActorId;
 use std::process::Abort;
 use std::test::Fail;
 
-/// What is asked of an outbox, and its answer.
+/// What an outbox is asked for, and its answer.
 #[derive(Clone, Copy)]
 enum Step {
     /// Each of these effects gets this answer.
@@ -67,8 +67,8 @@ const ALL_AND_TWO: &[Effect] = &[
     Effect::Watch(ActorId(1)),
 ];
 
-/// Among four actors, of which 2 and 3 may be spawned, once each: a spawn that is let go may be asked for again, one that is
-/// carried out may not.
+/// Among four actors, of which 2 and 3 may be spawned, once each: a spawn that is discarded may be asked for again, one
+/// that is carried out may not.
 const ONCE: &[Step] = &[
     Step::AllAsked(0, NO_SUCH_ACTOR),
     Step::AllAsked(4, NO_SUCH_ACTOR),
@@ -90,7 +90,7 @@ const ONCE: &[Step] = &[
     Step::Asked(&[Effect::Spawn(ActorId(2))], NO_SUCH_ACTOR),
 ];
 
-/// The seventeenth effect finds it full, whatever it is, and the sixteen stay.
+/// The seventeenth effect is refused, whatever it is, and the sixteen stay.
 const TO_THE_FULL: &[Step] = &[
     Step::Asked(SIXTEEN, Ok(())),
     Step::AllAsked(1, FULL),
@@ -177,7 +177,7 @@ fn goes(out: &mut Outbox, step: Step) -> bool {
     }
 }
 
-/// Sees to it that all goes so, step by step.
+/// Checks these steps on an outbox.
 fn goes_so(rt: &impl Abort, out: &mut Outbox, course: &[Step]) {
     let mut number = 0u32;
     for step in course {

@@ -1,10 +1,10 @@
-//! The table of the steps, case by case: where each is allowed, and all that it leaves.
+//! The table of the machine's steps: where each is allowed, and what it leaves.
 //!
-//! A line with bars is a case of one actor and two parties: its status word as the run begins; the steps before the one in
-//! question, each with its party; that step; and what is seen of the actor after it, or `no` where it is not allowed. Seen
-//! are its status word, the number counted as waiting, the numbers of its envelopes, its system work, who holds it, what
-//! the parties 0 and 1 owe it (`s` a look at the system work, `m` one at the envelopes, `g` that it is sending), and `!`
-//! where a worker should take it.
+//! A line with bars is a case of one actor and two parties: its status word as the run begins; the steps before the one
+//! in question, each with its party; that step; and the actor after it, or `no` where the step is not allowed. An actor
+//! is shown by its status word, the number counted as waiting, the numbers of its envelopes, its system messages, who
+//! holds it, what the parties 0 and 1 owe it (`s` a check of the system messages, `m` one of the envelopes, `g` that it
+//! is sending), and `!` where a worker should take it.
 use crate::machine::words::{ACTOR, event_of, events_of, shows};
 use mb_core::{Event, replay};
 use std::alloc::Global;
@@ -177,7 +177,7 @@ The sender leaves an envelope to the worker that holds the actor, which had foun
 0 | 0 schedule, 1 sent, 1 push 7, 1 read, 0 idle, 0 look, 0 count                  | 0 schedule | 2 1 7 - 0 - -
 ";
 
-/// A case: where the run begins, the steps before the one in question, that step, and what is seen then.
+/// A case: where the run begins, the steps before the one in question, that step, and the actor then.
 #[derive(Clone, Copy)]
 struct Case<'a> {
     word: u64,
@@ -199,7 +199,7 @@ fn case_of(line: &str) -> Option<Case<'_>> {
     })
 }
 
-/// Whether these steps leave what is seen then, or `no` where they are no run.
+/// Whether these steps leave the actor so, or are no run where it is `no`.
 fn leave(alloc: Global, word: u64, events: &[Event], after: &str) -> Option<bool> {
     match replay(alloc, &[word], 2, events).ok()? {
         None => Some(after == "no"),
@@ -217,7 +217,7 @@ fn is_right(alloc: Global, case: Case<'_>) -> Option<bool> {
     leave(alloc, case.word, &events, case.after)
 }
 
-/// A table has so many cases, all of which are right.
+/// Checks that a table has `cases` cases, all of which are right.
 fn try_each<R: Abort>(rt: &R, alloc: Global, table: &str, cases: u64) {
     let mut count = 0u64;
     for line in table.lines() {

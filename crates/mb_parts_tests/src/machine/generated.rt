@@ -1,8 +1,8 @@
-//! Generated runs against the laws.
+//! Random runs against the laws.
 ghost use Rattle.std.specs.Prelude.{◌<◌};
 
 use crate::machine::words::step_of;
-use mb_core::{ActorState, Debt, Event, replay};
+use mb_core::{ActorState, Event, WakeObligation, replay};
 use mb_msg::ActorId;
 use std::alloc::Global;
 
@@ -10,7 +10,7 @@ const ACTORS: [u64; 3] = [0, 4, 1];
 
 const PARTIES: usize = 3;
 
-/// The steps that are drawn, some more often than others.
+/// The steps that are chosen from at random, some more often than others.
 const STEPS: [&str; 24] = [
     "read",
     "schedule",
@@ -45,7 +45,6 @@ struct Numbers {
 }
 
 impl Numbers {
-    /// A number below the limit.
     fn below(&mut self, limit: u64) -> u64
         requires { 0 < limit }
         ensures { result < limit }
@@ -66,7 +65,7 @@ impl Numbers {
     }
 }
 
-/// Who holds the actor, and whether nothing is stranded, by the laws in plain words.
+/// Whether the actor has the holder that it should have, and is not stranded: the laws in plain code.
 fn is_lawful(actor: &ActorState) -> bool {
     let status = actor.status();
     if status.scheduled() {
@@ -81,8 +80,8 @@ fn is_lawful(actor: &ActorState) -> bool {
     actor.holder().is_none() && (!system || owed_system) && (!waits || owed_message)
 }
 
-/// Whether somebody owes a look at the system work, and whether somebody owes one at the envelopes.
-fn what_is_owed(owed: &[Debt]) -> (bool, bool) {
+/// Whether a party owes a check of the system messages, and whether one owes a check of the envelopes.
+fn what_is_owed(owed: &[WakeObligation]) -> (bool, bool) {
     let mut system = false;
     let mut message = false;
     for debt in owed {
@@ -125,7 +124,7 @@ impl Tally {
         are_lawful
     }
 
-    /// Sixty steps by chance, those that are not allowed left out: whether all laws held.
+    /// Sixty random steps, without those that are not allowed: whether all laws held.
     fn run(&mut self, alloc: Global, numbers: &mut Numbers) -> Option<bool> {
         let mut events = Vec::new(alloc);
         let mut are_lawful = true;

@@ -1,7 +1,7 @@
-//! Where runs begin, who has to be there, and a long one.
+//! Where runs begin, which parties and actors have to exist, and a long run.
 
 use crate::machine::words::{ACTOR, are_messages, events_of, messages_of};
-use mb_core::{Debt, Event, Messages, Step, replay};
+use mb_core::{Event, Messages, Step, WakeObligation, replay};
 use mb_msg::ActorId;
 use std::alloc::Global;
 
@@ -33,7 +33,7 @@ fn are_listed(alloc: Global, messages: &str, names: &str) -> Option<bool> {
 }
 
 /// What this party owes an actor once the other has begun to send to the first.
-fn debt_of(alloc: Global, party: usize, actor: ActorId) -> Option<Option<Debt>> {
+fn debt_of(alloc: Global, party: usize, actor: ActorId) -> Option<Option<WakeObligation>> {
     let events = events_of(alloc, "1 sent")?;
     let model = replay(alloc, &[4, 0], 2, &events).ok()??;
     Some(model.debt(party, actor))
@@ -66,8 +66,8 @@ fn who_has_to_be_there(rt: HostRuntime) {
 fn what_is_owed_to_whom(rt: HostRuntime) {
     let alloc = rt.alloc();
     let first = debt_of(alloc, 1, ACTOR);
-    assert!(rt; matches!(first, Some(Some(Debt { sending: true, .. }))));
-    assert!(rt; debt_of(alloc, 1, ActorId(1)) == Some(Some(Debt::NOTHING)));
+    assert!(rt; matches!(first, Some(Some(WakeObligation { sending: true, .. }))));
+    assert!(rt; debt_of(alloc, 1, ActorId(1)) == Some(Some(WakeObligation::NOTHING)));
     assert!(rt; debt_of(alloc, 2, ActorId(1)) == Some(None));
     assert!(rt; debt_of(alloc, 0, ActorId(2)) == Some(None));
 }
@@ -81,7 +81,6 @@ fn many(alloc: Global) -> Option<Vec<Event>> {
     Some(events)
 }
 
-/// The event of this number.
 fn nth(number: u64) -> Event {
     let step = match number % 4 {
         1 => Step::Unsent,
@@ -108,7 +107,7 @@ fn may_unsend(alloc: Global, events: Vec<Event>) -> Option<bool> {
     is_run(alloc, &[0], &events)
 }
 
-/// A hundred thousand events, of which the very last decides too.
+/// A hundred thousand events, where the last one can still be refused.
 #[test]
 fn a_long_run(rt: HostRuntime) {
     let alloc = rt.alloc();

@@ -1,6 +1,6 @@
-//! Steps and what they leave, in words, as the tables write them.
+//! Parsing steps and actors, as the tables write them.
 
-use mb_core::{ActorState, Debt, Event, Messages, Step};
+use mb_core::{ActorState, Event, Messages, Step, WakeObligation};
 use mb_msg::{ActorId, Body, Envelope, SenderId, SysMsg};
 use std::alloc::Global;
 
@@ -110,7 +110,7 @@ fn add_messages(messages: &mut Vec<SysMsg>, text: &str) -> Option<()> {
     Some(())
 }
 
-/// Whether this is what is seen of the actor.
+/// Whether this text shows the actor.
 pub fn shows(actor: &ActorState, text: &str) -> bool {
     let mut words = text.split_whitespace();
     is_number(words.next(), actor.status().word())
@@ -143,7 +143,7 @@ fn are_numbers(text: &str, envelopes: &[Envelope]) -> bool {
     numbers.next().is_none()
 }
 
-/// Whether these are the names of the system messages, or they are gone for good.
+/// Whether these are the names of the system messages, or the list is closed.
 pub fn are_messages(text: &str, system: Option<&[SysMsg]>) -> bool {
     let Some(listed) = system else {
         return text == "gone";
@@ -177,7 +177,7 @@ fn holder(actor: &ActorState) -> &'static str {
 }
 
 /// What one party owes.
-fn owed(debt: &Debt) -> &'static str {
+fn owed(debt: &WakeObligation) -> &'static str {
     match (debt.system, debt.message, debt.sending) {
         (false, false, false) => "-",
         (true, false, false) => "s",

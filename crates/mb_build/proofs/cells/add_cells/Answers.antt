@@ -1,7 +1,7 @@
 use Rattle.std.proofs.Common.{◌≡◌, ◌+◌, ◌++◌, ◌∷◌, [], length, sym, ap, ◌∙◌, subst, append-nil, arith}
 use Rattle.std.specs.Vec.Iter.{into_iter_items}
 use Rattle.std.proofs.lemmas.List.{length_push, nil_from_length}
-use Rattle.mb_build.specs.Behaved.{AreBehaved}
+use Rattle.mb_build.specs.BehavesAsPlanned.{BehaveAsPlanned}
 use Rattle.mb_build.proofs.CellLemmas.{cell-more, cells_from}
 use Rattle.mb_build.proofs.cells.add_cells.Goals as goal
 
@@ -15,9 +15,9 @@ loop-actor-init g c =
       as_many = ap length plans ∙ many.0 ∙ sym many.1 ∙ sym actors;
       left = omega (arith, one, more, actors);
       room = c.requires.room;
-      behaved = subst (AreBehaved g.A.Actor.content g.A.Actor.after g.A.Actor.gives g.K.Behaviours.after g.K.Behaviours.gives (length cells))
+      behaved = subst (BehaveAsPlanned g.A.Actor.content g.A.Actor.after g.A.Actor.gives g.K.Behaviours.after g.K.Behaviours.gives (length cells))
           (sym all)
-          (subst (λ n. AreBehaved g.A.Actor.content g.A.Actor.after g.A.Actor.gives g.K.Behaviours.after g.K.Behaviours.gives n c.args.actors.items)
+          (subst (λ n. BehaveAsPlanned g.A.Actor.content g.A.Actor.after g.A.Actor.gives g.K.Behaviours.after g.K.Behaviours.gives n c.args.actors.items)
           (sym one) c.requires.behaved);
     }
 
@@ -29,7 +29,7 @@ add_cell-requires g c =
     let room = at.invariant.room in record {
       few = (omega (arith, left, one, few), few);
       room = omega (arith, left, one, room);
-      behaved = (subst (AreBehaved g.A.Actor.content g.A.Actor.after g.A.Actor.gives g.K.Behaviours.after g.K.Behaviours.gives
+      behaved = (subst (BehaveAsPlanned g.A.Actor.content g.A.Actor.after g.A.Actor.gives g.K.Behaviours.after g.K.Behaviours.gives
           (length at.cells.items)) steps at.invariant.behaved).0;
     }
 
@@ -42,14 +42,14 @@ loop-actor-preserved g c =
     let pushed = c.in_ok-add_cell.ensures.cell in
     let next : length new ≡ length at.cells.items + 1 = ap length pushed ∙ length_push at.cells.items _ in
     let as_many = at.invariant.as_many in let left = at.invariant.left in let one = ap length steps in let other = ap length lines in
-    let behaved = subst (AreBehaved g.A.Actor.content g.A.Actor.after g.A.Actor.gives g.K.Behaviours.after g.K.Behaviours.gives
+    let behaved = subst (BehaveAsPlanned g.A.Actor.content g.A.Actor.after g.A.Actor.gives g.K.Behaviours.after g.K.Behaviours.gives
     (length at.cells.items)) steps at.invariant.behaved in record {
       whole = cell-more (length parents + 1) c.args.journal_limit parents (length at.cells.items) (length new) c.in-Some-next.plan
           (into_iter_items at.plans) after at.cells.items new _ lines next pushed at.invariant.whole;
       as_many = omega (arith, as_many, one, other);
       left = omega (arith, left, one, next);
       room = c.in_ok-add_cell.ensures.room ∙ at.invariant.room;
-      behaved = subst (λ n. AreBehaved g.A.Actor.content g.A.Actor.after g.A.Actor.gives g.K.Behaviours.after g.K.Behaviours.gives n rest)
+      behaved = subst (λ n. BehaveAsPlanned g.A.Actor.content g.A.Actor.after g.A.Actor.gives g.K.Behaviours.after g.K.Behaviours.gives n rest)
           (sym next) behaved.1;
     }
 

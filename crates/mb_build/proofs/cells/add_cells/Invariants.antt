@@ -1,6 +1,6 @@
 use Rattle.std.proofs.Common.{◌≡◌, ◌+◌, ◌++◌, length, vec_capacity}
 use Rattle.std.specs.Vec.Iter.{into_iter_items}
-use Rattle.mb_build.specs.Behaved.{AreBehaved}
+use Rattle.mb_build.specs.BehavesAsPlanned.{BehaveAsPlanned}
 use Rattle.mb_build.proofs.CellLemmas.{cells_from}
 use Rattle.mb_build.proofs.cells.add_cells.Given as goal
 
@@ -11,6 +11,6 @@ invariant-loop-actor g l = record {
   as_many : length (into_iter_items l.plans) ≡ length (into_iter_items l.actor-iterator);
   left : length l.cells.items + length (into_iter_items l.actor-iterator) ≡ length l.parents + 1;
   room : vec_capacity l.cells ≡ length l.parents + 1;
-  behaved : AreBehaved g.A.Actor.content g.A.Actor.after g.A.Actor.gives g.K.Behaviours.after g.K.Behaviours.gives (length l.cells.items)
+  behaved : BehaveAsPlanned g.A.Actor.content g.A.Actor.after g.A.Actor.gives g.K.Behaviours.after g.K.Behaviours.gives (length l.cells.items)
       (into_iter_items l.actor-iterator);
 }

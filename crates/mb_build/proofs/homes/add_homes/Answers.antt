@@ -5,32 +5,32 @@ use Rattle.std.specs.Vec.Iter.{into_iter_items}
 use Rattle.std.proofs.lemmas.List.{append-nil, drop-map, length-drop, length_push, map_push, nil_from_length, take_all}
 use Rattle.mb_msg.specs.declared.id.ActorId.{ActorId}
 use Rattle.mb_journal.specs.Identity.{Identity}
-use Rattle.mb_cell.specs.Seen.{Seen}
-use Rattle.mb_queue.specs.Passes.{Sending, Taking}
+use Rattle.mb_cell.specs.CellView.{CellView}
+use Rattle.mb_queue.specs.Passes.{SendPassView, TakePassView}
 use Rattle.mb_home.specs.Contents.{Contents}
-use Rattle.mb_home.specs.Settled.{IsOwn, IsSettled}
-use Rattle.mb_home.specs.Steps.{IsRested, at_first}
+use Rattle.mb_home.specs.AgreesWithJournal.{IsOwn, AgreesWithJournal}
+use Rattle.mb_home.specs.Steps.{HasNoBacklog, at_first}
 use Rattle.mb_build.specs.Handed.{passes_of}
-use Rattle.mb_build.specs.Housed.{AreAtFirst, enrolled}
+use Rattle.mb_build.specs.NewHomes.{AreAtFirst, directory_of}
 use Rattle.mb_build.specs.Identities.{id}
 use Rattle.mb_build.proofs.FreshLemmas.{AreSettled, all-fresh, as-made, first-more, settled-more}
 use Rattle.mb_build.proofs.HomeLemmas as here
 use Rattle.mb_build.proofs.HomeLemmas.{whose}
 use Rattle.mb_build.proofs.OwnLemmas.{all-unused}
-use Rattle.mb_build.proofs.RollLemmas.{drop-next, take-next}
+use Rattle.mb_build.proofs.DirectoryLemmas.{drop-next, take-next}
 use Rattle.mb_build.proofs.FaultLemmas.{if-none}
 use Rattle.mb_build.proofs.homes.add_homes.Goals as goal
 
 pub loop-cell-init : goal.loop-cell-init
 loop-cell-init g c =
     let none : c.args.homes.now.items ≡ [] = c.requires.none.0 in let ways = c.args.takes.items in
-    let roll = enrolled (whose c.args.cells.items) ways in record {
+    let directory = directory_of (whose c.args.cells.items) ways in record {
       cells = c.into_iter-cell-iterator.ensures.into_iter_gives.0;
       count = ap length none;
       room = c.requires.none.1;
       takes = c.into_iter-takes.ensures.rest ∙ ap (λ (l : List (Box Contents)). drop (length l) ways) (sym none);
       rows = ap (λ (l : List (Box Contents)). drop (length l) (into_iter_items c.args.rows.now)) (sym none);
-      first = subst (λ (l : List (Box Contents)). AreAtFirst roll (drop 1 ways) 0 [] (take (length l) ways) l) (sym none) tt;
+      first = subst (λ (l : List (Box Contents)). AreAtFirst directory (drop 1 ways) 0 [] (take (length l) ways) l) (sym none) tt;
       settled = subst (λ (l : List (Box Contents)). AreSettled g.K.Behaviours.gives 0 l) (sym none) tt;
     }
 
@@ -94,7 +94,7 @@ new-home-requires-clause-untouched g c =
     let all = ap (λ l. at.yielded ++ l) (sym steps) ∙ at.invariant.cells in
     let is = here.unstarted-there cells made.0 made.1 ways rows c.requires.cells.0 c.requires.cells.1 made.2 made.3
     at.yielded cell rest place all at.invariant.count in
-    (ap (λ (x : Seen). x.journal) is, ap (λ (x : Seen). x.acts) is)
+    (ap (λ (x : CellView). x.journal) is, ap (λ (x : CellView). x.acts) is)
 
 pub new-home-requires-clause-none_taken : goal.new-home-requires-clause-none_taken
 new-home-requires-clause-none_taken g c =
@@ -123,7 +123,7 @@ new-home-requires-clause-none_pushed g c =
     drop-map (λ r. r.items) place (into_iter_items c.args.rows.now) ∙ ap (map (λ r. r.items)) (sym at.invariant.rows ∙ lines) in
     let is = here.row-there cells made.0 made.1 ways rows c.requires.cells.0 c.requires.cells.1 made.2 made.3
     at.yielded cell rest place all at.invariant.count sends.items _ row in
-    subst (All (λ (p : Sending). p.pushed ≡ [])) (sym is) (all-unused (drop 1 ways) place)
+    subst (All (λ (p : SendPassView). p.pushed ≡ [])) (sym is) (all-unused (drop 1 ways) place)
 
 pub new-home-requires-clause-own : goal.new-home-requires-clause-own
 new-home-requires-clause-own g c =
@@ -139,7 +139,7 @@ new-home-requires-clause-own g c =
     let lines : into_iter_items at.rows ≡ sends ∷ into_iter_items c.next-in-loop-cell-2.new.self = c.in-Some-next-2.ensures.cases.0 in
     let row : drop place rows ≡ sends.items ∷ map (λ r. r.items) (into_iter_items c.next-in-loop-cell-2.new.self) =
     drop-map (λ r. r.items) place (into_iter_items c.args.rows.now) ∙ ap (map (λ r. r.items)) (sym at.invariant.rows ∙ lines) in
-    subst (λ l. IsOwn (at_first cell take' sends.items 0 l)) (sym c.requires.roll)
+    subst (λ l. IsOwn (at_first cell take' sends.items 0 l)) (sym c.requires.directory)
     (here.own-there cells made.0 made.1 ways rows c.requires.cells.0 c.requires.cells.1 made.2 made.3
     at.yielded cell rest place all at.invariant.count take' _ this sends.items _ row)
 
@@ -169,7 +169,7 @@ loop-cell-preserved g c =
     let row : drop place rows ≡ sends.items ∷ map (λ r. r.items) (into_iter_items c.next-in-loop-cell-2.new.self) =
     drop-map (λ r. r.items) place (into_iter_items c.args.rows.now) ∙ ap (map (λ r. r.items)) (sym at.invariant.rows ∙ lines) in
     let new = c.add.new.homes.items in let added = c.in_ok-add.ensures.added in let box = added.0 in let home = c.new-home.result in
-    let others = drop 1 ways in let roll = enrolled (whose cells) ways in
+    let others = drop 1 ways in let directory = directory_of (whose cells) ways in
     let pushed : new ≡ at.homes.items ++ box ∷ [] = added.2 in
     let longer : length new ≡ place + 1 = ap length pushed ∙ length_push at.homes.items box in
     let further : length (at.yielded ++ cell ∷ []) ≡ length at.yielded + 1 = length_push at.yielded cell in
@@ -183,25 +183,25 @@ loop-cell-preserved g c =
     at.yielded cell rest place all at.invariant.count in
     let sum : place ≡ 0 + place = omega arith in
     let same : box.value ≡ home = added.1 in
-    let settled = subst (λ n. IsSettled (g.K.Behaviours.gives n) [] home) (ap (λ (x : ActorId). x.0) planned.this ∙ sum)
+    let settled = subst (λ n. AgreesWithJournal (g.K.Behaviours.gives n) [] home) (ap (λ (x : ActorId). x.0) planned.this ∙ sum)
     c.new-home.ensures.settled in
-    let homes_first = first-more roll others 0 (whose at.yielded) cell.who (take place ways) take' at.homes.items box at.invariant.first
-    (as-made box.value home cell take' sends.items (passes_of others (0 + place)) _ roll cell.who same c.new-home.ensures.first is
-    (passes ∙ ap (passes_of others) sum) c.requires.roll) in record {
+    let homes_first = first-more directory others 0 (whose at.yielded) cell.who (take place ways) take' at.homes.items box at.invariant.first
+    (as-made box.value home cell take' sends.items (passes_of others (0 + place)) _ directory cell.who same c.new-home.ensures.first is
+    (passes ∙ ap (passes_of others) sum) c.requires.directory) in record {
       cells = append_assoc at.yielded (cell ∷ []) rest ∙ all;
       count = omega (arith, longer, further, count);
       room = let same = c.in_ok-add.ensures.room in let room = at.invariant.room in omega (arith, same, room);
       takes = sym (drop-next place ways take' _ this) ∙ ap (λ n. drop n ways) next;
       rows = sym (drop-next place (into_iter_items c.args.rows.now) sends _ (sym at.invariant.rows ∙ lines))
           ∙ ap (λ n. drop n (into_iter_items c.args.rows.now)) next;
-      first = subst (λ (l : List (Box Contents)). AreAtFirst roll others 0 (whose (at.yielded ++ cell ∷ [])) (take (length new) ways) l) (sym pushed)
-          (subst (λ (l : List Taking). AreAtFirst roll others 0 (whose (at.yielded ++ cell ∷ [])) l (at.homes.items ++ box ∷ []))
+      first = subst (λ (l : List (Box Contents)). AreAtFirst directory others 0 (whose (at.yielded ++ cell ∷ [])) (take (length new) ways) l) (sym pushed)
+          (subst (λ (l : List TakePassView). AreAtFirst directory others 0 (whose (at.yielded ++ cell ∷ [])) l (at.homes.items ++ box ∷ []))
           (sym (take-next place ways take' _ this) ∙ ap (λ n. take n ways) next)
-          (subst (λ (l : List Identity). AreAtFirst roll others 0 l (take place ways ++ take' ∷ []) (at.homes.items ++ box ∷ []))
-          (sym (map_push (λ (x : Seen). x.who) at.yielded cell)) homes_first));
+          (subst (λ (l : List Identity). AreAtFirst directory others 0 l (take place ways ++ take' ∷ []) (at.homes.items ++ box ∷ []))
+          (sym (map_push (λ (x : CellView). x.who) at.yielded cell)) homes_first));
       settled = subst (λ (l : List (Box Contents)). AreSettled g.K.Behaviours.gives 0 l) (sym pushed)
           (settled-more g.K.Behaviours.gives 0 at.homes.items box at.invariant.settled
-          (subst (λ x. IsSettled (g.K.Behaviours.gives (0 + place)) [] x) (sym same) settled) (subst IsRested (sym same) c.new-home.ensures.rested));
+          (subst (λ x. AgreesWithJournal (g.K.Behaviours.gives (0 + place)) [] x) (sym same) settled) (subst HasNoBacklog (sym same) c.new-home.ensures.rested));
     }
 
 pub returns-clause-first : goal.returns-clause-first
@@ -211,18 +211,18 @@ returns-clause-first g c =
     let none : into_iter_items at.cell-iterator ≡ [] =
     nil_from_length (into_iter_items at.cell-iterator) (sym at.cell-iterator.rest.ok.0 ∙ c.in-None.ensures.steps.0) in
     let all : at.yielded ≡ cells = sym (append-nil at.yielded) ∙ ap (λ l. at.yielded ++ l) (sym none) ∙ at.invariant.cells in
-    let roll = enrolled (whose cells) ways in
+    let directory = directory_of (whose cells) ways in
     let many = here.passes-count cells made.0 made.1 ways rows c.requires.cells.0 c.requires.cells.1 made.2 made.3 in
     let whole = ap length all in let count = at.invariant.count in
-    subst (λ (l : List Identity). AreAtFirst roll (drop 1 ways) 0 l ways at.homes.items) (ap whose all)
-    (subst (λ (l : List Taking). AreAtFirst roll (drop 1 ways) 0 (whose at.yielded) l at.homes.items)
+    subst (λ (l : List Identity). AreAtFirst directory (drop 1 ways) 0 l ways at.homes.items) (ap whose all)
+    (subst (λ (l : List TakePassView). AreAtFirst directory (drop 1 ways) 0 (whose at.yielded) l at.homes.items)
     (take_all (length at.homes.items) ways (omega (arith, many, whole, count))) at.invariant.first)
 
 pub returns-clause-fresh : goal.returns-clause-fresh
 returns-clause-fresh g c =
     let ways = c.args.takes.items in let cells = c.args.cells.items in let homes = c.loop-cell.homes.items in
-    let first : AreAtFirst (enrolled (whose cells) ways) (drop 1 ways) 0 (whose cells) ways homes = returns-clause-first g c in
-    all-fresh g.K.Behaviours.gives (enrolled (whose cells) ways) (drop 1 ways) (length cells) (whose cells) ways homes first
+    let first : AreAtFirst (directory_of (whose cells) ways) (drop 1 ways) 0 (whose cells) ways homes = returns-clause-first g c in
+    all-fresh g.K.Behaviours.gives (directory_of (whose cells) ways) (drop 1 ways) (length cells) (whose cells) ways homes first
     c.requires.cells.1 c.loop-cell.invariant.settled
 
 pub returns-clause-rest : goal.returns-clause-rest

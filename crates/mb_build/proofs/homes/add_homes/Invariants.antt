@@ -1,6 +1,6 @@
 use Rattle.std.proofs.Common.{◌≡◌, ◌++◌, ◌≤◌, drop, length, take, vec_capacity}
 use Rattle.std.specs.Vec.Iter.{into_iter_items}
-use Rattle.mb_build.specs.Housed.{AreAtFirst, enrolled}
+use Rattle.mb_build.specs.NewHomes.{AreAtFirst, directory_of}
 use Rattle.mb_build.proofs.FreshLemmas.{AreSettled}
 use Rattle.mb_build.proofs.HomeLemmas.{whose}
 use Rattle.mb_build.proofs.homes.add_homes.Given as goal
@@ -12,7 +12,7 @@ invariant-loop-cell g l = record {
   room : length l.fn.cells.items ≤ vec_capacity l.homes;
   takes : into_iter_items l.takes ≡ drop (length l.homes.items) l.fn.takes.items;
   rows : into_iter_items l.rows ≡ drop (length l.homes.items) (into_iter_items l.initial.rows);
-  first : AreAtFirst (enrolled (whose l.fn.cells.items) l.fn.takes.items) (drop 1 l.fn.takes.items) 0 (whose l.yielded)
+  first : AreAtFirst (directory_of (whose l.fn.cells.items) l.fn.takes.items) (drop 1 l.fn.takes.items) 0 (whose l.yielded)
       (take (length l.homes.items) l.fn.takes.items) l.homes.items;
   settled : AreSettled g.K.Behaviours.gives 0 l.homes.items;
 }

@@ -1,6 +1,6 @@
 use Rattle.std.proofs.Common.{◌+◌, ◌++◌, ◌∷◌, [], length, length-append, sym, ap, ◌∙◌}
 use Rattle.std.proofs.lemmas.List.{map_more}
-use Rattle.mb_plan.specs.declared.actor_plan.ActorPlan.{ActorPlan}
+use Rattle.mb_msg.specs.declared.actor_plan.ActorPlan.{ActorPlan}
 use Rattle.mb_build.proofs.planned.parents_of.Goals as goal
 
 pub loop-plan-init : goal.loop-plan-init

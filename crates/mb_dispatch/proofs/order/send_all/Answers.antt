@@ -3,35 +3,35 @@ use Rattle.std.specs.Prelude.{IfErr}
 use Rattle.std.proofs.lemmas.List.{take_more}
 use Rattle.std.proofs.lemmas.List.Elements.{Contains-get_or}
 use Rattle.std.proofs.lemmas.Result.{err_from_is_err_and}
-use Rattle.mb_gate.specs.Names.{actors_of}
+use Rattle.mb_gate.specs.Accessors.{actors_of}
 use Rattle.mb_system.specs.Members.{sender_caller}
 use Rattle.mb_dispatch.specs.Faults.{BreaksSending}
 use Rattle.mb_dispatch.specs.Orders.{HasSent}
 use Rattle.mb_dispatch.proofs.Breaking.{breaks-many}
-use Rattle.mb_wake.proofs.CallerLemmas.{account-none, account-then}
-use Rattle.mb_system.proofs.Debts.{debts-same, debts-then}
+use Rattle.mb_register.proofs.CallerLemmas.{account-none, account-then}
+use Rattle.mb_system.proofs.Obligations.{obligations-same, obligations-then}
 use Rattle.mb_dispatch.proofs.Sending.{sent-none, sent-then}
 use Rattle.mb_dispatch.proofs.order.send_all.Goals as goal
 
 pub loop-order-init : goal.loop-order-init
 loop-order-init g c =
-    let first = c.args.sender.now in let caller = sender_caller first.inner.waker in (
+    let first = c.args.sender.now in let caller = sender_caller first.inner.registrar in (
       c.requires.ours,
       sent-none first,
-      debts-same (actors_of c.args.system.now.gates) caller caller refl refl,
+      obligations-same (actors_of c.args.system.now.gates) caller caller refl refl,
       account-none caller.account,
     )
 
 pub loop-order-preserved : goal.loop-order-preserved
 loop-order-preserved g c =
-    let at = c.loop-order in let one = c.in_ok-send.ensures in (
-      c.send.ensures.ours,
-      subst (λ xs. HasSent xs c.args.sender.now c.send.new.sender)
+    let at = c.loop-order in let one = c.in_ok-send_often.ensures in (
+      c.send_often.ensures.ours,
+      subst (λ xs. HasSent xs c.args.sender.now c.send_often.new.sender)
           (sym (take_more c.args.orders.now at.order-index _ c.loop-order-test.true))
           (sent-then _ _ _ _ _ at.invariant.1 one.sent),
-      debts-then (actors_of c.args.system.now.gates) (sender_caller c.args.sender.now.inner.waker) (sender_caller at.sender.inner.waker)
-          (sender_caller c.send.new.sender.inner.waker) at.invariant.2 one.debts,
-      account-then _ _ _ at.invariant.3 c.send.ensures.owed,
+      obligations-then (actors_of c.args.system.now.gates) (sender_caller c.args.sender.now.inner.registrar) (sender_caller at.sender.inner.registrar)
+          (sender_caller c.send_often.new.sender.inner.registrar) at.invariant.2 one.obligations,
+      account-then _ _ _ at.invariant.3 c.send_often.ensures.owed,
     )
 
 pub returns-clause-ours : goal.returns-clause-ours
@@ -40,28 +40,28 @@ returns-clause-ours g c = c.loop-order.invariant.0
 pub returns-clause-by : goal.returns-clause-by
 returns-clause-by g c = c.loop-order.invariant.1.by
 
-pub returns-clause-debts : goal.returns-clause-debts
-returns-clause-debts g c = c.loop-order.invariant.2
+pub returns-clause-obligations : goal.returns-clause-obligations
+returns-clause-obligations g c = c.loop-order.invariant.2
 
 pub returns-clause-fault : goal.returns-clause-fault
 returns-clause-fault g c = tt
 
-pub returns-in_err-send-clause-ours : goal.returns-in_err-send-clause-ours
-returns-in_err-send-clause-ours g c = c.send.ensures.ours
+pub returns-in_err-send_often-clause-ours : goal.returns-in_err-send_often-clause-ours
+returns-in_err-send_often-clause-ours g c = c.send_often.ensures.ours
 
-pub returns-in_err-send-clause-by : goal.returns-in_err-send-clause-by
-returns-in_err-send-clause-by g c = c.send.ensures.by ∙ c.loop-order.invariant.1.by
+pub returns-in_err-send_often-clause-by : goal.returns-in_err-send_often-clause-by
+returns-in_err-send_often-clause-by g c = c.send_often.ensures.by ∙ c.loop-order.invariant.1.by
 
 pub returns-clause-owed : goal.returns-clause-owed
 returns-clause-owed g c = c.loop-order.invariant.3
 
-pub returns-in_err-send-clause-owed : goal.returns-in_err-send-clause-owed
-returns-in_err-send-clause-owed g c = account-then _ _ _ c.loop-order.invariant.3 c.send.ensures.owed
+pub returns-in_err-send_often-clause-owed : goal.returns-in_err-send_often-clause-owed
+returns-in_err-send_often-clause-owed g c = account-then _ _ _ c.loop-order.invariant.3 c.send_often.ensures.owed
 
-pub returns-in_err-send-clause-fault : goal.returns-in_err-send-clause-fault
-returns-in_err-send-clause-fault g c =
+pub returns-in_err-send_often-clause-fault : goal.returns-in_err-send_often-clause-fault
+returns-in_err-send_often-clause-fault g c =
     let gates = c.args.system.now.gates in let orders = c.args.orders.now in
     let p = err_from_is_err_and c.from_residual.result c.from_residual.ensures.1 in
     let there = Contains-get_or orders c.loop-order.order-index _ c.loop-order-test.true in
     subst (λ r. IfErr r (BreaksSending gates orders)) (sym p.1)
-    (subst (BreaksSending gates orders) (sym p.2) (breaks-many gates orders _ c.in_err-send.field-0.0 there c.in_err-send.ensures.fault))
+    (subst (BreaksSending gates orders) (sym p.2) (breaks-many gates orders _ c.in_err-send_often.field-0.0 there c.in_err-send_often.ensures.fault))

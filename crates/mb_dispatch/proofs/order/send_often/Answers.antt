@@ -1,21 +1,22 @@
-use Rattle.std.proofs.Common.{refl, ◌∙◌, replicate, arith, subst, sym}
-use Rattle.mb_gate.specs.Names.{actors_of}
+use Rattle.std.proofs.Common.{◌≡◌, refl, ◌∙◌, ◌∷◌, [], arith, subst, sym}
+use Rattle.mb_gate.specs.Accessors.{actors_of}
 use Rattle.mb_system.specs.Members.{sender_caller}
-use Rattle.mb_wake.proofs.CallerLemmas.{account-none, account-then}
-use Rattle.mb_system.proofs.Debts.{debts-same, debts-then}
-use Rattle.mb_dispatch.proofs.Sending.{sent-again, sent-none}
+use Rattle.mb_register.proofs.CallerLemmas.{account-none, account-then}
+use Rattle.mb_system.proofs.Obligations.{obligations-same, obligations-then}
+use Rattle.mb_dispatch.proofs.Sending.{sent-again, sent-never}
 use Rattle.std.specs.Prelude.{IfErr}
 use Rattle.std.proofs.lemmas.Result.{err_from_is_err_and}
 use Rattle.mb_dispatch.specs.Faults.{BreaksSending}
+use Rattle.mb_dispatch.specs.Orders.{HasSent, order_for}
 use Rattle.mb_dispatch.proofs.Breaking.{breaks-often}
 use Rattle.mb_dispatch.proofs.order.send_often.Goals as goal
 
 pub loop-init : goal.loop-init
 loop-init g c =
-    let first = c.args.sender.now in let caller = sender_caller first.inner.waker in (
+    let first = c.args.sender.now in let caller = sender_caller first.inner.registrar in (
       c.requires.ours,
-      sent-none first,
-      debts-same (actors_of c.args.system.now.gates) caller caller refl refl,
+      sent-never c.args.order.to c.args.order.what first,
+      obligations-same (actors_of c.args.system.now.gates) caller caller refl refl,
       account-none caller.account,
     )
 
@@ -23,20 +24,26 @@ pub loop-preserved : goal.loop-preserved
 loop-preserved g c =
     let one = c.in_ok-send.ensures in (
       c.send.ensures.ours,
-      sent-again c.args.order c.loop.counter c.args.sender.now c.loop.sender c.send.new.sender c.loop.invariant.1 one.sent,
-      debts-then (actors_of c.args.system.now.gates) (sender_caller c.args.sender.now.inner.waker) (sender_caller c.loop.sender.inner.waker)
-          (sender_caller c.send.new.sender.inner.waker) c.loop.invariant.2 one.debts,
+      sent-again c.args.order.to c.args.order.what c.loop.counter c.args.sender.now c.loop.sender c.send.new.sender c.loop.invariant.1 one.sent,
+      obligations-then (actors_of c.args.system.now.gates) (sender_caller c.args.sender.now.inner.registrar) (sender_caller c.loop.sender.inner.registrar)
+          (sender_caller c.send.new.sender.inner.registrar) c.loop.invariant.2 one.obligations,
       account-then _ _ _ c.loop.invariant.3 c.send.ensures.owed,
     )
 
 pub returns-clause-ours : goal.returns-clause-ours
 returns-clause-ours g c = c.loop.invariant.0
 
+pub returns-clause-sent : goal.returns-clause-sent
+returns-clause-sent g c =
+    let order = c.args.order in
+    let all : c.loop.counter ≡ order.times = omega (arith, c.loop-test.false, c.loop.auto.counter-end) in
+    subst (λ n. HasSent (order_for order.to order.what n ∷ []) c.args.sender.now c.loop.sender) all c.loop.invariant.1
+
 pub returns-clause-by : goal.returns-clause-by
 returns-clause-by g c = c.loop.invariant.1.by
 
-pub returns-clause-debts : goal.returns-clause-debts
-returns-clause-debts g c = c.loop.invariant.2
+pub returns-clause-obligations : goal.returns-clause-obligations
+returns-clause-obligations g c = c.loop.invariant.2
 
 pub returns-clause-fault : goal.returns-clause-fault
 returns-clause-fault g c = tt
@@ -49,10 +56,10 @@ returns-in_err-send-clause-by g c = c.send.ensures.by ∙ c.loop.invariant.1.by
 
 pub returns-in_err-send-clause-fault : goal.returns-in_err-send-clause-fault
 returns-in_err-send-clause-fault g c =
-    let gates = c.args.system.now.gates in let breaks = BreaksSending gates (replicate c.args.times c.args.order) in
+    let gates = c.args.system.now.gates in let breaks = BreaksSending gates (c.args.order ∷ []) in
     let p = err_from_is_err_and c.from_residual.result c.from_residual.ensures.1 in let more = c.loop-test.true in
     subst (λ r. IfErr r breaks) (sym p.1)
-    (subst breaks (sym p.2) (breaks-often gates c.args.order c.args.times _ (omega (arith, more)) c.in_err-send.ensures.fault))
+    (subst breaks (sym p.2) (breaks-often gates c.args.order _ (omega (arith, more)) c.in_err-send.ensures.fault))
 
 pub returns-clause-owed : goal.returns-clause-owed
 returns-clause-owed g c = c.loop.invariant.3

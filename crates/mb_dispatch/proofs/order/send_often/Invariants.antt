@@ -1,13 +1,13 @@
-use Rattle.std.proofs.Common.{replicate}
-use Rattle.mb_gate.specs.Names.{actors_of}
-use Rattle.mb_wake.specs.Caller.{OwesForRefusals}
-use Rattle.mb_system.specs.Debts.{KeepsDebts}
+use Rattle.std.proofs.Common.{[], ◌∷◌}
+use Rattle.mb_gate.specs.Accessors.{actors_of}
+use Rattle.mb_register.specs.Caller.{OwesForRefusals}
+use Rattle.mb_system.specs.Obligations.{KeepsObligations}
 use Rattle.mb_system.specs.Members.{IsSenderOf, sender_caller}
-use Rattle.mb_dispatch.specs.Orders.{HasSent}
+use Rattle.mb_dispatch.specs.Orders.{HasSent, order_for}
 use Rattle.mb_dispatch.proofs.order.send_often.Given as goal
 
 abbrev pub invariant-loop : goal.invariant-loop
 invariant-loop g l =
-    IsSenderOf l.system.gates l.sender.inner × HasSent (replicate l.counter l.order) l.fn.sender l.sender
-    × KeepsDebts (actors_of l.system.gates) (sender_caller l.fn.sender.inner.waker) (sender_caller l.sender.inner.waker)
-    × OwesForRefusals (sender_caller l.fn.sender.inner.waker).account (sender_caller l.sender.inner.waker).account
+    IsSenderOf l.system.gates l.sender.inner × HasSent (order_for l.fn.order.to l.fn.order.what l.counter ∷ []) l.fn.sender l.sender
+    × KeepsObligations (actors_of l.system.gates) (sender_caller l.fn.sender.inner.registrar) (sender_caller l.sender.inner.registrar)
+    × OwesForRefusals (sender_caller l.fn.sender.inner.registrar).account (sender_caller l.sender.inner.registrar).account

@@ -1,9 +1,9 @@
 use Rattle.std.proofs.Common.{◌∙◌}
 use Rattle.std.proofs.lemmas.Result.{IfErr-weaker, on_ok_weaker}
-use Rattle.mb_gate.specs.Names.{actors_of}
+use Rattle.mb_gate.specs.Accessors.{actors_of}
 use Rattle.mb_system.specs.Members.{end_caller}
 use Rattle.mb_system.proofs.Crossing.{end_send, passed_send, passed_sync, system_sync}
-use Rattle.mb_system.proofs.Debts.{debts-then}
+use Rattle.mb_system.proofs.Obligations.{obligations-then}
 use Rattle.mb_system.proofs.Saw.{saw-then}
 use Rattle.mb_dispatch.proofs.Breaking.{breaks-by-end, breaks-by-job}
 use Rattle.mb_dispatch.proofs.Crossing.{job_send}
@@ -11,80 +11,80 @@ use Rattle.mb_dispatch.proofs.Sides.{all_after, as_many_after, err_of, ok_first,
 use Rattle.mb_dispatch.proofs.Firsts.{first-settled}
 use Rattle.mb_dispatch.proofs.running.run.Goals as goal
 
-pub all_beside-of_jobs-requires-sync-S : goal.all_beside-of_jobs-requires-sync-S
-all_beside-of_jobs-requires-sync-S g c κs within =
+pub both_in_parallel-of_jobs-requires-sync-S : goal.both_in_parallel-of_jobs-requires-sync-S
+both_in_parallel-of_jobs-requires-sync-S g c κs within =
     passed_sync 1 _ _ (system_sync _ _ g.A.Actor g.K.Behaviours c.type_bounds.send-A c.type_bounds.send-K)
 
-pub all_beside-of_jobs-requires-send-T : goal.all_beside-of_jobs-requires-send-T
-all_beside-of_jobs-requires-send-T g c κs within =
+pub both_in_parallel-of_jobs-requires-send-T : goal.both_in_parallel-of_jobs-requires-send-T
+both_in_parallel-of_jobs-requires-send-T g c κs within =
     passed_send 2 _ _ (job_send _ _ g.A.Actor g.K.Behaviours c.type_bounds.send-A c.type_bounds.send-K)
 
-pub all_beside-of_jobs-requires-send-U : goal.all_beside-of_jobs-requires-send-U
-all_beside-of_jobs-requires-send-U g c κs within =
+pub both_in_parallel-of_jobs-requires-send-U : goal.both_in_parallel-of_jobs-requires-send-U
+both_in_parallel-of_jobs-requires-send-U g c κs within =
     passed_send 3 _ _ (end_send _ _ g.A.Actor g.K.Behaviours c.type_bounds.send-A c.type_bounds.send-K)
 
 pub returns-clause-ends : goal.returns-clause-ends
 returns-clause-ends g c =
-    let each = c.all_beside-of_jobs.ensures.keeps.1 in (
+    let each = c.both_in_parallel-of_jobs.ensures.keeps.1 in (
       all_after _ _ (λ old new kept. kept.0) _ _ each,
       same_after _ _ (λ old new kept. kept.1) _ _ each ∙ c.register_by_first.ensures.ends.1,
     )
 
 pub returns-clause-jobs : goal.returns-clause-jobs
 returns-clause-jobs g c =
-    let each = c.all_beside-of_jobs.ensures.keeps.0 in (all_after _ _ (λ old new kept. kept.0) _ _ each, as_many_after _ _ _ each)
+    let each = c.both_in_parallel-of_jobs.ensures.keeps.0 in (all_after _ _ (λ old new kept. kept.0) _ _ each, as_many_after _ _ _ each)
 
 pub returns-clause-by : goal.returns-clause-by
-returns-clause-by g c = same_after _ _ (λ old new kept. kept.1) _ _ c.all_beside-of_jobs.ensures.keeps.0
+returns-clause-by g c = same_after _ _ (λ old new kept. kept.1) _ _ c.both_in_parallel-of_jobs.ensures.keeps.0
 
-pub returns-clause-paid : goal.returns-clause-paid
-returns-clause-paid g c =
-    let of = c.all_beside-of_jobs.result in
-    ok_first _ of.1 of.0 c.first_of.result c.first_of.ensures
-    (on_ok_weaker _ (all_after _ _ (λ old new did. did.0) _ _) c.all_beside-of_jobs.ensures.done.1)
+pub returns-clause-discharged : goal.returns-clause-discharged
+returns-clause-discharged g c =
+    let of = c.both_in_parallel-of_jobs.result in
+    ok_first _ of.1 of.0 c.first_error.result c.first_error.ensures
+    (on_ok_weaker _ (all_after _ _ (λ old new did. did.0) _ _) c.both_in_parallel-of_jobs.ensures.done.1)
 
 pub returns-clause-done : goal.returns-clause-done
 returns-clause-done g c =
-    let of = c.all_beside-of_jobs.result in
-    ok_rest _ of.1 of.0 c.first_of.result c.first_of.ensures c.all_beside-of_jobs.ensures.done.0
+    let of = c.both_in_parallel-of_jobs.result in
+    ok_rest _ of.1 of.0 c.first_error.result c.first_error.ensures c.both_in_parallel-of_jobs.ensures.done.0
 
 pub returns-clause-fault : goal.returns-clause-fault
 returns-clause-fault g c =
-    let of = c.all_beside-of_jobs.result in
-    let fails = c.all_beside-of_jobs.ensures.fails in
-    err_of _ of.1 of.0 c.first_of.result c.first_of.ensures (IfErr-weaker _ _ _ (λ fault. breaks-by-end _ _ _ _ _ fault) fails.1)
+    let of = c.both_in_parallel-of_jobs.result in
+    let fails = c.both_in_parallel-of_jobs.ensures.fails in
+    err_of _ of.1 of.0 c.first_error.result c.first_error.ensures (IfErr-weaker _ _ _ (λ fault. breaks-by-end _ _ _ _ _ fault) fails.1)
     (IfErr-weaker _ _ _ (λ fault. breaks-by-job _ _ _ _ _ fault) fails.0)
 
 pub returns-clause-saw : goal.returns-clause-saw
 returns-clause-saw g c =
-    zip_then _ _ _ (λ x y z saw kept. saw-then _ _ _ saw kept.2) _ _ _ c.register_by_first.ensures.saw c.all_beside-of_jobs.ensures.keeps.1
+    zip_then _ _ _ (λ x y z saw kept. saw-then _ _ _ saw kept.2) _ _ _ c.register_by_first.ensures.saw c.both_in_parallel-of_jobs.ensures.keeps.1
 
-pub returns-clause-debts : goal.returns-clause-debts
-returns-clause-debts g c =
+pub returns-clause-obligations : goal.returns-clause-obligations
+returns-clause-obligations g c =
     let actors = actors_of c.args.system.now.gates in
-    zip_then _ _ _ (λ x y z p kept. debts-then actors (end_caller x.waker) (end_caller y.waker) (end_caller z.waker) p kept.3) _ _ _
-    c.register_by_first.ensures.debts c.all_beside-of_jobs.ensures.keeps.1
+    zip_then _ _ _ (λ x y z p kept. obligations-then actors (end_caller x.registrar) (end_caller y.registrar) (end_caller z.registrar) p kept.3) _ _ _
+    c.register_by_first.ensures.obligations c.both_in_parallel-of_jobs.ensures.keeps.1
 
 pub returns-clause-empty : goal.returns-clause-empty
 returns-clause-empty g c =
-    let of = c.all_beside-of_jobs.result in
-    ok_first _ of.1 of.0 c.first_of.result c.first_of.ensures
-    (on_ok_weaker _ (all_after _ _ (λ old new did. did.1) _ _) c.all_beside-of_jobs.ensures.done.1)
+    let of = c.both_in_parallel-of_jobs.result in
+    ok_first _ of.1 of.0 c.first_error.result c.first_error.ensures
+    (on_ok_weaker _ (all_after _ _ (λ old new did. did.1) _ _) c.both_in_parallel-of_jobs.ensures.done.1)
 
 pub returns-clause-settled : goal.returns-clause-settled
 returns-clause-settled g c =
-    let of = c.all_beside-of_jobs.result in let did = c.all_beside-of_jobs.ensures in
-    ok_first _ of.1 of.0 c.first_of.result c.first_of.ensures
+    let of = c.both_in_parallel-of_jobs.result in let did = c.both_in_parallel-of_jobs.ensures in
+    ok_first _ of.1 of.0 c.first_error.result c.first_error.ensures
     (on_ok_weaker _
-    (λ done. first-settled c.args.system.now.gates _ (λ x y kept. kept.3) _ _ c.register_by_first.ensures.paid did.keeps.1
+    (λ done. first-settled c.args.system.now.gates _ (λ x y kept. kept.3) _ _ c.register_by_first.ensures.discharged did.keeps.1
     (all_after _ _ (λ old new did. did.0) _ _ done))
     did.done.1)
 
 pub register_by_first-requires : goal.register_by_first-requires
 register_by_first-requires g c = c.requires.ends
 
-pub all_beside-of_jobs-requires-clause-these : goal.all_beside-of_jobs-requires-clause-these
-all_beside-of_jobs-requires-clause-these g c κs within = c.requires.jobs
+pub both_in_parallel-of_jobs-requires-clause-these : goal.both_in_parallel-of_jobs-requires-clause-these
+both_in_parallel-of_jobs-requires-clause-these g c κs within = c.requires.jobs
 
-pub all_beside-of_jobs-requires-clause-those : goal.all_beside-of_jobs-requires-clause-those
-all_beside-of_jobs-requires-clause-those g c κs within = c.register_by_first.ensures.ends.0
+pub both_in_parallel-of_jobs-requires-clause-those : goal.both_in_parallel-of_jobs-requires-clause-those
+both_in_parallel-of_jobs-requires-clause-those g c κs within = c.register_by_first.ensures.ends.0

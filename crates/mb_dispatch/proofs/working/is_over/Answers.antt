@@ -1,26 +1,26 @@
 use Rattle.std.proofs.Common.{◌∙◌, subst, sym, ap, refl, inr}
-use Rattle.mb_gate.specs.Names.{known_by, pass_id, actors_of}
+use Rattle.mb_gate.specs.Accessors.{pass_view, pass_id, actors_of}
 use Rattle.mb_gate.specs.Rule.{IsPart}
 use Rattle.std.specs.Global.{Box}
 use Rattle.std.specs.Prelude.{Option}
 use Rattle.mb_gate.specs.Untouched.{Origin}
 use Rattle.mb_home.specs.Contents.{Contents}
 use Rattle.mb_home.specs.Fresh.{IsFreshClaim}
-use Rattle.mb_gate.specs.View.{owes}
-use Rattle.mb_wake.specs.Owed.{is_owed}
+use Rattle.mb_gate.specs.View.{obligation_to}
+use Rattle.mb_register.specs.Owed.{is_owed}
 use Rattle.mb_system.proofs.Saw.{saw-same}
 use Rattle.mb_system.specs.Members.{end_caller}
-use Rattle.mb_system.proofs.Debts.{debts-left, debts-same, debts-then}
-use Rattle.mb_dispatch.specs.Found.{FoundEmpty}
+use Rattle.mb_system.proofs.Obligations.{obligations-left, obligations-same, obligations-then}
+use Rattle.mb_dispatch.specs.Found.{FoundPoolEmpty}
 use Rattle.mb_dispatch.proofs.working.is_over.Goals as goal
 
 pub returns-then-is_over-clause-saw : goal.returns-then-is_over-clause-saw
 returns-then-is_over-clause-saw g c =
-    subst (λ p. IsPart (known_by c.args.end.now.waker.pass).log (known_by p).log) (sym (c.take.ensures.same.0 ∙ c.loop.invariant.3)) (saw-same _)
+    subst (λ p. IsPart (pass_view c.args.end.now.registrar.pass).log (pass_view p).log) (sym (c.take.ensures.same.0 ∙ c.loop.invariant.3)) (saw-same _)
 
 pub returns-then-is_over-clause-empty : goal.returns-then-is_over-clause-empty
 returns-then-is_over-clause-empty g c =
-    let none = c.in_default.ensures.none in λ over. subst (FoundEmpty g.K.Behaviours.gives) (sym none.0) none.1
+    let none = c.in_default.ensures.none in λ over. subst (FoundPoolEmpty g.K.Behaviours.gives) (sym none.0) none.1
 
 pub loop-init : goal.loop-init
 loop-init g c = (c.requires.ours, refl, refl, refl)
@@ -48,13 +48,13 @@ returns-then-is_over-clause-number g c = c.take.ensures.same.3 ∙ c.loop.invari
 pub returns-then-is_over-clause-fault : goal.returns-then-is_over-clause-fault
 returns-then-is_over-clause-fault g c = tt
 
-pub returns-then-is_over-clause-debts : goal.returns-then-is_over-clause-debts
-returns-then-is_over-clause-debts g c =
-    λ id lt. inr (c.requires.paid id lt, ap (λ p. owes id (known_by p)) (c.take.ensures.same.0 ∙ c.loop.invariant.3))
+pub returns-then-is_over-clause-obligations : goal.returns-then-is_over-clause-obligations
+returns-then-is_over-clause-obligations g c =
+    λ id lt. inr (c.requires.discharged id lt, ap (λ p. obligation_to id (pass_view p)) (c.take.ensures.same.0 ∙ c.loop.invariant.3))
 
-pub returns-then-is_over-clause-paid : goal.returns-then-is_over-clause-paid
-returns-then-is_over-clause-paid g c =
-    λ over id lt. ap (λ o. is_owed o id) (c.take.ensures.same.1 ∙ c.loop.invariant.2) ∙ c.requires.paid id lt
+pub returns-then-is_over-clause-discharged : goal.returns-then-is_over-clause-discharged
+returns-then-is_over-clause-discharged g c =
+    λ over id lt. ap (λ o. is_owed o id) (c.take.ensures.same.1 ∙ c.loop.invariant.2) ∙ c.requires.discharged id lt
 
 pub returns-in-Some-take-clause-ours : goal.returns-in-Some-take-clause-ours
 returns-in-Some-take-clause-ours g c = c.run_one.ensures.ours
@@ -68,29 +68,29 @@ returns-in-Some-take-clause-number g c = c.run_one.ensures.number ∙ c.take.ens
 pub returns-in_err-run_one-clause-number : goal.returns-in_err-run_one-clause-number
 returns-in_err-run_one-clause-number g c = c.run_one.ensures.number ∙ c.take.ensures.same.3 ∙ c.loop.invariant.1
 
-pub returns-in-Some-take-clause-debts : goal.returns-in-Some-take-clause-debts
-returns-in-Some-take-clause-debts g c =
+pub returns-in-Some-take-clause-obligations : goal.returns-in-Some-take-clause-obligations
+returns-in-Some-take-clause-obligations g c =
     let same = c.take.ensures.same in let at = c.loop.invariant in let actors = actors_of c.args.system.now.gates in
-    let first = end_caller c.args.end.now.waker in let between = end_caller c.take.new.self.waker in
-    let new = end_caller c.run_one.new.end.waker in
-    debts-then actors first between new (debts-same actors first between (ap known_by (same.0 ∙ at.3)) (same.1 ∙ at.2))
-    (debts-left actors between new c.run_one.ensures.leaves)
+    let first = end_caller c.args.end.now.registrar in let between = end_caller c.take.new.self.registrar in
+    let new = end_caller c.run_one.new.end.registrar in
+    obligations-then actors first between new (obligations-same actors first between (ap pass_view (same.0 ∙ at.3)) (same.1 ∙ at.2))
+    (obligations-left actors between new c.run_one.ensures.leaves)
 
-pub returns-in_err-run_one-clause-debts : goal.returns-in_err-run_one-clause-debts
-returns-in_err-run_one-clause-debts g c =
+pub returns-in_err-run_one-clause-obligations : goal.returns-in_err-run_one-clause-obligations
+returns-in_err-run_one-clause-obligations g c =
     let same = c.take.ensures.same in let at = c.loop.invariant in let actors = actors_of c.args.system.now.gates in
-    let first = end_caller c.args.end.now.waker in let between = end_caller c.take.new.self.waker in
-    let new = end_caller c.run_one.new.end.waker in
-    debts-then actors first between new (debts-same actors first between (ap known_by (same.0 ∙ at.3)) (same.1 ∙ at.2))
-    (debts-left actors between new c.run_one.ensures.leaves)
+    let first = end_caller c.args.end.now.registrar in let between = end_caller c.take.new.self.registrar in
+    let new = end_caller c.run_one.new.end.registrar in
+    obligations-then actors first between new (obligations-same actors first between (ap pass_view (same.0 ∙ at.3)) (same.1 ∙ at.2))
+    (obligations-left actors between new c.run_one.ensures.leaves)
 
 pub returns-in-Some-take-clause-saw : goal.returns-in-Some-take-clause-saw
 returns-in-Some-take-clause-saw g c =
-    subst (λ p. IsPart (known_by p).log (known_by c.run_one.new.end.waker.pass).log) (c.take.ensures.same.0 ∙ c.loop.invariant.3) c.run_one.ensures.leaves.log
+    subst (λ p. IsPart (pass_view p).log (pass_view c.run_one.new.end.registrar.pass).log) (c.take.ensures.same.0 ∙ c.loop.invariant.3) c.run_one.ensures.leaves.log
 
 pub returns-in_err-run_one-clause-saw : goal.returns-in_err-run_one-clause-saw
 returns-in_err-run_one-clause-saw g c =
-    subst (λ p. IsPart (known_by p).log (known_by c.run_one.new.end.waker.pass).log) (c.take.ensures.same.0 ∙ c.loop.invariant.3) c.run_one.ensures.leaves.log
+    subst (λ p. IsPart (pass_view p).log (pass_view c.run_one.new.end.registrar.pass).log) (c.take.ensures.same.0 ∙ c.loop.invariant.3) c.run_one.ensures.leaves.log
 
 pub returns-in-Some-take-clause-fault : goal.returns-in-Some-take-clause-fault
 returns-in-Some-take-clause-fault g c = tt

@@ -1,5 +1,5 @@
 use Rattle.std.proofs.Common.{◌∙◌, ap, refl, subst, sym}
-use Rattle.mb_gate.specs.Names.{actors_of, known_by, pass_id}
+use Rattle.mb_gate.specs.Accessors.{actors_of, pass_view, pass_id}
 use Rattle.mb_gate.specs.Rule.{IsPart}
 use Rattle.std.specs.Global.{Box}
 use Rattle.std.specs.Prelude.{Option, Err, IfErr, IsErrOf, Ok, OnErr, Result}
@@ -8,7 +8,7 @@ use Rattle.mb_home.specs.Contents.{Contents}
 use Rattle.mb_home.specs.Fresh.{IsFreshClaim}
 use Rattle.std.proofs.lemmas.Result.{err_from_is_err_and}
 use Rattle.mb_system.specs.Members.{end_caller}
-use Rattle.mb_system.proofs.Debts.{debts-from, debts-left, debts-same}
+use Rattle.mb_system.proofs.Obligations.{obligations-from, obligations-left, obligations-same}
 use Rattle.mb_system.proofs.Saw.{saw-same, saw-then}
 use Rattle.mb_system.specs.declared.failure.RunError.{RunError}
 use Rattle.mb_system.specs.declared.failure.RunError.TheVariants.{NoMemory}
@@ -17,43 +17,43 @@ use Rattle.mb_dispatch.proofs.working.run_all.Goals as goal
 
 pub loop-init : goal.loop-init
 loop-init g c =
-    let caller = end_caller c.args.end.now.waker in
-    (c.requires.ours, refl, saw-same _, debts-same (actors_of c.args.system.now.gates) caller caller refl refl)
+    let caller = end_caller c.args.end.now.registrar in
+    (c.requires.ours, refl, saw-same _, obligations-same (actors_of c.args.system.now.gates) caller caller refl refl)
 
 pub loop-preserved : goal.loop-preserved
 loop-preserved g c =
     let did = c.run_one.ensures in let same = c.take.ensures.same in let actors = actors_of c.args.system.now.gates in
-    let first = end_caller c.args.end.now.waker in let old = end_caller c.loop.end.waker in
-    let between = end_caller c.take.new.self.waker in let new = end_caller c.run_one.new.end.waker in (
+    let first = end_caller c.args.end.now.registrar in let old = end_caller c.loop.end.registrar in
+    let between = end_caller c.take.new.self.registrar in let new = end_caller c.run_one.new.end.registrar in (
       did.ours,
       did.number ∙ same.3 ∙ c.loop.invariant.1,
       saw-then _ _ _ c.loop.invariant.2
-          (subst (λ p. IsPart (known_by p).log (known_by c.run_one.new.end.waker.pass).log) same.0 did.leaves.log),
-      debts-from actors first old between new c.loop.invariant.3 (ap known_by same.0) same.1 (debts-left actors between new did.leaves),
+          (subst (λ p. IsPart (pass_view p).log (pass_view c.run_one.new.end.registrar.pass).log) same.0 did.leaves.log),
+      obligations-from actors first old between new c.loop.invariant.3 (ap pass_view same.0) same.1 (obligations-left actors between new did.leaves),
     )
 
 pub returns-in_default-clause-saw : goal.returns-in_default-clause-saw
 returns-in_default-clause-saw g c =
     saw-then _ _ _ c.loop.invariant.2
-    (subst (λ p. IsPart (known_by p).log (known_by c.pay.new.self.waker.pass).log) c.take.ensures.same.0 c.pay.ensures.saw)
+    (subst (λ p. IsPart (pass_view p).log (pass_view c.retry_refused.new.self.registrar.pass).log) c.take.ensures.same.0 c.retry_refused.ensures.saw)
 
-pub returns-in_default-clause-debts : goal.returns-in_default-clause-debts
-returns-in_default-clause-debts g c =
+pub returns-in_default-clause-obligations : goal.returns-in_default-clause-obligations
+returns-in_default-clause-obligations g c =
     let same = c.take.ensures.same in
-    debts-from (actors_of c.args.system.now.gates) (end_caller c.args.end.now.waker) (end_caller c.loop.end.waker)
-    (end_caller c.take.new.self.waker) (end_caller c.pay.new.self.waker) c.loop.invariant.3 (ap known_by same.0) same.1 c.pay.ensures.debts
+    obligations-from (actors_of c.args.system.now.gates) (end_caller c.args.end.now.registrar) (end_caller c.loop.end.registrar)
+    (end_caller c.take.new.self.registrar) (end_caller c.retry_refused.new.self.registrar) c.loop.invariant.3 (ap pass_view same.0) same.1 c.retry_refused.ensures.obligations
 
-pub returns-in_err-run_one-clause-debts : goal.returns-in_err-run_one-clause-debts
-returns-in_err-run_one-clause-debts g c =
+pub returns-in_err-run_one-clause-obligations : goal.returns-in_err-run_one-clause-obligations
+returns-in_err-run_one-clause-obligations g c =
     let same = c.take.ensures.same in let actors = actors_of c.args.system.now.gates in
-    let between = end_caller c.take.new.self.waker in let new = end_caller c.run_one.new.end.waker in
-    debts-from actors (end_caller c.args.end.now.waker) (end_caller c.loop.end.waker) between new c.loop.invariant.3 (ap known_by same.0) same.1
-    (debts-left actors between new c.run_one.ensures.leaves)
+    let between = end_caller c.take.new.self.registrar in let new = end_caller c.run_one.new.end.registrar in
+    obligations-from actors (end_caller c.args.end.now.registrar) (end_caller c.loop.end.registrar) between new c.loop.invariant.3 (ap pass_view same.0) same.1
+    (obligations-left actors between new c.run_one.ensures.leaves)
 
 pub returns-in_err-run_one-clause-saw : goal.returns-in_err-run_one-clause-saw
 returns-in_err-run_one-clause-saw g c =
     saw-then _ _ _ c.loop.invariant.2
-    (subst (λ p. IsPart (known_by p).log (known_by c.run_one.new.end.waker.pass).log) c.take.ensures.same.0 c.run_one.ensures.leaves.log)
+    (subst (λ p. IsPart (pass_view p).log (pass_view c.run_one.new.end.registrar.pass).log) c.take.ensures.same.0 c.run_one.ensures.leaves.log)
 
 pub run_one-requires-clause-ours : goal.run_one-requires-clause-ours
 run_one-requires-clause-ours g c =
@@ -64,10 +64,10 @@ run_one-requires-clause-untouched g c =
     subst (λ (o : Option (Origin (Box Contents))). IsFreshClaim g.K.Behaviours.gives o c.in-Some-take.claim) c.loop.invariant.0.1 c.in-Some-take.ensures.fit
 
 pub returns-in_default-clause-ours : goal.returns-in_default-clause-ours
-returns-in_default-clause-ours g c = c.pay.ensures.ours
+returns-in_default-clause-ours g c = c.retry_refused.ensures.ours
 
 pub returns-in_default-clause-number : goal.returns-in_default-clause-number
-returns-in_default-clause-number g c = c.pay.ensures.number ∙ c.take.ensures.same.3 ∙ c.loop.invariant.1
+returns-in_default-clause-number g c = c.retry_refused.ensures.number ∙ c.take.ensures.same.3 ∙ c.loop.invariant.1
 
 pub returns-in_err-run_one-clause-ours : goal.returns-in_err-run_one-clause-ours
 returns-in_err-run_one-clause-ours g c = c.run_one.ensures.ours
@@ -82,7 +82,7 @@ of-memory {T} (Err e) P p refused = subst (λ (q : Result T RunError). IfErr q P
 
 pub returns-in_default-clause-fault : goal.returns-in_default-clause-fault
 returns-in_default-clause-fault g c =
-    of-memory c.pay.result (BreaksWork g.K.Behaviours.gives c.args.system.now c.pay.new.self) tt c.pay.ensures.refused
+    of-memory c.retry_refused.result (BreaksWork g.K.Behaviours.gives c.args.system.now c.retry_refused.new.self) tt c.retry_refused.ensures.refused
 
 pub returns-in_err-run_one-clause-fault : goal.returns-in_err-run_one-clause-fault
 returns-in_err-run_one-clause-fault g c =

@@ -1,12 +1,12 @@
 use Rattle.std.proofs.Common.{◌≡◌}
-use Rattle.mb_gate.specs.Names.{actors_of, known_by}
+use Rattle.mb_gate.specs.Accessors.{actors_of, pass_view}
 use Rattle.mb_gate.specs.Rule.{IsPart}
-use Rattle.mb_system.specs.Debts.{KeepsDebts}
+use Rattle.mb_system.specs.Obligations.{KeepsObligations}
 use Rattle.mb_system.specs.Members.{IsEndOf, end_caller}
 use Rattle.mb_dispatch.proofs.working.run_all.Given as goal
 
 abbrev pub invariant-loop : goal.invariant-loop
 invariant-loop g l =
-    IsEndOf l.system.gates l.end.waker × (l.end.number ≡ l.fn.end.number)
-    × IsPart (known_by l.fn.end.waker.pass).log (known_by l.end.waker.pass).log
-    × KeepsDebts (actors_of l.system.gates) (end_caller l.fn.end.waker) (end_caller l.end.waker)
+    IsEndOf l.system.gates l.end.registrar × (l.end.number ≡ l.fn.end.number)
+    × IsPart (pass_view l.fn.end.registrar.pass).log (pass_view l.end.registrar.pass).log
+    × KeepsObligations (actors_of l.system.gates) (end_caller l.fn.end.registrar) (end_caller l.end.registrar)

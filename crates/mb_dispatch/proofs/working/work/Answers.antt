@@ -3,11 +3,11 @@ use Rattle.mb_dispatch.proofs.working.work.Goals as goal
 pub returns-clause-ours : goal.returns-clause-ours
 returns-clause-ours g c = c.work_on-outcome.ensures.ours
 
-pub returns-clause-paid : goal.returns-clause-paid
-returns-clause-paid g c = c.work_on-outcome.ensures.paid
+pub returns-clause-discharged : goal.returns-clause-discharged
+returns-clause-discharged g c = c.work_on-outcome.ensures.discharged
 
-pub returns-clause-debts : goal.returns-clause-debts
-returns-clause-debts g c = c.work_on-outcome.ensures.debts
+pub returns-clause-obligations : goal.returns-clause-obligations
+returns-clause-obligations g c = c.work_on-outcome.ensures.obligations
 
 pub returns-clause-number : goal.returns-clause-number
 returns-clause-number g c = c.work_on-outcome.ensures.number

@@ -1,38 +1,38 @@
 use Rattle.std.proofs.Common.{◌∙◌, refl}
-use Rattle.mb_gate.specs.Names.{actors_of}
+use Rattle.mb_gate.specs.Accessors.{actors_of}
 use Rattle.mb_system.specs.Members.{end_caller}
-use Rattle.mb_system.proofs.Debts.{debts-same, debts-then}
+use Rattle.mb_system.proofs.Obligations.{obligations-same, obligations-then}
 use Rattle.mb_system.proofs.Saw.{saw-same, saw-then}
 use Rattle.mb_dispatch.proofs.working.work_on.Goals as goal
 
 pub loop-init : goal.loop-init
 loop-init g c =
-    let caller = end_caller c.args.end.now.waker in
-    (c.requires.ours, refl, saw-same _, debts-same (actors_of c.args.system.now.gates) caller caller refl refl)
+    let caller = end_caller c.args.end.now.registrar in
+    (c.requires.ours, refl, saw-same _, obligations-same (actors_of c.args.system.now.gates) caller caller refl refl)
 
 pub loop-preserved : goal.loop-preserved
 loop-preserved g c =
     let at = c.loop.invariant in let actors = actors_of c.args.system.now.gates in
-    let first = end_caller c.args.end.now.waker in let old = end_caller c.loop.end.waker in
-    let between = end_caller c.run_all.new.end.waker in let new = end_caller c.is_over.new.end.waker in (
+    let first = end_caller c.args.end.now.registrar in let old = end_caller c.loop.end.registrar in
+    let between = end_caller c.run_all.new.end.registrar in let new = end_caller c.is_over.new.end.registrar in (
       c.is_over.ensures.ours,
       c.is_over.ensures.number ∙ c.run_all.ensures.number ∙ at.1,
       saw-then _ _ _ (saw-then _ _ _ at.2 c.run_all.ensures.saw) c.is_over.ensures.saw,
-      debts-then actors first between new (debts-then actors first old between at.3 c.run_all.ensures.debts)
-          c.is_over.ensures.debts,
+      obligations-then actors first between new (obligations-then actors first old between at.3 c.run_all.ensures.obligations)
+          c.is_over.ensures.obligations,
     )
 
 pub returns-then-branch-clause-saw : goal.returns-then-branch-clause-saw
 returns-then-branch-clause-saw g c =
     saw-then _ _ _ (saw-then _ _ _ c.loop.invariant.2 c.run_all.ensures.saw) c.is_over.ensures.saw
 
-pub returns-then-branch-clause-debts : goal.returns-then-branch-clause-debts
-returns-then-branch-clause-debts g c =
+pub returns-then-branch-clause-obligations : goal.returns-then-branch-clause-obligations
+returns-then-branch-clause-obligations g c =
     let actors = actors_of c.args.system.now.gates in
-    let first = end_caller c.args.end.now.waker in let old = end_caller c.loop.end.waker in
-    let between = end_caller c.run_all.new.end.waker in let new = end_caller c.is_over.new.end.waker in
-    debts-then actors first between new (debts-then actors first old between c.loop.invariant.3 c.run_all.ensures.debts)
-    c.is_over.ensures.debts
+    let first = end_caller c.args.end.now.registrar in let old = end_caller c.loop.end.registrar in
+    let between = end_caller c.run_all.new.end.registrar in let new = end_caller c.is_over.new.end.registrar in
+    obligations-then actors first between new (obligations-then actors first old between c.loop.invariant.3 c.run_all.ensures.obligations)
+    c.is_over.ensures.obligations
 
 pub returns-in_err-run_all-clause-saw : goal.returns-in_err-run_all-clause-saw
 returns-in_err-run_all-clause-saw g c = saw-then _ _ _ c.loop.invariant.2 c.run_all.ensures.saw
@@ -41,23 +41,23 @@ pub returns-in_err-is_over-clause-saw : goal.returns-in_err-is_over-clause-saw
 returns-in_err-is_over-clause-saw g c =
     saw-then _ _ _ (saw-then _ _ _ c.loop.invariant.2 c.run_all.ensures.saw) c.is_over.ensures.saw
 
-pub returns-in_err-run_all-clause-debts : goal.returns-in_err-run_all-clause-debts
-returns-in_err-run_all-clause-debts g c =
-    debts-then (actors_of c.args.system.now.gates) (end_caller c.args.end.now.waker) (end_caller c.loop.end.waker)
-    (end_caller c.run_all.new.end.waker) c.loop.invariant.3 c.run_all.ensures.debts
+pub returns-in_err-run_all-clause-obligations : goal.returns-in_err-run_all-clause-obligations
+returns-in_err-run_all-clause-obligations g c =
+    obligations-then (actors_of c.args.system.now.gates) (end_caller c.args.end.now.registrar) (end_caller c.loop.end.registrar)
+    (end_caller c.run_all.new.end.registrar) c.loop.invariant.3 c.run_all.ensures.obligations
 
-pub returns-in_err-is_over-clause-debts : goal.returns-in_err-is_over-clause-debts
-returns-in_err-is_over-clause-debts g c =
+pub returns-in_err-is_over-clause-obligations : goal.returns-in_err-is_over-clause-obligations
+returns-in_err-is_over-clause-obligations g c =
     let actors = actors_of c.args.system.now.gates in
-    let first = end_caller c.args.end.now.waker in let old = end_caller c.loop.end.waker in
-    let between = end_caller c.run_all.new.end.waker in let new = end_caller c.is_over.new.end.waker in
-    debts-then actors first between new (debts-then actors first old between c.loop.invariant.3 c.run_all.ensures.debts) c.is_over.ensures.debts
+    let first = end_caller c.args.end.now.registrar in let old = end_caller c.loop.end.registrar in
+    let between = end_caller c.run_all.new.end.registrar in let new = end_caller c.is_over.new.end.registrar in
+    obligations-then actors first between new (obligations-then actors first old between c.loop.invariant.3 c.run_all.ensures.obligations) c.is_over.ensures.obligations
 
 pub is_over-requires-clause-ours : goal.is_over-requires-clause-ours
 is_over-requires-clause-ours g c = c.run_all.ensures.ours
 
-pub is_over-requires-clause-paid : goal.is_over-requires-clause-paid
-is_over-requires-clause-paid g c = c.in_ok-run_all.ensures.paid
+pub is_over-requires-clause-discharged : goal.is_over-requires-clause-discharged
+is_over-requires-clause-discharged g c = c.in_ok-run_all.ensures.discharged
 
 pub returns-then-branch-clause-ours : goal.returns-then-branch-clause-ours
 returns-then-branch-clause-ours g c = c.is_over.ensures.ours

@@ -10,7 +10,7 @@ use Rattle.mb_dispatch_tests.proofs.together.report_of.Goals as goal
 pub run-requires-clause-ends : goal.run-requires-clause-ends
 run-requires-clause-ends g c κs within =
     let built = c.in_ok-built.built in
-    All-same (λ (e : WorkerEnd g.row.A.Denot g.row.K.Denot). IsEndOf built.system.gates e.waker) c.as_mut_slice-workers.result.now built.ends.items
+    All-same (λ (e : WorkerEnd g.row.A.Denot g.row.K.Denot). IsEndOf built.system.gates e.registrar) c.as_mut_slice-workers.result.now built.ends.items
     c.as_mut_slice-workers.ensures.value c.in_ok-built.ensures.ends
 
 pub run-requires-clause-jobs : goal.run-requires-clause-jobs
@@ -27,7 +27,7 @@ finish-requires g c =
     let tasks = c.as_mut_slice-tasks in
     record {
       together = run-again built _ jobs.items c.run.new.jobs refl
-          (All-same (λ (e : WorkerEnd g.row.A.Denot g.row.K.Denot). IsEndOf built.system.gates e.waker) _ c.run.new.ends
+          (All-same (λ (e : WorkerEnd g.row.A.Denot g.row.K.Denot). IsEndOf built.system.gates e.registrar) _ c.run.new.ends
           (ends-back built.ends workers.result.now c.run.new.ends workers.ensures.value c.run.ensures.ends.1) c.run.ensures.ends.0)
           c.in_ok-jobs.ensures c.run.ensures.jobs.0 (c.run.ensures.by ∙ ap jobs_senders tasks.ensures.value)
           (c.in_ok-senders.ensures

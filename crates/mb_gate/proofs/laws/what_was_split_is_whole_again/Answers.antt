@@ -1,4 +1,4 @@
-use Rattle.mb_rule.proofs.SharesLemmas.{whole_one, whole_again}
+use Rattle.mb_ghost.proofs.SharesLemmas.{whole_one, whole_again}
 use Rattle.mb_gate.proofs.laws.what_was_split_is_whole_again.Goals as goal
 
 pub returns : goal.returns

@@ -1,6 +1,6 @@
 use Rattle.std.proofs.Common.{ℕ, sym, subst}
 use Rattle.mb_msg.specs.declared.system.SysMsg.{SysMsg}
-use Rattle.mb_gate.specs.Named.{NamesBelow}
+use Rattle.mb_gate.specs.NamedActors.{NamesBelow}
 use Rattle.mb_gate_tests.proofs.calls.enqueue.Goals as goal
 
 pub sys_enqueue-requires-clause-named : goal.sys_enqueue-requires-clause-named

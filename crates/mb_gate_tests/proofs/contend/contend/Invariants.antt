@@ -1,5 +1,5 @@
 use Rattle.std.proofs.Common.{◌≡◌}
-use Rattle.mb_gate.specs.Names.{gates_id, pass_id}
+use Rattle.mb_gate.specs.Accessors.{gates_id, pass_id}
 use Rattle.mb_gate_tests.proofs.contend.contend.Given as goal
 
 abbrev pub invariant-loop : goal.invariant-loop

@@ -1,5 +1,5 @@
 use Rattle.std.proofs.Common.{◌≡◌}
-use Rattle.mb_gate.specs.Names.{gates_id, claim_id, held_actor}
+use Rattle.mb_gate.specs.Accessors.{gates_id, claim_id, held_actor}
 use Rattle.mb_gate_tests.proofs.three.hold.Given as goal
 
 abbrev pub invariant-loop : goal.invariant-loop

@@ -3,5 +3,4 @@ use Rattle.mb_pool.proofs.Emptying.{Emptying}
 use Rattle.mb_pool.proofs.leaving.empty_own.Given as goal
 
 abbrev pub invariant-loop : goal.invariant-loop
-invariant-loop g l = Emptying (IsUntouched g.H.Resident.is_of g.H.Resident.journal g.H.Resident.mailbox g.H.Resident.rested g.H.Resident.given
-    g.H.Resident.closed_to) l.initial.own l.initial.left.items l.own l.left.items
+invariant-loop g l = Emptying (IsUntouched g.H.MailboxState.is_of g.H.MailboxState.facts) l.initial.own l.initial.left.items l.own l.left.items

@@ -2,7 +2,7 @@ use Rattle.std.proofs.Common.{◌≡◌, List, ◌++◌, arith, drop, length, su
 use Rattle.mb_pool.specs.Ends.{AreGathered, AreMatched, Empties, owns_of}
 use Rattle.mb_pool.specs.Made.{IsWhole}
 use Rattle.mb_pool.specs.Parts.{look_of}
-use Rattle.mb_pool.specs.Places.{Way}
+use Rattle.mb_pool.specs.Places.{PoolEndpoint}
 use Rattle.mb_gate.specs.Untouched.{IsUntouched}
 use Rattle.mb_pool.proofs.Lent.{refilled}
 use Rattle.mb_pool.proofs.Closing.{alike_left, feeds_alike, first_share, last_share, some_left}
@@ -14,59 +14,59 @@ gather-requires g c =
     let whole = subst (λ p. IsWhole p) c.pool.view_is c.pool.invariant in
     subst (λ ws. AreMatched ws) (sym c.as_mut_slice.ensures.value) (matched c.args.pool c.args.ends.items whole c.requires.ends)
 
-pub empty_ends-door-requires-clause-some : goal.empty_ends-door-requires-clause-some
-empty_ends-door-requires-clause-some g c =
+pub empty_ends-shared_port-requires-clause-some : goal.empty_ends-shared_port-requires-clause-some
+empty_ends-shared_port-requires-clause-some g c =
     let pool = c.args.pool in let v = c.args.ends in let feeds = c.args.feeds.items in let new = c.gather.new.ends in
     let whole = subst (λ p. IsWhole p) c.pool.view_is c.pool.invariant in
     let count : length new ≡ v.len = omega (arith, c.gather.auto.ends, c.as_mut_slice.ensures.len) in
     let now = take v.len (new ++ drop (length new) v.items) in let is = refilled v.len v.items new count in
-    let gathered = subst (λ (y : List (Way _) × List (Way _)). AreGathered y.0 y.1)
+    let gathered = subst (λ (y : List (PoolEndpoint _) × List (PoolEndpoint _)). AreGathered y.0 y.1)
     (λ i. (c.as_mut_slice.ensures.value i, sym is i)) c.gather.ensures in
     some_left pool v.items feeds now whole c.requires.ends c.requires.feeds gathered
 
-pub empty_ends-door-requires-clause-alike : goal.empty_ends-door-requires-clause-alike
-empty_ends-door-requires-clause-alike g c =
+pub empty_ends-shared_port-requires-clause-alike : goal.empty_ends-shared_port-requires-clause-alike
+empty_ends-shared_port-requires-clause-alike g c =
     let pool = c.args.pool in let v = c.args.ends in let feeds = c.args.feeds.items in let new = c.gather.new.ends in
     let whole = subst (λ p. IsWhole p) c.pool.view_is c.pool.invariant in
     let count : length new ≡ v.len = omega (arith, c.gather.auto.ends, c.as_mut_slice.ensures.len) in
     let now = take v.len (new ++ drop (length new) v.items) in let is = refilled v.len v.items new count in
-    let gathered = subst (λ (y : List (Way _) × List (Way _)). AreGathered y.0 y.1)
+    let gathered = subst (λ (y : List (PoolEndpoint _) × List (PoolEndpoint _)). AreGathered y.0 y.1)
     (λ i. (c.as_mut_slice.ensures.value i, sym is i)) c.gather.ensures in
     alike_left pool v.items feeds now whole c.requires.ends c.requires.feeds gathered
 
-pub join_feeds-door-requires-clause-share : goal.join_feeds-door-requires-clause-share
-join_feeds-door-requires-clause-share g c =
+pub join_feeds-shared_port-requires-clause-share : goal.join_feeds-shared_port-requires-clause-share
+join_feeds-shared_port-requires-clause-share g c =
     let pool = c.args.pool in let v = c.args.ends in let feeds = c.args.feeds.items in let new = c.gather.new.ends in
     let whole = subst (λ p. IsWhole p) c.pool.view_is c.pool.invariant in
     let count : length new ≡ v.len = omega (arith, c.gather.auto.ends, c.as_mut_slice.ensures.len) in
     let now = take v.len (new ++ drop (length new) v.items) in let is = refilled v.len v.items new count in
-    let gathered = subst (λ (y : List (Way _) × List (Way _)). AreGathered y.0 y.1)
+    let gathered = subst (λ (y : List (PoolEndpoint _) × List (PoolEndpoint _)). AreGathered y.0 y.1)
     (λ i. (c.as_mut_slice.ensures.value i, sym is i)) c.gather.ensures in
-    let first = look_of c.empty_ends-door.result in let is_first = c.empty_ends-door.ensures.door in
+    let first = look_of c.empty_ends-shared_port.result in let is_first = c.empty_ends-shared_port.ensures.shared_port in
     first_share pool v.items feeds now whole c.requires.ends c.requires.feeds gathered first is_first
 
-pub join_feeds-door-requires-clause-alike : goal.join_feeds-door-requires-clause-alike
-join_feeds-door-requires-clause-alike g c =
+pub join_feeds-shared_port-requires-clause-alike : goal.join_feeds-shared_port-requires-clause-alike
+join_feeds-shared_port-requires-clause-alike g c =
     let pool = c.args.pool in let v = c.args.ends in let feeds = c.args.feeds.items in let new = c.gather.new.ends in
     let whole = subst (λ p. IsWhole p) c.pool.view_is c.pool.invariant in
     let count : length new ≡ v.len = omega (arith, c.gather.auto.ends, c.as_mut_slice.ensures.len) in
     let now = take v.len (new ++ drop (length new) v.items) in let is = refilled v.len v.items new count in
-    let gathered = subst (λ (y : List (Way _) × List (Way _)). AreGathered y.0 y.1)
+    let gathered = subst (λ (y : List (PoolEndpoint _) × List (PoolEndpoint _)). AreGathered y.0 y.1)
     (λ i. (c.as_mut_slice.ensures.value i, sym is i)) c.gather.ensures in
-    let first = look_of c.empty_ends-door.result in let is_first = c.empty_ends-door.ensures.door in
+    let first = look_of c.empty_ends-shared_port.result in let is_first = c.empty_ends-shared_port.ensures.shared_port in
     feeds_alike pool v.items feeds now whole c.requires.ends c.requires.feeds gathered first is_first
 
-pub empty_door-requires : goal.empty_door-requires
-empty_door-requires g c =
+pub empty_shared_port-requires : goal.empty_shared_port-requires
+empty_shared_port-requires g c =
     let pool = c.args.pool in let v = c.args.ends in let feeds = c.args.feeds.items in let new = c.gather.new.ends in
     let whole = subst (λ p. IsWhole p) c.pool.view_is c.pool.invariant in
     let count : length new ≡ v.len = omega (arith, c.gather.auto.ends, c.as_mut_slice.ensures.len) in
     let now = take v.len (new ++ drop (length new) v.items) in let is = refilled v.len v.items new count in
-    let gathered = subst (λ (y : List (Way _) × List (Way _)). AreGathered y.0 y.1)
+    let gathered = subst (λ (y : List (PoolEndpoint _) × List (PoolEndpoint _)). AreGathered y.0 y.1)
     (λ i. (c.as_mut_slice.ensures.value i, sym is i)) c.gather.ensures in
-    let first = look_of c.empty_ends-door.result in let is_first = c.empty_ends-door.ensures.door in
+    let first = look_of c.empty_ends-shared_port.result in let is_first = c.empty_ends-shared_port.ensures.shared_port in
     last_share pool v.items feeds now whole c.requires.ends c.requires.feeds gathered first is_first
-    (look_of c.join_feeds-door.result) c.join_feeds-door.ensures
+    (look_of c.join_feeds-shared_port.result) c.join_feeds-shared_port.ensures
 
 pub returns-clause-left : goal.returns-clause-left
 returns-clause-left g c =
@@ -74,17 +74,15 @@ returns-clause-left g c =
     let whole = subst (λ p. IsWhole p) c.pool.view_is c.pool.invariant in
     let count : length new ≡ v.len = omega (arith, c.gather.auto.ends, c.as_mut_slice.ensures.len) in
     let now = take v.len (new ++ drop (length new) v.items) in let is = refilled v.len v.items new count in
-    let gathered = subst (λ (y : List (Way _) × List (Way _)). AreGathered y.0 y.1)
+    let gathered = subst (λ (y : List (PoolEndpoint _) × List (PoolEndpoint _)). AreGathered y.0 y.1)
     (λ i. (c.as_mut_slice.ensures.value i, sym is i)) c.gather.ensures in
-    let first = look_of c.empty_ends-door.result in let is_first = c.empty_ends-door.ensures.door in
-    let last = look_of c.join_feeds-door.result in let mid = c.empty_ends-door.new.left.items in
-    let p = subst (λ l. Empties (IsUntouched g.H.Resident.is_of g.H.Resident.journal g.H.Resident.mailbox g.H.Resident.rested g.H.Resident.given
-    g.H.Resident.closed_to) first.ledger.gates (owns_of now) l mid)
-    c.in-Ok.ensures.items c.empty_ends-door.ensures.emptied in
-    let left = left_is (IsUntouched g.H.Resident.is_of g.H.Resident.journal g.H.Resident.mailbox g.H.Resident.rested g.H.Resident.given
-    g.H.Resident.closed_to)
-    pool v.items feeds now first last whole c.requires.ends c.requires.feeds gathered is_first c.join_feeds-door.ensures mid
-    c.empty_door.new.left.items p c.empty_door.ensures in
+    let first = look_of c.empty_ends-shared_port.result in let is_first = c.empty_ends-shared_port.ensures.shared_port in
+    let last = look_of c.join_feeds-shared_port.result in let mid = c.empty_ends-shared_port.new.left.items in
+    let p = subst (λ l. Empties (IsUntouched g.H.MailboxState.is_of g.H.MailboxState.facts) first.ledger.gates (owns_of now) l mid)
+    c.in-Ok.ensures.items c.empty_ends-shared_port.ensures.emptied in
+    let left = left_is (IsUntouched g.H.MailboxState.is_of g.H.MailboxState.facts)
+    pool v.items feeds now first last whole c.requires.ends c.requires.feeds gathered is_first c.join_feeds-shared_port.ensures mid
+    c.empty_shared_port.new.left.items p c.empty_shared_port.ensures in
     left.0
 
 pub returns-clause-fit : goal.returns-clause-fit
@@ -93,15 +91,13 @@ returns-clause-fit g c =
     let whole = subst (λ p. IsWhole p) c.pool.view_is c.pool.invariant in
     let count : length new ≡ v.len = omega (arith, c.gather.auto.ends, c.as_mut_slice.ensures.len) in
     let now = take v.len (new ++ drop (length new) v.items) in let is = refilled v.len v.items new count in
-    let gathered = subst (λ (y : List (Way _) × List (Way _)). AreGathered y.0 y.1)
+    let gathered = subst (λ (y : List (PoolEndpoint _) × List (PoolEndpoint _)). AreGathered y.0 y.1)
     (λ i. (c.as_mut_slice.ensures.value i, sym is i)) c.gather.ensures in
-    let first = look_of c.empty_ends-door.result in let is_first = c.empty_ends-door.ensures.door in
-    let last = look_of c.join_feeds-door.result in let mid = c.empty_ends-door.new.left.items in
-    let p = subst (λ l. Empties (IsUntouched g.H.Resident.is_of g.H.Resident.journal g.H.Resident.mailbox g.H.Resident.rested g.H.Resident.given
-    g.H.Resident.closed_to) first.ledger.gates (owns_of now) l mid)
-    c.in-Ok.ensures.items c.empty_ends-door.ensures.emptied in
-    let left = left_is (IsUntouched g.H.Resident.is_of g.H.Resident.journal g.H.Resident.mailbox g.H.Resident.rested g.H.Resident.given
-    g.H.Resident.closed_to)
-    pool v.items feeds now first last whole c.requires.ends c.requires.feeds gathered is_first c.join_feeds-door.ensures mid
-    c.empty_door.new.left.items p c.empty_door.ensures in
+    let first = look_of c.empty_ends-shared_port.result in let is_first = c.empty_ends-shared_port.ensures.shared_port in
+    let last = look_of c.join_feeds-shared_port.result in let mid = c.empty_ends-shared_port.new.left.items in
+    let p = subst (λ l. Empties (IsUntouched g.H.MailboxState.is_of g.H.MailboxState.facts) first.ledger.gates (owns_of now) l mid)
+    c.in-Ok.ensures.items c.empty_ends-shared_port.ensures.emptied in
+    let left = left_is (IsUntouched g.H.MailboxState.is_of g.H.MailboxState.facts)
+    pool v.items feeds now first last whole c.requires.ends c.requires.feeds gathered is_first c.join_feeds-shared_port.ensures mid
+    c.empty_shared_port.new.left.items p c.empty_shared_port.ensures in
     left.1

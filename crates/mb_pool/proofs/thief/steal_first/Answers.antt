@@ -13,10 +13,8 @@ steal_as-requires-clause-empty g c = deque_few _ _ _ _ c.requires.flavor (subst 
 
 pub returns-in-Success-clause-taken : goal.returns-in-Success-clause-taken
 returns-in-Success-clause-taken g c =
-    subst (λ l. TakesFirst (IsUntouched g.H.Resident.is_of g.H.Resident.journal g.H.Resident.mailbox g.H.Resident.rested g.H.Resident.given
-    g.H.Resident.closed_to) l c.open.result (view c.steal_as.new.pass)) c.loop.invariant.1
-    (took (IsUntouched g.H.Resident.is_of g.H.Resident.journal g.H.Resident.mailbox g.H.Resident.rested g.H.Resident.given
-    g.H.Resident.closed_to) _ _ _ c.open.result c.open.ensures c.in-Success.ensures.rule)
+    subst (λ l. TakesFirst (IsUntouched g.H.MailboxState.is_of g.H.MailboxState.facts) l c.open.result (view c.steal_as.new.pass)) c.loop.invariant.1
+    (took (IsUntouched g.H.MailboxState.is_of g.H.MailboxState.facts) _ _ _ c.open.result c.open.ensures c.in-Success.ensures.rule)
 
 pub loop-init : goal.loop-init
 loop-init g c = (c.requires.deque, refl)
@@ -34,8 +32,7 @@ pub returns-in-Empty-clause-taken : goal.returns-in-Empty-clause-taken
 returns-in-Empty-clause-taken g c =
     let found = c.in-Empty.ensures.rule in (
       found.0 ∙ c.loop.invariant.1,
-      subst (λ l. Moment (IsUntouched g.H.Resident.is_of g.H.Resident.journal g.H.Resident.mailbox g.H.Resident.rested g.H.Resident.given
-          g.H.Resident.closed_to) l []) c.loop.invariant.1 found.1,
+      subst (λ l. Moment (IsUntouched g.H.MailboxState.is_of g.H.MailboxState.facts) l []) c.loop.invariant.1 found.1,
     )
 
 pub loop-preserved : goal.loop-preserved

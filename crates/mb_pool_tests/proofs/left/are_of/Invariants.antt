@@ -1,11 +1,11 @@
 use Rattle.std.proofs.Common.{◌≡◌, All, Some}
-use Rattle.mb_gate.specs.Names.{gates_id, pass_id}
+use Rattle.mb_gate.specs.Accessors.{gates_id, pass_id}
 use Rattle.mb_gate.specs.Untouched.{origin_of, IsUntouched}
 use Rattle.mb_pool_tests.proofs.left.are_of.Given as goal
 
 abbrev pub invariant-loop-claim : goal.invariant-loop-claim
 invariant-loop-claim g l = (pass_id l.pass ≡ gates_id l.gates)
-    × All (IsUntouched g.H.Resident.is_of g.H.Resident.journal g.H.Resident.mailbox g.H.Resident.rested g.H.Resident.given g.H.Resident.closed_to
+    × All (IsUntouched g.H.MailboxState.is_of g.H.MailboxState.facts
     (Some (origin_of l.gates))) l.claims.items
 
 abbrev pub decreases-loop-claim : goal.decreases-loop-claim

@@ -1,11 +1,11 @@
 use Rattle.std.proofs.Common.{◌≡◌, Some, List, [], ◌∷◌, ◌++◌, map, ap, refl, subst, sym, ◌∙◌}
 use Rattle.std.specs.Prelude.{All}
-use Rattle.mb_pool.specs.Places.{Way, gates_of, parts_of}
+use Rattle.mb_pool.specs.Places.{PoolEndpoint, gates_of, parts_of}
 use Rattle.mb_pool.proofs.Alike.{all_front, all_last, ends_gates, feeds_gates, map_last}
 use Rattle.mb_pool_tests.proofs.threads.all_work.Goals as goal
 
 -- the last of a list is taken off, and one like it is put back
-put_back : {H : Type 0} (old rest now new : List (Way H)) (x y : Way H) → old ≡ rest ++ x ∷ [] → new ≡ now ++ y ∷ []
+put_back : {H : Type 0} (old rest now new : List (PoolEndpoint H)) (x y : PoolEndpoint H) → old ≡ rest ++ x ∷ [] → new ≡ now ++ y ∷ []
     → map (parts_of {H = H}) now ≡ map (parts_of {H = H}) rest → parts_of y ≡ parts_of x
     → map (parts_of {H = H}) new ≡ map (parts_of {H = H}) old
 put_back {H} old rest now new x y was is front last =
@@ -13,20 +13,20 @@ put_back {H} old rest now new x y was is front last =
 
 pub four_work-first-requires-clause-third : goal.four_work-first-requires-clause-third
 four_work-first-requires-clause-third g c κs within =
-    let ours = λ (w : Way _). gates_of w ≡ Some c.args.pool.now.gates in
+    let ours = λ (w : PoolEndpoint _). gates_of w ≡ Some c.args.pool.now.gates in
     let all = subst (All ours) c.in_ok-third.ensures.items (ends_gates c.args.pool.now _ c.requires.are_ends) in
     all_last ours c.pop.new.self.items c.in_ok-third.third all ∙ ap (λ o. Some o) c.requires.these
 
 pub four_work-first-requires-clause-second : goal.four_work-first-requires-clause-second
 four_work-first-requires-clause-second g c κs within =
-    let ours = λ (w : Way _). gates_of w ≡ Some c.args.pool.now.gates in
+    let ours = λ (w : PoolEndpoint _). gates_of w ≡ Some c.args.pool.now.gates in
     let all = subst (All ours) c.in_ok-third.ensures.items (ends_gates c.args.pool.now _ c.requires.are_ends) in
     let front = subst (All ours) c.in_ok-second.ensures.items (all_front ours c.pop.new.self.items (c.in_ok-third.third ∷ []) all) in
     all_last ours c.pop-2.new.self.items c.in_ok-second.second front ∙ ap (λ o. Some o) c.requires.these
 
 pub four_work-first-requires-clause-first : goal.four_work-first-requires-clause-first
 four_work-first-requires-clause-first g c κs within =
-    let ours = λ (w : Way _). gates_of w ≡ Some c.args.pool.now.gates in
+    let ours = λ (w : PoolEndpoint _). gates_of w ≡ Some c.args.pool.now.gates in
     let all = subst (All ours) c.in_ok-third.ensures.items (ends_gates c.args.pool.now _ c.requires.are_ends) in
     let front = subst (All ours) c.in_ok-second.ensures.items (all_front ours c.pop.new.self.items (c.in_ok-third.third ∷ []) all) in
     let head = subst (All ours) c.in_ok-first.ensures.items (all_front ours c.pop-2.new.self.items (c.in_ok-second.second ∷ []) front) in
@@ -34,7 +34,7 @@ four_work-first-requires-clause-first g c κs within =
 
 pub four_work-first-requires-clause-feed : goal.four_work-first-requires-clause-feed
 four_work-first-requires-clause-feed g c κs within =
-    let ours = λ (w : Way _). gates_of w ≡ Some c.args.pool.now.gates in
+    let ours = λ (w : PoolEndpoint _). gates_of w ≡ Some c.args.pool.now.gates in
     let all = subst (All ours) c.in_ok-feed.ensures.items (feeds_gates c.args.pool.now _ c.requires.are_feeds) in
     all_last ours c.pop-4.new.self.items c.in_ok-feed.feed all ∙ ap (λ o. Some o) c.requires.these
 

@@ -1,5 +1,5 @@
 use Rattle.std.proofs.Common.{◌≡◌}
-use Rattle.mb_gate.specs.Names.{gates_id, pass_id}
+use Rattle.mb_gate.specs.Accessors.{gates_id, pass_id}
 use Rattle.mb_pool_tests.proofs.threads.are_home.Given as goal
 
 abbrev pub invariant-loop-actor : goal.invariant-loop-actor

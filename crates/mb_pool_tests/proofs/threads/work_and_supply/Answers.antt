@@ -3,8 +3,8 @@ use denote.Ref.{ShrRef}
 use denote.Param.{param}
 use denote.Param.Send.{sendable}
 use Rattle.std.proofs.sync.atomic.AtomicU64.TheSendSync as number
-use Rattle.mb_desk.proofs.Captured.{captured}
-use Rattle.mb_desk.proofs.Crossing.{gates_shared, pass_crosses}
+use Rattle.mb_testkit.proofs.Captured.{captured}
+use Rattle.mb_testkit.proofs.Crossing.{gates_shared, pass_crosses}
 use Rattle.mb_pool_tests.proofs.Crossing.{TheEnd, TheGates, TheNumber, ThePass, end_crosses}
 use Rattle.mb_pool_tests.proofs.threads.work_and_supply.Goals as goal
 

@@ -2,14 +2,14 @@ use Rattle.std.proofs.Common.{◌≡◌, List, length, map, refl, sym, ap, subst
 use Rattle.std.specs.declared.alloc.Global.{Global}
 use Rattle.std.proofs.lemmas.List.{length-map}
 use Rattle.std.proofs.lemmas.Result.{err_from_is_err_and}
-use Rattle.mb_reader.specs.View.{scenario_data}
-use Rattle.mb_reader.specs.declared.scenario.Sending.{Sending}
+use Rattle.mb_scenario.specs.View.{scenario_data}
+use Rattle.mb_msg.specs.declared.order.SenderOrder.{SenderOrder}
 use Rattle.mb_report.specs.Lines.{report_text_of}
 use Rattle.mb_program.specs.Given.{CanRun}
 use Rattle.mb_program.specs.Ran.{HasRun}
 use Rattle.mb_program.specs.Answer.{IsRefused}
-use Rattle.mb_program.specs.Scripts.{after_at, gives_at}
-use Rattle.mb_streams.specs.declared.failure.Failure.{Failure}
+use Rattle.mb_program.specs.Scripts.{after_by_scripts, gives_by_scripts}
+use Rattle.mb_streams.specs.declared.program_error.ProgramError.{ProgramError}
 use Rattle.mb_program.proofs.Actors.{all-behaved}
 use Rattle.mb_program.proofs.Runnable.{as-many-names, can-run, refused-run}
 use Rattle.mb_program.proofs.answer.answer.Goals as goal
@@ -17,7 +17,7 @@ use Rattle.mb_program.proofs.answer.answer.Goals as goal
 pub run-requires-clause-can_run : goal.run-requires-clause-can_run
 run-requires-clause-can_run g c κs within =
     let read = c.in_ok-plan.field-0 in
-    subst (λ (l : List Sending). CanRun read.plan (length read.scripts.items) l) (sym c.deref.ensures.value)
+    subst (λ (l : List SenderOrder). CanRun read.plan (length read.scripts.items) l) (sym c.deref.ensures.value)
     (can-run c.args.text.now (scenario_data read) read.plan c.in_ok-plan.ensures.read refl)
 
 pub run-requires-clause-behaved : goal.run-requires-clause-behaved
@@ -29,8 +29,8 @@ returns-in_err-report-clause-refused g c =
     let p = err_from_is_err_and c.from_residual-in_err-report.result c.from_residual-in_err-report.ensures.1 in
     let refused = refused-run c.args.text.now (scenario_data read) read.plan c.in_err-report.field-0.0 c.in_ok-plan.ensures.read refl
     c.in_err-report.ensures.fault in
-    subst (λ (r : Result (String Global) Failure). IfErr r (IsRefused c.args.text.now)) (sym p.1)
-    (subst (λ (f : Failure). IsRefused c.args.text.now f) (sym p.2) refused)
+    subst (λ (r : Result (String Global) ProgramError). IfErr r (IsRefused c.args.text.now)) (sym p.1)
+    (subst (λ (f : ProgramError). IsRefused c.args.text.now f) (sym p.2) refused)
 
 pub report_text-requires : goal.report_text-requires
 report_text-requires g c =
@@ -46,8 +46,8 @@ returns-clause-report g c =
     let read = c.in_ok-plan.field-0 in
     let scenario = scenario_data read in
     let report = c.in_ok-report.report in
-    let ran : HasRun (after_at scenario.scripts) (gives_at scenario.scripts) read.plan scenario.sends report =
-    subst (λ (l : List Sending). HasRun (after_at scenario.scripts) (gives_at scenario.scripts) read.plan l report) c.deref.ensures.value
+    let ran : HasRun (after_by_scripts scenario.scripts) (gives_by_scripts scenario.scripts) read.plan scenario.sends report =
+    subst (λ (l : List SenderOrder). HasRun (after_by_scripts scenario.scripts) (gives_by_scripts scenario.scripts) read.plan l report) c.deref.ensures.value
     c.in_ok-report.ensures.ran in (
       scenario,
       c.in_ok-plan.ensures.read,

@@ -1,31 +1,40 @@
-use Rattle.std.proofs.Common.{arith}
-use Rattle.mb_streams.proofs.SayingLemmas.{refused_not_zero}
-use Rattle.mb_streams.specs.declared.failure.Failure.TheVariants.{Arguments}
-use Rattle.mb_program.proofs.Endings.{failed_arguments, failed_without, status_of_arguments}
+use Rattle.std.proofs.Common.{false}
+use Rattle.mb_program.proofs.Endings.{ended-failed, ended-no-error, ended-no-failure, ended-refused, ended-reported, ended-silent, ended-unwritten}
 use Rattle.mb_program.proofs.drive.run_program.Goals as goal
 
-pub returns-then-arguments-gt0-clause-status : goal.returns-then-arguments-gt0-clause-status
-returns-then-arguments-gt0-clause-status g c = c.hand_out.ensures.status
+pub returns-clause-reported : goal.returns-clause-reported
+returns-clause-reported g c = λ zero.
+    ended-reported g.W.Write.contents g.E.Write.contents c.args.arguments (g.R.Read.remaining c.args.reader.now.stream) _ _ _ _ _ _ c.answer_to-report.result
+    c.answer_to-report.ensures.report c.write_report.ensures.report c.write_report.ensures.refused zero
 
-pub returns-then-arguments-gt0-clause-refused : goal.returns-then-arguments-gt0-clause-refused
-returns-then-arguments-gt0-clause-refused g c = λ some. status_of_arguments _ _ _ _ c.hand_out.ensures.refused
+pub returns-clause-no_failure : goal.returns-clause-no_failure
+returns-clause-no_failure g c = λ zero.
+    ended-no-failure g.W.Write.contents g.E.Write.contents c.args.arguments (g.R.Read.remaining c.args.reader.now.stream) _ _ _ _ _ _ c.answer_to-report.result
+    c.answer_to-report.ensures.report c.write_report.ensures.report c.write_report.ensures.refused zero
 
-pub returns-then-arguments-gt0-clause-unwritten : goal.returns-then-arguments-gt0-clause-unwritten
-returns-then-arguments-gt0-clause-unwritten g c = λ some. c.hand_out.ensures.unwritten
-
-pub returns-then-arguments-gt0-clause-reported : goal.returns-then-arguments-gt0-clause-reported
-returns-then-arguments-gt0-clause-reported g c = λ zero. absurd (refused_not_zero Arguments _ _ _ _ c.hand_out.ensures.refused zero)
-
-pub returns-then-arguments-gt0-clause-no_failure : goal.returns-then-arguments-gt0-clause-no_failure
-returns-then-arguments-gt0-clause-no_failure g c = λ zero. absurd (refused_not_zero Arguments _ _ _ _ c.hand_out.ensures.refused zero)
-
-pub returns-then-arguments-gt0-clause-no_error : goal.returns-then-arguments-gt0-clause-no_error
-returns-then-arguments-gt0-clause-no_error g c = λ zero. absurd (refused_not_zero Arguments _ _ _ _ c.hand_out.ensures.refused zero)
-
-pub returns-then-arguments-gt0-clause-failed : goal.returns-then-arguments-gt0-clause-failed
-returns-then-arguments-gt0-clause-failed g c = λ other.
-    failed_arguments _ g.W.Write.contents _ _ _ _ _ _ _ _ _ c.if-arguments-gt0.true c.requires.reader c.requires.writer
-    c.hand_out.ensures.unwritten c.hand_out.ensures.refused
+pub returns-clause-no_error : goal.returns-clause-no_error
+returns-clause-no_error g c = λ zero.
+    ended-no-error g.W.Write.contents g.E.Write.contents c.args.arguments (g.R.Read.remaining c.args.reader.now.stream) false _ _ _ _ _ c.answer_to-report.result
+    c.write_report.ensures.report c.write_report.ensures.refused zero
 
 pub returns-clause-failed : goal.returns-clause-failed
-returns-clause-failed g c = λ other. failed_without _ _ _ _ _ _ _ _ _ _ _ (omega arith) (c.drive.ensures.failed other)
+returns-clause-failed g c = λ other.
+    ended-failed g.W.Write.contents g.E.Write.contents c.args.arguments (g.R.Read.remaining c.args.reader.now.stream) _ _ _ _ _ _ c.answer_to-report.result
+    c.requires.writer c.answer_to-report.ensures.report c.answer_to-report.ensures.failure c.write_report.ensures.report
+    c.write_report.ensures.unwritten c.write_report.ensures.refused other
+
+pub returns-clause-silent : goal.returns-clause-silent
+returns-clause-silent g c =
+    ended-silent g.W.Write.contents g.E.Write.contents c.args.arguments (g.R.Read.remaining c.args.reader.now.stream) _ 0 _ _ c.args.errors.now c.args.errors.now c.answer_to-report.result
+    c.answer_to-report.ensures.report c.write_report.ensures.unwritten
+
+pub returns-clause-refused : goal.returns-clause-refused
+returns-clause-refused g c = λ some.
+    ended-refused g.W.Write.contents g.E.Write.contents c.args.arguments (g.R.Read.remaining c.args.reader.now.stream) false _ c.args.writer.now
+    c.args.writer.now c.args.errors.now _ c.answer_to-report.result (c.answer_to-report.ensures.refused some)
+    c.write_report.ensures.refused
+
+pub returns-clause-unwritten : goal.returns-clause-unwritten
+returns-clause-unwritten g c = λ some.
+    ended-unwritten g.W.Write.contents g.E.Write.contents c.args.arguments (g.R.Read.remaining c.args.reader.now.stream) false 0 _ _
+    c.args.errors.now c.args.errors.now c.answer_to-report.result (c.answer_to-report.ensures.refused some) c.write_report.ensures.unwritten

@@ -1,5 +1,5 @@
 use Rattle.std.proofs.Common.{rules}
-use Rattle.mb_gate.specs.Names.{actors_of}
+use Rattle.mb_gate.specs.Accessors.{actors_of}
 use Rattle.mb_shutdown.proofs.Wholly.{of-whole}
 use Rattle.mb_program.proofs.EndLemmas.{unended}
 use Rattle.mb_program.proofs.running.report_of.Goals as goal

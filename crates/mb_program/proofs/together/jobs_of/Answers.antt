@@ -1,7 +1,7 @@
 use Rattle.std.proofs.Common.{rules, ◌≡◌, ℕ, List, ◌++◌, ◌∷◌, ◌∙◌, [], refl, sym, ap, subst, length, append_assoc, arith}
 use Rattle.std.specs.Vec.Iter.{into_iter_items}
 use Rattle.std.proofs.lemmas.List.{append-nil, nil_from_length}
-use Rattle.mb_dispatch.specs.declared.order.Order.{Order}
+use Rattle.mb_msg.specs.declared.order.Order.{Order}
 use Rattle.mb_program.specs.Orders.{orders_of}
 use Rattle.mb_program.specs.Senders.{AreJobs}
 use Rattle.mb_program.proofs.JobLemmas.{as-many-jobs, jobs-pushed, place-left}

@@ -1,9 +1,9 @@
 use Rattle.std.proofs.Common.{◌≡◌, ℕ, ◌∙◌, List, [], ap, length, map, sym, subst}
 use Rattle.std.proofs.lemmas.List.{with_items_is}
-use Rattle.mb_gate.specs.Names.{actors_of}
-use Rattle.mb_reckon.proofs.Lists.{length-mapped}
+use Rattle.mb_gate.specs.Accessors.{actors_of}
+use Rattle.mb_shutdown.proofs.Lists.{length-mapped}
 use Rattle.mb_system.specs.Members.{AreEndsOf, ends_numbers}
-use Rattle.mb_dispatch.specs.declared.order.Order.{Order}
+use Rattle.mb_msg.specs.declared.order.Order.{Order}
 use Rattle.mb_dispatch.specs.Jobs.{AreJobsOf, AreDone}
 use Rattle.mb_dispatch.specs.declared.job.Job.{Job}
 use Rattle.mb_program.specs.Orders.{orders_of}

@@ -1,6 +1,6 @@
 use Rattle.std.proofs.Common.{◌+◌, ◌≤◌, reverse, count_by, ap, ◌∙◌, arith}
 use Rattle.std.proofs.lemmas.List.{take_all, length-reverse}
-use Rattle.mb_journal.specs.Log.{entry_of}
+use Rattle.mb_journal.specs.JournalView.{entry_of}
 use Rattle.mb_report.proofs.Counted.{count_next, count_by-reverse}
 use Rattle.mb_report.specs.Counts.{tells_of_envelope, tells_of_restart}
 use Rattle.mb_report.proofs.counts.counts_of.Goals as goal

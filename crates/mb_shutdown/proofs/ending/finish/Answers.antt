@@ -1,14 +1,14 @@
 use Rattle.std.proofs.Common.{◌≡◌, ◌<◌, ◌≤◌, length, map, refl, sym, ap, subst, arith}
 use Rattle.std.specs.Global.{Box}
-use Rattle.mb_gate.specs.Names.{actors_of, first_of, known_by}
+use Rattle.mb_gate.specs.Accessors.{actors_of, first_home, pass_view}
 use Rattle.mb_gate.specs.declared.gates.Gates.{Gates}
 use Rattle.mb_home.specs.Contents.{Contents}
-use Rattle.mb_reckon.specs.Homes.{CameHome, Disagrees}
-use Rattle.mb_reckon.specs.Mismatched.{of_whom}
-use Rattle.mb_reckon.specs.Rooms.{counted_in}
-use Rattle.mb_reckon.specs.Settled.{AreSettledBy}
-use Rattle.mb_reckon.specs.Whole.{IsWhole}
-use Rattle.mb_reckon.specs.declared.outsider.Outsider.{Outsider}
+use Rattle.mb_shutdown.specs.Homes.{HomesReturned, Disagrees}
+use Rattle.mb_shutdown.specs.Mismatched.{of_whom}
+use Rattle.mb_shutdown.specs.Rooms.{counted_in}
+use Rattle.mb_shutdown.specs.Idle.{WereReadIdle}
+use Rattle.mb_shutdown.specs.CompleteReport.{IsCompleteReport}
+use Rattle.mb_shutdown.specs.declared.finished_sender.FinishedSender.{FinishedSender}
 use Rattle.mb_system.specs.Belonging.{senders_numbers}
 use Rattle.mb_system.specs.Members.{ends_numbers}
 use Rattle.mb_shutdown.specs.Belonging.{AreThere, HasRead, IsLeastMissing}
@@ -30,31 +30,31 @@ returns-in-Some-missing-clause-refused g c =
       refl,
     )
 
-pub unsettled-requires : goal.unsettled-requires
-unsettled-requires g c =
+pub first_busy_of-requires : goal.first_busy_of-requires
+first_busy_of-requires g c =
     let built = c.args.built in record {
       ours = c.requires.together.ends;
       some = some-end built.ends.items built.system.workers built.system.some
           (subst (λ l. AreThere built.system.workers (ends_numbers l)) c.deref.ensures.value c.in_default.ensures);
     }
 
-pub returns-in-Some-unsettled-clause-refused : goal.returns-in-Some-unsettled-clause-refused
-returns-in-Some-unsettled-clause-refused g c =
+pub returns-in-Some-first_busy_of-clause-refused : goal.returns-in-Some-first_busy_of-clause-refused
+returns-in-Some-first_busy_of-clause-refused g c =
     let built = c.args.built in (
       (
         subst (λ l. AreThere built.system.workers (ends_numbers l)) c.deref.ensures.value c.in_default.ensures,
         subst (λ l. AreThere built.system.senders (senders_numbers l)) c.deref-2.ensures.value c.in_default-missing.ensures,
       ),
-      c.in-Some-unsettled.ensures.0,
-      c.in-Some-unsettled.ensures.1,
+      c.in-Some-first_busy_of.ensures.0,
+      c.in-Some-first_busy_of.ensures.1,
     )
 
 pub room_of-requires : goal.room_of-requires
 room_of-requires g c =
-    let built = c.args.built in let b1 = c.unsettled.new.built in let together = c.requires.together in
+    let built = c.args.built in let b1 = c.first_busy_of.new.built in let together = c.requires.together in
     let senders : AreThere built.system.senders (senders_numbers built.senders.items) =
     subst (λ l. AreThere built.system.senders (senders_numbers l)) c.deref-2.ensures.value c.in_default-missing.ensures in
-    let settled : HasRead (AreSettledBy 0 (actors_of built.system.gates)) built b1 = c.in_default-unsettled.ensures in
+    let settled : HasRead (WereReadIdle 0 (actors_of built.system.gates)) built b1 = c.in_default-first_busy_of.ensures in
     let many = as-many-senders built.system.senders built.senders.items senders together.numbered together.once in
     let same = ap length settled.2.senders in
     let few = built.system.few.1 in record {
@@ -65,34 +65,34 @@ room_of-requires g c =
 
 pub returns-in_default-room_of-clause-refused : goal.returns-in_default-room_of-clause-refused
 returns-in_default-room_of-clause-refused g c =
-    let built = c.args.built in let b1 = c.unsettled.new.built in let b2 = c.room_of.new.built in
+    let built = c.args.built in let b1 = c.first_busy_of.new.built in let b2 = c.room_of.new.built in
     let ends : AreThere built.system.workers (ends_numbers built.ends.items) =
     subst (λ l. AreThere built.system.workers (ends_numbers l)) c.deref.ensures.value c.in_default.ensures in
     let senders : AreThere built.system.senders (senders_numbers built.senders.items) =
     subst (λ l. AreThere built.system.senders (senders_numbers l)) c.deref-2.ensures.value c.in_default-missing.ensures in
-    let settled : HasRead (AreSettledBy 0 (actors_of built.system.gates)) built b1 = c.in_default-unsettled.ensures in
+    let settled : HasRead (WereReadIdle 0 (actors_of built.system.gates)) built b1 = c.in_default-first_busy_of.ensures in
     let found = settled-then-read (actors_of built.system.gates) built b1 b2 settled c.room_of.ensures.read in
     ((ends, senders), found)
 
 pub gather-gates-requires-clause-together : goal.gather-gates-requires-clause-together
 gather-gates-requires-clause-together g c =
-    let built = c.args.built in let b1 = c.unsettled.new.built in let b2 = c.room_of.new.built in
+    let built = c.args.built in let b1 = c.first_busy_of.new.built in let b2 = c.room_of.new.built in
     let ends : AreThere built.system.workers (ends_numbers built.ends.items) =
     subst (λ l. AreThere built.system.workers (ends_numbers l)) c.deref.ensures.value c.in_default.ensures in
     let senders : AreThere built.system.senders (senders_numbers built.senders.items) =
     subst (λ l. AreThere built.system.senders (senders_numbers l)) c.deref-2.ensures.value c.in_default-missing.ensures in
-    let settled : HasRead (AreSettledBy 0 (actors_of built.system.gates)) built b1 = c.in_default-unsettled.ensures in
+    let settled : HasRead (WereReadIdle 0 (actors_of built.system.gates)) built b1 = c.in_default-first_busy_of.ensures in
     let found = settled-then-read (actors_of built.system.gates) built b1 b2 settled c.room_of.ensures.read in
     back-together built b2 found.0 found.1 found.2 c.requires.together
 
 pub gather-gates-requires-clause-complete : goal.gather-gates-requires-clause-complete
 gather-gates-requires-clause-complete g c =
-    let built = c.args.built in let b1 = c.unsettled.new.built in let b2 = c.room_of.new.built in
+    let built = c.args.built in let b1 = c.first_busy_of.new.built in let b2 = c.room_of.new.built in
     let ends : AreThere built.system.workers (ends_numbers built.ends.items) =
     subst (λ l. AreThere built.system.workers (ends_numbers l)) c.deref.ensures.value c.in_default.ensures in
     let senders : AreThere built.system.senders (senders_numbers built.senders.items) =
     subst (λ l. AreThere built.system.senders (senders_numbers l)) c.deref-2.ensures.value c.in_default-missing.ensures in
-    let settled : HasRead (AreSettledBy 0 (actors_of built.system.gates)) built b1 = c.in_default-unsettled.ensures in
+    let settled : HasRead (WereReadIdle 0 (actors_of built.system.gates)) built b1 = c.in_default-first_busy_of.ensures in
     let found = settled-then-read (actors_of built.system.gates) built b1 b2 settled c.room_of.ensures.read in
     back-complete built b2 found.0 found.1 found.2 (ends, senders)
 
@@ -103,16 +103,16 @@ gather-gates-requires-clause-room g c =
     let room = made.2 in
     (made.1, (omega (arith, same, room)))
 
-pub reckon-requires : goal.reckon-requires
-reckon-requires g c =
-    let built = c.args.built in let b1 = c.unsettled.new.built in let b2 = c.room_of.new.built in
+pub build_report-requires : goal.build_report-requires
+build_report-requires g c =
+    let built = c.args.built in let b1 = c.first_busy_of.new.built in let b2 = c.room_of.new.built in
     let ends : AreThere built.system.workers (ends_numbers built.ends.items) =
     subst (λ l. AreThere built.system.workers (ends_numbers l)) c.deref.ensures.value c.in_default.ensures in
     let senders : AreThere built.system.senders (senders_numbers built.senders.items) =
     subst (λ l. AreThere built.system.senders (senders_numbers l)) c.deref-2.ensures.value c.in_default-missing.ensures in
-    let settled : HasRead (AreSettledBy 0 (actors_of built.system.gates)) built b1 = c.in_default-unsettled.ensures in
+    let settled : HasRead (WereReadIdle 0 (actors_of built.system.gates)) built b1 = c.in_default-first_busy_of.ensures in
     let found = settled-then-read (actors_of built.system.gates) built b1 b2 settled c.room_of.ensures.read in
-    let gates = c.gather-gates.result.0 in let log = (known_by c.gather-gates.result.1).log in
+    let gates = c.gather-gates.result.0 in let log = (pass_view c.gather-gates.result.1).log in
     let outside = c.gather-gates.new.outside.items in
     let came = gathered built b2 gates log outside found c.gather-gates.ensures.gates.0 c.gather-gates.ensures.seen c.gather-gates.ensures.outside in
     let together = c.requires.together in
@@ -123,7 +123,7 @@ reckon-requires g c =
         subst (λ (g : Gates (Box Contents)). actors_of g ≤ 64) (sym came.gates_are) built.system.few.0,
         omega (arith, many, few),
       );
-      roll = subst (λ (g : Gates (Box Contents)). length (first_of g).value.roll ≡ actors_of g) (sym came.gates_are) built.system.roll;
+      directory = subst (λ (g : Gates (Box Contents)). length (first_home g).value.directory ≡ actors_of g) (sym came.gates_are) built.system.directory;
       senders = came-known built gates log outside together (ends, senders) came;
       outside = came-outside built gates log outside together (ends, senders) came;
       room = came-room built gates log outside together (ends, senders) came b1 c.in-Some-room_of.room settled.2.system settled.2.senders
@@ -132,65 +132,65 @@ reckon-requires g c =
 
 pub returns-in-Ok-clause-whole : goal.returns-in-Ok-clause-whole
 returns-in-Ok-clause-whole g c =
-    let built = c.args.built in let b1 = c.unsettled.new.built in let b2 = c.room_of.new.built in
+    let built = c.args.built in let b1 = c.first_busy_of.new.built in let b2 = c.room_of.new.built in
     let ends : AreThere built.system.workers (ends_numbers built.ends.items) =
     subst (λ l. AreThere built.system.workers (ends_numbers l)) c.deref.ensures.value c.in_default.ensures in
     let senders : AreThere built.system.senders (senders_numbers built.senders.items) =
     subst (λ l. AreThere built.system.senders (senders_numbers l)) c.deref-2.ensures.value c.in_default-missing.ensures in
-    let settled : HasRead (AreSettledBy 0 (actors_of built.system.gates)) built b1 = c.in_default-unsettled.ensures in
+    let settled : HasRead (WereReadIdle 0 (actors_of built.system.gates)) built b1 = c.in_default-first_busy_of.ensures in
     let found = settled-then-read (actors_of built.system.gates) built b1 b2 settled c.room_of.ensures.read in
-    let gates = c.gather-gates.result.0 in let log = (known_by c.gather-gates.result.1).log in
+    let gates = c.gather-gates.result.0 in let log = (pass_view c.gather-gates.result.1).log in
     let outside = c.gather-gates.new.outside.items in
     let came = gathered built b2 gates log outside found c.gather-gates.ensures.gates.0 c.gather-gates.ensures.seen c.gather-gates.ensures.outside in
-    let answers = map (λ (o : Outsider). o.book.posted) outside in (
+    let answers = map (λ (o : FinishedSender). o.send_log.posted) outside in (
       log,
       came.seen,
       (
         answers,
         came-answers built gates log outside c.requires.together (ends, senders) came,
-        subst (λ (h : Gates (Box Contents)). IsWhole g.K.Behaviours.after g.K.Behaviours.gives (first_of h).value.roll log answers c.in-Ok.report)
+        subst (λ (h : Gates (Box Contents)). IsCompleteReport g.K.Behaviours.after g.K.Behaviours.gives (first_home h).value.directory log answers c.in-Ok.report)
             came.gates_are c.in-Ok.ensures.whole,
       ),
     )
 
-pub returns-in-Ok-clause-quiet : goal.returns-in-Ok-clause-quiet
-returns-in-Ok-clause-quiet g c =
-    let built = c.args.built in let b1 = c.unsettled.new.built in let b2 = c.room_of.new.built in
+pub returns-in-Ok-clause-all_idle : goal.returns-in-Ok-clause-all_idle
+returns-in-Ok-clause-all_idle g c =
+    let built = c.args.built in let b1 = c.first_busy_of.new.built in let b2 = c.room_of.new.built in
     let ends : AreThere built.system.workers (ends_numbers built.ends.items) =
     subst (λ l. AreThere built.system.workers (ends_numbers l)) c.deref.ensures.value c.in_default.ensures in
     let senders : AreThere built.system.senders (senders_numbers built.senders.items) =
     subst (λ l. AreThere built.system.senders (senders_numbers l)) c.deref-2.ensures.value c.in_default-missing.ensures in
-    let settled : HasRead (AreSettledBy 0 (actors_of built.system.gates)) built b1 = c.in_default-unsettled.ensures in
+    let settled : HasRead (WereReadIdle 0 (actors_of built.system.gates)) built b1 = c.in_default-first_busy_of.ensures in
     let found = settled-then-read (actors_of built.system.gates) built b1 b2 settled c.room_of.ensures.read in
-    let gates = c.gather-gates.result.0 in let log = (known_by c.gather-gates.result.1).log in
+    let gates = c.gather-gates.result.0 in let log = (pass_view c.gather-gates.result.1).log in
     let outside = c.gather-gates.new.outside.items in
     let came = gathered built b2 gates log outside found c.gather-gates.ensures.gates.0 c.gather-gates.ensures.seen c.gather-gates.ensures.outside in
     ((ends, senders), came.settled)
 
 pub returns-in-Ok-clause-seen : goal.returns-in-Ok-clause-seen
 returns-in-Ok-clause-seen g c =
-    let built = c.args.built in let b1 = c.unsettled.new.built in let b2 = c.room_of.new.built in
+    let built = c.args.built in let b1 = c.first_busy_of.new.built in let b2 = c.room_of.new.built in
     let ends : AreThere built.system.workers (ends_numbers built.ends.items) =
     subst (λ l. AreThere built.system.workers (ends_numbers l)) c.deref.ensures.value c.in_default.ensures in
     let senders : AreThere built.system.senders (senders_numbers built.senders.items) =
     subst (λ l. AreThere built.system.senders (senders_numbers l)) c.deref-2.ensures.value c.in_default-missing.ensures in
-    let settled : HasRead (AreSettledBy 0 (actors_of built.system.gates)) built b1 = c.in_default-unsettled.ensures in
+    let settled : HasRead (WereReadIdle 0 (actors_of built.system.gates)) built b1 = c.in_default-first_busy_of.ensures in
     let found = settled-then-read (actors_of built.system.gates) built b1 b2 settled c.room_of.ensures.read in
-    let gates = c.gather-gates.result.0 in let log = (known_by c.gather-gates.result.1).log in
+    let gates = c.gather-gates.result.0 in let log = (pass_view c.gather-gates.result.1).log in
     let outside = c.gather-gates.new.outside.items in
     let came = gathered built b2 gates log outside found c.gather-gates.ensures.gates.0 c.gather-gates.ensures.seen c.gather-gates.ensures.outside in
-    goes-on built gates log outside c.requires.together (ends, senders) came c.in-Ok.report (known_by c.gather-gates.result.1) refl c.in-Ok.ensures.seen
+    goes-on built gates log outside c.requires.together (ends, senders) came c.in-Ok.report (pass_view c.gather-gates.result.1) refl c.in-Ok.ensures.seen
 
 pub returns-in-Err-clause-refused : goal.returns-in-Err-clause-refused
 returns-in-Err-clause-refused g c =
-    let built = c.args.built in let b1 = c.unsettled.new.built in let b2 = c.room_of.new.built in
+    let built = c.args.built in let b1 = c.first_busy_of.new.built in let b2 = c.room_of.new.built in
     let ends : AreThere built.system.workers (ends_numbers built.ends.items) =
     subst (λ l. AreThere built.system.workers (ends_numbers l)) c.deref.ensures.value c.in_default.ensures in
     let senders : AreThere built.system.senders (senders_numbers built.senders.items) =
     subst (λ l. AreThere built.system.senders (senders_numbers l)) c.deref-2.ensures.value c.in_default-missing.ensures in
-    let settled : HasRead (AreSettledBy 0 (actors_of built.system.gates)) built b1 = c.in_default-unsettled.ensures in
+    let settled : HasRead (WereReadIdle 0 (actors_of built.system.gates)) built b1 = c.in_default-first_busy_of.ensures in
     let found = settled-then-read (actors_of built.system.gates) built b1 b2 settled c.room_of.ensures.read in
-    let gates = c.gather-gates.result.0 in let log = (known_by c.gather-gates.result.1).log in
+    let gates = c.gather-gates.result.0 in let log = (pass_view c.gather-gates.result.1).log in
     let outside = c.gather-gates.new.outside.items in
     let came = gathered built b2 gates log outside found c.gather-gates.ensures.gates.0 c.gather-gates.ensures.seen c.gather-gates.ensures.outside in (
       (ends, senders),
@@ -200,21 +200,21 @@ returns-in-Err-clause-refused g c =
 
 pub returns-in-Ok-clause-home : goal.returns-in-Ok-clause-home
 returns-in-Ok-clause-home g c =
-    let built = c.args.built in let b1 = c.unsettled.new.built in let b2 = c.room_of.new.built in
+    let built = c.args.built in let b1 = c.first_busy_of.new.built in let b2 = c.room_of.new.built in
     let ends : AreThere built.system.workers (ends_numbers built.ends.items) =
     subst (λ l. AreThere built.system.workers (ends_numbers l)) c.deref.ensures.value c.in_default.ensures in
     let senders : AreThere built.system.senders (senders_numbers built.senders.items) =
     subst (λ l. AreThere built.system.senders (senders_numbers l)) c.deref-2.ensures.value c.in_default-missing.ensures in
-    let settled : HasRead (AreSettledBy 0 (actors_of built.system.gates)) built b1 = c.in_default-unsettled.ensures in
+    let settled : HasRead (WereReadIdle 0 (actors_of built.system.gates)) built b1 = c.in_default-first_busy_of.ensures in
     let found = settled-then-read (actors_of built.system.gates) built b1 b2 settled c.room_of.ensures.read in
-    let gates = c.gather-gates.result.0 in let v = known_by c.gather-gates.result.1 in let log = v.log in
+    let gates = c.gather-gates.result.0 in let v = pass_view c.gather-gates.result.1 in let log = v.log in
     let outside = c.gather-gates.new.outside.items in
     let came = gathered built b2 gates log outside found c.gather-gates.ensures.gates.0 c.gather-gates.ensures.seen c.gather-gates.ensures.outside in
     let waiting = counted_in c.in-Some-room_of.room in
     record {
       view = v;
       seen = came.seen;
-      home = subst (λ (h : Gates (Box Contents)). CameHome g.K.Behaviours.gives (first_of h).value (actors_of h) v c.in-Ok.report) came.gates_are
+      home = subst (λ (h : Gates (Box Contents)). HomesReturned g.K.Behaviours.gives (first_home h).value (actors_of h) v c.in-Ok.report) came.gates_are
           c.in-Ok.ensures.home;
       counted = left-counted c.in-Ok.report waiting log c.in-Ok.ensures.counted
           (counted-all b1 b2 log waiting c.in-Some-room_of.ensures.waiting c.gather-gates.ensures.seen.0);
@@ -222,17 +222,17 @@ returns-in-Ok-clause-home g c =
 
 pub returns-in-Err-clause-why : goal.returns-in-Err-clause-why
 returns-in-Err-clause-why g c =
-    let built = c.args.built in let b1 = c.unsettled.new.built in let b2 = c.room_of.new.built in
+    let built = c.args.built in let b1 = c.first_busy_of.new.built in let b2 = c.room_of.new.built in
     let ends : AreThere built.system.workers (ends_numbers built.ends.items) =
     subst (λ l. AreThere built.system.workers (ends_numbers l)) c.deref.ensures.value c.in_default.ensures in
     let senders : AreThere built.system.senders (senders_numbers built.senders.items) =
     subst (λ l. AreThere built.system.senders (senders_numbers l)) c.deref-2.ensures.value c.in_default-missing.ensures in
-    let settled : HasRead (AreSettledBy 0 (actors_of built.system.gates)) built b1 = c.in_default-unsettled.ensures in
+    let settled : HasRead (WereReadIdle 0 (actors_of built.system.gates)) built b1 = c.in_default-first_busy_of.ensures in
     let found = settled-then-read (actors_of built.system.gates) built b1 b2 settled c.room_of.ensures.read in
-    let gates = c.gather-gates.result.0 in let v = known_by c.gather-gates.result.1 in let log = v.log in
+    let gates = c.gather-gates.result.0 in let v = pass_view c.gather-gates.result.1 in let log = v.log in
     let outside = c.gather-gates.new.outside.items in
     let came = gathered built b2 gates log outside found c.gather-gates.ensures.gates.0 c.gather-gates.ensures.seen c.gather-gates.ensures.outside in
-    let waiting = counted_in c.in-Some-room_of.room in let ways = map (λ (o : Outsider). o.sends.items) outside in
+    let waiting = counted_in c.in-Some-room_of.room in let ways = map (λ (o : FinishedSender). o.sends.items) outside in
     record {
       view = v;
       seen = came.seen;
@@ -241,6 +241,6 @@ returns-in-Err-clause-why g c =
       waiting = waiting;
       counted = counted-all b1 b2 log waiting c.in-Some-room_of.ensures.waiting c.gather-gates.ensures.seen.0;
       disagrees =
-          subst (λ (h : Gates (Box Contents)). Disagrees g.K.Behaviours.gives (first_of h).value (actors_of h) v ways waiting c.in-Err.mismatch)
+          subst (λ (h : Gates (Box Contents)). Disagrees g.K.Behaviours.gives (first_home h).value (actors_of h) v ways waiting c.in-Err.mismatch)
           came.gates_are c.in-Err.ensures.why;
     }

@@ -1,7 +1,7 @@
 use Rattle.std.proofs.Common.{◌≡◌, ◌≤◌, ◌∙◌, ℕ, length, subst}
 use Rattle.std.specs.Prelude.{vec_capacity}
-use Rattle.mb_gate.specs.Names.{actors_of, known_by}
-use Rattle.mb_reckon.specs.Rooms.{AreCounted, IsRoom, counted_in}
+use Rattle.mb_gate.specs.Accessors.{actors_of, pass_view}
+use Rattle.mb_shutdown.specs.Rooms.{AreCounted, IsRoom, counted_in}
 use Rattle.mb_shutdown.proofs.Back.{first-ours, ok-at, read-again}
 use Rattle.mb_shutdown.proofs.ending.room_of.Goals as goal
 
@@ -12,8 +12,8 @@ make_room-room-requires-clause-ours g c =
 pub returns-in_default-clause-read : goal.returns-in_default-clause-read
 returns-in_default-clause-read g c =
     let built = c.args.built.now in let first = c.index_mut.result.now in let pass = c.make_room-room.new.pass in (
-      known_by first.waker.pass,
-      known_by pass,
+      pass_view first.registrar.pass,
+      pass_view pass,
       read-again built first pass c.requires.some c.index_mut.ensures.value c.make_room-room.ensures.ours,
       c.make_room-room.ensures.only,
     )
@@ -21,8 +21,8 @@ returns-in_default-clause-read g c =
 pub returns-clause-read : goal.returns-clause-read
 returns-clause-read g c =
     let built = c.args.built.now in let first = c.index_mut.result.now in let pass = c.make_room-room.new.pass in (
-      known_by first.waker.pass,
-      known_by pass,
+      pass_view first.registrar.pass,
+      pass_view pass,
       read-again built first pass c.requires.some c.index_mut.ensures.value c.make_room-room.ensures.ours,
       c.make_room-room.ensures.only,
     )
@@ -40,9 +40,9 @@ returns-clause-room g c =
 pub returns-clause-waiting : goal.returns-clause-waiting
 returns-clause-waiting g c =
     let built = c.args.built.now in let first = c.index_mut.result.now in let pass = c.make_room-room.new.pass in (
-      known_by first.waker.pass,
-      known_by pass,
+      pass_view first.registrar.pass,
+      pass_view pass,
       read-again built first pass c.requires.some c.index_mut.ensures.value c.make_room-room.ensures.ours,
-      ok-at (λ room. AreCounted (known_by pass).log (counted_in room)) c.make_room-room.result c.in-Ok-Ok.room c.in-Ok-Ok.is-0
+      ok-at (λ room. AreCounted (pass_view pass).log (counted_in room)) c.make_room-room.result c.in-Ok-Ok.room c.in-Ok-Ok.is-0
           c.make_room-room.ensures.waiting,
     )

@@ -2,13 +2,13 @@ use Rattle.std.proofs.Common.{◌≡◌, ◌+◌, ◌++◌, length, map, refl, s
 use Rattle.std.specs.Prelude.{All, Some}
 use Rattle.std.proofs.lemmas.List.{length-map}
 use Rattle.mb_msg.specs.Limits.{most_actors}
-use Rattle.mb_rule.specs.Shares.{IsWhole}
-use Rattle.mb_rule.proofs.SharesLemmas.{whole_one}
+use Rattle.mb_ghost.specs.Shares.{IsWhole}
+use Rattle.mb_ghost.proofs.SharesLemmas.{whole_one}
 use Rattle.mb_gate.specs.View.{View}
 use Rattle.mb_pool.specs.Made.{AreUnused, IsOfKind}
 use Rattle.mb_pool.specs.Places.{AreEnds, AreFeeds, gates_of}
-use Rattle.mb_system.specs.Members.{ways_of_senders}
-use Rattle.mb_startup.proofs.Founded.{all-numbered, all-once, all-senders, as-many-senders, ends-gates, feeds-gates}
+use Rattle.mb_system.specs.Members.{pool_feeds_of}
+use Rattle.mb_startup.proofs.NewGates.{all-numbered, all-once, all-senders, as-many-senders, ends-gates, feeds-gates}
 use Rattle.mb_startup.proofs.Right.{right-plan}
 use Rattle.mb_startup.proofs.Led.{all-led}
 use Rattle.mb_startup.proofs.building.assemble.Goals as goal
@@ -38,7 +38,7 @@ open-requires g c =
     let rows = sym (length-map outside.items (λ row. row.items)) ∙ founded.rows in let senders = right.senders in record {
       ours = c.in_ok-gates.ensures.pass.0;
       blank = let known = c.in_ok-gates.ensures.pass.1 in
-          (ap (λ (v : View). v.log) known, ap (λ (v : View). v.got) known, ap (λ (v : View). v.debts) known);
+          (ap (λ (v : View). v.log) known, ap (λ (v : View). v.got) known, ap (λ (v : View). v.obligations) known);
       whole = subst (λ (v : View). IsWhole v.share) (sym c.in_ok-gates.ensures.pass.1) whole_one;
       actors = (omega (arith, actors), omega (arith, actors, few));
       some = (omega (arith, as_many, some), omega (arith, as_many, workers));
@@ -72,12 +72,12 @@ returns g c =
       actors = housed.5;
       senders = opened.senders;
       numbers = (refl, refl, refl);
-      pool = subst (λ k. IsOfKind k c.in_ok-pool.pool) c.kind_of.ensures pool.kind_is;
+      pool = pool.kind_is;
       of_pool = (
         subst (AreEnds c.in_ok-pool.pool) (sym opened.ways.0) pool.are_ends,
         subst (AreFeeds c.in_ok-pool.pool) (sym opened.ways.1) pool.are_feeds,
       );
-      unused = subst (λ ways. AreUnused (ways ++ ways_of_senders senders)) (sym opened.ways.0)
+      unused = subst (λ ways. AreUnused (ways ++ pool_feeds_of senders)) (sym opened.ways.0)
           (subst (λ ways. AreUnused (c.in_ok-pool.ends.items ++ ways)) (sym opened.ways.1) pool.unused);
       many = opened.many ∙ ends_are.1 ∙ pool.ends_are;
       end = opened.ends.end;
@@ -97,6 +97,6 @@ invariant_of-system g c =
     let few = right.few in let actors = founded.actors in record {
       some = right.workers.0;
       few = (omega (arith, few, actors), right.senders);
-      roll = founded.roll;
+      directory = founded.directory;
       known = founded.known;
     }

@@ -1,16 +1,16 @@
 use Rattle.std.proofs.Common.{length, rules, sym, ◌∙◌, Vec}
 use Rattle.std.specs.Global.{Global}
-use Rattle.mb_gate.specs.Names.{actors_of}
-use Rattle.mb_reckon.proofs.Lists.{length-mapped}
-use Rattle.mb_dispatch.specs.declared.order.Order.{Order}
+use Rattle.mb_gate.specs.Accessors.{actors_of}
+use Rattle.mb_shutdown.proofs.Lists.{length-mapped}
+use Rattle.mb_msg.specs.declared.order.Order.{Order}
 use Rattle.mb_shutdown.specs.Refused.{IsComplete}
 use Rattle.mb_startup.proofs.There.{senders-there, some-end}
 use Rattle.mb_shutdown.proofs.Wholly.{of-whole}
-use Rattle.mb_whole.specs.Untold.{IsNoStory, IsRight, IsUnfit}
+use Rattle.mb_whole.specs.NoReport.{IsErrorOfRun, IsRight, IsUnfit}
 use Rattle.mb_whole.proofs.Breaking.{may-break}
 use Rattle.mb_whole.proofs.Sent.{err-of, orders_of}
-use Rattle.mb_whole.proofs.Story.{no-end-missing, no-sender-missing, story}
-use Rattle.mb_whole.proofs.Untold.{unfit, untold}
+use Rattle.mb_whole.proofs.WholeRun.{no-end-missing, no-sender-missing, story}
+use Rattle.mb_whole.proofs.NoReport.{unfit, untold}
 use Rattle.mb_whole.proofs.boxes.run_planned.Goals as goal
 
 pub send_and_run-requires-clause-many : goal.send_and_run-requires-clause-many
@@ -62,4 +62,4 @@ returns-in_err-check-clause-refused g c =
     let gives = g.K.Behaviours.gives in let plan = c.args.plan in let actors = length c.args.actors.items in
     let orders = orders_of c.args.sends.now in let error = c.in_err-check.field-0.0 in
     let refused : IsUnfit plan actors orders error = search rules in
-    err-of (IsNoStory gives plan actors orders) c.from_residual.result error c.from_residual.ensures.1 (unfit gives plan actors orders error refused)
+    err-of (IsErrorOfRun gives plan actors orders) c.from_residual.result error c.from_residual.ensures.1 (unfit gives plan actors orders error refused)

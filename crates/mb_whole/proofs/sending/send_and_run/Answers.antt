@@ -4,17 +4,17 @@ use Rattle.std.specs.Global.{Global}
 use Rattle.std.specs.Vec.{with_item, with_items}
 use Rattle.std.proofs.lemmas.List.{with_items_is}
 use Rattle.std.proofs.lemmas.List.Elements.{All-set}
-use Rattle.mb_reckon.proofs.Lists.{length-mapped}
+use Rattle.mb_shutdown.proofs.Lists.{length-mapped}
 use Rattle.mb_system.specs.Members.{IsEndOf, IsSenderOf}
-use Rattle.mb_dispatch.specs.declared.order.Order.{Order}
+use Rattle.mb_msg.specs.declared.order.Order.{Order}
 use Rattle.mb_whole.specs.Sent.{BreaksOff, HaveSent}
 use Rattle.mb_whole.proofs.Sent.{err-of, first-number, found-nothing, orders_of, see-on, together-kept}
 use Rattle.mb_whole.proofs.sending.send_and_run.Goals as goal
 
-pub returns-clause-quiet : goal.returns-clause-quiet
-returns-clause-quiet g c =
+pub returns-clause-found_nothing : goal.returns-clause-found_nothing
+returns-clause-found_nothing g c =
     let ran = c.in_ok-_turns.ensures in
-    found-nothing g.K.Behaviours.gives c.args.built.now.system.gates c.args.built.now.ends.items c.run_quietly.new.end c.requires.some ran.paid
+    found-nothing g.K.Behaviours.gives c.args.built.now.system.gates c.args.built.now.ends.items c.run_quietly.new.end c.requires.some ran.discharged
     ran.settled ran.empty
 
 pub returns-clause-sent : goal.returns-clause-sent
@@ -49,5 +49,5 @@ returns-clause-together g c =
     (record { system = old.system; ends = with_item old.ends 0 c.run_quietly.new.end; senders = with_items old.senders now })
     (c.requires.many ∙ sym (length-mapped (λ (v : Vec Order Global). v.items) c.args.sends.now)) refl c.requires.together
     (subst (HaveSent gates orders old.senders.items) (sym items) sent)
-    (All-set (λ e. IsEndOf gates e.waker) old.ends.items 0 c.run_quietly.new.end ran.ours c.requires.together.ends)
+    (All-set (λ e. IsEndOf gates e.registrar) old.ends.items 0 c.run_quietly.new.end ran.ours c.requires.together.ends)
     (subst (All (λ s. IsSenderOf gates s.inner)) (sym items) went.ours)

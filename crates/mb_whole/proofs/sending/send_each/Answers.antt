@@ -3,14 +3,14 @@ use Rattle.std.specs.Prelude.{slice_get}
 use Rattle.std.proofs.lemmas.List.Elements.{All-set}
 use Rattle.std.proofs.lemmas.Option.{slice_get-get_or}
 use Rattle.mb_system.specs.Members.{IsSenderOf}
-use Rattle.mb_whole.specs.Sent.{BreaksOne, HasSentAndPaid}
+use Rattle.mb_whole.specs.Sent.{BreaksOne, HasSentAndRetried}
 use Rattle.mb_whole.proofs.Sent.{Did, all-sent, err-of, one-done, orders-at, orders-here, orders_of}
 use Rattle.mb_whole.proofs.sending.send_each.Goals as goal
 
 pub loop-place-preserved : goal.loop-place-preserved
 loop-place-preserved g c =
-    let at = c.loop-place in let one = c.in_ok-send_and_pay.ensures in let gates = c.args.system.now.gates in
-    let place = at.place in let old = get_or at.senders place c.index-senders-place.result in let new = c.send_and_pay.new.sender in
+    let at = c.loop-place in let one = c.in_ok-send_and_retry.ensures in let gates = c.args.system.now.gates in
+    let place = at.place in let old = get_or at.senders place c.index-senders-place.result in let new = c.send_and_retry.new.sender in
     let orders = c.index-sends-place.result in
     let test = c.loop-place-test.true in let same = at.invariant.1.many in let as_many = c.requires.many in
     let in_senders : place < length at.senders = omega (arith, test, same) in
@@ -18,7 +18,7 @@ loop-place-preserved g c =
     let here : slice_get at.senders place ≡ Some old = slice_get-get_or at.senders place c.index-senders-place.result in_senders in (
       All-set (λ s. IsSenderOf gates s.inner) at.senders place new one.ours at.invariant.0,
       one-done (Did gates (orders_of c.args.sends.now)) place c.args.senders.now at.senders old new at.invariant.1 here (λ of there.
-          subst (λ l. HasSentAndPaid gates l old new)
+          subst (λ l. HasSentAndRetried gates l old new)
           (orders-at c.args.sends.now place orders of c.deref.result.now in_sends c.index-sends-place.is c.deref.ensures.value there) one.sent),
     )
 
@@ -27,16 +27,16 @@ returns-clause-sent g c =
     let at = c.loop-place in let test = c.loop-place-test.false in let same = at.invariant.1.many in
     all-sent c.args.system.now.gates (orders_of c.args.sends.now) at.place c.args.senders.now at.senders (omega (arith, test, same)) at.invariant.1
 
-pub returns-in_err-send_and_pay-clause-fault : goal.returns-in_err-send_and_pay-clause-fault
-returns-in_err-send_and_pay-clause-fault g c =
+pub returns-in_err-send_and_retry-clause-fault : goal.returns-in_err-send_and_retry-clause-fault
+returns-in_err-send_and_retry-clause-fault g c =
     let at = c.loop-place in let place = at.place in let orders = c.index-sends-place.result in
     let test = c.loop-place-test.true in let same = at.invariant.1.many in let as_many = c.requires.many in
     let within : place < length c.args.sends.now = omega (arith, test, same, as_many) in
     let gates = c.args.system.now.gates in
-    err-of (BreaksOne gates (orders_of c.args.sends.now)) c.from_residual.result c.in_err-send_and_pay.field-0.0
+    err-of (BreaksOne gates (orders_of c.args.sends.now)) c.from_residual.result c.in_err-send_and_retry.field-0.0
     c.from_residual.ensures.1 (
       place,
       c.deref.result.now,
       orders-here c.args.sends.now place orders c.deref.result.now within c.index-sends-place.is c.deref.ensures.value,
-      c.in_err-send_and_pay.ensures.fault,
+      c.in_err-send_and_retry.ensures.fault,
     )

@@ -1,5 +1,5 @@
 use Rattle.std.proofs.Common.{◌≡◌}
-use Rattle.mb_gate.specs.Names.{pass_id}
+use Rattle.mb_gate.specs.Accessors.{pass_id}
 use Rattle.bench.proofs.gates.alone.load_often.Given as goal
 
 abbrev pub invariant-loop : goal.invariant-loop

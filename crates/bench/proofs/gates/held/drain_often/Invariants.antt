@@ -1,5 +1,5 @@
 use Rattle.std.proofs.Common.{◌≡◌}
-use Rattle.mb_gate.specs.Names.{claim_id, held_actor, given_to, taken_with, recorded_by}
+use Rattle.mb_gate.specs.Accessors.{claim_id, held_actor, given_to, taken_with, recorded_by}
 use Rattle.bench.proofs.gates.held.drain_often.Given as goal
 
 abbrev pub invariant-loop : goal.invariant-loop

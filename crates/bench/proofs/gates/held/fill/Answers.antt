@@ -1,6 +1,6 @@
 use Rattle.std.proofs.Common.{sym, subst}
-use Rattle.mb_gate.specs.Named.{NamesBelow}
-use Rattle.mb_gate.specs.Names.{actors_of}
+use Rattle.mb_gate.specs.NamedActors.{NamesBelow}
+use Rattle.mb_gate.specs.Accessors.{actors_of}
 use Rattle.bench.proofs.gates.held.fill.Goals as goal
 
 pub sys_enqueue-requires-clause-named : goal.sys_enqueue-requires-clause-named

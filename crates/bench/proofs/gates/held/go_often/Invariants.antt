@@ -1,5 +1,5 @@
 use Rattle.std.proofs.Common.{◌≡◌}
-use Rattle.mb_gate.specs.Names.{pass_id, claim_id, held_actor, given_to, taken_with, recorded_by}
+use Rattle.mb_gate.specs.Accessors.{pass_id, claim_id, held_actor, given_to, taken_with, recorded_by}
 use Rattle.bench.proofs.gates.held.go_often.Given as goal
 
 abbrev pub invariant-loop : goal.invariant-loop

@@ -1,5 +1,5 @@
 use Rattle.std.proofs.Common.{◌≡◌, ◌+◌, ◌%◌, ◌^◌, length}
-use Rattle.mb_gate.specs.Names.{pass_id}
+use Rattle.mb_gate.specs.Accessors.{pass_id}
 use Rattle.bench.proofs.gates.held.put_back.Given as goal
 
 abbrev pub invariant-loop-number : goal.invariant-loop-number

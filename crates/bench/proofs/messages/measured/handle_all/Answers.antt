@@ -7,7 +7,7 @@ use Rattle.mb_journal.specs.Identity.{Identity}
 use Rattle.mb_journal.specs.Incarnation.{messages, body_messages}
 use Rattle.mb_status.specs.Mailbox.{word_of}
 use Rattle.mb_cell.specs.MayHandle.{MayHandle}
-use Rattle.mb_cell.specs.Seen.{Seen}
+use Rattle.mb_cell.specs.CellView.{CellView}
 use Rattle.bench.specs.Idle.{IsIdle}
 use Rattle.bench.specs.Steady.{IsSteady}
 use Rattle.bench.specs.Sum.{sends}
@@ -27,10 +27,10 @@ loop-number-preserved g c =
     (ap (λ (e : Envelope). e.body) c.envelope.ensures) c.apply_envelope.ensures.taken c.apply_envelope.ensures.lawful in
     let old = messages c.args.cell.now.who c.args.cell.now.journal in
     record {
-      idle = subst (λ (s : Seen). IsIdle s) (sym is_taken) step.idle;
-      same_who = ap (λ (s : Seen). s.who) is_taken ∙ step.same_who ∙ so_far.same_who;
+      idle = subst (λ (s : CellView). IsIdle s) (sym is_taken) step.idle;
+      same_who = ap (λ (s : CellView). s.who) is_taken ∙ step.same_who ∙ so_far.same_who;
       entries =
-          let one = ap (λ (s : Seen). length s.journal) is_taken ∙ step.one_more in
+          let one = ap (λ (s : CellView). length s.journal) is_taken ∙ step.one_more in
           let before = so_far.entries in
           omega (arith, one, before);
       room = λ some.
@@ -38,7 +38,7 @@ loop-number-preserved g c =
           let limit = ap (λ (w : Identity). w.limit) so_far.same_who in
           let before = so_far.entries in
           omega (arith, not_full, limit, before);
-      heard = ap (λ (s : Seen). messages s.who s.journal) is_taken ∙ step.heard
+      heard = ap (λ (s : CellView). messages s.who s.journal) is_taken ∙ step.heard
           ∙ ap (λ (l : List Message). l ++ body_messages c.envelope.result.body) so_far.heard
           ∙ append_assoc old (sends n) (body_messages c.envelope.result.body)
           ∙ ap (λ (e : Envelope). old ++ (sends n ++ body_messages e.body)) c.envelope.ensures
@@ -58,6 +58,6 @@ apply_envelope-requires g c =
       open_reading = idle-open cell c.open-reading.result so_far.idle c.open-reading.ensures;
     } in
     record {
-      may_handle = subst (λ (s : Seen). MayHandle s c.envelope.result (word_of c.open-reading.result))
+      may_handle = subst (λ (s : CellView). MayHandle s c.envelope.result (word_of c.open-reading.result))
           (sym c.in_ok-ready.ensures.ok) readied;
     }

@@ -2,8 +2,8 @@ use Rattle.std.proofs.Common.{[], ◌∷◌}
 use denote.Ref.{ShrRef}
 use denote.Param.{param}
 use denote.Param.Send.{sendable}
-use Rattle.mb_desk.proofs.Captured.{captured}
-use Rattle.mb_desk.proofs.Crossing.{gates_shared}
+use Rattle.mb_testkit.proofs.Captured.{captured}
+use Rattle.mb_testkit.proofs.Crossing.{gates_shared}
 use Rattle.bench.specs.contracts.pools.worker.Worker as worker
 use Rattle.bench.proofs.Crossing.{TheGates, worker_crosses}
 use Rattle.bench.proofs.pools.four.two.Goals as goal

@@ -1,7 +1,7 @@
 use Rattle.std.proofs.Common.{◌≡◌, All, Some, [], ◌∷◌, subst, sym}
 use Rattle.std.proofs.lemmas.List.Elements.{All-nil, All-push}
 use Rattle.mb_gate.specs.Untouched.{origin_of}
-use Rattle.mb_pool.specs.Places.{Way, gates_of}
+use Rattle.mb_pool.specs.Places.{PoolEndpoint, gates_of}
 use Rattle.mb_pool.proofs.Alike.{all_front, all_last}
 use Rattle.bench.specs.Ready.{IsReady}
 use Rattle.bench.proofs.pools.worker.workers_of.Goals as goal
@@ -15,12 +15,12 @@ loop-number-init c = (
 
 pub worker_of-worker-requires-clause-these : goal.worker_of-worker-requires-clause-these
 worker_of-worker-requires-clause-these c =
-    let ours = λ (w : Way _). gates_of w ≡ Some (origin_of c.args.gates.now) in
+    let ours = λ (w : PoolEndpoint _). gates_of w ≡ Some (origin_of c.args.gates.now) in
     all_last ours c.pop.new.self.items c.in-Some.end (subst (All ours) c.in-Some.ensures.items c.loop-number.invariant.1)
 
 pub loop-number-preserved : goal.loop-number-preserved
 loop-number-preserved c =
-    let ours = λ (w : Way _). gates_of w ≡ Some (origin_of c.args.gates.now) in let ready = IsReady c.args.gates.now in (
+    let ours = λ (w : PoolEndpoint _). gates_of w ≡ Some (origin_of c.args.gates.now) in let ready = IsReady c.args.gates.now in (
       c.worker_of-worker.ensures.ours,
       all_front ours c.pop.new.self.items (c.in-Some.end ∷ []) (subst (All ours) c.in-Some.ensures.items c.loop-number.invariant.1),
       subst (All ready) (sym c.in-Ok-push.ensures.items)

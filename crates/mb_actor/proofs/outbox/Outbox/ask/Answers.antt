@@ -1,7 +1,7 @@
 use Rattle.std.proofs.Common.{sym, ◌∙◌, ap, subst, ◌||◌, [], ◌∷◌, ◌++◌, arith}
 use Rattle.mb_actor.specs.ActorSet.{contains}
 use Rattle.mb_actor.specs.Held.{CanHold}
-use Rattle.mb_actor.specs.Tray.{Tray}
+use Rattle.mb_actor.specs.OutboxView.{OutboxView}
 use Rattle.mb_actor.proofs.HeldLemmas.{can_hold-more}
 use Rattle.mb_actor.proofs.OutboxLemmas.{passes, small, spawnable, with_effect, asks_spawn, asks_none}
 use Rattle.mb_actor.proofs.outbox.Outbox.ask.Goals as goal
@@ -15,7 +15,7 @@ insert-requires c =
 pub invariant_of-self : goal.invariant_of-self
 invariant_of-self c =
     let kept = with_effect c.self.inside c.self.invariant c.args.self.now c.self.view_is c.args.effect c.in_default.ensures
-    (can_hold-more c.args.self.now c.args.effect (subst (λ (t : Tray). CanHold t) c.self.view_is c.self.invariant.held)
+    (can_hold-more c.args.self.now c.args.effect (subst (λ (t : OutboxView). CanHold t) c.self.view_is c.self.invariant.held)
     (passes c.args.self.now c.args.effect c.in_default.ensures)) in
     elim c.match-effect.branch [
       | in-Spawn w ↦

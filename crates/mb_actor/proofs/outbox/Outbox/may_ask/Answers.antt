@@ -1,6 +1,6 @@
 use Rattle.std.proofs.Common.{sym, ◌∙◌, ap, not, ◌&&◌}
 use Rattle.mb_actor.specs.ActorSet.{contains}
-use Rattle.mb_actor.specs.Tray.{may_spawn}
+use Rattle.mb_actor.specs.OutboxView.{may_spawn}
 use Rattle.mb_actor.proofs.OutboxLemmas.{may-spawn}
 use Rattle.mb_actor.proofs.outbox.Outbox.may_ask.Goals as goal
 

@@ -1,7 +1,7 @@
 use Rattle.std.proofs.Common.{sym, ◌∙◌, ap, refl, filter}
 use Rattle.mb_actor.specs.ActorList.{has}
 use Rattle.mb_actor.specs.ActorSet.{contains}
-use Rattle.mb_actor.specs.Tray.{spawns_of}
+use Rattle.mb_actor.specs.OutboxView.{spawns_of}
 use Rattle.mb_actor.proofs.HeldLemmas.{can_hold-none}
 use Rattle.mb_actor.proofs.OutboxLemmas.{filter_own, all_prepared, one_more, same_tray}
 use Rattle.mb_actor.proofs.outbox.Outbox.new.Goals as goal

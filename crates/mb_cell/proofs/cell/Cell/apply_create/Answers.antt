@@ -10,10 +10,10 @@ use Rattle.mb_journal.specs.Identity.{Identity, is_guardian}
 use Rattle.mb_journal.specs.Lawful.{IsNumbered}
 use Rattle.mb_journal.specs.Life.{phase}
 use Rattle.mb_journal.proofs.CreateLemmas.{sets_aside-create}
-use Rattle.mb_cell.specs.Agrees.{Plays}
-use Rattle.mb_books.specs.BooksRecord.{Books}
-use Rattle.mb_books.specs.Place.{identity_of}
-use Rattle.mb_cell.specs.Seen.{Seen}
+use Rattle.mb_cell.specs.Agrees.{FollowsBehaviour}
+use Rattle.mb_supervision.specs.CellStateRecord.{CellState}
+use Rattle.mb_supervision.specs.ActorIdentity.{identity_of}
+use Rattle.mb_cell.specs.CellView.{CellView}
 use Rattle.mb_cell.proofs.CallingRow as calling
 use Rattle.mb_cell.proofs.CallingRow.{IsCallingRow, IsCalled}
 use Rattle.mb_cell.proofs.CellLaws as cell
@@ -31,11 +31,11 @@ guardian g c = cell.guardian-now c.self.inside.actor _ _ c.in_default.not-Some c
 
 guardian_row : (g : given.Over) (c : goal.After-push_system g) →
     IsSilentRow (identity_of c.self.inside.place c.self.inside.journal.limit) c.self.inside.journal.entries c.args.number system.Create
-    c.self.inside.books c.create_guardian.new.self
+    c.self.inside.cell_state c.create_guardian.new.self
 guardian_row g c =
     create_guardian-row _ _ _ _ _ c.self.invariant.0 c.args.number
-    (subst (λ (s : Seen). phase s.who s.journal ≡ Fresh) (sym c.self.view_is) c.requires.fresh)
-    (ap (λ (s : Seen). s.acts) c.self.view_is ∙ c.requires.may_take.carried_out)
+    (subst (λ (s : CellView). phase s.who s.journal ≡ Fresh) (sym c.self.view_is) c.requires.fresh)
+    (ap (λ (s : CellView). s.acts) c.self.view_is ∙ c.requires.may_take.carried_out)
     (guardian g c) c.create_guardian.new.self c.create_guardian.ensures
 
 pub create_guardian-requires-clause-few : goal.create_guardian-requires-clause-few
@@ -44,7 +44,7 @@ create_guardian-requires-clause-few g c = let same = c.self.invariant.0.fanout i
 pub invariant_of-self : goal.invariant_of-self
 invariant_of-self g c =
     silent.keeps c.self.inside.place c.self.inside.journal c.push_system.new.self c.args.number system.Create
-    (g.K.Behaviours.after c.self.inside.place.this.0) (g.K.Behaviours.gives c.self.inside.place.this.0) c.self.inside.books
+    (g.K.Behaviours.after c.self.inside.place.this.0) (g.K.Behaviours.gives c.self.inside.place.this.0) c.self.inside.cell_state
     c.create_guardian.new.self c.self.inside.outbox c.self.inside.actor (λ a. g.A.Actor.after a.actor) (λ a. g.A.Actor.gives a.actor)
     (λ a. g.A.Actor.content a.actor) (λ a. a.calls) c.args.self.now c.push_system.ensures.added c.push_system.ensures.within
     c.self.invariant c.self.view_is c.requires.may_take (sets_aside-create _ _) (guardian_row g c)
@@ -52,7 +52,7 @@ invariant_of-self g c =
 pub returns-in_default-clause-taken : goal.returns-in_default-clause-taken
 returns-in_default-clause-taken g c =
     silent.takes c.self.inside.place c.self.inside.journal c.push_system.new.self c.args.number system.Create
-    (g.K.Behaviours.after c.self.inside.place.this.0) (g.K.Behaviours.gives c.self.inside.place.this.0) c.self.inside.books
+    (g.K.Behaviours.after c.self.inside.place.this.0) (g.K.Behaviours.gives c.self.inside.place.this.0) c.self.inside.cell_state
     c.create_guardian.new.self c.self.inside.outbox c.self.inside.actor (λ a. g.A.Actor.after a.actor) (λ a. g.A.Actor.gives a.actor)
     (λ a. g.A.Actor.content a.actor) (λ a. a.calls) c.args.self.now c.push_system.ensures.added c.push_system.ensures.within
     c.self.invariant c.self.view_is c.requires.may_take (sets_aside-create _ _) (guardian_row g c)
@@ -72,7 +72,7 @@ abbrev entry : (g : given.Over) (c : goal.After-settle g) → Entry
 entry g c = System c.args.number system.Create (Applied (Some c.start-answer.result) c.effects-effects.result.now)
 
 plays : (g : given.Over) (c : goal.After-settle g) →
-    Plays (who g c) c.self.inside.journal.entries (g.K.Behaviours.after c.self.inside.place.this.0)
+    FollowsBehaviour (who g c) c.self.inside.journal.entries (g.K.Behaviours.after c.self.inside.place.this.0)
     (g.K.Behaviours.gives c.self.inside.place.this.0) (g.A.Actor.after c.in-Some.actor.actor) (g.A.Actor.gives c.in-Some.actor.actor)
     (g.A.Actor.content c.in-Some.actor.actor) c.in-Some.actor.calls
 plays g c = cell.plays-now c.self.inside.actor c.in-Some.actor _ _ c.in-Some.is c.self.invariant.2
@@ -92,19 +92,19 @@ came g c = record {
 
 row : (g : given.Over) (c : goal.After-settle g) →
     IsCallingRow (who g c) (g.K.Behaviours.gives c.self.inside.place.this.0) c.self.inside.journal.entries (entry g c) Start
-    (Some c.start-answer.result) c.effects-effects.result.now c.self.inside.books c.create.new.self
+    (Some c.start-answer.result) c.effects-effects.result.now c.self.inside.cell_state c.create.new.self
     (create_after (who g c) (queries (who g c) c.self.inside.journal.entries) c.args.number c.start-answer.result c.effects-effects.result.now)
 row g c =
     create-row _ _ _ _ _ c.self.invariant.0 c.args.number
-    (subst (λ (s : Seen). phase s.who s.journal ≡ Fresh) (sym c.self.view_is) c.requires.fresh)
-    (ap (λ (s : Seen). s.acts) c.self.view_is ∙ c.requires.may_take.carried_out)
+    (subst (λ (s : CellView). phase s.who s.journal ≡ Fresh) (sym c.self.view_is) c.requires.fresh)
+    (ap (λ (s : CellView). s.acts) c.self.view_is ∙ c.requires.may_take.carried_out)
     (plays g c).no_guardian c.start-answer.result c.effects-effects.result.now
-    (subst (λ (s : Seen). IsNumbered s.who s.journal c.args.number system.Create) (sym c.self.view_is) c.requires.may_take.numbered)
+    (subst (λ (s : CellView). IsNumbered s.who s.journal c.args.number system.Create) (sym c.self.view_is) c.requires.may_take.numbered)
     c.create.new.self c.create.ensures
 
 pub invariant_of-self-2 : goal.invariant_of-self-2
 invariant_of-self-2 g c =
-    calling.calling-settled c.self.inside.place c.self.inside.journal c.push_system-2.new.self (entry g c) _ _ c.self.inside.books
+    calling.calling-settled c.self.inside.place c.self.inside.journal c.push_system-2.new.self (entry g c) _ _ c.self.inside.cell_state
     c.create.new.self c.self.inside.outbox c.start-answer.new.out _ _ _ _ _ _ _ _ _ _ c.push_system-2.ensures.added
     c.push_system-2.ensures.within c.self.invariant.0 (plays g c) (came g c) _ (row g c) c.settle.new.self
     (g.A.Actor.content c.start-answer.new.self.actor) c.settle.ensures refl c.start-answer.ensures.begins
@@ -112,9 +112,9 @@ invariant_of-self-2 g c =
 pub returns-clause-taken : goal.returns-clause-taken
 returns-clause-taken g c =
     cell.taken-system c.self.inside.place c.self.inside.journal c.push_system-2.new.self c.args.number system.Create
-    (Applied (Some c.start-answer.result) c.effects-effects.result.now) c.self.inside.books.acts c.create.new.self.acts c.args.self.now
+    (Applied (Some c.start-answer.result) c.effects-effects.result.now) c.self.inside.cell_state.acts c.create.new.self.acts c.args.self.now
     c.push_system-2.ensures.added c.self.view_is
-    (ap (λ (b : Books). b.acts) (row g c).booked ∙ sym (row g c).acted)
+    (ap (λ (b : CellState). b.acts) (row g c).booked ∙ sym (row g c).acted)
 
 pub returns-clause-lawful : goal.returns-clause-lawful
 returns-clause-lawful g c = (invariant_of-self-2 g c).0.lawful

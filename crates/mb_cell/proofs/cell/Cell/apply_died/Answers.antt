@@ -4,8 +4,8 @@ use Rattle.mb_msg.specs.declared.system.SysMsg.TheVariants as system
 use Rattle.mb_actor.specs.declared.phase.Phase.TheVariants.{Fresh, Ending}
 use Rattle.mb_journal.specs.Life.{phase, closed, children, is_alone}
 use Rattle.mb_journal.specs.Phase.{phase_is}
-use Rattle.mb_books.specs.Place.{identity_of}
-use Rattle.mb_cell.specs.Seen.{Seen}
+use Rattle.mb_supervision.specs.ActorIdentity.{identity_of}
+use Rattle.mb_cell.specs.CellView.{CellView}
 use Rattle.mb_cell.proofs.DiedRow.{died-row, died-applied}
 use Rattle.mb_cell.proofs.SilentRow as silent
 use Rattle.mb_cell.proofs.SilentRow.{IsSilentRow}
@@ -14,20 +14,20 @@ use Rattle.mb_cell.proofs.cell.Cell.apply_died.Goals as goal
 
 row : (g : given.Over) (c : goal.After-push_system g) →
     IsSilentRow (identity_of c.self.inside.place c.self.inside.journal.limit) c.self.inside.journal.entries c.args.number
-    (system.Died c.args.id) c.self.inside.books c.died.new.self
+    (system.Died c.args.id) c.self.inside.cell_state c.died.new.self
 row g c =
     died-row _ _ _ _ _ c.self.invariant.0 c.args.number
-    (subst (λ (s : Seen). closed s.who s.journal ≡ false) (sym c.self.view_is) c.requires.may_take.not_ended)
-    (subst (λ (s : Seen). phase_is (phase s.who s.journal) Fresh ≡ false) (sym c.self.view_is) c.requires.off_fresh)
+    (subst (λ (s : CellView). closed s.who s.journal ≡ false) (sym c.self.view_is) c.requires.may_take.not_ended)
+    (subst (λ (s : CellView). phase_is (phase s.who s.journal) Fresh ≡ false) (sym c.self.view_is) c.requires.off_fresh)
     c.args.id
-    (subst (λ (s : Seen). (phase_is (phase s.who s.journal) Ending && is_alone (children s.who s.journal) c.args.id) ≡ false)
+    (subst (λ (s : CellView). (phase_is (phase s.who s.journal) Ending && is_alone (children s.who s.journal) c.args.id) ≡ false)
     (sym c.self.view_is) c.requires.not_last)
     c.died.new.self c.died.ensures
 
 pub invariant_of-self : goal.invariant_of-self
 invariant_of-self g c =
     silent.keeps c.self.inside.place c.self.inside.journal c.push_system.new.self c.args.number (system.Died c.args.id)
-    (g.K.Behaviours.after c.self.inside.place.this.0) (g.K.Behaviours.gives c.self.inside.place.this.0) c.self.inside.books
+    (g.K.Behaviours.after c.self.inside.place.this.0) (g.K.Behaviours.gives c.self.inside.place.this.0) c.self.inside.cell_state
     c.died.new.self c.self.inside.outbox c.self.inside.actor (λ a. g.A.Actor.after a.actor) (λ a. g.A.Actor.gives a.actor)
     (λ a. g.A.Actor.content a.actor) (λ a. a.calls) c.args.self.now c.push_system.ensures.added c.push_system.ensures.within
     c.self.invariant c.self.view_is c.requires.may_take (died-applied _ _ c.args.id) (row g c)
@@ -35,7 +35,7 @@ invariant_of-self g c =
 pub returns-clause-taken : goal.returns-clause-taken
 returns-clause-taken g c =
     silent.takes c.self.inside.place c.self.inside.journal c.push_system.new.self c.args.number (system.Died c.args.id)
-    (g.K.Behaviours.after c.self.inside.place.this.0) (g.K.Behaviours.gives c.self.inside.place.this.0) c.self.inside.books
+    (g.K.Behaviours.after c.self.inside.place.this.0) (g.K.Behaviours.gives c.self.inside.place.this.0) c.self.inside.cell_state
     c.died.new.self c.self.inside.outbox c.self.inside.actor (λ a. g.A.Actor.after a.actor) (λ a. g.A.Actor.gives a.actor)
     (λ a. g.A.Actor.content a.actor) (λ a. a.calls) c.args.self.now c.push_system.ensures.added c.push_system.ensures.within
     c.self.invariant c.self.view_is c.requires.may_take (died-applied _ _ c.args.id) (row g c)

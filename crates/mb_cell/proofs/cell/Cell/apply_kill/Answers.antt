@@ -6,8 +6,8 @@ use Rattle.mb_journal.specs.Entry.Entry.{Handled}
 use Rattle.mb_journal.specs.Entry.Outcome.{Applied}
 use Rattle.mb_journal.specs.Reading.{IsOpen}
 use Rattle.mb_cell.specs.MayHandle.{MayHandle}
-use Rattle.mb_books.specs.Place.{identity_of}
-use Rattle.mb_cell.specs.Seen.{Seen}
+use Rattle.mb_supervision.specs.ActorIdentity.{identity_of}
+use Rattle.mb_cell.specs.CellView.{CellView}
 use Rattle.mb_cell.proofs.CellLaws.{count-small}
 use Rattle.mb_cell.proofs.QuietEnvelope as quiet
 use Rattle.mb_cell.proofs.QuietEnvelope.{IsQuietEnvelope}
@@ -25,14 +25,14 @@ may_handle : (g : given.Over) (c : goal.After-push_handled g) →
     MayHandle (record {
       who = identity_of c.self.inside.place c.self.inside.journal.limit;
       journal = c.self.inside.journal.entries;
-      acts = c.self.inside.books.acts;
+      acts = c.self.inside.cell_state.acts;
       is_ready = c.self.inside.journal.is_ready;
     }) c.args.envelope (word_of c.args.reading)
-may_handle g c = subst (λ (s : Seen). MayHandle s c.args.envelope (word_of c.args.reading)) (sym c.self.view_is) c.requires.may_handle
+may_handle g c = subst (λ (s : CellView). MayHandle s c.args.envelope (word_of c.args.reading)) (sym c.self.view_is) c.requires.may_handle
 
 row : (g : given.Over) (c : goal.After-push_handled g) →
     IsQuietEnvelope (identity_of c.self.inside.place c.self.inside.journal.limit) (g.K.Behaviours.gives c.self.inside.place.this.0)
-    c.self.inside.journal.entries (entry g c) c.self.inside.books c.handle.new.self
+    c.self.inside.journal.entries (entry g c) c.self.inside.cell_state c.handle.new.self
 row g c =
     kill-row _ _ _ _ _ c.self.invariant.0 (may_handle g c).carried_out c.args.envelope c.word.result (may_handle g c).an_actor
     (may_handle g c).addressed (may_handle g c).live
@@ -43,7 +43,7 @@ row g c =
 pub invariant_of-self : goal.invariant_of-self
 invariant_of-self g c =
     quiet.keeps c.self.inside.place c.self.inside.journal c.push_handled.new.self (entry g c) c.args.envelope (word_of c.args.reading)
-    (g.K.Behaviours.after c.self.inside.place.this.0) (g.K.Behaviours.gives c.self.inside.place.this.0) c.self.inside.books
+    (g.K.Behaviours.after c.self.inside.place.this.0) (g.K.Behaviours.gives c.self.inside.place.this.0) c.self.inside.cell_state
     c.handle.new.self c.self.inside.outbox c.self.inside.actor (λ a. g.A.Actor.after a.actor) (λ a. g.A.Actor.gives a.actor)
     (λ a. g.A.Actor.content a.actor) (λ a. a.calls) c.args.self.now c.push_handled.ensures.added c.push_handled.ensures.within
     c.self.invariant c.self.view_is (refl, c.word.ensures.word) (row g c)
@@ -51,7 +51,7 @@ invariant_of-self g c =
 pub returns-clause-taken : goal.returns-clause-taken
 returns-clause-taken g c =
     quiet.takes c.self.inside.place c.self.inside.journal c.push_handled.new.self (entry g c) c.args.envelope (word_of c.args.reading)
-    (g.K.Behaviours.after c.self.inside.place.this.0) (g.K.Behaviours.gives c.self.inside.place.this.0) c.self.inside.books
+    (g.K.Behaviours.after c.self.inside.place.this.0) (g.K.Behaviours.gives c.self.inside.place.this.0) c.self.inside.cell_state
     c.handle.new.self c.self.inside.outbox c.self.inside.actor (λ a. g.A.Actor.after a.actor) (λ a. g.A.Actor.gives a.actor)
     (λ a. g.A.Actor.content a.actor) (λ a. a.calls) c.args.self.now c.push_handled.ensures.added c.push_handled.ensures.within
     c.self.invariant c.self.view_is (refl, c.word.ensures.word) (row g c)

@@ -6,8 +6,8 @@ use Rattle.mb_journal.specs.Identity.{is_guardian}
 use Rattle.mb_journal.specs.Lawful.{was_live}
 use Rattle.mb_journal.specs.Life.{phase, closed, children, is_alone}
 use Rattle.mb_journal.specs.Phase.{phase_is}
-use Rattle.mb_books.specs.Place.{identity_of}
-use Rattle.mb_cell.specs.Seen.{Seen}
+use Rattle.mb_supervision.specs.ActorIdentity.{identity_of}
+use Rattle.mb_cell.specs.CellView.{CellView}
 use Rattle.mb_cell.proofs.SilentRow as silent
 use Rattle.mb_cell.proofs.SilentRow.{IsSilentRow}
 use Rattle.mb_cell.proofs.EndRow.{ended_last-row}
@@ -16,21 +16,21 @@ use Rattle.mb_cell.proofs.cell.Cell.apply_last_end.Goals as goal
 
 row : (g : given.Over) (c : goal.After-push_system g) →
     IsSilentRow (identity_of c.self.inside.place c.self.inside.journal.limit) c.self.inside.journal.entries c.args.number (system.Died c.args.id)
-    c.self.inside.books c.died_last.new.self
+    c.self.inside.cell_state c.died_last.new.self
 row g c =
     ended_last-row _ _ _ _ _ c.self.invariant.0 c.args.number
-    (subst (λ (s : Seen). closed s.who s.journal ≡ false) (sym c.self.view_is) c.requires.may_take.not_ended)
-    (ap (λ (s : Seen). s.acts) c.self.view_is ∙ c.requires.may_take.carried_out)
+    (subst (λ (s : CellView). closed s.who s.journal ≡ false) (sym c.self.view_is) c.requires.may_take.not_ended)
+    (ap (λ (s : CellView). s.acts) c.self.view_is ∙ c.requires.may_take.carried_out)
     c.args.id
-    (subst (λ (s : Seen). (phase_is (phase s.who s.journal) Ending && is_alone (children s.who s.journal) c.args.id) ≡ true)
+    (subst (λ (s : CellView). (phase_is (phase s.who s.journal) Ending && is_alone (children s.who s.journal) c.args.id) ≡ true)
     (sym c.self.view_is) c.requires.last)
-    (subst (λ (s : Seen). (not (is_guardian s.who) && was_live s.who s.journal) ≡ false) (sym c.self.view_is) c.requires.silent)
+    (subst (λ (s : CellView). (not (is_guardian s.who) && was_live s.who s.journal) ≡ false) (sym c.self.view_is) c.requires.silent)
     c.died_last.new.self c.died_last.ensures
 
 pub invariant_of-self : goal.invariant_of-self
 invariant_of-self g c =
     silent.keeps c.self.inside.place c.self.inside.journal c.push_system.new.self c.args.number (system.Died c.args.id)
-    (g.K.Behaviours.after c.self.inside.place.this.0) (g.K.Behaviours.gives c.self.inside.place.this.0) c.self.inside.books
+    (g.K.Behaviours.after c.self.inside.place.this.0) (g.K.Behaviours.gives c.self.inside.place.this.0) c.self.inside.cell_state
     c.died_last.new.self c.self.inside.outbox c.self.inside.actor (λ a. g.A.Actor.after a.actor) (λ a. g.A.Actor.gives a.actor)
     (λ a. g.A.Actor.content a.actor) (λ a. a.calls) c.args.self.now c.push_system.ensures.added c.push_system.ensures.within
     c.self.invariant c.self.view_is c.requires.may_take c.requires.applied (row g c)
@@ -38,7 +38,7 @@ invariant_of-self g c =
 pub returns-clause-taken : goal.returns-clause-taken
 returns-clause-taken g c =
     silent.takes c.self.inside.place c.self.inside.journal c.push_system.new.self c.args.number (system.Died c.args.id)
-    (g.K.Behaviours.after c.self.inside.place.this.0) (g.K.Behaviours.gives c.self.inside.place.this.0) c.self.inside.books
+    (g.K.Behaviours.after c.self.inside.place.this.0) (g.K.Behaviours.gives c.self.inside.place.this.0) c.self.inside.cell_state
     c.died_last.new.self c.self.inside.outbox c.self.inside.actor (λ a. g.A.Actor.after a.actor) (λ a. g.A.Actor.gives a.actor)
     (λ a. g.A.Actor.content a.actor) (λ a. a.calls) c.args.self.now c.push_system.ensures.added c.push_system.ensures.within
     c.self.invariant c.self.view_is c.requires.may_take c.requires.applied (row g c)

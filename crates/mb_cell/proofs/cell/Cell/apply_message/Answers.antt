@@ -10,11 +10,11 @@ use Rattle.mb_journal.specs.Incarnation.{messages}
 use Rattle.mb_journal.specs.Lawful.{IsExpected}
 use Rattle.mb_journal.specs.Reading.{IsOpen}
 use Rattle.mb_journal.proofs.Fold.{queries}
-use Rattle.mb_cell.specs.Agrees.{Plays}
-use Rattle.mb_books.specs.BooksRecord.{Books}
+use Rattle.mb_cell.specs.Agrees.{FollowsBehaviour}
+use Rattle.mb_supervision.specs.CellStateRecord.{CellState}
 use Rattle.mb_cell.specs.MayHandle.{MayHandle}
-use Rattle.mb_books.specs.Place.{identity_of}
-use Rattle.mb_cell.specs.Seen.{Seen}
+use Rattle.mb_supervision.specs.ActorIdentity.{identity_of}
+use Rattle.mb_cell.specs.CellView.{CellView}
 use Rattle.mb_cell.proofs.CallingRow as calling
 use Rattle.mb_cell.proofs.CallingRow.{IsCallingRow, IsCalled}
 use Rattle.mb_cell.proofs.CellLaws as cell
@@ -28,22 +28,22 @@ handle-requires-clause-small g c = cell.count-small _ _ _ _ _ c.self.invariant.0
 abbrev who : (g : given.Over) (c : goal.After-settle g) → Identity
 who g c = identity_of c.self.inside.place c.self.inside.journal.limit
 
-abbrev seen : (g : given.Over) (c : goal.After-settle g) → Seen
+abbrev seen : (g : given.Over) (c : goal.After-settle g) → CellView
 seen g c = record {
   who = who g c;
   journal = c.self.inside.journal.entries;
-  acts = c.self.inside.books.acts;
+  acts = c.self.inside.cell_state.acts;
   is_ready = c.self.inside.journal.is_ready;
 }
 
 may_handle : (g : given.Over) (c : goal.After-settle g) → MayHandle (seen g c) c.args.envelope (word_of c.args.reading)
-may_handle g c = subst (λ (s : Seen). MayHandle s c.args.envelope (word_of c.args.reading)) (sym c.self.view_is) c.requires.may_handle
+may_handle g c = subst (λ (s : CellView). MayHandle s c.args.envelope (word_of c.args.reading)) (sym c.self.view_is) c.requires.may_handle
 
 abbrev entry : (g : given.Over) (c : goal.After-settle g) → Entry
 entry g c = Handled c.args.envelope c.word.result (Applied (Some c.receive-answer.result) c.effects-effects.result.now)
 
 plays : (g : given.Over) (c : goal.After-settle g) →
-    Plays (who g c) c.self.inside.journal.entries (g.K.Behaviours.after c.self.inside.place.this.0)
+    FollowsBehaviour (who g c) c.self.inside.journal.entries (g.K.Behaviours.after c.self.inside.place.this.0)
     (g.K.Behaviours.gives c.self.inside.place.this.0) (g.A.Actor.after c.in-Some.actor.actor) (g.A.Actor.gives c.in-Some.actor.actor)
     (g.A.Actor.content c.in-Some.actor.actor) c.in-Some.actor.calls
 plays g c = cell.plays-now c.self.inside.actor c.in-Some.actor _ _ c.in-Some.is c.self.invariant.2
@@ -63,7 +63,7 @@ came g c = record {
 
 row : (g : given.Over) (c : goal.After-settle g) →
     IsCallingRow (who g c) (g.K.Behaviours.gives c.self.inside.place.this.0) c.self.inside.journal.entries (entry g c) (Receive c.args.message)
-    (Some c.receive-answer.result) c.effects-effects.result.now c.self.inside.books c.handle.new.self
+    (Some c.receive-answer.result) c.effects-effects.result.now c.self.inside.cell_state c.handle.new.self
     (handled_after (who g c) (queries (who g c) c.self.inside.journal.entries) c.args.envelope c.word.result (Some c.receive-answer.result)
     c.effects-effects.result.now)
 row g c =
@@ -71,7 +71,7 @@ row g c =
     (may_handle g c).addressed (may_handle g c).live
     (subst (λ w. IsOpen (who g c) c.self.inside.journal.entries w) (sym c.word.ensures.word) (may_handle g c).open_reading)
     c.args.message c.receive-answer.result c.effects-effects.result.now c.requires.calls
-    (subst (λ (s : Seen). IsExpected s.who s.journal c.args.envelope.body) (sym c.self.view_is) c.requires.expected)
+    (subst (λ (s : CellView). IsExpected s.who s.journal c.args.envelope.body) (sym c.self.view_is) c.requires.expected)
     c.handle.new.self c.handle.ensures
 
 -- the content before, as the actor's own function has it
@@ -82,7 +82,7 @@ content_before g c =
 
 pub invariant_of-self : goal.invariant_of-self
 invariant_of-self g c =
-    calling.calling-settled c.self.inside.place c.self.inside.journal c.push_handled.new.self (entry g c) _ _ c.self.inside.books
+    calling.calling-settled c.self.inside.place c.self.inside.journal c.push_handled.new.self (entry g c) _ _ c.self.inside.cell_state
     c.handle.new.self c.self.inside.outbox c.receive-answer.new.out _ _ _ _ _ _ _ _ _ _ c.push_handled.ensures.added
     c.push_handled.ensures.within c.self.invariant.0 (plays g c) (came g c) _ (row g c) c.settle.new.self
     (g.A.Actor.content c.receive-answer.new.self.actor) c.settle.ensures refl
@@ -93,8 +93,8 @@ invariant_of-self g c =
 pub returns-clause-taken : goal.returns-clause-taken
 returns-clause-taken g c =
     cell.taken-envelope c.self.inside.place c.self.inside.journal c.push_handled.new.self (entry g c) c.args.envelope (word_of c.args.reading)
-    c.self.inside.books.acts c.handle.new.self.acts c.args.self.now (refl, c.word.ensures.word) c.push_handled.ensures.added c.self.view_is
-    (ap (λ (b : Books). b.acts) (row g c).booked ∙ sym (row g c).acted)
+    c.self.inside.cell_state.acts c.handle.new.self.acts c.args.self.now (refl, c.word.ensures.word) c.push_handled.ensures.added c.self.view_is
+    (ap (λ (b : CellState). b.acts) (row g c).booked ∙ sym (row g c).acted)
 
 pub returns-clause-lawful : goal.returns-clause-lawful
 returns-clause-lawful g c = (invariant_of-self g c).0.lawful

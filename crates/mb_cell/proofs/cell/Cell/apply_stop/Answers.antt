@@ -11,10 +11,10 @@ use Rattle.mb_journal.specs.Identity.{Identity}
 use Rattle.mb_journal.specs.Lawful.{IsNumbered}
 use Rattle.mb_journal.specs.Life.{phase, closed, children}
 use Rattle.mb_journal.specs.Phase.{phase_is}
-use Rattle.mb_cell.specs.Agrees.{Plays}
-use Rattle.mb_books.specs.BooksRecord.{Books}
-use Rattle.mb_books.specs.Place.{identity_of}
-use Rattle.mb_cell.specs.Seen.{Seen}
+use Rattle.mb_cell.specs.Agrees.{FollowsBehaviour}
+use Rattle.mb_supervision.specs.CellStateRecord.{CellState}
+use Rattle.mb_supervision.specs.ActorIdentity.{identity_of}
+use Rattle.mb_cell.specs.CellView.{CellView}
 use Rattle.mb_cell.proofs.CallingRow as calling
 use Rattle.mb_cell.proofs.CallingRow.{IsCallingRow, IsCalled}
 use Rattle.mb_cell.proofs.CellLaws as cell
@@ -31,7 +31,7 @@ abbrev entry : (g : given.Over) (c : goal.After-clear g) → Entry
 entry g c = System c.args.number system.Terminate (Applied None c.effects-effects.result.now)
 
 plays : (g : given.Over) (c : goal.After-clear g) →
-    Plays (who g c) c.self.inside.journal.entries (g.K.Behaviours.after c.self.inside.place.this.0)
+    FollowsBehaviour (who g c) c.self.inside.journal.entries (g.K.Behaviours.after c.self.inside.place.this.0)
     (g.K.Behaviours.gives c.self.inside.place.this.0) (g.A.Actor.after c.in-Some.actor.actor) (g.A.Actor.gives c.in-Some.actor.actor)
     (g.A.Actor.content c.in-Some.actor.actor) c.in-Some.actor.calls
 plays g c = cell.plays-now c.self.inside.actor c.in-Some.actor _ _ c.in-Some.is c.self.invariant.2
@@ -51,29 +51,29 @@ came g c = record {
 
 row : (g : given.Over) (c : goal.After-clear g) →
     IsCallingRow (who g c) (g.K.Behaviours.gives c.self.inside.place.this.0) c.self.inside.journal.entries (entry g c) Stop
-    None c.effects-effects.result.now c.self.inside.books c.end_at_once.new.self
+    None c.effects-effects.result.now c.self.inside.cell_state c.end_at_once.new.self
     (ended_after _ _ _ _ _ c.self.invariant.0 c.args.number
-    (subst (λ (s : Seen). closed s.who s.journal ≡ false) (sym c.self.view_is) c.requires.may_take.not_ended)
-    (ap (λ (s : Seen). s.acts) c.self.view_is ∙ c.requires.may_take.carried_out)
+    (subst (λ (s : CellView). closed s.who s.journal ≡ false) (sym c.self.view_is) c.requires.may_take.not_ended)
+    (ap (λ (s : CellView). s.acts) c.self.view_is ∙ c.requires.may_take.carried_out)
     c.effects-effects.result.now
-    (subst (λ (s : Seen). phase_is (phase s.who s.journal) Ending ≡ false) (sym c.self.view_is) (ap (λ p. phase_is p Ending) c.requires.live))
-    (subst (λ (s : Seen). is_empty (children s.who s.journal) ≡ true) (sym c.self.view_is) c.requires.no_children))
+    (subst (λ (s : CellView). phase_is (phase s.who s.journal) Ending ≡ false) (sym c.self.view_is) (ap (λ p. phase_is p Ending) c.requires.live))
+    (subst (λ (s : CellView). is_empty (children s.who s.journal) ≡ true) (sym c.self.view_is) c.requires.no_children))
 row g c =
     stop-row _ _ _ _ _ c.self.invariant.0 c.args.number
-    (subst (λ (s : Seen). closed s.who s.journal ≡ false) (sym c.self.view_is) c.requires.may_take.not_ended)
-    (ap (λ (s : Seen). s.acts) c.self.view_is ∙ c.requires.may_take.carried_out)
+    (subst (λ (s : CellView). closed s.who s.journal ≡ false) (sym c.self.view_is) c.requires.may_take.not_ended)
+    (ap (λ (s : CellView). s.acts) c.self.view_is ∙ c.requires.may_take.carried_out)
     c.effects-effects.result.now
-    (subst (λ (s : Seen). phase_is (phase s.who s.journal) Ending ≡ false) (sym c.self.view_is) (ap (λ p. phase_is p Ending) c.requires.live))
-    (subst (λ (s : Seen). is_empty (children s.who s.journal) ≡ true) (sym c.self.view_is) c.requires.no_children)
+    (subst (λ (s : CellView). phase_is (phase s.who s.journal) Ending ≡ false) (sym c.self.view_is) (ap (λ p. phase_is p Ending) c.requires.live))
+    (subst (λ (s : CellView). is_empty (children s.who s.journal) ≡ true) (sym c.self.view_is) c.requires.no_children)
     (plays g c).no_guardian
-    (subst (λ (s : Seen). phase s.who s.journal ≡ Live) (sym c.self.view_is) c.requires.live)
-    (subst (λ (s : Seen). IsNumbered s.who s.journal c.args.number system.Terminate) (sym c.self.view_is) c.requires.may_take.numbered)
-    (subst (λ (s : Seen). sets_aside s.who s.journal system.Terminate ≡ false) (sym c.self.view_is) c.requires.applied)
+    (subst (λ (s : CellView). phase s.who s.journal ≡ Live) (sym c.self.view_is) c.requires.live)
+    (subst (λ (s : CellView). IsNumbered s.who s.journal c.args.number system.Terminate) (sym c.self.view_is) c.requires.may_take.numbered)
+    (subst (λ (s : CellView). sets_aside s.who s.journal system.Terminate ≡ false) (sym c.self.view_is) c.requires.applied)
     c.end_at_once.new.self c.end_at_once.ensures
 
 pub invariant_of-self : goal.invariant_of-self
 invariant_of-self g c =
-    calling.calling-cleared c.self.inside.place c.self.inside.journal c.push_system.new.self (entry g c) _ _ c.self.inside.books
+    calling.calling-cleared c.self.inside.place c.self.inside.journal c.push_system.new.self (entry g c) _ _ c.self.inside.cell_state
     c.end_at_once.new.self c.self.inside.outbox c.stop.new.out _ _ _ _ _ _ _ _ _ _ c.push_system.ensures.added
     c.push_system.ensures.within c.self.invariant.0 (plays g c) (came g c) _ (row g c) c.clear.new.self
     (g.A.Actor.content c.stop.new.self.actor) c.clear.ensures refl (c.stop.ensures.stays ∙ ((plays g c).same_content
@@ -82,9 +82,9 @@ invariant_of-self g c =
 pub returns-clause-taken : goal.returns-clause-taken
 returns-clause-taken g c =
     cell.taken-system c.self.inside.place c.self.inside.journal c.push_system.new.self c.args.number system.Terminate
-    (Applied None c.effects-effects.result.now) c.self.inside.books.acts c.end_at_once.new.self.acts c.args.self.now
+    (Applied None c.effects-effects.result.now) c.self.inside.cell_state.acts c.end_at_once.new.self.acts c.args.self.now
     c.push_system.ensures.added c.self.view_is
-    (ap (λ (b : Books). b.acts) (row g c).booked ∙ sym (row g c).acted)
+    (ap (λ (b : CellState). b.acts) (row g c).booked ∙ sym (row g c).acted)
 
 pub returns-clause-lawful : goal.returns-clause-lawful
 returns-clause-lawful g c = (invariant_of-self g c).0.lawful

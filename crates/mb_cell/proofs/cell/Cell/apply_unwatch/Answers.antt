@@ -1,8 +1,8 @@
 use Rattle.std.proofs.Common.{◌≡◌, false, sym, subst}
 use Rattle.mb_msg.specs.declared.system.SysMsg.TheVariants as system
 use Rattle.mb_journal.specs.Life.{closed}
-use Rattle.mb_books.specs.Place.{identity_of}
-use Rattle.mb_cell.specs.Seen.{Seen}
+use Rattle.mb_supervision.specs.ActorIdentity.{identity_of}
+use Rattle.mb_cell.specs.CellView.{CellView}
 use Rattle.mb_cell.proofs.SilentRow as silent
 use Rattle.mb_cell.proofs.SilentRow.{IsSilentRow}
 use Rattle.mb_cell.proofs.WatchRow.{unwatch-row, unwatch-applied}
@@ -11,16 +11,16 @@ use Rattle.mb_cell.proofs.cell.Cell.apply_unwatch.Goals as goal
 
 row : (g : given.Over) (c : goal.After-push_system g) →
     IsSilentRow (identity_of c.self.inside.place c.self.inside.journal.limit) c.self.inside.journal.entries c.args.number
-    (system.Unwatch c.args.watcher) c.self.inside.books c.unwatch.new.self
+    (system.Unwatch c.args.watcher) c.self.inside.cell_state c.unwatch.new.self
 row g c =
     unwatch-row _ _ _ _ _ c.self.invariant.0 c.args.number
-    (subst (λ (s : Seen). closed s.who s.journal ≡ false) (sym c.self.view_is) c.requires.may_take.not_ended)
+    (subst (λ (s : CellView). closed s.who s.journal ≡ false) (sym c.self.view_is) c.requires.may_take.not_ended)
     c.args.watcher c.unwatch.new.self c.unwatch.ensures
 
 pub invariant_of-self : goal.invariant_of-self
 invariant_of-self g c =
     silent.keeps c.self.inside.place c.self.inside.journal c.push_system.new.self c.args.number (system.Unwatch c.args.watcher)
-    (g.K.Behaviours.after c.self.inside.place.this.0) (g.K.Behaviours.gives c.self.inside.place.this.0) c.self.inside.books
+    (g.K.Behaviours.after c.self.inside.place.this.0) (g.K.Behaviours.gives c.self.inside.place.this.0) c.self.inside.cell_state
     c.unwatch.new.self c.self.inside.outbox c.self.inside.actor (λ a. g.A.Actor.after a.actor) (λ a. g.A.Actor.gives a.actor)
     (λ a. g.A.Actor.content a.actor) (λ a. a.calls) c.args.self.now c.push_system.ensures.added c.push_system.ensures.within
     c.self.invariant c.self.view_is c.requires.may_take (unwatch-applied _ _ c.args.watcher) (row g c)
@@ -28,7 +28,7 @@ invariant_of-self g c =
 pub returns-clause-taken : goal.returns-clause-taken
 returns-clause-taken g c =
     silent.takes c.self.inside.place c.self.inside.journal c.push_system.new.self c.args.number (system.Unwatch c.args.watcher)
-    (g.K.Behaviours.after c.self.inside.place.this.0) (g.K.Behaviours.gives c.self.inside.place.this.0) c.self.inside.books
+    (g.K.Behaviours.after c.self.inside.place.this.0) (g.K.Behaviours.gives c.self.inside.place.this.0) c.self.inside.cell_state
     c.unwatch.new.self c.self.inside.outbox c.self.inside.actor (λ a. g.A.Actor.after a.actor) (λ a. g.A.Actor.gives a.actor)
     (λ a. g.A.Actor.content a.actor) (λ a. a.calls) c.args.self.now c.push_system.ensures.added c.push_system.ensures.within
     c.self.invariant c.self.view_is c.requires.may_take (unwatch-applied _ _ c.args.watcher) (row g c)

@@ -1,9 +1,9 @@
 use Rattle.std.proofs.Common.{◌≡◌, ℕ, [], true, false, refl, ap, sym, ◌∙◌, subst, arith, rules}
 use Rattle.std.specs.Prelude.{Option, Some, None, is_some, is_none, IfSome}
 use Rattle.mb_actor.specs.Behaviour.{AllowsSame}
-use Rattle.mb_actor.specs.Called.{Called}
-use Rattle.mb_books.specs.BooksRecord.{Books}
-use Rattle.mb_cell.proofs.NewLaw.{first_books, agrees-new, plays-new}
+use Rattle.mb_actor.specs.RecordedActor.{RecordedActor}
+use Rattle.mb_supervision.specs.CellStateRecord.{CellState}
+use Rattle.mb_cell.proofs.NewLaw.{first_cell_state, agrees-new, plays-new}
 use Rattle.mb_cell.proofs.cell.Cell.new.Given as given
 use Rattle.mb_cell.proofs.cell.Cell.new.Goals as goal
 
@@ -19,15 +19,15 @@ a_parent o a (Some p) is same = refl
 of_it : {A : Type 0} (o : Option A) (a : A) (P : A → Type 0) → o ≡ Some a → IfSome o P → P a
 of_it o a P is all = subst (λ x. IfSome x P) is all
 
-first : (f : ℕ) (b : Books) → b ≡ first_books f → b ≡ first_books b.fanout
-first f b is = is ∙ (λ i. first_books (ap (λ (x : Books). x.fanout) (sym is) i))
+first : (f : ℕ) (b : CellState) → b ≡ first_cell_state f → b ≡ first_cell_state b.fanout
+first f b is = is ∙ (λ i. first_cell_state (ap (λ (x : CellState). x.fanout) (sym is) i))
 
 pub invariant_of-result : goal.invariant_of-result
 invariant_of-result g c = (
   agrees-new
       (record { this = c.args.this; parent = c.args.parent; actors = c.args.actors; prepared = c.args.prepared; strategy = c.args.strategy })
-      c.new-journal.result c.args.journal_limit _ c.new-books.result c.new-outbox.result c.new-journal.ensures
-      (first _ _ c.new-books.ensures) (let same = ap (λ (b : Books). b.fanout) c.new-books.ensures in omega arith) c.new-outbox.ensures
+      c.new-journal.result c.args.journal_limit _ c.new-cell_state.result c.new-outbox.result c.new-journal.ensures
+      (first _ _ c.new-cell_state.ensures) (let same = ap (λ (b : CellState). b.fanout) c.new-cell_state.ensures in omega arith) c.new-outbox.ensures
       (omega arith) c.requires.few,
   (λ ready. let no : c.new-journal.result.is_ready ≡ false = ap (λ j. j.is_ready) c.new-journal.ensures in cc),
   no_parent c.args.actor c.args.parent c.in_default.not-Some c.requires.guardian,
@@ -38,14 +38,14 @@ returns-in_default-clause-lawful g c = (invariant_of-result g c).0.lawful
 
 -- the actor as it was handed in, of which no call was made
 handed : (g : given.Over) (c : goal.After-new g) → c.new.result.actor ≡ c.in-Some.actor
-handed g c = ap (λ (a : Called (g.row.A.Denot)). a.actor) c.new.ensures
+handed g c = ap (λ (a : RecordedActor (g.row.A.Denot)). a.actor) c.new.ensures
 
 pub invariant_of-result-2 : goal.invariant_of-result-2
 invariant_of-result-2 g c = (
   agrees-new
       (record { this = c.args.this; parent = c.args.parent; actors = c.args.actors; prepared = c.args.prepared; strategy = c.args.strategy })
-      c.new-journal.result c.args.journal_limit _ c.new-books.result c.new-outbox.result c.new-journal.ensures
-      (first _ _ c.new-books.ensures) (let same = ap (λ (b : Books). b.fanout) c.new-books.ensures in omega arith) c.new-outbox.ensures
+      c.new-journal.result c.args.journal_limit _ c.new-cell_state.result c.new-outbox.result c.new-journal.ensures
+      (first _ _ c.new-cell_state.ensures) (let same = ap (λ (b : CellState). b.fanout) c.new-cell_state.ensures in omega arith) c.new-outbox.ensures
       (omega arith) c.requires.few,
   (λ ready. let no : c.new-journal.result.is_ready ≡ false = ap (λ j. j.is_ready) c.new-journal.ensures in cc),
   plays-new
@@ -58,7 +58,7 @@ invariant_of-result-2 g c = (
       (of_it c.args.actor c.in-Some.actor (λ a. AllowsSame (g.A.Actor.gives a) (g.K.Behaviours.gives c.args.this.0)) c.in-Some.is c.requires.allows))
       (subst (λ a. g.A.Actor.content a ≡ g.A.Actor.after a []) (sym (handed g c))
       (of_it c.args.actor c.in-Some.actor (λ a. g.A.Actor.content a ≡ g.A.Actor.after a []) c.in-Some.is c.requires.unused))
-      (ap (λ (a : Called (g.row.A.Denot)). a.calls) c.new.ensures),
+      (ap (λ (a : RecordedActor (g.row.A.Denot)). a.calls) c.new.ensures),
 )
 
 pub returns-clause-lawful : goal.returns-clause-lawful

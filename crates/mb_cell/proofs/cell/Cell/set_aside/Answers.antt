@@ -4,7 +4,7 @@ use Rattle.mb_cell.proofs.cell.Cell.set_aside.Goals as goal
 pub invariant_of-self : goal.invariant_of-self
 invariant_of-self g c =
     aside.keeps c.self.inside.place c.self.inside.journal c.push_set_aside.new.self c.args.number c.args.message
-    (g.K.Behaviours.after c.self.inside.place.this.0) (g.K.Behaviours.gives c.self.inside.place.this.0) c.self.inside.books
+    (g.K.Behaviours.after c.self.inside.place.this.0) (g.K.Behaviours.gives c.self.inside.place.this.0) c.self.inside.cell_state
     c.set_aside.new.self c.self.inside.outbox c.self.inside.actor (λ a. g.A.Actor.after a.actor) (λ a. g.A.Actor.gives a.actor)
     (λ a. g.A.Actor.content a.actor) (λ a. a.calls) c.args.self.now c.push_set_aside.ensures.added c.push_set_aside.ensures.within
     c.self.invariant c.self.view_is c.requires.may_take c.requires.waits c.set_aside.ensures
@@ -12,7 +12,7 @@ invariant_of-self g c =
 pub returns-clause-taken : goal.returns-clause-taken
 returns-clause-taken g c =
     aside.takes c.self.inside.place c.self.inside.journal c.push_set_aside.new.self c.args.number c.args.message
-    (g.K.Behaviours.after c.self.inside.place.this.0) (g.K.Behaviours.gives c.self.inside.place.this.0) c.self.inside.books
+    (g.K.Behaviours.after c.self.inside.place.this.0) (g.K.Behaviours.gives c.self.inside.place.this.0) c.self.inside.cell_state
     c.set_aside.new.self c.self.inside.outbox c.self.inside.actor (λ a. g.A.Actor.after a.actor) (λ a. g.A.Actor.gives a.actor)
     (λ a. g.A.Actor.content a.actor) (λ a. a.calls) c.args.self.now c.push_set_aside.ensures.added c.push_set_aside.ensures.within
     c.self.invariant c.self.view_is c.requires.may_take c.requires.waits c.set_aside.ensures

@@ -1,5 +1,5 @@
 use Rattle.std.proofs.Common.{rules, ap, ◌∙◌}
-use Rattle.mb_gate.specs.Names.{first_of}
+use Rattle.mb_gate.specs.Accessors.{first_home}
 use Rattle.mb_gate.proofs.Allowed.{joins_allowed}
 use Rattle.mb_gate.proofs.Parting.{some_left}
 use Rattle.mb_gate.specs.Rule.{is_some_item}
@@ -11,8 +11,7 @@ join_seat-requires g c = (
   search rules,
   search rules,
   search rules,
-  joins_allowed (g.H.Resident.is_of (first_of c.args.self.now)) g.H.Resident.journal
-      g.H.Resident.mailbox g.H.Resident.rested g.H.Resident.given g.H.Resident.closed_to _ _ _ _ _ c.args.other.holds_nothing.1
+  joins_allowed (g.H.MailboxState.is_of (first_home c.args.self.now)) g.H.MailboxState.facts _ _ _ _ _ c.args.other.holds_nothing.1
       c.args.other.holds_nothing.2 c.args.other.shares,
 )
 

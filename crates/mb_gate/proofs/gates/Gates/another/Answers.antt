@@ -1,5 +1,5 @@
 use Rattle.std.proofs.Common.{rules, ap, ◌∙◌}
-use Rattle.mb_gate.specs.Names.{first_of}
+use Rattle.mb_gate.specs.Accessors.{first_home}
 use Rattle.mb_gate.proofs.Allowed.{copies_allowed, some_halved, some_half}
 use Rattle.mb_gate.specs.Rule.{is_some_item}
 use Rattle.mb_gate.proofs.gates.Gates.another.Goals as goal
@@ -8,8 +8,8 @@ pub split_seat-seat-requires : goal.split_seat-seat-requires
 split_seat-seat-requires g c = (
   search rules,
   search rules,
-  copies_allowed (g.H.Resident.is_of (first_of c.args.self.now)) g.H.Resident.journal g.H.Resident.mailbox
-      g.H.Resident.rested g.H.Resident.given g.H.Resident.closed_to _ _ _ c.args.pass.now.holds_nothing.1 c.args.pass.now.holds_nothing.2
+  copies_allowed (g.H.MailboxState.is_of (first_home c.args.self.now)) g.H.MailboxState.facts _ _ _ c.args.pass.now.holds_nothing.1
+      c.args.pass.now.holds_nothing.2
       c.args.pass.now.shares,
 )
 

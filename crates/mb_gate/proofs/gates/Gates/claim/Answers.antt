@@ -1,7 +1,7 @@
 use Rattle.std.proofs.Common.{rules, ◌∷◌, ap, sym, ◌∙◌}
 use Rattle.atomic_table.specs.Table.{rest}
 use Rattle.mb_gate.specs.declared.slot.Slot.TheVariants.{Home}
-use Rattle.mb_gate.specs.Names.{first_of}
+use Rattle.mb_gate.specs.Accessors.{first_home}
 use Rattle.mb_gate.proofs.Allowed.{claims_allowed}
 use Rattle.mb_gate.proofs.gates.Gates.claim.Goals as goal
 
@@ -9,8 +9,7 @@ pub split_seat-rest-requires : goal.split_seat-rest-requires
 split_seat-rest-requires g c = (
   search rules,
   search rules,
-  claims_allowed (g.H.Resident.is_of (first_of c.args.self.now)) g.H.Resident.journal g.H.Resident.mailbox
-      g.H.Resident.rested g.H.Resident.given g.H.Resident.closed_to _ _ _ c.requires.won.no_list c.requires.won.share,
+  claims_allowed (g.H.MailboxState.is_of (first_home c.args.self.now)) g.H.MailboxState.facts _ _ _ c.requires.won.no_list c.requires.won.share,
 )
 
 pub exchange-requires : goal.exchange-requires

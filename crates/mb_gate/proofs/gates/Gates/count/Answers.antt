@@ -1,5 +1,5 @@
 use Rattle.std.proofs.Common.{rules, arith}
-use Rattle.mb_gate.specs.Names.{first_of}
+use Rattle.mb_gate.specs.Accessors.{first_home}
 use Rattle.mb_gate.proofs.Allowed.{counts_allowed}
 use Rattle.mb_gate.proofs.gates.Gates.count.Goals as goal
 
@@ -7,8 +7,7 @@ pub load-requires : goal.load-requires
 load-requires g c = (
   search rules,
   search rules,
-  counts_allowed (g.H.Resident.is_of (first_of c.args.self.now)) g.H.Resident.journal g.H.Resident.mailbox g.H.Resident.rested g.H.Resident.given
-      g.H.Resident.closed_to
+  counts_allowed (g.H.MailboxState.is_of (first_home c.args.self.now)) g.H.MailboxState.facts
       _ _ _ _ c.args.id.0 _ (let k = c.args.self.now.keyed in let t = c.requires.there in omega arith) c.word_index.ensures,
 )
 

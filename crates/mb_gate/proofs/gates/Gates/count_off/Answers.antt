@@ -1,5 +1,5 @@
 use Rattle.std.proofs.Common.{rules, ◌+◌, ◌-◌, ◌%◌, ◌^◌, arith}
-use Rattle.mb_gate.specs.Names.{first_of}
+use Rattle.mb_gate.specs.Accessors.{first_home}
 use Rattle.mb_gate.proofs.Allowed.{takes_allowed}
 use Rattle.mb_gate.proofs.gates.Gates.count_off.Goals as goal
 
@@ -7,8 +7,8 @@ pub fetch_sub-requires : goal.fetch_sub-requires
 fetch_sub-requires g c = (
   search rules,
   search rules,
-  takes_allowed (g.H.Resident.is_of (first_of c.args.self.now)) g.H.Resident.journal g.H.Resident.mailbox
-      g.H.Resident.rested g.H.Resident.given g.H.Resident.closed_to _ _ _ _ c.args.id.0 _ (let k = c.args.self.now.keyed in let t = c.requires.there
+  takes_allowed (g.H.MailboxState.is_of (first_home c.args.self.now)) g.H.MailboxState.facts _ _ _ _ c.args.id.0 _
+      (let k = c.args.self.now.keyed in let t = c.requires.there
       in omega arith) _ (λ n. (n
       + (2 ^ 64 - 1)) % 2 ^ 64) 1 (λ w. omega arith) c.word_index.ensures c.requires.holder.has c.requires.holder.of,
 )

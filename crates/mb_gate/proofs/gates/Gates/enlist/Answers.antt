@@ -2,8 +2,8 @@ use Rattle.std.proofs.Common.{rules, ◌≡◌, if◌then◌else◌, Result, Ok,
 use Rattle.atomic_table.specs.Table.{rest}
 use Rattle.mb_syslist.specs.MessageList.{with_last, pushed}
 use Rattle.mb_gate.specs.View.{Lent, enlisting}
-use Rattle.mb_gate.specs.Named.{NamesBelow}
-use Rattle.mb_gate.specs.Names.{first_of}
+use Rattle.mb_gate.specs.NamedActors.{NamesBelow}
+use Rattle.mb_gate.specs.Accessors.{first_home}
 use Rattle.mb_gate.proofs.Allowed.{enlists_allowed}
 use Rattle.mb_gate.proofs.ListCalls.{word_listed, laid_back}
 use Rattle.mb_gate.proofs.gates.Gates.enlist.Goals as goal
@@ -15,12 +15,11 @@ pub store-requires : goal.store-requires
 store-requires g c =
     let lent = c.requires.lent in
     let l : Lent = record { actor = c.args.id.0; listed = c.args.list; gave = lent.gave } in
-    let laid = c.lay_list.ensures.carries in
+    let laid = c.put_back_list.ensures.carries in
     let list = c.push.ensures.list ∙ ap (λ b. if b then c.args.list else with_last c.args.list c.args.node) c.requires.not_ended in (
       search rules,
       search rules,
-      enlists_allowed (g.H.Resident.is_of (first_of c.args.self.now)) g.H.Resident.journal g.H.Resident.mailbox g.H.Resident.rested
-          g.H.Resident.given g.H.Resident.closed_to _ _ _ _ c.args.id.0 _ (let k =
+      enlists_allowed (g.H.MailboxState.is_of (first_home c.args.self.now)) g.H.MailboxState.facts _ _ _ _ c.args.id.0 _ (let k =
           c.args.self.now.keyed in let t = c.requires.there in omega arith) l c.args.node _ c.word_index-gate.ensures (ap (λ m. m.0.list) laid ∙
           lent.has) refl (laid_back c.args.id.0 _ _ c.args.seat.now.me _ laid list)
           (c.with_listed_bit-new.ensures ∙ word_listed c.args.word c.args.list lent.gave c.args.node lent.found)
@@ -31,7 +30,7 @@ pub returns-clause-listed : goal.returns-clause-listed
 returns-clause-listed g c =
     let lent = c.requires.lent in
     let l : Lent = record { actor = c.args.id.0; listed = c.args.list; gave = lent.gave } in
-    let laid = c.lay_list.ensures.carries in
+    let laid = c.put_back_list.ensures.carries in
     let list = c.push.ensures.list ∙ ap (λ b. if b then c.args.list else with_last c.args.list c.args.node) c.requires.not_ended in
     let answer = c.push.ensures.answer ∙ ap (λ b. if b then Err (record { 0 = c.args.node }) else Ok (pushed c.args.list)) c.requires.not_ended in
     let number = ok_same (pushed c.args.list) c.in-Ok.number (sym answer ∙ c.in-Ok.is) in

@@ -1,8 +1,8 @@
 use Rattle.std.proofs.Common.{rules, ◌≡◌, ◌+◌, ◌%◌, ap, sym, subst, ◌∙◌, arith}
-use Rattle.mb_gate.specs.Names.{first_of, known_by}
+use Rattle.mb_gate.specs.Accessors.{first_home, pass_view}
 use Rattle.mb_gate.specs.View.{reading}
 use Rattle.mb_gate.specs.Rule.{is_some_item}
-use Rattle.mb_gate.specs.Plays.{StaysClosed}
+use Rattle.mb_gate.specs.TableSteps.{StaysClosed}
 use mathlib.Core.Option.{some}
 use Rattle.std.specs.declared.snapshot.Snapshot.{Snapshot}
 use Rattle.mb_gate.specs.declared.slot.Slot.{Slot}
@@ -26,8 +26,7 @@ compare_exchange_with-found-requires g c =
     let told = noted _ note.0 key note.1 note.2 in (
       search rules,
       search rules,
-      schedules_allowed g.H.Resident.is_of (memory note.0 key) g.H.Resident.journal g.H.Resident.mailbox g.H.Resident.rested
-          g.H.Resident.given g.H.Resident.closed_to _ _ _ _ c.args.id.0 _
+      schedules_allowed g.H.MailboxState.is_of (memory note.0 key) g.H.MailboxState.facts _ _ _ _ c.args.id.0 _
           (let k = c.args.self.now.keyed in let t = c.requires.there in omega arith) _ _ _ told c.word_index.ensures
           (ap (λ n. n % 4) c.word-old.ensures.word ∙ free_mod c.args.seen c.requires.free)
           (c.word-new.ensures.word ∙ (scheduled_word c.args.seen c.args.status c.requires.free c.requires.scheduled
@@ -38,8 +37,7 @@ pub claim-requires-clause-won : goal.claim-requires-clause-won
 claim-requires-clause-won g c =
     let note = c.first_note.ensures in let key = c.args.self.now.table.shared.key.first in
     let told = noted _ note.0 key note.1 note.2 in
-    taken (g.H.Resident.is_of (first_of c.args.self.now)) g.H.Resident.journal g.H.Resident.mailbox g.H.Resident.rested
-    g.H.Resident.given g.H.Resident.closed_to _ _ _ _
+    taken (g.H.MailboxState.is_of (first_home c.args.self.now)) g.H.MailboxState.facts _ _ _ _
     ((c.compare_exchange_with-found.ensures.2 _ (memory note.0 key) c.word_index.ensures (ap some told)).0 c.if-found-old.true) c.args.status
     (scheduled_word c.args.seen c.args.status c.requires.free c.requires.scheduled
     ∙ ap (λ n. n + 2) (sym (c.if-found-old.true ∙ c.word-old.ensures.word)))
@@ -65,8 +63,7 @@ pub returns-then-found-old-clause-answer : goal.returns-then-found-old-clause-an
 returns-then-found-old-clause-answer g c =
     let note = c.first_note.ensures in let key = c.args.self.now.table.shared.key.first in
     let told = noted _ note.0 key note.1 note.2 in
-    got (g.H.Resident.is_of (first_of c.args.self.now)) g.H.Resident.journal g.H.Resident.mailbox
-    g.H.Resident.rested g.H.Resident.given g.H.Resident.closed_to _ _ _ _
+    got (g.H.MailboxState.is_of (first_home c.args.self.now)) g.H.MailboxState.facts _ _ _ _
     ((c.compare_exchange_with-found.ensures.2 _ (memory note.0 key) c.word_index.ensures (ap some told)).0 c.if-found-old.true)
     c.args.seen c.claim.result _ c.requires.free
     (c.if-found-old.true ∙ c.word-old.ensures.word) c.args.pass.now.holds_nothing.1 (c.claim.ensures.claim.2 ∙ c.requires.scheduled)
@@ -102,6 +99,6 @@ returns-clause-answer g c =
     let same = c.in-Some.ensures.same_word in (
       c.requires.free,
       (λ e. c.if-found-old.false (sym same ∙ (e ∙ sym c.word-old.ensures.word))),
-      ap (λ m. m.0) lost.0 ∙ ap (λ w. reading c.args.id.0 w (known_by c.args.pass.now)) (sym same),
-      subst (λ w. StaysClosed c.args.id.0 w (known_by c.args.pass.now)) (sym same) lost.2,
+      ap (λ m. m.0) lost.0 ∙ ap (λ w. reading c.args.id.0 w (pass_view c.args.pass.now)) (sym same),
+      subst (λ w. StaysClosed c.args.id.0 w (pass_view c.args.pass.now)) (sym same) lost.2,
     )

@@ -1,9 +1,9 @@
 use Rattle.std.proofs.Common.{◌+◌, ◌*◌, ◌≤◌, ◌∷◌, [], ap, sym, ◌∙◌, refl, subst, false, slice_index_or, slice_get, length, length-append, arith}
 use Rattle.std.specs.Mem.Slots.{slots_items, slots_filled, slots_len, slots_counts, IsFull}
-use Rattle.mb_rule.specs.Layout.{slot_at}
-use Rattle.mb_gate.specs.Leaves.{AreLeft, IsTakenOut}
-use Rattle.mb_gate.specs.Names.{first_of, known_by}
-use Rattle.mb_gate.proofs.Leaving.{no_item, each_more, emptied, still_filled, are_left}
+use Rattle.mb_ghost.specs.Layout.{slot_at}
+use Rattle.mb_gate.specs.Returned.{AreReturned, IsTakenOut}
+use Rattle.mb_gate.specs.Accessors.{first_home, pass_view}
+use Rattle.mb_gate.proofs.Returning.{no_item, each_more, emptied, still_filled, are_left}
 use Rattle.mb_gate.proofs.gates.Gates.finish.Goals as goal
 
 pub loop-actor-init : goal.loop-actor-init
@@ -97,10 +97,8 @@ returns g c =
     let many = c.loop-actor.invariant.5 in
     let ends = c.loop-actor-test.false in
     let at_end = c.loop-actor.auto.actor-end in record {
-      left = subst (λ n. AreLeft (g.H.Resident.is_of (first_of c.args.self)) g.H.Resident.journal g.H.Resident.mailbox g.H.Resident.rested
-          g.H.Resident.given g.H.Resident.closed_to n (known_by c.args.pass)
+      left = subst (λ n. AreReturned (g.H.MailboxState.is_of (first_home c.args.self)) g.H.MailboxState.facts n (pass_view c.args.pass)
           c.loop-actor.all.items) keyed
-          (are_left (g.H.Resident.is_of (first_of c.args.self)) g.H.Resident.journal g.H.Resident.mailbox g.H.Resident.rested g.H.Resident.given
-          g.H.Resident.closed_to _ _ _ _ _ _
+          (are_left (g.H.MailboxState.is_of (first_home c.args.self)) g.H.MailboxState.facts _ _ _ _ _ _
           c.args.pass.holds_nothing.2 c.close_with-closed.ensures.values.2 (omega arith) c.loop-actor.invariant.7);
     }

@@ -1,6 +1,6 @@
 use Rattle.std.proofs.Common.{rules, ◌≡◌, ◌%◌, IsTrue, true, false, inl, inr, ap, sym, ◌∙◌, subst, arith}
 use Rattle.mb_status.specs.Mailbox.{word_of, is_valid, idle}
-use Rattle.mb_gate.specs.Names.{first_of}
+use Rattle.mb_gate.specs.Accessors.{first_home}
 use Rattle.mb_gate.proofs.Allowed.{idles_allowed, idles_closed_allowed}
 use Rattle.mb_gate.proofs.Wins.{valid_word, closed_word, one_closed, idle_free}
 use Rattle.mb_gate.proofs.gates.Gates.idle.Goals as goal
@@ -11,8 +11,7 @@ store-requires g c =
     let closed : c.args.status.closed ≡ true = sym c.closed.ensures ∙ c.if-closed.true in (
       search rules,
       search rules,
-      idles_closed_allowed (g.H.Resident.is_of (first_of c.args.self.now)) g.H.Resident.journal g.H.Resident.mailbox g.H.Resident.rested
-          g.H.Resident.given g.H.Resident.closed_to _ _ _ _ c.args.actor.0 _ (let k =
+      idles_closed_allowed (g.H.MailboxState.is_of (first_home c.args.self.now)) g.H.MailboxState.facts _ _ _ _ c.args.actor.0 _ (let k =
           c.args.self.now.keyed in let t = c.requires.there in omega arith) _ r.home c.word_index-flag.ensures r.has r.of r.carried r.own r.longer
           r.count r.shut
           (r.word ∙ closed_word c.args.status closed) (sym (r.fold ∙ closed_word (idle c.args.status) closed)) (r.rest (inl closed)) r.share,
@@ -25,8 +24,7 @@ store-requires-2 g c =
     let is = sym (c.word.ensures.word ∙ ap word_of c.idle.ensures) in (
       search rules,
       search rules,
-      idles_allowed (g.H.Resident.is_of (first_of c.args.self.now)) g.H.Resident.journal g.H.Resident.mailbox g.H.Resident.rested g.H.Resident.given
-          g.H.Resident.closed_to _ _ _ _ c.args.actor.0 _ (let k =
+      idles_allowed (g.H.MailboxState.is_of (first_home c.args.self.now)) g.H.MailboxState.facts _ _ _ _ c.args.actor.0 _ (let k =
           c.args.self.now.keyed in let t = c.requires.there in omega arith) _ r.home _ c.word_index-index.ensures r.has r.of r.carried r.own
           r.longer r.count r.shut
           (λ one. let no = one_closed c.args.status (sym r.word ∙ one) in absurd (cc)) (subst (λ n. IsTrue (is_valid n)) (sym

@@ -1,6 +1,6 @@
 use Rattle.std.proofs.Common.{rules, ◌%◌, arith}
 use Rattle.mb_gate.specs.Claims.{held_in}
-use Rattle.mb_gate.specs.Names.{first_of}
+use Rattle.mb_gate.specs.Accessors.{first_home}
 use Rattle.mb_gate.proofs.Allowed.{glances_allowed}
 use Rattle.mb_gate.proofs.ListCalls.{choose}
 use Rattle.mb_gate.proofs.gates.Gates.is_drained.Goals as goal
@@ -9,8 +9,8 @@ pub load-word-requires : goal.load-word-requires
 load-word-requires g c = (
   search rules,
   search rules,
-  glances_allowed (g.H.Resident.is_of (first_of c.args.self.now)) g.H.Resident.journal g.H.Resident.mailbox
-      g.H.Resident.rested g.H.Resident.given g.H.Resident.closed_to _ _ _ _ c.args.id.0 _ (let k = c.args.self.now.keyed in let t = c.requires.there
+  glances_allowed (g.H.MailboxState.is_of (first_home c.args.self.now)) g.H.MailboxState.facts _ _ _ _ c.args.id.0 _
+      (let k = c.args.self.now.keyed in let t = c.requires.there
       in omega arith)
       c.word_index-gate.ensures,
 )

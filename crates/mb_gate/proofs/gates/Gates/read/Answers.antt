@@ -1,6 +1,6 @@
 use Rattle.std.proofs.Common.{rules, sym, subst, arith}
-use Rattle.mb_gate.specs.Plays.{StaysClosed}
-use Rattle.mb_gate.specs.Names.{first_of}
+use Rattle.mb_gate.specs.TableSteps.{StaysClosed}
+use Rattle.mb_gate.specs.Accessors.{first_home}
 use Rattle.mb_gate.proofs.Allowed.{reads_allowed}
 use Rattle.mb_gate.proofs.gates.Gates.read.Goals as goal
 
@@ -8,8 +8,8 @@ pub load-word-requires : goal.load-word-requires
 load-word-requires g c = (
   search rules,
   search rules,
-  reads_allowed (g.H.Resident.is_of (first_of c.args.self.now)) g.H.Resident.journal g.H.Resident.mailbox
-      g.H.Resident.rested g.H.Resident.given g.H.Resident.closed_to _ _ _ _ c.args.id.0 _ (let k = c.args.self.now.keyed in let t = c.requires.there
+  reads_allowed (g.H.MailboxState.is_of (first_home c.args.self.now)) g.H.MailboxState.facts _ _ _ _ c.args.id.0 _
+      (let k = c.args.self.now.keyed in let t = c.requires.there
       in omega arith) c.word_index.ensures,
 )
 

@@ -1,17 +1,16 @@
 use Rattle.std.proofs.Common.{◌∷◌, [], ap, sym, ◌∙◌, refl, subst}
-use Rattle.mb_rule.specs.Layout.{slot_at}
+use Rattle.mb_ghost.specs.Layout.{slot_at}
 use Rattle.mb_gate.specs.declared.slot.Slot.TheVariants.{Home}
-use Rattle.mb_gate.specs.Claims.{IsReady}
-use Rattle.mb_gate.specs.Names.{first_of}
+use Rattle.mb_gate.specs.Claims.{IsReadyToRelease}
+use Rattle.mb_gate.specs.Accessors.{first_home}
 use Rattle.mb_gate.proofs.Parting.{some_left}
 use Rattle.mb_gate.proofs.gates.Gates.release.Goals as goal
 
 pub idle-requires-clause-ready : goal.idle-requires-clause-ready
 idle-requires-clause-ready g c =
     let claim = c.args.claim in
-    let me = c.lay.ensures.carries ∙ ap (λ m. (m.0, (slot_at claim.actor.0 0, Home claim.home) ∷ [])) c.take_in.ensures.known in
-    subst (λ m. IsReady (g.H.Resident.is_of (first_of c.args.self.now)) g.H.Resident.journal g.H.Resident.mailbox g.H.Resident.rested
-    g.H.Resident.given g.H.Resident.closed_to claim.actor.0 claim.status m) (sym me) record {
+    let me = c.put_back_home.ensures.carries ∙ ap (λ m. (m.0, (slot_at claim.actor.0 0, Home claim.home) ∷ [])) c.take_in.ensures.known in
+    subst (λ m. IsReadyToRelease (g.H.MailboxState.is_of (first_home c.args.self.now)) g.H.MailboxState.facts claim.actor.0 claim.status m) (sym me) record {
       home = claim.home;
       carried = refl;
       has = claim.has;

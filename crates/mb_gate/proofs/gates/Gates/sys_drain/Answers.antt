@@ -1,8 +1,8 @@
 use Rattle.std.proofs.Common.{ℕ, sym, subst}
 use Rattle.std.proofs.lemmas.List.Elements.{All-nil}
 use Rattle.mb_msg.specs.declared.system.SysMsg.{SysMsg}
-use Rattle.mb_gate.specs.Named.{NamesBelow, EachNamesBelow}
-use Rattle.mb_gate.specs.Names.{actors_of}
+use Rattle.mb_gate.specs.NamedActors.{NamesBelow, EachNamesBelow}
+use Rattle.mb_gate.specs.Accessors.{actors_of}
 use Rattle.mb_gate.proofs.gates.Gates.sys_drain.Goals as goal
 
 pub returns-then-is_drained-clause-named : goal.returns-then-is_drained-clause-named

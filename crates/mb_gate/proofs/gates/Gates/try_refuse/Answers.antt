@@ -1,6 +1,6 @@
 use Rattle.std.proofs.Common.{rules, refl, arith}
 use Rattle.std.proofs.lemmas.Bool.{eqb-true}
-use Rattle.mb_gate.specs.Names.{first_of}
+use Rattle.mb_gate.specs.Accessors.{first_home}
 use Rattle.mb_gate.proofs.Allowed.{refuses_allowed}
 use Rattle.mb_gate.proofs.ListCalls.{choose}
 use Rattle.mb_gate.proofs.gates.Gates.try_refuse.Goals as goal
@@ -9,8 +9,7 @@ pub compare_exchange_with-found-requires : goal.compare_exchange_with-found-requ
 compare_exchange_with-found-requires g c = (
   search rules,
   search rules,
-  refuses_allowed (g.H.Resident.is_of (first_of c.args.self.now)) g.H.Resident.journal
-      g.H.Resident.mailbox g.H.Resident.rested g.H.Resident.given g.H.Resident.closed_to _ _ _ _ c.args.id.0 _
+  refuses_allowed (g.H.MailboxState.is_of (first_home c.args.self.now)) g.H.MailboxState.facts _ _ _ _ c.args.id.0 _
       (let k = c.args.self.now.keyed in let t = c.requires.there in omega arith) _
       c.args.message c.word_index-gate.ensures c.requires.ended,
 )

@@ -1,6 +1,6 @@
 use Rattle.std.proofs.Common.{rules, ◌≡◌, ◌%◌, ◌⊎◌, IsTrue, sym, ◌∙◌, subst, arith}
 use Rattle.mb_status.specs.Mailbox.{word_of, is_valid}
-use Rattle.mb_gate.specs.Names.{first_of}
+use Rattle.mb_gate.specs.Accessors.{first_home}
 use Rattle.mb_gate.proofs.Allowed.{writes_allowed}
 use Rattle.mb_gate.proofs.Wins.{valid_word, busy_word, one_closed}
 use Rattle.mb_gate.proofs.gates.Gates.write.Goals as goal
@@ -11,8 +11,7 @@ store-requires g c =
     let claim = c.args.claim.now in (
       search rules,
       search rules,
-      writes_allowed (g.H.Resident.is_of (first_of c.args.self.now)) g.H.Resident.journal g.H.Resident.mailbox g.H.Resident.rested
-          g.H.Resident.given g.H.Resident.closed_to _ _ _ _ claim.actor.0 _ (let k =
+      writes_allowed (g.H.MailboxState.is_of (first_home c.args.self.now)) g.H.MailboxState.facts _ _ _ _ claim.actor.0 _ (let k =
           c.args.self.now.keyed in let t = c.requires.there in omega arith) _ _ c.word_index-index.ensures claim.has claim.of
           (subst (λ n. IsTrue (is_valid n)) is (valid_word c.args.status c.word.ensures.possible))
           (subst (λ n. (n % 4 ≡ 2) ⊎ (n ≡ 1)) is (busy_word (word_of c.args.status) c.requires.busy))

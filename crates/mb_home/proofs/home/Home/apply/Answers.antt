@@ -1,5 +1,5 @@
 use Rattle.std.proofs.Common.{subst}
-use Rattle.mb_cell.specs.Seen.{TakesSystem}
+use Rattle.mb_cell.specs.CellView.{TakesSystem}
 use Rattle.mb_home.specs.Contents.{Contents}
 use Rattle.mb_home.proofs.home.Home.apply.Goals as goal
 

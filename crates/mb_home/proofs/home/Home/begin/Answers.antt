@@ -1,10 +1,10 @@
 use Rattle.std.proofs.Common.{sym, ap, subst}
 use Rattle.mb_status.specs.Mailbox.{word_of}
 use Rattle.mb_cell.specs.MayHandle.{MayHandle}
-use Rattle.mb_cell.specs.Seen.{Seen, TakesEnvelope}
+use Rattle.mb_cell.specs.CellView.{CellView, TakesEnvelope}
 use Rattle.mb_home.specs.Carried.{LeadsOn}
 use Rattle.mb_home.specs.Contents.{Contents}
-use Rattle.mb_home.specs.Settled.{IsSettled}
+use Rattle.mb_home.specs.AgreesWithJournal.{AgreesWithJournal}
 use Rattle.mb_home.proofs.TakenLemmas.{may-begin, begins-taken, leads-begun, settled-begins}
 use Rattle.mb_home.proofs.home.Home.begin.Goals as goal
 
@@ -25,7 +25,7 @@ returns-clause-leads g c =
     let h : Contents = c.args.self.now in
     let b : Contents = c.requires.took.0 in
     let reading = word_of c.args.reading in
-    let new : Seen = c.apply_envelope.new.self in
+    let new : CellView = c.apply_envelope.new.self in
     let took = subst (λ (x : Contents). TakesEnvelope x.cell new c.args.envelope reading) c.self.view_is c.apply_envelope.ensures.taken in
     subst (λ (x : Contents). LeadsOn h x) (sym (ap (λ (x : Contents). record x { cell = new }) c.self.view_is))
     (leads-begun b h c.args.envelope reading c.requires.took.1 (record h { cell = new }) (g.K.Behaviours.gives b.cell.who.this.0)
@@ -35,7 +35,7 @@ pub returns-clause-begun : goal.returns-clause-begun
 returns-clause-begun g c = λ b t.
     let h : Contents = c.args.self.now in
     let reading = word_of c.args.reading in
-    let new : Seen = c.apply_envelope.new.self in
+    let new : CellView = c.apply_envelope.new.self in
     let took = subst (λ (x : Contents). TakesEnvelope x.cell new c.args.envelope reading) c.self.view_is c.apply_envelope.ensures.taken in
     begins-taken b h c.args.envelope reading t _ took (ap (λ (x : Contents). record x { cell = new }) c.self.view_is)
 
@@ -44,9 +44,9 @@ returns-clause-settled g c =
     let h : Contents = c.args.self.now in
     let b : Contents = c.requires.took.0 in
     let reading = word_of c.args.reading in
-    let new : Seen = c.apply_envelope.new.self in
+    let new : CellView = c.apply_envelope.new.self in
     let took = subst (λ (x : Contents). TakesEnvelope x.cell new c.args.envelope reading) c.self.view_is c.apply_envelope.ensures.taken in
-    subst (λ (x : Contents). IsSettled (g.K.Behaviours.gives new.who.this.0) new.acts x)
+    subst (λ (x : Contents). AgreesWithJournal (g.K.Behaviours.gives new.who.this.0) new.acts x)
     (sym (ap (λ (x : Contents). record x { cell = new }) c.self.view_is))
     (settled-begins b h c.args.envelope reading c.requires.took.1 g.K.Behaviours.gives new c.requires.took.2 c.requires.open c.requires.room took
     c.apply_envelope.ensures.lawful)

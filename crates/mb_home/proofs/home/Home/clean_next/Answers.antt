@@ -1,8 +1,8 @@
 use Rattle.std.proofs.Common.{◌≡◌, List, [], ◌∷◌, ◌++◌, sym, ap, subst, ◌∙◌, append-nil}
 use Rattle.mb_msg.specs.declared.envelope.Envelope.{Envelope}
 use Rattle.mb_home.specs.Contents.{Contents}
-use Rattle.mb_home.specs.Settled.{IsSettled}
-use Rattle.mb_home.proofs.SettleLemmas.{settled-clean, settled-take}
+use Rattle.mb_home.specs.AgreesWithJournal.{AgreesWithJournal}
+use Rattle.mb_home.proofs.AgreesLemmas.{settled-clean, settled-take}
 use Rattle.mb_home.proofs.home.Home.clean_next.Goals as goal
 
 -- ---- no place was there
@@ -11,9 +11,9 @@ pub returns-in_err-reserve-clause-settled : goal.returns-in_err-reserve-clause-s
 returns-in_err-reserve-clause-settled g c =
     let h : Contents = c.args.self.now in
     let items : c.reserve.new.self.items ≡ h.cleaned = c.reserve.ensures.items ∙ ap (λ (x : Contents). x.cleaned) c.self.view_is in
-    subst (λ (x : Contents). IsSettled (g.K.Behaviours.gives x.cell.who.this.0) x.cell.acts x)
+    subst (λ (x : Contents). AgreesWithJournal (g.K.Behaviours.gives x.cell.who.this.0) x.cell.acts x)
     (sym (ap (λ (x : Contents). record x { cleaned = c.reserve.new.self.items }) c.self.view_is))
-    (subst (λ (l : List Envelope). IsSettled (g.K.Behaviours.gives h.cell.who.this.0) h.cell.acts (record h { cleaned = l })) (sym items)
+    (subst (λ (l : List Envelope). AgreesWithJournal (g.K.Behaviours.gives h.cell.who.this.0) h.cell.acts (record h { cleaned = l })) (sym items)
     c.requires.settled)
 
 -- ---- no envelope was there
@@ -28,9 +28,9 @@ returns-in_default-clause-settled g c =
       c.take.ensures.same.1 ∙ ap (λ (x : Contents). x.take.turns) c.self.view_is,
     )
     (c.in_default.ensures.taken ∙ append-nil c.self.inside.take.taken ∙ ap (λ (x : Contents). x.take.taken) c.self.view_is) in
-    subst (λ (x : Contents). IsSettled (g.K.Behaviours.gives x.cell.who.this.0) x.cell.acts x)
+    subst (λ (x : Contents). AgreesWithJournal (g.K.Behaviours.gives x.cell.who.this.0) x.cell.acts x)
     (sym (ap (λ (x : Contents). record x { take = c.take.new.self; cleaned = c.reserve.new.self.items }) c.self.view_is))
-    (subst (λ (l : List Envelope). IsSettled (g.K.Behaviours.gives h.cell.who.this.0) h.cell.acts (record h { take = c.take.new.self; cleaned = l }))
+    (subst (λ (l : List Envelope). AgreesWithJournal (g.K.Behaviours.gives h.cell.who.this.0) h.cell.acts (record h { take = c.take.new.self; cleaned = l }))
     (sym items) done)
 
 -- ---- one was cleaned up
@@ -49,7 +49,7 @@ returns-clause-settled g c =
       c.take.ensures.same.1 ∙ ap (λ (x : Contents). x.take.turns) c.self.view_is,
     )
     (c.in-Some.ensures.taken ∙ ap (λ (x : Contents). x.take.taken ++ e ∷ []) c.self.view_is) in
-    subst (λ (x : Contents). IsSettled (g.K.Behaviours.gives x.cell.who.this.0) x.cell.acts x)
+    subst (λ (x : Contents). AgreesWithJournal (g.K.Behaviours.gives x.cell.who.this.0) x.cell.acts x)
     (sym (ap (λ (x : Contents). record x { take = c.take.new.self; cleaned = c.push_reserved.new.self.items }) c.self.view_is))
-    (subst (λ (l : List Envelope). IsSettled (g.K.Behaviours.gives h.cell.who.this.0) h.cell.acts (record h { take = c.take.new.self; cleaned = l }))
+    (subst (λ (l : List Envelope). AgreesWithJournal (g.K.Behaviours.gives h.cell.who.this.0) h.cell.acts (record h { take = c.take.new.self; cleaned = l }))
     (sym items) done)

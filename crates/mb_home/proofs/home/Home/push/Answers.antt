@@ -27,6 +27,6 @@ returns-in-Ok-clause-settled g c =
 
 pub returns-in-Err-clause-settled : goal.returns-in-Err-clause-settled
 returns-in-Err-clause-settled g c =
-    settled-buries c.args.self.now c.deliver.new.self c.bury.new.self g.K.Behaviours.gives c.args.to c.args.body c.in-Err.refused
+    settled-buries c.args.self.now c.deliver.new.self c.record_dead_letter.new.self g.K.Behaviours.gives c.args.to c.args.body c.in-Err.refused
     c.envelope-envelope.result c.reason.result c.requires.settled c.in-Err.ensures.delivered.1 c.in-Err.ensures.delivered.2
-    c.envelope-envelope.ensures c.reason.ensures c.bury.ensures.same c.bury.ensures.room
+    c.envelope-envelope.ensures c.reason.ensures c.record_dead_letter.ensures.same c.record_dead_letter.ensures.room

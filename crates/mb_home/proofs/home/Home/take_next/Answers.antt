@@ -3,7 +3,7 @@ use Rattle.std.specs.Prelude.{Contains, IfSome, IfNone, option_to_list}
 use Rattle.mb_msg.specs.declared.envelope.Envelope.{Envelope}
 use Rattle.mb_queue.specs.Takes.{IsTake}
 use Rattle.mb_home.specs.Contents.{Contents}
-use Rattle.mb_home.specs.Settled.{IsSettled}
+use Rattle.mb_home.specs.AgreesWithJournal.{AgreesWithJournal}
 use Rattle.mb_home.specs.Steps.{FindsNone}
 use Rattle.mb_home.specs.Taken.{TakesOut}
 use Rattle.mb_home.proofs.TakenLemmas.{takes-out, finds-none}
@@ -43,7 +43,7 @@ returns-clause-settled g c =
     let h : Contents = c.args.self.now in
     let r = c.take.result in
     let new = c.take.new.self in
-    subst (λ (x : Contents). IfNone r (IsSettled (g.K.Behaviours.gives x.cell.who.this.0) x.cell.acts x))
+    subst (λ (x : Contents). IfNone r (AgreesWithJournal (g.K.Behaviours.gives x.cell.who.this.0) x.cell.acts x))
     (sym (ap (λ (x : Contents). record x { take = new }) c.self.view_is))
     (finds-none h (g.K.Behaviours.gives h.cell.who.this.0) new r
     (c.take.ensures.taken ∙ ap (λ (x : Contents). x.take.taken ++ option_to_list r) c.self.view_is) (

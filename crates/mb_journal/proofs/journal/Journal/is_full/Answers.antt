@@ -1,17 +1,17 @@
 use Rattle.std.proofs.Common.{ap, ◌∙◌, length, arith}
 use Rattle.mb_journal.proofs.StoredLemmas.{length-entries}
 use Rattle.std.proofs.lemmas.Bool.Decides.{nat_tests}
-use Rattle.mb_journal.specs.Log.{Log}
+use Rattle.mb_journal.specs.JournalView.{JournalView}
 use Rattle.mb_journal.proofs.journal.Journal.is_full.Goals as goal
 
 pub returns-clause-full : goal.returns-clause-full
 returns-clause-full c =
-    let limit = ap (λ (l : Log). l.limit) c.self.view_is in
+    let limit = ap (λ (l : JournalView). l.limit) c.self.view_is in
     grind (arith, nat_tests)
 
 pub returns-clause-room : goal.returns-clause-room
 returns-clause-room c ready =
-    let room = c.self.invariant.row_room (ap (λ (l : Log). l.is_ready) c.self.view_is ∙ ready) in
+    let room = c.self.invariant.row_room (ap (λ (l : JournalView). l.is_ready) c.self.view_is ∙ ready) in
     let same = length-entries c.self.inside.rows.items c.self.inside.effects.items in
-    let entries = ap (λ (l : Log). length l.entries) c.self.view_is in
+    let entries = ap (λ (l : JournalView). length l.entries) c.self.view_is in
     grind (arith, nat_tests, room.0)

@@ -1,21 +1,21 @@
 use Rattle.std.proofs.Common.{false, ap, ◌∙◌, arith}
 use Rattle.mb_journal.proofs.StoredLemmas.{length-entries, order-pushed, entries-pushed}
-use Rattle.mb_journal.specs.Log.{Log}
+use Rattle.mb_journal.specs.JournalView.{JournalView}
 use Rattle.mb_journal.proofs.journal.Journal.push.Goals as goal
 
 pub add_all-requires : goal.add_all-requires
 add_all-requires c =
-    let room = c.self.invariant.effect_room (ap (λ (l : Log). l.is_ready) c.self.view_is ∙ c.requires.ready) in
+    let room = c.self.invariant.effect_room (ap (λ (l : JournalView). l.is_ready) c.self.view_is ∙ c.requires.ready) in
     omega (arith, room, c.requires.few)
 
 pub push_reserved-requires : goal.push_reserved-requires
 push_reserved-requires c =
-    let room = c.self.invariant.row_room (ap (λ (l : Log). l.is_ready) c.self.view_is ∙ c.requires.ready) in
+    let room = c.self.invariant.row_room (ap (λ (l : JournalView). l.is_ready) c.self.view_is ∙ c.requires.ready) in
     omega (arith, room)
 
 pub invariant_of-self : goal.invariant_of-self
 invariant_of-self c =
-    let room = c.self.invariant.row_room (ap (λ (l : Log). l.is_ready) c.self.view_is ∙ c.requires.ready) in
+    let room = c.self.invariant.row_room (ap (λ (l : JournalView). l.is_ready) c.self.view_is ∙ c.requires.ready) in
     record {
       in_order =
           order-pushed _ _ _ _ _ _ _ c.self.invariant.in_order c.push_reserved.ensures.items c.add_all.ensures (omega arith);
@@ -27,11 +27,11 @@ invariant_of-self c =
 pub returns-clause-added : goal.returns-clause-added
 returns-clause-added c =
     rw (← c.self.view_is)
-    (ap {B = Log} (λ es. record { entries = es; limit = c.self.inside.limit; is_ready = false })
+    (ap {B = JournalView} (λ es. record { entries = es; limit = c.self.inside.limit; is_ready = false })
     (entries-pushed _ _ _ _ _ _ _ c.self.invariant.in_order c.push_reserved.ensures.items c.add_all.ensures (omega arith)))
 
 pub returns-clause-within : goal.returns-clause-within
 returns-clause-within c =
     let same = length-entries c.push_reserved.new.self.items c.add_all.new.list.items in
-    let room = c.self.invariant.row_room (ap (λ (l : Log). l.is_ready) c.self.view_is ∙ c.requires.ready) in
+    let room = c.self.invariant.row_room (ap (λ (l : JournalView). l.is_ready) c.self.view_is ∙ c.requires.ready) in
     omega (arith, c.push_reserved.new.self.ok.0)

@@ -1,7 +1,7 @@
 use Rattle.std.proofs.Common.{◌≡◌, ◌≤◌, false, length, ap, sym, ◌∙◌, arith, rules}
 use Rattle.mb_journal.proofs.StoredLemmas.{length-entries}
 use Rattle.std.specs.Prelude.{Result, Ok, Err, is_err, OnOk}
-use Rattle.mb_journal.specs.Log.{Log}
+use Rattle.mb_journal.specs.JournalView.{JournalView}
 use Rattle.mb_journal.proofs.journal.Journal.ready.Goals as goal
 
 on_ok : {A E : Type 0} (r : Result A E) (P : Type 0) → false ≡ is_err r → OnOk r P → P
@@ -10,18 +10,18 @@ on_ok (Err e) P no_error h = cc
 
 pub returns-then-is_full-clause-again : goal.returns-then-is_full-clause-again
 returns-then-is_full-clause-again c is_ready =
-    let room = c.self.invariant.row_room (ap (λ (l : Log). l.is_ready) c.self.view_is ∙ is_ready) in
+    let room = c.self.invariant.row_room (ap (λ (l : JournalView). l.is_ready) c.self.view_is ∙ is_ready) in
     let same = length-entries c.self.inside.rows.items c.self.inside.effects.items in
-    let limit = ap (λ (l : Log). l.limit) c.self.view_is in
-    let entries = ap (λ (l : Log). length l.entries) c.self.view_is in
+    let limit = ap (λ (l : JournalView). l.limit) c.self.view_is in
+    let entries = ap (λ (l : JournalView). length l.entries) c.self.view_is in
     let full = c.is_full.ensures.full.0 c.if-is_full.true in
     absurd (omega (arith, c.self.inside.rows.ok.0))
 
 pub invariant_of-self-2 : goal.invariant_of-self-2
 invariant_of-self-2 c =
     let same = length-entries c.self.inside.rows.items c.self.inside.effects.items in
-    let limit = ap (λ (l : Log). l.limit) c.self.view_is in
-    let entries = ap (λ (l : Log). length l.entries) c.self.view_is in
+    let limit = ap (λ (l : JournalView). l.limit) c.self.view_is in
+    let entries = ap (λ (l : JournalView). length l.entries) c.self.view_is in
     let not_full : (c.args.self.now.limit ≤ length c.args.self.now.entries → ⊥) = λ full. (let yes = c.is_full.ensures.full.1 full in cc) in
     record {
       in_order = rw (c.reserve.ensures.items, c.reserve-2.ensures.items) c.self.invariant.in_order;

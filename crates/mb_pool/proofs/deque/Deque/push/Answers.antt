@@ -4,10 +4,8 @@ use Rattle.mb_pool.proofs.deque.Deque.push.Goals as goal
 
 pub push_as-requires-clause-pushes : goal.push_as-requires-clause-pushes
 push_as-requires-clause-pushes g c =
-    deque_push (IsUntouched g.H.Resident.is_of g.H.Resident.journal g.H.Resident.mailbox g.H.Resident.rested g.H.Resident.given
-    g.H.Resident.closed_to) _ _ _ c.requires.share c.requires.fit
+    deque_push (IsUntouched g.H.MailboxState.is_of g.H.MailboxState.facts) _ _ _ c.requires.share c.requires.fit
 
 pub returns-in-Ok-clause-pushed : goal.returns-in-Ok-clause-pushed
 returns-in-Ok-clause-pushed g c =
-    put (IsUntouched g.H.Resident.is_of g.H.Resident.journal g.H.Resident.mailbox g.H.Resident.rested g.H.Resident.given
-    g.H.Resident.closed_to) _ _ _ c.in-Ok.ensures.rule.0
+    put (IsUntouched g.H.MailboxState.is_of g.H.MailboxState.facts) _ _ _ c.in-Ok.ensures.rule.0

@@ -4,15 +4,12 @@ use Rattle.mb_pool.proofs.deque.Deque.take.Goals as goal
 
 pub pop_as-requires-clause-fifo : goal.pop_as-requires-clause-fifo
 pop_as-requires-clause-fifo g c =
-    λ _. deque_take (IsUntouched g.H.Resident.is_of g.H.Resident.journal g.H.Resident.mailbox g.H.Resident.rested g.H.Resident.given
-    g.H.Resident.closed_to) _ _ c.requires.share
+    λ _. deque_take (IsUntouched g.H.MailboxState.is_of g.H.MailboxState.facts) _ _ c.requires.share
 
 pub pop_as-requires-clause-empty : goal.pop_as-requires-clause-empty
 pop_as-requires-clause-empty g c =
-    deque_empty (IsUntouched g.H.Resident.is_of g.H.Resident.journal g.H.Resident.mailbox g.H.Resident.rested g.H.Resident.given
-    g.H.Resident.closed_to) _ _ c.requires.share
+    deque_empty (IsUntouched g.H.MailboxState.is_of g.H.MailboxState.facts) _ _ c.requires.share
 
 pub returns-in-Some-clause-taken : goal.returns-in-Some-clause-taken
 returns-in-Some-clause-taken g c =
-    took (IsUntouched g.H.Resident.is_of g.H.Resident.journal g.H.Resident.mailbox g.H.Resident.rested g.H.Resident.given
-    g.H.Resident.closed_to) _ _ _ c.open.result c.open.ensures c.in-Some.ensures.rule
+    took (IsUntouched g.H.MailboxState.is_of g.H.MailboxState.facts) _ _ _ c.open.result c.open.ensures c.in-Some.ensures.rule

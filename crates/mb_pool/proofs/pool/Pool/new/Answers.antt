@@ -1,11 +1,11 @@
 use Rattle.std.proofs.Common.{◌≡◌, ◌+◌, ap, arith, length, map, replicate, subst, sym, ◌∙◌}
 use Rattle.std.specs.Prelude.{All}
-use Rattle.mb_pool.specs.Begins.{new_door}
+use Rattle.mb_pool.specs.Begins.{new_shared_port}
 use Rattle.mb_pool.specs.Made.{IsBegun}
 use Rattle.mb_gate.specs.Untouched.{origin_of}
 use Rattle.mb_pool.specs.Parts.{look_of}
-use Rattle.mb_pool.specs.Places.{Whole}
-use Rattle.mb_pool.specs.Ways.{AreOpen, of_feed, way_of}
+use Rattle.mb_pool.specs.Places.{PoolView}
+use Rattle.mb_pool.specs.Endpoints.{AreOpen, of_feed, endpoint_of}
 use Rattle.mb_pool.proofs.Begins.{made_whole, new_shares}
 use Rattle.mb_pool.proofs.Making.{all_shares, are_open, is_begun, ports_there}
 use Rattle.mb_pool.proofs.pool.Pool.new.Goals as goal
@@ -15,46 +15,46 @@ pool_of-pool-requires g c =
     made_whole (origin_of c.args.gates.now) c.args.kind c.args.workers c.args.feeds c.in_ok-deques.deques.items (look_of c.open.new.self).spot
     c.in_ok-deques.ensures c.requires
 
-pub members_of-requires : goal.members_of-requires
-members_of-requires g c =
+pub end_deques_of-requires : goal.end_deques_of-requires
+end_deques_of-requires g c =
     new_shares c.args.kind (origin_of c.args.gates.now) c.args.workers c.in_ok-deques.deques.items c.in_ok-deques.ensures
 
-pub doors_of-requires-clause-some : goal.doors_of-requires-clause-some
-doors_of-requires-clause-some g c = omega (arith, c.in-Some.ensures.1, c.requires)
+pub shared_ports_of-requires-clause-some : goal.shared_ports_of-requires-clause-some
+shared_ports_of-requires-clause-some g c = omega (arith, c.in-Some.ensures.1, c.requires)
 
-pub doors_of-requires-clause-shares : goal.doors_of-requires-clause-shares
-doors_of-requires-clause-shares g c =
+pub shared_ports_of-requires-clause-shares : goal.shared_ports_of-requires-clause-shares
+shared_ports_of-requires-clause-shares g c =
     all_shares (origin_of c.args.gates.now) c.args.kind c.args.workers c.args.feeds c.in-Some.ports c.in_ok-deques.deques.items
-    (look_of c.in_ok-door.door) (look_of c.open.new.self) c.requires c.in_ok-deques.ensures c.in_ok-door.ensures.0 c.open.ensures
+    (look_of c.in_ok-shared_port.shared_port) (look_of c.open.new.self) c.requires c.in_ok-deques.ensures c.in_ok-shared_port.ensures.0 c.open.ensures
     c.in-Some.ensures.1
 
 pub ends_of-requires-clause-doors : goal.ends_of-requires-clause-doors
 ends_of-requires-clause-doors g c =
     let ms = c.in_ok-members.members.items in let ds = map look_of c.in_ok-doors.doors.items in
-    subst (λ (p : Whole _). ds ≡ replicate (length ms + p.feeds) (new_door p)) (sym c.pool_of-pool.ensures)
+    subst (λ (p : PoolView _). ds ≡ replicate (length ms + p.feeds) (new_shared_port p)) (sym c.pool_of-pool.ensures)
     (ports_there (origin_of c.args.gates.now) c.args.kind c.args.workers c.args.feeds c.in-Some.ports c.in_ok-deques.deques.items
-    (look_of c.in_ok-door.door) (look_of c.open.new.self) c.requires c.in_ok-deques.ensures c.in_ok-door.ensures.0 c.open.ensures
+    (look_of c.in_ok-shared_port.shared_port) (look_of c.open.new.self) c.requires c.in_ok-deques.ensures c.in_ok-shared_port.ensures.0 c.open.ensures
     c.in-Some.ensures.1 ms c.in_ok-members.ensures.none c.in_ok-members.ensures.own c.in_ok-members.ensures.next ds c.in_ok-doors.ensures)
 
 pub ends_of-requires-clause-open : goal.ends_of-requires-clause-open
 ends_of-requires-clause-open g c =
     let ms = c.in_ok-members.members.items in
-    subst (λ (p : Whole _). All (λ m. AreOpen (way_of (new_door p) m)) ms) (sym c.pool_of-pool.ensures)
+    subst (λ (p : PoolView _). All (λ m. AreOpen (endpoint_of (new_shared_port p) m)) ms) (sym c.pool_of-pool.ensures)
     (are_open (origin_of c.args.gates.now) c.args.kind c.args.workers c.args.feeds c.in-Some.ports c.in_ok-deques.deques.items
-    (look_of c.in_ok-door.door) (look_of c.open.new.self) c.requires c.in_ok-deques.ensures c.in_ok-door.ensures.0 c.open.ensures
+    (look_of c.in_ok-shared_port.shared_port) (look_of c.open.new.self) c.requires c.in_ok-deques.ensures c.in_ok-shared_port.ensures.0 c.open.ensures
     c.in-Some.ensures.1 ms c.in_ok-members.ensures.none c.in_ok-members.ensures.own c.in_ok-members.ensures.next)
 
 pub feeds_of-requires : goal.feeds_of-requires
 feeds_of-requires g c =
-    c.in_ok-ends.ensures.doors ∙ ap (λ (p : Whole _). replicate p.feeds (new_door c.pool_of-pool.result)) c.pool_of-pool.ensures
+    c.in_ok-ends.ensures.doors ∙ ap (λ (p : PoolView _). replicate p.feeds (new_shared_port c.pool_of-pool.result)) c.pool_of-pool.ensures
 
 pub returns : goal.returns
 returns g c =
     let ms = c.in_ok-members.members.items in let ends = c.in_ok-ends.ends.items in let feeds = c.in_ok-feeds.feeds.items in
     let is = c.pool_of-pool.ensures in
-    subst (λ (p : Whole _). IsBegun (origin_of c.args.gates.now) c.args.kind c.args.workers c.args.feeds p ends feeds) (sym is)
+    subst (λ (p : PoolView _). IsBegun (origin_of c.args.gates.now) c.args.kind c.args.workers c.args.feeds p ends feeds) (sym is)
     (is_begun (origin_of c.args.gates.now) c.args.kind c.args.workers c.args.feeds c.in-Some.ports c.in_ok-deques.deques.items
-    (look_of c.in_ok-door.door) (look_of c.open.new.self) c.requires c.in_ok-deques.ensures c.in_ok-door.ensures.0 c.open.ensures
+    (look_of c.in_ok-shared_port.shared_port) (look_of c.open.new.self) c.requires c.in_ok-deques.ensures c.in_ok-shared_port.ensures.0 c.open.ensures
     c.in-Some.ensures.1 ms c.in_ok-members.ensures.none c.in_ok-members.ensures.own c.in_ok-members.ensures.next ends feeds
-    (c.in_ok-ends.ensures.ends ∙ ap (λ (p : Whole _). map (way_of (new_door p)) ms) is)
-    (c.in_ok-feeds.ensures ∙ ap (λ (p : Whole _). replicate c.args.feeds (of_feed (new_door p))) is))
+    (c.in_ok-ends.ensures.ends ∙ ap (λ (p : PoolView _). map (endpoint_of (new_shared_port p)) ms) is)
+    (c.in_ok-feeds.ensures ∙ ap (λ (p : PoolView _). replicate c.args.feeds (of_feed (new_shared_port p))) is))

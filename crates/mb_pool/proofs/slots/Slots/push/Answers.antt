@@ -1,6 +1,6 @@
 use Rattle.std.proofs.Common.{ap, ◌∙◌}
 use Rattle.crossbeam_queue.specs.Passes.{ruled_capacity, view}
-use Rattle.mb_pool.specs.declared.parked.Parked.{Parked}
+use Rattle.mb_pool.specs.declared.pooled_claim.PooledClaim.{PooledClaim}
 use Rattle.mb_gate.specs.Untouched.{IsUntouched}
 use Rattle.mb_pool.proofs.Steps.{queue_push, learns, was_full}
 use Rattle.mb_pool.proofs.slots.Slots.push.Goals as goal
@@ -11,8 +11,8 @@ push_as-requires-clause-rule g c = (queue_push _ _ _ _ _ c.requires.share c.requ
 pub returns-in-Err-clause-pushed : goal.returns-in-Err-clause-pushed
 returns-in-Err-clause-pushed g c =
     let rule = c.in-Err.ensures.rule in (
-      c.open.ensures ∙ ap (λ (p : Parked _). p.claim) rule.0,
+      c.open.ensures ∙ ap (λ (p : PooledClaim _). p.claim) rule.0,
       rule.1,
-      was_full (IsUntouched g.H.Resident.is_of g.H.Resident.journal g.H.Resident.mailbox g.H.Resident.rested g.H.Resident.given
-          g.H.Resident.closed_to) (view c.args.pass.now) (ruled_capacity c.args.self.now.queue) rule.2.0 rule.2.1 rule.2.2,
+      was_full (IsUntouched g.H.MailboxState.is_of g.H.MailboxState.facts) (view c.args.pass.now)
+          (ruled_capacity c.args.self.now.queue) rule.2.0 rule.2.1 rule.2.2,
     )

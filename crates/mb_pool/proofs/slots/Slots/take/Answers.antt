@@ -10,14 +10,12 @@ pop_as-requires-clause-rule g c = (queue_take _ _ _ c.requires.share, learns _ _
 
 pub returns-in-Some-clause-taken : goal.returns-in-Some-clause-taken
 returns-in-Some-clause-taken g c =
-    subst (λ x. TakesFirst (IsUntouched g.H.Resident.is_of g.H.Resident.journal g.H.Resident.mailbox g.H.Resident.rested g.H.Resident.given
-    g.H.Resident.closed_to) (view c.args.pass.now) x (view c.pop_as.new.pass))
+    subst (λ x. TakesFirst (IsUntouched g.H.MailboxState.is_of g.H.MailboxState.facts) (view c.args.pass.now) x (view c.pop_as.new.pass))
     (sym c.open.ensures) c.in-Some.ensures.rule
 
 pub returns-in-None-clause-taken : goal.returns-in-None-clause-taken
 returns-in-None-clause-taken g c =
     let rule = c.in-None.ensures.rule in (
       rule.0,
-      was_empty (IsUntouched g.H.Resident.is_of g.H.Resident.journal g.H.Resident.mailbox g.H.Resident.rested g.H.Resident.given
-          g.H.Resident.closed_to) (view c.args.pass.now) rule.1.0 rule.1.1 rule.1.2,
+      was_empty (IsUntouched g.H.MailboxState.is_of g.H.MailboxState.facts) (view c.args.pass.now) rule.1.0 rule.1.1 rule.1.2,
     )

@@ -2,7 +2,7 @@ use Rattle.std.proofs.Common.{◌≡◌, ℕ, Some, refl, subst, sym}
 use Rattle.crossbeam_queue.specs.Passes.{IsPassOf, ruled_capacity, view}
 use Rattle.mb_pool.specs.declared.slots.Slots.{Slots}
 use Rattle.mb_pool.specs.Moves.{WasFull}
-use Rattle.mb_pool.specs.Places.{Look}
+use Rattle.mb_pool.specs.Places.{PoolPort}
 use Rattle.mb_pool.specs.Rule.{PutsLast}
 use Rattle.mb_pool.specs.Shared.{slots_look}
 use Rattle.mb_gate.specs.Untouched.{IsUntouched}
@@ -14,22 +14,20 @@ push-requires-clause-queue g c = subst (λ (q : Slots _). IsPassOf q.queue c.sel
 
 pub push-requires-clause-fit : goal.push-requires-clause-fit
 push-requires-clause-fit g c =
-    subst (λ (l : Look _). IsUntouched g.H.Resident.is_of g.H.Resident.journal g.H.Resident.mailbox g.H.Resident.rested g.H.Resident.given
-    g.H.Resident.closed_to l.ledger.gates c.args.claim) (sym c.self.view_is) c.requires.fit
+    subst (λ (l : PoolPort _). IsUntouched g.H.MailboxState.is_of g.H.MailboxState.facts l.ledger.gates c.args.claim) (sym c.self.view_is) c.requires.fit
 
 pub returns-in-Ok-clause-pushed : goal.returns-in-Ok-clause-pushed
 returns-in-Ok-clause-pushed g c =
-    subst (λ (l : Look _). PutsLast
-    (IsUntouched g.H.Resident.is_of g.H.Resident.journal g.H.Resident.mailbox g.H.Resident.rested g.H.Resident.given g.H.Resident.closed_to) l.ledger
+    subst (λ (l : PoolPort _). PutsLast
+    (IsUntouched g.H.MailboxState.is_of g.H.MailboxState.facts) l.ledger
     c.args.claim (view c.push.new.pass)) c.self.view_is c.in-Ok.ensures.pushed
 
 pub returns-in-Err-clause-pushed : goal.returns-in-Err-clause-pushed
 returns-in-Err-clause-pushed g c =
     let q = c.self.inside.slots.value in let old = c.self.inside.pass in let new = c.push.new.pass in let h = c.in-Err.ensures.pushed in
-    subst (λ (l : Look _). (c.in-Err.back ≡ c.args.claim) × (slots_look q new ≡ l)
+    subst (λ (l : PoolPort _). (c.in-Err.back ≡ c.args.claim) × (slots_look q new ≡ l)
     × ((most : ℕ) × (l.spot.capacity ≡ Some most)
-    × WasFull (IsUntouched g.H.Resident.is_of g.H.Resident.journal g.H.Resident.mailbox g.H.Resident.rested g.H.Resident.given
-    g.H.Resident.closed_to) most l.ledger))
+    × WasFull (IsUntouched g.H.MailboxState.is_of g.H.MailboxState.facts) most l.ledger))
     c.self.view_is (
       h.0,
       same_slots q old new c.push.ensures.queue.1 h.1,
@@ -37,7 +35,7 @@ returns-in-Err-clause-pushed g c =
         ruled_capacity q.queue,
         refl,
         subst (λ (r : Slots _). WasFull
-            (IsUntouched g.H.Resident.is_of g.H.Resident.journal g.H.Resident.mailbox g.H.Resident.rested g.H.Resident.given g.H.Resident.closed_to)
+            (IsUntouched g.H.MailboxState.is_of g.H.MailboxState.facts)
             (ruled_capacity r.queue) (view old)) c.deref.ensures h.2,
       ),
     )

@@ -1,7 +1,7 @@
 use Rattle.std.proofs.Common.{◌≡◌, [], MatchOption, Some, ap, ◌∙◌, subst, sym}
 use Rattle.crossbeam_queue.specs.Passes.{IsPassOf, ruled_capacity, view}
 use Rattle.mb_pool.specs.declared.slots.Slots.{Slots}
-use Rattle.mb_pool.specs.Places.{Look, slots_at}
+use Rattle.mb_pool.specs.Places.{PoolPort, slots_at}
 use Rattle.mb_pool.specs.Rule.{Moment, TakesFirst}
 use Rattle.mb_pool.specs.Shared.{slots_look}
 use Rattle.mb_gate.specs.Untouched.{IsUntouched}
@@ -18,15 +18,14 @@ pub returns-clause-spot : goal.returns-clause-spot
 returns-clause-spot g c = (λ i. record {
   place = slots_at (c.take.ensures.queue.1 i);
   capacity = Some (ruled_capacity c.self.inside.slots.value.queue);
-}) ∙ ap (λ (l : Look _). l.spot) c.self.view_is
+}) ∙ ap (λ (l : PoolPort _). l.spot) c.self.view_is
 
 pub returns-clause-taken : goal.returns-clause-taken
 returns-clause-taken g c =
     let q = c.self.inside.slots.value in
     let new = c.take.new.pass in
     subst (λ look. MatchOption c.take.result ((slots_look q new ≡ look)
-    × Moment (IsUntouched g.H.Resident.is_of g.H.Resident.journal g.H.Resident.mailbox g.H.Resident.rested g.H.Resident.given
-    g.H.Resident.closed_to) look.ledger []) (λ x. TakesFirst (IsUntouched g.H.Resident.is_of g.H.Resident.journal g.H.Resident.mailbox
-    g.H.Resident.rested g.H.Resident.given g.H.Resident.closed_to) look.ledger x (view new)))
+    × Moment (IsUntouched g.H.MailboxState.is_of g.H.MailboxState.facts) look.ledger []) (λ x. TakesFirst
+    (IsUntouched g.H.MailboxState.is_of g.H.MailboxState.facts) look.ledger x (view new)))
     c.self.view_is
     (of_option _ _ _ _ c.take.result (λ h. (same_slots q c.self.inside.pass new c.take.ensures.queue.1 h.0, h.1)) (λ _ h. h) c.take.ensures.taken)

@@ -11,9 +11,8 @@ returns-clause-taken g c =
     let old = c.self.inside.pass in
     let new = c.steal_first.new.pass in
     subst (λ look. MatchOption c.steal_first.result ((thief_look c.self.inside.number new ≡ look)
-    × Moment (IsUntouched g.H.Resident.is_of g.H.Resident.journal g.H.Resident.mailbox g.H.Resident.rested g.H.Resident.given
-    g.H.Resident.closed_to) look.ledger []) (λ x. TakesFirst (IsUntouched g.H.Resident.is_of g.H.Resident.journal g.H.Resident.mailbox
-    g.H.Resident.rested g.H.Resident.given g.H.Resident.closed_to) look.ledger x (view new)))
+    × Moment (IsUntouched g.H.MailboxState.is_of g.H.MailboxState.facts) look.ledger []) (λ x. TakesFirst
+    (IsUntouched g.H.MailboxState.is_of g.H.MailboxState.facts) look.ledger x (view new)))
     c.self.view_is
     (of_option _ _ _ _ c.steal_first.result (λ h. (
       same_thief c.self.inside.number old new

@@ -1,5 +1,5 @@
 use Rattle.std.proofs.Common.{◌≡◌, map, take}
-use Rattle.mb_lane.specs.Ledger.{lent}
+use Rattle.mb_queue.specs.Ledger.{lent}
 use Rattle.mb_queue.specs.Made.{numbers_of, unused}
 use Rattle.mb_queue.proofs.make.MailQueue.new.Given as goal
 

@@ -1,13 +1,13 @@
 use Rattle.std.proofs.Common.{◌≡◌, ℕ, List, [], ◌∷◌, ◌++◌, subst, sym, ap, ◌∙◌, Option, Some, None}
-use Rattle.mb_lane.specs.declared.ledger.Account.{Account}
-use Rattle.mb_lane.specs.Ledger.{account, home}
-use Rattle.mb_lane.proofs.Lists.{account-other, account-same}
-use Rattle.mb_lane.specs.Port.{Known}
-use Rattle.mb_queue.specs.declared.order.Order.{Order}
-use Rattle.mb_queue.specs.declared.order.Order.TheVariants.{ControlFirst, FirstInFirstOut, ByRank}
+use Rattle.mb_queue.specs.declared.ledger.Account.{Account}
+use Rattle.mb_queue.specs.Ledger.{account, home}
+use Rattle.mb_queue.proofs.Lists.{account-other, account-same}
+use Rattle.mb_queue.specs.Port.{LanePort}
+use Rattle.mb_queue.specs.declared.take_order.TakeOrder.{TakeOrder}
+use Rattle.mb_queue.specs.declared.take_order.TakeOrder.TheVariants.{ControlFirst, FirstInFirstOut, ByRank}
 use Rattle.mb_queue.specs.declared.take_pass.TakePass.TheInside.{Inside}
-use Rattle.mb_queue.specs.Passes.{Sending, Taking}
-use Rattle.mb_queue.specs.Kept.{IsSending, IsTaking, IsTakePass}
+use Rattle.mb_queue.specs.Passes.{SendPassView, TakePassView}
+use Rattle.mb_queue.specs.Representation.{IsSending, IsTaking, IsTakePass}
 use Rattle.mb_queue.proofs.Joins.{control_joined, fifo_joined, joined, rank_joined}
 use Rattle.mb_queue.proofs.Ours.{ours-joined}
 use Rattle.mb_queue.proofs.take_pass.TakePass.join.Goals as goal
@@ -16,16 +16,16 @@ use Rattle.mb_queue.proofs.take_pass.TakePass.join.Goals.{in-ControlFirst-Some, 
 pub invariant_of-self : goal.invariant_of-self
 invariant_of-self c =
     let i = c.self.inside in let p = c.pass.inside in let by : ℕ = p.by.0 in
-    let back : (order : Order) (now : Inside) → now ≡ record { main = c.join.new.self; order = order; taken = i.taken; accounts = i.accounts }
+    let back : (order : TakeOrder) (now : Inside) → now ≡ record { main = c.join.new.self; order = order; taken = i.taken; accounts = i.accounts }
     → c.match-self.self-inside ≡ now → IsTaking (joined i.main p.main) order i.taken (i.accounts ++ home by p.pushed ∷ [])
     → IsTakePass c.match-self.self-inside.main c.match-self.self-inside.order c.match-self.self-inside.taken c.add.new.self
     = λ order now is here kept. subst (λ (y : Inside × List Account). IsTakePass y.0.main y.0.order y.0.taken y.1) (λ k. (
       sym (here ∙ is ∙ (λ l. record { main = c.join.ensures l; order = order; taken = i.taken; accounts = i.accounts })) k,
       sym (c.add.ensures ∙ ap (λ (j : Inside). j.accounts ++ home by p.pushed ∷ []) (here ∙ is)) k,
     )) (kept, ours-joined i.main p.main i.order order i.taken c.self.invariant.1) in
-    let sent : (control : Option Known) → p.control ≡ control → IsSending by p.main control p.pushed
+    let sent : (control : Option LanePort) → p.control ≡ control → IsSending by p.main control p.pushed
     = λ control is. subst (λ o. IsSending by p.main o p.pushed) is c.pass.invariant in
-    let kept : (order : Order) → i.order ≡ order → IsTaking i.main order i.taken i.accounts
+    let kept : (order : TakeOrder) → i.order ≡ order → IsTaking i.main order i.taken i.accounts
     = λ order is. subst (λ o. IsTaking i.main o i.taken i.accounts) is c.self.invariant.0 in
     elim c.match-self.branch [
       | in-ControlFirst-Some w ↦
@@ -64,8 +64,8 @@ invariant_of-self c =
 pub returns-clause-account : goal.returns-clause-account
 returns-clause-account c = let p = c.pass.inside in
     ap (λ l. account l c.args.pass.by) c.add.ensures
-    ∙ account-same c.match-self.self-inside.accounts (home p.by.0 p.pushed) c.args.pass.by (ap (λ (x : Sending). x.by) c.pass.view_is)
-    ∙ ap (λ (x : Sending). Some x.pushed) c.pass.view_is
+    ∙ account-same c.match-self.self-inside.accounts (home p.by.0 p.pushed) c.args.pass.by (ap (λ (x : SendPassView). x.by) c.pass.view_is)
+    ∙ ap (λ (x : SendPassView). Some x.pushed) c.pass.view_is
 
 pub returns-clause-others : goal.returns-clause-others
 returns-clause-others c = λ sender ne.
@@ -77,5 +77,5 @@ returns-clause-others c = λ sender ne.
     ] in
     ap (λ l. account l sender) c.add.ensures
     ∙ account-other c.match-self.self-inside.accounts (home p.by.0 p.pushed) sender
-    (λ same. ne (sym same ∙ ap (λ (x : Sending). x.by) c.pass.view_is))
-    ∙ ap (λ l. account l sender) kept ∙ ap (λ (t : Taking). account t.accounts sender) c.self.view_is
+    (λ same. ne (sym same ∙ ap (λ (x : SendPassView). x.by) c.pass.view_is))
+    ∙ ap (λ l. account l sender) kept ∙ ap (λ (t : TakePassView). account t.accounts sender) c.self.view_is

@@ -1,8 +1,8 @@
 use Rattle.std.proofs.Common.{◌≡◌, subst, sym, Some, None}
 use Rattle.std.specs.List.{Contains}
 use Rattle.mb_queue.specs.Fates.{NothingLeft}
-use Rattle.mb_queue.specs.Kept.{IsTakePass, taking_of}
-use Rattle.mb_queue.specs.Passes.{Taking}
+use Rattle.mb_queue.specs.Representation.{IsTakePass, taking_of}
+use Rattle.mb_queue.specs.Passes.{TakePassView}
 use Rattle.mb_queue.specs.Takes.{IsTake}
 use Rattle.mb_queue.proofs.Emptied.{emptied, none_held}
 use Rattle.mb_queue.proofs.Ours.{pass-none, pass-some}
@@ -27,23 +27,23 @@ returns-in-None-clause-known g c = (invariant_of-self-in-None g c).1
 
 pub returns-in-Some-clause-sender : goal.returns-in-Some-clause-sender
 returns-in-Some-clause-sender g c = let i = c.self.inside in let next = c.take_next-next.new in let e = c.in-Some.envelope in
-    subst (λ (t : Taking). Contains t.queue.senders e.by.0) c.self.view_is
+    subst (λ (t : TakePassView). Contains t.queue.senders e.by.0) c.self.view_is
     (given_known i.main i.order i.taken i.accounts e next.main next.order c.self.invariant.0 c.in-Some.ensures).0
 
 pub returns-in-Some-clause-addressed : goal.returns-in-Some-clause-addressed
 returns-in-Some-clause-addressed g c = let i = c.self.inside in let next = c.take_next-next.new in let e = c.in-Some.envelope in
-    subst (λ (t : Taking). e.to.0 ≡ t.queue.to) c.self.view_is
+    subst (λ (t : TakePassView). e.to.0 ≡ t.queue.to) c.self.view_is
     (given_known i.main i.order i.taken i.accounts e next.main next.order c.self.invariant.0 c.in-Some.ensures).1
 
 pub returns-in-Some-clause-turn : goal.returns-in-Some-clause-turn
 returns-in-Some-clause-turn g c = let i = c.self.inside in let next = c.take_next-next.new in let e = c.in-Some.envelope in
-    subst (λ (y : Taking × _). IsTake y.0.turns y.0 (Some e) (taking_of next.main next.order y.1 i.accounts))
+    subst (λ (y : TakePassView × _). IsTake y.0.turns y.0 (Some e) (taking_of next.main next.order y.1 i.accounts))
     (λ k. (c.self.view_is k, sym c.add.ensures k))
     (turn_some i.main i.order i.taken i.accounts e next.main next.order c.self.invariant.0 c.in-Some.ensures)
 
 pub returns-in-None-clause-turn : goal.returns-in-None-clause-turn
 returns-in-None-clause-turn g c = let i = c.self.inside in let next = c.take_next-next.new in
-    subst (λ (y : Taking). IsTake y.turns y None (taking_of next.main next.order i.taken i.accounts)) c.self.view_is
+    subst (λ (y : TakePassView). IsTake y.turns y None (taking_of next.main next.order i.taken i.accounts)) c.self.view_is
     (turn_none i.main i.order i.taken i.accounts next.main next.order c.self.invariant.0 c.in-None.ensures)
 
 pub returns-in-None-clause-each_once : goal.returns-in-None-clause-each_once

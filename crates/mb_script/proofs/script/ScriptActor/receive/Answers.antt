@@ -1,5 +1,5 @@
 use Rattle.std.proofs.Common.{ap, sym, refl, ◌∙◌}
-use Rattle.mb_actor.specs.Tray.{Tray}
+use Rattle.mb_actor.specs.OutboxView.{OutboxView}
 use Rattle.mb_script.proofs.Keeping.{script_keeps}
 use Rattle.mb_script.specs.Script.{Scripted}
 use Rattle.mb_script.proofs.script.ScriptActor.receive.Goals as goal
@@ -17,8 +17,8 @@ returns-in-Control-clause-kept c = script_keeps _ _ c.args.out.now c.do_kind-in-
 pub returns-after-self-clause-kept : goal.returns-after-self-clause-kept
 returns-after-self-clause-kept c = elim c.match-self.branch [
   | in-Some w ↦ script_keeps _ _ c.args.out.now c.match-self.out refl
-      (ap (λ (t : Tray). t.actors) w.out-is ∙ w.perform.ensures.actors)
-      (ap (λ (t : Tray). t.unspawned) w.out-is ∙ w.perform.ensures.unspawned)
+      (ap (λ (t : OutboxView). t.actors) w.out-is ∙ w.perform.ensures.actors)
+      (ap (λ (t : OutboxView). t.unspawned) w.out-is ∙ w.perform.ensures.unspawned)
   | in-None w ↦ script_keeps _ _ c.args.out.now c.match-self.out refl
-      (ap (λ (t : Tray). t.actors) w.out-is) (ap (λ (t : Tray). t.unspawned) w.out-is)
+      (ap (λ (t : OutboxView). t.actors) w.out-is) (ap (λ (t : OutboxView). t.unspawned) w.out-is)
 ]

@@ -1,12 +1,12 @@
 use Rattle.mb_system.specs.Members.{end_caller}
-use Rattle.mb_system.proofs.Looking.{leaves-woken}
+use Rattle.mb_system.proofs.Looking.{leaves-registered}
 use Rattle.std.proofs.Common.{◌∙◌, arith, refl}
 use Rattle.mb_system.proofs.end.WorkerEnd.register.Goals as goal
 
 pub returns-clause-leaves : goal.returns-clause-leaves
 returns-clause-leaves g c =
-    leaves-woken c.args.id.0 (end_caller c.args.self.now.waker) (end_caller c.register.new.self) c.register.result c.register.ensures.looks
-    c.register.ensures.woken c.register.ensures.paid
+    leaves-registered c.args.id.0 (end_caller c.args.self.now.registrar) (end_caller c.register.new.self) c.register.result c.register.ensures.looks
+    c.register.ensures.registered c.register.ensures.discharged
 
 pub register-requires-clause-ours : goal.register-requires-clause-ours
 register-requires-clause-ours g c = (c.requires.ours.0, c.requires.ours.1)
@@ -22,11 +22,11 @@ returns-clause-ours g c =
 pub returns-clause-looks : goal.returns-clause-looks
 returns-clause-looks g c = c.register.ensures.looks
 
-pub returns-clause-paid : goal.returns-clause-paid
-returns-clause-paid g c = c.register.ensures.paid
+pub returns-clause-discharged : goal.returns-clause-discharged
+returns-clause-discharged g c = c.register.ensures.discharged
 
-pub returns-clause-woken : goal.returns-clause-woken
-returns-clause-woken g c = c.register.ensures.woken
+pub returns-clause-registered : goal.returns-clause-registered
+returns-clause-registered g c = c.register.ensures.registered
 
 pub returns-clause-number : goal.returns-clause-number
 returns-clause-number g c = refl

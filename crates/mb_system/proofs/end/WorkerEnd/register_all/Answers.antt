@@ -1,25 +1,25 @@
 use Rattle.std.proofs.Common.{arith, refl, ◌∙◌}
 use Rattle.mb_system.specs.Members.{end_caller}
-use Rattle.mb_system.proofs.Debts.{paid-more}
+use Rattle.mb_system.proofs.Obligations.{discharged-more}
 use Rattle.mb_system.proofs.Looking.{leaves-none, leaves-then}
 use Rattle.mb_system.proofs.end.WorkerEnd.register_all.Goals as goal
 
 pub loop-number-init : goal.loop-number-init
 loop-number-init g c =
-    (c.requires.ours, refl, leaves-none (end_caller c.args.self.now.waker), λ id lt. absurd (omega (arith, lt)))
+    (c.requires.ours, refl, leaves-none (end_caller c.args.self.now.registrar), λ id lt. absurd (omega (arith, lt)))
 
 pub loop-number-preserved : goal.loop-number-preserved
 loop-number-preserved g c =
     let at = c.loop-number in let did = c.register.ensures in
-    let first = end_caller c.args.self.now.waker in let old = end_caller at.self.waker in let new = end_caller c.register.new.self.waker in (
+    let first = end_caller c.args.self.now.registrar in let old = end_caller at.self.registrar in let new = end_caller c.register.new.self.registrar in (
       did.ours,
       did.number ∙ at.invariant.1,
       leaves-then first old new at.invariant.2 did.leaves,
-      paid-more at.number old new at.invariant.3 did.leaves did.paid,
+      discharged-more at.number old new at.invariant.3 did.leaves did.discharged,
     )
 
-pub returns-clause-paid : goal.returns-clause-paid
-returns-clause-paid g c = λ id lt. c.loop-number.invariant.3 id (omega (arith, lt, c.loop-number-test.false))
+pub returns-clause-discharged : goal.returns-clause-discharged
+returns-clause-discharged g c = λ id lt. c.loop-number.invariant.3 id (omega (arith, lt, c.loop-number-test.false))
 
 pub returns-clause-leaves : goal.returns-clause-leaves
 returns-clause-leaves g c = c.loop-number.invariant.2

@@ -13,13 +13,13 @@ look-requires-clause-all g c = c.requires.ours.all
 pub returns-clause-ours : goal.returns-clause-ours
 returns-clause-ours g c =
     let same = c.look.ensures.same in let was = c.requires.ours in record {
-      ours = (same.4 ∙ was.ours.0, ap (λ way. gates_of way.feed) same.3 ∙ was.ours.1, was.ours.2);
+      ours = (same.4 ∙ was.ours.0, ap (λ run_queue. gates_of run_queue.feed) same.3 ∙ was.ours.1, was.ours.2);
       all = ap (λ sends. vec_len sends + 1) same.1 ∙ was.all;
       queues = ap (λ sends. receiving_queues sends.items) same.1 ∙ was.queues;
     }
 
 pub returns-clause-by : goal.returns-clause-by
-returns-clause-by g c = ap (λ book. book.by) c.look.ensures.same.0
+returns-clause-by g c = ap (λ send_log. send_log.by) c.look.ensures.same.0
 
 pub returns-clause-seen : goal.returns-clause-seen
 returns-clause-seen g c = c.look.ensures.seen

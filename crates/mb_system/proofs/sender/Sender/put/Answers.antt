@@ -25,8 +25,8 @@ put-requires-clause-there g c =
 pub returns-clause-sent : goal.returns-clause-sent
 returns-clause-sent g c = c.put.ensures.sent
 
-pub returns-clause-paid : goal.returns-clause-paid
-returns-clause-paid g c = c.put.ensures.paid
+pub returns-clause-discharged : goal.returns-clause-discharged
+returns-clause-discharged g c = c.put.ensures.discharged
 
 pub returns-clause-still : goal.returns-clause-still
 returns-clause-still g c = c.put.ensures.still
@@ -34,8 +34,8 @@ returns-clause-still g c = c.put.ensures.still
 pub returns-clause-refused : goal.returns-clause-refused
 returns-clause-refused g c = c.put.ensures.refused
 
-pub returns-clause-woken : goal.returns-clause-woken
-returns-clause-woken g c = c.put.ensures.woken
+pub returns-clause-registered : goal.returns-clause-registered
+returns-clause-registered g c = c.put.ensures.registered
 
 pub returns-clause-unsent : goal.returns-clause-unsent
 returns-clause-unsent g c = c.put.ensures.unsent

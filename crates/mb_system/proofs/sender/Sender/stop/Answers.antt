@@ -18,7 +18,7 @@ returns-clause-ours g c =
     }
 
 pub returns-clause-by : goal.returns-clause-by
-returns-clause-by g c = ap (λ book. book.by) c.stop.ensures.same.0
+returns-clause-by g c = ap (λ send_log. send_log.by) c.stop.ensures.same.0
 
 pub returns-clause-stopped : goal.returns-clause-stopped
 returns-clause-stopped g c = c.stop.ensures.stopped
@@ -26,11 +26,11 @@ returns-clause-stopped g c = c.stop.ensures.stopped
 pub returns-clause-same : goal.returns-clause-same
 returns-clause-same g c = (c.stop.ensures.same.0, c.stop.ensures.same.1)
 
-pub returns-clause-paid : goal.returns-clause-paid
-returns-clause-paid g c = c.stop.ensures.paid
+pub returns-clause-discharged : goal.returns-clause-discharged
+returns-clause-discharged g c = c.stop.ensures.discharged
 
 pub returns-clause-still : goal.returns-clause-still
 returns-clause-still g c = c.stop.ensures.still
 
-pub returns-clause-woken : goal.returns-clause-woken
-returns-clause-woken g c = c.stop.ensures.woken
+pub returns-clause-registered : goal.returns-clause-registered
+returns-clause-registered g c = c.stop.ensures.registered

@@ -24,14 +24,14 @@ returns-clause-refused g c = c.tell.ensures.refused
 pub returns-clause-told : goal.returns-clause-told
 returns-clause-told g c = c.tell.ensures.told
 
-pub returns-clause-paid : goal.returns-clause-paid
-returns-clause-paid g c = c.tell.ensures.paid
+pub returns-clause-discharged : goal.returns-clause-discharged
+returns-clause-discharged g c = c.tell.ensures.discharged
 
 pub returns-clause-still : goal.returns-clause-still
 returns-clause-still g c = c.tell.ensures.still
 
-pub returns-clause-woken : goal.returns-clause-woken
-returns-clause-woken g c = c.tell.ensures.woken
+pub returns-clause-registered : goal.returns-clause-registered
+returns-clause-registered g c = c.tell.ensures.registered
 
 pub returns-clause-unsent : goal.returns-clause-unsent
 returns-clause-unsent g c = c.tell.ensures.unsent

@@ -1,0 +1,6 @@
+use denote.Param.Send.{sendable}
+use Rattle.mb_queue.proofs.Crossing.{take_pass_send}
+use Rattle.bench.proofs.queues.control.Goals as goal
+
+pub measure-requires-send-T : goal.measure-requires-send-T
+measure-requires-send-T g c κs within = search (sendable, take_pass_send) depth 20

@@ -1,8 +1,0 @@
-use Rattle.std.proofs.Common.{rules}
-use Rattle.mb_actor.proofs.called.Called.receive.Goals as goal
-
-pub returns-clause-called : goal.returns-clause-called
-returns-clause-called g c = search rules
-
-pub returns-clause-given : goal.returns-clause-given
-returns-clause-given g c = search rules

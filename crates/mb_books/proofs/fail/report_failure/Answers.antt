@@ -1,5 +1,0 @@
-use Rattle.std.proofs.Common.{rules}
-use Rattle.mb_books.proofs.fail.report_failure.Goals as goal
-
-pub returns-in-None : goal.returns-in-None
-returns-in-None c = search rules

@@ -1,9 +1,0 @@
--- Which of the requests for permission to start a child afresh an actor keeps.
-use Rattle.std.specs.Prelude.{ℤ, pos, negsuc, nat_lt, if◌then◌else◌, List, []}
-use Rattle.mb_msg.specs.declared.id.ActorId.{ActorId}
-
--- all of them where there is a limit to keep to, and none where it is negative or 0: then it does not matter how many there
--- were (`akka.actor.ChildRestartStats`, which counts them; that the requests are kept is this project's own profile)
-abbrev pub requests_kept : ℤ → List ActorId → List ActorId
-requests_kept (negsuc n) asked = []
-requests_kept (pos limit) asked = if nat_lt 0 limit then asked else []

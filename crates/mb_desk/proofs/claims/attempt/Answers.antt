@@ -1,9 +1,0 @@
-use Rattle.mb_gate.specs.Untouched.{origin_of}
-use Rattle.mb_desk.proofs.Got.{untouched}
-use Rattle.mb_desk.proofs.claims.attempt.Goals as goal
-
-pub returns-in-Got-clause-fit : goal.returns-in-Got-clause-fit
-returns-in-Got-clause-fit g c =
-    let got = c.in-Got.ensures.answer in
-    untouched g.H.Resident.is_of g.H.Resident.journal g.H.Resident.mailbox g.H.Resident.rested g.H.Resident.given g.H.Resident.closed_to
-    (origin_of c.args.gates.now) c.args.id.0 _ _ got.0 c.in-Got.claim got.1 c.in-Got.ensures.ours.1 c.requires.there

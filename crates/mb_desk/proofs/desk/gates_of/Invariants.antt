@@ -1,6 +1,0 @@
-use Rattle.std.proofs.Common.{◌≡◌}
-use Rattle.std.specs.Prelude.{vec_len}
-use Rattle.mb_desk.proofs.desk.gates_of.Given as goal
-
-abbrev pub invariant-loop-desk : goal.invariant-loop-desk
-invariant-loop-desk l = vec_len l.desks ≡ l._desk

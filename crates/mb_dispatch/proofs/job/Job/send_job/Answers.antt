@@ -1,0 +1,14 @@
+use Rattle.std.proofs.Common.{refl}
+use Rattle.mb_dispatch.proofs.job.Job.send_job.Goals as goal
+
+pub returns-clause-ours : goal.returns-clause-ours
+returns-clause-ours g c = c.send_and_retry-outcome.ensures.ours
+
+pub returns-clause-by : goal.returns-clause-by
+returns-clause-by g c = c.send_and_retry-outcome.ensures.by
+
+pub returns-clause-sends : goal.returns-clause-sends
+returns-clause-sends g c = refl
+
+pub returns-clause-obligations : goal.returns-clause-obligations
+returns-clause-obligations g c = c.send_and_retry-outcome.ensures.obligations

@@ -1,0 +1,55 @@
+use Rattle.std.proofs.lemmas.Result.{on_ok_weaker, err_from_is_err_and}
+use Rattle.mb_gate.specs.Accessors.{actors_of}
+use Rattle.std.proofs.Common.{◌∙◌, subst, sym}
+use Rattle.std.specs.Prelude.{Err, IfErr, IsErrOf, Ok, OnErr, Result}
+use Rattle.mb_system.specs.Members.{sender_caller}
+use Rattle.mb_dispatch.specs.Orders.{HasSent}
+use Rattle.mb_system.specs.Obligations.{OwesNobody}
+use Rattle.mb_system.proofs.Obligations.{obligations-then}
+use Rattle.mb_dispatch.proofs.Sending.{sent-still}
+use Rattle.mb_system.specs.declared.failure.RunError.{RunError}
+use Rattle.mb_system.specs.declared.failure.RunError.TheVariants.{NoMemory}
+use Rattle.mb_dispatch.specs.Faults.{BreaksSending}
+use Rattle.mb_dispatch.proofs.Sides.{on_ok}
+use Rattle.mb_dispatch.proofs.job.send_and_retry.Goals as goal
+
+pub returns-clause-sent : goal.returns-clause-sent
+returns-clause-sent g c =
+    let discharged = c.retry_refused.ensures in let gates = c.args.system.now.gates in
+    let orders = c.args.orders.now in let old = c.args.sender.now in let new = c.retry_refused.new.self in
+    let both : OwesNobody gates new → HasSent orders old new × OwesNobody gates new =
+    λ nobody. (sent-still orders old c.send_all.new.sender new discharged.same.1 discharged.same.0 discharged.saw c.in_ok-send_all.ensures.sent, nobody) in
+    on_ok_weaker _ both discharged.done
+
+pub returns-clause-obligations : goal.returns-clause-obligations
+returns-clause-obligations g c =
+    on_ok c.retry_refused.result
+    (obligations-then (actors_of c.args.system.now.gates) (sender_caller c.args.sender.now.inner.registrar) (sender_caller c.send_all.new.sender.inner.registrar)
+    (sender_caller c.retry_refused.new.self.inner.registrar) c.in_ok-send_all.ensures.obligations c.retry_refused.ensures.obligations)
+
+pub returns-clause-ours : goal.returns-clause-ours
+returns-clause-ours g c = c.retry_refused.ensures.ours
+
+pub returns-clause-by : goal.returns-clause-by
+returns-clause-by g c = c.retry_refused.ensures.by ∙ c.send_all.ensures.by
+
+pub returns-in_err-send_all-clause-ours : goal.returns-in_err-send_all-clause-ours
+returns-in_err-send_all-clause-ours g c = c.send_all.ensures.ours
+
+pub returns-in_err-send_all-clause-by : goal.returns-in_err-send_all-clause-by
+returns-in_err-send_all-clause-by g c = c.send_all.ensures.by
+
+-- memory alone was refused
+of-memory : {T : Type 0} (r : Result T RunError) (P : RunError → Type 0) → P NoMemory → OnErr r (IsErrOf r NoMemory) → IfErr r P
+of-memory (Ok x) P p refused = tt
+of-memory {T} (Err e) P p refused = subst (λ (q : Result T RunError). IfErr q P) (sym refused) p
+
+pub returns-clause-fault : goal.returns-clause-fault
+returns-clause-fault g c =
+    of-memory c.retry_refused.result (BreaksSending c.args.system.now.gates c.args.orders.now) tt c.retry_refused.ensures.refused
+
+pub returns-in_err-send_all-clause-fault : goal.returns-in_err-send_all-clause-fault
+returns-in_err-send_all-clause-fault g c =
+    let breaks = BreaksSending c.args.system.now.gates c.args.orders.now in
+    let p = err_from_is_err_and c.from_residual.result c.from_residual.ensures.1 in
+    subst (λ r. IfErr r breaks) (sym p.1) (subst breaks (sym p.2) c.in_err-send_all.ensures.fault)

@@ -1,0 +1,108 @@
+//! Tasks that are done in parallel, each on a thread of its own where one can be had.
+ghost use Rattle.std.specs.Prelude.{◌≡◌, All, IfErr, MatchResult, OnOk};
+ghost use Rattle.std.specs.List.{AllZip};
+ghost use Rattle.std.specs.Thread.{IsSend, IsSync};
+ghost use Rattle.mb_system.specs.declared.failure.RunError.{RunError as Fault};
+ghost use Rattle.mb_dispatch.specs.Parallel.{AnyZip};
+
+use mb_system::RunError;
+use std::sync::Wait;
+use std::thread::{Threads, join_mut};
+
+/// Something to do with what all threads share.
+pub trait Task<S> {
+    // what it asks for
+    ghost ready: { S → Self → Type 0 };
+    // what holds then, whatever the answer was
+    ghost keeps: { S → Self → Self → Type 0 };
+    // what holds then, if it was done
+    ghost done: { S → Self → Self → Type 0 };
+    // why it was broken off
+    ghost fails: { S → Self → Self → Fault → Type 0 };
+
+    /// Does it.
+    fn perform<R: Wait>(&mut self, rt: &R, shared: &S) -> Result<(), RunError>
+        requires ready { ready shared.now self.old }
+        ensures keeps { keeps shared.now self.old self.new }
+        ensures done { OnOk result (done shared.now self.old self.new) }
+        ensures fails { IfErr result (λ fault. fails shared.now self.old self.new fault) };
+}
+
+/// Does each of these on a thread of its own. Where a thread is refused, another does its work after its own, in their order.
+///
+/// It answers the first error in their order.
+pub fn each_in_parallel<R: Threads + Wait + Sync, S: Sync, T: Task<S> + Send>(
+    rt: &R,
+    shared: &S,
+    tasks: &mut [T],
+) -> Result<(), RunError>
+    requires { All (T.ready shared.now) tasks.old }
+    ensures keeps { AllZip (T.keeps shared.now) tasks.old tasks.new }
+    ensures done { OnOk result (AllZip (T.done shared.now) tasks.old tasks.new) }
+    ensures fails { IfErr result (λ fault. AnyZip (λ old new. T.fails shared.now old new fault) tasks.old tasks.new) }
+{
+    let Some((task, others)) = tasks.split_first_mut() else {
+        return Ok(());
+    };
+    let (rest, first) = join_mut(
+        rt,
+        &mut || -> Result<(), RunError>
+            requires { IsSync R.row × IsSync S.row × IsSend T.row × All (T.ready shared.now) others.now }
+            ensures { AllZip (T.keeps shared.entry.now) others.entry.now others.exit.now
+                × OnOk result (AllZip (T.done shared.entry.now) others.entry.now others.exit.now)
+                × IfErr result (λ fault. AnyZip (λ old new. T.fails shared.entry.now old new fault) others.entry.now others.exit.now) }
+        { each_in_parallel(rt, shared, others) },
+        &mut || -> Result<(), RunError>
+            requires { T.ready shared.now task.now }
+            ensures { T.keeps shared.entry.now task.entry.now task.exit.now
+                × OnOk result (T.done shared.entry.now task.entry.now task.exit.now)
+                × IfErr result (λ fault. T.fails shared.entry.now task.entry.now task.exit.now fault) }
+        { task.perform(rt, shared) },
+    );
+    first_error(first, rest)
+}
+
+/// Does each of these beside each of those. Where a thread for those is refused, they come after these; none of these waits for
+/// them.
+pub fn both_in_parallel<R: Threads + Wait + Sync, S: Sync, T: Task<S> + Send, U: Task<S> + Send>(
+    rt: &R,
+    shared: &S,
+    these: &mut [T],
+    those: &mut [U],
+) -> (Result<(), RunError>, Result<(), RunError>)
+    requires these { All (T.ready shared.now) these.old }
+    requires those { All (U.ready shared.now) those.old }
+    ensures keeps { AllZip (T.keeps shared.now) these.old these.new × AllZip (U.keeps shared.now) those.old those.new }
+    ensures done { OnOk result.0 (AllZip (T.done shared.now) these.old these.new)
+        × OnOk result.1 (AllZip (U.done shared.now) those.old those.new) }
+    ensures fails { IfErr result.0 (λ fault. AnyZip (λ old new. T.fails shared.now old new fault) these.old these.new)
+        × IfErr result.1 (λ fault. AnyZip (λ old new. U.fails shared.now old new fault) those.old those.new) }
+{
+    if these.is_empty() {
+        return (Ok(()), each_in_parallel(rt, shared, those));
+    }
+    let (of_those, of_these) = join_mut(
+        rt,
+        &mut || -> Result<(), RunError>
+            requires { All (U.ready shared.now) those.now }
+            ensures { AllZip (U.keeps shared.entry.now) those.entry.now those.exit.now
+                × OnOk result (AllZip (U.done shared.entry.now) those.entry.now those.exit.now)
+                × IfErr result (λ fault. AnyZip (λ old new. U.fails shared.entry.now old new fault) those.entry.now those.exit.now) }
+        { each_in_parallel(rt, shared, those) },
+        &mut || -> Result<(), RunError>
+            requires { All (T.ready shared.now) these.now }
+            ensures { AllZip (T.keeps shared.entry.now) these.entry.now these.exit.now
+                × OnOk result (AllZip (T.done shared.entry.now) these.entry.now these.exit.now)
+                × IfErr result (λ fault. AnyZip (λ old new. T.fails shared.entry.now old new fault) these.entry.now these.exit.now) }
+        { each_in_parallel(rt, shared, these) },
+    );
+    (of_these, of_those)
+}
+
+/// The first error of two.
+pub fn first_error(first: Result<(), RunError>, rest: Result<(), RunError>) -> Result<(), RunError>
+    ensures { MatchResult first (λ _. result ≡ rest) (λ _. result ≡ first) }
+{
+    first?;
+    rest
+}

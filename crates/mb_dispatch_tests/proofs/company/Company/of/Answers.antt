@@ -1,4 +1,0 @@
-use Rattle.mb_dispatch_tests.proofs.company.Company.of.Goals as goal
-
-pub invariant_of-result : goal.invariant_of-result
-invariant_of-result c = c.requires.together

@@ -1,0 +1,139 @@
+//! A system on which a story goes on step by step.
+use crate::closing::{FinishRefusal, Unfinished};
+use crate::shown::{look_text, put_text, run_text, stop_text, turn_text, turns_text};
+use crate::system_script::SystemStep;
+use crate::test_system::TestSystem;
+use mb_dispatch::{Look, Ticket};
+use mb_msg::{ActorId, Body};
+use mb_report::{ActorReport, Report};
+use mb_testkit::{ADD, Order, OrderKind, TestCase, add, journal_text, text_of};
+use std::alloc::Global;
+use std::sync::Wait;
+
+/// A system until it has ended, and then its report; how many actors there are, and the ticket that the sender got last.
+#[derive(Drop)]
+pub struct SystemTest {
+    alloc: Global,
+    count: usize,
+    company: Option<TestSystem>,
+    ticket: Option<Ticket>,
+    report: Option<Report>,
+}
+
+impl SystemTest {
+    /// The beginning of this story.
+    pub fn new<R: Wait>(rt: &R, alloc: Global, story: &TestCase<'_>) -> Self {
+        SystemTest {
+            alloc,
+            count: story.parts.len(),
+            company: TestSystem::new(rt, alloc, story).ok(),
+            ticket: None,
+            report: None,
+        }
+    }
+
+    /// Takes a step: its answer. Nothing where it cannot be taken, or memory was refused.
+    pub fn take<R: Wait>(&mut self, rt: &R, step: SystemStep) -> Option<String> {
+        match step {
+            SystemStep::Look(id) => self.look(ActorId(id)),
+            SystemStep::Put(value) => self.put(rt, value),
+            SystemStep::Finish => self.finish(rt),
+            SystemStep::Journal(id) => self.journal(id),
+            SystemStep::DeadSystem(id) => self.dead_system(id),
+            step => lead(rt, self.alloc, self.company.as_mut()?, step),
+        }
+    }
+
+    fn look(&mut self, to: ActorId) -> Option<String> {
+        let look = self.company.as_mut()?.look(to)?;
+        if let Ok(Look::Open(ticket)) = look {
+            self.ticket = Some(ticket);
+        }
+        look_text(self.alloc, look).ok()
+    }
+
+    fn put<R: Wait>(&mut self, rt: &R, value: i64) -> Option<String> {
+        let ticket = self.ticket?;
+        let body = Body::User { kind: ADD, value };
+        let put = self.company.as_mut()?.put(rt, ticket, body)?;
+        put_text(self.alloc, put).ok()
+    }
+
+    fn finish<R: Wait>(&mut self, rt: &R) -> Option<String> {
+        match self.end(rt)? {
+            Ok(report) => {
+                let text = text_of(self.alloc, &report, self.count);
+                self.report = Some(report);
+                text
+            }
+            Err(why) => format!(in self.alloc; "{why:?}").ok(),
+        }
+    }
+
+    // The report of the system; or why it goes on.
+    fn end<R: Wait>(&mut self, rt: &R) -> Option<Result<Report, FinishRefusal>> {
+        match self.company.take()?.finish(rt) {
+            Ok(report) => Some(Ok(report)),
+            Err(Unfinished { why, back }) => {
+                self.company = back;
+                Some(Err(why))
+            }
+        }
+    }
+
+    fn journal(&self, id: u32) -> Option<String> {
+        journal_text(self.alloc, &self.told_of(id)?.journal).ok()
+    }
+
+    fn dead_system(&self, id: u32) -> Option<String> {
+        let dead = self.told_of(id)?.dead_system;
+        format!(in self.alloc; "{dead}").ok()
+    }
+
+    // What the report tells of an actor.
+    fn told_of(&self, id: u32) -> Option<&ActorReport> {
+        self.report.as_ref()?.actors.get(id as usize)
+    }
+}
+
+// Takes a step that this company takes by itself: its answer.
+fn lead<R: Wait>(
+    rt: &R,
+    alloc: Global,
+    company: &mut TestSystem,
+    step: SystemStep,
+) -> Option<String> {
+    match step {
+        SystemStep::Send(orders) => send_all(rt, alloc, company, orders),
+        SystemStep::Run => turns_text(alloc, company.run_quietly(rt)?).ok(),
+        SystemStep::Register(id) => stop_text(alloc, Ok(company.register(rt, ActorId(id))?)).ok(),
+        SystemStep::Turn => turn_text(alloc, &company.turn(rt)?).ok(),
+        SystemStep::Work => run_text(alloc, company.work(rt)?).ok(),
+        SystemStep::LoseSenders => {
+            company.lose_senders();
+            String::from_str(alloc, "lost").ok()
+        }
+        _ => None,
+    }
+}
+
+fn send_all<R: Wait>(
+    rt: &R,
+    alloc: Global,
+    company: &mut TestSystem,
+    orders: &[Order],
+) -> Option<String> {
+    let mut text = String::new(alloc);
+    for order in orders {
+        let answer = send(rt, alloc, company, *order)?;
+        add(&mut text, ", ", answer.as_str()).ok()?;
+    }
+    Some(text)
+}
+
+fn send<R: Wait>(rt: &R, alloc: Global, company: &mut TestSystem, order: Order) -> Option<String> {
+    match order.what {
+        OrderKind::Tell(body) => put_text(alloc, company.tell(rt, order.to, body)?).ok(),
+        OrderKind::Stop => stop_text(alloc, company.stop(rt, order.to)?).ok(),
+    }
+}

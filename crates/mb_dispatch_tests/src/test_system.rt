@@ -1,0 +1,204 @@
+//! A system of players with all that belongs to it. The tests call its first end and its first sender. The calls have no
+//! preconditions: what those of the dispatcher ask for is in the type, or is checked first. Where there is no end, no sender or
+//! no such actor, a call does nothing.
+ghost use Rattle.mb_system.specs.Belonging.{BelongsTogether};
+ghost use Rattle.mb_system.specs.Members.{IsEndOf};
+
+use crate::closing::{FinishRefusal, Unfinished, come_back};
+use crate::together::begin;
+use mb_dispatch::{
+    Built, Look, Put, RunError, SendError, Sender, System, Ticket, Turn, WorkerEnd, run_mailbox,
+    run_quietly, work,
+};
+use mb_msg::{ActorId, Body};
+use mb_register::Hint;
+use mb_report::Report;
+use mb_shutdown::{FinishError, finish};
+use mb_testkit::{Adding, TestActor, TestCase, plan_of, test_actors_of};
+use std::alloc::{AllocError, Global};
+use std::marker::Model;
+use std::sync::Wait;
+
+/// A system of players with its ends, and with those of its senders that were not dropped.
+pub struct TestSystem {
+    pub(crate) system: System<TestActor, Adding>,
+    pub(crate) ends: Vec<WorkerEnd<TestActor, Adding>>,
+    pub(crate) senders: Vec<Sender<TestActor, Adding>>,
+}
+
+// Written by hand: with a derived `Drop` each place would have to prove how every part is dropped.
+impl Drop for TestSystem {
+    fn drop(self) {
+        let TestSystem {
+            system: _,
+            ends: _,
+            senders: _,
+        } = self;
+    }
+}
+
+impl Model for TestSystem {
+    ghost use Rattle.mb_system.specs.Belonging.{BelongsTogether};
+
+    ghost Value = { Unit {0} };
+
+    ghost view = { λ company. tt };
+
+    ghost invariant = { λ company.
+        BelongsTogether (record { system = company.system; ends = company.ends; senders = company.senders }) };
+}
+
+impl TestSystem {
+    /// The system of this story.
+    pub fn new<R: Wait>(rt: &R, alloc: Global, story: &TestCase<'_>) -> Result<Self, AllocError> {
+        let plan = plan_of(alloc, story)?;
+        let players = test_actors_of(alloc, story.parts)?;
+        let built = begin::<TestActor, Adding, R>(rt, alloc, plan, players)?;
+        Ok(TestSystem::of(built))
+    }
+
+    /// The system and all that is there of it.
+    pub(crate) fn of(built: Built<TestActor, Adding>) -> Self
+        requires together { BelongsTogether built }
+    {
+        let Built {
+            system,
+            ends,
+            senders,
+        } = built;
+        TestSystem {
+            system,
+            ends,
+            senders,
+        }
+    }
+
+    /// Ends the system, and answers the report.
+    pub fn finish<R: Wait>(self, rt: &R) -> Result<Report, Unfinished> {
+        let TestSystem {
+            system,
+            ends,
+            senders,
+        } = self;
+        let built = Built {
+            system,
+            ends,
+            senders,
+        };
+        match finish(rt, built) {
+            Ok(report) => Ok(report),
+            Err(FinishError::MissingEnd(number, back)) => {
+                Err(come_back(FinishRefusal::MissingEnd(number), back))
+            }
+            Err(FinishError::MissingSender(number, back)) => {
+                Err(come_back(FinishRefusal::MissingSender(number), back))
+            }
+            Err(FinishError::NotQuiet(id, back)) => Err(come_back(
+                FinishRefusal::NotQuiet(id.0),
+                back,
+            )),
+            Err(FinishError::NoMemory(back)) => Err(come_back(FinishRefusal::NoMemory, back)),
+            Err(FinishError::Mismatch(what)) => Err(Unfinished {
+                why: FinishRefusal::Mismatch(what),
+                back: None,
+            }),
+        }
+    }
+
+    /// Drops the senders.
+    pub fn lose_senders(&mut self) {
+        self.senders.clear();
+    }
+
+    /// Runs claims on this thread until none is there; answers what each run did.
+    pub fn run_quietly<R: Wait>(&mut self, rt: &R) -> Option<Result<Vec<Turn>, RunError>> {
+        if self.ends.len() == 0 {
+            return None;
+        }
+        Some(run_quietly(rt, &self.system, &mut self.ends[0]))
+    }
+
+    /// Registers an actor; answers whether its claim went into the pool.
+    pub fn register<R: Wait>(&mut self, rt: &R, id: ActorId) -> Option<bool> {
+        if self.ends.len() == 0 || id.0 as usize >= self.system.gates.actors() {
+            return None;
+        }
+        Some(self.ends[0].register(rt, &self.system, id, Hint::None))
+    }
+
+    /// Takes a claim and runs its mailbox; answers what the run did. Nothing where there is no claim, or the run is broken off.
+    pub fn turn<R: Wait>(&mut self, rt: &R) -> Option<Turn> {
+        if self.ends.len() == 0 {
+            return None;
+        }
+        run_next(rt, &self.system, &mut self.ends[0])
+    }
+
+    /// Works until there is no claim.
+    pub fn work<R: Wait>(&mut self, rt: &R) -> Option<Result<(), RunError>> {
+        if self.ends.len() == 0 {
+            return None;
+        }
+        Some(work(rt, &self.system, &mut self.ends[0]))
+    }
+
+    /// Tells an actor this body.
+    pub fn tell<R: Wait>(
+        &mut self,
+        rt: &R,
+        to: ActorId,
+        body: Body,
+    ) -> Option<Result<Put, SendError>> {
+        if self.senders.len() == 0 {
+            return None;
+        }
+        Some(self.senders[0].tell(rt, &self.system, to, body))
+    }
+
+    /// Stops an actor.
+    pub fn stop<R: Wait>(&mut self, rt: &R, id: ActorId) -> Option<Result<bool, SendError>> {
+        if self.senders.len() == 0 {
+            return None;
+        }
+        Some(self.senders[0].stop(rt, &self.system, id))
+    }
+
+    /// Looks at an actor.
+    pub fn look(&mut self, to: ActorId) -> Option<Result<Look, SendError>> {
+        if self.senders.len() == 0 {
+            return None;
+        }
+        Some(self.senders[0].look(&self.system, to))
+    }
+
+    /// Puts this body by a ticket.
+    pub fn put<R: Wait>(
+        &mut self,
+        rt: &R,
+        ticket: Ticket,
+        body: Body,
+    ) -> Option<Result<Put, SendError>> {
+        if self.senders.len() == 0
+            || ticket.to.0 == 0
+            || ticket.to.0 as usize >= self.system.gates.actors()
+        {
+            return None;
+        }
+        Some(self.senders[0].put(rt, &self.system, ticket, body))
+    }
+}
+
+// Takes a claim and runs its mailbox.
+fn run_next<R: Wait>(
+    rt: &R,
+    system: &System<TestActor, Adding>,
+    end: &mut WorkerEnd<TestActor, Adding>,
+) -> Option<Turn>
+    requires ours { IsEndOf system.now.gates end.old.registrar }
+    ensures ours { IsEndOf system.now.gates end.new.registrar }
+{
+    match end.take(rt) {
+        Some(claim) => run_mailbox(rt, system, end, claim).ok(),
+        None => None,
+    }
+}

@@ -1,4 +1,0 @@
-pub mod Accepted
-pub mod Told
-pub mod Fates
-pub mod Pair

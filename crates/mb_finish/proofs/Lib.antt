@@ -1,6 +1,0 @@
-pub mod JoinLemmas
-pub mod CameLemmas
-pub mod QueuedLemmas
-pub mod RestLemmas
-pub mod LeftLemmas
-pub mod SettleLemmas

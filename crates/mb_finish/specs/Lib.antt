@@ -1,4 +1,0 @@
-pub mod Joined
-pub mod Came
-pub mod Parts
-pub mod Rest

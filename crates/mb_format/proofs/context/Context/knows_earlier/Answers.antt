@@ -1,8 +1,0 @@
-use Rattle.std.proofs.Common.{ap, sym, ◌∙◌}
-use Rattle.std.specs.List.{take-map}
-use Rattle.mb_format.specs.Context.{kin_data, knows}
-use Rattle.mb_format.proofs.context.Context.knows_earlier.Goals as goal
-
-pub returns-then-self : goal.returns-then-self
-returns-then-self c = c.has_name.ensures
-    ∙ ap (λ kin. knows kin c.args.name.now) (sym (take-map kin_data c.args.self.now.earlier c.args.self.now.kin.now))

@@ -1,7 +1,0 @@
-use Rattle.mb_format.proofs.Loops.{past_actor}
-use Rattle.mb_format.proofs.kin.all_kin.Goals as goal
-
-pub loop-value-preserved : goal.loop-value-preserved
-loop-value-preserved c =
-    past_actor c.args.actors.now c.loop-value.value-index c.value-item.result c.loop-value.kin.items c.push.new.self.items
-    c.kin_of.result _ c.loop-value-test.true c.value-item.is c.kin_of.ensures c.in_ok-push.ensures.items c.loop-value.invariant

@@ -1,8 +1,0 @@
-use Rattle.std.proofs.Common.{◌≡◌, drop, map}
-use Rattle.mb_format.specs.Check.{has_key}
-use Rattle.mb_format.specs.Format.{key_data}
-use Rattle.mb_format.proofs.unknown.has_key.Given as goal
-
--- the keys so far have other names
-abbrev pub invariant-loop-key : goal.invariant-loop-key
-invariant-loop-key l = has_key (map key_data (drop l.key-index l.keys)) l.name ≡ has_key (map key_data l.keys) l.name

@@ -1,9 +1,0 @@
-pub mod Check
-pub mod Context
-pub mod Format
-pub mod Name
-pub mod Number
-pub mod OpView
-pub mod Operation
-pub mod Place
-pub mod Value

@@ -1,0 +1,64 @@
+use Rattle.std.proofs.Common.{refl, ap, subst, ◌∙◌, if◌then◌else◌}
+use Rattle.atomic_table.specs.Table.{Me}
+use Rattle.mb_gate.specs.Lists.{IsLentBy, may_lock_list}
+use Rattle.mb_gate.specs.ClaimCounts.{WasHeldBy}
+use Rattle.mb_gate.specs.View.{View, refusing}
+use Rattle.mb_gate.proofs.ListCalls.{not_ended, sharer_may}
+use Rattle.mb_gate.proofs.gates.Gates.lock_open_list.Goals as goal
+
+pub loop-init : goal.loop-init
+loop-init g c = (refl, refl)
+
+pub loop-preserved-then-word-eq1 : goal.loop-preserved-then-word-eq1
+loop-preserved-then-word-eq1 g c = c.loop.invariant
+
+pub try_refuse-requires-clause-ours : goal.try_refuse-requires-clause-ours
+try_refuse-requires-clause-ours g c = c.loop.invariant.0 ∙ c.requires.ours
+
+pub returns-then-try_refuse-clause-ours : goal.returns-then-try_refuse-clause-ours
+returns-then-try_refuse-clause-ours g c = c.try_refuse.ensures.ours ∙ c.loop.invariant.0
+
+pub returns-then-try_refuse-clause-refused : goal.returns-then-try_refuse-clause-refused
+returns-then-try_refuse-clause-refused g c =
+    let me = c.loop.seat.me in let said : Me _ View = (refusing c.args.id.0 c.args.message me.0, me.1) in
+    λ _. c.try_refuse.ensures.answer ∙ ap (λ b. if b then said else me) c.if-try_refuse.true
+    ∙ ap (λ m. (refusing c.args.id.0 c.args.message m.0, m.1)) c.loop.invariant.1
+
+pub returns-then-try_refuse-clause-held : goal.returns-then-try_refuse-clause-held
+returns-then-try_refuse-clause-held g c =
+    λ _. subst (λ m. WasHeldBy c.args.id.0 m.0) c.loop.invariant.1 (c.try_refuse.ensures.held c.if-try_refuse.true)
+
+pub loop-preserved-else-try_refuse : goal.loop-preserved-else-try_refuse
+loop-preserved-else-try_refuse g c =
+    let me = c.loop.seat.me in let said : Me _ View = (refusing c.args.id.0 c.args.message me.0, me.1) in (
+      c.try_refuse.ensures.ours ∙ c.loop.invariant.0,
+      c.try_refuse.ensures.answer ∙ ap (λ b. if b then said else me) c.if-try_refuse.false ∙ c.loop.invariant.1,
+    )
+
+pub try_lock_list-requires-clause-ours : goal.try_lock_list-requires-clause-ours
+try_lock_list-requires-clause-ours g c = c.loop.invariant.0 ∙ c.requires.ours
+
+pub try_lock_list-requires-clause-no_list : goal.try_lock_list-requires-clause-no_list
+try_lock_list-requires-clause-no_list g c = ap (λ m. m.0.list) c.loop.invariant.1 ∙ c.requires.no_list
+
+pub try_lock_list-requires-clause-may : goal.try_lock_list-requires-clause-may
+try_lock_list-requires-clause-may g c = ap (λ m. may_lock_list c.args.id.0 m.0) c.loop.invariant.1
+    ∙ sharer_may c.args.id.0 c.args.seat.now.me.0 c.requires.share
+
+pub returns-in-Some-try_lock_list-clause-ours : goal.returns-in-Some-try_lock_list-clause-ours
+returns-in-Some-try_lock_list-clause-ours g c = c.try_lock_list.ensures.ours ∙ c.loop.invariant.0
+
+pub returns-in-Some-try_lock_list-clause-refused : goal.returns-in-Some-try_lock_list-clause-refused
+returns-in-Some-try_lock_list-clause-refused g c = λ e. absurd (cc)
+
+pub returns-in-Some-try_lock_list-clause-held : goal.returns-in-Some-try_lock_list-clause-held
+returns-in-Some-try_lock_list-clause-held g c = λ e. absurd (cc)
+
+pub returns-in-Some-try_lock_list-clause-lent : goal.returns-in-Some-try_lock_list-clause-lent
+returns-in-Some-try_lock_list-clause-lent g c =
+    let word = c.peek-word.result in let list = c.in-Some-try_lock_list.list in
+    let lent = subst (λ m. IsLentBy c.args.id.0 word list m c.try_lock_list.new.seat.me) c.loop.invariant.1 c.in-Some-try_lock_list.ensures.answer in
+    (lent, not_ended word list lent.gave lent.found c.if-word-eq1-2.false)
+
+pub loop-preserved : goal.loop-preserved
+loop-preserved g c = (c.try_lock_list.ensures.ours ∙ c.loop.invariant.0, c.in_default.ensures.answer ∙ c.loop.invariant.1)

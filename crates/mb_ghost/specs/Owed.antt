@@ -1,0 +1,14 @@
+-- What is due is owed by some seat.
+use Rattle.std.specs.Prelude.{◌≡◌, ℕ, List}
+use mathlib.Core.Option.{some}
+use lib.ListN.{get_elem?}
+
+-- a seat whose view says that it owes it
+pub record Debtor {V : Type 0} (Pays : V → Type 0) (vs : List V) : Type 0 where
+  pub seat : ℕ
+  pub view : V
+  pub there : get_elem? vs seat ≡ some view
+  pub pays : Pays view
+
+abbrev pub Owed : {V : Type 0} → Type 0 → (V → Type 0) → List V → Type 0
+Owed Due Pays vs = Due → Debtor Pays vs

@@ -1,0 +1,243 @@
+-- What the last step of a run needs, and what it leaves.
+use Rattle.std.proofs.Common.{◌≡◌, ◌≢◌, ◌⊎◌, inl, inr, ℕ, ◌+◌, ◌≤◌, ◌==◌, Bool, true, false, ◌||◌, List, [], ◌∷◌, ◌++◌}
+use Rattle.std.proofs.Common.{refl, sym, ap, ◌∙◌, subst, append_assoc, append-nil, length, arith}
+use Rattle.std.specs.Prelude.{MatchBool, if◌then◌else◌}
+use Rattle.std.specs.Global.{Box}
+use Rattle.mb_status.specs.Mailbox.{Mailbox, word_of, idle}
+use Rattle.mb_msg.specs.declared.envelope.Envelope.{Envelope}
+use Rattle.mb_actor.specs.Behaviour.{Moment, Reply}
+use Rattle.mb_core.specs.declared.debt.WakeObligation.{WakeObligation}
+use Rattle.mb_journal.specs.Entry.{Entry}
+use Rattle.mb_journal.specs.Identity.{Identity}
+use Rattle.mb_journal.specs.Life.{closed}
+use Rattle.mb_journal.specs.Run.{IsReason, IsTurns, Stopped, most_envelopes}
+use Rattle.mb_journal.specs.Run.Stopped.{UsedUp, NotOpen, NoEnvelope, AtClosing, NoRoom}
+use Rattle.mb_queue.specs.Passes.{TakePassView}
+use Rattle.mb_ghost.specs.Summed.{total}
+use Rattle.mb_journal.specs.Fates.{begun}
+use Rattle.mb_gate.specs.declared.claim.Claim.{Claim}
+use Rattle.mb_gate.specs.Accessors.{held_actor, claim_view, recorded_by, status_of, taken_with, gave_last}
+use Rattle.mb_gate.specs.SentSystem.{HasSentDueSince}
+use Rattle.mb_ghost.proofs.SeenLemmas.{each_append}
+use Rattle.mb_gate.specs.Rule.{Extends, IsAmong, IsPart}
+use Rattle.mb_gate.specs.Untouched.{Origin}
+use Rattle.mb_gate.specs.View.{View, Observation, Saw, obligation_to, obligation_of, added_obligations, either_obligation, idling, taking_in}
+use Rattle.mb_gate.specs.Waiting.{counted_off}
+use Rattle.mb_core.specs.Actor.{nothing}
+use Rattle.mb_gate.proofs.Numbers.{among_first, among_right}
+use Rattle.mb_home.specs.AtHome.{IsHomeOf, mailbox_at}
+use Rattle.mb_home.specs.Contents.{Contents}
+use Rattle.mb_home.specs.Steps.{HasNoBacklog}
+use Rattle.mb_register.specs.Views.{LooksAfter}
+use Rattle.mb_register.proofs.Bits.{same_or_other}
+use Rattle.mb_register.proofs.Views.{owes-other}
+use Rattle.mb_mailbox.specs.declared.turn.Turn.{Turn}
+use Rattle.mb_register.specs.Caller.{Caller, CallerAdvances, TakesNothing, IsDischargedOrOwed, LeavesCaller, OwesForRefusals, TakesOver}
+use Rattle.mb_mailbox.specs.OnlyDrained.{TakesOnlyDrained}
+use Rattle.mb_mailbox.specs.Emptied.{FindsNoMore, IsCleared}
+use Rattle.mb_mailbox.specs.RunState.{RunState, run_state}
+use Rattle.mb_mailbox.specs.Ran.{LastTakeFoundNone, LastTakeHadRoom, EndsDrained, EndsEmpty, HadRoom, CountsRun, LeavesRun, systems_in, taken_of}
+use Rattle.mb_mailbox.specs.Running.{IsRunning, BacklogAgrees, SameRun}
+use Rattle.mb_register.proofs.CallerLemmas.{account-then}
+use Rattle.mb_mailbox.proofs.CleanLemmas.{ended-closed}
+use Rattle.mb_mailbox.proofs.CountLemmas.{begun-since, begun-turns, counted-all, counts-over}
+use Rattle.mb_register.proofs.MoveLemmas.{looks-take-none}
+use Rattle.mb_mailbox.proofs.RestLemmas.{closed-front}
+use Rattle.mb_register.proofs.SendingLemmas.{looks-send-none, sends-append}
+use Rattle.mb_mailbox.proofs.RunningMoves.{status-at}
+use Rattle.mb_mailbox.proofs.SentDueLemmas.{told-all}
+
+-- ---- the claim may be given back
+
+module _ (gives : ℕ → Moment → Reply → Type 0) (origin : Origin (Box Contents)) (seen : List Observation) (c : Claim (Box Contents))
+    (r : IsRunning gives origin [] seen (run_state c)) where
+  pub home-own : c.home.value.cell.acts ≡ [] → IsHomeOf (gives (held_actor c)) origin.first.value (held_actor c) c.home.value
+  home-own none = record { directory = r.directory; number = r.number; carried_out = none; settled = r.settled; named = r.named }
+
+  pub home-longer : Extends c.home.value.cell.journal (taken_with c)
+  home-longer = record { newer = r.told.newer; joined = r.told.joined }
+
+  pub home-fold : word_of (mailbox_at c.home.value.cell.who c.home.value.cell.journal) ≡ word_of (idle (status_of c))
+  home-fold = ap word_of (sym (status-at (run_state c) r.leads))
+
+  pub home-told : HasSentDueSince c.home.value.cell.who (held_actor c) (status_of c).closed c.home.value.cell.journal (taken_with c) (recorded_by c)
+  home-told =
+      told-all c.home.value.cell.who (held_actor c) (taken_with c) (status_of c).closed c.home.value.cell.journal (recorded_by c) r.told
+
+  pub home-rest : BacklogAgrees (run_state c) → ((status_of c).closed ≡ true) ⊎ (gave_last c ≡ false) → HasNoBacklog c.home.value
+  home-rest s why = by_test (status_of c).closed refl why
+    where
+      rest : (b : Bool) → (status_of c).closed ≡ b → MatchBool b (c.home.value.rest ≡ []) (gave_last c ≡ false → HasNoBacklog c.home.value)
+      rest b is = subst (λ x. MatchBool x (c.home.value.rest ≡ []) (gave_last c ≡ false → HasNoBacklog c.home.value)) is s.rest
+
+      by_test : (b : Bool) → (status_of c).closed ≡ b → ((status_of c).closed ≡ true) ⊎ (gave_last c ≡ false) → HasNoBacklog c.home.value
+      by_test true shut w = record {
+        no_rest = rest true shut;
+        no_front =
+            closed-front c.home.value.cell.who c.home.value.cell.journal (ended-closed gives origin seen (run_state c) [] shut r);
+      }
+      by_test false open_yet (inl shut) = absurd (cc (open_yet, shut))
+      by_test false open_yet (inr nothing) = rest false open_yet nothing
+
+-- ---- what its pass knows and owes then
+
+or-false : (b : Bool) → (b || false) ≡ b
+or-false true = refl
+or-false false = refl
+
+either-none : (d : WakeObligation) → either_obligation d nothing ≡ d
+either-none d = λ i. record { system = or-false d.system i; message = or-false d.message i; sending = or-false d.sending i }
+
+added-none : (other : ℕ) (ds : List (ℕ × WakeObligation)) → obligation_of other (added_obligations ds []) ≡ obligation_of other ds
+added-none other [] = refl
+added-none other (d ∷ ds) = λ i. if d.0 == other then either-none d.1 i else added-none other ds i
+
+module _ (actor : ℕ) (journal : List Entry) (v w mid : View) (obligations : v.obligations ≡ []) (known : mid ≡ idling actor journal (taking_in v w)) where
+  log-released : mid.log ≡ Saw actor journal ∷ (w.log ++ v.log)
+  log-released = ap (λ (x : View). x.log) known
+
+  owes-released : (other : ℕ) → other ≢ actor → obligation_to other mid ≡ obligation_to other w
+  owes-released other apart =
+      ap (obligation_to other) known ∙ owes-other actor _ (taking_in v w) other apart
+      ∙ ap (λ ds. obligation_of other (added_obligations w.obligations ds)) obligations ∙ added-none other w.obligations
+
+  module _ (new : View) (looks : LooksAfter actor mid new) where
+    log-after : new.log ≡ (looks.looks ++ []) ++ Saw actor journal ∷ (w.log ++ v.log)
+    log-after = looks.log ∙ ap (λ l. (looks.looks ++ []) ++ l) log-released
+
+    pub saw-journal : IsAmong (Saw actor journal) new.log
+    saw-journal =
+        subst (IsAmong (Saw actor journal)) (sym log-after)
+        (among_right (Saw actor journal) (looks.looks ++ []) (Saw actor journal ∷ (w.log ++ v.log)) (among_first (Saw actor journal)
+        (w.log ++ v.log)))
+
+    -- the claim's own steps, besides what it knew before and did itself
+    pub steps-taken : {H : Type 0} (a b : Caller H) → b.view ≡ w → CallerAdvances a b → TakesOver a.view new v.log
+    steps-taken a b here g = record {
+      own = (looks.looks ++ []) ++ Saw actor journal ∷ g.more;
+      took_none = each_append TakesNothing (looks.looks ++ []) (Saw actor journal ∷ g.more)
+          (each_append TakesNothing looks.looks [] (looks-take-none actor looks.looks looks.only) tt) (tt, g.took_none);
+      sends_open = sends-append (looks.looks ++ []) (Saw actor journal ∷ g.more)
+          (sends-append looks.looks [] (looks-send-none actor looks.looks looks.only) tt) g.sends_open;
+      joined =
+          log-after ∙ ap (λ l. (looks.looks ++ []) ++ Saw actor journal ∷ (l ++ v.log)) (sym (ap (λ (x : View). x.log) here) ∙ g.log)
+          ∙ ap (λ l. (looks.looks ++ []) ++ Saw actor journal ∷ l) (append_assoc g.more a.view.log v.log)
+          ∙ sym (append_assoc (looks.looks ++ []) (Saw actor journal ∷ g.more) (a.view.log ++ v.log));
+    }
+
+    known-still : (more old : List Observation) → w.log ≡ more ++ old → IsPart old new.log
+    known-still more old is = record {
+      before = (looks.looks ++ []) ++ Saw actor journal ∷ more;
+      after = v.log;
+      joined =
+          log-after ∙ ap (λ l. (looks.looks ++ []) ++ Saw actor journal ∷ (l ++ v.log)) is
+          ∙ ap (λ l. (looks.looks ++ []) ++ Saw actor journal ∷ l) (append_assoc more old v.log)
+          ∙ sym (append_assoc (looks.looks ++ []) (Saw actor journal ∷ more) (old ++ v.log));
+    }
+
+-- the run went on, the claim was given back, and the actor was registered
+pub leaves-caller : {H : Type 0} (actor : ℕ) (journal : List Entry) (v mid : View) (a b new : Caller H) → v.obligations ≡ [] → v.share ≡ [] →
+    mid ≡ idling actor journal (taking_in v b.view) → LooksAfter actor mid new.view → CallerAdvances a b → OwesForRefusals b.account new.account →
+    IsDischargedOrOwed actor new → LeavesCaller a new
+leaves-caller actor journal v mid a b new obligations bare known looks g account discharged = record {
+  log = known-still actor journal v b.view mid obligations known new.view looks g.more a.view.log g.log;
+  account = account-then a.account b.account new.account g.account account;
+  obligations = λ other. by_actor other (same_or_other other actor);
+  share = looks.share ∙ ap (λ (x : View). x.share) known ∙ ap (λ s. b.view.share ++ s) bare ∙ append-nil b.view.share ∙ g.share;
+}
+  where
+    by_run : (other : ℕ) → obligation_to other new.view ≡ obligation_to other b.view → IsDischargedOrOwed other b ⊎ (obligation_to other b.view ≡ obligation_to other a.view) →
+        IsDischargedOrOwed other new ⊎ (obligation_to other new.view ≡ obligation_to other a.view)
+    by_run other kept (inl (inl none)) = inl (inl (kept ∙ none))
+    by_run other kept (inl (inr owed)) = inl (inr (account.still other owed))
+    by_run other kept (inr same) = inr (kept ∙ same)
+
+    by_actor : (other : ℕ) → (other ≡ actor) ⊎ (other ≢ actor) → IsDischargedOrOwed other new ⊎ (obligation_to other new.view ≡ obligation_to other a.view)
+    by_actor other (inl same) = inl (subst (λ n. IsDischargedOrOwed n new) (sym same) discharged)
+    by_actor other (inr apart) =
+        by_run other (looks.others other apart ∙ owes-released actor journal v b.view mid obligations known other apart) (g.obligations other)
+
+-- ---- what a run tells
+
+-- the run ends with an empty queue
+pub ends-empty : (who : Identity) (throughput n : ℕ) (stopped : Stopped) (from : TakePassView) (h : RunState) → HadRoom stopped →
+    LastTakeFoundNone from h.home.take stopped → IsReason who throughput n h.home.cell.journal stopped →
+    (closed who h.home.cell.journal ≡ true → FindsNoMore from h.home.take) → EndsEmpty stopped (closed who h.home.cell.journal) →
+    FindsNoMore from h.home.take
+ends-empty who throughput n UsedUp from h had asked reason cleared ends = cleared ends
+ends-empty who throughput n (NotOpen word) from h had asked reason cleared ends = cleared ends
+ends-empty who throughput n (NoEnvelope word) from h had asked reason cleared ends = asked
+ends-empty who throughput n AtClosing from h had asked reason cleared ends = cleared reason
+ends-empty who throughput n NoRoom from h had asked reason cleared ends = absurd ends
+
+-- an actor that ended in the run was cleaned up
+pub ends-cleared : (gives : ℕ → Moment → Reply → Type 0) (origin : Origin (Box Contents)) (seen : List Observation) (first last : RunState) →
+    first.status.closed ≡ false → IsRunning gives origin [] seen last → IsCleared first last →
+    closed last.home.cell.who last.home.cell.journal ≡ true → FindsNoMore first.home.take last.home.take
+ends-cleared gives origin seen first last open_yet r cleared ended =
+    by_case (cleared (ap (λ (m : Mailbox). m.closed) (status-at last r.leads) ∙ ended))
+  where
+    by_case : ((first.status.closed ≡ true) × (last.home.take ≡ first.home.take)) ⊎ FindsNoMore first.home.take last.home.take →
+        FindsNoMore first.home.take last.home.take
+    by_case (inl shut) = absurd (cc (open_yet, shut.0))
+    by_case (inr found) = found
+
+pub leaves-run : (throughput : ℕ) (first last : Claim (Box Contents)) (old pass : View) (turn : Turn) (stopped : Stopped) →
+    taken_with first ≡ first.home.value.cell.journal → SameRun (run_state first) (run_state last) → CountsRun (run_state last) turn →
+    turn.envelopes ≤ most_envelopes throughput →
+    IsReason last.home.value.cell.who throughput turn.envelopes last.home.value.cell.journal stopped →
+    EndsDrained (held_actor last) (claim_view last).log stopped → LastTakeHadRoom last.home.value.cell.who last.home.value.cell.journal stopped →
+    TakesOnlyDrained (held_actor last) (claim_view last).log → IsAmong (Saw (held_actor last) last.home.value.cell.journal) pass.log →
+    TakesOver old pass (claim_view last).log → (claim_view first).log ≡ [] →
+    first.home.value.take.taken ≡ begun first.home.value.cell.journal →
+    last.home.value.take.taken ≡ begun last.home.value.cell.journal ++ last.home.value.cleaned →
+    (closed last.home.value.cell.who last.home.value.cell.journal ≡ false → last.home.value.cleaned ≡ []) →
+    (EndsEmpty stopped (closed first.home.value.cell.who last.home.value.cell.journal) → FindsNoMore first.home.value.take last.home.value.take) →
+    LeavesRun throughput first old pass last.home.value.cell.journal turn stopped
+leaves-run throughput first last old pass turn stopped taken same t few reason ends room only_drained saw part fresh at_first at_last keeps empty =
+    let before : (run_state last).before ≡ first.home.value.cell.journal = same.before ∙ taken in
+    let journal = last.home.value.cell.journal in
+    let turns : IsTurns first.home.value.cell.who first.home.value.cell.journal turn.envelopes journal =
+    subst (λ (x : Identity × List Entry). IsTurns x.0 x.1 turn.envelopes journal) (λ i. (same.who i, before i)) t.turns in
+    let steps = (claim_view last).log in
+    let since = begun-since first.home.value.cell.who first.home.value.cell.journal journal turn.envelopes turns in
+    let counted : total (counted_off (held_actor first)) steps ≡ turn.envelopes + length last.home.value.cleaned =
+    ap (λ n. total (counted_off n) steps) (sym same.actor)
+    ∙ counted-all journal first.home.value.cell.journal last.home.value.take.taken last.home.value.cleaned first.home.value.take.taken
+    (total (counted_off (held_actor first)) (claim_view first).log) (total (counted_off (held_actor last)) steps) turn.envelopes same.counted
+    (ap (total (counted_off (held_actor first))) fresh) (ap (λ (l : List Envelope). length l) at_first) at_last
+    (begun-turns first.home.value.cell.who first.home.value.cell.journal journal turn.envelopes turns) in
+    record {
+      run = record {
+        envelopes = turn.envelopes;
+        turns = turns;
+        at_most = few;
+        reason = subst (λ (w : Identity). IsReason w throughput turn.envelopes journal stopped) same.who reason;
+      };
+      actor = t.actor ∙ same.actor;
+      envelopes = refl;
+      system = ap (λ j. turn.system + systems_in j) (sym before) ∙ t.system;
+      seen = subst (λ n. IsAmong (Saw n journal) pass.log) same.actor saw;
+      steps = (claim_view last).log;
+      taken_over = part;
+      only_drained = subst (λ n. TakesOnlyDrained n (claim_view last).log) same.actor only_drained;
+      last = subst (λ n. EndsDrained n (claim_view last).log stopped) same.actor ends;
+      room = subst (λ (w : Identity). LastTakeHadRoom w journal stopped) same.who room;
+      started = since.0;
+      started_is = since.1;
+      cleaned = last.home.value.cleaned;
+      none_cleaned = λ open_yet. keeps (ap (λ (w : Identity). closed w journal) same.who ∙ open_yet);
+      emptied = λ ends. record {
+        left = last.home.value.take;
+        gave =
+            at_last ∙ ap (λ l. l ++ last.home.value.cleaned) (since.1 ∙ ap (λ l. l ++ since.0) (sym at_first))
+            ∙ append_assoc first.home.value.take.taken since.0 last.home.value.cleaned;
+        empty = empty ends;
+      };
+      counted = counted;
+      counts =
+          counts-over (held_actor first) old pass steps (turn.envelopes + length last.home.value.cleaned) part
+          (subst (λ n. TakesOnlyDrained n steps) same.actor only_drained) counted
+          ∙ (let sum : total (taken_of (held_actor first)) old.log + (turn.envelopes + length last.home.value.cleaned)
+          ≡ total (taken_of (held_actor first)) old.log + turn.envelopes + length last.home.value.cleaned = omega arith in sum);
+    }

@@ -1,0 +1,222 @@
+use Rattle.std.proofs.Common.{◌∷◌, refl, ap, ◌∙◌, subst}
+use Rattle.std.specs.Global.{Box}
+use Rattle.mb_status.specs.Mailbox.{Mailbox, word_of}
+use Rattle.mb_supervision.specs.declared.act.Act.{Act as Handed}
+use Rattle.mb_supervision.specs.ActQueue.{act_of}
+use Rattle.mb_cell.specs.CellView.{CellView}
+use Rattle.mb_gate.specs.Accessors.{pass_view, status_of}
+use Rattle.mb_gate.specs.Untouched.{origin_of}
+use Rattle.mb_home.specs.Contents.{Contents}
+use Rattle.mb_mailbox.specs.RunState.{run_state}
+use Rattle.mb_mailbox.specs.Running.{IsRunning}
+use Rattle.mb_register.proofs.CallerLemmas.{further-none}
+use Rattle.mb_mailbox.proofs.EmptiedLemmas.{cleared-found, cleared-same, err-always, ok-so}
+use Rattle.mb_mailbox.proofs.RunningSteps.{running-suspend, suspend-closed}
+use Rattle.mb_mailbox.proofs.StatusLemmas.{keeps-written, backlog-written, running-suspended, running-resumed}
+use Rattle.mb_mailbox.proofs.acts.carry.Goals as goal
+
+-- ---- a tell, and a system message
+
+pub tell-requires-clause-ours : goal.tell-requires-clause-ours
+tell-requires-clause-ours g c = c.requires.ours
+
+pub tell-requires-clause-running : goal.tell-requires-clause-running
+tell-requires-clause-running g c =
+    subst (λ (a : Handed). IsRunning g.K.Behaviours.gives (origin_of c.args.gates.now) (act_of a ∷ c.args.claim.now.home.value.cell.acts)
+    (pass_view c.args.registrar.now.pass).log (run_state c.args.claim.now)) c.in-Tell.is c.requires.running
+
+pub tell-requires-clause-backlog : goal.tell-requires-clause-backlog
+tell-requires-clause-backlog g c = c.requires.backlog
+
+pub send_system-requires-clause-ours : goal.send_system-requires-clause-ours
+send_system-requires-clause-ours g c = c.requires.ours
+
+pub send_system-requires-clause-running : goal.send_system-requires-clause-running
+send_system-requires-clause-running g c =
+    subst (λ (a : Handed). IsRunning g.K.Behaviours.gives (origin_of c.args.gates.now) (act_of a ∷ c.args.claim.now.home.value.cell.acts)
+    (pass_view c.args.registrar.now.pass).log (run_state c.args.claim.now)) c.in-Sys.is c.requires.running
+
+pub send_system-requires-clause-backlog : goal.send_system-requires-clause-backlog
+send_system-requires-clause-backlog g c = c.requires.backlog
+
+pub returns-in-Tell-clause-ours : goal.returns-in-Tell-clause-ours
+returns-in-Tell-clause-ours g c = c.tell.ensures.ours
+
+pub returns-in-Tell-clause-running : goal.returns-in-Tell-clause-running
+returns-in-Tell-clause-running g c = c.tell.ensures.running
+
+pub returns-in-Tell-clause-backlog : goal.returns-in-Tell-clause-backlog
+returns-in-Tell-clause-backlog g c = c.tell.ensures.backlog
+
+pub returns-in-Tell-clause-same : goal.returns-in-Tell-clause-same
+returns-in-Tell-clause-same g c = c.tell.ensures.same
+
+pub returns-in-Tell-clause-ended : goal.returns-in-Tell-clause-ended
+returns-in-Tell-clause-ended g c = tt
+
+pub returns-in-Tell-clause-caller_advances : goal.returns-in-Tell-clause-caller_advances
+returns-in-Tell-clause-caller_advances g c = c.tell.ensures.caller_advances
+
+pub returns-in-Sys-clause-ours : goal.returns-in-Sys-clause-ours
+returns-in-Sys-clause-ours g c = c.send_system.ensures.ours
+
+pub returns-in-Sys-clause-running : goal.returns-in-Sys-clause-running
+returns-in-Sys-clause-running g c = c.send_system.ensures.running
+
+pub returns-in-Sys-clause-backlog : goal.returns-in-Sys-clause-backlog
+returns-in-Sys-clause-backlog g c = c.send_system.ensures.backlog
+
+pub returns-in-Sys-clause-same : goal.returns-in-Sys-clause-same
+returns-in-Sys-clause-same g c = c.send_system.ensures.same
+
+pub returns-in-Sys-clause-ended : goal.returns-in-Sys-clause-ended
+returns-in-Sys-clause-ended g c = tt
+
+pub returns-in-Sys-clause-caller_advances : goal.returns-in-Sys-clause-caller_advances
+returns-in-Sys-clause-caller_advances g c = c.send_system.ensures.caller_advances
+
+pub returns-in-Tell-clause-left : goal.returns-in-Tell-clause-left
+returns-in-Tell-clause-left g c = ap (λ (x : CellView). x.acts) c.tell.ensures.left
+
+pub returns-in-Sys-clause-left : goal.returns-in-Sys-clause-left
+returns-in-Sys-clause-left g c = ap (λ (b : Box Contents). b.value.cell.acts) c.send_system.ensures.left
+
+pub returns-in-Tell-clause-cleared : goal.returns-in-Tell-clause-cleared
+returns-in-Tell-clause-cleared g c = c.tell.ensures.cleared
+
+pub returns-in-Sys-clause-cleared : goal.returns-in-Sys-clause-cleared
+returns-in-Sys-clause-cleared g c = c.send_system.ensures.cleared
+
+-- ---- a suspension
+
+pub suspend-requires-clause-ours : goal.suspend-requires-clause-ours
+suspend-requires-clause-ours g c = c.requires.running.ours
+
+pub suspend-requires-clause-there : goal.suspend-requires-clause-there
+suspend-requires-clause-there g c = c.requires.running.there
+
+pub suspend-requires-clause-few : goal.suspend-requires-clause-few
+suspend-requires-clause-few g c =
+    let r = subst (λ (a : Handed). IsRunning g.K.Behaviours.gives (origin_of c.args.gates.now) (act_of a ∷ c.args.claim.now.home.value.cell.acts)
+    (pass_view c.args.registrar.now.pass).log (run_state c.args.claim.now)) c.in-SuspendSelf.is c.requires.running in
+    (running-suspend _ _ _ _ _ r).0
+
+pub returns-in-SuspendSelf-clause-ours : goal.returns-in-SuspendSelf-clause-ours
+returns-in-SuspendSelf-clause-ours g c = c.requires.ours
+
+pub returns-in-SuspendSelf-clause-running : goal.returns-in-SuspendSelf-clause-running
+returns-in-SuspendSelf-clause-running g c =
+    let old = c.args.claim.now in let new = c.suspend.new.claim in let did = c.suspend.ensures in
+    let r = subst (λ (a : Handed). IsRunning g.K.Behaviours.gives (origin_of c.args.gates.now) (act_of a ∷ old.home.value.cell.acts)
+    (pass_view c.args.registrar.now.pass).log (run_state old)) c.in-SuspendSelf.is c.requires.running in
+    running-suspended old new (status_of new) (word_of (status_of new)) did.ours did.home did.known did.taken refl g.K.Behaviours.gives
+    (origin_of c.args.gates.now) (pass_view c.args.registrar.now.pass).log did.status r
+
+pub returns-in-SuspendSelf-clause-backlog : goal.returns-in-SuspendSelf-clause-backlog
+returns-in-SuspendSelf-clause-backlog g c =
+    let old = c.args.claim.now in let new = c.suspend.new.claim in let did = c.suspend.ensures in
+    backlog-written old new (status_of new) (word_of (status_of new)) did.ours did.home did.known did.taken refl
+    (ap (λ (m : Mailbox). m.closed) did.status ∙ suspend-closed (status_of old)) c.requires.backlog
+
+pub returns-in-SuspendSelf-clause-left : goal.returns-in-SuspendSelf-clause-left
+returns-in-SuspendSelf-clause-left g c = ap (λ (b : Box Contents). b.value.cell.acts) c.suspend.ensures.home
+
+pub returns-in-SuspendSelf-clause-same : goal.returns-in-SuspendSelf-clause-same
+returns-in-SuspendSelf-clause-same g c =
+    let old = c.args.claim.now in let new = c.suspend.new.claim in let did = c.suspend.ensures in
+    keeps-written old new (status_of new) (word_of (status_of new)) did.ours did.home did.known did.taken refl
+
+pub returns-in-SuspendSelf-clause-cleared : goal.returns-in-SuspendSelf-clause-cleared
+returns-in-SuspendSelf-clause-cleared g c =
+    let old = c.args.claim.now in let did = c.suspend.ensures in
+    cleared-same (run_state old) (run_state c.suspend.new.claim) (ap (λ (m : Mailbox). m.closed) did.status ∙ suspend-closed (status_of old))
+    (ap (λ (b : Box Contents). b.value.take) did.home)
+
+pub returns-in-SuspendSelf-clause-ended : goal.returns-in-SuspendSelf-clause-ended
+returns-in-SuspendSelf-clause-ended g c = tt
+
+pub returns-in-SuspendSelf-clause-caller_advances : goal.returns-in-SuspendSelf-clause-caller_advances
+returns-in-SuspendSelf-clause-caller_advances g c = further-none _
+
+-- ---- the end of one
+
+pub resume-requires-clause-ours : goal.resume-requires-clause-ours
+resume-requires-clause-ours g c = c.requires.running.ours
+
+pub resume-requires-clause-there : goal.resume-requires-clause-there
+resume-requires-clause-there g c = c.requires.running.there
+
+pub returns-in-ResumeSelf-clause-ours : goal.returns-in-ResumeSelf-clause-ours
+returns-in-ResumeSelf-clause-ours g c = c.requires.ours
+
+pub returns-in-ResumeSelf-clause-running : goal.returns-in-ResumeSelf-clause-running
+returns-in-ResumeSelf-clause-running g c =
+    let old = c.args.claim.now in let new = c.resume.new.claim in let did = c.resume.ensures in
+    let r = subst (λ (a : Handed). IsRunning g.K.Behaviours.gives (origin_of c.args.gates.now) (act_of a ∷ old.home.value.cell.acts)
+    (pass_view c.args.registrar.now.pass).log (run_state old)) c.in-ResumeSelf.is c.requires.running in
+    running-resumed old new (status_of new) (word_of (status_of new)) did.ours did.home did.known did.taken refl g.K.Behaviours.gives
+    (origin_of c.args.gates.now) (pass_view c.args.registrar.now.pass).log did.status r
+
+pub returns-in-ResumeSelf-clause-backlog : goal.returns-in-ResumeSelf-clause-backlog
+returns-in-ResumeSelf-clause-backlog g c =
+    let old = c.args.claim.now in let new = c.resume.new.claim in let did = c.resume.ensures in
+    backlog-written old new (status_of new) (word_of (status_of new)) did.ours did.home did.known did.taken refl
+    (ap (λ (m : Mailbox). m.closed) did.status) c.requires.backlog
+
+pub returns-in-ResumeSelf-clause-left : goal.returns-in-ResumeSelf-clause-left
+returns-in-ResumeSelf-clause-left g c = ap (λ (b : Box Contents). b.value.cell.acts) c.resume.ensures.home
+
+pub returns-in-ResumeSelf-clause-same : goal.returns-in-ResumeSelf-clause-same
+returns-in-ResumeSelf-clause-same g c =
+    let old = c.args.claim.now in let new = c.resume.new.claim in let did = c.resume.ensures in
+    keeps-written old new (status_of new) (word_of (status_of new)) did.ours did.home did.known did.taken refl
+
+pub returns-in-ResumeSelf-clause-cleared : goal.returns-in-ResumeSelf-clause-cleared
+returns-in-ResumeSelf-clause-cleared g c =
+    let did = c.resume.ensures in
+    cleared-same (run_state c.args.claim.now) (run_state c.resume.new.claim) (ap (λ (m : Mailbox). m.closed) did.status)
+    (ap (λ (b : Box Contents). b.value.take) did.home)
+
+pub returns-in-ResumeSelf-clause-ended : goal.returns-in-ResumeSelf-clause-ended
+returns-in-ResumeSelf-clause-ended g c = tt
+
+pub returns-in-ResumeSelf-clause-caller_advances : goal.returns-in-ResumeSelf-clause-caller_advances
+returns-in-ResumeSelf-clause-caller_advances g c = further-none _
+
+-- ---- the end
+
+pub close-requires-clause-ours : goal.close-requires-clause-ours
+close-requires-clause-ours g c = c.requires.ours
+
+pub close-requires-clause-running : goal.close-requires-clause-running
+close-requires-clause-running g c =
+    subst (λ (a : Handed). IsRunning g.K.Behaviours.gives (origin_of c.args.gates.now) (act_of a ∷ c.args.claim.now.home.value.cell.acts)
+    (pass_view c.args.registrar.now.pass).log (run_state c.args.claim.now)) c.in-CloseSelf.is c.requires.running
+
+pub close-requires-clause-backlog : goal.close-requires-clause-backlog
+close-requires-clause-backlog g c = c.requires.backlog
+
+pub returns-in-CloseSelf-clause-ours : goal.returns-in-CloseSelf-clause-ours
+returns-in-CloseSelf-clause-ours g c = c.close.ensures.ours
+
+pub returns-in-CloseSelf-clause-running : goal.returns-in-CloseSelf-clause-running
+returns-in-CloseSelf-clause-running g c = c.close.ensures.running
+
+pub returns-in-CloseSelf-clause-backlog : goal.returns-in-CloseSelf-clause-backlog
+returns-in-CloseSelf-clause-backlog g c = c.close.ensures.backlog
+
+pub returns-in-CloseSelf-clause-left : goal.returns-in-CloseSelf-clause-left
+returns-in-CloseSelf-clause-left g c = c.close.ensures.left
+
+pub returns-in-CloseSelf-clause-same : goal.returns-in-CloseSelf-clause-same
+returns-in-CloseSelf-clause-same g c = c.close.ensures.same
+
+pub returns-in-CloseSelf-clause-caller_advances : goal.returns-in-CloseSelf-clause-caller_advances
+returns-in-CloseSelf-clause-caller_advances g c = c.close.ensures.caller_advances
+
+pub returns-in-CloseSelf-clause-cleared : goal.returns-in-CloseSelf-clause-cleared
+returns-in-CloseSelf-clause-cleared g c =
+    ok-so c.close.result (cleared-found (run_state c.args.claim.now) (run_state c.close.new.claim)) c.close.ensures.emptied
+
+pub returns-in-CloseSelf-clause-ended : goal.returns-in-CloseSelf-clause-ended
+returns-in-CloseSelf-clause-ended g c = err-always c.close.result c.close.ensures.ended

@@ -1,0 +1,135 @@
+use Rattle.std.proofs.Common.{◌≡◌, ◌∷◌, [], List, length, refl, sym, ap, ◌∙◌, subst, arith}
+use Rattle.std.specs.Prelude.{◌&&◌, is_ok}
+use Rattle.mb_supervision.specs.ActQueue.{act_of}
+use Rattle.mb_journal.specs.Acts.{Act}
+use Rattle.mb_gate.specs.Accessors.{pass_view}
+use Rattle.mb_gate.specs.Untouched.{origin_of}
+use Rattle.mb_home.specs.Contents.{Contents}
+use Rattle.mb_home.specs.AgreesWithJournal.{AgreesWithJournal}
+use Rattle.mb_mailbox.specs.RunState.{RunState, run_state}
+use Rattle.mb_mailbox.specs.Running.{IsRunning}
+use Rattle.mb_mailbox.proofs.AppliedLemmas.{ended-either, ended-keeps}
+use Rattle.mb_mailbox.proofs.BacklogLemmas.{keeps-same, keeps-then}
+use Rattle.mb_register.proofs.CallerLemmas.{further-none, further-then}
+use Rattle.mb_mailbox.proofs.EmptiedLemmas.{and-both, and-one, cleared-same, cleared-then, err-so, ok-so, ok-then}
+use Rattle.mb_mailbox.proofs.TellingLemmas.{running-own, running-next, backlog-next, keeps-next}
+use Rattle.mb_mailbox.proofs.acts.carry_out.Goals as goal
+
+pub loop-act-init : goal.loop-act-init
+loop-act-init g c = (
+  c.requires.ours,
+  c.requires.running,
+  c.requires.backlog,
+  keeps-same _,
+  further-none _,
+  λ clean. cleared-same (run_state c.args.claim.now) (run_state c.args.claim.now) refl refl,
+  λ not_clean. absurd (cc not_clean),
+)
+
+pub next_act-requires : goal.next_act-requires
+next_act-requires g c = record {
+  settled =
+      subst (λ (x : Contents). AgreesWithJournal (g.K.Behaviours.gives x.cell.who.this.0) x.cell.acts x) (sym c.deref_mut.ensures.value)
+      (running-own _ _ _ _ (run_state c.loop-act.claim) c.loop-act.invariant.1);
+}
+
+-- ---- an act is left
+
+pub carry-requires-clause-running : goal.carry-requires-clause-running
+carry-requires-clause-running g c =
+    let new : Contents = c.next_act.new.self in
+    let same = subst (λ (x : Contents). new ≡ record x { cell = record x.cell { acts = new.cell.acts } }) c.deref_mut.ensures.value
+    c.next_act.ensures.same in
+    let taken = sym (ap (λ (x : Contents). x.cell.acts) c.deref_mut.ensures.value) ∙ c.in-Some.ensures.taken in
+    running-next (run_state c.loop-act.claim) new same g.K.Behaviours.gives (origin_of c.args.gates.now) (pass_view c.loop-act.registrar.pass).log
+    (act_of c.in-Some.act ∷ new.cell.acts) taken c.in-Some.ensures.settled c.loop-act.invariant.1
+
+pub carry-requires-clause-backlog : goal.carry-requires-clause-backlog
+carry-requires-clause-backlog g c =
+    let new : Contents = c.next_act.new.self in
+    let same = subst (λ (x : Contents). new ≡ record x { cell = record x.cell { acts = new.cell.acts } }) c.deref_mut.ensures.value
+    c.next_act.ensures.same in
+    backlog-next (run_state c.loop-act.claim) new same c.loop-act.invariant.2
+
+pub loop-act-preserved : goal.loop-act-preserved
+loop-act-preserved g c =
+    let new : Contents = c.next_act.new.self in
+    let same = subst (λ (x : Contents). new ≡ record x { cell = record x.cell { acts = new.cell.acts } }) c.deref_mut.ensures.value
+    c.next_act.ensures.same in (
+      c.carry.ensures.ours,
+      c.carry.ensures.running,
+      c.carry.ensures.backlog,
+      keeps-then _ _ _ c.loop-act.invariant.3 (keeps-then _ _ _ (keeps-next (run_state c.loop-act.claim) new same) c.carry.ensures.same),
+      further-then _ _ _ c.loop-act.invariant.4 c.carry.ensures.caller_advances,
+      λ clean. let both = and-both c.loop-act.is_clean c.is_ok-is_clean.result clean in
+          let before = run_state c.loop-act.claim in
+          let next : RunState = record before { home = new } in
+          let carried = ok-then c.carry.result (sym c.is_ok-is_clean.ensures.value ∙ both.1) c.carry.ensures.cleared in
+          cleared-then (run_state c.args.claim.now) before (run_state c.carry.new.claim) c.loop-act.invariant.3.same.takes (c.loop-act.invariant.5 both.0)
+          (cleared-then before next (run_state c.carry.new.claim) (keeps-next before new same).same.takes
+          (cleared-same before next refl (ap (λ (x : Contents). x.take) same)) carried),
+      λ not_clean. let before = run_state c.loop-act.claim in
+          let keeps = keeps-then before (record before { home = new }) (run_state c.carry.new.claim) (keeps-next before new same) c.carry.ensures.same in
+          ended-either before (run_state c.carry.new.claim) c.carry.result keeps c.loop-act.invariant.6 c.carry.ensures.ended
+          (and-one c.loop-act.is_clean (is_ok c.carry.result)
+          (ap (λ b. c.loop-act.is_clean && b) (sym c.is_ok-is_clean.ensures.value) ∙ not_clean)),
+    )
+
+pub loop-act-smaller : goal.loop-act-smaller
+loop-act-smaller g c =
+    let left = ap (λ (l : List Act). length l) c.carry.ensures.left in
+    let taken = sym (ap (λ (x : Contents). x.cell.acts) c.deref_mut.ensures.value) ∙ c.in-Some.ensures.taken in
+    let before = ap (λ (l : List Act). length l) taken in
+    omega (arith, left, before)
+
+-- ---- none is left
+
+pub returns-clause-running : goal.returns-clause-running
+returns-clause-running g c =
+    let new : Contents = c.next_act.new.self in
+    let same = subst (λ (x : Contents). new ≡ record x { cell = record x.cell { acts = new.cell.acts } }) c.deref_mut.ensures.value
+    c.next_act.ensures.same in
+    let taken = sym (ap (λ (x : Contents). x.cell.acts) c.deref_mut.ensures.value) ∙ c.in_default.ensures.taken in
+    let none : new.cell.acts ≡ [] = sym c.in_default.ensures.taken ∙ c.in_default.ensures.none in
+    subst (λ l. IsRunning g.K.Behaviours.gives (origin_of c.args.gates.now) l (pass_view c.loop-act.registrar.pass).log
+    (record (run_state c.loop-act.claim) { home = new })) none
+    (running-next (run_state c.loop-act.claim) new same g.K.Behaviours.gives (origin_of c.args.gates.now) (pass_view c.loop-act.registrar.pass).log
+    new.cell.acts taken c.in_default.ensures.settled c.loop-act.invariant.1)
+
+pub returns-clause-backlog : goal.returns-clause-backlog
+returns-clause-backlog g c =
+    let new : Contents = c.next_act.new.self in
+    let same = subst (λ (x : Contents). new ≡ record x { cell = record x.cell { acts = new.cell.acts } }) c.deref_mut.ensures.value
+    c.next_act.ensures.same in
+    backlog-next (run_state c.loop-act.claim) new same c.loop-act.invariant.2
+
+pub returns-clause-carried_out : goal.returns-clause-carried_out
+returns-clause-carried_out g c = sym c.in_default.ensures.taken ∙ c.in_default.ensures.none
+
+pub returns-clause-same : goal.returns-clause-same
+returns-clause-same g c =
+    let new : Contents = c.next_act.new.self in
+    let same = subst (λ (x : Contents). new ≡ record x { cell = record x.cell { acts = new.cell.acts } }) c.deref_mut.ensures.value
+    c.next_act.ensures.same in
+    keeps-then _ _ _ c.loop-act.invariant.3 (keeps-next (run_state c.loop-act.claim) new same)
+
+pub returns-clause-cleared : goal.returns-clause-cleared
+returns-clause-cleared g c =
+    let new : Contents = c.next_act.new.self in
+    let same = subst (λ (x : Contents). new ≡ record x { cell = record x.cell { acts = new.cell.acts } }) c.deref_mut.ensures.value
+    c.next_act.ensures.same in
+    let before = run_state c.loop-act.claim in
+    ok-so c.answer_of.result
+    (λ clean. cleared-then (run_state c.args.claim.now) before (record before { home = new }) c.loop-act.invariant.3.same.takes
+    (c.loop-act.invariant.5 clean)
+    (cleared-same before (record before { home = new }) refl (ap (λ (x : Contents). x.take) same))) c.answer_of.ensures.clean
+
+pub returns-clause-ended : goal.returns-clause-ended
+returns-clause-ended g c =
+    let new : Contents = c.next_act.new.self in
+    let same = subst (λ (x : Contents). new ≡ record x { cell = record x.cell { acts = new.cell.acts } }) c.deref_mut.ensures.value
+    c.next_act.ensures.same in
+    let before = run_state c.loop-act.claim in
+    err-so c.answer_of.result
+    (λ not_clean. ended-keeps before (record before { home = new }) (keeps-next before new same) (c.loop-act.invariant.6 not_clean))
+    c.answer_of.ensures.not_clean

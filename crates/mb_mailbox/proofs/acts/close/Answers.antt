@@ -1,0 +1,62 @@
+use Rattle.std.proofs.Common.{refl, ap, ◌∙◌, subst}
+use Rattle.std.specs.Prelude.{OnOk}
+use Rattle.std.specs.Global.{Box}
+use Rattle.mb_status.specs.Mailbox.{Mailbox, word_of}
+use Rattle.mb_journal.specs.Life.{closed}
+use Rattle.mb_gate.specs.Accessors.{pass_view, status_of}
+use Rattle.mb_gate.specs.Untouched.{origin_of}
+use Rattle.mb_cell.specs.CellView.{CellView}
+use Rattle.mb_queue.specs.Passes.{TakePassView}
+use Rattle.mb_home.specs.Contents.{Contents}
+use Rattle.mb_mailbox.specs.Emptied.{FindsNoMore}
+use Rattle.mb_mailbox.specs.RunState.{run_state}
+use Rattle.mb_mailbox.proofs.BacklogLemmas.{keeps-then}
+use Rattle.mb_mailbox.proofs.CleanLemmas.{ended-closed}
+use Rattle.mb_mailbox.proofs.StatusLemmas.{keeps-written, count-written, running-closed}
+use Rattle.mb_mailbox.proofs.acts.close.Goals as goal
+
+pub close_mailbox-requires-clause-ours : goal.close_mailbox-requires-clause-ours
+close_mailbox-requires-clause-ours g c = c.requires.running.ours
+
+pub close_mailbox-requires-clause-there : goal.close_mailbox-requires-clause-there
+close_mailbox-requires-clause-there g c = c.requires.running.there
+
+pub clean_up-requires-clause-closed : goal.clean_up-requires-clause-closed
+clean_up-requires-clause-closed g c = ap (λ (m : Mailbox). m.closed) c.close_mailbox.ensures.status
+
+pub clean_up-requires-clause-running : goal.clean_up-requires-clause-running
+clean_up-requires-clause-running g c =
+    let old = c.args.claim.now in let new = c.close_mailbox.new.claim in let did = c.close_mailbox.ensures in
+    running-closed old new (status_of new) (word_of (status_of new)) did.ours did.home did.known did.taken refl g.K.Behaviours.gives
+    (origin_of c.args.gates.now) (pass_view c.args.registrar.now.pass).log did.status c.requires.running
+
+pub clean_up-requires-clause-count : goal.clean_up-requires-clause-count
+clean_up-requires-clause-count g c =
+    let old = c.args.claim.now in let new = c.close_mailbox.new.claim in let did = c.close_mailbox.ensures in
+    count-written old new (status_of new) (word_of (status_of new)) did.ours did.home did.known did.taken refl c.requires.backlog.count
+
+pub returns-clause-left : goal.returns-clause-left
+returns-clause-left g c =
+    ap (λ (x : CellView). x.acts) c.clean_up.ensures.left ∙ ap (λ (b : Box Contents). b.value.cell.acts) c.close_mailbox.ensures.home
+
+pub returns-clause-same : goal.returns-clause-same
+returns-clause-same g c =
+    let old = c.args.claim.now in let new = c.close_mailbox.new.claim in let did = c.close_mailbox.ensures in
+    keeps-then _ _ _ (keeps-written old new (status_of new) (word_of (status_of new)) did.ours did.home did.known did.taken refl)
+    c.clean_up.ensures.same
+
+pub returns-clause-ended : goal.returns-clause-ended
+returns-clause-ended g c =
+    let old = c.args.claim.now in let new = c.close_mailbox.new.claim in let did = c.close_mailbox.ensures in
+    let gives = g.K.Behaviours.gives in
+    let origin = origin_of c.args.gates.now in
+    let seen = (pass_view c.args.registrar.now.pass).log in
+    ap (λ (x : CellView). closed x.who x.journal) c.clean_up.ensures.left
+    ∙ ended-closed gives origin seen (run_state new) new.home.value.cell.acts (ap (λ (m : Mailbox). m.closed) did.status)
+    (running-closed old new (status_of new) (word_of (status_of new)) did.ours did.home did.known did.taken refl gives origin seen did.status
+    c.requires.running)
+
+pub returns-clause-emptied : goal.returns-clause-emptied
+returns-clause-emptied g c =
+    subst (λ (k : TakePassView). OnOk c.clean_up.result (FindsNoMore k c.clean_up.new.claim.home.value.take))
+    (ap (λ (b : Box Contents). b.value.take) c.close_mailbox.ensures.home) c.clean_up.ensures.emptied

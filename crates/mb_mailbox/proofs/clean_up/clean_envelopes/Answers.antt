@@ -1,0 +1,170 @@
+use Rattle.std.proofs.Common.{◌≡◌, inr, true, refl, sym, ap, ◌∙◌, subst}
+use Rattle.std.specs.Global.{Box}
+use Rattle.std.specs.Prelude.{MatchBool}
+use Rattle.mb_journal.specs.Life.{closed}
+use Rattle.mb_status.specs.Mailbox.{Mailbox}
+use Rattle.mb_gate.specs.Accessors.{claim_id, held_actor}
+use Rattle.mb_gate.specs.Untouched.{origin_of}
+use Rattle.mb_home.specs.AtHome.{given_of}
+use Rattle.mb_home.specs.Contents.{Contents}
+use Rattle.mb_home.specs.AgreesWithJournal.{AgreesWithJournal}
+use Rattle.mb_home.specs.Steps.{Cleans, FindsNone}
+use Rattle.mb_mailbox.specs.RunState.{run_state}
+use Rattle.mb_mailbox.specs.Running.{IsRunning}
+use Rattle.mb_mailbox.proofs.BacklogLemmas.{keeps-same, keeps-then}
+use Rattle.mb_cell.specs.CellView.{CellView}
+use Rattle.mb_mailbox.proofs.CountLemmas.{one-more}
+use Rattle.mb_mailbox.proofs.CleanLemmas.{running-within, ended-closed, running-counted, ended-taken, keeps-taken}
+use Rattle.mb_mailbox.proofs.EmptiedLemmas.{finds-one, finds-then, take-cleaned, take-none, takes-one}
+use Rattle.mb_mailbox.proofs.TellingLemmas.{running-own, keeps-home, keeps-asked}
+use Rattle.mb_mailbox.proofs.clean_up.clean_envelopes.Goals as goal
+
+pub loop-init : goal.loop-init
+loop-init g c = (
+  tt,
+  tt,
+  c.requires.closed,
+  c.requires.ended,
+  λ seen r. r,
+  c.requires.none,
+  refl,
+  refl,
+  refl,
+  keeps-same _,
+)
+
+pub clean_next-requires-clause-ended : goal.clean_next-requires-clause-ended
+clean_next-requires-clause-ended g c =
+    let r = c.loop.invariant.4 c.requires.running.0 c.requires.running.1 in
+    subst (λ (x : Contents). closed x.cell.who x.cell.journal ≡ true) (sym c.deref_mut.ensures.value)
+    (ended-closed _ _ _ (run_state c.loop.claim) _ c.loop.invariant.2 r)
+
+pub clean_next-requires-clause-settled : goal.clean_next-requires-clause-settled
+clean_next-requires-clause-settled g c =
+    subst (λ (x : Contents). AgreesWithJournal (g.K.Behaviours.gives x.cell.who.this.0) x.cell.acts x) (sym c.deref_mut.ensures.value)
+    (running-own _ _ _ _ (run_state c.loop.claim) (c.loop.invariant.4 c.requires.running.0 c.requires.running.1))
+
+pub note_taken-requires-clause-ours : goal.note_taken-requires-clause-ours
+note_taken-requires-clause-ours g c = (c.loop.invariant.4 c.requires.running.0 c.requires.running.1).ours
+
+pub note_taken-requires-clause-there : goal.note_taken-requires-clause-there
+note_taken-requires-clause-there g c = (c.loop.invariant.4 c.requires.running.0 c.requires.running.1).there
+
+-- ---- a place was refused
+
+pub returns-in_err-clean_next-clause-running : goal.returns-in_err-clean_next-clause-running
+returns-in_err-clean_next-clause-running g c =
+    λ seen r. subst (λ (x : Contents). IsRunning g.K.Behaviours.gives (origin_of c.args.gates.now) x.cell.acts seen
+    (record (run_state c.loop.claim) { home = x })) (sym (c.in_err-clean_next.ensures.refused ∙ c.deref_mut.ensures.value)) (c.loop.invariant.4 seen r)
+
+pub returns-in_err-clean_next-clause-none : goal.returns-in_err-clean_next-clause-none
+returns-in_err-clean_next-clause-none g c =
+    ap (λ (x : Contents). x.rest) (c.in_err-clean_next.ensures.refused ∙ c.deref_mut.ensures.value) ∙ c.loop.invariant.5
+
+pub returns-in_err-clean_next-clause-given : goal.returns-in_err-clean_next-clause-given
+returns-in_err-clean_next-clause-given g c =
+    (ap given_of (c.in_err-clean_next.ensures.refused ∙ c.deref_mut.ensures.value) ∙ c.loop.invariant.6, c.loop.invariant.7)
+
+pub returns-in_err-clean_next-clause-left : goal.returns-in_err-clean_next-clause-left
+returns-in_err-clean_next-clause-left g c =
+    ap (λ (x : Contents). x.cell) (c.in_err-clean_next.ensures.refused ∙ c.deref_mut.ensures.value) ∙ c.loop.invariant.8
+
+pub returns-in_err-clean_next-clause-same : goal.returns-in_err-clean_next-clause-same
+returns-in_err-clean_next-clause-same g c =
+    keeps-then _ _ _ c.loop.invariant.9
+    (keeps-home (run_state c.loop.claim) c.clean_next.new.self
+    (ap (λ (x : Contents). x.cell) (c.in_err-clean_next.ensures.refused ∙ c.deref_mut.ensures.value))
+    (ap (λ (x : Contents). x.take) (c.in_err-clean_next.ensures.refused ∙ c.deref_mut.ensures.value)))
+
+pub returns-in_err-clean_next-clause-closed : goal.returns-in_err-clean_next-clause-closed
+returns-in_err-clean_next-clause-closed g c = c.loop.invariant.2
+
+-- ---- none was there
+
+pub returns-then-not-branch-clause-closed : goal.returns-then-not-branch-clause-closed
+returns-then-not-branch-clause-closed g c = c.loop.invariant.2
+
+pub returns-then-not-branch-clause-none : goal.returns-then-not-branch-clause-none
+returns-then-not-branch-clause-none g c =
+    let at_home = subst (λ (x : Contents). MatchBool c.in_ok-clean_next.field-0 (Cleans x c.clean_next.new.self) (FindsNone x
+    c.clean_next.new.self)) c.deref_mut.ensures.value c.in_ok-clean_next.ensures.cleaned in
+    let found = subst (λ b. MatchBool b (Cleans c.loop.claim.home.value c.clean_next.new.self) (FindsNone c.loop.claim.home.value
+    c.clean_next.new.self)) c.if-not-branch.true at_home in
+    ap (λ (x : Contents). x.rest) found.same ∙ c.loop.invariant.5
+
+pub returns-then-not-branch-clause-given : goal.returns-then-not-branch-clause-given
+returns-then-not-branch-clause-given g c =
+    let at_home = subst (λ (x : Contents). MatchBool c.in_ok-clean_next.field-0 (Cleans x c.clean_next.new.self) (FindsNone x
+    c.clean_next.new.self)) c.deref_mut.ensures.value c.in_ok-clean_next.ensures.cleaned in
+    let found = subst (λ b. MatchBool b (Cleans c.loop.claim.home.value c.clean_next.new.self) (FindsNone c.loop.claim.home.value
+    c.clean_next.new.self)) c.if-not-branch.true at_home in
+    (ap given_of found.same ∙ c.loop.invariant.6, c.loop.invariant.7)
+
+pub returns-then-not-branch-clause-left : goal.returns-then-not-branch-clause-left
+returns-then-not-branch-clause-left g c =
+    let at_home = subst (λ (x : Contents). MatchBool c.in_ok-clean_next.field-0 (Cleans x c.clean_next.new.self) (FindsNone x
+    c.clean_next.new.self)) c.deref_mut.ensures.value c.in_ok-clean_next.ensures.cleaned in
+    let found = subst (λ b. MatchBool b (Cleans c.loop.claim.home.value c.clean_next.new.self) (FindsNone c.loop.claim.home.value
+    c.clean_next.new.self)) c.if-not-branch.true at_home in
+    ap (λ (x : Contents). x.cell) found.same ∙ c.loop.invariant.8
+
+pub returns-then-not-branch-clause-running : goal.returns-then-not-branch-clause-running
+returns-then-not-branch-clause-running g c =
+    let at_home = subst (λ (x : Contents). MatchBool c.in_ok-clean_next.field-0 (Cleans x c.clean_next.new.self) (FindsNone x
+    c.clean_next.new.self)) c.deref_mut.ensures.value c.in_ok-clean_next.ensures.cleaned in
+    let found = subst (λ b. MatchBool b (Cleans c.loop.claim.home.value c.clean_next.new.self) (FindsNone c.loop.claim.home.value
+    c.clean_next.new.self)) c.if-not-branch.true at_home in
+    λ seen r. running-within g.K.Behaviours.gives (origin_of c.args.gates.now) seen (run_state c.loop.claim) (c.loop.invariant.4 seen r)
+    c.clean_next.new.self (ap (λ (x : Contents). x.cell) found.same) (ap (λ (x : Contents). x.directory) found.same)
+    (ap (λ (x : Contents). x.dead) found.same) c.clean_next.ensures.settled (ap (λ (x : Contents). x.rest) found.same)
+
+pub returns-then-not-branch-clause-same : goal.returns-then-not-branch-clause-same
+returns-then-not-branch-clause-same g c =
+    let at_home = subst (λ (x : Contents). MatchBool c.in_ok-clean_next.field-0 (Cleans x c.clean_next.new.self) (FindsNone x
+    c.clean_next.new.self)) c.deref_mut.ensures.value c.in_ok-clean_next.ensures.cleaned in
+    let found = subst (λ b. MatchBool b (Cleans c.loop.claim.home.value c.clean_next.new.self) (FindsNone c.loop.claim.home.value
+    c.clean_next.new.self)) c.if-not-branch.true at_home in
+    keeps-then _ _ _ c.loop.invariant.9
+    (keeps-asked (run_state c.loop.claim) c.clean_next.new.self (ap (λ (x : Contents). x.cell) found.same) found.took
+    (takes-one _ _ _ (take-none _ _ found)))
+
+pub returns-then-not-branch-clause-emptied : goal.returns-then-not-branch-clause-emptied
+returns-then-not-branch-clause-emptied g c =
+    let at_home = subst (λ (x : Contents). MatchBool c.in_ok-clean_next.field-0 (Cleans x c.clean_next.new.self) (FindsNone x
+    c.clean_next.new.self)) c.deref_mut.ensures.value c.in_ok-clean_next.ensures.cleaned in
+    let found = subst (λ b. MatchBool b (Cleans c.loop.claim.home.value c.clean_next.new.self) (FindsNone c.loop.claim.home.value
+    c.clean_next.new.self)) c.if-not-branch.true at_home in
+    finds-then _ _ _ c.loop.invariant.9.same.takes (finds-one _ _ (take-none _ _ found))
+
+-- ---- one was cleaned up
+
+pub loop-preserved : goal.loop-preserved
+loop-preserved g c =
+    let l = c.loop.claim in
+    let inv = c.loop.invariant in
+    let mid : Contents = c.clean_next.new.self in
+    let new = c.note_taken.new.claim in
+    let did = c.note_taken.ensures in
+    let at_home = subst (λ (x : Contents). MatchBool c.in_ok-clean_next.field-0 (Cleans x mid) (FindsNone x mid)) c.deref_mut.ensures.value
+    c.in_ok-clean_next.ensures.cleaned in
+    let found = subst (λ b. MatchBool b (Cleans l.home.value mid) (FindsNone l.home.value mid)) c.if-not-branch.false at_home in
+    let cell = ap (λ (x : Contents). x.cell) found.same in
+    let ours : (claim_id new ≡ claim_id l) × (held_actor new ≡ held_actor l) = (did.ours, did.actor) in (
+      tt,
+      tt,
+      ap (λ (m : Mailbox). m.closed) did.same.0 ∙ inv.2,
+      ended-taken _ new ours did.same.1 did.same.0 did.known did.taken inv.3,
+      λ seen r. running-counted _ new ours did.same.1 did.same.0 did.known did.taken g.K.Behaviours.gives (origin_of c.args.gates.now) seen
+          (inr inv.3)
+          (running-within g.K.Behaviours.gives (origin_of c.args.gates.now) seen (run_state l) (inv.4 seen r) mid cell
+          (ap (λ (x : Contents). x.directory) found.same) (ap (λ (x : Contents). x.dead) found.same) c.clean_next.ensures.settled
+          (ap (λ (x : Contents). x.rest) found.same)),
+      ap (λ (b : Box Contents). b.value.rest) did.same.1 ∙ ap (λ (x : Contents). x.rest) found.same ∙ inv.5,
+      ap (λ (b : Box Contents). given_of b.value) did.same.1 ∙ ap given_of found.same ∙ inv.6,
+      did.taken.given ∙ inv.7,
+      ap (λ (b : Box Contents). b.value.cell) did.same.1 ∙ cell ∙ inv.8,
+      keeps-then _ _ _ inv.9
+          (keeps-taken _ new ours did.same.1 did.same.0 did.known did.taken l.home.value (ap (λ (x : CellView). x.who) cell)
+          (one-more mid.take.taken l.home.value.take.taken found.envelope found.took)
+          (takes-one _ _ _ (take-cleaned _ _ found)) (ap (λ (x : CellView). x.journal) cell)),
+    )

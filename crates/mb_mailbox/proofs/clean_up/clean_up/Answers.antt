@@ -1,0 +1,129 @@
+use Rattle.std.proofs.Common.{◌≡◌, ℕ, List, sym, ap, ◌∙◌, subst}
+use Rattle.std.specs.Global.{Box}
+use Rattle.mb_status.specs.Mailbox.{Mailbox}
+use Rattle.mb_gate.specs.Lists.{IsNumberedFrom}
+use Rattle.mb_gate.specs.Accessors.{held_actor, pass_view, given_to}
+use Rattle.mb_gate.specs.Untouched.{origin_of}
+use Rattle.mb_gate.specs.View.{Observation, given_after}
+use Rattle.mb_cell.specs.CellView.{CellView}
+use Rattle.mb_home.specs.AtHome.{given_of}
+use Rattle.mb_home.specs.Contents.{Contents}
+use Rattle.mb_home.specs.AgreesWithJournal.{AgreesWithJournal}
+use Rattle.mb_home.proofs.GivenLemmas.{given-kept}
+use Rattle.mb_mailbox.specs.OnlyDrained.{WasEnded}
+use Rattle.mb_mailbox.specs.RunState.{run_state}
+use Rattle.mb_mailbox.specs.Running.{IsRunning}
+use Rattle.mb_mailbox.proofs.BacklogLemmas.{backlog-closed, keeps-then}
+use Rattle.mb_register.proofs.CallerLemmas.{further-then}
+use Rattle.mb_mailbox.proofs.CleanLemmas.{keeps-ended, running-end, was-ended}
+use Rattle.mb_mailbox.proofs.EmptiedLemmas.{finds-then, ok-so, takes-same, takes-then}
+use Rattle.mb_mailbox.proofs.RunningSteps.{running-kept}
+use Rattle.mb_mailbox.proofs.TellingLemmas.{running-own, keeps-home, settled-here}
+use Rattle.mb_mailbox.proofs.clean_up.clean_up.Goals as goal
+
+pub sys_close-listed-requires-clause-ours : goal.sys_close-listed-requires-clause-ours
+sys_close-listed-requires-clause-ours g c = c.requires.running.ours
+
+pub sys_close-listed-requires-clause-there : goal.sys_close-listed-requires-clause-there
+sys_close-listed-requires-clause-there g c = c.requires.running.there
+
+pub drop_systems-requires-clause-closed : goal.drop_systems-requires-clause-closed
+drop_systems-requires-clause-closed g c = ap (λ (m : Mailbox). m.closed) c.sys_close-listed.ensures.same.0 ∙ c.requires.closed
+
+pub drop_systems-requires-clause-running : goal.drop_systems-requires-clause-running
+drop_systems-requires-clause-running g c =
+    let did = c.sys_close-listed.ensures in
+    running-end c.args.claim.now c.sys_close-listed.new.claim did.ours did.same did.taken did.recorded c.sys_close-listed.result did.given did.known
+    did.gave g.K.Behaviours.gives (origin_of c.args.gates.now) (pass_view c.args.registrar.now.pass).log c.requires.running
+
+-- what the home knows that the list gave before it was ended
+pub keep-requires-clause-goes_on : goal.keep-requires-clause-goes_on
+keep-requires-clause-goes_on g c =
+    let did = c.sys_close-listed.ensures in
+    let given : given_of c.drop_systems.new.claim.home.value ≡ given_to c.args.claim.now =
+    c.drop_systems.ensures.given.0 ∙ ap (λ (b : Box Contents). given_of b.value) did.same.1 ∙ c.requires.count in
+    let here : given_of c.deref_mut.result.now ≡ given_to c.args.claim.now = ap given_of c.deref_mut.ensures.value ∙ given in
+    subst (λ n. IsNumberedFrom n c.sys_close-listed.result) (sym here) did.numbers
+
+pub keep-requires-clause-settled : goal.keep-requires-clause-settled
+keep-requires-clause-settled g c =
+    subst (λ (x : Contents). AgreesWithJournal (g.K.Behaviours.gives x.cell.who.this.0) x.cell.acts x) (sym c.deref_mut.ensures.value)
+    (running-own _ _ _ _ (run_state c.drop_systems.new.claim) c.drop_systems.ensures.running)
+
+pub drop_systems-requires-2-clause-running : goal.drop_systems-requires-2-clause-running
+drop_systems-requires-2-clause-running g c =
+    let mid = c.drop_systems.new.claim in
+    let r = c.drop_systems.ensures.running in
+    let new : Contents = c.keep.new.self in
+    let kept = subst (λ (x : Contents). c.keep.new.self ≡ record x { rest = c.sys_close-listed.result }) c.deref_mut.ensures.value
+    c.keep.ensures.kept in
+    let cell = ap (λ (x : Contents). x.cell) kept in
+    subst (λ (x : CellView). IsRunning g.K.Behaviours.gives (origin_of c.args.gates.now) x.acts (pass_view c.drop_systems.new.registrar.pass).log
+    (record (run_state mid) { home = new })) (sym cell)
+    (running-kept g.K.Behaviours.gives (origin_of c.args.gates.now) (pass_view c.drop_systems.new.registrar.pass).log (run_state mid)
+    mid.home.value.cell.acts new c.sys_close-listed.result r kept
+    (settled-here g.K.Behaviours.gives (held_actor mid) mid.home.value new r.number cell c.keep.ensures.settled) c.sys_close-listed.ensures.named)
+
+pub clean_envelopes-requires-clause-ended : goal.clean_envelopes-requires-clause-ended
+clean_envelopes-requires-clause-ended g c =
+    let did = c.sys_close-listed.ensures in
+    let first = c.sys_close-listed.new.claim in
+    let w = was-ended c.args.claim.now first did.ours did.same did.taken did.recorded c.sys_close-listed.result did.given did.known did.gave in
+    let actor = c.drop_systems-2.ensures.same.same.actor ∙ c.drop_systems.ensures.same.same.actor in
+    let log = c.drop_systems-2.ensures.log ∙ c.drop_systems.ensures.log in
+    subst (λ (x : ℕ × List Observation). WasEnded x.0 x.1) (λ i. (sym actor i, sym log i)) w
+
+pub clean_envelopes-requires-clause-running : goal.clean_envelopes-requires-clause-running
+clean_envelopes-requires-clause-running g c = ((pass_view c.drop_systems-2.new.registrar.pass).log, c.drop_systems-2.ensures.running)
+
+pub returns-clause-running : goal.returns-clause-running
+returns-clause-running g c = c.clean_envelopes.ensures.running (pass_view c.drop_systems-2.new.registrar.pass).log c.drop_systems-2.ensures.running
+
+pub returns-clause-backlog : goal.returns-clause-backlog
+returns-clause-backlog g c =
+    let did = c.sys_close-listed.ensures in
+    let mid = c.drop_systems.new.claim in
+    let before : given_of mid.home.value ≡ given_to c.args.claim.now =
+    c.drop_systems.ensures.given.0 ∙ ap (λ (b : Box Contents). given_of b.value) did.same.1 ∙ c.requires.count in
+    let backlog = subst (λ (x : Contents). c.keep.new.self ≡ record x { rest = c.sys_close-listed.result }) c.deref_mut.ensures.value
+    c.keep.ensures.kept in
+    let kept : given_of c.keep.new.self ≡ given_after (given_to c.args.claim.now) c.sys_close-listed.result =
+    ap given_of backlog ∙ given-kept mid.home.value c.sys_close-listed.result c.drop_systems.ensures.none
+    ∙ ap (λ n. given_after n c.sys_close-listed.result) before in
+    let last : given_to c.clean_envelopes.new.claim ≡ given_after (given_to c.args.claim.now) c.sys_close-listed.result =
+    c.clean_envelopes.ensures.given.1 ∙ c.drop_systems-2.ensures.given.1 ∙ c.drop_systems.ensures.given.1 ∙ did.given in
+    backlog-closed (run_state c.clean_envelopes.new.claim) c.clean_envelopes.ensures.closed
+    (c.clean_envelopes.ensures.given.0 ∙ c.drop_systems-2.ensures.given.0 ∙ kept ∙ sym last) c.clean_envelopes.ensures.none
+
+pub returns-clause-left : goal.returns-clause-left
+returns-clause-left g c =
+    c.clean_envelopes.ensures.left ∙ c.drop_systems-2.ensures.left ∙ ap (λ (x : Contents). x.cell) c.keep.ensures.kept
+    ∙ ap (λ (x : Contents). x.cell) c.deref_mut.ensures.value ∙ c.drop_systems.ensures.left
+    ∙ ap (λ (b : Box Contents). b.value.cell) c.sys_close-listed.ensures.same.1
+
+pub returns-clause-same : goal.returns-clause-same
+returns-clause-same g c =
+    let did = c.sys_close-listed.ensures in
+    let first = c.sys_close-listed.new.claim in
+    let mid = c.drop_systems.new.claim in
+    let cell = ap (λ (x : Contents). x.cell) c.keep.ensures.kept ∙ ap (λ (x : Contents). x.cell) c.deref_mut.ensures.value in
+    let take = ap (λ (x : Contents). x.take) c.keep.ensures.kept ∙ ap (λ (x : Contents). x.take) c.deref_mut.ensures.value in
+    keeps-then _ _ _
+    (keeps-ended c.args.claim.now first did.ours did.same did.taken did.recorded c.sys_close-listed.result did.given did.known did.gave)
+    (keeps-then _ _ _ c.drop_systems.ensures.same
+    (keeps-then _ _ _ (keeps-home (run_state mid) c.keep.new.self cell take)
+    (keeps-then _ _ _ c.drop_systems-2.ensures.same c.clean_envelopes.ensures.same)))
+
+-- ---- the queue is empty
+
+pub returns-clause-emptied : goal.returns-clause-emptied
+returns-clause-emptied g c =
+    let kept : c.keep.new.self.take ≡ c.drop_systems.new.claim.home.value.take =
+    ap (λ (x : Contents). x.take) c.keep.ensures.kept ∙ ap (λ (x : Contents). x.take) c.deref_mut.ensures.value in
+    let before = takes-then _ _ _ (takes-same _ _ (ap (λ (b : Box Contents). b.value.take) c.sys_close-listed.ensures.same.1))
+    (takes-then _ _ _ c.drop_systems.ensures.same.same.takes
+    (takes-then _ _ _ (takes-same _ _ kept) c.drop_systems-2.ensures.same.same.takes)) in
+    ok-so c.clean_envelopes.result (finds-then _ _ _ before) c.clean_envelopes.ensures.emptied
+
+pub returns-clause-caller_advances : goal.returns-clause-caller_advances
+returns-clause-caller_advances g c = further-then _ _ _ c.drop_systems.ensures.caller_advances c.drop_systems-2.ensures.caller_advances

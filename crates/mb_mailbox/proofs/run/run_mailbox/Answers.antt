@@ -1,0 +1,221 @@
+use Rattle.std.proofs.Common.{◌≡◌, ◌<◌, ◌≤◌, length, refl, sym, ap, ◌∙◌, subst, arith}
+use Rattle.std.specs.Prelude.{OnOk, Result, Err}
+use Rattle.mb_journal.specs.declared.error.ReadyError.{ReadyError}
+use Rattle.mb_journal.specs.Identity.{Identity}
+use Rattle.mb_journal.specs.Life.{closed}
+use Rattle.mb_journal.specs.Run.{IsReason}
+use Rattle.mb_journal.specs.Run.Stopped.{NoRoom}
+use Rattle.mb_gate.specs.Accessors.{pass_view, claim_view, held_actor, actors_of}
+use Rattle.mb_gate.specs.Untouched.{origin_of}
+use Rattle.mb_register.specs.Views.{LooksAfter}
+use Rattle.mb_register.specs.Caller.{IsDischargedOrOwed, caller_of}
+use Rattle.mb_mailbox.specs.Emptied.{IsCleared}
+use Rattle.mb_mailbox.specs.RunState.{run_state}
+use Rattle.mb_mailbox.specs.Ran.{HasStopped, IsShortOfMemory}
+use Rattle.mb_mailbox.proofs.AppliedLemmas.{same-fault}
+use Rattle.mb_register.proofs.CallerLemmas.{account-registered}
+use Rattle.mb_mailbox.proofs.FinishLemmas.{home-own, home-longer, home-fold, home-told, home-rest, saw-journal, steps-taken, leaves-caller, leaves-run}
+use Rattle.mb_mailbox.proofs.FinishLemmas.{ends-cleared, ends-empty}
+use Rattle.mb_mailbox.proofs.FreshLemmas.{taken-fresh, log-fresh, taken-begun, running-fresh, backlog-fresh, run_counts-fresh}
+use Rattle.mb_mailbox.proofs.run.run_mailbox.Goals as goal
+
+-- ---- the claim as it was taken
+
+pub run_claim-outcome-requires-clause-in_run : goal.run_claim-outcome-requires-clause-in_run
+run_claim-outcome-requires-clause-in_run g c =
+    let gives = g.K.Behaviours.gives in let origin = origin_of c.args.gates.now in let fresh = c.requires.untouched in record {
+      ours = c.requires.ours;
+      running = running-fresh gives origin c.args.claim fresh (pass_view c.args.registrar.now.pass).log c.requires.many;
+      backlog = backlog-fresh gives origin c.args.claim fresh;
+      carried_out = fresh.ours.own.carried_out;
+      run_counts = run_counts-fresh gives origin c.args.claim fresh _ c.actor-actor.ensures refl refl;
+    }
+
+pub run_claim-outcome-requires-clause-none_taken : goal.run_claim-outcome-requires-clause-none_taken
+run_claim-outcome-requires-clause-none_taken g c = refl
+
+-- ---- it may be given back
+
+pub release-requires-clause-ours : goal.release-requires-clause-ours
+release-requires-clause-ours g c = (c.run_claim-outcome.ensures.in_run.running.ours, c.run_claim-outcome.ensures.in_run.ours.0)
+
+pub release-requires-clause-there : goal.release-requires-clause-there
+release-requires-clause-there g c = c.run_claim-outcome.ensures.in_run.running.there
+
+pub release-requires-clause-own : goal.release-requires-clause-own
+release-requires-clause-own g c =
+    home-own _ _ _ c.run_claim-outcome.new.claim c.run_claim-outcome.ensures.in_run.running c.run_claim-outcome.ensures.in_run.carried_out
+
+pub release-requires-clause-longer : goal.release-requires-clause-longer
+release-requires-clause-longer g c = home-longer _ _ _ c.run_claim-outcome.new.claim c.run_claim-outcome.ensures.in_run.running
+
+pub release-requires-clause-fold : goal.release-requires-clause-fold
+release-requires-clause-fold g c = home-fold _ _ _ c.run_claim-outcome.new.claim c.run_claim-outcome.ensures.in_run.running
+
+pub release-requires-clause-count : goal.release-requires-clause-count
+release-requires-clause-count g c = c.run_claim-outcome.ensures.in_run.backlog.count
+
+pub release-requires-clause-shut : goal.release-requires-clause-shut
+release-requires-clause-shut g c = c.run_claim-outcome.ensures.in_run.running.shut
+
+pub release-requires-clause-told : goal.release-requires-clause-told
+release-requires-clause-told g c = home-told _ _ _ c.run_claim-outcome.new.claim c.run_claim-outcome.ensures.in_run.running
+
+pub release-requires-clause-rest : goal.release-requires-clause-rest
+release-requires-clause-rest g c =
+    home-rest _ _ _ c.run_claim-outcome.new.claim c.run_claim-outcome.ensures.in_run.running c.run_claim-outcome.ensures.in_run.backlog
+
+pub register-requires-clause-ours : goal.register-requires-clause-ours
+register-requires-clause-ours g c = (
+  c.release.ensures.ours ∙ c.run_claim-outcome.ensures.in_run.ours.0,
+  c.run_claim-outcome.ensures.in_run.ours.1,
+)
+
+pub returns-in-Ok-clause-ours : goal.returns-in-Ok-clause-ours
+returns-in-Ok-clause-ours g c = (
+  c.register.ensures.ours.0 ∙ c.release.ensures.ours ∙ c.run_claim-outcome.ensures.in_run.ours.0,
+  c.register.ensures.ours.1 ∙ c.run_claim-outcome.ensures.in_run.ours.1,
+  c.requires.ours.2,
+)
+
+pub returns-in-Err-clause-ours : goal.returns-in-Err-clause-ours
+returns-in-Err-clause-ours g c = (
+  c.register.ensures.ours.0 ∙ c.release.ensures.ours ∙ c.run_claim-outcome.ensures.in_run.ours.0,
+  c.register.ensures.ours.1 ∙ c.run_claim-outcome.ensures.in_run.ours.1,
+  c.requires.ours.2,
+)
+
+pub register-requires-clause-there : goal.register-requires-clause-there
+register-requires-clause-there g c =
+    let below = subst (λ n. n < actors_of c.args.gates.now) (sym c.actor-actor.ensures) c.requires.untouched.ours.there in
+    (below, omega (arith, below, c.requires.ours.2))
+
+-- ---- what it leaves
+
+pub returns-in-Ok-clause-caller_advances : goal.returns-in-Ok-clause-caller_advances
+returns-in-Ok-clause-caller_advances g c =
+    let run = c.run_claim-outcome in
+    let last = run.new.claim in
+    let here : c.actor-actor.result.0 ≡ held_actor last = c.actor-actor.ensures ∙ sym run.ensures.advances.same.actor in
+    leaves-caller (held_actor last) last.home.value.cell.journal (claim_view last) (pass_view c.release.new.pass) _ _ _
+    run.ensures.in_run.running.owes_nothing run.ensures.in_run.running.bare c.release.ensures.known
+    (subst (λ n. LooksAfter n (pass_view c.release.new.pass) (pass_view c.register.new.self.pass)) here c.register.ensures.looks)
+    run.ensures.advances.caller_advances (account-registered c.actor-actor.result.0 _ _ c.register.result c.register.ensures.registered)
+    (subst (λ n. IsDischargedOrOwed n (caller_of g.W.RunQueue.pushed g.W.RunQueue.refused c.register.new.self)) here c.register.ensures.discharged)
+
+pub returns-in-Err-clause-caller_advances : goal.returns-in-Err-clause-caller_advances
+returns-in-Err-clause-caller_advances g c =
+    let run = c.run_claim-outcome in
+    let last = run.new.claim in
+    let here : c.actor-actor.result.0 ≡ held_actor last = c.actor-actor.ensures ∙ sym run.ensures.advances.same.actor in
+    leaves-caller (held_actor last) last.home.value.cell.journal (claim_view last) (pass_view c.release.new.pass) _ _ _
+    run.ensures.in_run.running.owes_nothing run.ensures.in_run.running.bare c.release.ensures.known
+    (subst (λ n. LooksAfter n (pass_view c.release.new.pass) (pass_view c.register.new.self.pass)) here c.register.ensures.looks)
+    run.ensures.advances.caller_advances (account-registered c.actor-actor.result.0 _ _ c.register.result c.register.ensures.registered)
+    (subst (λ n. IsDischargedOrOwed n (caller_of g.W.RunQueue.pushed g.W.RunQueue.refused c.register.new.self)) here c.register.ensures.discharged)
+
+pub returns-in-Ok-clause-discharged : goal.returns-in-Ok-clause-discharged
+returns-in-Ok-clause-discharged g c =
+    subst (λ n. IsDischargedOrOwed n (caller_of g.W.RunQueue.pushed g.W.RunQueue.refused c.register.new.self)) c.actor-actor.ensures c.register.ensures.discharged
+
+pub returns-in-Err-clause-discharged : goal.returns-in-Err-clause-discharged
+returns-in-Err-clause-discharged g c =
+    subst (λ n. IsDischargedOrOwed n (caller_of g.W.RunQueue.pushed g.W.RunQueue.refused c.register.new.self)) c.actor-actor.ensures c.register.ensures.discharged
+
+pub returns-in-Ok-clause-ran : goal.returns-in-Ok-clause-ran
+returns-in-Ok-clause-ran g c =
+    let run = c.run_claim-outcome in
+    let last = run.new.claim in
+    let turn = run.new.turn in
+    let journal = last.home.value.cell.journal in
+    let here : c.actor-actor.result.0 ≡ held_actor last = c.actor-actor.ensures ∙ sym run.ensures.advances.same.actor in
+    let looks =
+    subst (λ n. LooksAfter n (pass_view c.release.new.pass) (pass_view c.register.new.self.pass)) here c.register.ensures.looks in
+    let saw = saw-journal (held_actor last) journal (claim_view last) (pass_view run.new.registrar.pass) (pass_view c.release.new.pass)
+    run.ensures.in_run.running.owes_nothing c.release.ensures.known (pass_view c.register.new.self.pass) looks in
+    let part = steps-taken (held_actor last) journal (claim_view last) (pass_view run.new.registrar.pass) (pass_view c.release.new.pass)
+    run.ensures.in_run.running.owes_nothing c.release.ensures.known (pass_view c.register.new.self.pass) looks
+    (caller_of g.W.RunQueue.pushed g.W.RunQueue.refused c.args.registrar.now) (caller_of g.W.RunQueue.pushed g.W.RunQueue.refused run.new.registrar) refl run.ensures.advances.caller_advances in
+    let taken = taken-fresh g.K.Behaviours.gives (origin_of c.args.gates.now) c.args.claim c.requires.untouched in
+    let fresh = log-fresh g.K.Behaviours.gives (origin_of c.args.gates.now) c.args.claim c.requires.untouched in
+    let at_first = taken-begun g.K.Behaviours.gives (origin_of c.args.gates.now) c.args.claim c.requires.untouched in
+    let origin = origin_of c.args.gates.now in
+    let first = run_state c.args.claim in
+    let now = run_state last in
+    let ended = subst (λ (o : Result (Unit {0}) ReadyError). OnOk o (HasStopped first.home.take now c.args.throughput turn.envelopes)) c.in-Ok.is
+    run.ensures.ended in
+    let cleared = subst (λ (o : Result (Unit {0}) ReadyError). OnOk o (IsCleared first now)) c.in-Ok.is run.ensures.advances.cleared in
+    let who : now.home.cell.who ≡ first.home.cell.who = run.ensures.advances.same.who in
+    let empty = ends-empty first.home.cell.who c.args.throughput turn.envelopes ended.0 first.home.take now ended.1 ended.3
+    (subst (λ (w : Identity). IsReason w c.args.throughput turn.envelopes journal ended.0) who ended.4)
+    (λ shut. ends-cleared g.K.Behaviours.gives origin (pass_view run.new.registrar.pass).log first now c.requires.untouched.open_yet run.ensures.in_run.running
+    cleared (ap (λ (w : Identity). closed w journal) who ∙ shut)) in (
+      journal,
+      (
+        ended.0,
+        ended.1,
+        leaves-run c.args.throughput c.args.claim last (pass_view c.args.registrar.now.pass) (pass_view c.register.new.self.pass) turn ended.0
+            taken run.ensures.advances.same
+            run.ensures.in_run.run_counts run.ensures.few ended.4 ended.2 ended.5 run.ensures.in_run.running.only_drained saw part fresh at_first
+            run.ensures.in_run.running.settled.taken run.ensures.in_run.running.settled.open_keeps empty,
+      ),
+    )
+
+pub returns-in-Err-clause-ran : goal.returns-in-Err-clause-ran
+returns-in-Err-clause-ran g c =
+    let run = c.run_claim-outcome in
+    let last = run.new.claim in
+    let turn = run.new.turn in
+    let journal = last.home.value.cell.journal in
+    let here : c.actor-actor.result.0 ≡ held_actor last = c.actor-actor.ensures ∙ sym run.ensures.advances.same.actor in
+    let looks =
+    subst (λ n. LooksAfter n (pass_view c.release.new.pass) (pass_view c.register.new.self.pass)) here c.register.ensures.looks in
+    let saw = saw-journal (held_actor last) journal (claim_view last) (pass_view run.new.registrar.pass) (pass_view c.release.new.pass)
+    run.ensures.in_run.running.owes_nothing c.release.ensures.known (pass_view c.register.new.self.pass) looks in
+    let part = steps-taken (held_actor last) journal (claim_view last) (pass_view run.new.registrar.pass) (pass_view c.release.new.pass)
+    run.ensures.in_run.running.owes_nothing c.release.ensures.known (pass_view c.register.new.self.pass) looks
+    (caller_of g.W.RunQueue.pushed g.W.RunQueue.refused c.args.registrar.now) (caller_of g.W.RunQueue.pushed g.W.RunQueue.refused run.new.registrar) refl run.ensures.advances.caller_advances in
+    let taken = taken-fresh g.K.Behaviours.gives (origin_of c.args.gates.now) c.args.claim c.requires.untouched in
+    let fresh = log-fresh g.K.Behaviours.gives (origin_of c.args.gates.now) c.args.claim c.requires.untouched in
+    let at_first = taken-begun g.K.Behaviours.gives (origin_of c.args.gates.now) c.args.claim c.requires.untouched in (
+      journal,
+      (
+        turn,
+        leaves-run c.args.throughput c.args.claim last (pass_view c.args.registrar.now.pass) (pass_view c.register.new.self.pass) turn NoRoom
+            taken run.ensures.advances.same
+            run.ensures.in_run.run_counts run.ensures.few tt tt tt run.ensures.in_run.running.only_drained saw part fresh at_first
+            run.ensures.in_run.running.settled.taken run.ensures.in_run.running.settled.open_keeps (λ ends. absurd ends),
+        λ full. subst (λ (w : Identity). w.limit ≤ length journal) run.ensures.advances.same.who
+            (run.ensures.stops.full (c.in-Err.is ∙ ap (λ (f : ReadyError). Err f) (same-fault c.in-Err.fault full))),
+      ),
+    )
+
+pub returns-in-Err-clause-short : goal.returns-in-Err-clause-short
+returns-in-Err-clause-short g c = λ short.
+    let run = c.run_claim-outcome in
+    let last = run.new.claim in
+    let turn = run.new.turn in
+    let journal = last.home.value.cell.journal in
+    let here : c.actor-actor.result.0 ≡ held_actor last = c.actor-actor.ensures ∙ sym run.ensures.advances.same.actor in
+    let looks =
+    subst (λ n. LooksAfter n (pass_view c.release.new.pass) (pass_view c.register.new.self.pass)) here c.register.ensures.looks in
+    let saw = saw-journal (held_actor last) journal (claim_view last) (pass_view run.new.registrar.pass) (pass_view c.release.new.pass)
+    run.ensures.in_run.running.owes_nothing c.release.ensures.known (pass_view c.register.new.self.pass) looks in
+    let part = steps-taken (held_actor last) journal (claim_view last) (pass_view run.new.registrar.pass) (pass_view c.release.new.pass)
+    run.ensures.in_run.running.owes_nothing c.release.ensures.known (pass_view c.register.new.self.pass) looks
+    (caller_of g.W.RunQueue.pushed g.W.RunQueue.refused c.args.registrar.now) (caller_of g.W.RunQueue.pushed g.W.RunQueue.refused run.new.registrar) refl run.ensures.advances.caller_advances in
+    let taken = taken-fresh g.K.Behaviours.gives (origin_of c.args.gates.now) c.args.claim c.requires.untouched in
+    let fresh = log-fresh g.K.Behaviours.gives (origin_of c.args.gates.now) c.args.claim c.requires.untouched in
+    let at_first = taken-begun g.K.Behaviours.gives (origin_of c.args.gates.now) c.args.claim c.requires.untouched in (
+      journal,
+      turn,
+      leaves-run c.args.throughput c.args.claim last (pass_view c.args.registrar.now.pass) (pass_view c.register.new.self.pass) turn NoRoom
+          taken run.ensures.advances.same
+          run.ensures.in_run.run_counts run.ensures.few tt tt tt run.ensures.in_run.running.only_drained saw part fresh at_first
+          run.ensures.in_run.running.settled.taken run.ensures.in_run.running.settled.open_keeps (λ ends. absurd ends),
+      subst (λ (w : Identity). IsShortOfMemory w journal) run.ensures.advances.same.who
+          (run.ensures.stops.short (c.in-Err.is ∙ ap (λ (f : ReadyError). Err f) (same-fault c.in-Err.fault short))),
+    )
+
+pub returns-in-Ok-clause-short : goal.returns-in-Ok-clause-short
+returns-in-Ok-clause-short g c = λ short. absurd (cc short)

@@ -1,0 +1,53 @@
+use Rattle.std.proofs.Common.{arith, sym, refl, subst, ◌∙◌}
+use Rattle.std.specs.Prelude.{is_err}
+use Rattle.mb_gate.specs.NamedActors.{NamesBelow}
+use Rattle.mb_gate.specs.Accessors.{actors_of, pass_view}
+use Rattle.mb_register.proofs.Views.{does-then, does-enlisting}
+use Rattle.mb_register.proofs.CallerLemmas.{account-registered, further-said}
+use Rattle.mb_register.proofs.MoveLemmas.{moves-does, further-moves}
+use Rattle.mb_mailbox.proofs.SendSystemLemmas.{notified}
+use Rattle.mb_mailbox.proofs.sending_system.notify.Goals as goal
+
+pub sys_enqueue_in_run-requires-clause-ours : goal.sys_enqueue_in_run-requires-clause-ours
+sys_enqueue_in_run-requires-clause-ours g c = c.requires.ours.0
+
+pub register-requires-clause-ours : goal.register-requires-clause-ours
+register-requires-clause-ours g c = (c.sys_enqueue_in_run.ensures.ours ∙ c.requires.ours.0, c.requires.ours.1)
+
+pub register-requires-clause-there : goal.register-requires-clause-there
+register-requires-clause-there g c = (c.requires.there.0, omega (arith, c.requires.there.0, c.requires.ours.2))
+
+pub returns-clause-ours : goal.returns-clause-ours
+returns-clause-ours g c = (
+  c.register.ensures.ours.0 ∙ c.sys_enqueue_in_run.ensures.ours ∙ c.requires.ours.0,
+  c.register.ensures.ours.1 ∙ c.requires.ours.1,
+  c.requires.ours.2,
+)
+
+pub returns-in_default-clause-ours : goal.returns-in_default-clause-ours
+returns-in_default-clause-ours g c = (c.sys_enqueue_in_run.ensures.ours ∙ c.requires.ours.0, c.requires.ours.1, c.requires.ours.2)
+
+pub sys_enqueue_in_run-requires-clause-named : goal.sys_enqueue_in_run-requires-clause-named
+sys_enqueue_in_run-requires-clause-named g c = subst (NamesBelow (actors_of c.args.gates.now)) (sym c.set.ensures) c.requires.there.1
+
+pub returns-clause-told : goal.returns-clause-told
+returns-clause-told g c =
+    notified c.args.whom.0 c.args.ended.0 c.set.new.self (is_err c.sys_enqueue_in_run.result) c.args.claim.now c.sys_enqueue_in_run.new.claim
+    c.set.ensures c.sys_enqueue_in_run.ensures.recorded
+
+pub returns-clause-caller_advances : goal.returns-clause-caller_advances
+returns-clause-caller_advances g c =
+    let id = c.args.whom.0 in
+    let a = pass_view c.args.registrar.now.pass in let b = pass_view c.sys_enqueue_in_run.new.pass in let d = pass_view c.register.new.self.pass in
+    further-moves id _ _
+    (moves-does id _ _ a d (tt, tt) tt
+    (does-then id _ _ a b d (does-enlisting id c.in-Ok.field-0 c.set.new.self a b c.in-Ok.ensures.listed) c.register.ensures.looks))
+    (account-registered id _ _ c.register.result c.register.ensures.registered) c.register.ensures.discharged
+
+pub returns-in_default-clause-told : goal.returns-in_default-clause-told
+returns-in_default-clause-told g c =
+    notified c.args.whom.0 c.args.ended.0 c.set.new.self (is_err c.sys_enqueue_in_run.result) c.args.claim.now c.sys_enqueue_in_run.new.claim
+    c.set.ensures c.sys_enqueue_in_run.ensures.recorded
+
+pub returns-in_default-clause-caller_advances : goal.returns-in_default-clause-caller_advances
+returns-in_default-clause-caller_advances g c = further-said _ _ _ c.in_default.ensures.ended.1 refl

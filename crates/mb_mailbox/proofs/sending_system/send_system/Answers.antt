@@ -1,0 +1,139 @@
+use Rattle.std.proofs.Common.{◌<◌, Some, sym, refl, ap, ◌∙◌, subst, arith}
+use Rattle.std.specs.Global.{Box}
+use Rattle.mb_status.specs.Mailbox.{Mailbox}
+use Rattle.mb_gate.specs.NamedActors.{NamesBelow}
+use Rattle.mb_gate.specs.Accessors.{actors_of, pass_view}
+use Rattle.mb_gate.specs.Untouched.{origin_of}
+use Rattle.mb_home.specs.Contents.{Contents}
+use Rattle.mb_register.proofs.Views.{does-then, does-enlisting}
+use Rattle.mb_mailbox.specs.RunState.{run_state}
+use Rattle.mb_mailbox.specs.Notice.{asker}
+use Rattle.mb_mailbox.proofs.BacklogLemmas.{keeps-then}
+use Rattle.mb_register.proofs.CallerLemmas.{account-registered, further-said, further-then}
+use Rattle.mb_mailbox.proofs.CleanLemmas.{status-answered}
+use Rattle.mb_mailbox.proofs.EmptiedLemmas.{cleared-same}
+use Rattle.mb_register.proofs.MoveLemmas.{moves-does, further-moves}
+use Rattle.mb_mailbox.proofs.SendSystemLemmas.{running-caller_advances, running-said, running-refused, keeps-recorded, keeps-answered, backlog-said, backlog-answered}
+use Rattle.mb_mailbox.proofs.SendSystemLemmas.{home-answered}
+use Rattle.mb_mailbox.proofs.sending_system.send_system.Goals as goal
+
+-- ---- the registrar stays one of these gates
+
+pub sys_enqueue_in_run-requires-clause-ours : goal.sys_enqueue_in_run-requires-clause-ours
+sys_enqueue_in_run-requires-clause-ours g c = c.requires.ours.0
+
+pub register-requires-clause-ours : goal.register-requires-clause-ours
+register-requires-clause-ours g c = (c.sys_enqueue_in_run.ensures.ours ∙ c.requires.ours.0, c.requires.ours.1)
+
+pub register-requires-clause-there : goal.register-requires-clause-there
+register-requires-clause-there g c =
+    let below = c.requires.running.sends.0.0 in (below, omega (arith, below, c.requires.ours.2))
+
+pub returns-in-Ok-clause-ours : goal.returns-in-Ok-clause-ours
+returns-in-Ok-clause-ours g c = (
+  c.register.ensures.ours.0 ∙ c.sys_enqueue_in_run.ensures.ours ∙ c.requires.ours.0,
+  c.register.ensures.ours.1 ∙ c.requires.ours.1,
+  c.requires.ours.2,
+)
+
+pub answer-requires-clause-ours : goal.answer-requires-clause-ours
+answer-requires-clause-ours g c = (c.sys_enqueue_in_run.ensures.ours ∙ c.requires.ours.0, c.requires.ours.1, c.requires.ours.2)
+
+pub sys_enqueue_in_run-requires-clause-there : goal.sys_enqueue_in_run-requires-clause-there
+sys_enqueue_in_run-requires-clause-there g c = c.requires.running.sends.0.0
+
+pub sys_enqueue_in_run-requires-clause-named : goal.sys_enqueue_in_run-requires-clause-named
+sys_enqueue_in_run-requires-clause-named g c = c.requires.running.sends.0.1
+
+-- ---- a list took it
+
+pub returns-in-Ok-clause-caller_advances : goal.returns-in-Ok-clause-caller_advances
+returns-in-Ok-clause-caller_advances g c =
+    let id = c.args.to.0 in
+    let a = pass_view c.args.registrar.now.pass in let b = pass_view c.sys_enqueue_in_run.new.pass in let d = pass_view c.register.new.self.pass in
+    further-moves id _ _
+    (moves-does id _ _ a d (tt, tt) tt
+    (does-then id _ _ a b d (does-enlisting id c.in-Ok.field-0 c.args.node a b c.in-Ok.ensures.listed) c.register.ensures.looks))
+    (account-registered id _ _ c.register.result c.register.ensures.registered) c.register.ensures.discharged
+
+pub returns-in-Ok-clause-running : goal.returns-in-Ok-clause-running
+returns-in-Ok-clause-running g c =
+    let new = c.sys_enqueue_in_run.new.claim in
+    let gives = g.K.Behaviours.gives in
+    let origin = origin_of c.args.gates.now in
+    let seen = (pass_view c.args.registrar.now.pass).log in
+    let r = running-said gives origin seen c.args.to c.args.node c.args.claim.now c.requires.running new c.in-Ok.ensures.recorded in
+    running-caller_advances gives origin new.home.value.cell.acts _ _ (run_state new) (returns-in-Ok-clause-caller_advances g c) r
+
+pub returns-in-Ok-clause-backlog : goal.returns-in-Ok-clause-backlog
+returns-in-Ok-clause-backlog g c =
+    backlog-said c.args.claim.now c.sys_enqueue_in_run.new.claim _ c.in-Ok.ensures.recorded c.requires.backlog
+
+pub returns-in-Ok-clause-left : goal.returns-in-Ok-clause-left
+returns-in-Ok-clause-left g c = c.in-Ok.ensures.recorded.home
+
+pub returns-in-Ok-clause-same : goal.returns-in-Ok-clause-same
+returns-in-Ok-clause-same g c = keeps-recorded c.args.claim.now c.sys_enqueue_in_run.new.claim _ c.in-Ok.ensures.recorded
+
+pub returns-in-Ok-clause-cleared : goal.returns-in-Ok-clause-cleared
+returns-in-Ok-clause-cleared g c =
+    let said = c.in-Ok.ensures.recorded in
+    cleared-same (run_state c.args.claim.now) (run_state c.sys_enqueue_in_run.new.claim) (ap (λ (m : Mailbox). m.closed) said.status)
+    (ap (λ (b : Box Contents). b.value.take) said.home)
+
+-- ---- it found its list ended
+
+pub answer-requires-clause-parent : goal.answer-requires-clause-parent
+answer-requires-clause-parent g c =
+    subst (λ n. n < actors_of c.args.gates.now) (sym (c.actor-parent.ensures ∙ c.in-Err.ensures.recorded.actor)) c.requires.running.there
+
+pub answer-requires-clause-there : goal.answer-requires-clause-there
+answer-requires-clause-there g c = c.requires.running.sends.0.0
+
+pub answer-requires-clause-named : goal.answer-requires-clause-named
+answer-requires-clause-named g c =
+    subst (NamesBelow (actors_of c.args.gates.now)) (sym c.in-Err.ensures.ended.0) c.requires.running.sends.0.1
+
+pub returns-in-Err-clause-caller_advances : goal.returns-in-Err-clause-caller_advances
+returns-in-Err-clause-caller_advances g c = further-then _ _ _ (further-said _ _ _ c.in-Err.ensures.ended.1 refl) c.answer.ensures.caller_advances
+
+pub returns-in-Err-clause-running : goal.returns-in-Err-clause-running
+returns-in-Err-clause-running g c =
+    let mid = c.sys_enqueue_in_run.new.claim in
+    let new = c.answer.new.claim in
+    let gives = g.K.Behaviours.gives in
+    let origin = origin_of c.args.gates.now in
+    let seen = (pass_view c.args.registrar.now.pass).log in
+    let r = running-refused gives origin seen c.args.to c.args.node c.args.claim.now c.requires.running mid new c.in-Err.field-0.0
+    c.actor-parent.result
+    c.in-Err.ensures.ended.0 c.actor-parent.ensures c.in-Err.ensures.recorded c.answer.ensures.answered in
+    running-caller_advances gives origin new.home.value.cell.acts _ _ (run_state new) (returns-in-Err-clause-caller_advances g c) r
+
+pub returns-in-Err-clause-backlog : goal.returns-in-Err-clause-backlog
+returns-in-Err-clause-backlog g c =
+    let mid = c.sys_enqueue_in_run.new.claim in
+    backlog-answered c.args.to.0 mid c.answer.new.claim (asker (Some c.actor-parent.result) c.in-Err.field-0.0) c.answer.ensures.answered
+    (backlog-said c.args.claim.now mid _ c.in-Err.ensures.recorded c.requires.backlog)
+
+pub returns-in-Err-clause-left : goal.returns-in-Err-clause-left
+returns-in-Err-clause-left g c =
+    let mid = c.sys_enqueue_in_run.new.claim in
+    home-answered c.args.to.0 mid c.answer.new.claim (asker (Some c.actor-parent.result) c.in-Err.field-0.0) c.answer.ensures.answered
+    ∙ c.in-Err.ensures.recorded.home
+
+pub returns-in-Err-clause-same : goal.returns-in-Err-clause-same
+returns-in-Err-clause-same g c =
+    let mid = c.sys_enqueue_in_run.new.claim in
+    keeps-then _ _ _ (keeps-recorded c.args.claim.now mid _ c.in-Err.ensures.recorded)
+    (keeps-answered c.args.to.0 mid c.answer.new.claim (asker (Some c.actor-parent.result) c.in-Err.field-0.0) c.answer.ensures.answered)
+
+pub returns-in-Err-clause-cleared : goal.returns-in-Err-clause-cleared
+returns-in-Err-clause-cleared g c =
+    let mid = c.sys_enqueue_in_run.new.claim in
+    let new = c.answer.new.claim in
+    let said = c.in-Err.ensures.recorded in
+    let asked = asker (Some c.actor-parent.result) c.in-Err.field-0.0 in
+    let told = c.answer.ensures.answered in
+    cleared-same (run_state c.args.claim.now) (run_state new)
+    (ap (λ (m : Mailbox). m.closed) (status-answered c.args.to.0 mid new asked told ∙ said.status))
+    (ap (λ (b : Box Contents). b.value.take) (home-answered c.args.to.0 mid new asked told ∙ said.home))

@@ -1,0 +1,16 @@
+use Rattle.std.proofs.Common.{◌≡◌}
+use Rattle.mb_register.specs.Caller.{caller_of, CallerAdvances}
+use Rattle.mb_mailbox.specs.Emptied.{IsCleared}
+use Rattle.mb_mailbox.specs.RunState.{run_state}
+use Rattle.mb_mailbox.specs.InRun.{InRun}
+use Rattle.mb_mailbox.specs.Running.{SameRun}
+use Rattle.mb_mailbox.proofs.systems.apply_all.Given as goal
+
+abbrev pub invariant-loop : goal.invariant-loop
+invariant-loop g l =
+    (goal.iterator-loop g).can_next l.iterator' × (goal.iterator-loop g).is_finite l.iterator'
+    × InRun g.K.Behaviours.gives g.W.RunQueue.origin l.gates l.registrar l.claim l.turn
+    × SameRun (run_state l.initial.claim) (run_state l.claim)
+    × (l.turn.envelopes ≡ l.initial.turn.envelopes)
+    × CallerAdvances (caller_of g.W.RunQueue.pushed g.W.RunQueue.refused l.initial.registrar) (caller_of g.W.RunQueue.pushed g.W.RunQueue.refused l.registrar)
+    × IsCleared (run_state l.initial.claim) (run_state l.claim)

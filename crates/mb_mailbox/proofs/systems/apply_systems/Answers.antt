@@ -1,0 +1,69 @@
+use Rattle.std.proofs.Common.{inr, ap, ◌∙◌}
+use Rattle.mb_cell.specs.CellView.{CellView}
+use Rattle.mb_gate.specs.Accessors.{pass_view}
+use Rattle.mb_register.proofs.CallerLemmas.{further-none}
+use Rattle.mb_mailbox.proofs.InRunLemmas.{advances-then, stops-none}
+use Rattle.mb_mailbox.proofs.RunCountLemmas.{run_counts-keeps}
+use Rattle.mb_mailbox.proofs.systems.apply_systems.Goals as goal
+
+pub has_no_system_work-requires-clause-running : goal.has_no_system_work-requires-clause-running
+has_no_system_work-requires-clause-running g c = ((pass_view c.args.registrar.now.pass).log, c.requires.in_run.running)
+
+pub has_no_system_work-requires-clause-backlog : goal.has_no_system_work-requires-clause-backlog
+has_no_system_work-requires-clause-backlog g c = c.requires.in_run.backlog
+
+pub has_no_system_work-requires-clause-carried_out : goal.has_no_system_work-requires-clause-carried_out
+has_no_system_work-requires-clause-carried_out g c = c.requires.in_run.carried_out
+
+-- ---- no system message is due
+
+pub returns-then-has_no_system_work-clause-in_run : goal.returns-then-has_no_system_work-clause-in_run
+returns-then-has_no_system_work-clause-in_run g c =
+    let before = c.requires.in_run in let quiet = c.has_no_system_work.ensures in record {
+      ours = before.ours;
+      running = quiet.running (pass_view c.args.registrar.now.pass).log before.running;
+      backlog = quiet.backlog;
+      carried_out = ap (λ (x : CellView). x.acts) quiet.left ∙ before.carried_out;
+      run_counts = run_counts-keeps _ _ _ quiet.same before.run_counts;
+    }
+
+pub returns-then-has_no_system_work-clause-advances : goal.returns-then-has_no_system_work-clause-advances
+returns-then-has_no_system_work-clause-advances g c =
+    let quiet = c.has_no_system_work.ensures in record { same = quiet.same.same; cleared = quiet.cleared; caller_advances = further-none _ }
+
+pub returns-then-has_no_system_work-clause-stops : goal.returns-then-has_no_system_work-clause-stops
+returns-then-has_no_system_work-clause-stops g c = stops-none tt c.has_no_system_work.new.claim
+
+pub returns-then-has_no_system_work-clause-whole : goal.returns-then-has_no_system_work-clause-whole
+returns-then-has_no_system_work-clause-whole g c = inr (c.has_no_system_work.ensures.drained c.if-has_no_system_work.true)
+
+-- ---- there may be one
+
+pub apply_all-requires : goal.apply_all-requires
+apply_all-requires g c =
+    let before = c.requires.in_run in let quiet = c.has_no_system_work.ensures in record {
+      in_run = record {
+        ours = before.ours;
+        running = quiet.running (pass_view c.args.registrar.now.pass).log before.running;
+        backlog = quiet.backlog;
+        carried_out = ap (λ (x : CellView). x.acts) quiet.left ∙ before.carried_out;
+        run_counts = run_counts-keeps _ _ _ quiet.same before.run_counts;
+      };
+    }
+
+pub returns-clause-in_run : goal.returns-clause-in_run
+returns-clause-in_run g c = c.apply_all.ensures.in_run
+
+pub returns-clause-advances : goal.returns-clause-advances
+returns-clause-advances g c =
+    advances-then c.apply_all.result c.args.registrar.now c.args.registrar.now c.apply_all.new.registrar c.args.claim.now c.has_no_system_work.new.claim
+    c.apply_all.new.claim c.has_no_system_work.ensures.same.same c.has_no_system_work.ensures.cleared (further-none _) c.apply_all.ensures.advances
+
+pub returns-clause-stops : goal.returns-clause-stops
+returns-clause-stops g c = c.apply_all.ensures.stops
+
+pub returns-clause-envelopes : goal.returns-clause-envelopes
+returns-clause-envelopes g c = c.apply_all.ensures.envelopes
+
+pub returns-clause-whole : goal.returns-clause-whole
+returns-clause-whole g c = c.apply_all.ensures.whole

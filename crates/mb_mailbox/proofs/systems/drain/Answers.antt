@@ -1,0 +1,144 @@
+use Rattle.std.proofs.Common.{◌≡◌, List, true≢false, refl, sym, ap, ◌∙◌, subst}
+use Rattle.std.specs.Global.{Box}
+use Rattle.mb_status.specs.Mailbox.{Mailbox}
+use Rattle.mb_journal.specs.Acts.{Act}
+use Rattle.mb_gate.specs.Lists.{IsNumberedFrom}
+use Rattle.mb_gate.specs.Untouched.{origin_of}
+use Rattle.mb_home.specs.AtHome.{given_of}
+use Rattle.mb_home.specs.Contents.{Contents}
+use Rattle.mb_home.specs.AgreesWithJournal.{AgreesWithJournal}
+use Rattle.mb_mailbox.specs.RunState.{run_state}
+use Rattle.mb_mailbox.proofs.DrainingLemmas.{none-kept, keeps-drained, drained-from, backlog-drained, is-drained, running-drain}
+use Rattle.mb_mailbox.proofs.EmptiedLemmas.{cleared-open}
+use Rattle.mb_mailbox.proofs.TellingLemmas.{running-own}
+use Rattle.mb_mailbox.proofs.systems.drain.Goals as goal
+
+pub sys_drain-drained-requires-clause-ours : goal.sys_drain-drained-requires-clause-ours
+sys_drain-drained-requires-clause-ours g c = c.requires.running.1.ours
+
+pub sys_drain-drained-requires-clause-there : goal.sys_drain-drained-requires-clause-there
+sys_drain-drained-requires-clause-there g c = c.requires.running.1.there
+
+pub keep-requires-clause-none_left : goal.keep-requires-clause-none_left
+keep-requires-clause-none_left g c =
+    ap (λ (x : Contents). x.rest) c.deref_mut.ensures.value ∙ ap (λ (b : Box Contents). b.value.rest) c.sys_drain-drained.ensures.same.1
+    ∙ c.requires.rested.no_rest
+
+pub keep-requires-clause-goes_on : goal.keep-requires-clause-goes_on
+keep-requires-clause-goes_on g c =
+    let did = c.sys_drain-drained.ensures in
+    subst (λ (x : Contents). IsNumberedFrom (given_of x) c.sys_drain-drained.result) (sym c.deref_mut.ensures.value)
+    (drained-from c.args.claim.now c.sys_drain-drained.new.claim did.ours did.same did.taken did.recorded c.sys_drain-drained.result did.given
+    did.known did.gave (record c.sys_drain-drained.new.claim.home.value { rest = c.sys_drain-drained.result }) refl c.requires.backlog.count
+    did.numbers)
+
+pub keep-requires-clause-settled : goal.keep-requires-clause-settled
+keep-requires-clause-settled g c =
+    let old = c.args.claim.now in
+    let own = running-own _ _ _ _ (run_state old) c.requires.running.1 in
+    let here = subst (λ (l : List Act). AgreesWithJournal (g.K.Behaviours.gives old.home.value.cell.who.this.0) l old.home.value)
+    (sym c.requires.carried_out) own in
+    let home = c.deref_mut.ensures.value ∙ ap (λ (b : Box Contents). b.value) c.sys_drain-drained.ensures.same.1 in
+    subst (λ (x : Contents). AgreesWithJournal (g.K.Behaviours.gives x.cell.who.this.0) x.cell.acts x) (sym home) here
+
+pub returns-clause-running : goal.returns-clause-running
+returns-clause-running g c =
+    let did = c.sys_drain-drained.ensures in
+    let kept = subst (λ (x : Contents). c.keep.new.self ≡ record x { rest = c.sys_drain-drained.result }) c.deref_mut.ensures.value
+    c.keep.ensures.kept in
+    λ seen r. running-drain c.args.claim.now c.sys_drain-drained.new.claim did.ours did.same did.taken did.recorded c.sys_drain-drained.result
+    did.given did.known did.gave c.keep.new.self kept g.K.Behaviours.gives (origin_of c.args.gates.now) seen c.requires.carried_out
+    c.keep.ensures.settled did.named r
+
+pub returns-clause-backlog : goal.returns-clause-backlog
+returns-clause-backlog g c =
+    let did = c.sys_drain-drained.ensures in
+    let kept = subst (λ (x : Contents). c.keep.new.self ≡ record x { rest = c.sys_drain-drained.result }) c.deref_mut.ensures.value
+    c.keep.ensures.kept in
+    backlog-drained c.args.claim.now c.sys_drain-drained.new.claim did.ours did.same did.taken did.recorded c.sys_drain-drained.result did.given
+    did.known did.gave c.keep.new.self kept c.requires.rested c.requires.not_closed c.requires.backlog.count
+
+pub returns-clause-left : goal.returns-clause-left
+returns-clause-left g c =
+    ap (λ (x : Contents). x.cell) c.keep.ensures.kept ∙ ap (λ (x : Contents). x.cell) c.deref_mut.ensures.value
+    ∙ ap (λ (b : Box Contents). b.value.cell) c.sys_drain-drained.ensures.same.1
+
+pub returns-clause-same : goal.returns-clause-same
+returns-clause-same g c =
+    let did = c.sys_drain-drained.ensures in
+    let kept = subst (λ (x : Contents). c.keep.new.self ≡ record x { rest = c.sys_drain-drained.result }) c.deref_mut.ensures.value
+    c.keep.ensures.kept in
+    keeps-drained c.args.claim.now c.sys_drain-drained.new.claim did.ours did.same did.taken did.recorded c.sys_drain-drained.result did.given
+    did.known did.gave c.keep.new.self kept
+
+pub returns-clause-some : goal.returns-clause-some
+returns-clause-some g c =
+    let kept = subst (λ (x : Contents). c.keep.new.self ≡ record x { rest = c.sys_drain-drained.result }) c.deref_mut.ensures.value
+    c.keep.ensures.kept in
+    λ _ none. true≢false (sym (c.is_empty.ensures.1 (sym (ap (λ (x : Contents). x.rest) kept) ∙ none)) ∙ c.if-is_empty.false)
+
+-- ---- nothing was drained
+
+pub returns-then-is_empty-clause-running : goal.returns-then-is_empty-clause-running
+returns-then-is_empty-clause-running g c =
+    let did = c.sys_drain-drained.ensures in
+    let old = c.args.claim.now in
+    let mid = c.sys_drain-drained.new.claim in
+    let none = c.is_empty.ensures.0 c.if-is_empty.true in
+    let here = ap (λ (b : Box Contents). b.value) did.same.1 in
+    let kept = none-kept mid.home.value c.sys_drain-drained.result (ap (λ (x : Contents). x.rest) here ∙ c.requires.rested.no_rest) none in
+    let own = running-own _ _ _ _ (run_state old) c.requires.running.1 in
+    let before = subst (λ (l : List Act). AgreesWithJournal (g.K.Behaviours.gives old.home.value.cell.who.this.0) l old.home.value)
+    (sym c.requires.carried_out) own in
+    let settled = subst (λ (x : Contents). AgreesWithJournal (g.K.Behaviours.gives x.cell.who.this.0) x.cell.acts x) (sym here) before in
+    λ seen r. running-drain old mid did.ours did.same did.taken did.recorded c.sys_drain-drained.result did.given did.known did.gave mid.home.value kept
+    g.K.Behaviours.gives (origin_of c.args.gates.now) seen c.requires.carried_out settled did.named r
+
+pub returns-then-is_empty-clause-backlog : goal.returns-then-is_empty-clause-backlog
+returns-then-is_empty-clause-backlog g c =
+    let did = c.sys_drain-drained.ensures in
+    let old = c.args.claim.now in
+    let mid = c.sys_drain-drained.new.claim in
+    let none = c.is_empty.ensures.0 c.if-is_empty.true in
+    let here = ap (λ (b : Box Contents). b.value) did.same.1 in
+    let kept = none-kept mid.home.value c.sys_drain-drained.result (ap (λ (x : Contents). x.rest) here ∙ c.requires.rested.no_rest) none in
+    backlog-drained old mid did.ours did.same did.taken did.recorded c.sys_drain-drained.result did.given did.known did.gave mid.home.value kept
+    c.requires.rested c.requires.not_closed c.requires.backlog.count
+
+pub returns-then-is_empty-clause-left : goal.returns-then-is_empty-clause-left
+returns-then-is_empty-clause-left g c = ap (λ (b : Box Contents). b.value.cell) c.sys_drain-drained.ensures.same.1
+
+pub returns-then-is_empty-clause-same : goal.returns-then-is_empty-clause-same
+returns-then-is_empty-clause-same g c =
+    let did = c.sys_drain-drained.ensures in
+    let old = c.args.claim.now in
+    let mid = c.sys_drain-drained.new.claim in
+    let none = c.is_empty.ensures.0 c.if-is_empty.true in
+    let here = ap (λ (b : Box Contents). b.value) did.same.1 in
+    let kept = none-kept mid.home.value c.sys_drain-drained.result (ap (λ (x : Contents). x.rest) here ∙ c.requires.rested.no_rest) none in
+    keeps-drained old mid did.ours did.same did.taken did.recorded c.sys_drain-drained.result did.given did.known did.gave mid.home.value kept
+
+pub returns-then-is_empty-clause-drained : goal.returns-then-is_empty-clause-drained
+returns-then-is_empty-clause-drained g c =
+    let did = c.sys_drain-drained.ensures in
+    let old = c.args.claim.now in
+    let mid = c.sys_drain-drained.new.claim in
+    let none = c.is_empty.ensures.0 c.if-is_empty.true in
+    let here = ap (λ (b : Box Contents). b.value) did.same.1 in
+    let kept = none-kept mid.home.value c.sys_drain-drained.result (ap (λ (x : Contents). x.rest) here ∙ c.requires.rested.no_rest) none in
+    λ _. is-drained old mid did.ours did.same did.taken did.recorded c.sys_drain-drained.result did.given did.known did.gave mid.home.value kept
+    c.requires.rested none
+
+-- ---- the mailbox is as it was
+
+pub returns-clause-cleared : goal.returns-clause-cleared
+returns-clause-cleared g c =
+    let did = c.sys_drain-drained.ensures in
+    cleared-open (run_state c.args.claim.now) (record (run_state c.sys_drain-drained.new.claim) { home = c.keep.new.self })
+    (ap (λ (m : Mailbox). m.closed) did.same.0 ∙ c.requires.not_closed)
+
+pub returns-then-is_empty-clause-cleared : goal.returns-then-is_empty-clause-cleared
+returns-then-is_empty-clause-cleared g c =
+    let did = c.sys_drain-drained.ensures in
+    cleared-open (run_state c.args.claim.now) (run_state c.sys_drain-drained.new.claim)
+    (ap (λ (m : Mailbox). m.closed) did.same.0 ∙ c.requires.not_closed)

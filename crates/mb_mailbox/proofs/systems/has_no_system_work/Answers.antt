@@ -1,0 +1,136 @@
+use Rattle.std.proofs.Common.{◌≡◌, ℕ, List, [], refl, sym, ap, ◌∙◌, subst}
+use Rattle.std.specs.Global.{Box}
+use Rattle.std.specs.Prelude.{MatchBool}
+use Rattle.std.proofs.lemmas.List.Elements.{All-nil}
+use Rattle.mb_status.specs.Mailbox.{Mailbox}
+use Rattle.mb_msg.specs.declared.system.SysMsg.{SysMsg}
+use Rattle.mb_journal.specs.Acts.{Act}
+use Rattle.mb_gate.specs.NamedActors.{NamesBelow}
+use Rattle.mb_gate.specs.Accessors.{actors_of}
+use Rattle.mb_gate.specs.Untouched.{origin_of}
+use Rattle.mb_home.specs.Contents.{Contents}
+use Rattle.mb_home.specs.AgreesWithJournal.{AgreesWithJournal}
+use Rattle.mb_home.specs.Steps.{HasNext, HasNoBacklog}
+use Rattle.mb_mailbox.specs.RunState.{RunState, run_state}
+use Rattle.mb_mailbox.specs.Running.{IsRunning, BacklogAgrees, KeepsJournal}
+use Rattle.mb_mailbox.proofs.BacklogLemmas.{keeps-same}
+use Rattle.mb_mailbox.proofs.DrainingLemmas.{none-kept, keeps-drained, backlog-drained, is-drained, running-drain}
+use Rattle.mb_mailbox.proofs.EmptiedLemmas.{cleared-open, cleared-same}
+use Rattle.mb_mailbox.proofs.RunStateLemmas.{hold-same}
+use Rattle.mb_mailbox.proofs.TellingLemmas.{running-own}
+use Rattle.mb_mailbox.proofs.systems.has_no_system_work.Goals as goal
+
+pub sys_is_drained-requires-clause-ours : goal.sys_is_drained-requires-clause-ours
+sys_is_drained-requires-clause-ours g c = c.requires.running.1.ours
+
+pub sys_is_drained-requires-clause-there : goal.sys_is_drained-requires-clause-there
+sys_is_drained-requires-clause-there g c = c.requires.running.1.there
+
+-- ---- it is closed, or a message is due: the claim is as it was
+
+pub returns-then-closed-clause-running : goal.returns-then-closed-clause-running
+returns-then-closed-clause-running g c = λ seen r. r
+
+pub returns-then-closed-clause-backlog : goal.returns-then-closed-clause-backlog
+returns-then-closed-clause-backlog g c = c.requires.backlog
+
+pub returns-then-closed-clause-same : goal.returns-then-closed-clause-same
+returns-then-closed-clause-same g c = keeps-same _
+
+pub returns-then-closed-clause-cleared : goal.returns-then-closed-clause-cleared
+returns-then-closed-clause-cleared g c = cleared-same (run_state c.args.claim.now) (run_state c.args.claim.now) refl refl
+
+-- ---- nothing was drained
+
+pub returns-then-sys_is_drained-clause-running : goal.returns-then-sys_is_drained-clause-running
+returns-then-sys_is_drained-clause-running g c =
+    let did = c.sys_is_drained.ensures in let hit = c.if-sys_is_drained.true in
+    let old = c.args.claim.now in let mid = c.sys_is_drained.new.claim in
+    let at_home = subst (λ (x : Contents). MatchBool c.has_next.result (HasNext x) (HasNoBacklog x)) c.deref.ensures c.has_next.ensures in
+    let rested = subst (λ b. MatchBool b (HasNext old.home.value) (HasNoBacklog old.home.value)) c.if-has_next.false at_home in
+    let here = ap (λ (b : Box Contents). b.value) did.same.1 in
+    let kept = none-kept mid.home.value [] (ap (λ (x : Contents). x.rest) here ∙ rested.no_rest) refl in
+    let own = running-own _ _ _ _ (run_state old) c.requires.running.1 in
+    let before = subst (λ (l : List Act). AgreesWithJournal (g.K.Behaviours.gives old.home.value.cell.who.this.0) l old.home.value)
+    (sym c.requires.carried_out) own in
+    let settled = subst (λ (x : Contents). AgreesWithJournal (g.K.Behaviours.gives x.cell.who.this.0) x.cell.acts x) (sym here) before in
+    λ seen r. running-drain old mid did.ours did.same did.taken did.recorded [] (did.given hit) (did.known hit) (did.gave hit) mid.home.value kept
+    g.K.Behaviours.gives (origin_of c.args.gates.now) seen c.requires.carried_out settled
+    (All-nil (λ (m : ℕ × SysMsg). NamesBelow (actors_of c.args.gates.now) m.1)) r
+
+pub returns-then-sys_is_drained-clause-backlog : goal.returns-then-sys_is_drained-clause-backlog
+returns-then-sys_is_drained-clause-backlog g c =
+    let did = c.sys_is_drained.ensures in let hit = c.if-sys_is_drained.true in
+    let old = c.args.claim.now in let mid = c.sys_is_drained.new.claim in
+    let at_home = subst (λ (x : Contents). MatchBool c.has_next.result (HasNext x) (HasNoBacklog x)) c.deref.ensures c.has_next.ensures in
+    let rested = subst (λ b. MatchBool b (HasNext old.home.value) (HasNoBacklog old.home.value)) c.if-has_next.false at_home in
+    let here = ap (λ (b : Box Contents). b.value) did.same.1 in
+    let kept = none-kept mid.home.value [] (ap (λ (x : Contents). x.rest) here ∙ rested.no_rest) refl in
+    backlog-drained old mid did.ours did.same did.taken did.recorded [] (did.given hit) (did.known hit) (did.gave hit) mid.home.value kept
+    rested (sym (c.closed.ensures ∙ ap (λ (m : Mailbox). m.closed) c.status.ensures) ∙ c.if-closed.false) c.requires.backlog.count
+
+pub returns-then-sys_is_drained-clause-left : goal.returns-then-sys_is_drained-clause-left
+returns-then-sys_is_drained-clause-left g c =
+    ap (λ (b : Box Contents). b.value.cell) c.sys_is_drained.ensures.same.1
+
+pub returns-then-sys_is_drained-clause-same : goal.returns-then-sys_is_drained-clause-same
+returns-then-sys_is_drained-clause-same g c =
+    let did = c.sys_is_drained.ensures in let hit = c.if-sys_is_drained.true in
+    let old = c.args.claim.now in let mid = c.sys_is_drained.new.claim in
+    let at_home = subst (λ (x : Contents). MatchBool c.has_next.result (HasNext x) (HasNoBacklog x)) c.deref.ensures c.has_next.ensures in
+    let rested = subst (λ b. MatchBool b (HasNext old.home.value) (HasNoBacklog old.home.value)) c.if-has_next.false at_home in
+    let here = ap (λ (b : Box Contents). b.value) did.same.1 in
+    let kept = none-kept mid.home.value [] (ap (λ (x : Contents). x.rest) here ∙ rested.no_rest) refl in
+    keeps-drained old mid did.ours did.same did.taken did.recorded [] (did.given hit) (did.known hit) (did.gave hit) mid.home.value kept
+
+pub returns-then-sys_is_drained-clause-drained : goal.returns-then-sys_is_drained-clause-drained
+returns-then-sys_is_drained-clause-drained g c =
+    let did = c.sys_is_drained.ensures in let hit = c.if-sys_is_drained.true in
+    let old = c.args.claim.now in let mid = c.sys_is_drained.new.claim in
+    let at_home = subst (λ (x : Contents). MatchBool c.has_next.result (HasNext x) (HasNoBacklog x)) c.deref.ensures c.has_next.ensures in
+    let rested = subst (λ b. MatchBool b (HasNext old.home.value) (HasNoBacklog old.home.value)) c.if-has_next.false at_home in
+    let here = ap (λ (b : Box Contents). b.value) did.same.1 in
+    let kept = none-kept mid.home.value [] (ap (λ (x : Contents). x.rest) here ∙ rested.no_rest) refl in
+    λ _. is-drained old mid did.ours did.same did.taken did.recorded [] (did.given hit) (did.known hit) (did.gave hit) mid.home.value kept rested refl
+
+pub returns-then-sys_is_drained-clause-cleared : goal.returns-then-sys_is_drained-clause-cleared
+returns-then-sys_is_drained-clause-cleared g c =
+    let did = c.sys_is_drained.ensures in
+    cleared-open (run_state c.args.claim.now) (run_state c.sys_is_drained.new.claim)
+    (ap (λ (m : Mailbox). m.closed) did.same.0 ∙ (sym (c.closed.ensures ∙ ap (λ (m : Mailbox). m.closed) c.status.ensures) ∙ c.if-closed.false))
+
+-- ---- something is listed, or the last drain gave something
+
+pub returns-clause-running : goal.returns-clause-running
+returns-clause-running g c =
+    let did = c.sys_is_drained.ensures in let kept = did.unchanged c.if-sys_is_drained.false in
+    let old = c.args.claim.now in let mid = c.sys_is_drained.new.claim in
+    let as_before : run_state mid ≡ run_state old =
+    hold-same old mid did.ours did.same.1 did.same.0 did.taken did.recorded kept.0 kept.1 kept.2 in
+    λ seen r. subst (λ (h : RunState). IsRunning g.K.Behaviours.gives (origin_of c.args.gates.now) [] seen h) (sym as_before) r
+
+pub returns-clause-backlog : goal.returns-clause-backlog
+returns-clause-backlog g c =
+    let did = c.sys_is_drained.ensures in let kept = did.unchanged c.if-sys_is_drained.false in
+    let old = c.args.claim.now in let mid = c.sys_is_drained.new.claim in
+    let as_before : run_state mid ≡ run_state old =
+    hold-same old mid did.ours did.same.1 did.same.0 did.taken did.recorded kept.0 kept.1 kept.2 in
+    subst (λ (h : RunState). BacklogAgrees h) (sym as_before) c.requires.backlog
+
+pub returns-clause-left : goal.returns-clause-left
+returns-clause-left g c =
+    ap (λ (b : Box Contents). b.value.cell) c.sys_is_drained.ensures.same.1
+
+pub returns-clause-same : goal.returns-clause-same
+returns-clause-same g c =
+    let did = c.sys_is_drained.ensures in let kept = did.unchanged c.if-sys_is_drained.false in
+    let old = c.args.claim.now in let mid = c.sys_is_drained.new.claim in
+    let as_before : run_state mid ≡ run_state old =
+    hold-same old mid did.ours did.same.1 did.same.0 did.taken did.recorded kept.0 kept.1 kept.2 in
+    subst (λ (h : RunState). KeepsJournal (run_state old) h) (sym as_before) (keeps-same (run_state old))
+
+pub returns-clause-cleared : goal.returns-clause-cleared
+returns-clause-cleared g c =
+    let did = c.sys_is_drained.ensures in
+    cleared-same (run_state c.args.claim.now) (run_state c.sys_is_drained.new.claim) (ap (λ (m : Mailbox). m.closed) did.same.0)
+    (ap (λ (b : Box Contents). b.value.take) did.same.1)

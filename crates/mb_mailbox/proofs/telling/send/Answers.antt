@@ -1,0 +1,121 @@
+use Rattle.std.proofs.Common.{◌==◌, [], ◌∷◌, None, Some, sym, ap, ◌∙◌, subst}
+use Rattle.mb_status.specs.Mailbox.{word_of}
+use Rattle.mb_msg.specs.declared.dead_letter.Why.TheVariants.{Closed}
+use Rattle.mb_journal.specs.Acts.Act.{Tell}
+use Rattle.mb_gate.specs.Accessors.{pass_view}
+use Rattle.mb_home.specs.Contents.{Contents}
+use Rattle.mb_home.specs.AgreesWithJournal.{AgreesWithJournal}
+use Rattle.mb_home.specs.Steps.{Pushes, RecordsDeadLetter, reason_of}
+use Rattle.mb_register.specs.Sending.{counts}
+use Rattle.mb_register.proofs.SendingLemmas.{does-read, open-word}
+use Rattle.mb_register.proofs.Views.{looks-none, does-sending, does-unsending}
+use Rattle.mb_mailbox.proofs.TellingLemmas.{closed-word, read-closed, leaves-rest}
+use Rattle.mb_mailbox.proofs.telling.send.Goals as goal
+
+-- ---- the pass stays one of these gates
+
+pub note_sent-requires-clause-ours : goal.note_sent-requires-clause-ours
+note_sent-requires-clause-ours g c = c.status-status.ensures.ours ∙ c.requires.ours
+
+pub note_unsent-requires-clause-ours : goal.note_unsent-requires-clause-ours
+note_unsent-requires-clause-ours g c = c.note_sent.ensures.ours ∙ c.status-status.ensures.ours ∙ c.requires.ours
+
+pub returns-in-Ok-clause-ours : goal.returns-in-Ok-clause-ours
+returns-in-Ok-clause-ours g c = c.note_sent.ensures.ours ∙ c.status-status.ensures.ours
+
+pub returns-in-Err-clause-ours : goal.returns-in-Err-clause-ours
+returns-in-Err-clause-ours g c = c.note_unsent.ensures.ours ∙ c.note_sent.ensures.ours ∙ c.status-status.ensures.ours
+
+-- ---- its actor's home
+
+pub record_closed_receiver-requires : goal.record_closed_receiver-requires
+record_closed_receiver-requires g c = record {
+  settled =
+      subst (λ (x : Contents). AgreesWithJournal (g.K.Behaviours.gives x.cell.who.this.0) (Tell c.args.to c.args.body ∷ x.cell.acts) x)
+      (sym c.deref_mut.ensures.value) c.requires.settled;
+}
+
+pub push-requires : goal.push-requires
+push-requires g c = record {
+  settled =
+      subst (λ (x : Contents). AgreesWithJournal (g.K.Behaviours.gives x.cell.who.this.0) (Tell c.args.to c.args.body ∷ x.cell.acts) x)
+      (sym c.deref_mut-2.ensures.value) c.requires.settled;
+}
+
+pub returns-then-closed-clause-settled : goal.returns-then-closed-clause-settled
+returns-then-closed-clause-settled g c = c.record_closed_receiver.ensures.settled
+
+pub returns-in-Ok-clause-settled : goal.returns-in-Ok-clause-settled
+returns-in-Ok-clause-settled g c = c.push.ensures.settled
+
+pub returns-in-Err-clause-settled : goal.returns-in-Err-clause-settled
+returns-in-Err-clause-settled g c = c.push.ensures.settled
+
+pub returns-then-closed-clause-same : goal.returns-then-closed-clause-same
+returns-then-closed-clause-same g c =
+    let is_dead_letter = subst (λ (x : Contents). RecordsDeadLetter x c.record_closed_receiver.new.self c.args.to c.args.body Closed) c.deref_mut.ensures.value
+    c.record_closed_receiver.ensures.is_dead_letter in
+    leaves-rest c.args.home.now.value _ _ _ _ _ is_dead_letter.same
+
+pub returns-in-Ok-clause-same : goal.returns-in-Ok-clause-same
+returns-in-Ok-clause-same g c =
+    let pushed = subst (λ (x : Contents). Pushes x c.push.new.self c.args.to c.args.body) c.deref_mut-2.ensures.value c.in-Ok.ensures.pushed in
+    leaves-rest c.args.home.now.value _ _ _ _ _ pushed.same
+
+pub returns-in-Err-clause-same : goal.returns-in-Err-clause-same
+returns-in-Err-clause-same g c =
+    let is_dead_letter = subst (λ (x : Contents). RecordsDeadLetter x c.push.new.self c.args.to c.args.body (reason_of c.in-Err.field-0)) c.deref_mut-2.ensures.value
+    c.in-Err.ensures.pushed.1 in
+    leaves-rest c.args.home.now.value _ _ _ _ _ is_dead_letter.same
+
+-- ---- what was told
+
+pub returns-then-closed-clause-told : goal.returns-then-closed-clause-told
+returns-then-closed-clause-told g c =
+    let is_dead_letter = subst (λ (x : Contents). RecordsDeadLetter x c.record_closed_receiver.new.self c.args.to c.args.body Closed) c.deref_mut.ensures.value
+    c.record_closed_receiver.ensures.is_dead_letter in
+    let id = c.args.to.0 in
+    let word = word_of c.status-status.result in
+    let a = pass_view c.args.pass.now in let b = pass_view c.status-status.new.pass in
+    let shut = sym c.closed.ensures ∙ c.if-closed.true in
+    record {
+      word = word;
+      shut = ap (λ w. w == 1) (closed-word c.status-status.result shut);
+      did = does-read id word [] [] a b b c.status-status.ensures.known (looks-none id b);
+      is_dead_letter = is_dead_letter;
+    }
+
+pub returns-in-Ok-clause-told : goal.returns-in-Ok-clause-told
+returns-in-Ok-clause-told g c =
+    let pushed = subst (λ (x : Contents). Pushes x c.push.new.self c.args.to c.args.body) c.deref_mut-2.ensures.value c.in-Ok.ensures.pushed in
+    let id = c.args.to.0 in
+    let word = word_of c.status-status.result in
+    let a = pass_view c.args.pass.now in let b = pass_view c.status-status.new.pass in let d = pass_view c.note_sent.new.pass in
+    record {
+      word = word;
+      not_closed = open-word c.status-status.result (sym c.closed.ensures ∙ c.if-closed.false);
+      did = does-read id word (counts id None) [] a b d c.status-status.ensures.known (does-sending id b d c.note_sent.ensures.known);
+      pushed = pushed;
+    }
+
+pub returns-in-Err-clause-told : goal.returns-in-Err-clause-told
+returns-in-Err-clause-told g c =
+    let is_dead_letter = subst (λ (x : Contents). RecordsDeadLetter x c.push.new.self c.args.to c.args.body (reason_of c.in-Err.field-0)) c.deref_mut-2.ensures.value
+    c.in-Err.ensures.pushed.1 in
+    let id = c.args.to.0 in
+    let word = word_of c.status-status.result in
+    let a = pass_view c.args.pass.now in let b = pass_view c.status-status.new.pass in
+    let d = pass_view c.note_sent.new.pass in let e = pass_view c.note_unsent.new.pass in
+    record {
+      word = word;
+      not_closed = open-word c.status-status.result (sym c.closed.ensures ∙ c.if-closed.false);
+      refused = c.in-Err.field-0;
+      did = does-read id word (counts id (Some (reason_of c.in-Err.field-0))) [] a b e c.status-status.ensures.known
+          (does-unsending id b d e c.note_sent.ensures.known c.note_unsent.ensures.known);
+      is_dead_letter = is_dead_letter;
+    }
+
+pub returns-then-closed-clause-closed : goal.returns-then-closed-clause-closed
+returns-then-closed-clause-closed g c =
+    read-closed c.args.to.0 c.status-status.result (pass_view c.args.pass.now) (pass_view c.status-status.new.pass)
+    (sym c.closed.ensures ∙ c.if-closed.true) c.status-status.ensures.known

@@ -1,0 +1,113 @@
+use Rattle.std.proofs.Common.{inl, [], List, refl, sym, ◌∙◌, subst, arith}
+use Rattle.mb_gate.specs.Accessors.{pass_view}
+use Rattle.mb_gate.specs.Untouched.{origin_of}
+use Rattle.mb_gate.specs.View.{Observation}
+use Rattle.mb_home.specs.Contents.{Contents}
+use Rattle.mb_register.proofs.CallerLemmas.{account-none, account-registered}
+use Rattle.mb_register.proofs.MoveLemmas.{moves-does, further-moves}
+use Rattle.mb_mailbox.specs.RunState.{run_state}
+use Rattle.mb_mailbox.specs.Running.{IsRunning}
+use Rattle.mb_mailbox.proofs.EmptiedLemmas.{cleared-same}
+use Rattle.mb_mailbox.proofs.SendSystemLemmas.{running-caller_advances}
+use Rattle.mb_mailbox.proofs.TellingLemmas.{running-own, told-below, log-closed, discharged-closed, cell-told, take-told, keeps-told, backlog-told, running-told_closed}
+use Rattle.mb_mailbox.proofs.TellingLemmas.{running-sent, sent-then, sent-moves, sent-told}
+use Rattle.mb_mailbox.proofs.telling.tell.Goals as goal
+
+-- ---- the registrar stays one of these gates
+
+pub send-requires : goal.send-requires
+send-requires g c = record {
+  ours = c.requires.ours.0;
+  there = told-below _ _ _ _ _ _ c.requires.running;
+  settled = running-own _ _ _ _ (run_state c.args.claim.now) c.requires.running;
+}
+
+pub register-requires : goal.register-requires
+register-requires g c =
+    let below = told-below _ _ _ _ _ _ c.requires.running in record {
+      ours = (c.send.ensures.ours ∙ c.requires.ours.0, c.requires.ours.1);
+      there = (below, omega (arith, below, c.requires.ours.2));
+    }
+
+pub returns-in-None-clause-ours : goal.returns-in-None-clause-ours
+returns-in-None-clause-ours g c = (c.send.ensures.ours ∙ c.requires.ours.0, c.requires.ours.1, c.requires.ours.2)
+
+pub returns-in-Some-clause-ours : goal.returns-in-Some-clause-ours
+returns-in-Some-clause-ours g c = (
+  c.register.ensures.ours.0 ∙ c.send.ensures.ours ∙ c.requires.ours.0,
+  c.register.ensures.ours.1 ∙ c.requires.ours.1,
+  c.requires.ours.2,
+)
+
+-- ---- the receiver was read closed
+
+pub returns-in-None-clause-running : goal.returns-in-None-clause-running
+returns-in-None-clause-running g c =
+    let gives = g.K.Behaviours.gives in
+    let origin = origin_of c.args.gates.now in
+    let h = run_state c.args.claim.now in
+    let new : Contents = c.send.new.home.value in
+    subst (λ (l : List Observation). IsRunning gives origin new.cell.acts l (record h { home = new })) (sym (log-closed c.args.to.0 (pass_view c.args.registrar.now.pass) (pass_view c.send.new.pass) c.in-None.ensures.closed))
+    (running-told_closed gives origin (pass_view c.args.registrar.now.pass).log h c.args.to c.args.body new c.requires.running c.send.ensures.settled
+    c.in-None.ensures.told.is_dead_letter)
+
+pub returns-in-None-clause-caller_advances : goal.returns-in-None-clause-caller_advances
+returns-in-None-clause-caller_advances g c =
+    further-moves c.args.to.0 _ _
+    (moves-does c.args.to.0 _ [] (pass_view c.args.registrar.now.pass) (pass_view c.send.new.pass) (tt, tt) tt c.in-None.ensures.told.did)
+    (account-none _)
+    (inl (discharged-closed c.args.to.0 (pass_view c.args.registrar.now.pass) (pass_view c.send.new.pass) c.in-None.ensures.closed))
+
+pub returns-in-None-clause-told : goal.returns-in-None-clause-told
+returns-in-None-clause-told g c = inl c.in-None.ensures.told
+
+pub returns-in-None-clause-backlog : goal.returns-in-None-clause-backlog
+returns-in-None-clause-backlog g c = backlog-told (run_state c.args.claim.now) c.send.new.home.value c.send.ensures.same c.requires.backlog
+
+pub returns-in-None-clause-left : goal.returns-in-None-clause-left
+returns-in-None-clause-left g c = cell-told (run_state c.args.claim.now) c.send.new.home.value c.send.ensures.same
+
+pub returns-in-None-clause-same : goal.returns-in-None-clause-same
+returns-in-None-clause-same g c = keeps-told (run_state c.args.claim.now) c.send.new.home.value c.send.ensures.same
+
+pub returns-in-None-clause-cleared : goal.returns-in-None-clause-cleared
+returns-in-None-clause-cleared g c =
+    let h = run_state c.args.claim.now in
+    cleared-same h (record h { home = c.send.new.home.value }) refl (take-told h c.send.new.home.value c.send.ensures.same)
+
+-- ---- it was read open: the envelope was queued, or refused
+
+pub returns-in-Some-clause-caller_advances : goal.returns-in-Some-clause-caller_advances
+returns-in-Some-clause-caller_advances g c =
+    let told = sent-then c.args.to c.args.body c.in-Some.hint _ _ _ _ _ c.in-Some.ensures.told c.register.ensures.looks in
+    further-moves c.args.to.0 _ _ (sent-moves c.args.to c.args.body c.in-Some.hint _ _ _ _ told)
+    (account-registered c.args.to.0 _ _ c.register.result c.register.ensures.registered) c.register.ensures.discharged
+
+pub returns-in-Some-clause-told : goal.returns-in-Some-clause-told
+returns-in-Some-clause-told g c =
+    sent-told c.args.to c.args.body c.in-Some.hint _ _ _ _
+    (sent-then c.args.to c.args.body c.in-Some.hint _ _ _ _ _ c.in-Some.ensures.told c.register.ensures.looks)
+
+pub returns-in-Some-clause-running : goal.returns-in-Some-clause-running
+returns-in-Some-clause-running g c =
+    let gives = g.K.Behaviours.gives in
+    let origin = origin_of c.args.gates.now in
+    let h = run_state c.args.claim.now in
+    let new : Contents = c.send.new.home.value in
+    running-caller_advances gives origin new.cell.acts _ _ (record h { home = new }) (returns-in-Some-clause-caller_advances g c)
+    (running-sent gives origin (pass_view c.args.registrar.now.pass).log h c.args.to c.args.body c.requires.running new c.send.ensures.settled
+    c.in-Some.hint _ _ c.in-Some.ensures.told)
+
+pub returns-in-Some-clause-backlog : goal.returns-in-Some-clause-backlog
+returns-in-Some-clause-backlog g c = backlog-told (run_state c.args.claim.now) c.send.new.home.value c.send.ensures.same c.requires.backlog
+
+pub returns-in-Some-clause-left : goal.returns-in-Some-clause-left
+returns-in-Some-clause-left g c = cell-told (run_state c.args.claim.now) c.send.new.home.value c.send.ensures.same
+
+pub returns-in-Some-clause-same : goal.returns-in-Some-clause-same
+returns-in-Some-clause-same g c = keeps-told (run_state c.args.claim.now) c.send.new.home.value c.send.ensures.same
+
+pub returns-in-Some-clause-cleared : goal.returns-in-Some-clause-cleared
+returns-in-Some-clause-cleared g c =
+    let h = run_state c.args.claim.now in
+    cleared-same h (record h { home = c.send.new.home.value }) refl (take-told h c.send.new.home.value c.send.ensures.same)

@@ -1,0 +1,43 @@
+-- What the steps of a run have in common (`akka.dispatch.Mailbox.run`): what holds before and after each of them, what each leaves of the run, and
+-- why one stops it.
+use Rattle.std.specs.Prelude.{◌≡◌, ◌≤◌, ℕ, List, [], length, Option, Result, OnOk, IsErrOf}
+use Rattle.std.specs.Global.{Box}
+use Rattle.mb_actor.specs.Behaviour.{Moment, Reply}
+use Rattle.mb_journal.specs.declared.error.ReadyError.{ReadyError}
+use Rattle.mb_journal.specs.declared.error.ReadyError.TheVariants.{JournalFull, NoMemory}
+use Rattle.mb_gate.specs.declared.claim.Claim.{Claim}
+use Rattle.mb_gate.specs.declared.gates.Gates.{Gates}
+use Rattle.mb_gate.specs.Accessors.{pass_view}
+use Rattle.mb_gate.specs.Untouched.{Origin, origin_of}
+use Rattle.mb_home.specs.Contents.{Contents}
+use Rattle.mb_register.specs.Caller.{IsRegistrarOf, caller_of, CallerAdvances}
+use Rattle.mb_register.specs.declared.registrar.Registrar.{Registrar}
+use Rattle.mb_mailbox.specs.Emptied.{IsCleared}
+use Rattle.mb_mailbox.specs.RunState.{run_state}
+use Rattle.mb_mailbox.specs.Ran.{CountsRun, IsShortOfMemory}
+use Rattle.mb_mailbox.specs.Running.{IsRunning, BacklogAgrees, SameRun}
+use Rattle.mb_mailbox.specs.declared.turn.Turn.{Turn}
+
+module _ {W : Type 0} where
+  -- A run between two messages: who runs it has a pass and a way of these gates; its claim is as it is between two steps, with what was drained;
+  -- no act of a message is left to be carried out; and the turn counts what the run did.
+  pub record InRun (gives : ℕ → Moment → Reply → Type 0) (origin : W → Option (Origin (Box Contents))) (gates : Gates (Box Contents))
+      (registrar : Registrar (Box Contents) W) (claim : Claim (Box Contents)) (turn : Turn) : Type 0 where
+    pub ours : IsRegistrarOf origin gates registrar
+    pub running : IsRunning gives (origin_of gates) [] (pass_view registrar.pass).log (run_state claim)
+    pub backlog : BacklogAgrees (run_state claim)
+    pub carried_out : claim.home.value.cell.acts ≡ []
+    pub run_counts : CountsRun (run_state claim) turn
+
+  -- A step of a run, whatever it answers: the run is the same still, and who runs it goes further. Where the step answers well and the mailbox
+  -- was closed in it, the mailbox's queue was emptied.
+  pub record Advances {T E : Type 0} (pushed refused : W → List (Claim (Box Contents))) (result : Result T E)
+      (old_waker new_waker : Registrar (Box Contents) W) (old_claim new_claim : Claim (Box Contents)) : Type 0 where
+    pub same : SameRun (run_state old_claim) (run_state new_claim)
+    pub cleared : OnOk result (IsCleared (run_state old_claim) (run_state new_claim))
+    pub caller_advances : CallerAdvances (caller_of pushed refused old_waker) (caller_of pushed refused new_waker)
+
+-- A step that answers a fault stops the run: the journal is full, or memory can have been refused.
+pub record StopsRun {T : Type 0} (result : Result T ReadyError) (claim : Claim (Box Contents)) : Type 0 where
+  pub full : IsErrOf result JournalFull → claim.home.value.cell.who.limit ≤ length claim.home.value.cell.journal
+  pub short : IsErrOf result NoMemory → IsShortOfMemory claim.home.value.cell.who claim.home.value.cell.journal

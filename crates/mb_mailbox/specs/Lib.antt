@@ -1,0 +1,9 @@
+pub mod RunState
+pub mod SentDue
+pub mod OnlyDrained
+pub mod Emptied
+pub mod Running
+pub mod Sending
+pub mod Ran
+pub mod Notice
+pub mod InRun

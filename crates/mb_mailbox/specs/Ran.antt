@@ -1,0 +1,145 @@
+-- What a run of a mailbox comes to.
+use Rattle.std.specs.Prelude.{◌≡◌, ◌<◌, ◌⊎◌, ℕ, ◌+◌, ◌==◌, if◌then◌else◌, Bool, true, false, List, [], ◌∷◌, ◌++◌, None}
+use Rattle.std.specs.Prelude.{length}
+use Rattle.std.specs.Global.{Box}
+use Rattle.mb_msg.specs.declared.envelope.Envelope.{Envelope}
+use Rattle.mb_journal.specs.Aside.{next_front}
+use Rattle.mb_journal.specs.Entry.{Entry}
+use Rattle.mb_journal.specs.Entry.Entry.{Handled, System, Dropped}
+use Rattle.mb_journal.specs.Identity.{Identity}
+use Rattle.mb_journal.specs.Life.{closed}
+use Rattle.mb_journal.specs.Reading.{IsOpen}
+use Rattle.mb_journal.specs.Run.{IsReason, IsRun, IsShut, IsTurns, Stopped}
+use Rattle.mb_journal.specs.Run.Stopped.{UsedUp, NotOpen, NoEnvelope, AtClosing, NoRoom}
+use Rattle.mb_queue.specs.Passes.{TakePassView}
+use Rattle.mb_journal.specs.Fates.{begun}
+use Rattle.mb_ghost.specs.Summed.{total}
+use Rattle.mb_gate.specs.declared.claim.Claim.{Claim}
+use Rattle.mb_gate.specs.Accessors.{held_actor}
+use Rattle.mb_gate.specs.Rule.{IsAmong}
+use Rattle.mb_gate.specs.View.{View, Observation, Saw, Took}
+use Rattle.mb_gate.specs.Waiting.{counted_off}
+use Rattle.mb_home.specs.Contents.{Contents}
+use Rattle.mb_mailbox.specs.declared.turn.Turn.{Turn}
+use Rattle.mb_register.specs.Caller.{TakesOver}
+use Rattle.mb_mailbox.specs.OnlyDrained.{DrainedLast, TakesOnlyDrained}
+use Rattle.mb_mailbox.specs.Emptied.{FindsNoMore, IsEmptied}
+use Rattle.mb_mailbox.specs.RunState.{RunState}
+
+-- How many envelopes of this actor an observation took.
+abbrev pub taken_of : ℕ → Observation → ℕ
+taken_of actor (Took a n) = if a == actor then n else 0
+taken_of actor _ = 0
+
+-- How many of these entries are of system messages.
+abbrev pub systems_in : List Entry → ℕ
+systems_in [] = 0
+systems_in (System number m outcome ∷ before) = systems_in before + 1
+systems_in (Handled envelope reading outcome ∷ before) = systems_in before
+systems_in (Dropped envelope ∷ before) = systems_in before
+
+-- A run in progress: the journal was extended by blocks of system messages, with an envelope before each but the first, and the run counts both.
+pub record CountsRun (hold : RunState) (turn : Turn) : Type 0 where
+  pub turns : IsTurns hold.home.cell.who hold.before turn.envelopes hold.home.cell.journal
+  pub system : turn.system + systems_in hold.before ≡ systems_in hold.home.cell.journal
+  pub actor : turn.actor.0 ≡ hold.actor
+
+-- A block is at its end: the last drain gave nothing, and no message that was set aside goes before others.
+pub record IsDrained (hold : RunState) : Type 0 where
+  pub last : DrainedLast hold.actor hold.log
+  pub none : next_front hold.home.cell.who hold.home.cell.journal ≡ None
+
+-- This was a reason to take no envelope more.
+abbrev pub IsStopReason : Identity → List Entry → Stopped → Type 0
+IsStopReason who journal UsedUp = ⊥
+IsStopReason who journal (NotOpen word) = IsShut who journal word × (next_front who journal ≡ None)
+IsStopReason who journal (NoEnvelope word) = IsOpen who journal word × (next_front who journal ≡ None)
+IsStopReason who journal AtClosing = closed who journal ≡ true
+IsStopReason who journal NoRoom = ⊥
+
+-- There was room for all that the run took.
+abbrev pub HadRoom : Stopped → Type 0
+HadRoom UsedUp = Unit {0}
+HadRoom (NotOpen word) = Unit {0}
+HadRoom (NoEnvelope word) = Unit {0}
+HadRoom AtClosing = Unit {0}
+HadRoom NoRoom = ⊥
+
+-- Unless it was closed or had no room, the run's last step at the actor's list was a drain that gave nothing.
+abbrev pub EndsDrained : ℕ → List Observation → Stopped → Type 0
+EndsDrained actor log UsedUp = DrainedLast actor log
+EndsDrained actor log (NotOpen word) = DrainedLast actor log
+EndsDrained actor log (NoEnvelope word) = DrainedLast actor log
+EndsDrained actor log AtClosing = Unit {0}
+EndsDrained actor log NoRoom = Unit {0}
+
+-- If it stopped since no envelope was there, its last take found none.
+abbrev pub LastTakeFoundNone : TakePassView → TakePassView → Stopped → Type 0
+LastTakeFoundNone old new UsedUp = Unit {0}
+LastTakeFoundNone old new (NotOpen word) = Unit {0}
+LastTakeFoundNone old new (NoEnvelope word) = FindsNoMore old new
+LastTakeFoundNone old new AtClosing = Unit {0}
+LastTakeFoundNone old new NoRoom = Unit {0}
+
+-- If it stopped since no envelope was there, it had room for one when it asked.
+abbrev pub LastTakeHadRoom : Identity → List Entry → Stopped → Type 0
+LastTakeHadRoom who journal UsedUp = Unit {0}
+LastTakeHadRoom who journal (NotOpen word) = Unit {0}
+LastTakeHadRoom who journal (NoEnvelope word) = length journal < who.limit
+LastTakeHadRoom who journal AtClosing = Unit {0}
+LastTakeHadRoom who journal NoRoom = Unit {0}
+
+-- a block is at its end, or the mailbox is closed
+abbrev pub EndsBlock : RunState → Type 0
+EndsBlock hold = (hold.status.closed ≡ true) ⊎ IsDrained hold
+
+-- The run takes no envelope more for this reason, where its pass of the queue was this one before; and unless it is closed, its last step at the
+-- actor's list was a drain that gave nothing.
+abbrev pub TakesNoMore : TakePassView → RunState → Type 0
+TakesNoMore from hold = (stopped : Stopped) × IsStopReason hold.home.cell.who hold.home.cell.journal stopped
+    × EndsDrained hold.actor hold.log stopped × LastTakeFoundNone from hold.home.take stopped
+    × LastTakeHadRoom hold.home.cell.who hold.home.cell.journal stopped
+
+-- the run stopped for this reason, with so many envelopes
+abbrev pub HasStopped : TakePassView → RunState → ℕ → ℕ → Type 0
+HasStopped from hold throughput envelopes = (stopped : Stopped) × HadRoom stopped × EndsDrained hold.actor hold.log stopped
+    × LastTakeFoundNone from hold.home.take stopped × IsReason hold.home.cell.who throughput envelopes hold.home.cell.journal stopped
+    × LastTakeHadRoom hold.home.cell.who hold.home.cell.journal stopped
+
+-- memory can have been refused: the journal has room for an entry, so that one was asked for, or the actor ended, and its envelopes need places
+abbrev pub IsShortOfMemory : Identity → List Entry → Type 0
+IsShortOfMemory who journal = (length journal < who.limit) ⊎ (closed who journal ≡ true)
+
+-- The run ends with an empty queue, by why it stopped and whether the actor ended: no envelope was there, or all were cleaned up.
+abbrev pub EndsEmpty : Stopped → Bool → Type 0
+EndsEmpty UsedUp ended = ended ≡ true
+EndsEmpty (NotOpen word) ended = ended ≡ true
+EndsEmpty (NoEnvelope word) ended = Unit {0}
+EndsEmpty AtClosing ended = Unit {0}
+EndsEmpty NoRoom ended = ⊥
+
+-- The claim's actor ran from the journal with which the claim was taken to this one, which the pass has seen. The result names the actor and counts
+-- the entries of either kind. The pass took over the steps of the claim's seat. Among them each that took an envelope came when no system message was
+-- left to be drained; and they count as many envelopes as taken as were begun and cleaned up. None is cleaned up unless the actor ended. If the run
+-- stopped since no envelope was there, or the actor ended and there was room for all, these are all envelopes that the takes gave, and the last take
+-- found none; in the first case the journal has room for one more.
+pub record LeavesRun (throughput : ℕ) (claim : Claim (Box Contents)) (old pass : View) (journal : List Entry) (turn : Turn) (stopped : Stopped)
+    : Type 0 where
+  pub run : IsRun claim.home.value.cell.who throughput claim.home.value.cell.journal journal stopped
+  pub actor : turn.actor.0 ≡ held_actor claim
+  pub envelopes : run.envelopes ≡ turn.envelopes
+  pub system : turn.system + systems_in claim.home.value.cell.journal ≡ systems_in journal
+  pub seen : IsAmong (Saw (held_actor claim) journal) pass.log
+  pub steps : List Observation
+  pub taken_over : TakesOver old pass steps
+  pub only_drained : TakesOnlyDrained (held_actor claim) steps
+  pub last : EndsDrained (held_actor claim) steps stopped
+  pub room : LastTakeHadRoom claim.home.value.cell.who journal stopped
+  pub started : List Envelope
+  pub started_is : begun journal ≡ begun claim.home.value.cell.journal ++ started
+  pub cleaned : List Envelope
+  pub none_cleaned : closed claim.home.value.cell.who journal ≡ false → cleaned ≡ []
+  pub counted : total (counted_off (held_actor claim)) steps ≡ turn.envelopes + length cleaned
+  pub counts : total (taken_of (held_actor claim)) pass.log
+      ≡ total (taken_of (held_actor claim)) old.log + turn.envelopes + length cleaned
+  pub emptied : EndsEmpty stopped (closed claim.home.value.cell.who journal) → IsEmptied claim.home.value.take (started ++ cleaned)

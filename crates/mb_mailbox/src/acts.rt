@@ -1,0 +1,129 @@
+//! Carrying out the acts that a message asks for.
+ghost use Rattle.std.specs.Prelude.{◌≡◌, [], ◌∷◌, true, false, IsErrOf, OnErr, OnOk};
+ghost use Rattle.mb_supervision.specs.ActQueue.{act_of};
+ghost use Rattle.mb_journal.specs.Acts.Act.{CloseSelf};
+ghost use Rattle.mb_journal.specs.Life.{closed};
+ghost use Rattle.mb_gate.specs.Accessors.{pass_view};
+ghost use Rattle.mb_gate.specs.Untouched.{origin_of};
+ghost use Rattle.mb_register.specs.Caller.{IsRegistrarOf, caller_of, CallerAdvances};
+ghost use Rattle.mb_mailbox.specs.Emptied.{FindsNoMore, IsCleared};
+ghost use Rattle.mb_mailbox.specs.RunState.{run_state};
+ghost use Rattle.mb_mailbox.specs.Running.{IsRunning, BacklogAgrees, KeepsJournal};
+
+use crate::clean_up::clean_up;
+use crate::sending_system::send_system;
+use crate::telling::tell;
+use mb_actor::{Actor, Behaviours};
+use mb_cell::Act;
+use mb_gate::{Claim, Gates, RunQueue};
+use mb_home::BoxedHome;
+use mb_journal::ReadyError;
+use mb_register::Registrar;
+use std::alloc::AllocError;
+use std::sync::Wait;
+
+/// Carries out the acts of the last message, in order. It answers `NoMemory` if a place for an envelope of an actor that
+/// ended was refused; the other acts are carried out all the same.
+#[inline(always)]
+pub(crate) fn carry_out<A: Actor, K: Behaviours, W: RunQueue<BoxedHome<A, K>>, R: Wait>(
+    rt: &R,
+    gates: &Gates<BoxedHome<A, K>>,
+    registrar: &mut Registrar<BoxedHome<A, K>, W>,
+    claim: &mut Claim<BoxedHome<A, K>>,
+) -> Result<(), ReadyError>
+    requires ours { IsRegistrarOf W.origin gates.now registrar.old }
+    requires running { IsRunning K.gives (origin_of gates.now) (claim.old.home.value.cell.acts) (pass_view registrar.old.pass).log (run_state claim.old) }
+    requires backlog { BacklogAgrees (run_state claim.old) }
+    ensures ours { IsRegistrarOf W.origin gates.now registrar.new }
+    ensures running { IsRunning K.gives (origin_of gates.now) [] (pass_view registrar.new.pass).log (run_state claim.new) }
+    ensures backlog { BacklogAgrees (run_state claim.new) }
+    ensures carried_out { claim.new.home.value.cell.acts ≡ [] }
+    ensures same { KeepsJournal (run_state claim.old) (run_state claim.new) }
+    ensures cleared { OnOk result (IsCleared (run_state claim.old) (run_state claim.new)) }
+    ensures caller_advances { CallerAdvances (caller_of W.pushed W.refused registrar.old) (caller_of W.pushed W.refused registrar.new) }
+    ensures refused { OnErr result (IsErrOf result ReadyError.NoMemory) }
+    ensures ended { OnErr result (closed claim.new.home.value.cell.who claim.new.home.value.cell.journal ≡ true) }
+{
+    let mut is_clean = true;
+    while let Some(act) = claim.home.next_act() {
+        is_clean &= carry(rt, gates, registrar, claim, act).is_ok();
+    }
+    answer_of(is_clean)
+}
+
+fn answer_of(is_clean: bool) -> Result<(), ReadyError>
+    ensures refused { OnErr result (IsErrOf result ReadyError.NoMemory) }
+    ensures clean { OnOk result (is_clean ≡ true) }
+    ensures not_clean { OnErr result (is_clean ≡ false) }
+{
+    if is_clean {
+        Ok(())
+    } else {
+        Err(ReadyError::NoMemory)
+    }
+}
+
+fn carry<A: Actor, K: Behaviours, W: RunQueue<BoxedHome<A, K>>, R: Wait>(
+    rt: &R,
+    gates: &Gates<BoxedHome<A, K>>,
+    registrar: &mut Registrar<BoxedHome<A, K>, W>,
+    claim: &mut Claim<BoxedHome<A, K>>,
+    act: Act,
+) -> Result<(), AllocError>
+    requires ours { IsRegistrarOf W.origin gates.now registrar.old }
+    requires running { IsRunning K.gives (origin_of gates.now) (act_of act ∷ claim.old.home.value.cell.acts)
+        (pass_view registrar.old.pass).log (run_state claim.old) }
+    requires backlog { BacklogAgrees (run_state claim.old) }
+    ensures ours { IsRegistrarOf W.origin gates.now registrar.new }
+    ensures running { IsRunning K.gives (origin_of gates.now) (claim.new.home.value.cell.acts) (pass_view registrar.new.pass).log (run_state claim.new) }
+    ensures backlog { BacklogAgrees (run_state claim.new) }
+    ensures left { claim.new.home.value.cell.acts ≡ claim.old.home.value.cell.acts }
+    ensures same { KeepsJournal (run_state claim.old) (run_state claim.new) }
+    ensures cleared { OnOk result (IsCleared (run_state claim.old) (run_state claim.new)) }
+    ensures ended { OnErr result (closed claim.new.home.value.cell.who claim.new.home.value.cell.journal ≡ true) }
+    ensures caller_advances { CallerAdvances (caller_of W.pushed W.refused registrar.old) (caller_of W.pushed W.refused registrar.new) }
+{
+    match act {
+        Act::Tell(to, body) => {
+            tell(rt, gates, registrar, claim, to, body);
+            Ok(())
+        }
+        Act::Sys(to, node) => {
+            send_system(rt, gates, registrar, claim, to, node);
+            Ok(())
+        }
+        Act::SuspendSelf => {
+            gates.suspend(claim);
+            Ok(())
+        }
+        Act::ResumeSelf => {
+            gates.resume(claim);
+            Ok(())
+        }
+        Act::CloseSelf => close(rt, gates, registrar, claim),
+    }
+}
+
+// Closes the mailbox for good, and cleans up.
+fn close<A: Actor, K: Behaviours, W: RunQueue<BoxedHome<A, K>>, R: Wait>(
+    rt: &R,
+    gates: &Gates<BoxedHome<A, K>>,
+    registrar: &mut Registrar<BoxedHome<A, K>, W>,
+    claim: &mut Claim<BoxedHome<A, K>>,
+) -> Result<(), AllocError>
+    requires ours { IsRegistrarOf W.origin gates.now registrar.old }
+    requires running { IsRunning K.gives (origin_of gates.now) (CloseSelf ∷ claim.old.home.value.cell.acts)
+        (pass_view registrar.old.pass).log (run_state claim.old) }
+    requires backlog { BacklogAgrees (run_state claim.old) }
+    ensures ours { IsRegistrarOf W.origin gates.now registrar.new }
+    ensures running { IsRunning K.gives (origin_of gates.now) (claim.new.home.value.cell.acts) (pass_view registrar.new.pass).log (run_state claim.new) }
+    ensures backlog { BacklogAgrees (run_state claim.new) }
+    ensures left { claim.new.home.value.cell.acts ≡ claim.old.home.value.cell.acts }
+    ensures same { KeepsJournal (run_state claim.old) (run_state claim.new) }
+    ensures emptied { OnOk result (FindsNoMore claim.old.home.value.take claim.new.home.value.take) }
+    ensures ended { closed claim.new.home.value.cell.who claim.new.home.value.cell.journal ≡ true }
+    ensures caller_advances { CallerAdvances (caller_of W.pushed W.refused registrar.old) (caller_of W.pushed W.refused registrar.new) }
+{
+    gates.close_mailbox(claim);
+    clean_up(rt, gates, registrar, claim)
+}

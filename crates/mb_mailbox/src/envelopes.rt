@@ -1,0 +1,80 @@
+//! Handling envelopes, up to the throughput.
+ghost use Rattle.std.specs.Prelude.{◌≡◌, ◌≤◌, ◌+◌, IfOk, MatchBool};
+ghost use Rattle.mb_journal.specs.Run.{most_envelopes};
+ghost use Rattle.mb_mailbox.specs.RunState.{run_state};
+ghost use Rattle.mb_mailbox.specs.InRun.{InRun, Advances, StopsRun};
+ghost use Rattle.mb_mailbox.specs.Ran.{EndsBlock, HasStopped, TakesNoMore};
+
+use crate::acts::carry_out;
+use crate::systems::apply_systems;
+use crate::turn::Turn;
+use mb_actor::{Actor, Behaviours};
+use mb_gate::{Claim, Gates, RunQueue};
+use mb_home::BoxedHome;
+use mb_journal::ReadyError;
+use mb_register::Registrar;
+use std::sync::Wait;
+
+/// Gives the cell at most as many envelopes as the throughput says (`Mailbox.processMailbox`; 0 counts as 1), each where the
+/// status that stands then is open and not suspended, and after each all system messages.
+pub(crate) fn apply_envelopes<A: Actor, K: Behaviours, W: RunQueue<BoxedHome<A, K>>, R: Wait>(
+    rt: &R,
+    gates: &Gates<BoxedHome<A, K>>,
+    registrar: &mut Registrar<BoxedHome<A, K>, W>,
+    throughput: u32,
+    claim: &mut Claim<BoxedHome<A, K>>,
+    turn: &mut Turn,
+) -> Result<(), ReadyError>
+    requires in_run { InRun K.gives W.origin gates.now registrar.old claim.old turn.old }
+    requires none_taken { turn.old.envelopes ≡ 0 }
+    requires whole { EndsBlock (run_state claim.old) }
+    ensures in_run { InRun K.gives W.origin gates.now registrar.new claim.new turn.new }
+    ensures advances { Advances W.pushed W.refused result registrar.old registrar.new claim.old claim.new }
+    ensures stops { StopsRun result claim.new }
+    ensures few { turn.new.envelopes ≤ most_envelopes throughput }
+    ensures ended { IfOk result (λ _. HasStopped claim.old.home.value.take (run_state claim.new) throughput turn.new.envelopes) }
+{
+    for _handled in 0..throughput.max(1) {
+        let took = apply_envelope(rt, gates, registrar, claim, turn)?;
+        if !took {
+            return Ok(());
+        }
+        apply_systems(rt, gates, registrar, claim, turn)?;
+    }
+    Ok(())
+}
+
+// Gives the cell the next envelope, where the status is open and not suspended and one is there, and carries out its acts.
+fn apply_envelope<A: Actor, K: Behaviours, W: RunQueue<BoxedHome<A, K>>, R: Wait>(
+    rt: &R,
+    gates: &Gates<BoxedHome<A, K>>,
+    registrar: &mut Registrar<BoxedHome<A, K>, W>,
+    claim: &mut Claim<BoxedHome<A, K>>,
+    turn: &mut Turn,
+) -> Result<bool, ReadyError>
+    requires in_run { InRun K.gives W.origin gates.now registrar.old claim.old turn.old }
+    requires whole { EndsBlock (run_state claim.old) }
+    ensures in_run { InRun K.gives W.origin gates.now registrar.new claim.new turn.new }
+    ensures advances { Advances W.pushed W.refused result registrar.old registrar.new claim.old claim.new }
+    ensures stops { StopsRun result claim.new }
+    ensures took { IfOk result (λ took. MatchBool took (turn.new.envelopes ≡ turn.old.envelopes + 1)
+        ((turn.new ≡ turn.old) × TakesNoMore claim.old.home.value.take (run_state claim.new))) }
+    ensures few { turn.new.envelopes ≤ turn.old.envelopes + 1 }
+{
+    let status = claim.status();
+    if !status.should_process() {
+        return Ok(false);
+    }
+    claim.home.ready()?;
+    let Some(envelope) = claim.home.take_next(rt) else {
+        return Ok(false);
+    };
+    // Counted before the actor is called, since a locked step waits until all that was written before it is out.
+    gates.note_taken(claim);
+    claim.home.begin(status, envelope);
+    turn.envelopes += 1;
+    match carry_out(rt, gates, registrar, claim) {
+        Ok(()) => Ok(true),
+        Err(fault) => Err(fault),
+    }
+}

@@ -1,0 +1,89 @@
+//! The run of a mailbox, from its claim to its result.
+ghost use Rattle.std.specs.Prelude.{◌≡◌, ◌≤◌, length, List, MatchResult, IfOk, IsErrOf, Some};
+ghost use Rattle.mb_journal.specs.Entry.{Entry};
+ghost use Rattle.mb_journal.specs.Run.{Stopped, most_envelopes};
+ghost use Rattle.mb_journal.specs.Run.Stopped.{NoRoom};
+ghost use Rattle.mb_gate.specs.Accessors.{actors_of, first_home, pass_view, held_actor};
+ghost use Rattle.mb_gate.specs.Untouched.{origin_of};
+ghost use Rattle.mb_register.specs.Caller.{IsRegistrarOf, caller_of, IsDischargedOrOwed, LeavesCaller};
+ghost use Rattle.mb_home.specs.Fresh.{IsFreshClaim};
+ghost use Rattle.mb_mailbox.specs.RunState.{run_state};
+ghost use Rattle.mb_mailbox.specs.InRun.{InRun, Advances, StopsRun};
+ghost use Rattle.mb_mailbox.specs.Ran.{HadRoom, HasStopped, IsShortOfMemory, LeavesRun};
+ghost use Rattle.mb_mailbox.specs.declared.turn.Turn.{Turn};
+
+use crate::envelopes::apply_envelopes;
+use crate::systems::apply_systems;
+use crate::turn::Turn;
+use mb_actor::{Actor, Behaviours};
+use mb_gate::{Claim, Gates, RunQueue};
+use mb_home::BoxedHome;
+use mb_journal::ReadyError;
+use mb_register::{Hint, Registrar};
+use std::sync::Wait;
+
+/// Runs the mailbox of the claim's actor: all its system messages, and then at most as many envelopes as `throughput` says (0
+/// counts as 1), each followed by all system messages that came. Then the cell is given back, and the actor is registered again
+/// if it has to be given to a worker.
+///
+/// It answers `JournalFull` if the journal was full before the next message, or before it asked for one more envelope; else
+/// `NoMemory` if memory was refused then, or for an envelope of an actor that ended. The run ends there: what was drained stays
+/// beside the cell, and no envelope was taken for it.
+pub fn run_mailbox<A: Actor, K: Behaviours, W: RunQueue<BoxedHome<A, K>>, R: Wait>(
+    rt: &R,
+    gates: &Gates<BoxedHome<A, K>>,
+    registrar: &mut Registrar<BoxedHome<A, K>, W>,
+    throughput: u32,
+    claim: Claim<BoxedHome<A, K>>,
+) -> Result<Turn, ReadyError>
+    requires ours { IsRegistrarOf W.origin gates.now registrar.old }
+    requires untouched { IsFreshClaim K.gives (Some (origin_of gates.now)) claim }
+    requires many { length (first_home gates.now).value.directory ≡ actors_of gates.now }
+    ensures ours { IsRegistrarOf W.origin gates.now registrar.new }
+    ensures caller_advances { LeavesCaller (caller_of W.pushed W.refused registrar.old) (caller_of W.pushed W.refused registrar.new) }
+    ensures discharged { IsDischargedOrOwed (held_actor claim) (caller_of W.pushed W.refused registrar.new) }
+    ensures ran { (journal : List Entry) × MatchResult result
+        (λ turn. (stopped : Stopped) × HadRoom stopped
+        × LeavesRun throughput claim (pass_view registrar.old.pass) (pass_view registrar.new.pass) journal turn stopped)
+        (λ _. (turn : Turn) × LeavesRun throughput claim (pass_view registrar.old.pass) (pass_view registrar.new.pass) journal turn NoRoom
+        × (IsErrOf result ReadyError.JournalFull → claim.home.value.cell.who.limit ≤ length journal)) }
+    ensures short { IsErrOf result ReadyError.NoMemory → (journal : List Entry) × (turn : Turn)
+        × LeavesRun throughput claim (pass_view registrar.old.pass) (pass_view registrar.new.pass) journal turn NoRoom
+        × IsShortOfMemory claim.home.value.cell.who journal }
+{
+    let mut claim = claim;
+    let actor = claim.actor();
+    let mut turn = Turn {
+        actor,
+        system: 0,
+        envelopes: 0,
+    };
+    let outcome = run_claim(rt, gates, registrar, throughput, &mut claim, &mut turn);
+    gates.release(claim, &mut registrar.pass);
+    registrar.register(rt, gates, actor, Hint::None);
+    match outcome {
+        Ok(()) => Ok(turn),
+        Err(fault) => Err(fault),
+    }
+}
+
+// The steps of the run before the claim goes back.
+fn run_claim<A: Actor, K: Behaviours, W: RunQueue<BoxedHome<A, K>>, R: Wait>(
+    rt: &R,
+    gates: &Gates<BoxedHome<A, K>>,
+    registrar: &mut Registrar<BoxedHome<A, K>, W>,
+    throughput: u32,
+    claim: &mut Claim<BoxedHome<A, K>>,
+    turn: &mut Turn,
+) -> Result<(), ReadyError>
+    requires in_run { InRun K.gives W.origin gates.now registrar.old claim.old turn.old }
+    requires none_taken { turn.old.envelopes ≡ 0 }
+    ensures in_run { InRun K.gives W.origin gates.now registrar.new claim.new turn.new }
+    ensures advances { Advances W.pushed W.refused result registrar.old registrar.new claim.old claim.new }
+    ensures stops { StopsRun result claim.new }
+    ensures few { turn.new.envelopes ≤ most_envelopes throughput }
+    ensures ended { IfOk result (λ _. HasStopped claim.old.home.value.take (run_state claim.new) throughput turn.new.envelopes) }
+{
+    apply_systems(rt, gates, registrar, claim, turn)?;
+    apply_envelopes(rt, gates, registrar, throughput, claim, turn)
+}

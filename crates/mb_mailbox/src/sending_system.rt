@@ -1,0 +1,119 @@
+//! Sending system messages in a run.
+ghost use Rattle.std.specs.Prelude.{◌≡◌, ◌<◌, ◌∷◌, IfSome};
+ghost use Rattle.mb_journal.specs.Acts.Act.{Sys};
+ghost use Rattle.mb_gate.specs.Accessors.{actors_of, pass_view};
+ghost use Rattle.mb_gate.specs.NamedActors.{NamesBelow};
+ghost use Rattle.mb_gate.specs.Untouched.{origin_of};
+ghost use Rattle.mb_register.specs.Caller.{IsRegistrarOf, caller_of, CallerAdvances};
+ghost use Rattle.mb_mailbox.specs.Emptied.{IsCleared};
+ghost use Rattle.mb_mailbox.specs.RunState.{run_state};
+ghost use Rattle.mb_mailbox.specs.Notice.{IsAnswered, IsNotified, asker};
+ghost use Rattle.mb_mailbox.specs.Running.{IsRunning, BacklogAgrees, KeepsJournal};
+
+use mb_actor::{Actor, Behaviours};
+use mb_gate::{Claim, Gates, RunQueue};
+use mb_home::BoxedHome;
+use mb_msg::{ActorId, SysMsg};
+use mb_register::{Hint, Registrar};
+use mb_syslist::{ListClosed, Node};
+use std::sync::Wait;
+
+/// Sends a system message in the run of a claim. If the receiver's list is ended, who waits for an answer is told that the
+/// receiver has ended, with the same node: of a Watch the watcher, of a Create the claim's actor, which is the parent
+/// (`EmptyLocalActorRef.sendSystemMessage`; that a Create is answered is this project's own profile).
+pub(crate) fn send_system<A: Actor, K: Behaviours, W: RunQueue<BoxedHome<A, K>>, R: Wait>(
+    rt: &R,
+    gates: &Gates<BoxedHome<A, K>>,
+    registrar: &mut Registrar<BoxedHome<A, K>, W>,
+    claim: &mut Claim<BoxedHome<A, K>>,
+    to: ActorId,
+    node: Node,
+)
+    requires ours { IsRegistrarOf W.origin gates.now registrar.old }
+    requires running { IsRunning K.gives (origin_of gates.now) (Sys to node ∷ claim.old.home.value.cell.acts)
+        (pass_view registrar.old.pass).log (run_state claim.old) }
+    requires backlog { BacklogAgrees (run_state claim.old) }
+    ensures ours { IsRegistrarOf W.origin gates.now registrar.new }
+    ensures running { IsRunning K.gives (origin_of gates.now) (claim.new.home.value.cell.acts) (pass_view registrar.new.pass).log (run_state claim.new) }
+    ensures backlog { BacklogAgrees (run_state claim.new) }
+    ensures left { claim.new.home ≡ claim.old.home }
+    ensures same { KeepsJournal (run_state claim.old) (run_state claim.new) }
+    ensures cleared { IsCleared (run_state claim.old) (run_state claim.new) }
+    ensures caller_advances { CallerAdvances (caller_of W.pushed W.refused registrar.old) (caller_of W.pushed W.refused registrar.new) }
+{
+    match gates.sys_enqueue_in_run(rt, &mut registrar.pass, claim, to, node) {
+        Ok(_) => {
+            registrar.register(rt, gates, to, Hint::System);
+        }
+        Err(ListClosed(node)) => {
+            let parent = claim.actor();
+            answer(rt, gates, registrar, claim, Some(parent), to, node);
+        }
+    }
+}
+
+/// Tells who waits for an answer to this message, which came too late to an actor with this parent, that its receiver has
+/// ended.
+pub(crate) fn answer<A: Actor, K: Behaviours, W: RunQueue<BoxedHome<A, K>>, R: Wait>(
+    rt: &R,
+    gates: &Gates<BoxedHome<A, K>>,
+    registrar: &mut Registrar<BoxedHome<A, K>, W>,
+    claim: &mut Claim<BoxedHome<A, K>>,
+    parent: Option<ActorId>,
+    ended: ActorId,
+    node: Node,
+)
+    requires ours { IsRegistrarOf W.origin gates.now registrar.old }
+    requires parent { IfSome parent (λ p. p.0 < actors_of gates.now) }
+    requires there { ended.0 < actors_of gates.now }
+    requires named { NamesBelow (actors_of gates.now) node }
+    ensures ours { IsRegistrarOf W.origin gates.now registrar.new }
+    ensures answered { IsAnswered (asker parent node) ended.0 claim.old claim.new }
+    ensures caller_advances { CallerAdvances (caller_of W.pushed W.refused registrar.old) (caller_of W.pushed W.refused registrar.new) }
+{
+    match asker_of(parent, node.msg()) {
+        Some(whom) => notify(rt, gates, registrar, claim, whom, ended, node),
+        None => {}
+    }
+}
+
+// Who waits for an answer to a message that came too late to an actor with this parent: of a Watch the watcher, of a Create the
+// parent.
+fn asker_of(parent: Option<ActorId>, message: SysMsg) -> Option<ActorId>
+    ensures { result ≡ asker parent message }
+{
+    match message {
+        SysMsg::Watch(watcher) => Some(watcher),
+        SysMsg::Create => parent,
+        SysMsg::Recreate(_)
+        | SysMsg::Suspend
+        | SysMsg::Resume { .. }
+        | SysMsg::Terminate
+        | SysMsg::Unwatch(_)
+        | SysMsg::Failed(_, _)
+        | SysMsg::Died(_) => None,
+    }
+}
+
+// Tells one actor that another has ended, with this node. The claim's record says whether the notice came into a list.
+fn notify<A: Actor, K: Behaviours, W: RunQueue<BoxedHome<A, K>>, R: Wait>(
+    rt: &R,
+    gates: &Gates<BoxedHome<A, K>>,
+    registrar: &mut Registrar<BoxedHome<A, K>, W>,
+    claim: &mut Claim<BoxedHome<A, K>>,
+    whom: ActorId,
+    ended: ActorId,
+    mut node: Node,
+)
+    requires ours { IsRegistrarOf W.origin gates.now registrar.old }
+    requires there { (whom.0 < actors_of gates.now) × (ended.0 < actors_of gates.now) }
+    ensures ours { IsRegistrarOf W.origin gates.now registrar.new }
+    ensures told { IsNotified whom.0 ended.0 claim.old claim.new }
+    ensures caller_advances { CallerAdvances (caller_of W.pushed W.refused registrar.old) (caller_of W.pushed W.refused registrar.new) }
+{
+    node.set(SysMsg::Died(ended));
+    let Ok(_) = gates.sys_enqueue_in_run(rt, &mut registrar.pass, claim, whom, node) else {
+        return;
+    };
+    registrar.register(rt, gates, whom, Hint::System);
+}

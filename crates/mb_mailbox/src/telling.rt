@@ -1,0 +1,95 @@
+//! Sending the envelopes that an actor tells.
+ghost use Rattle.std.specs.Prelude.{◌≡◌, ◌<◌, ◌∷◌, IfNone, MatchOption};
+ghost use Rattle.mb_journal.specs.Acts.Act.{Tell};
+ghost use Rattle.mb_gate.specs.Accessors.{actors_of, gates_id, pass_view, pass_id};
+ghost use Rattle.mb_gate.specs.Untouched.{origin_of};
+ghost use Rattle.mb_gate.specs.View.{reading};
+ghost use Rattle.mb_home.specs.AgreesWithJournal.{AgreesWithJournal};
+ghost use Rattle.mb_register.specs.Caller.{IsRegistrarOf, caller_of, CallerAdvances};
+ghost use Rattle.mb_mailbox.specs.Emptied.{IsCleared};
+ghost use Rattle.mb_mailbox.specs.RunState.{run_state};
+ghost use Rattle.mb_mailbox.specs.Running.{IsRunning, BacklogAgrees, KeepsJournal};
+ghost use Rattle.mb_mailbox.specs.Sending.{HintTells, IsSentOrDead, TellsClosed};
+
+use mb_actor::{Actor, Behaviours};
+use mb_gate::{Claim, Gates, Pass, RunQueue};
+use mb_home::BoxedHome;
+use mb_msg::{ActorId, Body};
+use mb_register::{Hint, Registrar};
+use std::sync::Wait;
+
+/// Sends what the claim's actor tells: reads the receiver's status, counts the envelope, queues it, and registers the receiver.
+/// If the receiver was read as closed, or its queue refused the envelope, that is a dead letter.
+pub(crate) fn tell<A: Actor, K: Behaviours, W: RunQueue<BoxedHome<A, K>>, R: Wait>(
+    rt: &R,
+    gates: &Gates<BoxedHome<A, K>>,
+    registrar: &mut Registrar<BoxedHome<A, K>, W>,
+    claim: &mut Claim<BoxedHome<A, K>>,
+    to: ActorId,
+    body: Body,
+)
+    requires ours { IsRegistrarOf W.origin gates.now registrar.old }
+    requires running { IsRunning K.gives (origin_of gates.now) (Tell to body ∷ claim.old.home.value.cell.acts)
+        (pass_view registrar.old.pass).log (run_state claim.old) }
+    requires backlog { BacklogAgrees (run_state claim.old) }
+    ensures ours { IsRegistrarOf W.origin gates.now registrar.new }
+    ensures running { IsRunning K.gives (origin_of gates.now) (claim.new.home.value.cell.acts) (pass_view registrar.new.pass).log (run_state claim.new) }
+    ensures backlog { BacklogAgrees (run_state claim.new) }
+    ensures left { claim.new.home.value.cell ≡ claim.old.home.value.cell }
+    ensures same { KeepsJournal (run_state claim.old) (run_state claim.new) }
+    ensures cleared { IsCleared (run_state claim.old) (run_state claim.new) }
+    ensures caller_advances { CallerAdvances (caller_of W.pushed W.refused registrar.old) (caller_of W.pushed W.refused registrar.new) }
+    ensures told { IsSentOrDead to body (pass_view registrar.old.pass) (pass_view registrar.new.pass) claim.old.home.value claim.new.home.value }
+{
+    match send(rt, gates, &mut registrar.pass, &mut claim.home, to, body) {
+        None => {}
+        Some(hint) => {
+            registrar.register(rt, gates, to, hint);
+        }
+    }
+}
+
+/// Reads the receiver's status, counts the envelope and queues it. `None` where the receiver was read closed, and else what the
+/// receiver is to be registered with: a hint where the envelope was queued, and none where the queue refused it, so that it is a
+/// dead letter.
+///
+/// A sender outside the actors counts its envelopes in the same way (`counts` of `mb_register`; `Sender::put` of `mb_send`). Those are
+/// two functions, since they know different things: a run reads the status right before it counts, and its actor's home numbers
+/// the envelope and keeps it; a sender outside goes by a ticket, which may be older, and its book numbers and keeps it.
+fn send<A: Actor, K: Behaviours, R: Wait>(
+    rt: &R,
+    gates: &Gates<BoxedHome<A, K>>,
+    pass: &mut Pass<BoxedHome<A, K>>,
+    home: &mut BoxedHome<A, K>,
+    to: ActorId,
+    body: Body,
+) -> Option<Hint>
+    requires ours { pass_id pass.old ≡ gates_id gates.now }
+    requires there { to.0 < actors_of gates.now }
+    requires settled { AgreesWithJournal (K.gives home.old.value.cell.who.this.0) (Tell to body ∷ home.old.value.cell.acts) home.old.value }
+    ensures ours { pass_id pass.new ≡ pass_id pass.old }
+    ensures settled { AgreesWithJournal (K.gives home.new.value.cell.who.this.0) home.new.value.cell.acts home.new.value }
+    ensures same { home.new.value ≡ record home.old.value {
+      sends = home.new.value.sends;
+      sent = home.new.value.sent;
+      dead = home.new.value.dead;
+      room = home.new.value.room;
+    } }
+    ensures told { MatchOption result (TellsClosed to body (pass_view pass.old) (pass_view pass.new) home.old.value home.new.value)
+        (λ hint. HintTells hint to body (pass_view pass.old) (pass_view pass.new) home.old.value home.new.value) }
+    ensures closed { IfNone result (pass_view pass.new ≡ reading to.0 1 (pass_view pass.old)) }
+{
+    let status = gates.status(pass, to);
+    if status.closed() {
+        home.record_closed_receiver(to, body);
+        return None;
+    }
+    gates.note_sent(pass, to);
+    match home.push(rt, to, body) {
+        Ok(()) => Some(Hint::Message),
+        Err(_) => {
+            gates.note_unsent(pass, to);
+            Some(Hint::None)
+        }
+    }
+}

@@ -1,0 +1,20 @@
+//! The plan of a system.
+use crate::actor_plan::ActorPlan;
+use crate::pool_kind::PoolKind;
+
+/// What a system is built from. Actor n + 1 is built from `actors[n]`: number 0 is the guardian.
+#[derive(Debug, Drop)]
+pub struct Plan {
+    /// How many envelopes a run of a mailbox handles at most; 0 counts as 1 (Akka's `throughput`).
+    pub throughput: u32,
+    /// How many workers run mailboxes, from 1 to 16.
+    pub workers: u32,
+    /// How the workers share the work.
+    pub pool: PoolKind,
+    /// How many senders outside the actors there are, up to 16.
+    pub senders: u32,
+    /// How many entries the journal of each actor may have, at least 1.
+    pub journal_limit: u32,
+    /// The actors beside the guardian, at most 63.
+    pub actors: Vec<ActorPlan>,
+}

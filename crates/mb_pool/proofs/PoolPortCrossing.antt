@@ -1,0 +1,16 @@
+-- The ports may go to another thread where homes may.
+use denote.RattleType.{RattleType}
+use denote.Param.Send.{IsSend, sendable}
+use denote.Param.SendFields.{declared_send}
+use Rattle.mb_ghost.proofs.Crossing.{log_send}
+use Rattle.mb_gate.specs.declared.mailbox_state.MailboxState as resident
+use Rattle.mb_pool.proofs.Crossing as pool
+use Rattle.mb_pool.specs.contracts.worker_port.WorkerPort as end_way
+use Rattle.mb_pool.specs.contracts.feed_port.FeedPort as feed_way
+
+module _ (H : RattleType) (g : resident.Ghosts H.Denot) (home : IsSend H) where
+  pub end_way_send : IsSend (end_way.the_row H g)
+  end_way_send = declared_send (end_way.the_type H g) (pool.end_send H g home, (search (sendable, log_send) depth 20, tt))
+
+  pub feed_way_send : IsSend (feed_way.the_row H g)
+  feed_way_send = declared_send (feed_way.the_type H g) (pool.feed_send H g home, (search (sendable, log_send) depth 20, tt))

@@ -1,0 +1,46 @@
+-- What a push and a take through a port do to what was pushed through it.
+use Rattle.std.proofs.Common.{◌≡◌, List, [], ◌∷◌, ◌++◌, refl, sym, ap, ◌∙◌, Option, Some, None, MatchOption}
+use Rattle.std.specs.Prelude.{IfNone, IfSome}
+use Rattle.std.proofs.lemmas.List.{map-append}
+use Rattle.mb_gate.specs.declared.claim.Claim.{Claim}
+use Rattle.mb_gate.specs.Untouched.{Origin}
+use Rattle.mb_pool.specs.Ledger.{IndexedClaim, claims_in}
+use Rattle.mb_pool.specs.Moves.{Pushes, Takes}
+use Rattle.mb_pool.specs.Places.{PoolPort, Part, Parts, PoolEndpoint, gates_of, looks, parts_of}
+use Rattle.mb_pool.specs.PoolPorts.{pushed_first}
+
+module _ {H : Type 0} where
+  -- of the same ports it is of the same gates
+  pub same-gates : (old new : PoolEndpoint H) → parts_of new ≡ parts_of old → gates_of new ≡ gates_of old
+  same-gates old new same = ap (λ (p : Parts H). p.shared_port.gates) same
+
+  same-first : (before rest : List (PoolPort H)) (look look' : PoolPort H) → claims_in look'.ledger.pushed ≡ claims_in look.ledger.pushed
+      → pushed_first (before ++ look' ∷ rest) ≡ pushed_first (before ++ look ∷ rest)
+  same-first [] rest look look' same = same
+  same-first (l ∷ before) rest look look' same = refl
+
+module _ {H : Type 0} (IsFit : Option (Origin H) → Claim H → Type 0) where
+  pub pushes-first : (old new : PoolEndpoint H) (c : Claim H) → Pushes IsFit old c new → pushed_first (looks new) ≡ pushed_first (looks old) ++ c ∷ []
+  pushes-first old new c p =
+      ap pushed_first p.then' ∙ ap (λ l. claims_in l.pushed) p.last.2
+      ∙ map-append (λ (t : IndexedClaim (Claim H)). t.claim) p.look.ledger.pushed _
+      ∙ ap (λ l. l ++ c ∷ []) (sym (ap pushed_first p.found))
+
+  takes-first : (old new : PoolEndpoint H) (c : Claim H) → Takes IsFit old c new → pushed_first (looks new) ≡ pushed_first (looks old)
+  takes-first old new c t =
+      ap pushed_first t.then' ∙ same-first t.before t.rest t.look _ (ap (λ l. claims_in l.pushed) t.first.2) ∙ sym (ap pushed_first t.found)
+
+  pub taken-same : (A : Type 0) (r : Option (Claim H)) (old new : PoolEndpoint H) → MatchOption r ((new ≡ old) × A) (λ c. Takes IsFit old c new)
+      → pushed_first (looks new) ≡ pushed_first (looks old)
+  taken-same A None old new h = ap (λ w. pushed_first (looks w)) h.0
+  taken-same A (Some c) old new h = takes-first old new c h
+
+-- what an answer of none says
+pub none-tells : {X : Type 0} (A B C : Type 0) (P : X → Type 0) (r : Option X) → (A → C) → MatchOption r (A × B) P → IfNone r (C × B)
+none-tells A B C P None f h = (f h.0, h.1)
+none-tells A B C P (Some x) f h = tt
+
+-- what an answer of some says
+pub some-tells : {X : Type 0} (A : Type 0) (P : X → Type 0) (r : Option X) → MatchOption r A P → IfSome r P
+some-tells A P None h = tt
+some-tells A P (Some x) h = h

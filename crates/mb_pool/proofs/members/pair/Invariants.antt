@@ -1,9 +1,0 @@
-use Rattle.std.proofs.Common.{◌≡◌, [], ◌∷◌, ◌++◌, length, map}
-use Rattle.std.specs.Vec.Iter.{into_iter_items}
-use Rattle.mb_pool.specs.Ways.{next_of, own_of}
-use Rattle.mb_pool.proofs.members.pair.Given as goal
-
-abbrev pub invariant-loop-own : goal.invariant-loop-own
-invariant-loop-own g l = (map own_of l.members.items ++ map (λ o. o ∷ []) (into_iter_items l.own-iterator) ≡ map (λ o. o ∷ []) l.fn.owns.items)
-    × (map next_of l.members.items ++ map (λ v. v.items) (into_iter_items l.lists) ≡ map (λ v. v.items) l.fn.lists.items)
-    × (length (into_iter_items l.own-iterator) ≡ length (into_iter_items l.lists))

@@ -1,0 +1,17 @@
+-- What was pushed into the pool through an end or a feed (this project's own profile).
+use Rattle.std.specs.Prelude.{◌≡◌, List, [], ◌∷◌, Option}
+use Rattle.mb_gate.specs.declared.claim.Claim.{Claim}
+use Rattle.mb_gate.specs.Untouched.{Origin}
+use Rattle.mb_pool.specs.Ledger.{claims_in}
+use Rattle.mb_pool.specs.Moves.{given_back, IsRefusedBy}
+use Rattle.mb_pool.specs.Places.{PoolPort, PoolEndpoint}
+use Rattle.mb_pool.specs.declared.claim_refused.ClaimRefused.{ClaimRefused}
+
+-- the claims that were pushed into the queue of the first of these ports: an end or a feed pushes into no other
+abbrev pub pushed_first : {H : Type 0} → List (PoolPort H) → List (Claim H)
+pushed_first [] = []
+pushed_first (look ∷ rest) = claims_in look.ledger.pushed
+
+-- the pool refused this claim of an end or a feed, for a reason of its own
+abbrev pub IsRefusedByPool : {H : Type 0} → (Option (Origin H) → Claim H → Type 0) → PoolEndpoint H → Claim H → Type 0
+IsRefusedByPool {H} IsFit way claim = (refused : ClaimRefused H) × (given_back refused ≡ claim) × IsRefusedBy IsFit way refused

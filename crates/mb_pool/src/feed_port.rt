@@ -1,0 +1,69 @@
+//! A sender's feed of the pool, as a run queue for its claims.
+ghost use Rattle.std.specs.Prelude.{◌≡◌};
+
+use crate::back::back;
+use crate::feed::Feed;
+use mb_gate::{Claim, MailboxState, RefusedClaim, RunQueue};
+use mb_ghost::Log;
+use std::snapshot::Snapshot;
+use std::sync::Wait;
+
+/// A feed of the pool, with the claims that the pool refused, for proofs alone (this project's own profile).
+#[derive(Drop)]
+pub struct FeedPort<H: MailboxState> {
+    /// The feed.
+    pub feed: Feed<H>,
+    /// The claims that the pool refused, in order.
+    pub refused: Log<Snapshot<Claim<H>>>,
+}
+
+impl<H: MailboxState> FeedPort<H> {
+    /// This feed, of which nothing was refused yet.
+    pub fn new(feed: Feed<H>) -> FeedPort<H>
+        ensures { result.feed ≡ feed }
+    {
+        FeedPort {
+            feed,
+            refused: Log::new(),
+        }
+    }
+}
+
+impl<H: MailboxState> RunQueue<H> for FeedPort<H> {
+    ghost use Rattle.std.specs.Prelude.{[], ◌∷◌, ◌++◌, map, IfErr, MatchResult};
+    ghost use Rattle.mb_gate.specs.Untouched.{IsUntouched};
+    ghost use Rattle.mb_pool.specs.Moves.{Pushes};
+    ghost use Rattle.mb_pool.specs.Places.{gates_of, looks, parts_of};
+    ghost use Rattle.mb_pool.specs.PoolPorts.{IsRefusedByPool, pushed_first};
+
+    ghost origin = { λ way. gates_of way.feed };
+
+    ghost pushed = { λ way. pushed_first (looks way.feed) };
+
+    ghost refused = { λ way. map (λ claim. claim.value) way.refused };
+
+    #[inline(always)]
+    fn push<R: Wait>(&mut self, rt: &R, claim: Claim<H>) -> Result<(), RefusedClaim<H>>
+        requires untouched { IsUntouched H.is_of H.facts (gates_of self.old.feed) claim }
+        ensures same { gates_of self.new.feed ≡ gates_of self.old.feed }
+        ensures pushed { MatchResult result
+            (λ _. (pushed_first (looks self.new.feed) ≡ pushed_first (looks self.old.feed) ++ claim ∷ [])
+            × (map (λ c. c.value) self.new.refused ≡ map (λ c. c.value) self.old.refused))
+            (λ back. (back.claim ≡ claim) × (pushed_first (looks self.new.feed) ≡ pushed_first (looks self.old.feed))
+            × (map (λ c. c.value) self.new.refused ≡ map (λ c. c.value) self.old.refused ++ claim ∷ [])) }
+        ensures asked { IfErr result (λ _. IsRefusedByPool (IsUntouched H.is_of H.facts) self.old.feed claim) }
+        ensures put { MatchResult result
+            (λ _. Pushes (IsUntouched H.is_of H.facts) self.old.feed claim self.new.feed)
+            (λ _. self.new.feed ≡ self.old.feed) }
+        ensures parts { parts_of self.new.feed ≡ parts_of self.old.feed }
+    {
+        match self.feed.push(rt, claim) {
+            Ok(()) => Ok(()),
+            Err(refused) => {
+                let claim = back(refused);
+                self.refused.add(Snapshot::of(&claim));
+                Err(RefusedClaim { claim })
+            }
+        }
+    }
+}

@@ -1,0 +1,160 @@
+//! A port of the queue that all ends and feeds share: the one queue of a shared pool, the injector of a stealing one.
+ghost use Rattle.std.specs.Prelude.{◌≡◌, ◌<◌, [], IsSome, None, Some, MatchOption, MatchResult};
+ghost use Rattle.mb_pool.specs.Ledger.{borrowing, joining, lending, opened, unused};
+ghost use Rattle.mb_pool.specs.Moves.{given_back, IsRefusal};
+ghost use Rattle.mb_gate.specs.Untouched.{origin_of, IsUntouched};
+ghost use Rattle.mb_pool.specs.Parts.{look_of};
+ghost use Rattle.mb_pool.specs.Rule.{Moment, PutsLast, TakesFirst};
+
+use crate::claim_refused::ClaimRefused;
+use crate::feed_queue_port::FeedQueuePort;
+use crate::rule::Scoped;
+use crate::slots_port::SlotsPort;
+use mb_gate::{Claim, Gates, MailboxState};
+use std::alloc::AllocError;
+use std::marker::Brand;
+use std::sync::Wait;
+
+/// A port of the queue that all ends and feeds share.
+pub enum SharedPort<H: MailboxState> {
+    /// The one queue of a shared pool.
+    Bounded(SlotsPort<H>),
+    /// The injector of a stealing pool.
+    Unbounded(FeedQueuePort<H>),
+}
+
+// `Drop` is written by hand: with a derived one, each function that drops a value would prove again how the fields are
+// dropped.
+impl<H: MailboxState> Drop for SharedPort<H> {
+    fn drop(self) {
+        match self {
+            SharedPort::Bounded(_) | SharedPort::Unbounded(_) => {}
+        }
+    }
+}
+
+impl<H: MailboxState> SharedPort<H> {
+    /// Pushes the claim, or gives it back.
+    #[inline(always)]
+    pub fn push<R: Wait>(&mut self, rt: &R, claim: Claim<H>) -> Result<(), ClaimRefused<H>>
+        requires share { 0 < (look_of self.old).ledger.shares }
+        requires fit { IsUntouched H.is_of H.facts (look_of self.old).ledger.gates claim }
+        ensures spot { (look_of self.new).spot ≡ (look_of self.old).spot }
+        ensures pushed { MatchResult result
+            (λ _. PutsLast (IsUntouched H.is_of H.facts) (look_of self.old).ledger claim
+            (look_of self.new).ledger)
+            (λ refused. (given_back refused ≡ claim) × (look_of self.new ≡ look_of self.old)
+            × IsRefusal (IsUntouched H.is_of H.facts) (look_of self.old) refused) }
+    {
+        match self {
+            SharedPort::Bounded(port) => return port.push(rt, claim),
+            SharedPort::Unbounded(port) => return port.push(rt, claim),
+        }
+    }
+
+    /// Takes the first claim. `None` only if the queue was empty at a moment of the call.
+    #[inline(always)]
+    pub fn take<R: Wait>(&mut self, rt: &R) -> Option<Claim<H>>
+        requires share { 0 < (look_of self.old).ledger.shares }
+        ensures spot { (look_of self.new).spot ≡ (look_of self.old).spot }
+        ensures taken { MatchOption result
+            ((look_of self.new ≡ look_of self.old)
+            × Moment (IsUntouched H.is_of H.facts) (look_of self.old).ledger [])
+            (λ c. TakesFirst (IsUntouched H.is_of H.facts) (look_of self.old).ledger c
+            (look_of self.new).ledger) }
+    {
+        match self {
+            SharedPort::Bounded(port) => return port.take(rt),
+            SharedPort::Unbounded(port) => return port.take(rt),
+        }
+    }
+
+    /// Fixes that only claims of these gates go in, and how many ports there are.
+    pub fn open(&mut self, gates: &Gates<H>, members: usize)
+        requires { (look_of self.old).ledger ≡ unused }
+        ensures { look_of self.new ≡ record (look_of self.old) { ledger = opened (Some (origin_of gates.now)) members members } }
+    {
+        self.open_as::<Brand>(gates, members);
+    }
+
+    /// The same under a brand that stands for the gates and the number of ports.
+    fn open_as<S: Scoped<H>>(&mut self, gates: &Gates<H>, members: usize)
+        requires unused { (look_of self.old).ledger ≡ unused }
+        requires these { (S.gates ≡ Some (origin_of gates.now)) × (S.members ≡ members) }
+        ensures { look_of self.new ≡ record (look_of self.old) { ledger = opened (Some (origin_of gates.now)) members members } }
+    {
+        // Only the contract uses them: `S` stands for them in it.
+        let _ = gates;
+        let _ = members;
+        match self {
+            SharedPort::Bounded(port) => port.open::<S>(),
+            SharedPort::Unbounded(port) => port.open::<S>(),
+        }
+    }
+
+    /// A port of the same queue with one of its shares. The only error: memory was refused. Nothing has changed then.
+    pub fn lend(&mut self) -> Result<SharedPort<H>, AllocError>
+        requires { 1 < (look_of self.old).ledger.shares }
+        ensures { MatchResult result
+            (λ shared_port. (look_of self.new ≡ record (look_of self.old) { ledger = lending 1 (look_of self.old).ledger })
+            × (look_of shared_port ≡ record (look_of self.old) { ledger = borrowing 1 (look_of self.old).ledger }))
+            (λ _. look_of self.new ≡ look_of self.old) }
+    {
+        match self {
+            SharedPort::Bounded(port) => match port.lend() {
+                Ok(lent) => Ok(SharedPort::Bounded(lent)),
+                Err(error) => Err(error),
+            },
+            SharedPort::Unbounded(port) => match port.lend() {
+                Ok(lent) => Ok(SharedPort::Unbounded(lent)),
+                Err(error) => Err(error),
+            },
+        }
+    }
+
+    /// Joins another port of the same queue, with its shares and its account.
+    pub fn join(&mut self, other: SharedPort<H>)
+        requires place { (look_of other).spot ≡ (look_of self.old).spot }
+        requires shares { (0 < (look_of self.old).ledger.shares) × (0 < (look_of other).ledger.shares) }
+        ensures { look_of self.new ≡ record (look_of self.old) { ledger = joining (look_of self.old).ledger (look_of other).ledger } }
+    {
+        match self {
+            SharedPort::Bounded(port) => {
+                port.has_bound();
+                port.join(other.into_bounded());
+            }
+            SharedPort::Unbounded(port) => {
+                port.has_none();
+                port.join(other.into_unbounded());
+            }
+        }
+    }
+
+    /// The port, of a shared pool.
+    fn into_bounded(self) -> SlotsPort<H>
+        requires { IsSome (look_of self).spot.capacity }
+        ensures { result ≡ look_of self }
+    {
+        match self {
+            SharedPort::Bounded(port) => port,
+            SharedPort::Unbounded(port) => {
+                port.has_none();
+                unreachable!()
+            }
+        }
+    }
+
+    /// The port, of a stealing pool.
+    fn into_unbounded(self) -> FeedQueuePort<H>
+        requires { (look_of self).spot.capacity ≡ None }
+        ensures { result ≡ look_of self }
+    {
+        match self {
+            SharedPort::Unbounded(port) => port,
+            SharedPort::Bounded(port) => {
+                port.has_bound();
+                unreachable!()
+            }
+        }
+    }
+}

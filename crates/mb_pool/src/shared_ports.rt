@@ -1,0 +1,54 @@
+//! Making the ports of the queue that all ends and feeds share.
+ghost use Rattle.std.specs.Prelude.{◌≡◌, ◌<◌, IfOk, map, replicate};
+ghost use Rattle.mb_pool.specs.Begins.{borrowed, bound_of};
+ghost use Rattle.mb_pool.specs.Ledger.{opened, unused};
+ghost use Rattle.mb_pool.specs.Parts.{look_of};
+
+use crate::feed_queue_port::FeedQueuePort;
+use crate::shared_port::SharedPort;
+use crate::slots_port::SlotsPort;
+use mb_gate::MailboxState;
+use mb_msg::PoolKind;
+use std::alloc::{AllocError, Global};
+
+/// The most claims that a shared pool holds.
+const PLACES: usize = 64;
+
+/// The first port of the queue that all share. Whose gates' claims go in is not fixed yet.
+pub fn first_shared_port<H: MailboxState>(
+    alloc: Global,
+    kind: PoolKind,
+) -> Result<SharedPort<H>, AllocError>
+    ensures { IfOk result (λ shared_port. ((look_of shared_port).spot.capacity ≡ bound_of kind) × ((look_of shared_port).ledger ≡ unused)) }
+{
+    match kind {
+        PoolKind::Shared => {
+            let port = SlotsPort::new(alloc, PLACES)?;
+            Ok(SharedPort::Bounded(port))
+        }
+        PoolKind::Stealing => {
+            let port = FeedQueuePort::new(alloc)?;
+            Ok(SharedPort::Unbounded(port))
+        }
+    }
+}
+
+/// A port for each share of the first one, which keeps one.
+pub fn shared_ports_of<H: MailboxState>(
+    alloc: Global,
+    first: SharedPort<H>,
+    count: usize,
+) -> Result<Vec<SharedPort<H>>, AllocError>
+    requires some { 0 < count }
+    requires shares { (look_of first).ledger ≡ opened (look_of first).ledger.gates (look_of first).ledger.members count }
+    ensures { IfOk result (λ doors. map look_of doors.items ≡ replicate count (borrowed (look_of first))) }
+{
+    let mut first = first;
+    let mut doors = Vec::with_capacity(alloc, count)?;
+    for _lent in 1..count {
+        let shared_port = first.lend()?;
+        doors.push(shared_port)?;
+    }
+    doors.push(first)?;
+    Ok(doors)
+}

@@ -1,0 +1,182 @@
+//! A port of a lane: it pushes for one sender, or it takes.
+ghost use Rattle.std.specs.Prelude.{◌≡◌, ◌<◌, [], Some, None, IfOk, MatchOption, MatchResult, IfErr};
+ghost use Rattle.mb_queue.specs.declared.ledger.Ledger.TheVariants.{Taker};
+ghost use Rattle.mb_queue.specs.Ledger.{IsSender, IsTaker, IsUnused, MayLend, MayPush, pushing, scope_of, taking, lending, borrowing, joining};
+ghost use Rattle.mb_queue.specs.Rule.{FoundEmpty, FoundNext, IsLaneRefusal};
+
+use crate::bounded_lane::{BoundedLane, BoundedLanePass};
+use crate::ledger::QueuePart;
+use crate::refused::Refusal;
+use crate::rule::{LaneScope, LaneSender};
+use crate::unbounded_lane::{UnboundedLane, UnboundedLanePass};
+use mb_msg::{ActorId, Envelope, SenderId};
+use std::alloc::{AllocError, Global};
+use std::marker::{Brand, Model};
+use std::sync::{Arc, Wait};
+
+/// The queue, which all ports of the lane share, and what this port knows of it.
+#[derive(Drop)]
+enum End {
+    /// Of a lane without a bound.
+    Unbounded(Arc<UnboundedLane, Global>, UnboundedLanePass),
+    /// Of a lane with a bound.
+    Bounded(Arc<BoundedLane, Global>, BoundedLanePass),
+}
+
+/// A port of a lane. Contracts see which lane it is of, and what it knows.
+pub struct Port {
+    end: End,
+}
+
+// `Drop` is written by hand: with a derived one, each crate above would prove again how the fields are dropped.
+impl Drop for Port {
+    fn drop(self) {
+        let Port { end: _ } = self;
+    }
+}
+
+impl Model for Port {
+    ghost use Rattle.mb_queue.specs.Port.{LanePort};
+
+    ghost Value = { LanePort };
+
+    ghost use Rattle.mb_queue.specs.Ends.{known, IsTied};
+
+    ghost view = { λ p. known p.end };
+
+    ghost invariant = { λ p. IsTied p.end };
+}
+
+impl Port {
+    ghost use Rattle.mb_queue.specs.Port.{LanePort};
+
+    /// The taker's port of a new lane without a bound. Which envelopes the lane is for is not fixed yet. The only
+    /// error: memory was refused.
+    pub fn unbounded(alloc: Global) -> Result<Port, AllocError>
+        ensures { IfOk result (λ port. (port.lane.capacity ≡ None) × IsUnused port.ledger) }
+    {
+        let (blocks, pass) = UnboundedLane::new(alloc)?;
+        let blocks = Arc::new(alloc, blocks)?;
+        Ok(Port {
+            end: End::Unbounded(blocks, pass),
+        })
+    }
+
+    /// The taker's port of a new lane that holds at most `capacity` envelopes. Which envelopes the lane is for is not
+    /// fixed yet. The only error: memory was refused.
+    pub fn bounded(alloc: Global, capacity: usize) -> Result<Port, AllocError>
+        requires { 0 < capacity }
+        ensures { IfOk result (λ port. (port.lane.capacity ≡ Some capacity) × IsUnused port.ledger) }
+    {
+        let (slots, pass) = BoundedLane::new(alloc, capacity)?;
+        let slots = Arc::new(alloc, slots)?;
+        Ok(Port {
+            end: End::Bounded(slots, pass),
+        })
+    }
+
+    /// Pushes the envelope. Where it is refused, nothing has changed.
+    // Not inlined: its answer fits a register, so that a call costs less than the code in each caller would.
+    #[inline(never)]
+    pub fn push<R: Wait>(&mut self, rt: &R, envelope: Envelope) -> Result<(), Refusal>
+        requires { MayPush envelope self.old.ledger }
+        ensures pushed { MatchResult result (λ _. self.new ≡ record self.old { ledger = pushing self.old.ledger envelope })
+            (λ _. self.new ≡ self.old) }
+        ensures refused { IfErr result (IsLaneRefusal self.old.lane.capacity self.old.ledger) }
+    {
+        match &mut self.end {
+            End::Unbounded(blocks, pass) => blocks.push(rt, pass, envelope),
+            End::Bounded(slots, pass) => slots.push(rt, pass, envelope),
+        }
+    }
+
+    /// Takes the first envelope. `None` only if the lane was empty at a moment of the call.
+    // Inlined: each call that is saved is one copy of an envelope less.
+    #[inline(always)]
+    pub fn take<R: Wait>(&mut self, rt: &R) -> Option<Envelope>
+        requires { IsTaker self.old.ledger }
+        ensures { MatchOption result ((self.new ≡ self.old) × FoundEmpty self.old.ledger)
+            (λ e. (self.new ≡ record self.old { ledger = taking self.old.ledger e }) × FoundNext self.old.ledger e) }
+    {
+        match &mut self.end {
+            End::Unbounded(blocks, pass) => blocks.take(rt, pass),
+            End::Bounded(slots, pass) => slots.take(rt, pass),
+        }
+    }
+
+    /// Fixes which envelopes the lane is for: those by these senders, to this actor, and of this part. The taker has
+    /// the accounts of all these senders, each empty.
+    pub fn open(&mut self, senders: &[SenderId], to: ActorId, part: QueuePart)
+        requires { IsUnused self.old.ledger }
+        ensures { self.new ≡ record self.old { ledger = Taker (scope_of senders.now to.0 part) [] [] } }
+    {
+        self.open_as::<Brand>(senders, to, part);
+    }
+
+    /// The same under a brand that knows the senders, the actor and the part.
+    fn open_as<S: LaneScope>(&mut self, senders: &[SenderId], to: ActorId, part: QueuePart)
+        requires unused { IsUnused self.old.ledger }
+        requires these { S.scope ≡ scope_of senders.now to.0 part }
+        ensures { self.new ≡ record self.old { ledger = Taker (scope_of senders.now to.0 part) [] [] } }
+    {
+        // Only the contract uses them: `S` stands for them in it.
+        let _ = senders;
+        let _ = to;
+        let _ = part;
+        match &mut self.end {
+            End::Unbounded(blocks, pass) => blocks.open::<S>(pass),
+            End::Bounded(slots, pass) => slots.open::<S>(pass),
+        }
+    }
+
+    /// A port for this sender, with its account. The only error: memory was refused. Nothing has changed then.
+    pub fn lend(&mut self, by: SenderId) -> Result<Port, AllocError>
+        requires { MayLend by.0 self.old.ledger }
+        ensures { MatchResult result
+            (λ port. (self.new ≡ record self.old { ledger = lending by.0 self.old.ledger })
+            × (port ≡ record self.old { ledger = borrowing by.0 self.old.ledger }))
+            (λ _. self.new ≡ self.old) }
+    {
+        self.lend_as::<Brand>(by)
+    }
+
+    /// The same under a brand that knows the sender.
+    fn lend_as<N: LaneSender>(&mut self, by: SenderId) -> Result<Port, AllocError>
+        requires may { MayLend by.0 self.old.ledger }
+        requires this { N.by ≡ by.0 }
+        ensures { MatchResult result
+            (λ port. (self.new ≡ record self.old { ledger = lending by.0 self.old.ledger })
+            × (port ≡ record self.old { ledger = borrowing by.0 self.old.ledger }))
+            (λ _. self.new ≡ self.old) }
+    {
+        // Only the contract uses it: `N` stands for it there.
+        let _ = by;
+        let end = match &mut self.end {
+            End::Unbounded(blocks, pass) => {
+                let shared = Arc::try_clone(blocks)?;
+                End::Unbounded(shared, blocks.lend::<N>(pass))
+            }
+            End::Bounded(slots, pass) => {
+                let shared = Arc::try_clone(slots)?;
+                End::Bounded(shared, slots.lend::<N>(pass))
+            }
+        };
+        Ok(Port { end })
+    }
+
+    /// Takes back a sender's port of the same lane, with its account.
+    pub fn join(&mut self, other: Port)
+        requires lane { other.lane ≡ self.old.lane }
+        requires taker { IsTaker self.old.ledger }
+        requires sender { IsSender other.ledger }
+        ensures { self.new ≡ record self.old { ledger = joining self.old.ledger other.ledger } }
+    {
+        let Port { end } = other;
+        match (&mut self.end, end) {
+            (End::Unbounded(blocks, pass), End::Unbounded(_, other)) => blocks.join(pass, other),
+            (End::Bounded(slots, pass), End::Bounded(_, other)) => slots.join(pass, other),
+            (End::Unbounded(_, _), End::Bounded(_, _)) => unreachable!(),
+            (End::Bounded(_, _), End::Unbounded(_, _)) => unreachable!(),
+        }
+    }
+}

@@ -1,5 +1,0 @@
-pub mod Crossing
-pub mod Keeps
-pub mod Ranked
-pub mod Slots
-pub mod Turns

@@ -1,4 +1,0 @@
-pub mod Arrival
-pub mod Kept
-pub mod Rank
-pub mod Turn

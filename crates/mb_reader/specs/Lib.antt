@@ -1,8 +1,0 @@
-pub mod Fault
-pub mod Fields
-pub mod Limits
-pub mod Plans
-pub mod Reading
-pub mod Scripts
-pub mod Sends
-pub mod View

@@ -1,0 +1,112 @@
+-- What a run changes of its caller, step after step.
+use Rattle.std.proofs.Common.{◌≡◌, ◌≢◌, ◌==◌, ◌||◌, ◌⊎◌, inl, inr, ℕ, Bool, true, false, List, [], ◌∷◌, ◌++◌}
+use Rattle.std.proofs.Common.{refl, sym, ap, ◌∙◌, subst, arith, append_assoc, append-nil}
+use Rattle.std.proofs.lemmas.Bool.Decides.{nat_tests}
+use Rattle.mb_ghost.proofs.SeenLemmas.{each_append}
+use Rattle.mb_gate.specs.declared.claim.Claim.{Claim}
+use Rattle.mb_gate.specs.Accessors.{held_actor}
+use Rattle.mb_gate.specs.Rule.{IsAmong}
+use Rattle.mb_gate.specs.View.{View, Observation, SentSystem, obligation_to}
+use Rattle.mb_gate.proofs.Numbers.{among_first, among_left, among_right}
+use Rattle.mb_register.specs.Owed.{is_owed}
+use Rattle.mb_register.specs.Registering.{QueueAccount, WasRefused, IsRegistered}
+use Rattle.mb_register.proofs.Bits.{same_or_other}
+use Rattle.mb_register.specs.Caller.{Caller, OwesForRefusals, TakesNothing, IsDischargedOrOwed, CallerAdvances}
+use Rattle.mb_register.proofs.SendingLemmas.{sends-append}
+
+-- it was owed a look before, or its claim was refused
+abbrev OwedOr : {H : Type 0} → QueueAccount H → List (Claim H) → ℕ → Type 0
+OwedOr {H} a more id = (is_owed a.owed id ≡ true) ⊎ ((claim : Claim H) × IsAmong claim more × (held_actor claim ≡ id))
+
+module _ {H : Type 0} where
+  pub account-none : (a : QueueAccount H) → OwesForRefusals a a
+  account-none a = record { more = []; refused = sym (append-nil a.refused); still = λ id owed. owed; only = λ id owed. inl owed }
+
+  pub account-then : (a b c : QueueAccount H) → OwesForRefusals a b → OwesForRefusals b c → OwesForRefusals a c
+  account-then a b c p q = record {
+    more = p.more ++ q.more;
+    refused = q.refused ∙ ap (λ l. l ++ q.more) p.refused ∙ append_assoc a.refused p.more q.more;
+    still = λ id owed. q.still id (p.still id owed);
+    only = λ id owed. by_last id (q.only id owed);
+  }
+    where
+      by_first : (id : ℕ) → OwedOr a p.more id → OwedOr a (p.more ++ q.more) id
+      by_first id (inl owed) = inl owed
+      by_first id (inr why) = inr (why.0, among_left why.0 p.more q.more why.1, why.2)
+
+      by_last : (id : ℕ) → OwedOr b q.more id → OwedOr a (p.more ++ q.more) id
+      by_last id (inl owed) = by_first id (p.only id owed)
+      by_last id (inr why) = inr (why.0, among_right why.0 p.more q.more why.1, why.2)
+
+  -- after an actor was registered
+  from-refused : (id : ℕ) (a b : QueueAccount H) → WasRefused id a b → OwesForRefusals a b
+  from-refused id a b r = record {
+    more = r.claim ∷ [];
+    refused = r.refused;
+    still = λ other owed. r.owed other ∙ still_so (other == id) (is_owed a.owed other) owed;
+    only = λ other owed. why other (same_or_other other id) (sym (r.owed other) ∙ owed);
+  }
+    where
+      still_so : (x y : Bool) → y ≡ true → (x || y) ≡ true
+      still_so true y owed = refl
+      still_so false y owed = owed
+
+      why : (other : ℕ) → (other ≡ id) ⊎ (other ≢ id) → (other == id || is_owed a.owed other) ≡ true → OwedOr a (r.claim ∷ []) other
+      why other (inl same) owed = inr (r.claim, among_first r.claim [], r.of ∙ sym same)
+      why other (inr apart) owed =
+          let miss : (other == id) ≡ false = grind (arith, nat_tests) in
+          inl (sym (ap (λ b. b || is_owed a.owed other) miss) ∙ owed)
+
+  pub account-registered : (id : ℕ) (a b : QueueAccount H) (registered : Bool) → IsRegistered id a b registered → OwesForRefusals a b
+  account-registered id a b true w = record {
+    more = [];
+    refused = w.refused ∙ sym (append-nil a.refused);
+    still = λ other owed. ap (λ o. is_owed o other) w.owed ∙ owed;
+    only = λ other owed. inl (sym (ap (λ o. is_owed o other) w.owed) ∙ owed);
+  }
+  account-registered id a b false (inl same) = subst (OwesForRefusals a) (sym same) (account-none a)
+  account-registered id a b false (inr refused) = from-refused id a b refused
+
+  pub further-none : (c : Caller H) → CallerAdvances c c
+  further-none c = record {
+    more = [];
+    took_none = tt;
+    sends_open = tt;
+    log = refl;
+    account = account-none c.account;
+    obligations = λ id. inr refl;
+    share = refl;
+  }
+
+  pub further-then : (a b c : Caller H) → CallerAdvances a b → CallerAdvances b c → CallerAdvances a c
+  further-then a b c p q = record {
+    more = q.more ++ p.more;
+    took_none = each_append TakesNothing q.more p.more q.took_none p.took_none;
+    sends_open = sends-append q.more p.more q.sends_open p.sends_open;
+    log = q.log ∙ ap (λ l. q.more ++ l) p.log ∙ sym (append_assoc q.more p.more a.view.log);
+    account = account-then a.account b.account c.account p.account q.account;
+    obligations = λ id. by_last id (q.obligations id);
+    share = q.share ∙ p.share;
+  }
+    where
+      by_first : (id : ℕ) → obligation_to id c.view ≡ obligation_to id b.view → IsDischargedOrOwed id b ⊎ (obligation_to id b.view ≡ obligation_to id a.view) →
+          IsDischargedOrOwed id c ⊎ (obligation_to id c.view ≡ obligation_to id a.view)
+      by_first id kept (inl (inl none)) = inl (inl (kept ∙ none))
+      by_first id kept (inl (inr owed)) = inl (inr (q.account.still id owed))
+      by_first id kept (inr same) = inr (kept ∙ same)
+
+      by_last : (id : ℕ) → IsDischargedOrOwed id c ⊎ (obligation_to id c.view ≡ obligation_to id b.view) → IsDischargedOrOwed id c ⊎ (obligation_to id c.view ≡ obligation_to id a.view)
+      by_last id (inl discharged) = inl discharged
+      by_last id (inr kept) = by_first id kept (p.obligations id)
+
+  -- it only sent system messages
+  pub further-said : (said : List SentSystem) (a b : Caller H) → b.view ≡ record a.view { said = said } → b.account ≡ a.account → CallerAdvances a b
+  further-said said a b same account = record {
+    more = [];
+    took_none = tt;
+    sends_open = tt;
+    log = ap (λ (v : View). v.log) same;
+    account = subst (OwesForRefusals a.account) (sym account) (account-none a.account);
+    obligations = λ id. inr (ap (obligation_to id) same);
+    share = ap (λ (v : View). v.share) same;
+  }

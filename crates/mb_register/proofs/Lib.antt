@@ -1,0 +1,11 @@
+pub mod Views
+pub mod ClaimCounts
+pub mod Dues
+pub mod AtHome
+pub mod Obligations
+pub mod Bits
+pub mod Retries
+pub mod Crossing
+pub mod SendingLemmas
+pub mod CallerLemmas
+pub mod MoveLemmas

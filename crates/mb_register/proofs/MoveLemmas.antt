@@ -1,0 +1,73 @@
+-- What a caller did at one actor and saw there, step after step.
+use Rattle.std.proofs.Common.{◌≡◌, ◌≢◌, ◌⊎◌, inl, inr, ℕ, List, ◌++◌, sym, ap, ◌∙◌, subst, append_assoc}
+use Rattle.mb_ghost.specs.Seen.{Each}
+use Rattle.mb_ghost.proofs.SeenLemmas.{each_append, each_weaker}
+use Rattle.mb_gate.specs.View.{View, Observation, SentSystem, obligation_to}
+use Rattle.mb_gate.specs.View.{Read, Saw, Counted, Looked, Sent, Unsent, Took, Pushed, Drained, Ended}
+use Rattle.mb_register.specs.Views.{Does, IsLook}
+use Rattle.mb_register.proofs.Bits.{same_or_other}
+use Rattle.mb_register.specs.Caller.{Caller, OwesForRefusals, TakesNothing, IsDischargedOrOwed, CallerAdvances}
+use Rattle.mb_register.specs.Sending.{SendsOpen}
+use Rattle.mb_register.proofs.SendingLemmas.{looks-send-none, sends-append}
+
+-- it saw more, has the share that it had, and owes every other actor what it owed before
+pub record Moves (id : ℕ) (old new : View) : Type 0 where
+  pub more : List Observation
+  pub took_none : Each TakesNothing more
+  pub sends_open : SendsOpen more
+  pub log : new.log ≡ more ++ old.log
+  pub others : (other : ℕ) → other ≢ id → obligation_to other new ≡ obligation_to other old
+  pub share : new.share ≡ old.share
+
+look-takes-none : (id : ℕ) (s : Observation) → IsLook id s → TakesNothing s
+look-takes-none id (Read a word) look = tt
+look-takes-none id (Saw a journal) look = tt
+look-takes-none id (Counted a waiting) look = tt
+look-takes-none id (Looked a has_work) look = tt
+look-takes-none id (Sent a n) look = tt
+look-takes-none id (Unsent a n) look = tt
+look-takes-none id (Took a n) look = look
+look-takes-none id (Pushed a number message) look = tt
+look-takes-none id (Drained a given) look = tt
+look-takes-none id (Ended a given) look = tt
+
+pub looks-take-none : (id : ℕ) (looks : List Observation) → Each (IsLook id) looks → Each TakesNothing looks
+looks-take-none id looks = each_weaker (IsLook id) TakesNothing looks (look-takes-none id)
+
+pub moves-does : (id : ℕ) (did : List Observation) (told : List SentSystem) (a b : View) → Each TakesNothing did → SendsOpen did → Does id did told a b →
+    Moves id a b
+moves-does id did told a b none sends d = record {
+  more = d.looks ++ did;
+  took_none = each_append TakesNothing d.looks did (looks-take-none id d.looks d.only) none;
+  sends_open = sends-append d.looks did (looks-send-none id d.looks d.only) sends;
+  log = d.log;
+  others = d.others;
+  share = d.share;
+}
+
+pub moves-then : (id : ℕ) (a b c : View) → Moves id a b → Moves id b c → Moves id a c
+moves-then id a b c p q = record {
+  more = q.more ++ p.more;
+  took_none = each_append TakesNothing q.more p.more q.took_none p.took_none;
+  sends_open = sends-append q.more p.more q.sends_open p.sends_open;
+  log = q.log ∙ ap (λ l. q.more ++ l) p.log ∙ sym (append_assoc q.more p.more a.log);
+  others = λ other apart. q.others other apart ∙ p.others other apart;
+  share = q.share ∙ p.share;
+}
+
+-- and what it owes to that actor it owes no more, or owes it a look
+pub further-moves : {H : Type 0} (id : ℕ) (a b : Caller H) → Moves id a.view b.view → OwesForRefusals a.account b.account → IsDischargedOrOwed id b →
+    CallerAdvances a b
+further-moves id a b m account discharged = record {
+  more = m.more;
+  took_none = m.took_none;
+  sends_open = m.sends_open;
+  log = m.log;
+  account = account;
+  obligations = λ other. by_actor other (same_or_other other id);
+  share = m.share;
+}
+  where
+    by_actor : (other : ℕ) → (other ≡ id) ⊎ (other ≢ id) → IsDischargedOrOwed other b ⊎ (obligation_to other b.view ≡ obligation_to other a.view)
+    by_actor other (inl same) = inl (subst (λ n. IsDischargedOrOwed n b) (sym same) discharged)
+    by_actor other (inr apart) = inr (m.others other apart)

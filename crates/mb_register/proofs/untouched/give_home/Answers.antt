@@ -1,0 +1,55 @@
+use Rattle.std.proofs.Common.{refl, sym, ap}
+use Rattle.mb_status.specs.Mailbox.{word_of}
+use Rattle.mb_gate.specs.Claims.{held_in}
+use Rattle.mb_gate.specs.Accessors.{pass_view, claim_view, held_actor, status_of, gave_last, taken_with, closed_with, recorded_by}
+use Rattle.mb_gate.specs.View.{View, taking_in}
+use Rattle.mb_register.proofs.AtHome.{extends-same, shut-same, told-nothing, rest-open}
+use Rattle.mb_register.proofs.Views.{looks-back}
+use Rattle.mb_register.proofs.ClaimCounts.{turns-back}
+use Rattle.mb_register.proofs.untouched.give_home.Goals as goal
+
+pub release-requires-clause-longer : goal.release-requires-clause-longer
+release-requires-clause-longer g c =
+    let claim = c.args.claim in
+    extends-same (g.H.MailboxState.facts claim.home).journal (taken_with claim) (ap (λ (v : View). (held_in v).journal) c.requires.untouched.known)
+
+pub release-requires-clause-count : goal.release-requires-clause-count
+release-requires-clause-count g c = sym (ap (λ (v : View). (held_in v).given) c.requires.untouched.known)
+
+pub release-requires-clause-shut : goal.release-requires-clause-shut
+release-requires-clause-shut g c =
+    let claim = c.args.claim in
+    shut-same (g.H.MailboxState.facts claim.home).closed_to (closed_with claim) (taking_in (claim_view claim) (pass_view c.args.pass.now))
+    (ap (λ (v : View). (held_in v).closed_to) c.requires.untouched.known)
+
+pub release-requires-clause-told : goal.release-requires-clause-told
+release-requires-clause-told g c =
+    let claim = c.args.claim in
+    told-nothing (g.H.MailboxState.who claim.home) (held_actor claim) (status_of claim).closed (g.H.MailboxState.facts claim.home).journal (taken_with claim)
+    (recorded_by claim) (ap (λ (v : View). (held_in v).journal) c.requires.untouched.known) c.requires.untouched.recorded
+
+pub release-requires-clause-rest : goal.release-requires-clause-rest
+release-requires-clause-rest g c =
+    let claim = c.args.claim in
+    rest-open (status_of claim).closed (gave_last claim) (g.H.MailboxState.facts claim.home).rested c.requires.untouched.open_yet
+    c.requires.untouched.rest
+
+pub returns-clause-looks : goal.returns-clause-looks
+returns-clause-looks g c =
+    let claim = c.args.claim in
+    let home = claim.home in
+    looks-back (held_actor claim) (g.H.MailboxState.facts home).journal (g.H.MailboxState.facts home).journal (g.H.MailboxState.facts home).closed_to (word_of
+    (status_of claim))
+    (gave_last claim) (g.H.MailboxState.facts home).given (held_actor claim) (pass_view c.args.pass.now) (claim_view claim)
+    (pass_view c.release.new.pass) refl
+    c.requires.untouched.known c.release.ensures.known
+
+pub returns-clause-turns : goal.returns-clause-turns
+returns-clause-turns g c =
+    let claim = c.args.claim in
+    let home = claim.home in
+    turns-back (held_actor claim) (g.H.MailboxState.facts home).journal (g.H.MailboxState.facts home).journal (g.H.MailboxState.facts home).closed_to (word_of
+    (status_of claim))
+    (gave_last claim) (g.H.MailboxState.facts home).given (pass_view c.args.pass.now) (claim_view claim)
+    (pass_view c.release.new.pass) c.requires.untouched.known
+    c.release.ensures.known

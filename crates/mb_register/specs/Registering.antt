@@ -1,0 +1,71 @@
+-- How an actor's claim goes to the run queue (`Dispatcher.registerForExecution`).
+use Rattle.std.specs.Prelude.{◌≡◌, ℕ, ◌+◌, ◌<◌, ◌≤◌, ◌==◌, ◌||◌, ◌⊎◌, Bool, true, false, MatchBool, if◌then◌else◌, List, [], ◌∷◌, ◌++◌}
+use Rattle.mb_ghost.specs.Summed.{total}
+use Rattle.mb_gate.specs.declared.claim.Claim.{Claim}
+use Rattle.mb_gate.specs.Accessors.{held_actor}
+use Rattle.mb_gate.specs.View.{View}
+use Rattle.mb_gate.specs.ClaimCounts.{claims_got, claims_returned}
+use Rattle.mb_register.specs.declared.owed.Owed.{Owed}
+use Rattle.mb_register.specs.Owed.{is_owed}
+use Rattle.mb_register.specs.Views.{GotAndGaveBack}
+
+-- The claims that a caller put into the run queue, those that the queue refused, and the actors to which the caller owes a look for that.
+pub record QueueAccount (H : Type 0) : Type 0 where
+  pub pushed : List (Claim H)
+  pub refused : List (Claim H)
+  pub owed : Owed
+
+module _ {H : Type 0} (id : ℕ) (old new : QueueAccount H) where
+  -- The claim of this actor went into the run queue.
+  pub record Went : Type 0 where
+    pub claim : Claim H
+    pub of : held_actor claim ≡ id
+    pub pushed : new.pushed ≡ old.pushed ++ claim ∷ []
+    pub refused : new.refused ≡ old.refused
+    pub owed : new.owed ≡ old.owed
+
+  -- The run queue refused the claim of this actor, to which a look is owed from then on.
+  pub record WasRefused : Type 0 where
+    pub claim : Claim H
+    pub of : held_actor claim ≡ id
+    pub pushed : new.pushed ≡ old.pushed
+    pub refused : new.refused ≡ old.refused ++ claim ∷ []
+    pub owed : (other : ℕ) → is_owed new.owed other ≡ (other == id || is_owed old.owed other)
+
+  -- Nothing changed: no claim was given to the run queue.
+  abbrev pub AsBefore : Type 0
+  AsBefore = new ≡ old
+
+  -- The actor's claim went into the run queue, or it did not.
+  abbrev pub IsRegistered : Bool → Type 0
+  IsRegistered result = MatchBool result Went (AsBefore ⊎ WasRefused)
+
+  -- The pass got one claim at most. It is the actor's, and it is not lost: it went into the run queue or, where the queue refused it, back to its
+  -- actor.
+  abbrev pub HandsClaimOn : View → View → Bool → Type 0
+  HandsClaimOn before after result =
+      MatchBool result (Went × GotAndGaveBack (id ∷ []) [] before after)
+      ((AsBefore × GotAndGaveBack [] [] before after) ⊎ (WasRefused × GotAndGaveBack (id ∷ []) (id ∷ []) before after))
+
+-- Trying the refused actors again stops at one: the run queue refused the claim of an actor to which a look was owed, and was given no claim after
+-- that. No look is owed any more to the actors before this one; to it and those after it, looks are owed as before.
+pub record StopsAt {H : Type 0} (old new : QueueAccount H) : Type 0 where
+  pub claim : Claim H
+  pub owed : is_owed old.owed (held_actor claim) ≡ true
+  pub refused : new.refused ≡ old.refused ++ claim ∷ []
+  pub before : (id : ℕ) → id < held_actor claim → is_owed new.owed id ≡ false
+  pub after : (id : ℕ) → held_actor claim ≤ id → id < 64 → is_owed new.owed id ≡ is_owed old.owed id
+
+-- How many of these claims are of this actor.
+abbrev pub claims_of_actor : {H : Type 0} → ℕ → List (Claim H) → ℕ
+claims_of_actor {H} actor claims = total (λ (claim : Claim H). if held_actor claim == actor then 1 else 0) claims
+
+-- No claim is lost. Of each actor, the pass got as many as went into the run queue and as the queue refused, and gave back as many as the queue
+-- refused.
+pub record LosesNoClaim {H : Type 0} (old new : QueueAccount H) (before after : View) : Type 0 where
+  pub went : List (Claim H)
+  pub back : List (Claim H)
+  pub pushed : new.pushed ≡ old.pushed ++ went
+  pub refused : new.refused ≡ old.refused ++ back
+  pub got : (actor : ℕ) → claims_got actor after ≡ claims_got actor before + (claims_of_actor actor went + claims_of_actor actor back)
+  pub returned : (actor : ℕ) → claims_returned actor after ≡ claims_returned actor before + claims_of_actor actor back

@@ -1,0 +1,87 @@
+//! The registrar, which gives the claims of actors to the run queue.
+ghost use Rattle.std.specs.Prelude.{◌≡◌, ◌⊎◌, ◌<◌, Some, true};
+ghost use Rattle.mb_core.specs.Actor.{nothing};
+ghost use Rattle.mb_gate.specs.View.{obligation_to};
+ghost use Rattle.mb_gate.specs.Accessors.{gates_id, pass_id, actors_of, pass_view};
+ghost use Rattle.mb_gate.specs.Untouched.{origin_of};
+ghost use Rattle.mb_register.specs.Owed.{is_owed};
+ghost use Rattle.mb_register.specs.Due.{GotOnlyDue};
+ghost use Rattle.mb_register.specs.Views.{LooksAfter};
+ghost use Rattle.mb_register.specs.Registering.{HandsClaimOn, IsRegistered};
+
+use crate::due::{is_due, take_due};
+use crate::hint::Hint;
+use crate::owed::Owed;
+use crate::untouched::give_home;
+use mb_gate::{Gates, MailboxState, Pass, RefusedClaim, RunQueue};
+use mb_msg::ActorId;
+use std::sync::Wait;
+
+/// A registrar of actors: a pass of the gates, a port of the run queue, and the actors to which a look is owed since the queue
+/// refused their claims.
+pub struct Registrar<H, W> {
+    /// What it knows and owes.
+    pub pass: Pass<H>,
+    /// Its port of the run queue.
+    pub run_queue: W,
+    /// The actors to which it owes a look.
+    pub owed: Owed,
+}
+
+impl<H: MailboxState, W: RunQueue<H>> Registrar<H, W> {
+    /// Gives the actor's claim to the run queue, where the actor has to be given to a worker
+    /// (`Dispatcher.registerForExecution`), and answers whether it did. A hint says that the actor has envelopes, or system
+    /// work, and saves reading that. It takes the claim only of an actor that it saw to be due.
+    ///
+    /// Where the run queue refuses the claim, the claim goes back, and a look is owed to the actor.
+    #[inline(always)]
+    pub fn register<R: Wait>(&mut self, rt: &R, gates: &Gates<H>, id: ActorId, hint: Hint) -> bool
+        requires ours { (pass_id self.old.pass ≡ gates_id gates.now) × (W.origin self.old.run_queue ≡ Some (origin_of gates.now)) }
+        requires there { (id.0 < actors_of gates.now) × (id.0 < 64) }
+        ensures ours { (pass_id self.new.pass ≡ pass_id self.old.pass) × (W.origin self.new.run_queue ≡ W.origin self.old.run_queue) }
+        ensures looks { LooksAfter id.0 (pass_view self.old.pass) (pass_view self.new.pass) }
+        ensures discharged { (obligation_to id.0 (pass_view self.new.pass) ≡ nothing) ⊎ (is_owed self.new.owed id.0 ≡ true) }
+        ensures registered { IsRegistered id.0
+            (record { pushed = W.pushed self.old.run_queue; refused = W.refused self.old.run_queue; owed = self.old.owed })
+            (record { pushed = W.pushed self.new.run_queue; refused = W.refused self.new.run_queue; owed = self.new.owed }) result }
+        ensures handed { HandsClaimOn id.0
+            (record { pushed = W.pushed self.old.run_queue; refused = W.refused self.old.run_queue; owed = self.old.owed })
+            (record { pushed = W.pushed self.new.run_queue; refused = W.refused self.new.run_queue; owed = self.new.owed })
+            (pass_view self.old.pass) (pass_view self.new.pass) result }
+        ensures due { GotOnlyDue hint (pass_view self.old.pass) (pass_view self.new.pass) }
+    {
+        if !is_due(gates, &mut self.pass, id, hint) {
+            return false;
+        }
+        self.register_due(rt, gates, id, hint)
+    }
+
+    // Gives the claim of an actor that is due to the run queue. It is a function of its own, so that where none is due nothing
+    // is called that may wait.
+    fn register_due<R: Wait>(&mut self, rt: &R, gates: &Gates<H>, id: ActorId, hint: Hint) -> bool
+        requires ours { (pass_id self.old.pass ≡ gates_id gates.now) × (W.origin self.old.run_queue ≡ Some (origin_of gates.now)) }
+        requires there { (id.0 < actors_of gates.now) × (id.0 < 64) }
+        ensures ours { (pass_id self.new.pass ≡ pass_id self.old.pass) × (W.origin self.new.run_queue ≡ W.origin self.old.run_queue) }
+        ensures looks { LooksAfter id.0 (pass_view self.old.pass) (pass_view self.new.pass) }
+        ensures discharged { (obligation_to id.0 (pass_view self.new.pass) ≡ nothing) ⊎ (is_owed self.new.owed id.0 ≡ true) }
+        ensures registered { IsRegistered id.0
+            (record { pushed = W.pushed self.old.run_queue; refused = W.refused self.old.run_queue; owed = self.old.owed })
+            (record { pushed = W.pushed self.new.run_queue; refused = W.refused self.new.run_queue; owed = self.new.owed }) result }
+        ensures handed { HandsClaimOn id.0
+            (record { pushed = W.pushed self.old.run_queue; refused = W.refused self.old.run_queue; owed = self.old.owed })
+            (record { pushed = W.pushed self.new.run_queue; refused = W.refused self.new.run_queue; owed = self.new.owed })
+            (pass_view self.old.pass) (pass_view self.new.pass) result }
+    {
+        let Some(claim) = take_due(rt, gates, &mut self.pass, id, hint) else {
+            return false;
+        };
+        match self.run_queue.push(rt, claim) {
+            Ok(()) => true,
+            Err(RefusedClaim { claim }) => {
+                give_home(gates, &mut self.pass, claim);
+                self.owed.insert(id);
+                false
+            }
+        }
+    }
+}

@@ -1,0 +1,92 @@
+//! Registering those actors again whose claims the run queue refused.
+ghost use Rattle.std.specs.Prelude.{◌≡◌, ◌≢◌, ◌⊎◌, ◌<◌, ◌≤◌, ◌++◌, [], ◌∷◌, ℕ, true, false, MatchResult, OnOk, OnErr, Some};
+ghost use Rattle.mb_core.specs.Actor.{nothing};
+ghost use Rattle.mb_gate.specs.View.{obligation_to};
+ghost use Rattle.mb_gate.specs.Accessors.{gates_id, held_actor, pass_id, actors_of, pass_view};
+ghost use Rattle.mb_gate.specs.Untouched.{origin_of};
+ghost use Rattle.mb_gate.specs.declared.claim.Claim.{Claim};
+ghost use Rattle.mb_register.specs.declared.hint.Hint.TheVariants as Hint;
+ghost use Rattle.mb_register.specs.Due.{GotOnlyDue};
+ghost use Rattle.mb_register.specs.Owed.{is_owed};
+ghost use Rattle.mb_register.specs.Views.{LooksAfter, LooksAmong};
+ghost use Rattle.mb_register.specs.Registering.{LosesNoClaim, StopsAt};
+
+use crate::hint::Hint;
+use crate::registrar::Registrar;
+use crate::still_refused::StillRefused;
+use mb_gate::{Gates, MailboxState, RunQueue};
+use mb_msg::ActorId;
+use mb_msg::limits::ACTORS;
+use std::sync::Wait;
+
+impl<H: MailboxState, W: RunQueue<H>> Registrar<H, W> {
+    /// Registers each actor again to which a look is owed, in the order of their numbers. It answers `StillRefused` only if the run
+    /// queue refuses a claim again: then a look is still owed to that actor and to those after it. No look is owed to an actor
+    /// to which none was owed before. Whatever is answered, each actor to which a look was owed is owed nothing then, or is in
+    /// the set still.
+    pub fn retry_refused<R: Wait>(&mut self, rt: &R, gates: &Gates<H>) -> Result<(), StillRefused>
+        requires ours { (pass_id self.old.pass ≡ gates_id gates.now) × (W.origin self.old.run_queue ≡ Some (origin_of gates.now)) }
+        requires few { actors_of gates.now ≤ 64 }
+        ensures ours { (pass_id self.new.pass ≡ pass_id self.old.pass) × (W.origin self.new.run_queue ≡ W.origin self.old.run_queue) }
+        ensures looks { LooksAmong (is_owed self.old.owed) (pass_view self.old.pass) (pass_view self.new.pass) }
+        ensures discharged { OnOk result ((id : ℕ) → id < actors_of gates.now → is_owed self.old.owed id ≡ true
+            → obligation_to id (pass_view self.new.pass) ≡ nothing) }
+        ensures done { OnOk result ((id : ℕ) → id < actors_of gates.now → is_owed self.new.owed id ≡ false) }
+        ensures no_more { (id : ℕ) → id < 64 → is_owed self.old.owed id ≡ false → is_owed self.new.owed id ≡ false }
+        ensures kept { (id : ℕ) → id < 64 → is_owed self.old.owed id ≡ true
+            → (obligation_to id (pass_view self.new.pass) ≡ nothing) ⊎ (is_owed self.new.owed id ≡ true) }
+        ensures refused { MatchResult result (λ _. W.refused self.new.run_queue ≡ W.refused self.old.run_queue) (λ _. StopsAt
+            (record { pushed = W.pushed self.old.run_queue; refused = W.refused self.old.run_queue; owed = self.old.owed })
+            (record { pushed = W.pushed self.new.run_queue; refused = W.refused self.new.run_queue; owed = self.new.owed })) }
+        ensures handed { LosesNoClaim
+            (record { pushed = W.pushed self.old.run_queue; refused = W.refused self.old.run_queue; owed = self.old.owed })
+            (record { pushed = W.pushed self.new.run_queue; refused = W.refused self.new.run_queue; owed = self.new.owed })
+            (pass_view self.old.pass) (pass_view self.new.pass) }
+        ensures due { GotOnlyDue Hint.None (pass_view self.old.pass) (pass_view self.new.pass) }
+    {
+        for number in 0..ACTORS {
+            if number as usize >= gates.actors() {
+                return Ok(());
+            }
+            self.retry_one(rt, gates, ActorId(number))?;
+        }
+        Ok(())
+    }
+
+    /// Registers the actor again, if a look is owed to it. It answers `StillRefused` if the run queue refuses its claim again: then a
+    /// look is owed still.
+    fn retry_one<R: Wait>(
+        &mut self,
+        rt: &R,
+        gates: &Gates<H>,
+        id: ActorId,
+    ) -> Result<(), StillRefused>
+        requires ours { (pass_id self.old.pass ≡ gates_id gates.now) × (W.origin self.old.run_queue ≡ Some (origin_of gates.now)) }
+        requires there { (id.0 < actors_of gates.now) × (id.0 < 64) }
+        ensures ours { (pass_id self.new.pass ≡ pass_id self.old.pass) × (W.origin self.new.run_queue ≡ W.origin self.old.run_queue) }
+        ensures looks { LooksAfter id.0 (pass_view self.old.pass) (pass_view self.new.pass) }
+        ensures discharged { is_owed self.old.owed id.0 ≡ true →
+            (obligation_to id.0 (pass_view self.new.pass) ≡ nothing) ⊎ (is_owed self.new.owed id.0 ≡ true) }
+        ensures done { OnOk result (is_owed self.new.owed id.0 ≡ false) }
+        ensures left { OnErr result ((is_owed self.old.owed id.0 ≡ true) × (is_owed self.new.owed id.0 ≡ true)) }
+        ensures refused { MatchResult result (λ _. W.refused self.new.run_queue ≡ W.refused self.old.run_queue) (λ _. (claim : Claim H)
+            × (held_actor claim ≡ id.0) × (W.refused self.new.run_queue ≡ W.refused self.old.run_queue ++ claim ∷ [])) }
+        ensures none { is_owed self.old.owed id.0 ≡ false → self.new ≡ self.old }
+        ensures others { (other : ℕ) → other < 64 → other ≢ id.0 → is_owed self.new.owed other ≡ is_owed self.old.owed other }
+        ensures handed { LosesNoClaim
+            (record { pushed = W.pushed self.old.run_queue; refused = W.refused self.old.run_queue; owed = self.old.owed })
+            (record { pushed = W.pushed self.new.run_queue; refused = W.refused self.new.run_queue; owed = self.new.owed })
+            (pass_view self.old.pass) (pass_view self.new.pass) }
+        ensures due { GotOnlyDue Hint.None (pass_view self.old.pass) (pass_view self.new.pass) }
+    {
+        if !self.owed.contains(id) {
+            return Ok(());
+        }
+        self.owed.remove(id);
+        self.register(rt, gates, id, Hint::None);
+        if self.owed.contains(id) {
+            return Err(StillRefused);
+        }
+        Ok(())
+    }
+}

@@ -1,0 +1,9 @@
+pub mod Check
+pub mod Context
+pub mod Format
+pub mod Name
+pub mod Number
+pub mod OpView
+pub mod Operation
+pub mod Location
+pub mod Value

@@ -1,0 +1,36 @@
+-- To which actors a sender owes a look.
+use Rattle.std.proofs.Common.{◌≡◌, ◌==◌, ◌||◌, ℕ, Bool, true, false, List, inl, inr, refl, ap, ◌∙◌, subst}
+use Rattle.mb_gate.specs.declared.claim.Claim.{Claim}
+use Rattle.mb_register.specs.Owed.{is_owed}
+use Rattle.mb_register.specs.Registering.{QueueAccount, IsRegistered}
+use Rattle.mb_register.specs.declared.owed.Owed.{Owed}
+use Rattle.mb_register.specs.declared.registrar.Registrar.{Registrar}
+use Rattle.mb_send.specs.Asked.{RegistersAtMost, account_of}
+
+either-run_queue : (a b : Bool) → b ≡ true → (a || b) ≡ true
+either-run_queue true b owed = refl
+either-run_queue false b owed = owed
+
+-- registering an actor forgets nobody
+pub still-registered : {H : Type 0} (id : ℕ) (a b : QueueAccount H) (registered : Bool) → IsRegistered id a b registered
+    → (other : ℕ) → is_owed a.owed other ≡ true → is_owed b.owed other ≡ true
+still-registered id a b true went other owed = ap (λ o. is_owed o other) went.owed ∙ owed
+still-registered {H} id a b false (inl same) other owed = ap (λ (k : QueueAccount H). is_owed k.owed other) same ∙ owed
+still-registered id a b false (inr refused) other owed =
+    refused.owed other ∙ either-run_queue (other == id) (is_owed a.owed other) owed
+
+module _ {H W : Type 0} (pushed refused : W → List (Claim H)) (id : ℕ) where
+  account-same : (a b : Registrar H W) → b.run_queue ≡ a.run_queue → b.owed ≡ a.owed → account_of pushed refused b ≡ account_of pushed refused a
+  account-same a b run_queue owed =
+      let make : W → Owed → QueueAccount H = λ w o. record { pushed = pushed w; refused = refused w; owed = o } in
+      λ i. make (run_queue i) (owed i)
+
+  -- nobody was registered
+  pub wakes-nobody : (a b : Registrar H W) → b.run_queue ≡ a.run_queue → b.owed ≡ a.owed
+      → RegistersAtMost id (account_of pushed refused a) (account_of pushed refused b)
+  wakes-nobody a b run_queue owed = (false, inl (account-same a b run_queue owed))
+
+  -- nobody was registered first
+  pub wakes-since : (a b : Registrar H W) (c : QueueAccount H) → b.run_queue ≡ a.run_queue → b.owed ≡ a.owed → RegistersAtMost id (account_of pushed refused b) c
+      → RegistersAtMost id (account_of pushed refused a) c
+  wakes-since a b c run_queue owed = subst (λ (k : QueueAccount H). RegistersAtMost id k c) (account-same a b run_queue owed)

@@ -1,0 +1,193 @@
+use Rattle.std.proofs.Common.{◌≡◌, ◌∙◌, ◌+◌, ◌-◌, ◌<◌, ◌++◌, [], ◌∷◌, ℕ, suc, List}
+use Rattle.std.proofs.Common.{length, true, Some, None, refl, subst, sym, ap, slice_set, arith}
+use Rattle.mb_msg.specs.declared.id.SenderId.{SenderId}
+use Rattle.std.proofs.lemmas.Option.{slice_get_read}
+use Rattle.mb_msg.specs.declared.envelope.Envelope.{Envelope}
+use Rattle.mb_journal.specs.declared.sent_envelope.SentEnvelope.{SentEnvelope}
+use Rattle.mb_send.specs.Answers.{put_of}
+use Rattle.mb_send.specs.Posted.{envelope_of, posting}
+use Rattle.mb_send.specs.Sends.{AreRoutes, receiving_queues}
+use Rattle.mb_send.specs.Bounded.{are_of_bounded, may_be_refused, queue_to}
+use Rattle.mb_send.proofs.Bounding.{bounded-queued, bounded-dead, may-find-full}
+use Rattle.mb_gate.specs.Accessors.{pass_view}
+use Rattle.mb_send.proofs.Answering.{why-told}
+use Rattle.mb_send.proofs.Failing.{after-any}
+use Rattle.mb_send.proofs.Obligations.{still-registered, wakes-nobody}
+use Rattle.mb_register.specs.Sending.{counts}
+use Rattle.mb_register.proofs.Views.{does-then, does-sending, does-unsending}
+use Rattle.mb_queue.specs.Passes.{Queue, SendPassView}
+use Rattle.mb_send.proofs.Routes.{routes-more, routes-dead, queue-there, queues-set}
+use Rattle.mb_send.proofs.SeenClosed.{vouched-does, vouched-queued, vouched-dead, may-refuse}
+use Rattle.mb_send.specs.SeenClosed.{has_seen_closed, were_seen_closed}
+use Rattle.mb_journal.specs.Accepted.{dead_letters}
+use Rattle.mb_send.proofs.sender.GatesSender.put.Goals as goal
+
+pub returns-in-Ok-clause-sent : goal.returns-in-Ok-clause-sent
+returns-in-Ok-clause-sent g c =
+    let id = c.args.ticket.to.0 in
+    let items = c.args.self.now.sends.items in
+    let old = c.index_mut.result.now in
+    let lt : id - 1 < length items = omega (arith, c.requires.all, c.requires.there.0, c.requires.there.1) in
+    let a = pass_view c.args.self.now.registrar.pass in let b = pass_view c.note_sent.new.pass in let d = pass_view c.register.new.self.pass in
+    let body = c.args.body in let to = c.args.ticket.to in
+    let made = c.next-envelope.ensures ∙ (λ i. envelope_of (c.ready.ensures.same.0 i) to (c.ready.ensures.same.1 i) body) in
+    record {
+      pass = old;
+      there = slice_get_read items (length items) (id - 1) old refl lt c.index_mut.ensures.value;
+      refused = None;
+      why = tt;
+      answer = ap (λ n. put_of n None) c.ready.ensures.same.1;
+      posted_is = c.record_queued.ensures.posted ∙ (λ i. c.ready.ensures.same.3 i ++ posting (made i) None ∷ []);
+      counted = does-then id (counts id None) [] a b d (does-sending id a b c.note_sent.ensures.known) c.register.ensures.looks;
+    }
+
+pub returns-in-Err-clause-sent : goal.returns-in-Err-clause-sent
+returns-in-Err-clause-sent g c =
+    let id = c.args.ticket.to.0 in
+    let items = c.args.self.now.sends.items in
+    let old = c.index_mut.result.now in
+    let why = c.why_of-why.result in
+    let lt : id - 1 < length items = omega (arith, c.requires.all, c.requires.there.0, c.requires.there.1) in
+    let a = pass_view c.args.self.now.registrar.pass in let b = pass_view c.note_sent.new.pass in
+    let d = pass_view c.note_unsent.new.pass in let e = pass_view c.register-in-Err.new.self.pass in
+    let body = c.args.body in let to = c.args.ticket.to in
+    let made = c.next-envelope.ensures ∙ (λ i. envelope_of (c.ready.ensures.same.0 i) to (c.ready.ensures.same.1 i) body) in
+    record {
+      pass = old;
+      there = slice_get_read items (length items) (id - 1) old refl lt c.index_mut.ensures.value;
+      refused = Some why;
+      why = why-told old c.in-Err.refused why c.in-Err.ensures.refused c.why_of-why.ensures;
+      answer = ap (λ n. put_of n (Some why)) c.ready.ensures.same.1;
+      posted_is = c.record_dead.ensures.posted ∙ (λ i. c.ready.ensures.same.3 i ++ posting (made i) (Some why) ∷ []);
+      counted = does-then id (counts id (Some why)) [] a d e (does-unsending id a b d c.note_sent.ensures.known c.note_unsent.ensures.known)
+          c.register-in-Err.ensures.looks;
+    }
+
+pub returns-in-Ok-clause-queues : goal.returns-in-Ok-clause-queues
+returns-in-Ok-clause-queues g c =
+    let id = c.args.ticket.to.0 in
+    let items = c.args.self.now.sends.items in
+    let old = c.index_mut.result.now in
+    let lt : id - 1 < length items = omega (arith, c.requires.all, c.requires.there.0, c.requires.there.1) in
+    queues-set items (id - 1) old c.push.new.self (slice_get_read items (length items) (id - 1) old refl lt c.index_mut.ensures.value)
+    (ap (λ (s : SendPassView). s.queue) c.in-Ok.ensures.pushed)
+
+pub returns-in-Err-clause-queues : goal.returns-in-Err-clause-queues
+returns-in-Err-clause-queues g c =
+    let id = c.args.ticket.to.0 in
+    let items = c.args.self.now.sends.items in
+    let old = c.index_mut.result.now in
+    let lt : id - 1 < length items = omega (arith, c.requires.all, c.requires.there.0, c.requires.there.1) in
+    queues-set items (id - 1) old c.push.new.self (slice_get_read items (length items) (id - 1) old refl lt c.index_mut.ensures.value)
+    (ap (λ (s : SendPassView). s.queue) c.in-Err.ensures.pushed.1)
+
+pub invariant_of-self-in-Ok : goal.invariant_of-self-in-Ok
+invariant_of-self-in-Ok g c =
+    let send_log = c.args.self.now.send_log in
+    let items = c.args.self.now.sends.items in
+    let to = c.args.ticket.to.0 in
+    let k = to - 1 in
+    let old = c.index_mut.result.now in
+    let e = c.next-envelope.result in
+    let lt : k < length items = omega (arith, c.requires.all, c.requires.there.0, c.requires.there.1) in
+    let before = c.args.self.now.registrar.pass in
+    let counted = c.note_sent.new.pass in
+    let after = c.register.new.self.pass in
+    let there = slice_get_read items (length items) k old refl lt c.index_mut.ensures.value in
+    let here : e.to.0 ≡ k + 1 = ap (λ (x : Envelope). x.to.0) c.next-envelope.ensures ∙ omega (arith, c.requires.there.0) in
+    let p = c.record_queued.ensures.posted ∙ ap (λ (l : List SentEnvelope). l ++ posting e None ∷ []) c.ready.ensures.same.3 in
+    let q = ap (λ (s : SenderId). s.0) (c.record_queued.ensures.by ∙ c.ready.ensures.same.0) in
+    let qs = sym q in
+    let ps = sym p in
+    let queues = queues-set items k old c.push.new.self there (ap (λ (s : SendPassView). s.queue) c.in-Ok.ensures.pushed) in
+    record {
+      routes = subst (λ (y : ℕ × List SentEnvelope). AreRoutes y.0 y.1 (slice_set items k c.push.new.self)) (λ i. (qs i, ps i))
+          (routes-more send_log.by.0 send_log.posted items c.args.self.now.routes k old there e c.push.new.self c.in-Ok.ensures.pushed here);
+      vouched = subst (λ (l : List SentEnvelope). were_seen_closed (pass_view after).log (dead_letters l) ≡ true) ps
+          (vouched-queued (pass_view after).log send_log.posted e
+          (vouched-does to (counts to None) [] (pass_view before) (pass_view after) (dead_letters send_log.posted)
+          (does-then to (counts to None) [] (pass_view before) (pass_view counted) (pass_view after)
+          (does-sending to (pass_view before) (pass_view counted) c.note_sent.ensures.known) c.register.ensures.looks)
+          c.args.self.now.vouched));
+      bounded = subst (λ (y : List Queue × List SentEnvelope). are_of_bounded y.0 (dead_letters y.1) ≡ true) (λ i. (sym queues i, ps i))
+          (bounded-queued (receiving_queues items) send_log.posted e c.args.self.now.bounded);
+    }
+
+pub invariant_of-self-in-Err : goal.invariant_of-self-in-Err
+invariant_of-self-in-Err g c =
+    let send_log = c.args.self.now.send_log in
+    let items = c.args.self.now.sends.items in
+    let to = c.args.ticket.to.0 in
+    let k = to - 1 in
+    let old = c.index_mut.result.now in
+    let e = c.next-envelope.result in
+    let why = c.why_of-why.result in
+    let lt : k < length items = omega (arith, c.requires.all, c.requires.there.0, c.requires.there.1) in
+    let before = c.args.self.now.registrar.pass in
+    let counted = c.note_sent.new.pass in
+    let back = c.note_unsent.new.pass in
+    let after = c.register-in-Err.new.self.pass in
+    let there = slice_get_read items (length items) k old refl lt c.index_mut.ensures.value in
+    let p = c.record_dead.ensures.posted ∙ ap (λ (l : List SentEnvelope). l ++ posting e (Some why) ∷ []) c.ready.ensures.same.3 in
+    let q = ap (λ (s : SenderId). s.0) (c.record_dead.ensures.by ∙ c.ready.ensures.same.0) in
+    let qs = sym q in
+    let ps = sym p in
+    let queues = queues-set items k old c.push.new.self there (ap (λ (s : SendPassView). s.queue) c.in-Err.ensures.pushed.1) in
+    let its : e.to.0 ≡ to = ap (λ (x : Envelope). x.to.0) c.next-envelope.ensures in
+    let above : suc k ≡ e.to.0 = omega (arith, its, c.requires.there.0) in
+    record {
+      routes = subst (λ (y : ℕ × List SentEnvelope). AreRoutes y.0 y.1 (slice_set items k c.push.new.self)) (λ i. (qs i, ps i))
+          (routes-dead send_log.by.0 send_log.posted items c.args.self.now.routes k old there e c.push.new.self why c.in-Err.ensures.pushed.1);
+      vouched = subst (λ (l : List SentEnvelope). were_seen_closed (pass_view after).log (dead_letters l) ≡ true) ps
+          (vouched-dead (pass_view after).log send_log.posted e why (may-refuse (has_seen_closed (pass_view after).log e.to.0) c.in-Err.refused why
+          c.why_of-why.ensures)
+          (vouched-does to (counts to (Some why)) [] (pass_view before) (pass_view after) (dead_letters send_log.posted)
+          (does-then to (counts to (Some why)) [] (pass_view before) (pass_view back) (pass_view after)
+          (does-unsending to (pass_view before) (pass_view counted) (pass_view back) c.note_sent.ensures.known c.note_unsent.ensures.known)
+          c.register-in-Err.ensures.looks) c.args.self.now.vouched));
+      bounded = subst (λ (y : List Queue × List SentEnvelope). are_of_bounded y.0 (dead_letters y.1) ≡ true) (λ i. (sym queues i, ps i))
+          (bounded-dead (receiving_queues items) send_log.posted e why
+          (subst (λ (n : ℕ). may_be_refused (queue_to (receiving_queues items) n) why ≡ true) above
+          (may-find-full (receiving_queues items) k old c.in-Err.refused why (queue-there items k old there) c.in-Err.ensures.refused
+          c.why_of-why.ensures)) c.args.self.now.bounded);
+    }
+
+pub returns-in-Ok-clause-still : goal.returns-in-Ok-clause-still
+returns-in-Ok-clause-still g c = still-registered _ _ _ _ c.register.ensures.registered
+
+pub returns-in-Err-clause-still : goal.returns-in-Err-clause-still
+returns-in-Err-clause-still g c = still-registered _ _ _ _ c.register-in-Err.ensures.registered
+
+pub returns-in_err-ready-clause-unsent : goal.returns-in_err-ready-clause-unsent
+returns-in_err-ready-clause-unsent g c =
+    let same = c.ready.ensures.same in
+    after-any c.from_residual.result (record { by = same.0; sent = same.1; dead = same.2; posted = same.3 }, refl)
+
+pub returns-in-Ok-clause-registered : goal.returns-in-Ok-clause-registered
+returns-in-Ok-clause-registered g c = (c.register.result, c.register.ensures.registered)
+
+pub returns-in-Err-clause-registered : goal.returns-in-Err-clause-registered
+returns-in-Err-clause-registered g c = (c.register-in-Err.result, c.register-in-Err.ensures.registered)
+
+pub returns-in_err-ready-clause-registered : goal.returns-in_err-ready-clause-registered
+returns-in_err-ready-clause-registered g c =
+    let registrar = c.args.self.now.registrar in
+    wakes-nobody g.W.RunQueue.pushed g.W.RunQueue.refused c.args.ticket.to.0 registrar registrar refl refl
+
+-- the pass is the sender's, and pushes to the receiver's queue
+pub push-requires-clause-sender : goal.push-requires-clause-sender
+push-requires-clause-sender g c =
+    let id = c.args.ticket.to.0 in let items = c.args.self.now.sends.items in let send_log = c.args.self.now.send_log in
+    let k = id - 1 in let old = c.index_mut.result.now in
+    let lt : k < length items = omega (arith, c.requires.all, c.requires.there.0, c.requires.there.1) in
+    let route = c.args.self.now.routes k old (slice_get_read items (length items) k old refl lt c.index_mut.ensures.value) in
+    ap (λ (x : Envelope). x.by.0) c.next-envelope.ensures ∙ ap (λ (s : SenderId). s.0) c.ready.ensures.same.0 ∙ sym route.sender
+
+pub push-requires-clause-addressed : goal.push-requires-clause-addressed
+push-requires-clause-addressed g c =
+    let id = c.args.ticket.to.0 in let items = c.args.self.now.sends.items in let send_log = c.args.self.now.send_log in
+    let k = id - 1 in let old = c.index_mut.result.now in
+    let lt : k < length items = omega (arith, c.requires.all, c.requires.there.0, c.requires.there.1) in
+    let route = c.args.self.now.routes k old (slice_get_read items (length items) k old refl lt c.index_mut.ensures.value) in
+    let sum : id ≡ k + 1 = omega (arith, c.requires.there.0) in
+    ap (λ (x : Envelope). x.to.0) c.next-envelope.ensures ∙ sum ∙ sym route.receiver

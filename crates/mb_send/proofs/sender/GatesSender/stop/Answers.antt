@@ -1,0 +1,63 @@
+use Rattle.std.proofs.Common.{◌≡◌, ◌∙◌, [], true, refl, sym, ap, subst}
+use Rattle.mb_gate.specs.NamedActors.{NamesBelow}
+use Rattle.mb_gate.specs.Accessors.{actors_of, pass_view}
+use Rattle.mb_gate.specs.View.{View, Pushed, enlisting}
+use Rattle.mb_msg.specs.declared.system.SysMsg.TheVariants as system
+use Rattle.mb_register.proofs.Views.{does-enlisting, does-then}
+use Rattle.mb_journal.specs.Accepted.{dead_letters}
+use Rattle.mb_send.specs.SeenClosed.{were_seen_closed}
+use Rattle.mb_send.proofs.Obligations.{wakes-nobody}
+use Rattle.mb_send.proofs.SeenClosed.{vouched-seen, vouched-does}
+use Rattle.mb_send.proofs.sender.GatesSender.stop.Goals as goal
+
+pub sys_enqueue-requires-clause-named : goal.sys_enqueue-requires-clause-named
+sys_enqueue-requires-clause-named g c = subst (NamesBelow (actors_of c.args.gates.now)) (sym c.in-Ok.ensures) tt
+
+pub invariant_of-self : goal.invariant_of-self
+invariant_of-self g c =
+    let old = c.args.self.now in
+    let dead = dead_letters old.send_log.posted in
+    let said = subst (λ (v : View). were_seen_closed v.log dead ≡ true) (sym c.in_default-sys_enqueue.ensures.ended.1) old.vouched in
+    record {
+      routes = old.routes;
+      vouched = vouched-does c.args.id.0 [] [] (pass_view c.sys_enqueue.new.pass) (pass_view c.register.new.self.pass) dead
+          c.register.ensures.looks said;
+      bounded = old.bounded;
+    }
+
+pub invariant_of-self-2 : goal.invariant_of-self-2
+invariant_of-self-2 g c =
+    let old = c.args.self.now in
+    let dead = dead_letters old.send_log.posted in
+    let pushed = Pushed c.args.id.0 c.in-Ok-sys_enqueue.field-0 c.in-Ok.node in
+    let listed = subst (λ (v : View). were_seen_closed v.log dead ≡ true) (sym c.in-Ok-sys_enqueue.ensures.listed)
+    (vouched-seen pushed (pass_view old.registrar.pass).log dead old.vouched) in
+    record {
+      routes = old.routes;
+      vouched = vouched-does c.args.id.0 [] [] (pass_view c.sys_enqueue.new.pass) (pass_view c.register-2.new.self.pass) dead
+          c.register-2.ensures.looks listed;
+      bounded = old.bounded;
+    }
+
+pub returns-in_default-sys_enqueue-clause-registered : goal.returns-in_default-sys_enqueue-clause-registered
+returns-in_default-sys_enqueue-clause-registered g c = (c.register.result, c.register.ensures.registered)
+
+pub returns-clause-registered : goal.returns-clause-registered
+returns-clause-registered g c = (c.register-2.result, c.register-2.ensures.registered)
+
+pub returns-then-id-len-clause-registered : goal.returns-then-id-len-clause-registered
+returns-then-id-len-clause-registered g c =
+    let registrar = c.args.self.now.registrar in
+    wakes-nobody g.W.RunQueue.pushed g.W.RunQueue.refused c.args.id.0 registrar registrar refl refl
+
+pub returns-in_default-clause-registered : goal.returns-in_default-clause-registered
+returns-in_default-clause-registered g c =
+    let registrar = c.args.self.now.registrar in
+    wakes-nobody g.W.RunQueue.pushed g.W.RunQueue.refused c.args.id.0 registrar registrar refl refl
+
+pub returns-clause-stopped : goal.returns-clause-stopped
+returns-clause-stopped g c =
+    let id = c.args.id.0 in let number = c.in-Ok-sys_enqueue.field-0 in
+    let a = pass_view c.args.self.now.registrar.pass in let b = pass_view c.sys_enqueue.new.pass in let d = pass_view c.register-2.new.self.pass in
+    let listed = c.in-Ok-sys_enqueue.ensures.listed ∙ ap (λ m. enlisting id number m a) c.in-Ok.ensures in
+    (number, does-then id _ _ a b d (does-enlisting id number system.Terminate a b listed) c.register-2.ensures.looks)

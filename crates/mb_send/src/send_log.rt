@@ -1,0 +1,99 @@
+//! The log of what a sender was answered.
+ghost use Rattle.std.specs.Prelude.{◌≡◌, ◌<◌, [], ◌∷◌, ◌++◌, length, vec_len, vec_capacity, Some, None, IfOk, OnErr, IsErrOf};
+ghost use Rattle.mb_journal.specs.Accepted.{accepted, dead_letters};
+ghost use Rattle.mb_send.specs.declared.send_error.SendError.TheVariants as SendError;
+ghost use Rattle.mb_send.specs.Posted.{envelope_of, names_from, names_of, posting};
+
+use crate::send_error::SendError;
+use mb_ghost::Log;
+use mb_journal::SentEnvelope;
+use mb_msg::{ActorId, Body, DeadLetter, Envelope, SenderId, Why};
+use std::alloc::Global;
+
+/// The log of a sender outside the actors: how many envelopes it sent, and those of them that are dead letters. Contracts see
+/// all that it was answered for, in the order of the numbers, which run from 0 over all receivers.
+#[derive(Drop)]
+pub struct SendLog {
+    /// Who the sender is.
+    pub by: SenderId,
+    /// How many envelopes it was answered for.
+    pub sent: u64,
+    /// Those that were refused, in order.
+    pub dead: Vec<DeadLetter>,
+    /// What it was answered, in order, for proofs alone. It takes no bytes.
+    pub posted: Log<SentEnvelope>,
+    ghost counted: { sent ≡ length posted },
+    ghost numbered: { names_of (accepted posted) ≡ names_from by.0 0 (accepted posted) },
+    ghost dead_are: { dead.items ≡ dead_letters posted },
+}
+
+impl SendLog {
+    /// The log of a sender that was answered nothing yet.
+    pub(crate) fn new(alloc: Global, by: SenderId) -> SendLog
+        ensures { (result.by ≡ by) × (result.sent ≡ 0) × (result.posted ≡ []) }
+    {
+        SendLog {
+            by,
+            sent: 0,
+            dead: Vec::new(alloc),
+            posted: Log::new(),
+        }
+    }
+
+    /// Makes room for the next envelope, should it become a dead letter. It answers `NoMemory` if memory was refused, or if the
+    /// last number is used up; what the log says is as before.
+    pub(crate) fn ready(&mut self) -> Result<(), SendError>
+        ensures room { IfOk result (λ _. vec_len self.new.dead < vec_capacity self.new.dead) }
+        ensures number { IfOk result (λ _. self.new.sent < 18446744073709551615) }
+        ensures same { (self.new.by ≡ self.old.by) × (self.new.sent ≡ self.old.sent) × (self.new.dead.items ≡ self.old.dead.items)
+            × (self.new.posted ≡ self.old.posted) }
+        ensures refused { OnErr result (IsErrOf result SendError.NoMemory) }
+    {
+        if self.sent == u64::MAX || self.dead.reserve(1).is_err() {
+            return Err(SendError::NoMemory);
+        }
+        Ok(())
+    }
+
+    /// The next envelope, to this receiver with this body.
+    pub(crate) fn next(&self, to: ActorId, body: Body) -> Envelope
+        ensures { result ≡ envelope_of self.now.by to self.now.sent body }
+    {
+        Envelope {
+            by: self.by,
+            to,
+            number: self.sent,
+            body,
+        }
+    }
+
+    /// Adds the next envelope to the log as queued.
+    pub(crate) fn record_queued(&mut self, envelope: Envelope)
+        requires next { (envelope.by ≡ self.old.by) × (envelope.number ≡ self.old.sent) }
+        requires number { self.old.sent < 18446744073709551615 }
+        ensures posted { self.new.posted ≡ self.old.posted ++ posting envelope None ∷ [] }
+        ensures by { self.new.by ≡ self.old.by }
+    {
+        self.posted.add(SentEnvelope {
+            envelope,
+            refused: None,
+        });
+        self.sent += 1;
+    }
+
+    /// Adds the next envelope to the log as a dead letter.
+    pub(crate) fn record_dead(&mut self, envelope: Envelope, why: Why)
+        requires next { (envelope.by ≡ self.old.by) × (envelope.number ≡ self.old.sent) }
+        requires number { self.old.sent < 18446744073709551615 }
+        requires room { vec_len self.old.dead < vec_capacity self.old.dead }
+        ensures posted { self.new.posted ≡ self.old.posted ++ posting envelope (Some why) ∷ [] }
+        ensures by { self.new.by ≡ self.old.by }
+    {
+        self.dead.push_reserved(DeadLetter { envelope, why });
+        self.posted.add(SentEnvelope {
+            envelope,
+            refused: Some(why),
+        });
+        self.sent += 1;
+    }
+}

@@ -1,8 +1,0 @@
-/// Why nothing was sent.
-#[derive(Clone, Copy, Debug, PartialEq, Eq)]
-pub enum Unsent {
-    /// There was no memory, or the sender's last number is used up.
-    NoMemory,
-    /// There is no such actor, or it is the guardian, who receives no envelopes.
-    NoSuchActor,
-}

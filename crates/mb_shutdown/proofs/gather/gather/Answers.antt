@@ -1,0 +1,138 @@
+use Rattle.std.proofs.Common.{◌≡◌, ◌∷◌, length, map, refl, sym, ap, ◌∙◌, subst, arith, length-append}
+use Rattle.std.specs.Prelude.{IsPermutation}
+use Rattle.std.specs.Vec.Iter.{into_iter_items}
+use Rattle.std.proofs.lemmas.List.{nil_from_length}
+use Rattle.std.proofs.lemmas.List.Elements.{All-same}
+use Rattle.std.proofs.lemmas.List.Sorted.{All-permutation, IsPermutation-sym}
+use Rattle.mb_shutdown.proofs.JoinLemmas.{refilled}
+use Rattle.mb_build.specs.Numbers.{numbers}
+use Rattle.mb_gate.specs.Accessors.{pass_view}
+use Rattle.mb_gate.specs.Rule.{IsPart}
+use Rattle.mb_system.specs.Members.{IsSenderOf}
+use Rattle.mb_shutdown.specs.Belonging.{brings}
+use Rattle.mb_shutdown.proofs.Back.{some-end}
+use Rattle.mb_shutdown.proofs.Gathered.{end-ours, ends-all, ends-first, ends-more, seen_by_sender, sender-ours, senders-all, senders-first, senders-more}
+use Rattle.mb_shutdown.proofs.Places.{all-there, as-many-senders}
+use Rattle.mb_shutdown.proofs.gather.gather.Goals as goal
+
+pub sort_by_number-requires : goal.sort_by_number-requires
+sort_by_number-requires g c =
+    let built = c.args.built in let together = c.requires.together in
+    let many = as-many-senders built.system.senders built.senders.items c.requires.complete.1 together.numbered together.once in
+    let is = c.deref_mut.ensures.value in
+    let long = ap length is in
+    let few = built.system.few.1 in record {
+      few = omega (arith, long, many, few);
+      there = all-there built.system.senders c.deref_mut.result.now built.senders.items is many c.requires.complete.1;
+    }
+
+pub unreachable-requires : goal.unreachable-requires
+unreachable-requires g c =
+    let built = c.args.built in
+    let some = some-end built.ends.items built.system.workers built.system.some c.requires.complete.0 in
+    let none = c.in_default.ensures.cases.0 in
+    let len = c.into_iter-ends.ensures.len in
+    let many = built.ends.ok.0 in
+    omega (arith, some, none, len, many)
+
+pub loop-end-init : goal.loop-end-init
+loop-end-init g c =
+    let built = c.args.built in
+    ends-first built.system.gates built.ends.items (into_iter_items c.into_iter-end-iterator.result) c.in-Some.first c.into_pass-pass.result
+    ((λ i. c.in-Some.first ∷ into_iter_items (c.into_iter-end-iterator.ensures.into_iter_gives i)) ∙ sym c.in-Some.ensures.cases.0
+    ∙ c.into_iter-ends.ensures.rest)
+    c.into_pass-pass.ensures c.requires.together.ends
+
+pub absorb-requires : goal.absorb-requires
+absorb-requires g c =
+    let built = c.args.built in let at = c.loop-end in record {
+      ours = (
+        at.invariant.ours,
+        end-ours built.system.gates built.ends.items at.yielded (into_iter_items at.end-iterator) (into_iter_items c.next-in-loop-end.new.self)
+            c.in-Some-end.end at.pass c.into_pass.result at.invariant c.in-Some-end.ensures.steps.0 c.into_pass.ensures c.requires.together.ends,
+      );
+    }
+
+pub loop-end-preserved : goal.loop-end-preserved
+loop-end-preserved g c =
+    let built = c.args.built in let at = c.loop-end in
+    ends-more built.system.gates built.ends.items at.yielded (into_iter_items at.end-iterator) (into_iter_items c.next-in-loop-end.new.self)
+    c.in-Some-end.end at.pass c.absorb.new.pass c.into_pass.result at.invariant c.in-Some-end.ensures.steps.0 c.into_pass.ensures
+    c.absorb.ensures.ours c.absorb.ensures.known
+
+pub loop-sender-init : goal.loop-sender-init
+loop-sender-init g c =
+    let built = c.args.built in let at = c.loop-end in let together = c.requires.together in let now = c.sort_by_number.new.all in
+    let many = as-many-senders built.system.senders built.senders.items c.requires.complete.1 together.numbered together.once in
+    let is = c.deref_mut.ensures.value in
+    let same : IsPermutation now built.senders.items = subst (λ l. IsPermutation now l) is c.sort_by_number.ensures.same in
+    let long : length now ≡ length built.senders.items = c.sort_by_number.auto.all ∙ ap length is in
+    let rest : into_iter_items c.into_iter-sender-iterator.result ≡ now =
+    c.into_iter-sender-iterator.ensures.into_iter_gives.0 ∙ refilled built.senders.len built.senders.items now (long ∙ sym built.senders.ok.0) in
+    let left = ap length rest in
+    let none = ap length c.requires.room.0 in
+    let room = c.requires.room.1 in (
+      now,
+      same,
+      c.sort_by_number.ensures.numbers ∙ ap (numbers 0) (ap length is ∙ many),
+      senders-first built.system.gates built.ends.items now (into_iter_items c.into_iter-sender-iterator.result) at.pass c.args.outside.now.items
+          at.invariant.ours
+          (ends-all built.system.gates built.ends.items at.yielded (into_iter_items at.end-iterator) at.pass at.invariant
+          (nil_from_length (into_iter_items at.end-iterator) (sym at.end-iterator.rest.ok.0 ∙ c.in-None.ensures.steps.0)))
+          rest c.requires.room.0,
+      (omega (arith, left, long, none, room)),
+    )
+
+pub absorb-requires-in-loop-sender : goal.absorb-requires-in-loop-sender
+absorb-requires-in-loop-sender g c =
+    let built = c.args.built in let at = c.loop-sender in let now = at.invariant.0 in
+    let all = All-permutation (λ s. IsSenderOf built.system.gates s.inner) built.senders.items now
+    (IsPermutation-sym now built.senders.items at.invariant.1) c.requires.together.senders in record {
+      ours = (
+        at.invariant.3.ours,
+        sender-ours built.system.gates built.ends.items now at.yielded (into_iter_items at.sender-iterator)
+            (into_iter_items c.next-in-loop-sender.new.self) c.in-Some-sender.sender at.pass c.into_parts-other.result.0 at.outside.items
+            at.invariant.3 c.in-Some-sender.ensures.steps.0 c.into_parts-other.ensures.0 all,
+      );
+    }
+
+pub push_reserved-requires : goal.push_reserved-requires
+push_reserved-requires g c =
+    let at = c.loop-sender in
+    let next = ap length c.in-Some-sender.ensures.steps.0 in
+    let room = at.invariant.4 in let many = at.outside.ok.0 in
+    omega (arith, next, room, many)
+
+pub loop-sender-preserved : goal.loop-sender-preserved
+loop-sender-preserved g c =
+    let built = c.args.built in let at = c.loop-sender in let now = at.invariant.0 in
+    let rest = into_iter_items c.next-in-loop-sender.new.self in
+    let next = ap length c.in-Some-sender.ensures.steps.0 in
+    let room = at.invariant.4 in
+    let longer = ap length c.push_reserved.ensures.items ∙ length-append at.outside.items _ in
+    let capacity = c.push_reserved.ensures.capacity in (
+      now,
+      at.invariant.1,
+      at.invariant.2,
+      senders-more built.system.gates built.ends.items now at.yielded (into_iter_items at.sender-iterator) rest c.in-Some-sender.sender at.pass
+          c.absorb-in-loop-sender.new.pass c.into_parts-other.result.0 at.outside.items c.push_reserved.new.self.items _ at.invariant.3
+          c.in-Some-sender.ensures.steps.0 c.into_parts-other.ensures.0 c.absorb-in-loop-sender.ensures.ours c.absorb-in-loop-sender.ensures.known
+          c.push_reserved.ensures.items c.into_parts-other.ensures.1 c.into_parts-other.ensures.2,
+      (omega (arith, next, room, longer, capacity)),
+    )
+
+pub returns : goal.returns
+returns g c =
+    let built = c.args.built in let at = c.loop-sender in let has = at.invariant.3 in let now = at.invariant.0 in
+    let none = nil_from_length (into_iter_items at.sender-iterator) (sym at.sender-iterator.rest.ok.0 ∙ c.in-None-sender.ensures.steps.0) in
+    let all : at.yielded ≡ now =
+    senders-all built.system.gates built.ends.items now at.yielded (into_iter_items at.sender-iterator) at.pass at.outside.items has none in
+    record {
+      gates = (refl, has.ours);
+      seen = (
+        has.ends_seen,
+        All-permutation (λ s. IsPart (seen_by_sender s) (pass_view at.pass).log) now built.senders.items at.invariant.1
+            (All-same (λ s. IsPart (seen_by_sender s) (pass_view at.pass).log) now at.yielded (sym all) has.seen),
+      );
+      outside = (now, at.invariant.1, at.invariant.2, has.shown ∙ ap (map brings) all);
+    }

@@ -1,0 +1,107 @@
+use Rattle.std.proofs.Common.{rules, ◌≡◌, ◌++◌, ◌∷◌, [], length, refl, sym, ap, ◌∙◌, subst, append_assoc, arith}
+use Rattle.std.specs.Prelude.{All, Some}
+use Rattle.std.specs.Vec.Iter.{into_iter_items}
+use Rattle.std.proofs.lemmas.List.{append-nil, length_push, map_push, nil_from_length}
+use Rattle.std.proofs.lemmas.List.Elements.{All-head, All-rest}
+use Rattle.mb_gate.specs.Accessors.{pass_view}
+use Rattle.mb_gate.specs.View.{View, obligation_to}
+use Rattle.mb_gate.specs.Untouched.{origin_of}
+use Rattle.mb_pool.specs.Places.{gates_of}
+use Rattle.mb_startup.specs.Begun.{AreNewEnds}
+use Rattle.mb_system.specs.Members.{pool_ends_of}
+use Rattle.mb_startup.specs.Shared.{KeepsWhole, share_of_end, shares_of_ends}
+use Rattle.mb_system.specs.declared.end.WorkerEnd.{WorkerEnd}
+use Rattle.mb_startup.proofs.EndsAndSenders.{ends-next}
+use Rattle.mb_startup.proofs.Sharing.{keeps-next, keeps-none}
+use Rattle.mb_startup.proofs.ends_and_senders.open_ends.Goals as goal
+
+pub loop-end-init : goal.loop-end-init
+loop-end-init g c =
+    let none : c.in_ok-opened.opened.items ≡ [] = search rules in
+    let all = c.into_iter-end-iterator.ensures.into_iter_gives.0 in record {
+      whole = all;
+      ends = subst (All (λ e. gates_of e ≡ Some (origin_of c.args.gates.now))) (sym all) c.requires.ends;
+      count = ap length none;
+      ours = refl;
+      kept = (refl, refl, refl);
+      shares = subst (λ l. KeepsWhole (pass_view c.args.pass.now).share (pass_view c.args.pass.now).share (shares_of_ends l)) (sym none)
+          (keeps-none (pass_view c.args.pass.now).share);
+      opened = subst (AreNewEnds c.args.gates.now 0) (sym none) tt;
+      ways = ap pool_ends_of none;
+    }
+
+pub loop-end-preserved : goal.loop-end-preserved
+loop-end-preserved g c =
+    let at = c.loop-end in let end = c.in-Some.end in let rest = into_iter_items c.next.new.self in let gates = c.args.gates.now in
+    let steps : into_iter_items at.end-iterator ≡ end ∷ rest = c.in-Some.ensures.steps.0 in
+    let these = subst (All (λ e. gates_of e ≡ Some (origin_of gates))) steps at.invariant.ends in
+    let place : c.len-number.result ≡ length at.opened.items = search rules in
+    let pushed = c.in_ok-push.ensures.items in let count = at.invariant.count in
+    let longer = ap length pushed ∙ length_push at.opened.items _ in let further = length_push at.yielded end in record {
+      whole = append_assoc at.yielded (end ∷ []) rest ∙ ap (λ l. at.yielded ++ l) (sym steps) ∙ at.invariant.whole;
+      ends = All-rest (λ e. gates_of e ≡ Some (origin_of gates)) end rest (into_iter_items at.end-iterator) steps at.invariant.ends;
+      count = omega (arith, longer, further, count);
+      ours = c.apart.ensures.ours.0 ∙ at.invariant.ours;
+      kept = (
+        ap (λ (v : View). v.log) c.apart.ensures.known.0 ∙ at.invariant.kept.0,
+        ap (λ (v : View). v.got) c.apart.ensures.known.0 ∙ at.invariant.kept.1,
+        ap (λ (v : View). v.obligations) c.apart.ensures.known.0 ∙ at.invariant.kept.2,
+      );
+      shares = keeps-next share_of_end (pass_view c.args.pass.now).share (pass_view at.pass).share _ at.opened.items _ _
+          (ap (λ (v : View). v.share) c.apart.ensures.known.0) pushed (ap (λ (v : View). v.share) c.apart.ensures.known.1) at.invariant.shares;
+      opened = ends-next gates at.opened.items _ _ pushed at.invariant.opened (record {
+        ours = (
+          c.apart.ensures.ours.1 ∙ at.invariant.ours ∙ c.requires.ours.0,
+          ap gates_of c.new.ensures ∙ All-head (λ e. gates_of e ≡ Some (origin_of gates)) end rest these,
+          c.requires.ours.1,
+        );
+        number_is = place;
+        nobody = c.none.ensures;
+        settled = λ id. ap (obligation_to id) c.apart.ensures.known.1;
+        blank = ap (λ (v : View). v.log) c.apart.ensures.known.1;
+        unclaimed = ap (λ (v : View). v.got) c.apart.ensures.known.1;
+      });
+      ways = ap pool_ends_of pushed ∙ map_push (λ (e : WorkerEnd _ _). e.registrar.run_queue.end) at.opened.items _
+          ∙ (λ i. at.invariant.ways i ++ c.new.ensures i ∷ []);
+    }
+
+pub returns-clause-opened : goal.returns-clause-opened
+returns-clause-opened g c =
+    let at = c.loop-end in
+    let none : into_iter_items at.end-iterator ≡ [] =
+    nil_from_length (into_iter_items at.end-iterator) (sym at.end-iterator.rest.ok.0 ∙ c.in-None.ensures.steps.0) in
+    let all : at.yielded ≡ c.args.ends.items = sym (append-nil at.yielded) ∙ ap (λ l. at.yielded ++ l) (sym none) ∙ at.invariant.whole in
+    (at.invariant.count ∙ ap length all, at.invariant.opened)
+
+pub returns-clause-ways : goal.returns-clause-ways
+returns-clause-ways g c =
+    let at = c.loop-end in
+    let none : into_iter_items at.end-iterator ≡ [] =
+    nil_from_length (into_iter_items at.end-iterator) (sym at.end-iterator.rest.ok.0 ∙ c.in-None.ensures.steps.0) in
+    at.invariant.ways ∙ sym (append-nil at.yielded) ∙ ap (λ l. at.yielded ++ l) (sym none) ∙ at.invariant.whole
+
+pub returns-clause-ours : goal.returns-clause-ours
+returns-clause-ours g c = c.loop-end.invariant.ours
+
+pub returns-clause-kept : goal.returns-clause-kept
+returns-clause-kept g c = c.loop-end.invariant.kept
+
+pub returns-clause-shares : goal.returns-clause-shares
+returns-clause-shares g c = c.loop-end.invariant.shares
+
+pub returns-in_err-opened-clause-ours : goal.returns-in_err-opened-clause-ours
+returns-in_err-opened-clause-ours g c = refl
+
+pub returns-in_err-opened-clause-kept : goal.returns-in_err-opened-clause-kept
+returns-in_err-opened-clause-kept g c = (refl, refl, refl)
+
+pub returns-in_err-push-clause-ours : goal.returns-in_err-push-clause-ours
+returns-in_err-push-clause-ours g c = c.apart.ensures.ours.0 ∙ c.loop-end.invariant.ours
+
+pub returns-in_err-push-clause-kept : goal.returns-in_err-push-clause-kept
+returns-in_err-push-clause-kept g c =
+    let at = c.loop-end.invariant.kept in let known = c.apart.ensures.known.0 in (
+      ap (λ (v : View). v.log) known ∙ at.0,
+      ap (λ (v : View). v.got) known ∙ at.1,
+      ap (λ (v : View). v.obligations) known ∙ at.2,
+    )

@@ -1,0 +1,23 @@
+use Rattle.std.proofs.Common.{◌≡◌, ◌++◌, length}
+use Rattle.std.specs.Prelude.{All, Some}
+use Rattle.std.specs.Vec.Iter.{into_iter_items}
+use Rattle.mb_gate.specs.Accessors.{pass_view, pass_id}
+use Rattle.mb_gate.specs.Untouched.{origin_of}
+use Rattle.mb_pool.specs.Places.{gates_of}
+use Rattle.mb_startup.specs.Begun.{AreNewEnds}
+use Rattle.mb_system.specs.Members.{pool_ends_of}
+use Rattle.mb_startup.specs.Shared.{KeepsWhole, shares_of_ends}
+use Rattle.mb_startup.proofs.ends_and_senders.open_ends.Given as goal
+
+abbrev pub invariant-loop-end : goal.invariant-loop-end
+invariant-loop-end g l = record {
+  whole : l.yielded ++ into_iter_items l.end-iterator ≡ l.fn.ends.items;
+  ends : All (λ e. gates_of e ≡ Some (origin_of l.gates)) (into_iter_items l.end-iterator);
+  count : length l.opened.items ≡ length l.yielded;
+  ours : pass_id l.pass ≡ pass_id l.initial.pass;
+  kept : ((pass_view l.pass).log ≡ (pass_view l.initial.pass).log) × ((pass_view l.pass).got ≡ (pass_view l.initial.pass).got)
+      × ((pass_view l.pass).obligations ≡ (pass_view l.initial.pass).obligations);
+  shares : KeepsWhole (pass_view l.initial.pass).share (pass_view l.pass).share (shares_of_ends l.opened.items);
+  opened : AreNewEnds l.gates 0 l.opened.items;
+  ways : pool_ends_of l.opened.items ≡ l.yielded;
+}

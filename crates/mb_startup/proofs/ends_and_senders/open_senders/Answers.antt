@@ -1,0 +1,158 @@
+use Rattle.std.proofs.Common.{rules, ◌≡◌, ◌+◌, ◌++◌, ◌∷◌, [], length, drop, map, take, suc, refl, sym, ap, ◌∙◌, subst, append_assoc, arith}
+use Rattle.std.specs.Prelude.{All, Some, vec_len}
+use Rattle.std.specs.Vec.Iter.{into_iter_items}
+use Rattle.std.proofs.lemmas.List.{append-nil, drop-map, length_push, map_push, nil_from_length, take_all}
+use Rattle.std.proofs.lemmas.List.Elements.{All-head, All-rest}
+use Rattle.mb_msg.specs.Limits.{most_actors}
+use Rattle.mb_gate.specs.Accessors.{actors_of, first_home, pass_view, pass_id}
+use Rattle.mb_gate.specs.Untouched.{origin_of}
+use Rattle.mb_gate.specs.View.{View, obligation_to}
+use Rattle.mb_home.specs.Directory.{queues_of}
+use Rattle.mb_pool.specs.Places.{gates_of}
+use Rattle.mb_send.specs.Sends.{AreRoutes, receiving_queues}
+use Rattle.mb_register.specs.Owed.{IsNobody}
+use Rattle.mb_build.proofs.DirectoryLemmas.{drop-next}
+use Rattle.mb_startup.specs.Begun.{AreNewSenders}
+use Rattle.mb_system.specs.Members.{pool_feeds_of}
+use Rattle.mb_startup.specs.Shared.{KeepsWhole, share_of_sender, shares_of_senders}
+use Rattle.mb_system.specs.declared.sender.Sender.{Sender}
+use Rattle.mb_startup.proofs.EndsAndSenders.{none-left, place-left, senders-next, unused-there}
+use Rattle.mb_startup.proofs.Sharing.{keeps-next, keeps-none}
+use Rattle.mb_startup.proofs.ends_and_senders.open_senders.Goals as goal
+
+pub loop-feed-init : goal.loop-feed-init
+loop-feed-init g c =
+    let none : c.in_ok-senders.senders.items ≡ [] = search rules in
+    let all = c.into_iter-feed-iterator.ensures.into_iter_gives.0 in record {
+      whole = all;
+      feeds = subst (All (λ f. gates_of f ≡ Some (origin_of c.args.gates.now))) (sym all) c.requires.feeds;
+      count = ap length none;
+      rows = c.into_iter-outside.ensures.rest ∙ ap (λ l. drop (length l) c.args.outside.items) (sym none);
+      ours = refl;
+      kept = (refl, refl, refl);
+      shares = subst (λ l. KeepsWhole (pass_view c.args.pass.now).share (pass_view c.args.pass.now).share (shares_of_senders l)) (sym none)
+          (keeps-none (pass_view c.args.pass.now).share);
+      opened = subst (λ l. AreNewSenders c.args.gates.now most_actors (map (λ row. row.items) (take (length l) c.args.outside.items)) l)
+          (sym none) tt;
+      ways = ap pool_feeds_of none;
+    }
+
+pub unreachable-requires : goal.unreachable-requires
+unreachable-requires g c =
+    let at = c.loop-feed in let feed = c.in-Some.feed in let rest = into_iter_items c.next.new.self in
+    let steps : into_iter_items at.feed-iterator ≡ feed ∷ rest = c.in-Some.ensures.steps.0 in
+    let none : into_iter_items at.outside ≡ [] =
+    nil_from_length (into_iter_items at.outside) (sym at.outside.rest.ok.0 ∙ c.in_default.ensures.cases.0) in
+    none-left c.args.outside.items (length at.senders.items) (sym at.invariant.rows ∙ none)
+    (place-left at.yielded rest c.args.feeds.items feed c.args.outside.items (length at.senders.items)
+    (ap (λ l. at.yielded ++ l) (sym steps) ∙ at.invariant.whole) at.invariant.count c.requires.many.0)
+
+pub new-inner-requires : goal.new-inner-requires
+new-inner-requires g c =
+    let at = c.loop-feed in let outside = c.args.outside.items in let sends = c.in-Some-next.sends in
+    let rest = into_iter_items c.next-in-loop-feed.new.self in let place = length at.senders.items in
+    let gates = c.args.gates.now in let queues = drop 1 (queues_of (first_home gates).value.directory) in
+    let lines : into_iter_items at.outside ≡ sends ∷ rest = c.in-Some-next.ensures.cases.0 in
+    let row : drop place (map (λ r. r.items) outside) ≡ sends.items ∷ map (λ r. r.items) rest =
+    drop-map (λ r. r.items) place outside ∙ ap (map (λ r. r.items)) (sym at.invariant.rows ∙ lines) in
+    let unused = unused-there queues (actors_of gates) most_actors (map (λ r. r.items) outside) place sends.items _ c.requires.outside row in
+    let number : c.len-in-loop-feed.result ≡ place = search rules in
+    record { routes = subst (λ n. AreRoutes n [] sends.items) (sym (ap (λ n. most_actors + n) number)) unused.routes }
+
+pub loop-feed-preserved : goal.loop-feed-preserved
+loop-feed-preserved g c =
+    let at = c.loop-feed in let outside = c.args.outside.items in let sends = c.in-Some-next.sends in
+    let left = into_iter_items c.next-in-loop-feed.new.self in let place = length at.senders.items in
+    let gates = c.args.gates.now in let queues = drop 1 (queues_of (first_home gates).value.directory) in
+    let lines : into_iter_items at.outside ≡ sends ∷ left = c.in-Some-next.ensures.cases.0 in
+    let here : drop place outside ≡ sends ∷ left = sym at.invariant.rows ∙ lines in
+    let row : drop place (map (λ r. r.items) outside) ≡ sends.items ∷ map (λ r. r.items) left =
+    drop-map (λ r. r.items) place outside ∙ ap (map (λ r. r.items)) here in
+    let unused = unused-there queues (actors_of gates) most_actors (map (λ r. r.items) outside) place sends.items _ c.requires.outside row in
+    let number : c.len-in-loop-feed.result ≡ place = search rules in
+    let feed = c.in-Some.feed in let rest = into_iter_items c.next.new.self in
+    let steps : into_iter_items at.feed-iterator ≡ feed ∷ rest = c.in-Some.ensures.steps.0 in
+    let these = subst (All (λ f. gates_of f ≡ Some (origin_of gates))) steps at.invariant.feeds in
+    let pushed = c.in_ok-push.ensures.items in let count = at.invariant.count in
+    let longer = ap length pushed ∙ length_push at.senders.items _ in let further = length_push at.yielded feed in
+    let next : suc place ≡ length c.push.new.self.items = omega (arith, longer) in
+    let parts = c.new-inner.ensures.parts in let send_log = c.new-inner.ensures.send_log in
+    let long = ap vec_len parts.1 ∙ sends.ok.0 in let many = unused.many in record {
+      whole = append_assoc at.yielded (feed ∷ []) rest ∙ ap (λ l. at.yielded ++ l) (sym steps) ∙ at.invariant.whole;
+      feeds = All-rest (λ f. gates_of f ≡ Some (origin_of gates)) feed rest (into_iter_items at.feed-iterator) steps at.invariant.feeds;
+      count = omega (arith, longer, further, count);
+      rows = sym (drop-next place outside sends left here) ∙ ap (λ n. drop n outside) next;
+      ours = c.apart.ensures.ours.0 ∙ at.invariant.ours;
+      kept = (
+        ap (λ (v : View). v.log) c.apart.ensures.known.0 ∙ at.invariant.kept.0,
+        ap (λ (v : View). v.got) c.apart.ensures.known.0 ∙ at.invariant.kept.1,
+        ap (λ (v : View). v.obligations) c.apart.ensures.known.0 ∙ at.invariant.kept.2,
+      );
+      shares = keeps-next share_of_sender (pass_view c.args.pass.now).share (pass_view at.pass).share _ at.senders.items _ _
+          (ap (λ (v : View). v.share) c.apart.ensures.known.0) pushed
+          (ap (λ w. (pass_view w.pass).share) parts.0 ∙ ap (λ (v : View). v.share) c.apart.ensures.known.1) at.invariant.shares;
+      opened = senders-next (λ r. r.items) gates most_actors at.senders.items _ _ outside sends left pushed here at.invariant.opened (record {
+        ours = record {
+          ours = (
+            ap (λ w. pass_id w.pass) parts.0 ∙ c.apart.ensures.ours.1 ∙ at.invariant.ours ∙ c.requires.ours.0,
+            ap (λ w. gates_of w.run_queue.feed) parts.0 ∙ ap gates_of c.new.ensures ∙ All-head (λ f. gates_of f ≡ Some (origin_of gates)) feed rest these,
+            c.requires.ours.1,
+          );
+          all = omega (arith, long, many);
+          queues = ap (λ v. receiving_queues v.items) parts.1 ∙ unused.queues_are;
+        };
+        by = send_log.0 ∙ ap (λ n. record { 0 = most_actors + n }) number;
+        posted = send_log.2;
+        sends_are = ap (λ v. v.items) parts.1;
+        nobody = subst (λ w. IsNobody w.owed) (sym parts.0) c.none.ensures;
+        settled = λ id. ap (λ w. obligation_to id (pass_view w.pass)) parts.0 ∙ ap (obligation_to id) c.apart.ensures.known.1;
+        blank = ap (λ w. (pass_view w.pass).log) parts.0 ∙ ap (λ (v : View). v.log) c.apart.ensures.known.1;
+        silent = ap (λ w. (pass_view w.pass).said) parts.0 ∙ ap (λ (v : View). v.said) c.apart.ensures.known.1;
+        unclaimed = ap (λ w. (pass_view w.pass).got) parts.0 ∙ ap (λ (v : View). v.got) c.apart.ensures.known.1;
+      });
+      ways = ap pool_feeds_of pushed ∙ map_push (λ (s : Sender _ _). s.inner.registrar.run_queue.feed) at.senders.items _
+          ∙ (λ i. at.invariant.ways i ++ (ap (λ w. w.run_queue.feed) parts.0 ∙ c.new.ensures) i ∷ []);
+    }
+
+pub returns-clause-opened : goal.returns-clause-opened
+returns-clause-opened g c =
+    let at = c.loop-feed in let outside = c.args.outside.items in
+    let none : into_iter_items at.feed-iterator ≡ [] =
+    nil_from_length (into_iter_items at.feed-iterator) (sym at.feed-iterator.rest.ok.0 ∙ c.in-None.ensures.steps.0) in
+    let all : at.yielded ≡ c.args.feeds.items = sym (append-nil at.yielded) ∙ ap (λ l. at.yielded ++ l) (sym none) ∙ at.invariant.whole in
+    let is = ap length all in let count = at.invariant.count in let many = c.requires.many.0 in
+    subst (λ l. AreNewSenders c.args.gates.now most_actors (map (λ r. r.items) l) at.senders.items)
+    (take_all (length at.senders.items) outside (omega (arith, is, count, many))) at.invariant.opened
+
+pub returns-clause-ways : goal.returns-clause-ways
+returns-clause-ways g c =
+    let at = c.loop-feed in
+    let none : into_iter_items at.feed-iterator ≡ [] =
+    nil_from_length (into_iter_items at.feed-iterator) (sym at.feed-iterator.rest.ok.0 ∙ c.in-None.ensures.steps.0) in
+    at.invariant.ways ∙ sym (append-nil at.yielded) ∙ ap (λ l. at.yielded ++ l) (sym none) ∙ at.invariant.whole
+
+pub returns-clause-ours : goal.returns-clause-ours
+returns-clause-ours g c = c.loop-feed.invariant.ours
+
+pub returns-clause-kept : goal.returns-clause-kept
+returns-clause-kept g c = c.loop-feed.invariant.kept
+
+pub returns-clause-shares : goal.returns-clause-shares
+returns-clause-shares g c = c.loop-feed.invariant.shares
+
+pub returns-in_err-senders-clause-ours : goal.returns-in_err-senders-clause-ours
+returns-in_err-senders-clause-ours g c = refl
+
+pub returns-in_err-senders-clause-kept : goal.returns-in_err-senders-clause-kept
+returns-in_err-senders-clause-kept g c = (refl, refl, refl)
+
+pub returns-in_err-push-clause-ours : goal.returns-in_err-push-clause-ours
+returns-in_err-push-clause-ours g c = c.apart.ensures.ours.0 ∙ c.loop-feed.invariant.ours
+
+pub returns-in_err-push-clause-kept : goal.returns-in_err-push-clause-kept
+returns-in_err-push-clause-kept g c =
+    let at = c.loop-feed.invariant.kept in let known = c.apart.ensures.known.0 in (
+      ap (λ (v : View). v.log) known ∙ at.0,
+      ap (λ (v : View). v.got) known ∙ at.1,
+      ap (λ (v : View). v.obligations) known ∙ at.2,
+    )

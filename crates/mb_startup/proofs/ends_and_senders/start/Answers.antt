@@ -1,0 +1,30 @@
+use Rattle.mb_gate.specs.Accessors.{pass_view, actors_of}
+use Rattle.mb_startup.proofs.EndsAndSenders.{created, kept-whole, nobody-got}
+use Rattle.mb_startup.proofs.Obligations.{owes-first}
+use Rattle.std.proofs.Common.{refl, subst, sym}
+use Rattle.mb_gate.specs.NamedActors.{NamesBelow}
+use Rattle.mb_startup.proofs.ends_and_senders.start.Goals as goal
+
+pub unreachable-requires : goal.unreachable-requires
+unreachable-requires g c = nobody-got (pass_view c.args.pass.now) c.requires.blank.1 (c.in-Err.ensures.held c.requires.whole)
+
+pub returns-clause-created : goal.returns-clause-created
+returns-clause-created g c = (
+  created _ _ (pass_view c.args.pass.now) _ c.in-Ok.ensures.listed c.in_ok-node.ensures c.requires.blank.0,
+  owes-first _ _ (pass_view c.args.pass.now) _ c.in-Ok.ensures.listed c.requires.blank.2,
+)
+
+pub returns-clause-kept : goal.returns-clause-kept
+returns-clause-kept g c = kept-whole _ _ (pass_view c.args.pass.now) _ c.in-Ok.ensures.listed c.requires.blank.1 c.requires.whole
+
+pub sys_enqueue-requires-clause-ours : goal.sys_enqueue-requires-clause-ours
+sys_enqueue-requires-clause-ours g c = c.requires.ours.0
+
+pub sys_enqueue-requires-clause-there : goal.sys_enqueue-requires-clause-there
+sys_enqueue-requires-clause-there g c = c.requires.ours.1
+
+pub returns-in_err-node-clause-ours : goal.returns-in_err-node-clause-ours
+returns-in_err-node-clause-ours g c = refl
+
+pub sys_enqueue-requires-clause-named : goal.sys_enqueue-requires-clause-named
+sys_enqueue-requires-clause-named g c = subst (NamesBelow (actors_of c.args.gates.now)) (sym c.in_ok-node.ensures) tt

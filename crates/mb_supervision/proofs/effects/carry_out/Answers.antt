@@ -1,0 +1,32 @@
+use Rattle.std.proofs.Common.{◌≡◌, ◌+◌, ◌∷◌, get_or, drop, pos, arith}
+use Rattle.std.proofs.lemmas.List.{drop_all}
+use Rattle.mb_actor.specs.declared.effect.Effect.{Effect}
+use Rattle.mb_actor.specs.declared.effect.Effect.TheVariants as effect
+use Rattle.mb_supervision.proofs.EffectLemmas.{acts-step, children-step, watching-step, due-step, acts-done, from-next}
+use Rattle.mb_supervision.proofs.effects.carry_out.Goals as goal
+
+-- the effect that is carried out
+abbrev the_effect : (c : goal.After-carry_out_one) → Effect
+the_effect c = get_or c.args.effects.now c.loop-effect.effect-index (effect.Tell (record { 0 = 0 }) 0 (pos 0))
+
+next : (c : goal.After-carry_out_one) →
+    drop c.loop-effect.effect-index c.args.effects.now ≡ the_effect c ∷ drop (c.loop-effect.effect-index + 1) c.args.effects.now
+next c = from-next c.args.effects.now c.loop-effect.effect-index _ c.loop-effect-test.true
+
+pub loop-effect-preserved : goal.loop-effect-preserved
+loop-effect-preserved c = record {
+  acts =
+      acts-step c.args.this _ _ _ _ _ (the_effect c) _ _ c.carry_out_one.ensures.acts c.carry_out_one.ensures.watching (next c)
+      c.loop-effect.invariant.acts;
+  children = children-step _ _ _ (the_effect c) _ _ c.carry_out_one.ensures.children (next c) c.loop-effect.invariant.children;
+  watching = watching-step c.args.this _ _ _ (the_effect c) _ _ c.carry_out_one.ensures.watching (next c) c.loop-effect.invariant.watching;
+  due = due-step _ _ _ (the_effect c) _ _ c.carry_out_one.ensures.due (next c) c.loop-effect.invariant.due;
+  few_acts = omega arith;
+  few_children = omega arith;
+  few_watched = omega arith;
+  children_capacity = omega arith;
+  watching_capacity = omega arith;
+}
+
+pub returns-clause-acts : goal.returns-clause-acts
+returns-clause-acts c = acts-done c.args.this _ _ _ _ (drop_all _ _ c.loop-effect-test.false) c.loop-effect.invariant.acts

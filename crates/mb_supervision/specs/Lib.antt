@@ -1,0 +1,7 @@
+pub mod ActQueue
+pub mod CellState
+pub mod CellStateRecord
+pub mod ActorIdentity
+pub mod ActQueueView
+pub mod Requests
+pub mod Rows

@@ -1,0 +1,24 @@
+//! The rule of `Suspend` (`FaultHandling.faultSuspend`).
+ghost use Rattle.std.specs.Prelude.{◌≡◌, ◌<◌, ◌^◌, [], IsTrue};
+ghost use Rattle.mb_supervision.specs.Rows.{suspended};
+
+use crate::act_queue::Task;
+use crate::cell_state::CellState;
+use crate::cell_state::aside::forget;
+use mb_msg::SysMsg;
+
+impl CellState {
+    /// `Suspend` of an actor that was started: its mailbox is suspended once more, and so are its children.
+    pub fn suspend(&mut self, number: u64)
+        requires ready { IsTrue self.old.is_ready }
+        requires carried_out { self.old.acts ≡ [] }
+        requires small { self.old.count < 2 ^ 60 }
+        ensures { self.new ≡ suspended number self.old }
+    {
+        forget(&mut self.aside, number);
+        self.ready = false;
+        self.count += 1;
+        self.acts.push(Task::SuspendSelf);
+        self.acts.push_each(SysMsg::Suspend, &self.children);
+    }
+}

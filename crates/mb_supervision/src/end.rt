@@ -1,0 +1,47 @@
+//! The end of an actor (`akka.actor.dungeon.FaultHandling.finishTerminate`).
+
+ghost use Rattle.std.specs.Prelude.{◌≡◌, ◌+◌, ◌≤◌, ◌<◌, [], ◌∷◌, ◌++◌, length};
+ghost use Rattle.mb_journal.specs.Acts.{end_acts, to_each};
+ghost use Rattle.mb_journal.specs.ActorList.{without};
+ghost use Rattle.mb_supervision.specs.ActorIdentity.{identity_of};
+
+use crate::act_queue::{ActQueue, Task};
+use crate::effects::carry_out_last;
+use crate::identity::ActorIdentity;
+use mb_actor::Effect;
+use mb_msg::{ActorId, SysMsg};
+
+/// The acts of the end of an actor with these watchers: the acts of its `stop`, closing its mailbox, and telling the
+/// parent and then the other watchers.
+pub(crate) fn end(
+    place: &ActorIdentity,
+    watchers: &[ActorId],
+    effects: &[Effect],
+    acts: &mut ActQueue,
+)
+    requires room { length effects.now + length watchers.now + 2 ≤ acts.old.room }
+    ensures acts { acts.new.acts ≡ acts.old.acts ++ end_acts (identity_of place.now 0) watchers.now effects.now }
+{
+    carry_out_last(effects, acts);
+    acts.push(Task::CloseSelf);
+    let died = SysMsg::Died(place.this);
+    match place.parent {
+        None => acts.push_each(died, watchers),
+        Some(parent) => {
+            acts.push(Task::Sys(parent, died));
+            tell_all_but(parent, died, watchers, acts);
+        }
+    }
+}
+
+/// Sends the message to each of these but the parent.
+fn tell_all_but(parent: ActorId, message: SysMsg, watchers: &[ActorId], acts: &mut ActQueue)
+    requires room { length watchers.now ≤ acts.old.room }
+    ensures acts { acts.new.acts ≡ acts.old.acts ++ to_each message (without watchers.now parent) }
+{
+    for watcher in watchers {
+        if parent.0 != watcher.0 {
+            acts.push(Task::Sys(*watcher, message));
+        }
+    }
+}

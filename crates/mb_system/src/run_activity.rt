@@ -1,0 +1,45 @@
+//! Whether workers still have anything to wait for.
+use std::sync::atomic::{AtomicUsize, Ordering};
+
+/// How many jobs are open, and how many workers are busy. Jobs count themselves when they begin and end, workers when they find
+/// no claim and when they find one again; messages do not. (This project's own profile: Akka's threads wait in their executor.)
+#[derive(Drop)]
+pub struct RunActivity {
+    jobs: AtomicUsize,
+    busy: AtomicUsize,
+}
+
+impl RunActivity {
+    /// No job is open, and no worker busy.
+    pub fn new() -> RunActivity {
+        RunActivity {
+            jobs: AtomicUsize::new(0),
+            busy: AtomicUsize::new(0),
+        }
+    }
+
+    /// Counts so many more jobs as open.
+    pub fn open_jobs(&self, jobs: usize) {
+        self.jobs.fetch_add(jobs, Ordering::SeqCst);
+    }
+
+    /// Counts one job as done.
+    pub fn close_job(&self) {
+        self.jobs.fetch_sub(1, Ordering::SeqCst);
+    }
+
+    /// Counts one more worker as busy.
+    pub fn enter(&self) {
+        self.busy.fetch_add(1, Ordering::SeqCst);
+    }
+
+    /// Counts one worker less as busy.
+    pub fn leave(&self) {
+        self.busy.fetch_sub(1, Ordering::SeqCst);
+    }
+
+    /// Whether no job is open and no worker busy: then nobody brings claims any more.
+    pub fn is_over(&self) -> bool {
+        self.jobs.load(Ordering::SeqCst) == 0 && self.busy.load(Ordering::SeqCst) == 0
+    }
+}

@@ -1,6 +1,0 @@
-use Rattle.std.proofs.Common.{◌≡◌, pos}
-use Rattle.std.specs.Prelude.{All}
-use Rattle.mb_trial.proofs.gambler.gamblers.Given as goal
-
-abbrev pub invariant-loop-number : goal.invariant-loop-number
-invariant-loop-number l = All (λ gambler. gambler.sum ≡ pos 0) l.gamblers.items

@@ -1,8 +1,0 @@
-use Rattle.std.proofs.Common.{◌≡◌}
-use Rattle.mb_trial.proofs.gambler.spawn_all.Given as goal
-
-abbrev pub invariant-loop-number : goal.invariant-loop-number
-invariant-loop-number l = record {
-  actors : l.out.actors ≡ l.fn.out.actors;
-  unspawned : l.out.unspawned ≡ l.fn.out.unspawned;
-}
